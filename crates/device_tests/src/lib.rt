@@ -1,0 +1,9 @@
+//! Tests of the devices.
+#![tactic(auto)]
+
+#[cfg(test)]
+mod file;
+#[cfg(test)]
+mod memory;
+#[cfg(test)]
+mod sectors;

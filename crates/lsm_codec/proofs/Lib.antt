@@ -1,0 +1,15 @@
+pub mod Filling
+pub mod Loops
+pub mod Numbers
+pub mod Readers
+pub mod Limits
+pub mod Fields
+pub mod Decoding
+pub mod Padding
+pub mod SuperblockLaws
+pub mod LogSectorLaws
+pub mod BatchLaws
+pub mod ManifestLaws
+pub mod WordLaws
+pub mod Bytes
+pub mod FormatLaws

@@ -1,0 +1,167 @@
+-- A manifest's sectors are read and decoded exactly.
+use Rattle.std.proofs.Common.{◌≡◌, ℕ, ◌+◌, ◌-◌, ◌*◌, ◌^◌, ◌<◌, ◌≤◌, Bool, eqb, List, [], ◌∷◌, length, Some, None, Decides, refl, ap, arith, lit<, get_or}
+use Rattle.std.specs.List.{AllByRecursion, flat_map, list_all}
+use Rattle.std.proofs.lemmas.Bool.{eqb-true}
+use Rattle.std.proofs.lemmas.Bool.Decides.{Decides-like, Decides-not, Decides-and, Decides-ltb, Decides-eqb}
+use Rattle.std.proofs.lemmas.List.{length-append}
+use Rattle.std.proofs.lemmas.List.Elements.{recursion_from_All}
+use Rattle.byteorder.specs.Endian.{big_bytes}
+use Rattle.lsm_codec.specs.declared.log_record.LogRecord.{LogRecord}
+use Rattle.lsm_codec.specs.Keys.{IsBytes}
+use Rattle.lsm_codec.specs.Spelling.{padding, IsDecoded}
+use Rattle.lsm_codec.specs.Reading.{front_of}
+use Rattle.lsm_codec.specs.Manifests.{Contents, Pairwise, IsLogRecord, LogsAgree, BeginsAfter, NumbersFit, LogsFit, IsManifest, is_each_two, is_log_record, is_agreeing, is_after, is_numbered, is_logged, is_manifest, log_record, manifest_text, sector_count, manifest_bytes, log_record_at, only_number, header_at, manifest_at, manifest_of}
+use Rattle.lsm_codec.specs.Formats.{IsFormat}
+use Rattle.lsm_codec.proofs.Limits.{at_most-Decides, is_within-Decides, all-Decides}
+use Rattle.lsm_codec.proofs.Readers.{Reads, number_reads, times_reads, then_reads, made_reads, kept_reads, fits_reads}
+use Rattle.lsm_codec.proofs.Decoding.{if_spelled-decodes, decodes-format, one_answer}
+use Rattle.lsm_codec.proofs.Padding.{length-in_sectors, padded_read, padded_refused, padded_unread}
+
+-- ---- reading
+
+-- the numbers of a record fit their fields
+pub record LogFits (r : LogRecord) : Type 0 where
+  pub region : r.region < 256 ^ 1
+  pub epoch : r.epoch < 256 ^ 8
+  pub first : r.first_batch < 256 ^ 8
+
+pub log_record_reads : Reads log_record_at LogFits log_record
+unfolding log_record_at
+log_record_reads =
+    fits_reads (λ r f. record { region = f.0; epoch = f.1.0; first = f.1.1 }) (λ r f. (f.region, (f.epoch, f.first)))
+    (made_reads (λ t. record { region = t.0; epoch = t.1.0; first_batch = t.1.1 }) (λ r. (r.region, (r.epoch, r.first_batch))) (λ t f. refl) (λ r. refl)
+    (then_reads (number_reads 1) (λ a. then_reads (number_reads 8) (λ b. number_reads 8))))
+
+-- what the fields of a manifest can hold
+pub record FieldsFit (c : Contents) : Type 0 where
+  pub generation : c.generation < 256 ^ 8
+  pub base : c.base < 256 ^ 8
+  pub next_table : c.next_table < 256 ^ 8
+  pub logs : length c.logs < 256 ^ 1
+  pub each_log : AllByRecursion LogFits c.logs
+
+abbrev Numbers : Type 0
+Numbers = ℕ × (ℕ × (ℕ × (ℕ × (ℕ × (ℕ × ℕ)))))
+
+abbrev numbers : ℕ → ℕ → ℕ → ℕ → ℕ → ℕ → ℕ → Numbers
+numbers m g b n l r t = (m, (g, (b, (n, (l, (r, t))))))
+
+same_numbers : (m g b n l r t m' l' r' t' : ℕ) → m ≡ m' → l' ≡ l → r ≡ r' → t ≡ t' → numbers m' g b n l' r' t' ≡ numbers m g b n l r t
+same_numbers m g b n l r t m' l' r' t' e f h i = rw (← e, f, ← h, ← i) refl
+
+only_reads : (n size : ℕ) → Reads (only_number n size) (λ m. (m < 256 ^ size) × (m ≡ n)) (big_bytes size)
+only_reads n size = kept_reads (λ m. eqb m n) (λ m. m ≡ n) (λ m t. eqb-true m n t) (λ m e. (Decides-eqb m n).1 e) (number_reads size)
+
+abbrev made_contents : Numbers × List LogRecord → Contents
+made_contents t = record { generation = t.0.1.0; base = t.0.1.1.0; next_table = t.0.1.1.1.0; logs = t.1 }
+
+abbrev parts : Contents → Numbers × List LogRecord
+parts c = (numbers 0x4c534d4d c.generation c.base c.next_table (length c.logs) 0 0, c.logs)
+
+pub manifest_reads : Reads manifest_at FieldsFit manifest_text
+unfolding manifest_at header_at manifest_text
+manifest_reads =
+    fits_reads
+    (λ c f. record { generation = f.0.1.0; base = f.0.1.1.0; next_table = f.0.1.1.1.0; logs = f.0.1.1.1.1.0; each_log = f.1.1 })
+    (λ c f. (((lit< tt, refl), (f.generation, (f.base, (f.next_table, (f.logs, ((lit< tt, refl), (lit< tt, refl))))))), (refl, f.each_log)))
+    (made_reads made_contents parts
+    (λ t f. ap (λ (h : Numbers). (h, t.1)) (same_numbers t.0.0 t.0.1.0 t.0.1.1.0 t.0.1.1.1.0 t.0.1.1.1.1.0 t.0.1.1.1.1.1.0 t.0.1.1.1.1.1.1 _ _ _ _ f.0.0.1 f.1.0 f.0.1.1.1.1.1.0.1 f.0.1.1.1.1.1.1.1))
+    (λ c. refl)
+    (then_reads
+    (then_reads (only_reads 0x4c534d4d 4) (λ a. then_reads (number_reads 8) (λ b. then_reads (number_reads 8) (λ c. then_reads (number_reads 8) (λ d. then_reads (number_reads 1) (λ e. then_reads (only_reads 0 1) (λ f. only_reads 0 2)))))))
+    (λ h. times_reads h.1.1.1.1.0 log_record_reads)))
+
+log_fits : (g : ℕ) (r : LogRecord) → g ≤ 2 ^ 63 → IsLogRecord g r → LogFits r
+log_fits g r le f = record { region = omega (arith, f.region); epoch = omega (arith, f.epoch_high); first = omega (arith, f.first_high) }
+
+-- a manifest's numbers fit their fields
+pub fields_fit : (c : Contents) → IsManifest c → FieldsFit c
+fields_fit c f = record {
+  generation = omega (arith, f.numbers.generation_high);
+  base = omega (arith, f.numbers.base);
+  next_table = omega (arith, f.numbers.next_high);
+  logs = omega (arith, f.numbers.logs);
+  each_log = recursion_from_All LogFits c.logs (λ k d lt. log_fits c.generation (get_or c.logs k d) f.numbers.generation_high (f.logs.each k d lt));
+}
+
+-- ---- lengths
+
+logs_long : (logs : List LogRecord) → length (flat_map log_record logs) ≡ 17 * length logs
+logs_long [] = refl
+logs_long (r ∷ rs) = omega (arith, logs_long rs, length-append (log_record r) (flat_map log_record rs))
+
+pub length-manifest_text : (c : Contents) → length (manifest_text c) ≡ 32 + 17 * length c.logs
+unfolding manifest_text
+length-manifest_text c = omega (arith, logs_long c.logs)
+
+pub length-manifest_bytes : (c : Contents) → length (manifest_bytes c) ≡ 512 * sector_count c
+unfolding manifest_bytes
+length-manifest_bytes c = length-in_sectors (manifest_text c)
+
+-- ---- decoding
+
+each_two-Decides : {X : Type 0} (test : X → X → Bool) (R : X → X → Type 0) → ((x y : X) → Decides (test x y) (R x y)) → (xs : List X) → Decides (is_each_two test xs) (Pairwise R xs)
+each_two-Decides test R one [] = (λ e. tt, λ p. refl)
+each_two-Decides test R one (x ∷ xs) = Decides-and (list_all (test x) xs) (is_each_two test xs) (all-Decides (test x) (R x) (one x) xs) (each_two-Decides test R one xs)
+
+log_record-Decides : (g : ℕ) (r : LogRecord) → Decides (is_log_record g r) (IsLogRecord g r)
+log_record-Decides g r = Decides-like (is_log_record g r)
+    (λ h. record { region = h.0; epoch_low = h.1.0.0; epoch_high = h.1.0.1; first_high = h.1.1 })
+    (λ h. (h.region, ((h.epoch_low, h.epoch_high), h.first_high)))
+    (Decides-and _ _ (at_most-Decides r.region 2) (Decides-and _ _ (is_within-Decides 1 g r.epoch) (at_most-Decides r.first_batch (2 ^ 63 + 1))))
+
+agreeing-Decides : (a b : LogRecord) → Decides (is_agreeing a b) (LogsAgree a b)
+agreeing-Decides a b = Decides-like (is_agreeing a b)
+    (λ h. record { regions = h.0; epochs = h.1.0; firsts = h.1.1 })
+    (λ h. (h.regions, (h.epochs, h.firsts)))
+    (Decides-and _ _ (Decides-not _ (Decides-eqb a.region b.region)) (Decides-and _ _ (Decides-ltb a.epoch b.epoch) (Decides-ltb a.first_batch b.first_batch)))
+
+after-Decides : (base : ℕ) (logs : List LogRecord) → Decides (is_after base logs) (BeginsAfter base logs)
+after-Decides base [] = (λ e. tt, λ p. refl)
+after-Decides base (r ∷ rs) = Decides-eqb r.first_batch (base + 1)
+
+numbered-Decides : (c : Contents) → Decides (is_numbered c) (NumbersFit c)
+numbered-Decides c = Decides-like (is_numbered c)
+    (λ h. record { generation_low = h.0.0; generation_high = h.0.1; base = h.1.0; next_low = h.1.1.0.0; next_high = h.1.1.0.1; logs = h.1.1.1 })
+    (λ h. ((h.generation_low, h.generation_high), (h.base, ((h.next_low, h.next_high), h.logs))))
+    (Decides-and _ _ (is_within-Decides _ _ c.generation) (Decides-and _ _ (at_most-Decides c.base (2 ^ 63)) (Decides-and _ _ (is_within-Decides _ _ c.next_table) (at_most-Decides (length c.logs) 3))))
+
+logged-Decides : (c : Contents) → Decides (is_logged c) (LogsFit c)
+logged-Decides c = Decides-like (is_logged c)
+    (λ h. record { each = h.0; agree = h.1.0; begins = h.1.1 })
+    (λ h. (h.each, (h.agree, h.begins)))
+    (Decides-and _ _ (all-Decides (is_log_record c.generation) (IsLogRecord c.generation) (log_record-Decides c.generation) c.logs) (Decides-and _ _ (each_two-Decides is_agreeing LogsAgree agreeing-Decides c.logs) (after-Decides c.base c.logs)))
+
+pub is_manifest-Decides : (c : Contents) → Decides (is_manifest c) (IsManifest c)
+is_manifest-Decides c = Decides-like (is_manifest c) (λ h. record { numbers = h.0; logs = h.1 }) (λ h. (h.numbers, h.logs)) (Decides-and _ _ (numbered-Decides c) (logged-Decides c))
+
+-- reading gives back the manifest that was spelled
+pub reads_back : (c : Contents) → IsManifest c → manifest_at (manifest_bytes c) ≡ Some (c, padding (length (manifest_text c)))
+unfolding manifest_bytes
+reads_back c fits = manifest_reads.again c (padding (length (manifest_text c))) (fields_fit c fits)
+
+pub manifest_of_exact : (sectors : List ℕ) → IsDecoded IsManifest manifest_bytes sectors (manifest_of sectors)
+unfolding manifest_of
+manifest_of_exact sectors = if_spelled-decodes is_manifest IsManifest is_manifest-Decides manifest_bytes (λ bytes. front_of (manifest_at bytes)) (λ c fits. ap front_of (reads_back c fits)) sectors
+
+pub manifest_format : IsFormat IsManifest manifest_bytes manifest_of
+manifest_format = decodes-format manifest_of_exact
+
+-- ---- what the reader of whole sectors finds
+
+module _ (bytes : List ℕ) (fits : IsBytes bytes) where
+  -- the bytes behind what was read are bytes of the sectors
+  pub rest_shorter : (c : Contents) (rest : List ℕ) → manifest_at bytes ≡ Some (c, rest) → length rest ≤ length bytes
+  rest_shorter c rest read = let law = manifest_reads.found bytes (c, rest) fits read in omega (arith, ap length law.1, length-append (manifest_text c) rest)
+
+  pub whole : (c : Contents) (rest : List ℕ) → manifest_at bytes ≡ Some (c, rest) → rest ≡ padding (length bytes - length rest) → IsManifest c → Some c ≡ manifest_of bytes
+  unfolding manifest_bytes
+  whole c rest read zeros is = one_answer (padded_read manifest_reads fields_fit bytes fits c rest read zeros is) (manifest_of_exact bytes)
+
+  pub not_whole : (c : Contents) (rest : List ℕ) → manifest_at bytes ≡ Some (c, rest) → ((rest ≡ padding (length bytes - length rest)) × IsManifest c → ⊥) → None ≡ manifest_of bytes
+  unfolding manifest_bytes
+  not_whole c rest read not = one_answer (padded_refused manifest_reads fields_fit bytes fits c rest read not) (manifest_of_exact bytes)
+
+  pub unread : manifest_at bytes ≡ None → None ≡ manifest_of bytes
+  unfolding manifest_bytes
+  unread none = one_answer (padded_unread manifest_reads fields_fit bytes fits none) (manifest_of_exact bytes)

@@ -1,0 +1,12 @@
+pub mod Keys
+pub mod Map
+pub mod Spelling
+pub mod Reading
+pub mod BatchText
+pub mod Answers
+pub mod Superblocks
+pub mod LogSectors
+pub mod Manifests
+pub mod Words
+pub mod Geometry
+pub mod Formats

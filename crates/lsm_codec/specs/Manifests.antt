@@ -1,0 +1,121 @@
+-- The manifest: what it says, its limits, and its text.
+use Rattle.std.specs.Prelude.{◌≡◌, ◌≢◌, ℕ, ◌+◌, ◌≤◌, ◌<◌, ◌^◌, ◌==◌, ◌&&◌, not, nat_le, nat_lt, Bool, true, List, [], ◌∷◌, ◌++◌, length, Option}
+use Rattle.std.specs.List.{All, flat_map, list_all}
+use Rattle.std.specs.Int.{div_ceil}
+use Rattle.byteorder.specs.Endian.{big_bytes}
+use Rattle.lsm_codec.specs.Spelling.{in_sectors, is_within, if_spelled}
+use Rattle.lsm_codec.specs.Reading.{number_at, then_with, both, made, kept, times, front_of}
+use Rattle.lsm_codec.specs.declared.log_record.LogRecord.{LogRecord}
+
+-- what a manifest says: every batch up to the base is in tables, and those after it are in the regions of the log records
+pub record Contents : Type 0 where
+  pub generation : ℕ
+  pub base : ℕ
+  pub next_table : ℕ
+  pub logs : List LogRecord
+
+-- ---- limits
+
+-- each two, the earlier and the later, stand in the relation
+abbrev pub Pairwise : {X : Type 0} → (X → X → Type 0) → List X → Type 0
+Pairwise R [] = Unit {0}
+Pairwise R (x ∷ xs) = All (R x) xs × Pairwise R xs
+
+pub record IsLogRecord (generation : ℕ) (r : LogRecord) : Type 0 where
+  pub region : r.region ≤ 2
+  pub epoch_low : 1 ≤ r.epoch
+  pub epoch_high : r.epoch ≤ generation
+  pub first_high : r.first_batch ≤ 2 ^ 63 + 1
+
+-- of two log records, the earlier and the later: other regions, and epoch and first batch rise
+pub record LogsAgree (a b : LogRecord) : Type 0 where
+  pub regions : a.region ≢ b.region
+  pub epochs : a.epoch < b.epoch
+  pub firsts : a.first_batch < b.first_batch
+
+-- the first log begins after the base
+abbrev pub BeginsAfter : ℕ → List LogRecord → Type 0
+BeginsAfter base [] = Unit {0}
+BeginsAfter base (r ∷ rs) = r.first_batch ≡ base + 1
+
+pub record NumbersFit (c : Contents) : Type 0 where
+  pub generation_low : 1 ≤ c.generation
+  pub generation_high : c.generation ≤ 2 ^ 63
+  pub base : c.base ≤ 2 ^ 63
+  pub next_low : 1 ≤ c.next_table
+  pub next_high : c.next_table ≤ 2 ^ 63 + 1
+  pub logs : length c.logs ≤ 3
+
+pub record LogsFit (c : Contents) : Type 0 where
+  pub each : All (IsLogRecord c.generation) c.logs
+  pub agree : Pairwise LogsAgree c.logs
+  pub begins : BeginsAfter c.base c.logs
+
+pub record IsManifest (c : Contents) : Type 0 where
+  pub numbers : NumbersFit c
+  pub logs : LogsFit c
+
+-- the same limits, as tests
+abbrev pub is_each_two : {X : Type 0} → (X → X → Bool) → List X → Bool
+is_each_two test [] = true
+is_each_two test (x ∷ xs) = list_all (test x) xs && is_each_two test xs
+
+abbrev pub is_log_record : ℕ → LogRecord → Bool
+is_log_record generation r = nat_le r.region 2 && (is_within 1 generation r.epoch && nat_le r.first_batch (2 ^ 63 + 1))
+
+abbrev pub is_agreeing : LogRecord → LogRecord → Bool
+is_agreeing a b = not (a.region == b.region) && (nat_lt a.epoch b.epoch && nat_lt a.first_batch b.first_batch)
+
+abbrev pub is_after : ℕ → List LogRecord → Bool
+is_after base [] = true
+is_after base (r ∷ rs) = r.first_batch == base + 1
+
+abbrev pub is_numbered : Contents → Bool
+is_numbered c = is_within 1 (2 ^ 63) c.generation && (nat_le c.base (2 ^ 63) && (is_within 1 (2 ^ 63 + 1) c.next_table && nat_le (length c.logs) 3))
+
+abbrev pub is_logged : Contents → Bool
+is_logged c = list_all (is_log_record c.generation) c.logs && (is_each_two is_agreeing c.logs && is_after c.base c.logs)
+
+abbrev pub is_manifest : Contents → Bool
+is_manifest c = is_numbered c && is_logged c
+
+-- ---- text
+
+abbrev pub log_record : LogRecord → List ℕ
+log_record r = big_bytes 1 r.region ++ (big_bytes 8 r.epoch ++ big_bytes 8 r.first_batch)
+
+-- `LSMM`, the numbers, and the counts of log records, level 0 runs and table records
+abbrev pub manifest_header : Contents → List ℕ
+manifest_header c = big_bytes 4 0x4c534d4d ++ (big_bytes 8 c.generation ++ (big_bytes 8 c.base ++ (big_bytes 8 c.next_table ++ (big_bytes 1 (length c.logs) ++ (big_bytes 1 0 ++ big_bytes 2 0)))))
+
+unfoldable pub manifest_text : Contents → List ℕ
+manifest_text c = manifest_header c ++ flat_map log_record c.logs
+
+-- the fewest sectors that hold a manifest
+abbrev pub sector_count : Contents → ℕ
+sector_count c = div_ceil (length (manifest_text c)) 512
+
+-- the bytes of the sectors that spell a manifest
+unfoldable pub manifest_bytes : Contents → List ℕ
+manifest_bytes c = in_sectors (manifest_text c)
+
+-- ---- reading
+
+unfoldable pub log_record_at : List ℕ → Option (LogRecord × List ℕ)
+log_record_at = made (λ t. record { region = t.0; epoch = t.1.0; first_batch = t.1.1 }) (both (number_at 1) (both (number_at 8) (number_at 8)))
+
+-- one number only
+abbrev pub only_number : ℕ → ℕ → List ℕ → Option (ℕ × List ℕ)
+only_number n size = kept (λ m. m == n) (number_at size)
+
+unfoldable pub header_at : List ℕ → Option ((ℕ × (ℕ × (ℕ × (ℕ × (ℕ × (ℕ × ℕ)))))) × List ℕ)
+header_at = both (only_number 0x4c534d4d 4) (both (number_at 8) (both (number_at 8) (both (number_at 8) (both (number_at 1) (both (only_number 0 1) (only_number 0 2))))))
+
+unfoldable pub manifest_at : List ℕ → Option (Contents × List ℕ)
+manifest_at =
+    made (λ t. record { generation = t.0.1.0; base = t.0.1.1.0; next_table = t.0.1.1.1.0; logs = t.1 })
+    (then_with header_at (λ h. times h.1.1.1.1.0 log_record_at))
+
+-- the manifest that the bytes of sectors spell, if they spell one
+unfoldable pub manifest_of : List ℕ → Option Contents
+manifest_of sectors = if_spelled is_manifest manifest_bytes sectors (front_of (manifest_at sectors))

@@ -1,0 +1,39 @@
+use Rattle.std.proofs.Common.{◌≡◌, ◌+◌, ◌≤◌, ap, arith, refl, ℕ}
+use Rattle.lsm_codec.specs.BatchText.{sectors_of}
+use Rattle.lsm_log.proofs.Logs.{append_nothing, written_nothing, append_moments, append_written, append_open, append_reads}
+use Rattle.lsm_log.proofs.log.Log.append.Goals as goal
+
+pub returns-then-room-parts-clause-any_moment : goal.returns-then-room-parts-clause-any_moment
+returns-then-room-parts-clause-any_moment g c = λ t o. append_nothing c.args.self.now (g.D.Device.medium c.args.device.now).history o c.args.batch.now _ refl
+
+pub returns-then-room-parts-clause-written : goal.returns-then-room-parts-clause-written
+returns-then-room-parts-clause-written g c = λ t o. written_nothing c.args.self.now (g.D.Device.medium c.args.device.now).history o c.args.batch.now _ refl
+
+pub returns-in_err-write_parts-clause-any_moment : goal.returns-in_err-write_parts-clause-any_moment
+returns-in_err-write_parts-clause-any_moment g c = λ t o.
+    append_moments c.args.self.now (g.D.Device.medium c.args.device.now).history o c.args.batch.now c.sectors_of-parts.ensures.whole c.requires.number (omega arith) (g.D.Device.medium c.write_parts.new.device).history (c.write_parts.ensures.moments t)
+
+pub returns-in_err-write_parts-clause-written : goal.returns-in_err-write_parts-clause-written
+returns-in_err-write_parts-clause-written g c = λ t o.
+    append_written c.args.self.now (g.D.Device.medium c.args.device.now).history o c.args.batch.now c.sectors_of-parts.ensures.whole c.requires.number (omega arith) (g.D.Device.medium c.write_parts.new.device).history (c.write_parts.ensures.moments t)
+
+pub returns-clause-any_moment : goal.returns-clause-any_moment
+returns-clause-any_moment g c = λ t o.
+    append_moments c.args.self.now (g.D.Device.medium c.args.device.now).history o c.args.batch.now c.sectors_of-parts.ensures.whole c.requires.number (omega arith) (g.D.Device.medium c.write_parts.new.device).history (c.write_parts.ensures.moments t)
+
+pub returns-clause-written : goal.returns-clause-written
+returns-clause-written g c = λ t o.
+    append_written c.args.self.now (g.D.Device.medium c.args.device.now).history o c.args.batch.now c.sectors_of-parts.ensures.whole c.requires.number (omega arith) (g.D.Device.medium c.write_parts.new.device).history (c.write_parts.ensures.moments t)
+
+pub returns-clause-open : goal.returns-clause-open
+returns-clause-open g c = λ t o.
+    let log = c.args.self.now in
+    let room : log.used + sectors_of c.args.batch.now ≤ log.sectors = omega arith in
+    let used : log.used + c.sectors_of-parts.result ≡ log.used + sectors_of c.args.batch.now = ap (λ (n : ℕ). log.used + n) c.sectors_of-parts.ensures.value in
+    append_open log (g.D.Device.medium c.args.device.now).history o c.args.batch.now c.sectors_of-parts.ensures.whole c.requires.number room (g.D.Device.medium c.write_parts.new.device).history (c.in_ok-write_parts.ensures.whole t) _ (record { start = refl; sectors = refl; epoch = refl; first = refl; next = refl; used = used })
+
+pub returns-clause-appended : goal.returns-clause-appended
+returns-clause-appended g c = λ t o.
+    let log = c.args.self.now in
+    let room : log.used + sectors_of c.args.batch.now ≤ log.sectors = omega arith in
+    append_reads log (g.D.Device.medium c.args.device.now).history o c.args.batch.now c.sectors_of-parts.ensures.whole c.requires.number room (g.D.Device.medium c.write_parts.new.device).history (c.in_ok-write_parts.ensures.whole t)

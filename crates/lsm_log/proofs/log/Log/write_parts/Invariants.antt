@@ -1,0 +1,16 @@
+use Rattle.std.proofs.Common.{◌≡◌, ◌+◌, IsTrue}
+use Rattle.lsm_device.specs.Calls.{AtMost}
+use Rattle.lsm_device.specs.Runs.{run_at, Reached}
+use Rattle.lsm_log.specs.Batches.{batch_sectors}
+use Rattle.lsm_log.proofs.log.Log.write_parts.Given as goal
+
+abbrev pub invariant-loop-part : goal.invariant-loop-part
+invariant-loop-part g l =
+    let D = g.D.Device in
+    record {
+      same_size : (D.medium l.device).size ≡ (D.medium l.fn.device).size;
+      same_tells : (D.medium l.device).tells ≡ (D.medium l.fn.device).tells;
+      no_fault : (D.medium l.device).calls.faults ≡ (D.medium l.fn.device).calls.faults;
+      calls : AtMost 0 l.part 0 (D.medium l.fn.device).calls (D.medium l.device).calls;
+      reached : IsTrue (D.medium l.fn.device).tells → Reached (D.medium l.fn.device).history (D.medium l.device).history (run_at (l.self.start + l.self.used) (batch_sectors l.self.epoch l.self.next l.batch)) l.part;
+    }

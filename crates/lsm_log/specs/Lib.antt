@@ -1,0 +1,5 @@
+pub mod Replay
+pub mod Batches
+pub mod Longest
+pub mod Opened
+pub mod Gathered

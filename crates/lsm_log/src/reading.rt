@@ -1,0 +1,113 @@
+// The batches of a region are read back.
+ghost use Rattle.std.specs.Prelude.{◌≡◌, ◌⊎◌, ◌<◌, ◌≤◌, ◌^◌, ◌+◌, List, ℕ, length, true, IsTrue, IfOk, IfErr, option_map};
+ghost use Rattle.lsm_codec.specs.LogSectors.{lent_part};
+ghost use Rattle.lsm_device.specs.Areas.{area};
+ghost use Rattle.lsm_device.specs.Calls.{AtMost, faults_after};
+ghost use Rattle.lsm_device.specs.Disk.{seen};
+ghost use Rattle.lsm_device.specs.Medium.{disk};
+ghost use Rattle.lsm_device.specs.Refusals.{faultless};
+ghost use Rattle.lsm_log.specs.Gathered.{HasTaken};
+ghost use Rattle.lsm_log.specs.Longest.{IsLongest};
+ghost use Rattle.lsm_log.specs.Opened.{AreNumbers};
+ghost use Rattle.lsm_log.specs.Replay.{is_awaited as is_awaited_part, awaited, replay as replay_of};
+
+use crate::gathered::Gathered;
+use lsm_codec::{Batch, LogSector};
+use lsm_device::{Device, Refusal};
+use std::alloc::Allocator;
+
+impl<A: Allocator + Clone> Gathered<A> {
+    fn is_awaited(&self, sector: &LogSector) -> bool
+        ensures { result ≡ is_awaited_part self.now.epoch self.now.number self.now.part self.now.parts (lent_part sector.now) }
+    {
+        sector.epoch == self.epoch
+            && (sector.batch == self.number
+                && (sector.part == self.part && (self.part == 0 || sector.parts == self.parts)))
+    }
+
+    // Reads the sector if it is the awaited one.
+    fn take(&mut self, alloc: &A, bytes: &[u8; 512]) -> Result<bool, Refusal>
+        ensures taken { IfOk result (λ taken. HasTaken taken bytes.now self.old self.new) }
+        ensures same_first { self.new.first ≡ self.old.first }
+        ensures refused { IfErr result (λ refusal. refusal ≡ Refusal.NoMemory) }
+    {
+        let Some(sector) = LogSector::decode(bytes) else {
+            return Ok(false);
+        };
+        if !self.is_awaited(&sector) {
+            return Ok(false);
+        }
+        self.text.extend_from_slice(sector.payload)?;
+        if sector.part + 1 < sector.parts {
+            self.part = sector.part + 1;
+            self.parts = sector.parts;
+            return Ok(true);
+        }
+        let Some(batch) = Batch::decode(alloc.clone()?, &self.text)? else {
+            return Ok(false);
+        };
+        self.batches.push(batch)?;
+        self.number += 1;
+        self.part = 0;
+        self.parts = 0;
+        self.text.clear();
+        Ok(true)
+    }
+}
+
+/// The batches of an epoch in a region: `first`, `first + 1` .., each with all its parts in consecutive sectors, from the
+/// region's first sector on. The first sector that is not the awaited one ends it, and so does a text that is no batch's.
+pub fn replay<D: Device, A: Allocator + Clone>(
+    alloc: A,
+    device: &mut D,
+    start: u32,
+    sectors: u32,
+    epoch: u64,
+    first: u64,
+) -> Result<Vec<Batch<A>, A>, Refusal>
+    requires { start + sectors ≤ (D.medium device.old).size }
+    ensures replayed { IsTrue (D.medium device.old).tells → IfOk result (λ batches.
+        batches.items ≡ replay_of epoch first (area start sectors (seen (disk (D.medium device.old))))) }
+
+    // The last batch has a number that a batch may have.
+    ensures numbers { IfOk result (λ batches. 1 ≤ length batches.items → first + length batches.items ≤ 2 ^ 63 + 1) }
+
+    // It is refused only for want of memory, and for a read that failed, its last call.
+    ensures refused { IfErr result (λ refusal. (refusal ≡ Refusal.NoMemory)
+        ⊎ ((refusal ≡ Refusal.Io) × ((D.medium device.new).calls.last_faulted ≡ true))) }
+    ensures faults { (D.medium device.new).calls.faults ≡ faults_after (faultless result) (D.medium device.old).calls.faults }
+
+    // It reads the awaited sectors and at most one more, and nothing else is done to the device.
+    ensures calls { AtMost sectors 0 0 (D.medium device.old).calls (D.medium device.new).calls }
+    ensures reads { IsTrue (D.medium device.old).tells
+        → AtMost (awaited epoch first (area start sectors (seen (disk (D.medium device.old)))) + 1) 0 0
+        (D.medium device.old).calls (D.medium device.new).calls }
+    ensures unchanged { IsTrue (D.medium device.old).tells → (D.medium device.new).history ≡ (D.medium device.old).history }
+    ensures same_size { (D.medium device.new).size ≡ (D.medium device.old).size }
+    ensures same_tells { (D.medium device.new).tells ≡ (D.medium device.old).tells }
+{
+    let mut gathered = Gathered {
+        epoch,
+        first,
+        batches: Vec::new(alloc.clone()?),
+        number: first,
+        part: 0,
+        parts: 0,
+        text: Vec::new(alloc.clone()?),
+    };
+    let mut bytes = [0; 512];
+    for at in start..start + sectors {
+        device.read(at, &mut bytes)?;
+        if !gathered.take(&alloc, &bytes)? {
+            return Ok(gathered.batches);
+        }
+    }
+    Ok(gathered.batches)
+}
+
+/// A replay gives the longest run of batches that the sectors begin with: none of them lacks a part, and behind them
+/// come not all sectors of another one.
+pub fn replay_is_longest()
+    ensures { (epoch first : ℕ) (sectors : List (List ℕ)) → AreNumbers epoch first 0
+        → IsLongest epoch first sectors (replay_of epoch first sectors) }
+{}

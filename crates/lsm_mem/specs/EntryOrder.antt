@@ -1,0 +1,26 @@
+-- Versions in the order of entries, and those of a batch put among them.
+use Rattle.std.specs.Prelude.{ℕ, List, [], ◌∷◌}
+use Rattle.std.specs.declared.cmp.Ordering.{Ordering}
+use Rattle.std.specs.Ordering.{nat_cmp, ordering_then}
+use Rattle.std.specs.FinMap.Entries.{by_order}
+use Rattle.lsm_codec.specs.Keys.{byte_order}
+use Rattle.lsm_codec.specs.Map.{Operation}
+use Rattle.lsm_mem.specs.Versions.{Version}
+
+-- the order of entries: by key, and then the newer first
+abbrev pub entry_order : Version → Version → Ordering
+entry_order a b = ordering_then (byte_order a.key b.key) (nat_cmp b.number a.number)
+
+-- with a version in its place, instead of one of its key and number
+abbrev pub placed : Version → List Version → List Version
+placed v [] = v ∷ []
+placed v (w ∷ rest) = by_order (entry_order v w) (v ∷ w ∷ rest) (v ∷ rest) (w ∷ placed v rest)
+
+-- the version that an operation of the batch of this number makes
+abbrev pub version_by : ℕ → Operation → Version
+version_by number operation = record { key = operation.key; number = number; value = operation.value }
+
+-- versions with those of a batch under its number: its operations in order, so that the later one on a key wins
+abbrev pub with_batch : ℕ → List Operation → List Version → List Version
+with_batch number [] versions = versions
+with_batch number (operation ∷ rest) versions = with_batch number rest (placed (version_by number operation) versions)

@@ -1,0 +1,9 @@
+pub mod Openings
+pub mod KeptRecords
+pub mod NextImages
+pub mod NextManifests
+pub mod ReplaySteps
+pub mod Recovering
+pub mod OpeningMoments
+pub mod Zeroed
+pub mod EmptyStores

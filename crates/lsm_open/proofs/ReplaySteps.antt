@@ -1,0 +1,79 @@
+-- One region more, or one batch more, is replayed.
+use Rattle.std.proofs.Common.{◌≡◌, ◌≢◌, ℕ, ◌+◌, ◌≤◌, ◌&&◌, Bool, false, List, [], ◌∷◌, ◌++◌, length, refl, sym, ◌∙◌, ap, subst, arith, append_assoc}
+use Rattle.std.specs.FinMap as finite
+use Rattle.std.proofs.lemmas.Bool.{eq-eqb, ne_eqb}
+use Rattle.std.proofs.lemmas.List.{append-nil, length-append}
+use Rattle.lsm_codec.specs.declared.log_record.LogRecord.{LogRecord}
+use Rattle.lsm_codec.specs.Manifests.{Contents}
+use Rattle.lsm_codec.specs.Map.{Map, Operation, apply, apply_all}
+use Rattle.lsm_mem.specs.Versions.{map_of}
+use Rattle.lsm_open.specs.CrashState.{last_number}
+use Rattle.lsm_open.specs.Image.{batches_at, all_batches, follow_on}
+use Rattle.lsm_open.specs.Reopening.{kept_before, with_batches, HasCome, HasReplayed, GoesOn}
+use Rattle.lsm_open.specs.declared.replayed.Replayed.{Replayed}
+use Rattle.lsm_open.proofs.NextManifests.{come_dropped, come_kept}
+
+abbrev Batches : Type 0
+Batches = List (List Operation)
+
+pub apply_all-append : (m : Map) (xs ys : Batches) → apply_all m (xs ++ ys) ≡ apply_all (apply_all m xs) ys
+apply_all-append m [] ys = refl
+apply_all-append m (x ∷ xs) ys = apply_all-append (apply m x) xs ys
+
+kept-append : (bs : Batches) (r : LogRecord) (xs : List LogRecord) → kept_before bs r xs ≡ kept_before bs r [] ++ xs
+kept-append [] r xs = refl
+kept-append (b ∷ bs) r xs = refl
+
+come_by : (m : Contents) (count more : ℕ) (closed now : List LogRecord) (r : LogRecord) (rest : List LogRecord) (bs : Batches) → HasCome m count closed (r ∷ rest) → r.first_batch ≡ count + 1 → now ≡ closed ++ kept_before bs r []
+    → more ≡ count + length bs → more ≤ last_number → HasCome m more now rest
+come_by m count more closed now r rest [] come first kept counts high =
+    let same : count ≡ more = omega (arith, counts) in
+    subst (λ (l : List LogRecord). HasCome m more l rest) (sym (kept ∙ append-nil closed)) (subst (λ (n : ℕ). HasCome m n closed rest) same (come_dropped m count closed r rest come))
+come_by m count more closed now r rest (b ∷ bs) come first kept counts high =
+    subst (λ (l : List LogRecord). HasCome m more l rest) (sym kept) (come_kept m count more closed r rest come first (omega (arith, counts)) high)
+
+module _ {A : Type 0} (m : Contents) (old new : Replayed A) (r : LogRecord) (rest : List LogRecord) (bs : Batches) (step : HasReplayed r bs old new) where
+  pub come_step : HasCome m old.count old.closed.items (r ∷ rest) → HasCome m new.count new.closed.items rest
+  come_step come = come_by m old.count new.count old.closed.items new.closed.items r rest bs come step.first step.closed step.count step.count_high
+
+  module _ (n : ℕ) (s : List (List ℕ)) (is : bs ≡ batches_at n s r) (on : GoesOn n s m old (r ∷ rest)) where
+    kept_step : with_batches n s m.logs ≡ new.closed.items ++ with_batches n s rest
+    kept_step =
+        on.kept
+        ∙ ap (λ (l : List LogRecord). old.closed.items ++ l) (kept-append (batches_at n s r) r (with_batches n s rest))
+        ∙ sym (append_assoc old.closed.items (kept_before (batches_at n s r) r []) (with_batches n s rest))
+        ∙ ap (λ (b : Batches). (old.closed.items ++ kept_before b r []) ++ with_batches n s rest) (sym is)
+        ∙ ap (λ (l : List LogRecord). l ++ with_batches n s rest) (sym step.closed)
+
+    counts_step : m.base + length (all_batches n s m.logs) ≡ new.count + length (all_batches n s rest)
+    counts_step = omega (arith, on.counts, step.count, ap length is, length-append (batches_at n s r) (all_batches n s rest))
+
+    map_step : apply_all finite.empty (all_batches n s m.logs) ≡ apply_all (map_of new.mem new.count) (all_batches n s rest)
+    map_step =
+        on.map
+        ∙ apply_all-append (map_of old.mem old.count) (batches_at n s r) (all_batches n s rest)
+        ∙ ap (λ (b : Batches). apply_all (apply_all (map_of old.mem old.count) b) (all_batches n s rest)) (sym is)
+        ∙ ap (λ (x : Map). apply_all x (all_batches n s rest)) (sym step.map)
+
+    follows_step : follow_on n s (m.base + 1) m.logs ≡ follow_on n s (new.count + 1) rest
+    follows_step =
+        let long : (old.count + 1) + length (batches_at n s r) ≡ new.count + 1 = omega (arith, step.count, ap length is) in
+        on.follows
+        ∙ ap (λ (b : Bool). b && follow_on n s ((old.count + 1) + length (batches_at n s r)) rest) (eq-eqb r.first_batch (old.count + 1) step.first)
+        ∙ ap (λ (k : ℕ). follow_on n s k rest) long
+
+    pub goes_on_step : GoesOn n s m new rest
+    goes_on_step = record { kept = kept_step; counts = counts_step; map = map_step; follows = follows_step }
+
+-- a region whose first batch doesn't come next
+pub mismatch : {A : Type 0} (m : Contents) (old : Replayed A) (r : LogRecord) (rest : List LogRecord) (n : ℕ) (s : List (List ℕ)) → GoesOn n s m old (r ∷ rest) → r.first_batch ≢ old.count + 1 → follow_on n s (m.base + 1) m.logs ≡ false
+mismatch m old r rest n s on other =
+    on.follows ∙ ap (λ (b : Bool). b && follow_on n s ((old.count + 1) + length (batches_at n s r)) rest) (ne_eqb r.first_batch (old.count + 1) other)
+
+pub goes_started : {A : Type 0} (m : Contents) (new : Replayed A) (n : ℕ) (s : List (List ℕ)) → new.closed.items ≡ [] → new.mem ≡ [] → new.count ≡ m.base → GoesOn n s m new m.logs
+goes_started m new n s closed mem count = record {
+  kept = ap (λ (l : List LogRecord). l ++ with_batches n s m.logs) (sym closed);
+  counts = ap (λ (k : ℕ). k + length (all_batches n s m.logs)) (sym count);
+  map = ap (λ vs. apply_all (map_of vs new.count) (all_batches n s m.logs)) (sym mem);
+  follows = ap (λ (k : ℕ). follow_on n s (k + 1) m.logs) (sym count);
+}

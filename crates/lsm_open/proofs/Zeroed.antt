@@ -1,0 +1,84 @@
+-- What stands on a device whose first sectors were zeroed.
+use Rattle.std.proofs.Common.{◌≡◌, ◌≤◌, ◌<◌, ℕ, ◌+◌, ◌*◌, List, [], ◌∷◌, ◌++◌, length, take, drop, replicate, refl, sym, ◌∙◌, ap, subst, arith, append_assoc, lit≤}
+use Rattle.std.proofs.lemmas.List.{length-replicate, get_or-replicate, get_or_append_left, replicate-append-replicate, drop_at, take_at}
+use Rattle.std.proofs.lemmas.List.Elements.{All-nil}
+use Rattle.lsm_codec.specs.Formats.{blank}
+use Rattle.lsm_codec.specs.Manifests.{IsManifest, IsLogRecord, sector_count}
+use Rattle.lsm_codec.proofs.ManifestLaws.{length-manifest_text}
+use Rattle.lsm_device.specs.Disk.{Disk, Write, IsDisk, seen, synced}
+use Rattle.lsm_device.specs.History.{present, Becomes}
+use Rattle.lsm_device.specs.Memory.{length-written}
+use Rattle.lsm_device.specs.Runs.{run_at, grown, Reached}
+use Rattle.lsm_device.proofs.Moments.{now_is}
+use Rattle.lsm_device.proofs.Outcomes.{seen-grown}
+use Rattle.lsm_device.proofs.Runs.{run_more, run_whole, written-run_at}
+use Rattle.lsm_root.specs.Roots.{Reading, Blank, reading_of, in_slot, newer, sector_at, superblock_in, Stands}
+use Rattle.lsm_root.specs.Installed.{IsNext, IsReady, IsInstalled}
+use Rattle.lsm_root.proofs.Readings.{zeros}
+use Rattle.lsm_open.specs.Formatted.{empty_manifest, IsFormatted}
+
+-- one sector more
+pub zero_more : (old mid new : List Disk) (count at : ℕ) (bytes : List ℕ) → bytes ≡ blank → at < count → Reached old mid (run_at 0 (replicate count blank)) at
+    → Becomes (record { stands = (present mid).stands; pending = (present mid).pending ++ record { at = at; bytes = bytes } ∷ [] }) mid new → Reached old new (run_at 0 (replicate count blank)) (at + 1)
+zero_more old mid new count at bytes is lt so_far becomes =
+    run_more old mid new 0 at (replicate count blank) at bytes (omega arith) (omega (arith, lt, length-replicate count blank)) (is ∙ sym (get_or-replicate count at blank [] lt)) so_far becomes
+
+pub all_zero : (old mid new : List Disk) (count at : ℕ) → count ≤ at → Reached old mid (run_at 0 (replicate count blank)) at → Becomes (synced (present mid)) mid new
+    → present new ≡ synced (grown (run_at 0 (replicate count blank)) (present old))
+all_zero old mid new count at all reached becomes =
+    now_is (synced (present mid)) mid new becomes ∙ ap synced (run_whole old mid 0 (replicate count blank) at (omega (arith, all, length-replicate count blank)) reached)
+
+-- the disk whose first n sectors were zeroed
+abbrev zeroed : ℕ → Disk → Disk
+zeroed n d = synced (grown (run_at 0 (replicate n blank)) d)
+
+module _ (size n : ℕ) (d : Disk) (on : IsDisk size d) (fits : n ≤ size) where
+  front_is : seen (zeroed n d) ≡ replicate n blank ++ drop n (seen d)
+  front_is =
+      let long : length (seen d) ≡ size = length-written size d.stands d.pending on.size in
+      seen-grown (run_at 0 (replicate n blank)) d
+      ∙ written-run_at (seen d) 0 (replicate n blank) (omega (arith, long, fits, length-replicate n blank))
+      ∙ ap (λ (k : ℕ). replicate n blank ++ drop k (seen d)) (omega (arith, length-replicate n blank))
+
+  sector_is : (i : ℕ) → i < n → sector_at (seen (zeroed n d)) i ≡ blank
+  sector_is i lt =
+      ap (λ (l : List (List ℕ)). sector_at l i) front_is
+      ∙ get_or_append_left (replicate n blank) (drop n (seen d)) [] i (omega (arith, lt, length-replicate n blank))
+      ∙ get_or-replicate n i blank [] lt
+
+  blank_superblocks : 2 ≤ n → superblock_in (seen (zeroed n d)) ≡ Blank
+  blank_superblocks some =
+      ap (λ (r : Reading). newer (in_slot 0 r) (in_slot 1 (reading_of (sector_at (seen (zeroed n d)) 1)))) (zeros _ (sector_is 0 (omega (arith, some))))
+      ∙ ap (λ (r : Reading). newer Blank (in_slot 1 r)) (zeros _ (sector_is 1 (omega (arith, some))))
+
+  -- generation 1 may be installed
+  pub zeroed_ready : (log : ℕ) → 2 ≤ n → IsReady size log 1 (synced (grown (run_at 0 (replicate n blank)) d))
+  zeroed_ready log some = record {
+    settled = All-nil (λ (w : Write). 130 ≤ w.at);
+    next = subst (IsNext size log 1) (sym (blank_superblocks some)) refl;
+  }
+
+  regions_are : (k : ℕ) → n ≡ 130 + k → take k (drop 130 (seen (zeroed n d))) ≡ replicate k blank
+  regions_are k is =
+      let parts : replicate n blank ≡ replicate 130 blank ++ replicate k blank = ap (λ (m : ℕ). replicate m blank) is ∙ sym (replicate-append-replicate 130 k blank) in
+      let all : seen (zeroed n d) ≡ replicate 130 blank ++ (replicate k blank ++ drop n (seen d)) = front_is ∙ ap (λ (l : List (List ℕ)). l ++ drop n (seen d)) parts ∙ append_assoc (replicate 130 blank) (replicate k blank) (drop n (seen d)) in
+      ap (λ (l : List (List ℕ)). take k (drop 130 l)) all
+      ∙ ap (λ (l : List (List ℕ)). take k l) (drop_at (replicate 130 blank) (replicate k blank ++ drop n (seen d)) 130 (length-replicate 130 blank))
+      ∙ take_at (replicate k blank) (drop n (seen d)) k (length-replicate k blank)
+
+  -- with an empty manifest it is an empty store
+  pub is_formatted : (log : ℕ) (e : Disk) → n ≡ 130 + 3 * log → IsInstalled (synced (grown (run_at 0 (replicate n blank)) d)) (Stands log empty_manifest) e → IsFormatted log e
+  is_formatted log e is installed = record {
+    settled = installed.settled;
+    root = installed.stands.root;
+    regions = ap (λ (l : List (List ℕ)). take (3 * log) l) installed.stands.all ∙ regions_are (3 * log) is;
+  }
+
+pub empty_is_manifest : IsManifest empty_manifest
+empty_is_manifest = record {
+  numbers = record { generation_low = omega arith; generation_high = lit≤ tt; base = omega arith; next_low = omega arith; next_high = lit≤ tt; logs = omega arith };
+  logs = record { each = All-nil (IsLogRecord 1); agree = tt; begins = tt };
+}
+
+pub empty_takes_one : sector_count empty_manifest ≡ 1
+empty_takes_one = omega (arith, length-manifest_text empty_manifest)

@@ -1,0 +1,45 @@
+use Rattle.std.proofs.Common.{◌≡◌, subst}
+use Rattle.lsm_codec.specs.Manifests.{Contents}
+use Rattle.lsm_device.specs.History.{EachSince}
+use Rattle.lsm_device.specs.Medium.{disk}
+use Rattle.lsm_device.specs.Outcomes.{Leaves}
+use Rattle.lsm_device.proofs.Moments.{started}
+use Rattle.lsm_open.specs.Reopening.{next_contents}
+use Rattle.lsm_open.proofs.NextManifests.{next_fits}
+use Rattle.lsm_open.proofs.OpeningMoments.{installs}
+use Rattle.lsm_root.specs.Installed.{IsOldOrNew, IsInstalled}
+use Rattle.lsm_root.specs.Roots.{Stands}
+use Rattle.lsm_root.proofs.Switched.{none_leaves}
+use Rattle.lsm_open.proofs.reopened.reopen.Goals as goal
+
+pub returns-in_err-clone-clause-any_moment : goal.returns-in_err-clone-clause-any_moment
+returns-in_err-clone-clause-any_moment g c = λ t. started _ _ (none_leaves _ _ (c.requires.ready t).settled)
+
+pub returns-in_err-manifest-clause-any_moment : goal.returns-in_err-manifest-clause-any_moment
+returns-in_err-manifest-clause-any_moment g c = λ t. started _ _ (none_leaves _ _ (c.requires.ready t).settled)
+
+pub install-requires-clause-valid : goal.install-requires-clause-valid
+install-requires-clause-valid g c = λ le.
+    let m = c.args.loaded.now.manifest in
+    let says : c.in_ok-manifest.manifest ≡ next_contents m c.args.closed.items c.args.count =
+    installs c.args.loaded.now.log_sectors c.args.count c.generation-generation.result c.base.result c.next_table.result m c.in_ok-manifest.manifest c.args.closed.items c.deref.result.now c.open_least_free-open_region.result
+    c.in_ok-manifest.ensures c.generation-generation.ensures c.base.ensures c.next_table.ensures c.deref.ensures.value c.open_least_free-open_region.ensures.least c.open_least_free-open_region.ensures.new_log in
+    rw says (next_fits m c.args.count c.args.closed.items c.requires.fits c.requires.come c.requires.has_next)
+
+pub returns-clause-any_moment : goal.returns-clause-any_moment
+returns-clause-any_moment g c = λ t.
+    let D = g.D.Device in
+    let m = c.args.loaded.now.manifest in
+    let says : c.in_ok-manifest.manifest ≡ next_contents m c.args.closed.items c.args.count =
+    installs c.args.loaded.now.log_sectors c.args.count c.generation-generation.result c.base.result c.next_table.result m c.in_ok-manifest.manifest c.args.closed.items c.deref.result.now c.open_least_free-open_region.result
+    c.in_ok-manifest.ensures c.generation-generation.ensures c.base.ensures c.next_table.ensures c.deref.ensures.value c.open_least_free-open_region.ensures.least c.open_least_free-open_region.ensures.new_log in
+    subst (λ (x : Contents). EachSince (Leaves (IsOldOrNew (disk (D.medium c.args.device.now)) (Stands c.args.loaded.now.log_sectors x))) (D.medium c.args.device.now).history (D.medium c.install.new.device).history) says (c.install.ensures.any_moment t)
+
+pub returns-clause-installed : goal.returns-clause-installed
+returns-clause-installed g c = λ t.
+    let D = g.D.Device in
+    let m = c.args.loaded.now.manifest in
+    let says : c.in_ok-manifest.manifest ≡ next_contents m c.args.closed.items c.args.count =
+    installs c.args.loaded.now.log_sectors c.args.count c.generation-generation.result c.base.result c.next_table.result m c.in_ok-manifest.manifest c.args.closed.items c.deref.result.now c.open_least_free-open_region.result
+    c.in_ok-manifest.ensures c.generation-generation.ensures c.base.ensures c.next_table.ensures c.deref.ensures.value c.open_least_free-open_region.ensures.least c.open_least_free-open_region.ensures.new_log in
+    subst (λ (x : Contents). IsInstalled (disk (D.medium c.args.device.now)) (Stands c.args.loaded.now.log_sectors x) (disk (D.medium c.install.new.device))) says (c.in_ok-install.ensures.installed t)

@@ -1,0 +1,28 @@
+-- What a format leaves, and how it answers.
+use Rattle.std.specs.Prelude.{◌≡◌, ℕ, ◌*◌, [], replicate, Result, Ok, Err}
+use Rattle.lsm_codec.specs.Formats.{blank}
+use Rattle.lsm_codec.specs.Manifests.{Contents}
+use Rattle.lsm_device.specs.Areas.{area}
+use Rattle.lsm_device.specs.Disk.{Disk}
+use Rattle.lsm_device.specs.declared.refusal.Refusal.{Refusal}
+use Rattle.lsm_root.specs.Roots.{Stands, root_of}
+
+-- the manifest of an empty store
+abbrev pub empty_manifest : Contents
+empty_manifest = record { generation = 1; base = 0; next_table = 1; logs = [] }
+
+-- nothing pends, the root of an empty store stands, and the three log regions are zeros
+pub record IsFormatted (log : ℕ) (d : Disk) : Type 0 where
+  pub settled : d.pending ≡ []
+  pub root : root_of d.stands ≡ Stands log empty_manifest
+  pub regions : area 130 (3 * log) d.stands ≡ replicate (3 * log) blank
+
+-- the device that an answer hands back
+abbrev pub handed_back : {D : Type 0} → Result D (Refusal × D) → D
+handed_back (Ok device) = device
+handed_back (Err refused) = refused.1
+
+-- the answer alone
+abbrev pub without_device : {D : Type 0} → Result D (Refusal × D) → Result (Unit {0}) Refusal
+without_device (Ok device) = Ok tt
+without_device (Err refused) = Err refused.0

@@ -1,0 +1,69 @@
+// Where a store's batches lie on its device.
+ghost use Rattle.std.specs.Prelude.{◌≡◌, ◌≤◌, ◌+◌, ◌*◌, length, IfOk};
+ghost use Rattle.lsm_open.specs.Image.{first_region, region_start};
+ghost use Rattle.lsm_open.specs.Layout.{record_of, layout_of, manifest_for};
+
+use lsm_codec::{LogRecord, Manifest};
+use lsm_log::Log;
+use std::alloc::{AllocError, Allocator, Global};
+
+const FIRST_REGION: u32 = 130;
+
+/// The open log, and the number of its region, from 0 to 2.
+#[derive(Debug, Drop)]
+pub struct OpenRegion {
+    pub region: u8,
+    pub log: Log,
+}
+
+/// Where a store's batches lie: those up to the base in tables, the next in the closed regions, the older first, and the
+/// last in the open log, if one is open.
+#[derive(Debug, Drop)]
+pub struct Regions<A: Allocator = Global> {
+    /// The sectors of one log region, 128 to 2,048.
+    pub log_sectors: u16,
+    /// The generation whose manifest stands.
+    pub generation: u64,
+    /// The last batch that is in tables.
+    pub base: u64,
+    /// The number of the next table.
+    pub next_table: u64,
+    /// The regions that hold batches and are not written any more.
+    pub closed: Vec<LogRecord, A>,
+    /// None where each region is closed.
+    pub open_region: Option<OpenRegion>,
+}
+
+/// The first sector of a region.
+pub(crate) fn region_start(log_sectors: u16, region: u8) -> u32
+    ensures { result ≡ region_start log_sectors region }
+{
+    FIRST_REGION + region as u32 * log_sectors as u32
+}
+
+impl OpenRegion {
+    /// The log record of the open log.
+    pub fn record(&self) -> LogRecord
+        ensures { result ≡ record_of self.now }
+    {
+        LogRecord {
+            region: self.region,
+            epoch: self.log.epoch(),
+            first_batch: self.log.first(),
+        }
+    }
+}
+
+impl<A: Allocator> Regions<A> {
+    /// The manifest that says where the batches lie.
+    pub fn manifest(&self, alloc: A) -> Result<Manifest<A>, AllocError>
+        ensures { IfOk result (λ m. m ≡ manifest_for (layout_of self.now)) }
+    {
+        let mut logs = Vec::new(alloc);
+        logs.extend_from_slice(&self.closed)?;
+        if let Some(open) = &self.open_region {
+            logs.push(open.record())?;
+        }
+        Ok(Manifest::new(self.generation, self.base, self.next_table, logs))
+    }
+}

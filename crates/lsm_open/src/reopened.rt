@@ -1,0 +1,103 @@
+// The log of the next generation is opened.
+ghost use Rattle.std.specs.Prelude.{◌≡◌, ◌≢◌, ◌⊎◌, ◌<◌, ◌≤◌, ◌^◌, ◌+◌, [], IsTrue, IfOk, OnOk, IfErr, option_map};
+ghost use Rattle.lsm_codec.specs.Manifests.{IsManifest};
+ghost use Rattle.lsm_device.specs.Calls.{faults_after, AtMost};
+ghost use Rattle.lsm_device.specs.History.{EachSince};
+ghost use Rattle.lsm_device.specs.Medium.{disk};
+ghost use Rattle.lsm_device.specs.Outcomes.{Leaves};
+ghost use Rattle.lsm_device.specs.Refusals.{faultless};
+ghost use Rattle.lsm_open.specs.CrashState.{last_number};
+ghost use Rattle.lsm_open.specs.Layout.{layout_of};
+ghost use Rattle.lsm_open.specs.Reopening.{is_free, least_free, next_contents, IsNewIfOpen, IsNextLayout, HasCome};
+ghost use Rattle.lsm_root.specs.Installed.{IsReady, IsOldOrNew, IsInstalled};
+ghost use Rattle.lsm_root.specs.Layout.{IsGeometry};
+ghost use Rattle.lsm_root.specs.Roots.{Stands};
+
+use crate::regions::{OpenRegion, Regions, region_start};
+use lsm_codec::LogRecord;
+use lsm_device::{Device, Refusal};
+use lsm_log::Log;
+use lsm_root::{Loaded, install};
+use std::alloc::Allocator;
+
+fn is_free(region: u8, logs: &[LogRecord]) -> bool
+    ensures { result ≡ is_free region logs.now }
+{
+    logs.iter().all(|listed| listed.region != region)
+}
+
+// The least region that no log record is of, if one is free.
+fn least_free(logs: &[LogRecord]) -> Option<u8>
+    ensures { result ≡ least_free logs.now }
+{
+    if is_free(0, logs) {
+        Some(0)
+    } else if is_free(1, logs) {
+        Some(1)
+    } else if is_free(2, logs) {
+        Some(2)
+    } else {
+        None
+    }
+}
+
+// A log with no batch yet in the least free region, if one is free.
+fn open_least_free(
+    log_sectors: u16,
+    closed: &[LogRecord],
+    epoch: u64,
+    count: u64,
+) -> Option<OpenRegion>
+    requires log_high { log_sectors ≤ 2048 }
+    requires count_high { count ≤ 2 ^ 63 }
+    ensures least { option_map (λ o. o.region) result ≡ least_free closed.now }
+    ensures new_log { IsNewIfOpen log_sectors epoch count result }
+{
+    let region = least_free(closed)?;
+    let start = region_start(log_sectors, region);
+    let log = Log::new(start, log_sectors as u32, epoch, count + 1);
+    Some(OpenRegion { region, log })
+}
+
+/// Opens the least free region, if one is free, behind so many batches, and installs the manifest of the next generation,
+/// which says so.
+pub(crate) fn reopen<A: Allocator + Clone, D: Device>(
+    alloc: A,
+    device: &mut D,
+    loaded: &Loaded<A>,
+    closed: Vec<LogRecord, A>,
+    count: u64,
+) -> Result<Regions<A>, Refusal>
+    requires geometry { IsGeometry (D.medium device.old).size loaded.now.log_sectors }
+    requires fits { IsManifest loaded.now.manifest }
+    requires has_next { loaded.now.manifest.generation ≢ last_number }
+    requires come { HasCome loaded.now.manifest count closed.items [] }
+    requires ready { IsTrue (D.medium device.old).tells → IsReady (D.medium device.old).size loaded.now.log_sectors (loaded.now.manifest.generation + 1) (disk (D.medium device.old)) }
+    ensures layout { IfOk result (λ r. IsNextLayout loaded.now.log_sectors loaded.now.manifest count (layout_of r)) }
+    ensures kept { IfOk result (λ r. r.closed.items ≡ closed.items) }
+    ensures any_moment { IsTrue (D.medium device.old).tells → EachSince
+        (Leaves (IsOldOrNew (disk (D.medium device.old)) (Stands loaded.now.log_sectors (next_contents loaded.now.manifest closed.items count))))
+        (D.medium device.old).history (D.medium device.new).history }
+    ensures installed { IsTrue (D.medium device.old).tells → OnOk result
+        (IsInstalled (disk (D.medium device.old)) (Stands loaded.now.log_sectors (next_contents loaded.now.manifest closed.items count)) (disk (D.medium device.new))) }
+    ensures refused { IfErr result (λ refusal. (refusal ≡ Refusal.NoMemory) ⊎ (refusal ≡ Refusal.Io)) }
+    ensures calls { AtMost 0 38 2 (D.medium device.old).calls (D.medium device.new).calls }
+    ensures faults { (D.medium device.new).calls.faults ≡ faults_after (faultless result) (D.medium device.old).calls.faults }
+    ensures stops { IfErr result (λ refusal. refusal ≡ Refusal.Io → IsTrue (D.medium device.new).calls.last_faulted) }
+    ensures same_size { (D.medium device.new).size ≡ (D.medium device.old).size }
+    ensures same_tells { (D.medium device.new).tells ≡ (D.medium device.old).tells }
+{
+    let generation = loaded.manifest.generation() + 1;
+    let open_region = open_least_free(loaded.log_sectors, &closed, generation, count);
+    let regions = Regions {
+        log_sectors: loaded.log_sectors,
+        generation,
+        base: loaded.manifest.base(),
+        next_table: loaded.manifest.next_table(),
+        closed,
+        open_region,
+    };
+    let manifest = regions.manifest(alloc.clone()?)?;
+    install(alloc, device, loaded.log_sectors, &manifest)?;
+    Ok(regions)
+}

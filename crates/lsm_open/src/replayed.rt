@@ -1,0 +1,130 @@
+// The batches of the listed regions are brought into memory.
+ghost use Rattle.std.specs.Prelude.{◌≡◌, ◌≢◌, ◌⊎◌, ◌<◌, ◌≤◌, ◌^◌, ◌+◌, ◌*◌, List, [], length, false, IsTrue, IfOk, OnOk, OnErr, IfErr, is_ok};
+ghost use Rattle.lsm_codec.specs.Manifests.{IsManifest};
+ghost use Rattle.lsm_codec.specs.Map.{Operation, apply_all};
+ghost use Rattle.lsm_device.specs.Calls.{faults_after, AtMost};
+ghost use Rattle.lsm_device.specs.Disk.{seen};
+ghost use Rattle.lsm_device.specs.Medium.{disk};
+ghost use Rattle.lsm_device.specs.Refusals.{faultless};
+ghost use Rattle.lsm_mem.specs.Versions.{NumberedBelow, map_of};
+ghost use Rattle.lsm_open.specs.CrashState.{last_number};
+ghost use Rattle.lsm_open.specs.Image.{first_region, batches_at, follow_on};
+ghost use Rattle.lsm_open.specs.Reopening.{HasReplayed, GoesOn, HasCome};
+
+use crate::regions::region_start;
+use lsm_codec::{Batch, LogRecord, Manifest};
+use lsm_device::{Device, Refusal};
+use lsm_log::replay;
+use lsm_mem::Mem;
+use std::alloc::{AllocError, Allocator};
+
+/// What the regions replayed so far gave: the log records of those that hold batches, the versions, and the number of the
+/// last batch.
+#[derive(Drop)]
+pub(crate) struct Replayed<A: Allocator> {
+    pub(crate) closed: Vec<LogRecord, A>,
+    pub(crate) mem: Mem<A>,
+    pub(crate) count: u64,
+}
+
+// Adds batches under the numbers behind the count.
+fn insert_all<A: Allocator + Clone>(
+    mem: &mut Mem<A>,
+    count: u64,
+    batches: &[Batch<A>],
+) -> Result<(), AllocError>
+    requires numbered { NumberedBelow (count + 1) mem.old }
+    requires room { count + length batches.now ≤ 2 ^ 63 }
+    ensures applied { OnOk result (map_of mem.new (count + length batches.now) ≡ apply_all (map_of mem.old count) batches.now) }
+    ensures numbered { OnOk result (NumberedBelow (count + length batches.now + 1) mem.new) }
+{
+    let mut number = count;
+    for batch in batches {
+        number += 1;
+        mem.insert(batch, number)?;
+    }
+    Ok(())
+}
+
+impl<A: Allocator + Clone> Replayed<A> {
+    // Replays the region of a log record, whose first batch must come next.
+    fn add_region<D: Device>(
+        &mut self,
+        alloc: &A,
+        device: &mut D,
+        log_sectors: u16,
+        listed: &LogRecord,
+    ) -> Result<(), Refusal>
+        requires log_high { log_sectors ≤ 2048 }
+        requires region { listed.now.region ≤ 2 }
+        requires inside { first_region + 3 * log_sectors ≤ (D.medium device.old).size }
+        requires numbered { NumberedBelow (self.old.count + 1) self.old.mem }
+        requires count_high { self.old.count ≤ 2 ^ 63 }
+        ensures replayed { IfOk result (λ _. (batches : List (List Operation)) × HasReplayed listed.now batches self.old self.new
+            × (IsTrue (D.medium device.old).tells → batches ≡ batches_at log_sectors (seen (disk (D.medium device.old))) listed.now)) }
+        ensures refused { IfErr result (λ refusal. ((refusal ≡ Refusal.BadManifest) × (listed.now.first_batch ≢ self.old.count + 1))
+            ⊎ ((refusal ≡ Refusal.NoMemory) ⊎ (refusal ≡ Refusal.Io))) }
+        ensures unchanged { IsTrue (D.medium device.old).tells → (D.medium device.new).history ≡ (D.medium device.old).history }
+        ensures calls { AtMost log_sectors 0 0 (D.medium device.old).calls (D.medium device.new).calls }
+        ensures faults { (D.medium device.new).calls.faults ≡ faults_after (faultless result) (D.medium device.old).calls.faults }
+        ensures stops { IfErr result (λ refusal. refusal ≡ Refusal.Io → IsTrue (D.medium device.new).calls.last_faulted) }
+        ensures same_size { (D.medium device.new).size ≡ (D.medium device.old).size }
+        ensures same_tells { (D.medium device.new).tells ≡ (D.medium device.old).tells }
+    {
+        if listed.first_batch != self.count + 1 {
+            return Err(Refusal::BadManifest);
+        }
+        let start = region_start(log_sectors, listed.region);
+        let batches = replay(
+            alloc.clone()?,
+            device,
+            start,
+            log_sectors as u32,
+            listed.epoch,
+            listed.first_batch,
+        )?;
+        if batches.is_empty() {
+            return Ok(());
+        }
+        insert_all(&mut self.mem, self.count, &batches)?;
+        self.count += batches.len() as u64;
+        self.closed.push(*listed)?;
+        Ok(())
+    }
+}
+
+/// Replays the regions of a manifest in order.
+pub(crate) fn replay_regions<A: Allocator + Clone, D: Device>(
+    alloc: &A,
+    device: &mut D,
+    log_sectors: u16,
+    manifest: &Manifest<A>,
+) -> Result<Replayed<A>, Refusal>
+    requires log_high { log_sectors ≤ 2048 }
+    requires fits { IsManifest manifest.now }
+    requires inside { first_region + 3 * log_sectors ≤ (D.medium device.old).size }
+    ensures come { IfOk result (λ r. HasCome manifest.now r.count r.closed.items []) }
+    ensures numbered { IfOk result (λ r. NumberedBelow (r.count + 1) r.mem) }
+    ensures replayed { IsTrue (D.medium device.old).tells → IfOk result (λ r.
+        GoesOn log_sectors (seen (disk (D.medium device.old))) manifest.now r []) }
+    ensures refused { IfErr result (λ refusal. ((refusal ≡ Refusal.BadManifest)
+        × (IsTrue (D.medium device.old).tells → follow_on log_sectors (seen (disk (D.medium device.old))) (manifest.now.base + 1) manifest.now.logs ≡ false))
+        ⊎ ((refusal ≡ Refusal.NoMemory) ⊎ (refusal ≡ Refusal.Io))) }
+    ensures unchanged { IsTrue (D.medium device.old).tells → (D.medium device.new).history ≡ (D.medium device.old).history }
+    ensures calls { AtMost (3 * log_sectors) 0 0 (D.medium device.old).calls (D.medium device.new).calls }
+    ensures faults { (D.medium device.new).calls.faults ≡ faults_after (faultless result) (D.medium device.old).calls.faults }
+    ensures stops { IfErr result (λ refusal. refusal ≡ Refusal.Io → IsTrue (D.medium device.new).calls.last_faulted) }
+    ensures same_size { (D.medium device.new).size ≡ (D.medium device.old).size }
+    ensures same_tells { (D.medium device.new).tells ≡ (D.medium device.old).tells }
+{
+    let mut replayed = Replayed {
+        closed: Vec::new(alloc.clone()?),
+        mem: Mem::new(alloc.clone()?)?,
+        count: manifest.base(),
+    };
+    let logs = manifest.logs();
+    for listed in logs {
+        replayed.add_region(alloc, device, log_sectors, listed)?;
+    }
+    Ok(replayed)
+}

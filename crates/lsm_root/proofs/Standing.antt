@@ -1,0 +1,65 @@
+-- What a root that stands tells the next installation.
+use Rattle.std.proofs.Common.{◌≡◌, ◌≤◌, ℕ, ◌+◌, Bool, true, false, cond, ◌==◌, nat_lt, List, length, All, Option, Some, None, refl, sym, ◌∙◌, ap, subst}
+use Rattle.std.proofs.lemmas.Bool.{eqb-true}
+use Rattle.std.proofs.lemmas.List.Elements.{All-nil}
+use Rattle.lsm_codec.specs.declared.superblock.Superblock.{Superblock}
+use Rattle.lsm_codec.specs.Superblocks.{IsSuperblock}
+use Rattle.lsm_codec.specs.Manifests.{Contents}
+use Rattle.lsm_codec.specs.Manifests.{IsManifest}
+use Rattle.lsm_codec.specs.Manifests.{manifest_of}
+use Rattle.lsm_codec.proofs.FormatLaws.{manifest_laws_hold}
+use Rattle.lsm_device.specs.Disk.{Disk, Write, seen}
+use Rattle.lsm_root.specs.Layout.{IsGeometry}
+use Rattle.lsm_root.specs.Roots.{Reading, Blank, Broken, Names, superblock_in, text_in, OtherSize, Unreadable, Stands, root_with, root_by, root_of}
+use Rattle.lsm_root.specs.Installed.{IsNext, IsReady, IsInstalled}
+use Rattle.lsm_root.proofs.Frames.{counted_fits}
+
+-- the root that stands is a manifest of the device, and the next generation may be installed after it
+pub record IsStanding (size log : ℕ) (m : Contents) (r : Reading) : Type 0 where
+  pub next : IsNext size log (m.generation + 1) r
+  pub geometry : IsGeometry size log
+  pub fits : IsManifest m
+
+module _ (size log : ℕ) (m : Contents) (s : Superblock) (limits : IsSuperblock s) (sized : s.sectors ≡ size) where
+  from_found : m.generation ≡ s.generation → s.log_sectors ≡ log → IsManifest m → IsStanding size log m (Names s)
+  from_found same logs fits = record {
+    next = record { next = ap (λ (n : ℕ). n + 1) same; same_size = sized; same_log = logs };
+    geometry = subst (λ (n : ℕ). IsGeometry n log) sized (subst (λ (n : ℕ). IsGeometry s.sectors n) logs (record { sectors_low = limits.sectors_low; sectors_high = limits.sectors_high; log_low = limits.log_low; log_high = limits.log_high }));
+    fits = fits;
+  }
+
+  from_read : (bytes : List ℕ) (read : Option Contents) → manifest_of bytes ≡ read → root_with s read ≡ Stands log m → IsStanding size log m (Names s)
+  from_read bytes None is same = absurd cc
+  from_read bytes (Some c) is same = by_test (c.generation == s.generation) (λ e. eqb-true c.generation s.generation e) same
+    where
+      by_test : (t : Bool) → (t ≡ true → c.generation ≡ s.generation) → cond t (Stands s.log_sectors c) Unreadable ≡ Stands log m → IsStanding size log m (Names s)
+      by_test true means same =
+          let is_m : c ≡ m = cc in
+          let logs : s.log_sectors ≡ log = cc in
+          from_found (sym (ap (λ (x : Contents). x.generation) is_m) ∙ means refl) logs (subst IsManifest is_m (manifest_laws_hold.format.spelled bytes c is).0)
+      by_test false means same = absurd cc
+
+pub standing : (image : List (List ℕ)) (log : ℕ) (m : Contents) → root_of image ≡ Stands log m → IsStanding (length image) log m (superblock_in image)
+standing image log m is = by_place (nat_lt (length image) 2) is
+  where
+    by_size : (s : Superblock) (t : Bool) → superblock_in image ≡ Names s → (s.sectors == length image) ≡ t → cond t (root_with s (manifest_of (text_in s image))) OtherSize ≡ Stands log m → IsStanding (length image) log m (Names s)
+    by_size s true names e same = from_read (length image) log m s (counted_fits image s names) (eqb-true s.sectors (length image) e) (text_in s image) _ refl same
+    by_size s false names e same = absurd cc
+
+    by_reading : (r : Reading) → superblock_in image ≡ r → root_by r image ≡ Stands log m → IsStanding (length image) log m r
+    by_reading Blank names same = absurd cc
+    by_reading Broken names same = absurd cc
+    by_reading (Names s) names same = by_size s _ names refl same
+
+    by_place : (t : Bool) → cond t OtherSize (root_by (superblock_in image) image) ≡ Stands log m → IsStanding (length image) log m (superblock_in image)
+    by_place true same = absurd cc
+    by_place false same = by_reading (superblock_in image) refl same
+
+-- after an installation nothing pends, and the next generation may be installed
+pub installed_ready : (size log : ℕ) (m : Contents) (start d : Disk) → length d.stands ≡ size → IsInstalled start (Stands log m) d → IsReady size log (m.generation + 1) d
+installed_ready size log m start d long is =
+    let here : IsNext size log (m.generation + 1) (superblock_in d.stands) = subst (λ (n : ℕ). IsNext n log (m.generation + 1) (superblock_in d.stands)) long (standing d.stands log m is.stands.root).next in
+    record {
+      settled = subst (All (λ w. 130 ≤ w.at)) (sym is.settled) (All-nil (λ (w : Write). 130 ≤ w.at));
+      next = subst (λ (ws : List Write). let e : Disk = record { stands = d.stands; pending = ws } in IsNext size log (m.generation + 1) (superblock_in (seen e))) (sym is.settled) here;
+    }

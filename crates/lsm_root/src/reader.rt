@@ -1,0 +1,177 @@
+// The root is read.
+ghost use Rattle.std.specs.Prelude.{◌≡◌, ◌⊎◌, ◌≤◌, ◌+◌, ◌^◌, IsTrue, IfOk, IfErr, Some};
+ghost use Rattle.lsm_codec.specs.Manifests.{IsManifest, manifest_of};
+ghost use Rattle.lsm_codec.specs.Superblocks.{IsSuperblock};
+ghost use Rattle.lsm_device.specs.Areas.{area};
+ghost use Rattle.lsm_device.specs.Calls.{faults_after, AtMost};
+ghost use Rattle.lsm_device.specs.Disk.{seen};
+ghost use Rattle.lsm_device.specs.Medium.{disk};
+ghost use Rattle.lsm_device.specs.Refusals.{faultless};
+ghost use Rattle.lsm_root.specs.Layout.{IsGeometry};
+ghost use Rattle.lsm_root.specs.Loaded.{Tells, TellsSuperblock, TellsCounted, TellsManifest, Reads, refusal_of};
+ghost use Rattle.lsm_root.specs.Installed.{IsNext};
+ghost use Rattle.lsm_root.specs.Pieces.{joined};
+ghost use Rattle.lsm_root.specs.Roots.{Root, reading_of, in_slot, follows, newer, superblock_in, root_with, root_of};
+
+use crate::writer::{AREA_SECTORS, SUPERBLOCKS};
+use lsm_codec::{Manifest, Superblock};
+use lsm_device::{Device, Refusal};
+use std::alloc::{Allocator, Global};
+
+const BLANK: [u8; 512] = [0; 512];
+
+/// What a store is loaded from.
+#[derive(Drop)]
+pub struct Loaded<A: Allocator = Global> {
+    /// The sectors of one log region.
+    pub log_sectors: u16,
+    pub manifest: Manifest<A>,
+}
+
+// The superblock in a sector, if it isn't blank.
+fn superblock_in(sector: &[u8; 512], slot: u64) -> Result<Option<Superblock>, Refusal>
+    ensures { Reads (in_slot slot (reading_of sector.now)) result }
+{
+    if *sector == BLANK {
+        return Ok(None);
+    }
+    let Some(superblock) = Superblock::decode(sector) else {
+        return Err(Refusal::BadSuper);
+    };
+    if superblock.generation % 2 != slot {
+        return Err(Refusal::BadSuper);
+    }
+    Ok(Some(superblock))
+}
+
+// Whether the later superblock follows.
+fn is_followed_by(superblock: &Superblock, later: &Superblock) -> bool
+    requires { superblock.now.generation ≤ 2 ^ 63 }
+    ensures { result ≡ follows superblock.now later.now }
+{
+    later.generation == superblock.generation + 1
+        && (later.sectors == superblock.sectors && later.log_sectors == superblock.log_sectors)
+}
+
+// The superblock that counts.
+fn newer(even: &[u8; 512], odd: &[u8; 512]) -> Result<Superblock, Refusal>
+    ensures { TellsSuperblock (newer (in_slot 0 (reading_of even.now)) (in_slot 1 (reading_of odd.now))) result }
+{
+    let even = superblock_in(even, 0)?;
+    let odd = superblock_in(odd, 1)?;
+    match (even, odd) {
+        (None, None) => Err(Refusal::NotAStore),
+        (Some(lone), None) | (None, Some(lone)) => Ok(lone),
+        (Some(even), Some(odd)) => {
+            if is_followed_by(&odd, &even) {
+                Ok(even)
+            } else if is_followed_by(&even, &odd) {
+                Ok(odd)
+            } else {
+                Err(Refusal::BadSuper)
+            }
+        }
+    }
+}
+
+// Reads the superblock that counts.
+fn read_superblock<D: Device>(device: &mut D) -> Result<Superblock, Refusal>
+    requires large { 2 ≤ (D.medium device.old).size }
+    ensures told { IsTrue (D.medium device.old).tells → TellsCounted (superblock_in (seen (disk (D.medium device.old)))) result }
+    ensures fits { IfOk result IsSuperblock }
+    ensures refused { IfErr result (λ refusal. (refusal ≡ Refusal.Io) ⊎ ((refusal ≡ Refusal.NotAStore) ⊎ (refusal ≡ Refusal.BadSuper))) }
+    ensures unchanged { IsTrue (D.medium device.old).tells → (D.medium device.new).history ≡ (D.medium device.old).history }
+    ensures counts { AtMost 2 0 0 (D.medium device.old).calls (D.medium device.new).calls }
+    ensures faults { (D.medium device.new).calls.faults ≡ faults_after (faultless result) (D.medium device.old).calls.faults }
+    ensures stops { IfErr result (λ refusal. refusal ≡ Refusal.Io → IsTrue (D.medium device.new).calls.last_faulted) }
+    ensures same_size { (D.medium device.new).size ≡ (D.medium device.old).size }
+    ensures same_tells { (D.medium device.new).tells ≡ (D.medium device.old).tells }
+{
+    let mut even = BLANK;
+    device.read(0, &mut even)?;
+    let mut odd = BLANK;
+    device.read(1, &mut odd)?;
+    let superblock = newer(&even, &odd)?;
+    Ok(superblock)
+}
+
+// The bytes of sectors, one after the other.
+fn read_text<A: Allocator, D: Device>(
+    alloc: A,
+    device: &mut D,
+    at: u32,
+    sectors: u16,
+) -> Result<Vec<u8, A>, Refusal>
+    requires within { at + sectors ≤ (D.medium device.old).size }
+    ensures bytes { IsTrue (D.medium device.old).tells → IfOk result (λ text.
+        text.items ≡ joined (area at sectors (seen (disk (D.medium device.old))))) }
+    ensures unchanged { IsTrue (D.medium device.old).tells → (D.medium device.new).history ≡ (D.medium device.old).history }
+    ensures refused { IfErr result (λ refusal. (refusal ≡ Refusal.NoMemory) ⊎ (refusal ≡ Refusal.Io)) }
+    ensures counts { AtMost sectors 0 0 (D.medium device.old).calls (D.medium device.new).calls }
+    ensures faults { (D.medium device.new).calls.faults ≡ faults_after (faultless result) (D.medium device.old).calls.faults }
+    ensures stops { IfErr result (λ refusal. refusal ≡ Refusal.Io → IsTrue (D.medium device.new).calls.last_faulted) }
+    ensures same_size { (D.medium device.new).size ≡ (D.medium device.old).size }
+    ensures same_tells { (D.medium device.new).tells ≡ (D.medium device.old).tells }
+{
+    let mut text = Vec::new(alloc);
+    let mut sector = [0; 512];
+    for part in 0..sectors {
+        device.read(at + part as u32, &mut sector)?;
+        text.extend_from_slice(&sector)?;
+    }
+    Ok(text)
+}
+
+// What a text says that the superblock names.
+fn loaded_from<A: Allocator + Clone>(
+    alloc: A,
+    superblock: &Superblock,
+    text: &[u8],
+) -> Result<Loaded<A>, Refusal>
+    requires fits { IsSuperblock superblock.now }
+    ensures told { TellsManifest (root_with superblock.now (manifest_of text.now)) result }
+    ensures fits { IfOk result (λ l. IsGeometry superblock.now.sectors l.log_sectors × IsManifest l.manifest) }
+{
+    let Some(manifest) = Manifest::decode(alloc, text)? else {
+        return Err(Refusal::BadManifest);
+    };
+    if manifest.generation() != superblock.generation {
+        return Err(Refusal::BadManifest);
+    }
+    Ok(Loaded {
+        log_sectors: superblock.log_sectors,
+        manifest,
+    })
+}
+
+/// Reads the root, by at most 66 reads. It answers what the root of the device's sectors is: LOG and the manifest of the
+/// greater generation, or why there is none; or `NoMemory`, or `Io` where a read failed.
+pub fn load<A: Allocator + Clone, D: Device>(alloc: A, device: &mut D) -> Result<Loaded<A>, Refusal>
+    ensures loaded { IsTrue (D.medium device.old).tells → Tells (root_of (seen (disk (D.medium device.old)))) result }
+
+    // So it is of any device, whether it tells what it holds or not.
+    ensures fits { IfOk result (λ l. IsGeometry (D.medium device.old).size l.log_sectors × IsManifest l.manifest) }
+    ensures refused { IfErr result (λ refusal. ((root : Root) × (refusal_of root ≡ Some refusal)) ⊎ ((refusal ≡ Refusal.NoMemory) ⊎ (refusal ≡ Refusal.Io))) }
+
+    // The next generation may be installed.
+    ensures next { IsTrue (D.medium device.old).tells → IfOk result (λ l.
+        IsNext (D.medium device.old).size l.log_sectors (l.manifest.generation + 1) (superblock_in (seen (disk (D.medium device.old))))) }
+    ensures unchanged { IsTrue (D.medium device.old).tells → (D.medium device.new).history ≡ (D.medium device.old).history }
+    ensures counts { AtMost 66 0 0 (D.medium device.old).calls (D.medium device.new).calls }
+    ensures faults { (D.medium device.new).calls.faults ≡ faults_after (faultless result) (D.medium device.old).calls.faults }
+    ensures stops { IfErr result (λ refusal. refusal ≡ Refusal.Io → IsTrue (D.medium device.new).calls.last_faulted) }
+    ensures same_size { (D.medium device.new).size ≡ (D.medium device.old).size }
+    ensures same_tells { (D.medium device.new).tells ≡ (D.medium device.old).tells }
+{
+    if device.sectors() < SUPERBLOCKS {
+        return Err(Refusal::BadGeometry); // There is no place for them.
+    }
+    let superblock = read_superblock(device)?;
+    if superblock.sectors != device.sectors() {
+        return Err(Refusal::BadGeometry); // It is another device's.
+    }
+    let at = SUPERBLOCKS + AREA_SECTORS * (superblock.generation % 2) as u32;
+    let text = read_text(alloc.clone()?, device, at, superblock.manifest_sectors)?;
+    let loaded = loaded_from(alloc, &superblock, &text)?;
+    Ok(loaded)
+}

@@ -1,0 +1,22 @@
+pub mod Membership
+pub mod Points
+pub mod Running
+pub mod CrashStates
+pub mod Promises
+pub mod Lifelong
+pub mod Regions
+pub mod Carrying
+pub mod Syncing
+pub mod Growing
+pub mod Committing
+pub mod Reopening
+pub mod Serving
+pub mod Exits
+pub mod Remembering
+pub mod States
+pub mod Refusing
+pub mod Checking
+mod WorkedCalls
+pub mod Appends
+pub mod Accepting
+pub mod Opened

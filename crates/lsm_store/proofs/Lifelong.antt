@@ -1,0 +1,70 @@
+-- What lives keep, one after another.
+use Rattle.std.proofs.Common.{◌≡◌, ◌≤◌, ⊎_elim, ℕ, ◌+◌, List, [], ◌∷◌, ◌++◌, length, take, drop, refl, ap, sym, subst, ◌∙◌, arith}
+use Rattle.std.specs.Prelude.{Contains}
+use Rattle.std.specs.FinMap as finite
+use Rattle.std.proofs.lemmas.List.{length-append, length-take-le, take-append-le, take_all, drop_at}
+use Rattle.lsm_codec.specs.Map.{Operation, apply_all}
+use Rattle.lsm_open.specs.CrashState.{CrashState, formatted, left_by_opening}
+use Rattle.lsm_open.proofs.Openings.{one_opening}
+use Rattle.lsm_store.specs.Calls.{Call, Reply}
+use Rattle.lsm_store.specs.Calls.{Number, Done, Value, Refused}
+use Rattle.lsm_store.specs.Promise.{accepted, acknowledged, in_flight, IsBeginning}
+use Rattle.lsm_store.specs.Lives.{Life, Lives, KeptByLife, KeptByLives, IsAfter, PromiseOverLives}
+use Rattle.lsm_store.proofs.Points.{apply_all-append, take_sum}
+use Rattle.lsm_store.proofs.Promises.{promise}
+
+-- a beginning that goes beyond the first of two lists
+beyond : {X : Type 0} (xs ys : List X) (n : ℕ) → take (length xs + n) (xs ++ ys) ≡ xs ++ take n ys
+beyond xs ys n =
+    take_sum (length xs) n (xs ++ ys)
+    ∙ ap (λ l. l ++ take n (drop (length xs) (xs ++ ys))) (take-append-le (length xs) xs ys (omega arith) ∙ take_all (length xs) xs (omega arith))
+    ∙ ap (λ l. xs ++ take n l) (drop_at xs ys (length xs) refl)
+
+-- what a life keeps
+record IsKeptBy (before : List (List Operation)) (calls : List Call) (replies : List Reply) (left : CrashState) : Type 0 where
+  pub kept : List (List Operation)
+  pub by_life : KeptByLife before calls replies kept
+  pub after : IsAfter kept left
+
+module _ (before : List (List Operation)) (opened : CrashState) (was : IsAfter before opened) where
+  from_beginning : (n : ℕ) (calls : List Call) (replies : List Reply) (left : CrashState) → IsBeginning opened (accepted calls replies ++ in_flight calls replies) (acknowledged opened.count calls replies) left
+      → IsKeptBy before calls (Number n ∷ replies) left
+  from_beginning n calls replies left h =
+      let more = accepted calls replies ++ in_flight calls replies in
+      let within : length before + h.holds ≤ length (before ++ more) = rw length-append (omega (arith, h.among)) in
+      let known : acknowledged (length before) calls replies ≤ h.holds = subst (λ k. acknowledged k calls replies ≤ h.holds) was.count h.at_least in
+      record {
+        kept = take (length before + h.holds) (before ++ more);
+        by_life = record { holds = length before + h.holds; at_least = omega (arith, known); among = within; is = refl };
+        after = record {
+          count = h.count ∙ ap (λ k. k + h.holds) was.count ∙ sym (length-take-le (length before + h.holds) (before ++ more) within);
+          same_map = h.same_map ∙ ap (λ m. apply_all m (take h.holds more)) was.same_map
+              ∙ sym (apply_all-append finite.empty before (take h.holds more)) ∙ ap (apply_all finite.empty) (sym (beyond before more h.holds));
+        };
+      }
+
+  same_after : (left : CrashState) → Contains (left_by_opening opened) left → IsAfter before left
+  same_after left found = ⊎_elim
+      (λ same. subst (IsAfter before) (sym same) was)
+      (λ next. subst (IsAfter before) (sym next.0) (record { count = was.count; same_map = was.same_map }))
+      (one_opening opened left found)
+
+  one_life : (log_sectors : ℕ) (calls : List Call) (replies : List Reply) (left : CrashState) → Life log_sectors opened calls replies left → IsKeptBy before calls replies left
+  one_life log_sectors calls (Number n ∷ replies) left life = from_beginning n calls replies left ((promise log_sectors opened calls replies life.2).between left life.3)
+  one_life log_sectors calls (Refused e ∷ replies) left life = record { kept = before; by_life = refl; after = same_after left life.2 }
+  one_life log_sectors calls [] left life = absurd life
+  one_life log_sectors calls (Done ∷ replies) left life = absurd life
+  one_life log_sectors calls (Value v ∷ replies) left life = absurd life
+
+all_lives : (log_sectors : ℕ) (before : List (List Operation)) (opened : CrashState) → IsAfter before opened → (lives : List (List Call)) (replies : List (List Reply)) (left : CrashState)
+    → Lives log_sectors opened lives replies left → (batches : List (List Operation)) × KeptByLives before lives replies batches × IsAfter batches left
+all_lives log_sectors before opened was [] [] left same = (before, refl, subst (IsAfter before) (sym same) was)
+all_lives log_sectors before opened was (calls ∷ lives) (replies ∷ rest) left (mid, life, later) =
+    let first = one_life before opened was log_sectors calls replies mid life in
+    let then = all_lives log_sectors first.kept mid first.after lives rest left later in
+    (then.0, (first.kept, first.by_life, then.1), then.2)
+all_lives log_sectors before opened was [] (replies ∷ rest) left h = absurd h
+all_lives log_sectors before opened was (calls ∷ lives) [] left h = absurd h
+
+pub promise_over_lives : PromiseOverLives
+promise_over_lives log_sectors lives replies left h = all_lives log_sectors [] formatted (record { count = refl; same_map = refl }) lives replies left h

@@ -1,0 +1,31 @@
+-- The calls of a store, and the replies.
+use Rattle.std.specs.Prelude.{ℕ, List, Option, Result, Ok, Err}
+use Rattle.lsm_codec.specs.Keys.{Bytes}
+use Rattle.lsm_codec.specs.Map.{Operation}
+use Rattle.lsm_device.specs.declared.refusal.Refusal.{Refusal}
+use Rattle.lsm_store.specs.declared.asked.At.{At}
+
+pub data Call : Type 0 where
+  -- adds a batch
+  Commit : List Operation → Call
+  -- makes all batches outlast a crash
+  Sync : Call
+  -- makes the batches up to this number outlast a crash
+  SyncTo : ℕ → Call
+  -- asks for the value of a key
+  Get : At → Bytes → Call
+  -- asks for the free sectors of the open log
+  LogRoom : Call
+
+pub data Reply : Type 0 where
+  -- of a batch, or of sectors
+  Number : ℕ → Reply
+  Done : Reply
+  -- of a key, none where it has none
+  Value : Option Bytes → Reply
+  Refused : Refusal → Reply
+
+-- a result as a reply
+abbrev pub reply_of : {T : Type 0} → (T → Reply) → Result T Refusal → Reply
+reply_of f (Ok x) = f x
+reply_of f (Err e) = Refused e

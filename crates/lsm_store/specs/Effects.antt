@@ -1,0 +1,70 @@
+-- What a call answers that nothing refuses, and the state after it.
+use Rattle.std.specs.Prelude.{◌+◌, nat_le, Bool, true, false, List, Option, Some, None, option_map, if◌then◌else◌}
+use Rattle.std.specs.FinMap as finite
+use Rattle.lsm_codec.specs.Map.{Operation}
+use Rattle.lsm_codec.specs.BatchText.{sectors_of}
+use Rattle.lsm_device.specs.declared.refusal.Refusal.{Refusal}
+use Rattle.lsm_store.specs.RecoveryPoints.{batch_count, with_batch, all_synced}
+use Rattle.lsm_store.specs.State.{OpenLog, State, map_at, log_room}
+use Rattle.lsm_store.specs.Calls.{Call, Reply}
+use Rattle.lsm_store.specs.Calls.{Commit, Sync, SyncTo, Get, LogRoom, Number, Done, Value, Refused}
+use Rattle.lsm_store.specs.Refusals.{refusal}
+
+abbrev pub answer : State → Call → Reply
+answer s (Commit batch) = Number (batch_count s.points + 1)
+answer s Sync = Done
+answer s (SyncTo number) = Done
+answer s (Get at key) = Value (finite.get (map_at s at) key)
+answer s LogRoom = Number (log_room s)
+
+-- the open log with the sectors of one batch more
+abbrev pub with_sectors : List Operation → OpenLog → OpenLog
+with_sectors batch log = record log { used = log.used + sectors_of batch }
+
+-- the state after that answer
+abbrev pub after : State → Call → State
+after s (Commit batch) = record s { points = with_batch s.points batch; open_log = option_map (with_sectors batch) s.open_log }
+after s Sync = record s { points = all_synced s.points }
+after s (SyncTo number) = if nat_le number s.points.synced then s else record s { points = all_synced s.points }
+after s (Get at key) = s
+after s LogRoom = s
+
+abbrev pub reply_by : State → Call → Option Refusal → Reply
+reply_by s call (Some e) = Refused e
+reply_by s call None = answer s call
+
+-- what the state decides: a refusal or an answer
+abbrev pub decided : State → Call → Reply
+decided s call = reply_by s call (refusal s call)
+
+abbrev pub state_by : State → Call → Option Refusal → State
+state_by s call (Some e) = s
+state_by s call None = after s call
+
+-- the state after what it decides
+abbrev pub completed : State → Call → State
+completed s call = state_by s call (refusal s call)
+
+-- whether a call takes memory, for want of which it may be refused
+abbrev pub takes_memory : Call → Bool
+takes_memory (Commit batch) = true
+takes_memory Sync = false
+takes_memory (SyncTo number) = false
+takes_memory (Get at key) = true
+takes_memory LogRoom = false
+
+-- what a call that nothing refuses may do with the device
+pub data Use : Type 0 where
+  -- nothing
+  Untouched : Use
+  -- read: after a fault nothing has changed
+  Reads : Use
+  -- write and sync: a fault stops the store
+  Changes : Use
+
+abbrev pub use_of : State → Call → Use
+use_of s (Commit batch) = Changes
+use_of s Sync = Changes
+use_of s (SyncTo number) = if nat_le number s.points.synced then Untouched else Changes
+use_of s (Get at key) = Reads
+use_of s LogRoom = Untouched

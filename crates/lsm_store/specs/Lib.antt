@@ -1,0 +1,14 @@
+pub mod RecoveryPoints
+pub mod State
+pub mod Calls
+pub mod Refusals
+pub mod Effects
+pub mod Crash
+pub mod Run
+pub mod Promise
+pub mod Lives
+pub mod Stored
+pub mod Backing
+pub mod Serving
+pub mod Memory
+pub mod Appending

@@ -1,0 +1,27 @@
+-- When the state refuses a call, and with which refusal.
+use Rattle.std.specs.Prelude.{◌==◌, nat_lt, Bool, not, is_some, List, [], ◌∷◌, Option, Some, None, if◌then◌else◌}
+use Rattle.lsm_codec.specs.BatchText.{is_key}
+use Rattle.lsm_device.specs.declared.refusal.Refusal.{Refusal}
+use Rattle.lsm_device.specs.declared.refusal.Refusal.TheVariants.{Stopped, LogFull, NoSuchBatch, BadKey, Exhausted}
+use Rattle.lsm_open.specs.CrashState.{last_number}
+use Rattle.lsm_store.specs.RecoveryPoints.{batch_count}
+use Rattle.lsm_store.specs.State.{State, fits}
+use Rattle.lsm_store.specs.Calls.{Call}
+use Rattle.lsm_store.specs.Calls.{Commit, Sync, SyncTo, Get, LogRoom}
+
+-- the refusals of a running store in their order, each with its condition
+abbrev pub refusals : State → Call → List (Bool × Refusal)
+refusals s (Commit batch) = (batch_count s.points == last_number, Exhausted) ∷ (not (fits s batch), LogFull) ∷ []
+refusals s Sync = []
+refusals s (SyncTo number) = (nat_lt (batch_count s.points) number, NoSuchBatch) ∷ []
+refusals s (Get at key) = (not (is_key key), BadKey) ∷ []
+refusals s LogRoom = []
+
+-- the first whose condition holds
+abbrev pub first_refusal : List (Bool × Refusal) → Option Refusal
+first_refusal [] = None
+first_refusal (test ∷ rest) = if test.0 then Some test.1 else first_refusal rest
+
+-- the refusal that the state decides, if it refuses the call; a stopped store refuses each
+abbrev pub refusal : State → Call → Option Refusal
+refusal s call = first_refusal ((is_some s.stopped, Stopped) ∷ refusals s call)

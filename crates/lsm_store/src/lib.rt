@@ -1,0 +1,19 @@
+//! A store on a device, where all batches are in log regions.
+#![tactic(auto)]
+
+mod asked;
+mod checks;
+mod device_law;
+mod law;
+mod memory;
+mod opening;
+mod serve;
+mod store;
+
+pub use asked::At;
+pub use device_law::{device_reads_on, recovered_is_stored, stored_is_backed, sync_keeps_stored};
+pub use law::{
+    ample_calls_run, crash_keeps_a_beginning, crash_states_go_on, crashes_keep_beginnings,
+    runs_join, stopped_refuses,
+};
+pub use store::Store;

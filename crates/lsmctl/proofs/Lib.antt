@@ -1,0 +1,3 @@
+pub mod NumberLaws
+pub mod ProgramLaws
+pub mod RunLaws

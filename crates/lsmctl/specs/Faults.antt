@@ -1,0 +1,19 @@
+-- Why the program does not do what it is asked for, and how it ends.
+use Rattle.std.specs.Prelude.{ℕ}
+use Rattle.lsm_device.specs.declared.refusal.Refusal.{Refusal}
+use Rattle.lsmctl.specs.declared.fault.Fault.{Fault}
+use Rattle.lsmctl.specs.declared.fault.Fault.TheVariants.{Usage, Refused}
+
+-- a mistake in the words, or a refusal
+pub data Reason : Type 0 where
+  mistake : Reason
+  refusal : Refusal → Reason
+
+abbrev pub reason_of : Fault → Reason
+reason_of (Usage usage) = mistake
+reason_of (Refused r) = refusal r
+
+-- the exit status
+abbrev pub status_of : Reason → ℕ
+status_of (refusal r) = 1
+status_of mistake = 2

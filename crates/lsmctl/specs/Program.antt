@@ -1,0 +1,52 @@
+-- The words that the program takes, as the parser sees them, and what is asked for by them.
+use Rattle.std.specs.Prelude.{◌≡◌, List, [], ◌∷◌, Some, codes, true, false}
+use Rattle.clap.specs.Words.{App, Row, Rule, Text, app_of, first_of, new_app, new_rule, with_rule, with_subcommand}
+use Rattle.clap.specs.declared.builder.command.Command.{Command}
+use Rattle.clap.specs.declared.builder.command.Command.TheViews.{out-Command as fields_of}
+use Rattle.clap.specs.declared.builder.ArgAction.TheVariants.{Set}
+use Rattle.lsmctl.specs.declared.asked.Asked.{Asked}
+use Rattle.lsmctl.specs.declared.asked.Asked.TheVariants.{Format, Put, Delete, Get}
+
+-- a word that has to be there
+abbrev pub word_rule : Text → Rule
+word_rule name = record (new_rule name) { required = true; action = Some Set }
+
+-- a command with words at fixed places
+abbrev pub with_words : App → List Text → App
+with_words app [] = app
+with_words app (name ∷ names) = with_words (with_rule app (word_rule name)) names
+
+abbrev pub file_and_key : List Text
+file_and_key = codes "FILE" ∷ codes "KEY" ∷ []
+
+-- the program has no options: the words after its name are a subcommand and its words
+abbrev pub bare_program : App
+bare_program = let named : App = new_app (codes "lsmctl") in
+    record named { top = record named.top { no_binary_name = true; subcommand_required = true } }
+
+abbrev pub program : App
+program = with_subcommand (with_subcommand (with_subcommand (with_subcommand bare_program
+    (with_words (new_app (codes "format")) (codes "FILE" ∷ codes "SECTORS" ∷ codes "LOG" ∷ [])).top)
+    (with_words (new_app (codes "put")) (codes "FILE" ∷ codes "KEY" ∷ codes "VALUE" ∷ [])).top)
+    (with_words (new_app (codes "del")) file_and_key).top)
+    (with_words (new_app (codes "get")) file_and_key).top
+
+-- the parser sees the command so, and none of its words belongs to its subcommands too
+pub record IsCommand (app : App) (command : Command) : Type 0 where
+  pub shape : app_of command ≡ app
+  pub local : (fields_of command).has_globals ≡ false
+
+-- the word at a place
+abbrev pub HasWord : List Row → Text → Text → Type 0
+HasWord rows place word = first_of place rows ≡ Some word
+
+-- what is asked for by a subcommand's name and its words
+abbrev pub Asks : Text → List Row → Asked → Type 0
+Asks name rows (Format file sectors log) = (name ≡ codes "format") × HasWord rows (codes "FILE") file.now
+    × HasWord rows (codes "SECTORS") sectors.now × HasWord rows (codes "LOG") log.now
+Asks name rows (Put file key value) = (name ≡ codes "put") × HasWord rows (codes "FILE") file.now
+    × HasWord rows (codes "KEY") key.now × HasWord rows (codes "VALUE") value.now
+Asks name rows (Delete file key) = (name ≡ codes "del") × HasWord rows (codes "FILE") file.now
+    × HasWord rows (codes "KEY") key.now
+Asks name rows (Get file key) = (name ≡ codes "get") × HasWord rows (codes "FILE") file.now
+    × HasWord rows (codes "KEY") key.now

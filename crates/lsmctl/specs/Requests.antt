@@ -1,0 +1,55 @@
+-- What the words ask for, and what is wrong with them.
+use Rattle.std.specs.Prelude.{◌≡◌, ℕ, List, [], ◌∷◌, Option, Some, None, is_some, unwrap_or, option_map, if◌then◌else◌}
+use Rattle.lsm_device.specs.declared.refusal.Refusal.{Refusal}
+use Rattle.lsm_device.specs.declared.refusal.Refusal.TheVariants.{BadGeometry}
+use Rattle.lsm_codec.specs.Keys.{Bytes}
+use Rattle.lsm_codec.specs.Words.{bytes_said}
+use Rattle.lsm_codec.specs.Answers.{or_then, key_refusal, value_refusal}
+use Rattle.lsmctl.specs.Numbers.{number_said}
+use Rattle.lsmctl.specs.Limits.{is_geometry}
+use Rattle.lsmctl.specs.Faults.{Reason, mistake, refusal}
+use Rattle.lsmctl.specs.declared.asked.Asked.{Asked}
+use Rattle.lsmctl.specs.declared.asked.Asked.TheVariants as asked
+use Rattle.lsmctl.specs.declared.request.Request.{Request}
+use Rattle.lsmctl.specs.declared.request.Request.TheVariants as request
+
+-- the first of two reasons
+abbrev pub or_else : Option Reason → Option Reason → Option Reason
+or_else (Some reason) next = Some reason
+or_else None next = next
+
+-- a word that says nothing is a mistake
+abbrev pub said_reason : {X : Type 0} → Option X → Option Reason
+said_reason (Some x) = None
+said_reason None = Some mistake
+
+abbrev pub limits_reason : ℕ → ℕ → Option Reason
+limits_reason sectors log = if is_geometry sectors log then None else Some (refusal BadGeometry)
+
+abbrev pub number_in : List ℕ → ℕ
+number_in word = unwrap_or (number_said word) 0
+
+abbrev pub bytes_in : List ℕ → Bytes
+bytes_in word = unwrap_or (bytes_said word) []
+
+-- the first thing that is wrong: numbers and bytes from the left, then the limits, then the batch
+abbrev pub reason_for : Asked → Option Reason
+reason_for (asked.Format file sectors log) = or_else (said_reason (number_said sectors.now))
+    (or_else (said_reason (number_said log.now)) (limits_reason (number_in sectors.now) (number_in log.now)))
+reason_for (asked.Put file key value) = or_else (said_reason (bytes_said key.now))
+    (or_else (said_reason (bytes_said value.now))
+    (option_map refusal (or_then (key_refusal (bytes_in key.now)) (value_refusal (bytes_in value.now)))))
+reason_for (asked.Delete file key) = or_else (said_reason (bytes_said key.now))
+    (option_map refusal (key_refusal (bytes_in key.now)))
+reason_for (asked.Get file key) = said_reason (bytes_said key.now)
+
+-- the request has the numbers and bytes that the words say, and the batch of one operation on them
+abbrev pub Says : Asked → Request → Type 0
+Says (asked.Format file sectors log) (request.Format path geometry) = (path.now ≡ file.now)
+    × (number_said sectors.now ≡ Some geometry.sectors) × (number_said log.now ≡ Some geometry.log_sectors)
+Says (asked.Put file key value) (request.Commit path batch) = (path.now ≡ file.now)
+    × (batch ≡ record { key = bytes_in key.now; value = Some (bytes_in value.now) } ∷ [])
+Says (asked.Delete file key) (request.Commit path batch) = (path.now ≡ file.now)
+    × (batch ≡ record { key = bytes_in key.now; value = None } ∷ [])
+Says (asked.Get file key) (request.Get path bytes) = (path.now ≡ file.now) × (bytes_said key.now ≡ Some bytes.items)
+Says _ _ = ⊥

@@ -1,0 +1,158 @@
+//! What the words ask for, before the words for numbers and bytes are read.
+
+ghost use Rattle.std.specs.Prelude.{◌≡◌, ◌⊎◌, map, IfOk, IfErr, false};
+ghost use Rattle.clap.specs.Words.{found_of, new_app, rows_of, rule_of};
+ghost use Rattle.lsm_device.specs.declared.refusal.Refusal.TheVariants.{NoMemory};
+ghost use Rattle.lsmctl.specs.Faults.{reason_of, mistake, refusal};
+ghost use Rattle.lsmctl.specs.Program.{bare_program, program, word_rule, with_words, IsCommand, Asks, HasWord};
+ghost use Rattle.lsmctl.specs.Runs.{IsAsked};
+
+use crate::fault::{Fault, Usage};
+use clap::error::ErrorKind;
+use clap::{Arg, ArgAction, ArgMatches, Command};
+use lsm_device::Refusal;
+use std::alloc::{AllocError, Global};
+use std::convert::AsStr;
+
+/// A subcommand with its words.
+#[derive(Clone, Copy, Debug, PartialEq, Eq)]
+pub enum Asked<'a> {
+    Format {
+        file: &'a str,
+        sectors: &'a str,
+        log: &'a str,
+    },
+    Put {
+        file: &'a str,
+        key: &'a str,
+        value: &'a str,
+    },
+    Delete {
+        file: &'a str,
+        key: &'a str,
+    },
+    Get {
+        file: &'a str,
+        key: &'a str,
+    },
+}
+
+/// Reads the words after the program's name.
+pub fn asked_for<'a, S: AsStr>(alloc: Global, words: &'a [S]) -> Result<Asked<'a>, Fault>
+    ensures asked { IfOk result (IsAsked (map S.text words.entry.now)) }
+    ensures faults { IfErr result (λ e. (reason_of e ≡ mistake) ⊎ (reason_of e ≡ refusal NoMemory)) }
+{
+    let command = command(alloc)?;
+    let matches = match command.try_get_matches_from(words) {
+        Ok(matches) => matches,
+        Err(error) if error.kind() == ErrorKind::OutOfMemory => {
+            return Err(Fault::Refused(Refusal::NoMemory));
+        }
+        Err(error) => return Err(Fault::Usage(Usage::Words(error))),
+    };
+    if words.iter().any(|word| word.as_str().starts_with('-')) {
+        return Err(Fault::Usage(Usage::Dash));
+    }
+    let Some((name, given)) = matches.subcommand() else {
+        return Err(Fault::Usage(Usage::Missing("the subcommand")));
+    };
+    Ok(subcommand(name, given)?)
+}
+
+// The program's command. Each subcommand has its words at fixed places.
+fn command<'a>(alloc: Global) -> Result<Command<'a>, AllocError>
+    ensures { IfOk result (IsCommand program) }
+{
+    let format = taking(
+        alloc,
+        "format",
+        "Make an empty store in a new file",
+        &["FILE", "SECTORS", "LOG"],
+    )?;
+    let put = taking(
+        alloc,
+        "put",
+        "Put a value under a key",
+        &["FILE", "KEY", "VALUE"],
+    )?;
+    let delete = taking(alloc, "del", "Delete a key", &["FILE", "KEY"])?;
+    let get = taking(alloc, "get", "Print the value of a key", &["FILE", "KEY"])?;
+    let command = bare(alloc)
+        .subcommand(format)?
+        .subcommand(put)?
+        .subcommand(delete)?
+        .subcommand(get)?;
+    Ok(command)
+}
+
+// The command without its subcommands.
+fn bare<'a>(alloc: Global) -> Command<'a>
+    ensures { IsCommand bare_program result }
+{
+    Command::new(alloc, "lsmctl")
+        .about("An ordered key-value store in a file")
+        .no_binary_name(true)
+        .subcommand_required(true)
+}
+
+// A subcommand with words that have to be there, at fixed places.
+fn taking<'a>(
+    alloc: Global,
+    name: &'a str,
+    about: &'a str,
+    places: &[&'a str],
+) -> Result<Command<'a>, AllocError>
+    ensures { IfOk result (IsCommand (with_words (new_app name.entry.now) (map (λ place. place.now) places.now))) }
+{
+    let mut command = Command::new(alloc, name).about(about);
+    for place in places {
+        command = command.arg(word(alloc, place))?;
+    }
+    Ok(command)
+}
+
+// A word that has to be there.
+fn word<'a>(alloc: Global, place: &'a str) -> Arg<'a>
+    ensures rule { rule_of result ≡ word_rule place.entry.now }
+    ensures local { result.global ≡ false }
+{
+    Arg::new(alloc, place).required(true).action(ArgAction::Set)
+}
+
+// A subcommand's words from their places.
+fn subcommand<'a>(name: &str, given: &ArgMatches<'a>) -> Result<Asked<'a>, Usage>
+    ensures { IfOk result (Asks name.now (rows_of (found_of given.now))) }
+{
+    let file = at(given, "FILE")?;
+    match name {
+        "format" => Ok(Asked::Format {
+            file,
+            sectors: at(given, "SECTORS")?,
+            log: at(given, "LOG")?,
+        }),
+        "put" => Ok(Asked::Put {
+            file,
+            key: at(given, "KEY")?,
+            value: at(given, "VALUE")?,
+        }),
+        "del" => Ok(Asked::Delete {
+            file,
+            key: at(given, "KEY")?,
+        }),
+        "get" => Ok(Asked::Get {
+            file,
+            key: at(given, "KEY")?,
+        }),
+        _ => Err(Usage::Missing("the subcommand")),
+    }
+}
+
+// The word at a place, which the parser asked for.
+fn at<'a>(given: &ArgMatches<'a>, place: &'static str) -> Result<&'a str, Usage>
+    ensures { IfOk result (λ word. HasWord (rows_of (found_of given.now)) place.now word.now) }
+{
+    match given.get_str(place) {
+        Some(word) => Ok(word),
+        None => Err(Usage::Missing(place)),
+    }
+}

@@ -1,0 +1,110 @@
+//! The program over a reader and two writers.
+
+ghost use Rattle.std.specs.Prelude.{◌≡◌, ◌≤◌, map, IfOk, IsOkAnd, OnOk};
+ghost use Rattle.std.specs.Io.KnownBytes.{Appends, Keeps};
+ghost use Rattle.lsmctl.specs.Answers.{line_of};
+ghost use Rattle.lsmctl.specs.Runs.{IsServed, HasServed, status_after};
+
+use crate::answer::Answer;
+use crate::asked::asked_for;
+use crate::calls;
+use crate::fault::{Fault, Usage};
+use crate::request::Request;
+use std::convert::AsStr;
+use std::fs::{File, Files};
+use std::io;
+use std::io::{Read, Write};
+
+/// The exit status of a program that did what it was asked for.
+pub const DONE: u8 = 0;
+
+/// The exit status where a refusal, or a failing write, ended the program.
+pub const REFUSED: u8 = 1;
+
+/// The exit status where the words are wrong.
+pub const USAGE: u8 = 2;
+
+/// Runs the program on the words after its name, and gives the exit status. An answer goes to `output`, a fault to
+/// `errors`.
+pub fn run<R: Files<File = File> + AllocGlobal, S: AsStr, I: Read, O: Write, E: Write>(
+    rt: &R,
+    words: &[S],
+    input: &mut I,
+    output: &mut O,
+    errors: &mut E,
+) -> u8
+    ensures status { result ≤ 2 }
+
+    // A run that ends with 0 did what the words ask for, printed its answer as one line, and no fault.
+    ensures done { result ≡ 0 → HasServed (map S.text words.entry.now)
+        (λ answer. Appends (O.contents output.old) (O.contents output.new) (line_of answer)) }
+    ensures no_fault { result ≡ 0 → Keeps (E.contents errors.old) (E.contents errors.new) }
+
+    // One that ends with a mistake in the words prints no answer.
+    ensures no_answer { result ≡ 2 → Keeps (O.contents output.old) (O.contents output.new) }
+{
+    let _ = input;
+    let answered = answer(rt, words);
+    conclude(&answered, output, errors)
+}
+
+// Writes the answer or the fault, and gives the exit status.
+fn conclude<O: Write, E: Write>(
+    answered: &Result<Answer, Fault>,
+    output: &mut O,
+    errors: &mut E,
+) -> u8
+    ensures status { result ≤ 2 }
+    ensures done { result ≡ 0 → IsOkAnd answered.now
+        (λ answer. Appends (O.contents output.old) (O.contents output.new) (line_of answer)) }
+    ensures no_fault { result ≡ 0 → Keeps (E.contents errors.old) (E.contents errors.new) }
+    ensures no_answer { result ≡ 2 → Keeps (O.contents output.old) (O.contents output.new) }
+{
+    match answered {
+        Ok(answer) => status(answered, &print(output, answer)),
+        Err(fault) => status(answered, &report(errors, fault)),
+    }
+}
+
+// The exit status, from what was answered and whether it could be written.
+fn status(answered: &Result<Answer, Fault>, written: &io::Result<()>) -> u8
+    ensures { result ≡ status_after answered.now written.now }
+{
+    if written.is_err() {
+        return REFUSED;
+    }
+    match answered {
+        Ok(_) => DONE,
+        Err(Fault::Refused(_)) => REFUSED,
+        Err(Fault::Usage(_)) => USAGE,
+    }
+}
+
+// Does what the words ask for.
+fn answer<R: Files<File = File> + AllocGlobal, S: AsStr>(
+    rt: &R,
+    words: &[S],
+) -> Result<Answer, Fault>
+    ensures { IfOk result (IsServed (map S.text words.entry.now)) }
+{
+    let request = Request::read(rt.alloc(), asked_for(rt.alloc(), words)?)?;
+    Ok(calls::answer(rt, &request)?)
+}
+
+fn print<O: Write>(output: &mut O, answer: &Answer) -> io::Result<()>
+    ensures { OnOk result (Appends (O.contents output.old) (O.contents output.new) (line_of answer.now)) }
+{
+    writeln!(output, "{answer}")?;
+    output.flush()?;
+    Ok(())
+}
+
+// The parser's texts end with a line feed of their own.
+fn report<E: Write>(errors: &mut E, fault: &Fault) -> io::Result<()> {
+    match fault {
+        Fault::Usage(Usage::Words(error)) => write!(errors, "{error}")?,
+        _ => writeln!(errors, "{fault}")?,
+    }
+    errors.flush()?;
+    Ok(())
+}

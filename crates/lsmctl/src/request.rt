@@ -1,0 +1,94 @@
+//! What the program is asked to do, once every word is read.
+
+ghost use Rattle.std.specs.Prelude.{◌≡◌, ◌⊎◌, [], ◌∷◌, Some, None, MatchResult};
+ghost use Rattle.lsm_device.specs.declared.refusal.Refusal.TheVariants.{NoMemory};
+ghost use Rattle.lsm_codec.specs.Answers.{Answers, or_then, key_refusal, value_refusal};
+ghost use Rattle.lsm_codec.specs.Words.{bytes_said};
+ghost use Rattle.lsmctl.specs.Faults.{reason_of, mistake, refusal};
+ghost use Rattle.lsmctl.specs.Numbers.{number_said};
+
+use crate::asked::Asked;
+use crate::fault::{Fault, Usage};
+use crate::geometry::Geometry;
+use crate::number::parse_number;
+use lsm_codec::{Batch, Op, unword};
+use lsm_device::Refusal;
+use std::alloc::Global;
+
+/// What is asked for, of which file.
+#[derive(Drop)]
+pub enum Request<'a> {
+    /// Make an empty store.
+    Format { file: &'a str, geometry: Geometry },
+    /// Commit a batch and sync it.
+    Commit { file: &'a str, batch: Batch },
+    /// Look up a key.
+    Get { file: &'a str, key: Vec<u8> },
+}
+
+impl<'a> Request<'a> {
+    ghost use Rattle.lsmctl.specs.Requests.{reason_for, Says};
+
+    /// Reads numbers and bytes from the left, then tests the limits, then makes the batch.
+    pub fn read(alloc: Global, asked: Asked<'a>) -> Result<Request<'a>, Fault>
+        ensures { MatchResult result (λ r. (reason_for asked.entry ≡ None) × Says asked.entry r)
+            (λ e. (reason_for asked.entry ≡ Some (reason_of e)) ⊎ (reason_of e ≡ refusal NoMemory)) }
+    {
+        match asked {
+            Asked::Format { file, sectors, log } => {
+                let sectors = number(sectors, "SECTORS")?;
+                let log_sectors = number(log, "LOG")?;
+                let geometry = Geometry::new(sectors, log_sectors)?;
+                Ok(Request::Format { file, geometry })
+            }
+            Asked::Put { file, key, value } => {
+                let key = bytes(alloc, key, "KEY")?;
+                let value = bytes(alloc, value, "VALUE")?;
+                let batch = put_batch(alloc, &key, &value)?;
+                Ok(Request::Commit { file, batch })
+            }
+            Asked::Delete { file, key } => {
+                let key = bytes(alloc, key, "KEY")?;
+                let batch = delete_batch(alloc, &key)?;
+                Ok(Request::Commit { file, batch })
+            }
+            Asked::Get { file, key } => {
+                let key = bytes(alloc, key, "KEY")?;
+                Ok(Request::Get { file, key })
+            }
+        }
+    }
+}
+
+// The number that the word at a place says.
+fn number(word: &str, place: &'static str) -> Result<u64, Usage>
+    ensures { MatchResult result (λ n. number_said word.now ≡ Some n) (λ _. number_said word.now ≡ None) }
+{
+    parse_number(word).ok_or(Usage::Number(place))
+}
+
+// The bytes that the word at a place says.
+fn bytes(alloc: Global, word: &str, place: &'static str) -> Result<Vec<u8>, Fault>
+    ensures { MatchResult result (λ b. bytes_said word.now ≡ Some b.items)
+        (λ e. ((bytes_said word.now ≡ None) × (reason_of e ≡ mistake)) ⊎ (reason_of e ≡ refusal NoMemory)) }
+{
+    match unword(alloc, word)? {
+        Some(bytes) => Ok(bytes),
+        None => Err(Fault::Usage(Usage::Bytes(place))),
+    }
+}
+
+fn put_batch(alloc: Global, key: &[u8], value: &[u8]) -> Result<Batch, Refusal>
+    ensures { Answers (or_then (key_refusal key.now) (value_refusal value.now)) result
+        (λ b. b ≡ record { key = key.now; value = Some value.now } ∷ []) }
+{
+    let put = Op::put(alloc, key, value)?;
+    Ok(Batch::new(alloc, put)?)
+}
+
+fn delete_batch(alloc: Global, key: &[u8]) -> Result<Batch, Refusal>
+    ensures { Answers (key_refusal key.now) result (λ b. b ≡ record { key = key.now; value = None } ∷ []) }
+{
+    let delete = Op::delete(alloc, key)?;
+    Ok(Batch::new(alloc, delete)?)
+}

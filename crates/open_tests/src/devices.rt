@@ -1,0 +1,121 @@
+// Devices of tests.
+use hex::decode_to_slice;
+use lsm_device::{Device, MemDevice, Refusal};
+use lsm_open::{Recovered, format, recover};
+use std::alloc::{Allocator, Global};
+use std::test::Fail;
+
+pub(crate) const SECTORS: u32 = 8_192;
+
+pub(crate) const LOG_SECTORS: u16 = 128;
+
+/// The log sector of batch 1 of epoch 2, which puts 61 = 31.
+const BATCH: &str =
+    "4c534d4c000000000000000200000000000000010000000100080000000000000001010161000131";
+
+/// A log sector of a batch of one put.
+pub(crate) fn log_sector(epoch: u8, number: u8, key: u8, value: u8) -> Result<[u8; 512], Fail> {
+    let mut sector = [0; 512];
+    if decode_to_slice(BATCH, &mut sector[..40]).is_err() {
+        return Err("the text is hex".into());
+    }
+    sector[11] = epoch;
+    sector[19] = number;
+    sector[36] = key;
+    sector[39] = value;
+    Ok(sector)
+}
+
+/// A sector that begins with these bytes, in hex, and goes on with zeros.
+pub(crate) fn sector_of(text: &str) -> Result<[u8; 512], Fail> {
+    let mut sector = [0; 512];
+    let bytes = text.len() / 2;
+    if bytes > 512 || decode_to_slice(text, &mut sector[..bytes]).is_err() {
+        return Err("the text is hex".into());
+    }
+    Ok(sector)
+}
+
+pub(crate) fn put<D: Device>(device: &mut D, at: u32, bytes: &[u8; 512]) -> Result<(), Fail> {
+    if at >= device.sectors() {
+        return Err("a sector of the device".into());
+    }
+    device.write(at, bytes)?;
+    Ok(())
+}
+
+pub(crate) fn sector<D: Device>(device: &mut D, at: u32) -> Result<[u8; 512], Fail> {
+    if at >= device.sectors() {
+        return Err("a sector of the device".into());
+    }
+    let mut out = [0; 512];
+    device.read(at, &mut out)?;
+    Ok(out)
+}
+
+/// What an opening recovered.
+pub(crate) fn opened<D: Device + Drop, A: Allocator>(
+    answer: Result<Recovered<D, A>, (Refusal, D)>,
+) -> Result<Recovered<D, A>, Fail> {
+    match answer {
+        Ok(recovered) => Ok(recovered),
+        Err((refusal, _)) => Err(refusal.name().into()),
+    }
+}
+
+/// How an opening was refused.
+pub(crate) fn refused<D: Device + Drop, A: Allocator>(
+    answer: Result<Recovered<D, A>, (Refusal, D)>,
+) -> Result<(Refusal, D), Fail> {
+    match answer {
+        Ok(_) => Err("a refusal".into()),
+        Err(refused) => Ok(refused),
+    }
+}
+
+/// A formatted device.
+pub(crate) fn formatted(alloc: Global) -> Result<MemDevice, Fail> {
+    match format(alloc, MemDevice::new(alloc, SECTORS)?, LOG_SECTORS) {
+        Ok(device) => Ok(device),
+        Err((refusal, _)) => Err(refusal.name().into()),
+    }
+}
+
+/// A device that was formatted and opened once.
+pub(crate) fn fresh(alloc: Global) -> Result<MemDevice, Fail> {
+    Ok(opened(recover(alloc, formatted(alloc)?))?.device)
+}
+
+/// A device with one synced batch, which puts 61 = 31, and another that a crash has dropped.
+pub(crate) fn with_one_batch(alloc: Global) -> Result<MemDevice, Fail> {
+    let mut device = fresh(alloc)?;
+    put(&mut device, 130, &log_sector(2, 1, 0x61, 0x31)?)?;
+    device.sync()?;
+    put(&mut device, 131, &log_sector(2, 2, 0x62, 0x41)?)?;
+    Ok(device.crash(&[]))
+}
+
+/// The value of a key of one byte, where it is one byte.
+pub(crate) fn value_of<D: Device, A: Allocator>(
+    recovered: &Recovered<D, A>,
+    key: u8,
+) -> Option<u8> {
+    let version = recovered.mem.get(&[key], recovered.count)?;
+    version.value?.first().copied()
+}
+
+/// Region, first sector, epoch and first batch of the open log, if one is open and has no batch.
+pub(crate) fn open_log<D: Device, A: Allocator>(
+    recovered: &Recovered<D, A>,
+) -> Option<(u8, u32, u64, u64)> {
+    let open = recovered.regions.open_region.as_ref()?;
+    if open.log.used() > 0 || open.log.next() != open.log.first() {
+        return None;
+    }
+    Some((
+        open.region,
+        open.log.start(),
+        open.log.epoch(),
+        open.log.first(),
+    ))
+}

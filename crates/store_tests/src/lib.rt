@@ -1,0 +1,11 @@
+//! Tests of the store.
+#![tactic(auto)]
+
+#[cfg(test)]
+mod calls;
+#[cfg(test)]
+mod crashes;
+#[cfg(test)]
+mod growth;
+#[cfg(test)]
+mod setup;
