@@ -13,6 +13,8 @@ use Rattle.std.proofs.lemmas.Bool.{leb-true}
 use Rattle.lsm_open.specs.Image.{region_start}
 use Rattle.lsm_store.specs.declared.memory.Status.TheVariants.{Running, StoppedInCommit}
 use Rattle.lsm_store.specs.declared.memory.Memory.{Memory}
+use Rattle.lsm_store.specs.LiveMarks.{marks}
+use Rattle.lsm_mem.proofs.Lists.{all_map}
 use Rattle.lsm_store.specs.Appending.{CanAppend, AppendsTo, FaultsIn}
 use Rattle.lsm_store.specs.Calls.{Commit, Number, Refused}
 use Rattle.lsm_store.specs.Effects.{with_sectors}
@@ -68,7 +70,7 @@ module _ {A : Type 0} (m : Memory A) (batch : List Operation) (kept : AreConsist
           ∙ ap (λ (u : ℕ). Some (open_log done.o.log.first u)) done.appended.takes.used
           ∙ sym (ap (λ (x : Option OpenRegion). option_map (with_sectors batch) (option_map open_log_of x)) done.was)
 
-      same : SameRegions m (record { regions = regions; mem = versions; count = m.count + 1; synced = m.synced; status = m.status })
+      same : SameRegions m (record m { regions = regions; mem = versions; count = m.count + 1 })
       same = record {
         log_sectors = ap (λ (l : Layout). l.log_sectors) done.layout;
         closed = ap (λ (l : Layout). l.closed) done.layout;
@@ -77,20 +79,21 @@ module _ {A : Type 0} (m : Memory A) (batch : List Operation) (kept : AreConsist
 
       -- it is answered with its number
       pub committed : ((n : ℕ) → n < m.count + 1 → map_of versions n ≡ map_of m.mem n) → map_of versions (m.count + 1) ≡ apply (map_of m.mem m.count) batch
-          → Serves (view_of medium m) (Commit batch) (Number (m.count + 1)) (view_of new (record { regions = regions; mem = versions; count = m.count + 1; synced = m.synced; status = m.status }))
+          → Serves (view_of medium m) (Commit batch) (Number (m.count + 1)) (view_of new (record m { regions = regions; mem = versions; count = m.count + 1 }))
       committed older applied =
-          commit_number (view_of medium m) (view_of new (record { regions = regions; mem = versions; count = m.count + 1; synced = m.synced; status = m.status })) may.running batch may.number
+          commit_number (view_of medium m) (view_of new (record m { regions = regions; mem = versions; count = m.count + 1 })) may.running batch may.number
           (open_log_of done.o) (ap (option_map open_log_of) done.was) (room_at done.o done.was) done.o done.was done.wrote (m.count + 1) next_is
-          (state_committed m (record { regions = regions; mem = versions; count = m.count + 1; synced = m.synced; status = m.status }) same kept.synced refl batch older applied refl log_is runs runs)
+          (state_committed m (record m { regions = regions; mem = versions; count = m.count + 1 }) same refl kept.synced refl kept.snapshots batch older applied refl log_is runs runs)
           done.p done.region done.appended done.layout
 
-      pub commit_kept : NumberedBelow (m.count + 1 + 1) versions → AreConsistent (record { regions = regions; mem = versions; count = m.count + 1; synced = m.synced; status = m.status })
+      pub commit_kept : NumberedBelow (m.count + 1 + 1) versions → AreConsistent (record m { regions = regions; mem = versions; count = m.count + 1 })
       commit_kept numbered =
           let log = log_at done.o done.was in
           let takes = done.appended.takes in
           record {
             synced = omega (arith, kept.synced);
             count = below;
+            snapshots = all_map (λ mark within. omega (arith, within)) (marks m.snapshots) kept.snapshots;
             current = λ is. record {
               numbered = numbered;
               opened = subst (IsOpenIn regions.log_sectors (m.count + 1)) (sym open_is) (record {
@@ -105,10 +108,10 @@ module _ {A : Type 0} (m : Memory A) (batch : List Operation) (kept : AreConsist
     -- a fault stops the store
     pub stopped : (regions : Regions A) → FaultsIn (layout_of m.regions) batch medium (layout_of regions) new
         → ((n : ℕ) → n < m.count + 1 → map_of versions n ≡ map_of m.mem n) → map_of versions (m.count + 1) ≡ apply (map_of m.mem m.count) batch
-        → Serves (view_of medium m) (Commit batch) (Refused Io) (view_of new (record { regions = regions; mem = versions; count = m.count; synced = m.synced; status = StoppedInCommit }))
+        → Serves (view_of medium m) (Commit batch) (Refused Io) (view_of new (record m { regions = regions; mem = versions; status = StoppedInCommit }))
     stopped regions fault older applied =
-        let after : Memory A = record { regions = regions; mem = versions; count = m.count; synced = m.synced; status = StoppedInCommit } in
+        let after : Memory A = record m { regions = regions; mem = versions; status = StoppedInCommit } in
         let same : SameRegions m after = record { log_sectors = ap (λ (l : Layout). l.log_sectors) fault.layout; closed = ap (λ (l : Layout). l.closed) fault.layout; generation = ap (λ (l : Layout). l.generation) fault.layout } in
         commit_io (view_of medium m) (view_of new after) may.running batch may.number
         (open_log_of fault.o) (ap (option_map open_log_of) fault.was) (room_at fault.o fault.was) fault.o fault.was fault.wrote
-        (state_stopped_in_commit m after same kept.synced refl batch older applied refl (ap (λ (l : Layout). option_map open_log_of l.open_region) fault.layout) refl) fault.faults
+        (state_stopped_in_commit m after same refl kept.synced refl kept.snapshots batch older applied refl (ap (λ (l : Layout). option_map open_log_of l.open_region) fault.layout) refl) fault.faults

@@ -9,7 +9,7 @@ use Rattle.lsm_open.specs.CrashState.{CrashState}
 use Rattle.lsm_store.specs.RecoveryPoints.{RecoveryPoint, recovery_points, present_point, with_batch, all_synced}
 use Rattle.lsm_store.specs.State.{OpenLog, State}
 use Rattle.lsm_store.specs.Calls.{Call, Reply}
-use Rattle.lsm_store.specs.Calls.{Commit, Sync, SyncTo, Get, LogRoom, Number, Done, Value, Refused}
+use Rattle.lsm_store.specs.Calls.{Commit, Sync, SyncTo, Get, Scan, Snapshot, Release, LogRoom, Number, Done, Value, Rows, Refused}
 use Rattle.lsm_store.specs.Refusals.{refusal}
 use Rattle.lsm_store.specs.Effects.{with_sectors, after, decided, reply_by, Use, use_of}
 use Rattle.lsm_store.specs.Effects.{Untouched, Reads, Changes}
@@ -47,6 +47,9 @@ between_goes s (SyncTo number) left found = by (nat_le number s.points.synced) f
     by true h = Contains-append_left (left_between s) [] left h
     by false h = Contains-append_left (left_between s) [] left (subst (Contains (left_between s)) (sym (one_in (last_crash_state s) left h)) (last_between s))
 between_goes s (Get at key) left found = Contains-append_left (left_between s) [] left found
+between_goes s (Scan at from to limit) left found = Contains-append_left (left_between s) [] left found
+between_goes s Snapshot left found = Contains-append_left (left_between s) [] left found
+between_goes s (Release number) left found = Contains-append_left (left_between s) [] left found
 between_goes s LogRoom left found = Contains-append_left (left_between s) [] left found
 
 pub stays_stopped : (s : State) (call : Call) → (after s call).stopped ≡ s.stopped
@@ -54,6 +57,9 @@ stays_stopped s (Commit batch) = refl
 stays_stopped s Sync = refl
 stays_stopped s (SyncTo number) = elim (nat_le number s.points.synced) as (λ b. (cond b s (record s { points = all_synced s.points })).stopped ≡ s.stopped) [ true ↦ refl | false ↦ refl ]
 stays_stopped s (Get at key) = refl
+stays_stopped s (Scan at from to limit) = refl
+stays_stopped s Snapshot = refl
+stays_stopped s (Release number) = refl
 stays_stopped s LogRoom = refl
 
 with_others : (s t : State) (besides : List CrashState) (left : CrashState) → (Contains (left_between t) left → Contains (left_between s ++ besides) left)
@@ -111,3 +117,4 @@ goes_inside s call (Refused e) left allows found = Contains-append_left (may_lea
 goes_inside s call (Number n) left allows found = inside_unrefused s call left (answer_unrefused s call (Number n) tt allows) (after_goes s call left found)
 goes_inside s call Done left allows found = inside_unrefused s call left (answer_unrefused s call Done tt allows) (after_goes s call left found)
 goes_inside s call (Value v) left allows found = inside_unrefused s call left (answer_unrefused s call (Value v) tt allows) (after_goes s call left found)
+goes_inside s call (Rows page) left allows found = inside_unrefused s call left (answer_unrefused s call (Rows page) tt allows) (after_goes s call left found)

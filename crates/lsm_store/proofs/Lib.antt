@@ -15,6 +15,9 @@ pub mod Exits
 pub mod Remembering
 pub mod States
 pub mod Refusing
+pub mod Marking
+pub mod Paged
+pub mod Snapshotting
 pub mod Checking
 mod WorkedCalls
 pub mod Appends

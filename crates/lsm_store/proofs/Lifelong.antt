@@ -4,12 +4,12 @@ use Rattle.std.specs.Prelude.{Contains}
 use Rattle.std.specs.FinMap as finite
 use Rattle.std.proofs.lemmas.List.{length-append, length-take-le, take-append-le, take_all, drop_at}
 use Rattle.lsm_codec.specs.Map.{Operation, apply_all}
-use Rattle.lsm_open.specs.CrashState.{CrashState, formatted, left_by_opening}
+use Rattle.lsm_open.specs.CrashState.{CrashState, left_by_opening}
 use Rattle.lsm_open.proofs.Openings.{one_opening}
 use Rattle.lsm_store.specs.Calls.{Call, Reply}
-use Rattle.lsm_store.specs.Calls.{Number, Done, Value, Refused}
+use Rattle.lsm_store.specs.Calls.{Number, Done, Value, Rows, Refused}
 use Rattle.lsm_store.specs.Promise.{accepted, acknowledged, in_flight, IsBeginning}
-use Rattle.lsm_store.specs.Lives.{Life, Lives, KeptByLife, KeptByLives, IsAfter, PromiseOverLives}
+use Rattle.lsm_store.specs.Lives.{Life, Lives, KeptByLife, KeepsLife, KeepsLives, IsAfter, PromiseOverLives}
 use Rattle.lsm_store.proofs.Points.{apply_all-append, take_sum}
 use Rattle.lsm_store.proofs.Promises.{promise}
 
@@ -49,22 +49,19 @@ module _ (before : List (List Operation)) (opened : CrashState) (was : IsAfter b
       (λ next. subst (IsAfter before) (sym next.0) (record { count = was.count; same_map = was.same_map }))
       (one_opening opened left found)
 
-  one_life : (log_sectors : ℕ) (calls : List Call) (replies : List Reply) (left : CrashState) → Life log_sectors opened calls replies left → IsKeptBy before calls replies left
-  one_life log_sectors calls (Number n ∷ replies) left life = from_beginning n calls replies left ((promise log_sectors opened calls replies life.2).between left life.3)
-  one_life log_sectors calls (Refused e ∷ replies) left life = record { kept = before; by_life = refl; after = same_after left life.2 }
-  one_life log_sectors calls [] left life = absurd life
-  one_life log_sectors calls (Done ∷ replies) left life = absurd life
-  one_life log_sectors calls (Value v ∷ replies) left life = absurd life
-
-all_lives : (log_sectors : ℕ) (before : List (List Operation)) (opened : CrashState) → IsAfter before opened → (lives : List (List Call)) (replies : List (List Reply)) (left : CrashState)
-    → Lives log_sectors opened lives replies left → (batches : List (List Operation)) × KeptByLives before lives replies batches × IsAfter batches left
-all_lives log_sectors before opened was [] [] left same = (before, refl, subst (IsAfter before) (sym same) was)
-all_lives log_sectors before opened was (calls ∷ lives) (replies ∷ rest) left (mid, life, later) =
-    let first = one_life before opened was log_sectors calls replies mid life in
-    let then = all_lives log_sectors first.kept mid first.after lives rest left later in
-    (then.0, (first.kept, first.by_life, then.1), then.2)
-all_lives log_sectors before opened was [] (replies ∷ rest) left h = absurd h
-all_lives log_sectors before opened was (calls ∷ lives) [] left h = absurd h
+  one_life : (log_sectors : ℕ) (calls : List Call) (replies : List Reply) (left : CrashState) → Life log_sectors opened [] calls replies left → IsKeptBy before calls replies left
+  one_life log_sectors calls (Number n ∷ replies) left life = from_beginning n calls replies left ((promise log_sectors opened calls replies life.answered.2).between left life.crash)
+  one_life log_sectors calls (Refused e ∷ replies) left life = record { kept = before; by_life = refl; after = same_after left life.crash }
+  one_life log_sectors calls [] left life = absurd life.answered
+  one_life log_sectors calls (Done ∷ replies) left life = absurd life.answered
+  one_life log_sectors calls (Value v ∷ replies) left life = absurd life.answered
+  one_life log_sectors calls (Rows page ∷ replies) left life = absurd life.answered
 
 pub promise_over_lives : PromiseOverLives
-promise_over_lives log_sectors lives replies left h = all_lives log_sectors [] formatted (record { count = refl; same_map = refl }) lives replies left h
+promise_over_lives log_sectors before opened [] [] left was same = (before, (refl, same, subst (IsAfter before) (sym same) was))
+promise_over_lives log_sectors before opened (calls ∷ lives) (replies ∷ rest) left was (mid, life, later) =
+    let first = one_life before opened was log_sectors calls replies mid life in
+    let then = promise_over_lives log_sectors first.kept mid lives rest left first.after later in
+    (then.0, (first.kept, mid, record { opens = was; life = life; keeps = first.by_life }, then.1))
+promise_over_lives log_sectors before opened [] (replies ∷ rest) left was h = absurd h
+promise_over_lives log_sectors before opened (calls ∷ lives) [] left was h = absurd h

@@ -13,7 +13,7 @@ use Rattle.lsm_open.specs.CrashState.{CrashState}
 use Rattle.lsm_store.specs.RecoveryPoints.{RecoveryPoints, recovery_points, with_batch, all_synced, batch_count, present_map}
 use Rattle.lsm_store.specs.State.{State}
 use Rattle.lsm_store.specs.Calls.{Call, Reply}
-use Rattle.lsm_store.specs.Calls.{Commit, Sync, SyncTo, Get, LogRoom, Number, Done, Value, Refused}
+use Rattle.lsm_store.specs.Calls.{Commit, Sync, SyncTo, Get, Scan, Snapshot, Release, LogRoom, Number, Done, Value, Rows, Refused}
 use Rattle.lsm_store.specs.Refusals.{refusal}
 use Rattle.lsm_store.specs.Effects.{answer, after, decided, reply_by}
 use Rattle.lsm_store.specs.Effects.{Untouched, Changes}
@@ -56,9 +56,13 @@ flight_step (Commit batch) (Refused e) = inl (λ calls replies. refl)
 flight_step (Commit batch) (Number n) = inl (λ calls replies. refl)
 flight_step (Commit batch) Done = inl (λ calls replies. refl)
 flight_step (Commit batch) (Value v) = inl (λ calls replies. refl)
+flight_step (Commit batch) (Rows page) = inl (λ calls replies. refl)
 flight_step Sync reply = inl (λ calls replies. refl)
 flight_step (SyncTo number) reply = inl (λ calls replies. refl)
 flight_step (Get at key) reply = inl (λ calls replies. refl)
+flight_step (Scan at from to limit) reply = inl (λ calls replies. refl)
+flight_step Snapshot reply = inl (λ calls replies. refl)
+flight_step (Release number) reply = inl (λ calls replies. refl)
 flight_step LogRoom reply = inl (λ calls replies. refl)
 
 -- at most one
@@ -68,6 +72,9 @@ one_in_flight (Commit batch ∷ calls) [] = omega arith
 one_in_flight (Sync ∷ calls) [] = omega arith
 one_in_flight (SyncTo number ∷ calls) [] = omega arith
 one_in_flight (Get at key ∷ calls) [] = omega arith
+one_in_flight ((Scan at from to limit) ∷ calls) [] = omega arith
+one_in_flight (Snapshot ∷ calls) [] = omega arith
+one_in_flight ((Release number) ∷ calls) [] = omega arith
 one_in_flight (LogRoom ∷ calls) [] = omega arith
 one_in_flight (call ∷ calls) (reply ∷ replies) = ⊎_elim
     (λ same. subst (λ flight. length flight ≤ 1) (sym (same calls replies)) (one_in_flight calls replies))
@@ -104,6 +111,9 @@ nothing_accepted (Commit batch) e = refl
 nothing_accepted Sync e = refl
 nothing_accepted (SyncTo number) e = refl
 nothing_accepted (Get at key) e = refl
+nothing_accepted (Scan at from to limit) e = refl
+nothing_accepted Snapshot e = refl
+nothing_accepted (Release number) e = refl
 nothing_accepted LogRoom e = refl
 
 nothing_acknowledged : (k done known : ℕ) (call : Call) (e : Refusal) → acknowledged_by k done known call (Refused e) ≡ known
@@ -111,6 +121,9 @@ nothing_acknowledged k done known (Commit batch) e = refl
 nothing_acknowledged k done known Sync e = refl
 nothing_acknowledged k done known (SyncTo number) e = refl
 nothing_acknowledged k done known (Get at key) e = refl
+nothing_acknowledged k done known (Scan at from to limit) e = refl
+nothing_acknowledged k done known Snapshot e = refl
+nothing_acknowledged k done known (Release number) e = refl
 nothing_acknowledged k done known LogRoom e = refl
 
 -- ---- a stopped store
@@ -127,6 +140,9 @@ flight_stopped (Commit batch) calls replies = refl
 flight_stopped Sync calls replies = refl
 flight_stopped (SyncTo number) calls replies = refl
 flight_stopped (Get at key) calls replies = refl
+flight_stopped (Scan at from to limit) calls replies = refl
+flight_stopped Snapshot calls replies = refl
+flight_stopped (Release number) calls replies = refl
 flight_stopped LogRoom calls replies = refl
 
 quiet : (k : ℕ) (s : State) (others : List CrashState) (calls : List Call) (replies : List Reply) → s.stopped ≡ Some others → Run s calls replies → IsQuiet k s calls replies
@@ -175,6 +191,9 @@ module _ (k : ℕ) (m : Map) where
       by true = same_done done known s runs
       by false = same_done done (length done) (record s { points = all_synced s.points }) (synced_now done known s runs)
   answered done known s (Get at key) runs = same_done done known s runs
+  answered done known s (Scan at from to limit) runs = same_done done known s runs
+  answered done known s Snapshot runs = same_done done known (after s Snapshot) (record { points = runs.points; within = runs.within; runs = runs.runs })
+  answered done known s (Release number) runs = same_done done known (after s (Release number)) (record { points = runs.points; within = runs.within; runs = runs.runs })
   answered done known s LogRoom runs = same_done done known s runs
 
   -- what is to be shown of a call and the calls behind it
@@ -196,6 +215,9 @@ module _ (k : ℕ) (m : Map) where
     answer_step Sync goes run = regrouped [] _ _ _ (goes run)
     answer_step (SyncTo number) goes run = regrouped [] _ _ _ (goes run)
     answer_step (Get at key) goes run = regrouped [] _ _ _ (goes run)
+    answer_step (Scan at from to limit) goes run = regrouped [] _ _ _ (goes run)
+    answer_step Snapshot goes run = regrouped [] _ _ _ (goes run)
+    answer_step (Release number) goes run = regrouped [] _ _ _ (goes run)
     answer_step LogRoom goes run = regrouped [] _ _ _ (goes run)
 
     -- after a call that changed nothing
@@ -235,6 +257,9 @@ module _ (k : ℕ) (m : Map) where
         by true more = unchanged_step (SyncTo number) Io refl (goes more)
         by false more = let silent = still [] more in stopped_step (SyncTo number) (subst (IsWithFlight (stopped_in s (SyncTo number)) (Some [])) (sym silent.none_in_flight) refl) runs silent
     fault_step (Get at key) runs goes still run = unchanged_step (Get at key) Io refl (goes run)
+    fault_step (Scan at from to limit) runs goes still run = unchanged_step (Scan at from to limit) Io refl (goes run)
+    fault_step Snapshot runs goes still run = unchanged_step Snapshot Io refl (goes run)
+    fault_step (Release number) runs goes still run = unchanged_step (Release number) Io refl (goes run)
     fault_step LogRoom runs goes still run = unchanged_step LogRoom Io refl (goes run)
 
     flight_refused : (call : Call) (e : Refusal) → is_no_fault e ≡ true → in_flight (call ∷ calls) (Refused e ∷ replies) ≡ in_flight calls replies
@@ -243,6 +268,9 @@ module _ (k : ℕ) (m : Map) where
     flight_refused Sync e safe = refl
     flight_refused (SyncTo number) e safe = refl
     flight_refused (Get at key) e safe = refl
+    flight_refused (Scan at from to limit) e safe = refl
+    flight_refused Snapshot e safe = refl
+    flight_refused (Release number) e safe = refl
     flight_refused LogRoom e safe = refl
 
     -- a reply that is no refusal is the answer
@@ -270,6 +298,7 @@ module _ (k : ℕ) (m : Map) where
   reached (call ∷ calls) (Number n ∷ replies) done known s runs run = any_answer calls replies done known s call (Number n) tt run.0 (reached calls replies _ _ (after s call) (answered done known s call runs)) run.1
   reached (call ∷ calls) (Done ∷ replies) done known s runs run = any_answer calls replies done known s call Done tt run.0 (reached calls replies _ _ (after s call) (answered done known s call runs)) run.1
   reached (call ∷ calls) (Value v ∷ replies) done known s runs run = any_answer calls replies done known s call (Value v) tt run.0 (reached calls replies _ _ (after s call) (answered done known s call runs)) run.1
+  reached (call ∷ calls) (Rows page ∷ replies) done known s runs run = any_answer calls replies done known s call (Rows page) tt run.0 (reached calls replies _ _ (after s call) (answered done known s call runs)) run.1
 
 -- ---- the promise
 
@@ -341,6 +370,9 @@ module _ (opened : CrashState) (done : List (List Operation)) (known : ℕ) (fli
   kept_by_call Sync left found = absurd (none_in left found)
   kept_by_call (SyncTo number) left found = absurd (none_in left found)
   kept_by_call (Get at key) left found = absurd (none_in left found)
+  kept_by_call (Scan at from to limit) left found = absurd (none_in left found)
+  kept_by_call Snapshot left found = absurd (none_in left found)
+  kept_by_call (Release number) left found = absurd (none_in left found)
   kept_by_call LogRoom left found = absurd (none_in left found)
 
   kept_inside : (call : Call) (longer : List (List Operation)) → IsMore flight (in_flight (call ∷ []) []) longer → (left : CrashState) → Contains (left_inside t call) left → IsBeginning opened (done ++ longer) known left

@@ -6,12 +6,12 @@ use Rattle.std.specs.List.{AllByRecursion}
 use Rattle.std.proofs.lemmas.Bool.{eq-eqb}
 use Rattle.lsm_codec.specs.Map.{Operation}
 use Rattle.lsm_device.specs.declared.refusal.Refusal.{Refusal}
-use Rattle.lsm_device.specs.declared.refusal.Refusal.TheVariants.{NoMemory, Io, Stopped, LogFull, NoSuchBatch, BadKey, Exhausted}
+use Rattle.lsm_device.specs.declared.refusal.Refusal.TheVariants.{NoMemory, Io, Stopped, LogFull, NoSuchSnapshot, TooManySnapshots, NoSuchBatch, BadKey, BadRange, Exhausted, BadLimit}
 use Rattle.lsm_open.specs.CrashState.{last_number}
 use Rattle.lsm_store.specs.RecoveryPoints.{batch_count}
 use Rattle.lsm_store.specs.State.{State, fits}
 use Rattle.lsm_store.specs.Calls.{Call}
-use Rattle.lsm_store.specs.Calls.{Commit, Sync, SyncTo, Get, LogRoom}
+use Rattle.lsm_store.specs.Calls.{Commit, Sync, SyncTo, Get, Scan, Snapshot, Release, LogRoom}
 use Rattle.lsm_store.specs.Refusals.{refusals, first_refusal, refusal}
 use Rattle.lsm_store.specs.Calls.{Reply, Refused}
 use Rattle.lsm_store.specs.Effects.{answer, after, takes_memory}
@@ -64,6 +64,18 @@ batch_decided = record { no_memory = λ e. cc; no_fault = λ e. cc }
 key_decided : IsDecided BadKey
 key_decided = record { no_memory = λ e. cc; no_fault = λ e. cc }
 
+snapshot_decided : IsDecided NoSuchSnapshot
+snapshot_decided = record { no_memory = λ e. cc; no_fault = λ e. cc }
+
+snapshots_decided : IsDecided TooManySnapshots
+snapshots_decided = record { no_memory = λ e. cc; no_fault = λ e. cc }
+
+range_decided : IsDecided BadRange
+range_decided = record { no_memory = λ e. cc; no_fault = λ e. cc }
+
+limit_decided : IsDecided BadLimit
+limit_decided = record { no_memory = λ e. cc; no_fault = λ e. cc }
+
 none_left : (x : Refusal) → None ≡ Some x → IsDecided x
 none_left x is = absurd (some_none x (sym is))
 
@@ -78,7 +90,10 @@ all_decided : (s : State) (call : Call) → AllByRecursion Decided (refusals s c
 all_decided s (Commit batch) = (exhausted_decided, (full_decided, tt))
 all_decided s Sync = tt
 all_decided s (SyncTo number) = (batch_decided, tt)
-all_decided s (Get at key) = (key_decided, tt)
+all_decided s (Get at key) = (key_decided, (snapshot_decided, tt))
+all_decided s (Scan at from to limit) = (limit_decided, (range_decided, (snapshot_decided, tt)))
+all_decided s Snapshot = (snapshots_decided, (exhausted_decided, tt))
+all_decided s (Release number) = (snapshot_decided, tt)
 all_decided s LogRoom = tt
 
 pub refusal_decided : (s : State) (call : Call) (x : Refusal) → refusal s call ≡ Some x → IsDecided x

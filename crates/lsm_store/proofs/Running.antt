@@ -1,14 +1,14 @@
 -- Laws of calls one after another.
 use Rattle.std.proofs.Common.{◌≡◌, ⊎_elim, Bool, true, false, cond, List, [], ◌∷◌, ◌++◌, Option, Some, None, is_some, refl, ap, sym, subst, ◌∙◌}
-use Rattle.std.specs.Prelude.{Contains, IsNone, nat_lt, not}
+use Rattle.std.specs.Prelude.{Contains, IsNone}
 use Rattle.std.proofs.lemmas.List.Elements.{Contains-append_left, Contains-append_right, Contains-append_cases}
+use Rattle.std.specs.List.{AllByRecursion}
 use Rattle.lsm_device.specs.declared.refusal.Refusal.{Refusal}
-use Rattle.lsm_device.specs.declared.refusal.Refusal.TheVariants.{NoMemory, Io, Stopped, LogFull, NoSuchBatch, BadKey, Exhausted}
+use Rattle.lsm_device.specs.declared.refusal.Refusal.TheVariants.{NoMemory, Io, Stopped}
 use Rattle.lsm_open.specs.CrashState.{CrashState}
-use Rattle.lsm_store.specs.RecoveryPoints.{batch_count}
 use Rattle.lsm_store.specs.State.{State}
 use Rattle.lsm_store.specs.Calls.{Call, Reply}
-use Rattle.lsm_store.specs.Calls.{Commit, Sync, SyncTo, Get, LogRoom, Number, Done, Value, Refused}
+use Rattle.lsm_store.specs.Calls.{Commit, Sync, SyncTo, Get, Scan, Snapshot, Release, LogRoom, Number, Done, Value, Rows, Refused}
 use Rattle.lsm_store.specs.Refusals.{refusals, first_refusal, refusal}
 use Rattle.lsm_store.specs.Effects.{answer, after, decided, completed, reply_by, state_by}
 use Rattle.lsm_store.specs.Crash.{may_leave, left_inside}
@@ -65,17 +65,23 @@ IsDecided other = Unit {0}
 pub refusal_decided : (s : State) (call : Call) → IsDecided (refusal s call)
 refusal_decided s call = by (is_some s.stopped) call
   where
-    two : (a b : Bool) → IsDecided (cond a (Some Exhausted) (cond b (Some LogFull) None))
-    two true b = tt
-    two false true = tt
-    two false false = tt
+    first : (tests : List (Bool × Refusal)) → AllByRecursion (λ test. IsDecided (Some test.1)) tests → IsDecided (first_refusal tests)
+    first [] each = tt
+    first (test ∷ rest) each = one test.0 (first rest each.1)
+      where
+        one : (b : Bool) → IsDecided (first_refusal rest) → IsDecided (cond b (Some test.1) (first_refusal rest))
+        one true later = each.0
+        one false later = later
 
     by : (b : Bool) (c : Call) → IsDecided (cond b (Some Stopped) (first_refusal (refusals s c)))
     by true c = tt
-    by false (Commit batch) = two _ _
+    by false (Commit batch) = first (refusals s (Commit batch)) (tt, (tt, tt))
     by false Sync = tt
-    by false (SyncTo number) = elim (nat_lt (batch_count s.points) number) as (λ b. IsDecided (cond b (Some NoSuchBatch) None)) [ true ↦ tt | false ↦ tt ]
-    by false (Get at key) = elim (not _) as (λ b. IsDecided (cond b (Some BadKey) None)) [ true ↦ tt | false ↦ tt ]
+    by false (SyncTo number) = first (refusals s (SyncTo number)) (tt, tt)
+    by false (Get at key) = first (refusals s (Get at key)) (tt, (tt, tt))
+    by false (Scan at from to limit) = first (refusals s (Scan at from to limit)) (tt, (tt, (tt, tt)))
+    by false Snapshot = first (refusals s Snapshot) (tt, (tt, tt))
+    by false (Release number) = first (refusals s (Release number)) (tt, tt)
     by false LogRoom = tt
 
 -- what the state decides it allows, and goes on by it
@@ -85,6 +91,9 @@ module _ (s : State) where
   by_answer Sync is = (ap (reply_by s Sync) (sym is), refl)
   by_answer (SyncTo number) is = (ap (reply_by s (SyncTo number)) (sym is), refl)
   by_answer (Get at key) is = (ap (reply_by s (Get at key)) (sym is), refl)
+  by_answer (Scan at from to limit) is = (ap (reply_by s (Scan at from to limit)) (sym is), refl)
+  by_answer Snapshot is = (ap (reply_by s Snapshot) (sym is), refl)
+  by_answer (Release number) is = (ap (reply_by s (Release number)) (sym is), refl)
   by_answer LogRoom is = (ap (reply_by s LogRoom) (sym is), refl)
 
   pub by_refusal : (call : Call) (e : Refusal) → refusal s call ≡ Some e → IsDecided (Some e) → Allows s call (Refused e) × (next s call (Refused e) ≡ s)
@@ -129,6 +138,7 @@ stopped_reply s call (Refused e) is allows = allows ∙ ap (reply_by s call) is
 stopped_reply s call (Number n) is allows = allows ∙ ap (reply_by s call) is
 stopped_reply s call Done is allows = allows ∙ ap (reply_by s call) is
 stopped_reply s call (Value v) is allows = allows ∙ ap (reply_by s call) is
+stopped_reply s call (Rows page) is allows = allows ∙ ap (reply_by s call) is
 
 pub stopped_answers : (s : State) (call : Call) (reply : Reply) (others : List CrashState) → s.stopped ≡ Some others → Allows s call reply → reply ≡ Refused Stopped
 stopped_answers s call reply others is allows = stopped_reply s call reply (stopped_refusal s call others is) allows

@@ -4,6 +4,7 @@ use Rattle.lsm_codec.specs.Keys.{Bytes}
 use Rattle.lsm_codec.specs.Map.{Operation}
 use Rattle.lsm_device.specs.declared.refusal.Refusal.{Refusal}
 use Rattle.lsm_store.specs.declared.asked.At.{At}
+use Rattle.lsm_store.specs.Paging.{Page}
 
 pub data Call : Type 0 where
   -- adds a batch
@@ -14,15 +15,23 @@ pub data Call : Type 0 where
   SyncTo : ℕ → Call
   -- asks for the value of a key
   Get : At → Bytes → Call
+  -- asks for the first so many pairs from a key on, up to another key where one is given
+  Scan : At → Bytes → Option Bytes → ℕ → Call
+  -- takes a snapshot of the present map
+  Snapshot : Call
+  -- forgets the snapshot of a number
+  Release : ℕ → Call
   -- asks for the free sectors of the open log
   LogRoom : Call
 
 pub data Reply : Type 0 where
-  -- of a batch, or of sectors
+  -- of a batch, of a snapshot, or of sectors
   Number : ℕ → Reply
   Done : Reply
   -- of a key, none where it has none
   Value : Option Bytes → Reply
+  -- of a range
+  Rows : Page → Reply
   Refused : Refusal → Reply
 
 -- a result as a reply

@@ -4,7 +4,7 @@ use Rattle.lsm_open.specs.CrashState.{CrashState}
 use Rattle.lsm_store.specs.RecoveryPoints.{RecoveryPoint, recovery_points, present_point}
 use Rattle.lsm_store.specs.State.{OpenLog, State}
 use Rattle.lsm_store.specs.Calls.{Call}
-use Rattle.lsm_store.specs.Calls.{Commit, Sync, SyncTo, Get, LogRoom}
+use Rattle.lsm_store.specs.Calls.{Commit, Sync, SyncTo, Get, Scan, Snapshot, Release, LogRoom}
 use Rattle.lsm_store.specs.Refusals.{refusal}
 use Rattle.lsm_store.specs.Effects.{after}
 
@@ -42,6 +42,9 @@ left_besides s (Commit batch) = last_crash_state (after s (Commit batch)) ∷ []
 left_besides s Sync = []
 left_besides s (SyncTo number) = []
 left_besides s (Get at key) = []
+left_besides s (Scan at from to limit) = []
+left_besides s Snapshot = []
+left_besides s (Release number) = []
 left_besides s LogRoom = []
 
 -- What a crash inside a call may leave: what the state before it may leave, and what the call adds to that where
@@ -50,7 +53,7 @@ abbrev pub left_inside : State → Call → List CrashState
 left_inside s call = may_leave s ++ (if is_some (refusal s call) then [] else left_besides s call)
 
 -- The store that an opening answers on what a crash left, in a format with log regions of so many sectors. There are
--- three regions.
+-- three regions. Snapshots are gone, and are numbered from 1 again.
 abbrev pub reopened : ℕ → CrashState → State
 reopened log_sectors left = record {
   points = record { synced = left.count; first = left.map; later = [] };
@@ -58,5 +61,7 @@ reopened log_sectors left = record {
   closed = left.closed;
   open_log = if nat_lt left.closed 3 then Some (record { first = left.count + 1; used = 0 }) else None;
   generation = left.generation + 1;
+  snapshots = [];
+  next_snapshot = 1;
   stopped = None;
 }

@@ -1,13 +1,14 @@
 -- What a call answers that nothing refuses, and the state after it.
-use Rattle.std.specs.Prelude.{◌+◌, nat_le, Bool, true, false, List, Option, Some, None, option_map, if◌then◌else◌}
+use Rattle.std.specs.Prelude.{ℕ, ◌+◌, ◌==◌, nat_le, Bool, true, false, not, List, [], ◌∷◌, ◌++◌, filter, Option, Some, None, option_map, if◌then◌else◌}
 use Rattle.std.specs.FinMap as finite
 use Rattle.lsm_codec.specs.Map.{Operation}
 use Rattle.lsm_codec.specs.BatchText.{sectors_of}
 use Rattle.lsm_device.specs.declared.refusal.Refusal.{Refusal}
-use Rattle.lsm_store.specs.RecoveryPoints.{batch_count, with_batch, all_synced}
-use Rattle.lsm_store.specs.State.{OpenLog, State, map_at, log_room}
+use Rattle.lsm_store.specs.RecoveryPoints.{batch_count, present_point, with_batch, all_synced}
+use Rattle.lsm_store.specs.State.{OpenLog, LiveSnapshot, State, map_at, log_room}
+use Rattle.lsm_store.specs.Paging.{page_of}
 use Rattle.lsm_store.specs.Calls.{Call, Reply}
-use Rattle.lsm_store.specs.Calls.{Commit, Sync, SyncTo, Get, LogRoom, Number, Done, Value, Refused}
+use Rattle.lsm_store.specs.Calls.{Commit, Sync, SyncTo, Get, Scan, Snapshot, Release, LogRoom, Number, Done, Value, Rows, Refused}
 use Rattle.lsm_store.specs.Refusals.{refusal}
 
 abbrev pub answer : State → Call → Reply
@@ -15,11 +16,22 @@ answer s (Commit batch) = Number (batch_count s.points + 1)
 answer s Sync = Done
 answer s (SyncTo number) = Done
 answer s (Get at key) = Value (finite.get (map_at s at) key)
+answer s (Scan at from to limit) = Rows (page_of (map_at s at) from to limit)
+answer s Snapshot = Number s.next_snapshot
+answer s (Release number) = Done
 answer s LogRoom = Number (log_room s)
 
 -- the open log with the sectors of one batch more
 abbrev pub with_sectors : List Operation → OpenLog → OpenLog
 with_sectors batch log = record log { used = log.used + sectors_of batch }
+
+-- the present map under the next number
+abbrev pub next_taken : State → LiveSnapshot
+next_taken s = record { number = s.next_snapshot; point = present_point s.points }
+
+-- snapshots without that of a number
+abbrev pub without : ℕ → List LiveSnapshot → List LiveSnapshot
+without number snapshots = filter (λ snapshot. not (snapshot.number == number)) snapshots
 
 -- the state after that answer
 abbrev pub after : State → Call → State
@@ -27,6 +39,9 @@ after s (Commit batch) = record s { points = with_batch s.points batch; open_log
 after s Sync = record s { points = all_synced s.points }
 after s (SyncTo number) = if nat_le number s.points.synced then s else record s { points = all_synced s.points }
 after s (Get at key) = s
+after s (Scan at from to limit) = s
+after s Snapshot = record s { snapshots = s.snapshots ++ next_taken s ∷ []; next_snapshot = s.next_snapshot + 1 }
+after s (Release number) = record s { snapshots = without number s.snapshots }
 after s LogRoom = s
 
 abbrev pub reply_by : State → Call → Option Refusal → Reply
@@ -51,6 +66,9 @@ takes_memory (Commit batch) = true
 takes_memory Sync = false
 takes_memory (SyncTo number) = false
 takes_memory (Get at key) = true
+takes_memory (Scan at from to limit) = true
+takes_memory Snapshot = true
+takes_memory (Release number) = false
 takes_memory LogRoom = false
 
 -- what a call that nothing refuses may do with the device
@@ -67,4 +85,7 @@ use_of s (Commit batch) = Changes
 use_of s Sync = Changes
 use_of s (SyncTo number) = if nat_le number s.points.synced then Untouched else Changes
 use_of s (Get at key) = Reads
+use_of s (Scan at from to limit) = Reads
+use_of s Snapshot = Untouched
+use_of s (Release number) = Untouched
 use_of s LogRoom = Untouched

@@ -1,4 +1,5 @@
 pub mod RecoveryPoints
+pub mod Paging
 pub mod State
 pub mod Calls
 pub mod Refusals
@@ -10,5 +11,6 @@ pub mod Lives
 pub mod Stored
 pub mod Backing
 pub mod Serving
+pub mod LiveMarks
 pub mod Memory
 pub mod Appending

@@ -1,7 +1,9 @@
 -- The state that a store's memory stands for.
-use Rattle.std.specs.Prelude.{◌≡◌, ◌≤◌, ◌^◌, ℕ, zero, suc, ◌+◌, ◌-◌, ◌*◌, List, [], ◌∷◌, length, Option, Some, None, option_map, Bool, ◌&&◌, nat_le}
+use Rattle.std.specs.Prelude.{◌≡◌, ◌≤◌, ◌^◌, ℕ, zero, suc, ◌+◌, ◌-◌, ◌*◌, List, [], ◌∷◌, length, map, Result, MatchResult, Option, Some, None, option_map, Bool, ◌&&◌, nat_le}
+use Rattle.std.specs.List.{AllByRecursion}
 use Rattle.lsm_codec.specs.Map.{Map}
 use Rattle.lsm_device.specs.Medium.{Medium}
+use Rattle.lsm_device.specs.declared.refusal.Refusal.{Refusal}
 use Rattle.lsm_mem.specs.Versions.{Version, NumberedBelow, map_of}
 use Rattle.lsm_open.specs.declared.regions.OpenRegion.{OpenRegion}
 use Rattle.lsm_open.specs.CrashState.{CrashState}
@@ -10,8 +12,13 @@ use Rattle.lsm_open.specs.Layout.{layout_of}
 use Rattle.lsm_store.specs.declared.memory.Status.{Status}
 use Rattle.lsm_store.specs.declared.memory.Status.TheVariants.{Running, StoppedInCommit, StoppedInSync}
 use Rattle.lsm_store.specs.declared.memory.Memory.{Memory}
+use Rattle.lsm_store.specs.declared.snapshots.Mark.{Mark}
+use Rattle.lsm_store.specs.LiveMarks.{marks}
 use Rattle.lsm_store.specs.RecoveryPoints.{RecoveryPoints}
-use Rattle.lsm_store.specs.State.{State}
+use Rattle.lsm_store.specs.State.{State, LiveSnapshot, map_at}
+use Rattle.lsm_store.specs.declared.asked.At.{At}
+use Rattle.lsm_store.specs.Calls.{Call}
+use Rattle.lsm_store.specs.Refusals.{refusal}
 use Rattle.lsm_store.specs.Crash.{crash_state_at}
 use Rattle.lsm_store.specs.Stored.{open_log_of}
 use Rattle.lsm_store.specs.Backing.{StoreView}
@@ -25,6 +32,10 @@ maps_from versions from (suc more) = map_of versions from ∷ maps_from versions
 abbrev pub points_of : List Version → ℕ → ℕ → RecoveryPoints
 points_of versions count synced = record { synced = synced; first = map_of versions synced; later = maps_from versions (suc synced) (count - synced) }
 
+-- the snapshot that a mark stands for: its map is that of the versions at its count
+abbrev pub snapshot_at : List Version → Mark → LiveSnapshot
+snapshot_at versions mark = record { number = mark.number; point = record { count = mark.count; map = map_of versions mark.count } }
+
 -- the state while the store runs
 abbrev pub running_state : {A : Type 0} → Memory A → State
 running_state memory = record {
@@ -33,6 +44,8 @@ running_state memory = record {
   closed = length memory.regions.closed.items;
   open_log = option_map open_log_of memory.regions.open_region;
   generation = memory.regions.generation;
+  snapshots = map (snapshot_at memory.mem) (marks memory.snapshots);
+  next_snapshot = memory.snapshots.next;
   stopped = None;
 }
 
@@ -71,7 +84,12 @@ pub record IsCurrent {A : Type 0} (memory : Memory A) : Type 0 where
 pub record AreConsistent {A : Type 0} (memory : Memory A) : Type 0 where
   pub synced : memory.synced ≤ memory.count
   pub count : memory.count ≤ 2 ^ 63
+  pub snapshots : AllByRecursion (λ mark. mark.count ≤ memory.count) (marks memory.snapshots)
   pub current : memory.status ≡ Running → IsCurrent memory
+
+-- A read asks the map at a count of batches, or is refused.
+abbrev pub MayRead : {A : Type 0} → Memory A → Call → At → Result ℕ Refusal → Type 0
+MayRead memory call at result = MatchResult result (λ count. (refusal (state_of memory) call ≡ None) × (map_of memory.mem count ≡ map_at (state_of memory) at)) (λ e. refusal (state_of memory) call ≡ Some e)
 
 -- the log regions lie on a device of so many sectors
 abbrev pub IsInside : {A : Type 0} → ℕ → Memory A → Type 0

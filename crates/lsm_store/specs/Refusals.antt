@@ -1,20 +1,32 @@
 -- When the state refuses a call, and with which refusal.
-use Rattle.std.specs.Prelude.{◌==◌, nat_lt, Bool, not, is_some, List, [], ◌∷◌, Option, Some, None, if◌then◌else◌}
+use Rattle.std.specs.Prelude.{ℕ, ◌==◌, nat_le, nat_lt, ◌&&◌, Bool, not, is_some, List, [], ◌∷◌, length, Option, Some, None, if◌then◌else◌}
 use Rattle.lsm_codec.specs.BatchText.{is_key}
 use Rattle.lsm_device.specs.declared.refusal.Refusal.{Refusal}
-use Rattle.lsm_device.specs.declared.refusal.Refusal.TheVariants.{Stopped, LogFull, NoSuchBatch, BadKey, Exhausted}
+use Rattle.lsm_device.specs.declared.refusal.Refusal.TheVariants.{Stopped, LogFull, NoSuchSnapshot, TooManySnapshots, NoSuchBatch, BadKey, BadRange, Exhausted, BadLimit}
 use Rattle.lsm_open.specs.CrashState.{last_number}
 use Rattle.lsm_store.specs.RecoveryPoints.{batch_count}
-use Rattle.lsm_store.specs.State.{State, fits}
+use Rattle.lsm_store.specs.State.{State, snapshot_of, may_ask, fits}
+use Rattle.lsm_store.specs.Paging.{is_backwards}
 use Rattle.lsm_store.specs.Calls.{Call}
-use Rattle.lsm_store.specs.Calls.{Commit, Sync, SyncTo, Get, LogRoom}
+use Rattle.lsm_store.specs.Calls.{Commit, Sync, SyncTo, Get, Scan, Snapshot, Release, LogRoom}
+
+-- how many snapshots may be live
+abbrev pub most_snapshots : ℕ
+most_snapshots = 32
+
+-- how many rows a page may be asked to have
+abbrev pub is_limit : ℕ → Bool
+is_limit rows = nat_le 1 rows && nat_le rows 64
 
 -- the refusals of a running store in their order, each with its condition
 abbrev pub refusals : State → Call → List (Bool × Refusal)
 refusals s (Commit batch) = (batch_count s.points == last_number, Exhausted) ∷ (not (fits s batch), LogFull) ∷ []
 refusals s Sync = []
 refusals s (SyncTo number) = (nat_lt (batch_count s.points) number, NoSuchBatch) ∷ []
-refusals s (Get at key) = (not (is_key key), BadKey) ∷ []
+refusals s (Get at key) = (not (is_key key), BadKey) ∷ (not (may_ask s at), NoSuchSnapshot) ∷ []
+refusals s (Scan at from to limit) = (not (is_limit limit), BadLimit) ∷ (is_backwards from to, BadRange) ∷ (not (may_ask s at), NoSuchSnapshot) ∷ []
+refusals s Snapshot = (nat_le most_snapshots (length s.snapshots), TooManySnapshots) ∷ (nat_lt last_number s.next_snapshot, Exhausted) ∷ []
+refusals s (Release number) = (not (is_some (snapshot_of s number)), NoSuchSnapshot) ∷ []
 refusals s LogRoom = []
 
 -- the first whose condition holds

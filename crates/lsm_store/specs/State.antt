@@ -1,16 +1,22 @@
 -- The states of a store, as a map that answers calls and outlives crashes.
-use Rattle.std.specs.Prelude.{ℕ, ◌+◌, ◌-◌, nat_le, Bool, false, List, Option, Some, None}
+use Rattle.std.specs.Prelude.{ℕ, ◌+◌, ◌-◌, ◌==◌, nat_le, Bool, true, false, is_some, List, Option, Some, None, find}
+use Rattle.std.specs.FinMap as finite
 use Rattle.lsm_codec.specs.Map.{Map, Operation}
 use Rattle.lsm_codec.specs.BatchText.{sectors_of}
 use Rattle.lsm_open.specs.CrashState.{CrashState}
-use Rattle.lsm_store.specs.RecoveryPoints.{RecoveryPoints, present_map}
+use Rattle.lsm_store.specs.RecoveryPoints.{RecoveryPoint, RecoveryPoints, present_map}
 use Rattle.lsm_store.specs.declared.asked.At.{At}
-use Rattle.lsm_store.specs.declared.asked.At.TheVariants.{Now}
+use Rattle.lsm_store.specs.declared.asked.At.TheVariants.{Now, Snap}
 
 -- The open log: the number that its first batch has or will have, and the sectors used.
 pub record OpenLog : Type 0 where
   pub first : ℕ
   pub used : ℕ
+
+-- A live snapshot: its number, and the count of batches with the map after them, as they were when it was taken.
+pub record LiveSnapshot : Type 0 where
+  pub number : ℕ
+  pub point : RecoveryPoint
 
 pub record State : Type 0 where
   pub points : RecoveryPoints
@@ -20,12 +26,30 @@ pub record State : Type 0 where
   pub closed : ℕ
   pub open_log : Option OpenLog
   pub generation : ℕ
+  -- the live snapshots, the oldest first
+  pub snapshots : List LiveSnapshot
+  -- the number of the next snapshot
+  pub next_snapshot : ℕ
   -- none while it runs; else what the call that stopped it may have left beside the recovery points
   pub stopped : Option (List CrashState)
+
+-- the live snapshot of a number
+abbrev pub snapshot_of : State → ℕ → Option LiveSnapshot
+snapshot_of s number = find (λ snapshot. snapshot.number == number) s.snapshots
+
+-- whether a read may ask it: a snapshot has to be live
+abbrev pub may_ask : State → At → Bool
+may_ask s Now = true
+may_ask s (Snap number) = is_some (snapshot_of s number)
+
+abbrev pub map_of_snapshot : Option LiveSnapshot → Map
+map_of_snapshot (Some snapshot) = snapshot.point.map
+map_of_snapshot None = finite.empty
 
 -- the map that a read asks
 abbrev pub map_at : State → At → Map
 map_at s Now = present_map s.points
+map_at s (Snap number) = map_of_snapshot (snapshot_of s number)
 
 abbrev pub room_in : ℕ → Option OpenLog → ℕ
 room_in log_sectors (Some log) = log_sectors - log.used

@@ -18,7 +18,8 @@ pub fn crash_keeps_a_beginning()
         → length (in_flight calls replies) ≤ 1 }
 {}
 
-/// And so it is however often the device is stopped and opened again.
+/// And so it is however often the device is stopped and opened again: each opening gives the map after the batches that
+/// were kept, and each life keeps a beginning of these, of those accepted in it and of the one in flight.
 pub fn crashes_keep_beginnings()
     ensures { PromiseOverLives }
 {}

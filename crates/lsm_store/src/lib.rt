@@ -7,7 +7,9 @@ mod device_law;
 mod law;
 mod memory;
 mod opening;
+mod page;
 mod serve;
+mod snapshots;
 mod store;
 
 pub use asked::At;
@@ -16,4 +18,5 @@ pub use law::{
     ample_calls_run, crash_keeps_a_beginning, crash_states_go_on, crashes_keep_beginnings,
     runs_join, stopped_refuses,
 };
+pub use page::{Page, Row};
 pub use store::Store;

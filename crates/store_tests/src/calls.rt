@@ -3,7 +3,6 @@
 use crate::setup::{fresh, has, put};
 use lsm_codec::{Batch, Op};
 use lsm_device::Refusal;
-use lsm_store::At;
 use std::test::Fail;
 
 #[test]
@@ -82,11 +81,8 @@ fn keys_and_values_have_limits(rt: HostRuntime) -> Result<(), Fail> {
         Op::put(rt.alloc(), b"k", &long).map(|_| ()),
         Err(Refusal::BadValue)
     );
-    assert_eq!(rt; store.get(At::Now, b"").map(|_| ()), Err(Refusal::BadKey));
-    assert_eq!(rt;
-        store.get(At::Now, &long[..256]).map(|_| ()),
-        Err(Refusal::BadKey)
-    );
+    assert_eq!(rt; store.get(b"").map(|_| ()), Err(Refusal::BadKey));
+    assert_eq!(rt; store.get(&long[..256]).map(|_| ()), Err(Refusal::BadKey));
     store.commit(&put(rt.alloc(), b"k", b"")?)?;
     assert!(rt; has(&mut store, b"k", Some(b""))?);
     Ok(())

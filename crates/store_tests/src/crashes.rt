@@ -1,8 +1,7 @@
 //! What crashes leave.
 
-use crate::setup::{CACHE, SECTORS, formatted, fresh, has, opened, put};
+use crate::setup::{CACHE, SECTORS, Subject, crash, formatted, fresh, has, open, opened, put};
 use lsm_device::{Device, MemDevice, Refusal};
-use lsm_store::{At, Store};
 use std::alloc::Global;
 use std::test::Fail;
 
@@ -15,9 +14,9 @@ fn three_sectors_pend(alloc: Global) -> Result<MemDevice, Fail> {
 }
 
 // How many of those two batches the store holds, if it holds a beginning.
-fn batches_held(store: &mut Store<MemDevice>) -> Result<u8, Refusal> {
-    let first = store.get(At::Now, b"\x61")?.is_some();
-    let second = store.get(At::Now, b"\x62")?.is_some();
+fn batches_held(store: &mut Subject) -> Result<u8, Refusal> {
+    let first = store.get(b"\x61")?.is_some();
+    let second = store.get(b"\x62")?.is_some();
     Ok(match (first, second) {
         (false, false) => 0,
         (true, false) => 1,
@@ -40,7 +39,7 @@ fn a_torn_batch_is_dropped(rt: HostRuntime) -> Result<(), Fail> {
         ([true, true, true], 2),
     ];
     for (mask, held) in rows {
-        let device = three_sectors_pend(rt.alloc())?.crash(&mask);
+        let device = crash(three_sectors_pend(rt.alloc())?, &mask);
         let mut store = opened(rt.alloc(), device)?;
         assert_eq!(rt; batches_held(&mut store)?, held);
     }
@@ -54,14 +53,14 @@ fn a_region_is_not_continued_under_its_old_epoch(rt: HostRuntime) -> Result<(), 
     store.commit(&put(alloc, b"\x61", b"\x31")?)?;
     store.commit(&put(alloc, b"\x62", b"\x41")?)?;
     store.commit(&put(alloc, b"\x63", b"\x33")?)?;
-    let device = store.into_device().crash(&[true, false, true]);
+    let device = store.crash(&[true, false, true]);
     let mut store = opened(alloc, device)?;
     assert!(rt; has(&mut store, b"\x61", Some(b"\x31"))?);
     assert!(rt; has(&mut store, b"\x62", None)?);
     assert!(rt; has(&mut store, b"\x63", None)?);
     assert_eq!(rt; store.commit(&put(alloc, b"\x62", b"\x32")?), Ok(2));
     store.sync()?;
-    let mut store = opened(alloc, store.into_device().crash(&[]))?;
+    let mut store = opened(alloc, store.crash(&[]))?;
     assert!(rt; has(&mut store, b"\x61", Some(b"\x31"))?);
     assert!(rt; has(&mut store, b"\x62", Some(b"\x32"))?);
     assert!(rt; has(&mut store, b"\x63", None)?);
@@ -79,7 +78,7 @@ fn one_of_two_is_synced(alloc: Global) -> Result<MemDevice, Fail> {
 
 #[test]
 fn what_was_synced_is_kept(rt: HostRuntime) -> Result<(), Fail> {
-    let mut store = opened(rt.alloc(), one_of_two_is_synced(rt.alloc())?.crash(&[]))?;
+    let mut store = opened(rt.alloc(), crash(one_of_two_is_synced(rt.alloc())?, &[]))?;
     assert_eq!(rt; batches_held(&mut store)?, 1);
     Ok(())
 }
@@ -100,7 +99,7 @@ fn a_sync_to_the_last_batch_keeps_it(rt: HostRuntime) -> Result<(), Fail> {
     let syncs = store.syncs();
     store.sync_to(2)?;
     assert_eq!(rt; store.syncs(), syncs.wrapping_add(1));
-    let mut store = opened(rt.alloc(), store.into_device().crash(&[]))?;
+    let mut store = opened(rt.alloc(), store.crash(&[]))?;
     assert_eq!(rt; batches_held(&mut store)?, 2);
     Ok(())
 }
@@ -111,18 +110,18 @@ fn an_opening_may_fail_at_each_write_and_sync(rt: HostRuntime) -> Result<(), Fai
     // Five writes and syncs: with so many left of them the opening fails, and any mask leaves the batch.
     for fuse in 0..5u64 {
         for bits in 0..4u8 {
-            let mut device = one_of_two_is_synced(alloc)?.crash(&[]);
+            let mut device = crash(one_of_two_is_synced(alloc)?, &[]);
             device.fuse(fuse);
-            let Err((refusal, device)) = Store::open(alloc, device, CACHE) else {
+            let Err((refusal, device)) = open(alloc, device, CACHE) else {
                 return Err(Fail::from("it opened"));
             };
             assert_eq!(rt; refusal, Refusal::Io);
-            let device = device.crash(&[bits & 1 == 1, bits & 2 == 2]);
+            let device = crash(device, &[bits & 1 == 1, bits & 2 == 2]);
             let mut store = opened(alloc, device)?;
             assert_eq!(rt; batches_held(&mut store)?, 1);
         }
     }
-    let mut device = one_of_two_is_synced(alloc)?.crash(&[]);
+    let mut device = crash(one_of_two_is_synced(alloc)?, &[]);
     device.fuse(5);
     let mut store = opened(alloc, device)?;
     assert_eq!(rt; batches_held(&mut store)?, 1);
@@ -139,10 +138,7 @@ fn a_faulting_sync_stops_the_store(rt: HostRuntime) -> Result<(), Fail> {
     store.commit(&put(alloc, b"\x62", b"\x32")?)?;
     store.fuse(0);
     assert_eq!(rt; store.sync(), Err(Refusal::Io));
-    assert_eq!(rt;
-        store.get(At::Now, b"\x61").map(|_| ()),
-        Err(Refusal::Stopped)
-    );
+    assert_eq!(rt; store.get(b"\x61").map(|_| ()), Err(Refusal::Stopped));
     assert_eq!(rt;
         store.commit(&put(alloc, b"\x63", b"\x33")?),
         Err(Refusal::Stopped)
@@ -151,7 +147,7 @@ fn a_faulting_sync_stops_the_store(rt: HostRuntime) -> Result<(), Fail> {
     assert_eq!(rt; store.sync(), Err(Refusal::Stopped));
     assert_eq!(rt; store.log_room(), Err(Refusal::Stopped));
     let device = store.into_device();
-    let mut none = opened(alloc, device.crash(&[]))?;
+    let mut none = opened(alloc, crash(device, &[]))?;
     assert_eq!(rt; batches_held(&mut none)?, 1);
     Ok(())
 }
@@ -173,7 +169,7 @@ fn a_faulting_commit_stops_the_store(rt: HostRuntime) -> Result<(), Fail> {
                 store.commit(&put(alloc, b"\x63", b"\x33")?),
                 Err(Refusal::Stopped)
             );
-            let mut store = opened(alloc, store.into_device().crash(&[keeps, keeps]))?;
+            let mut store = opened(alloc, store.crash(&[keeps, keeps]))?;
             // The write that faulted pends, so the whole batch may be there where that was its last.
             let held = if keeps && fuse == 1 { 2 } else { 1 };
             assert_eq!(rt; batches_held(&mut store)?, held);
@@ -190,7 +186,7 @@ fn three_lives_fill_the_regions(rt: HostRuntime) -> Result<(), Fail> {
         let mut store = opened(alloc, device)?;
         assert_eq!(rt; store.commit(&put(alloc, key, b"\x31")?), Ok(number));
         store.sync()?;
-        device = store.into_device().crash(&[]);
+        device = store.crash(&[]);
     }
     let mut store = opened(alloc, device)?;
     assert_eq!(rt; store.log_room(), Ok(0));
@@ -204,29 +200,45 @@ fn three_lives_fill_the_regions(rt: HostRuntime) -> Result<(), Fail> {
     Ok(())
 }
 
+// How the opening of a device is refused, if it is.
+fn refused(alloc: Global, device: MemDevice, cache: u32) -> Option<Refusal> {
+    match open(alloc, device, cache) {
+        Ok(_) => None,
+        Err((refusal, _)) => Some(refusal),
+    }
+}
+
+// A formatted device whose first sector was overwritten.
+fn damaged(alloc: Global) -> Result<MemDevice, Fail> {
+    let mut device = formatted(alloc)?;
+    if device.sectors() > 0 {
+        device.write(0, &[255; 512])?;
+    }
+    Ok(device)
+}
+
+#[test]
+fn a_cache_has_limits(rt: HostRuntime) -> Result<(), Fail> {
+    let alloc = rt.alloc();
+    assert_eq!(rt;
+        refused(alloc, formatted(alloc)?, 0),
+        Some(Refusal::BadLimit)
+    );
+    assert_eq!(rt;
+        refused(alloc, formatted(alloc)?, 4_097),
+        Some(Refusal::BadLimit)
+    );
+    assert_eq!(rt; refused(alloc, formatted(alloc)?, 4_096), None);
+    Ok(())
+}
+
 #[test]
 fn only_a_store_opens(rt: HostRuntime) -> Result<(), Fail> {
     let alloc = rt.alloc();
-    let refused = |device: MemDevice, cache: u32| -> Option<Refusal> {
-        match Store::open(alloc, device, cache) {
-            Ok(_) => None,
-            Err((refusal, _)) => Some(refusal),
-        }
-    };
-    assert_eq!(rt; refused(formatted(alloc)?, 0), Some(Refusal::BadLimit));
-    assert_eq!(rt; refused(formatted(alloc)?, 4_097), Some(Refusal::BadLimit));
-    assert_eq!(rt; refused(formatted(alloc)?, 4_096), None);
-    assert_eq!(rt;
-        refused(MemDevice::new(alloc, 8_191)?, 1),
-        Some(Refusal::BadGeometry)
-    );
-    assert_eq!(rt;
-        refused(MemDevice::new(alloc, 8_192)?, 1),
-        Some(Refusal::NotAStore)
-    );
-    let mut device = formatted(alloc)?;
-    assert_eq!(rt; device.sectors(), SECTORS);
-    device.write(0, &[255; 512])?;
-    assert_eq!(rt; refused(device, 1), Some(Refusal::BadSuper));
+    let small = MemDevice::new(alloc, 8_191)?;
+    assert_eq!(rt; refused(alloc, small, 1), Some(Refusal::BadGeometry));
+    let blank = MemDevice::new(alloc, SECTORS)?;
+    assert_eq!(rt; refused(alloc, blank, 1), Some(Refusal::NotAStore));
+    assert_eq!(rt; refused(alloc, damaged(alloc)?, 1), Some(Refusal::BadSuper));
     Ok(())
 }

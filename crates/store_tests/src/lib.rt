@@ -9,3 +9,5 @@ mod crashes;
 mod growth;
 #[cfg(test)]
 mod setup;
+#[cfg(test)]
+mod snapshots;

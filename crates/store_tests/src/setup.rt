@@ -3,7 +3,7 @@
 use lsm_codec::{Batch, Op};
 use lsm_device::{MemDevice, Refusal};
 use lsm_open::format;
-use lsm_store::{At, Store};
+use lsm_store::{At, Page, Store};
 use std::alloc::Global;
 use std::test::Fail;
 
@@ -20,13 +20,98 @@ pub fn formatted(alloc: Global) -> Result<MemDevice, Fail> {
     format(alloc, device, LOG_SECTORS).map_err(|(refusal, _)| Fail::from(refusal.name()))
 }
 
+/// A store whose calls tell the prover nothing, so that it has nothing to carry from one line of a test to the next.
+#[derive(Drop)]
+pub struct Subject {
+    store: Store<MemDevice>,
+}
+
+impl Subject {
+    pub fn commit(&mut self, batch: &Batch) -> Result<u64, Refusal> {
+        self.store.commit(batch)
+    }
+
+    pub fn sync(&mut self) -> Result<(), Refusal> {
+        self.store.sync()
+    }
+
+    pub fn sync_to(&mut self, number: u64) -> Result<(), Refusal> {
+        self.store.sync_to(number)
+    }
+
+    pub fn get(&mut self, key: &[u8]) -> Result<Option<Vec<u8>>, Refusal> {
+        self.store.get(At::Now, key)
+    }
+
+    pub fn get_at(&mut self, at: At, key: &[u8]) -> Result<Option<Vec<u8>>, Refusal> {
+        self.store.get(at, key)
+    }
+
+    pub fn scan(
+        &mut self,
+        at: At,
+        from: &[u8],
+        to: Option<&[u8]>,
+        limit: u64,
+    ) -> Result<Page, Refusal> {
+        self.store.scan(at, from, to, limit)
+    }
+
+    pub fn snapshot(&mut self) -> Result<u64, Refusal> {
+        self.store.snapshot()
+    }
+
+    pub fn release(&mut self, number: u64) -> Result<(), Refusal> {
+        self.store.release(number)
+    }
+
+    pub fn log_room(&self) -> Result<u32, Refusal> {
+        self.store.log_room()
+    }
+
+    pub fn fuse(&mut self, n: u64) {
+        self.store.fuse(n);
+    }
+
+    pub fn writes(&self) -> u64 {
+        self.store.writes()
+    }
+
+    pub fn syncs(&self) -> u64 {
+        self.store.syncs()
+    }
+
+    /// The device, without a crash.
+    pub fn into_device(self) -> MemDevice {
+        self.store.into_device()
+    }
+
+    /// The device after a crash that keeps these pending writes.
+    pub fn crash(self, keep: &[bool]) -> MemDevice {
+        crash(self.store.into_device(), keep)
+    }
+}
+
+/// A device after a crash that keeps these pending writes.
+pub fn crash(device: MemDevice, keep: &[bool]) -> MemDevice {
+    device.crash(keep)
+}
+
+/// Opens the store on a device.
+pub fn open(alloc: Global, device: MemDevice, cache: u32) -> Result<Subject, (Refusal, MemDevice)> {
+    match Store::open(alloc, device, cache) {
+        Ok(store) => Ok(Subject { store }),
+        Err(refused) => Err(refused),
+    }
+}
+
 /// The store on a device.
-pub fn opened(alloc: Global, device: MemDevice) -> Result<Store<MemDevice>, Fail> {
-    Store::open(alloc, device, CACHE).map_err(|(refusal, _)| Fail::from(refusal.name()))
+pub fn opened(alloc: Global, device: MemDevice) -> Result<Subject, Fail> {
+    open(alloc, device, CACHE).map_err(|(refusal, _)| Fail::from(refusal.name()))
 }
 
 /// The store on a formatted device.
-pub fn fresh(alloc: Global) -> Result<Store<MemDevice>, Fail> {
+pub fn fresh(alloc: Global) -> Result<Subject, Fail> {
     opened(alloc, formatted(alloc)?)
 }
 
@@ -36,12 +121,8 @@ pub fn put(alloc: Global, key: &[u8], value: &[u8]) -> Result<Batch, Refusal> {
 }
 
 /// Whether a key has this value now, or none.
-pub fn has(
-    store: &mut Store<MemDevice>,
-    key: &[u8],
-    value: Option<&[u8]>,
-) -> Result<bool, Refusal> {
-    let found = store.get(At::Now, key)?;
+pub fn has(store: &mut Subject, key: &[u8], value: Option<&[u8]>) -> Result<bool, Refusal> {
+    let found = store.get(key)?;
     Ok(match (found, value) {
         (Some(found), Some(value)) => found.as_slice() == value,
         (None, None) => true,
