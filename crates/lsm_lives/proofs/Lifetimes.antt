@@ -1,0 +1,141 @@
+-- Lives one after another.
+use Rattle.std.proofs.Common.{◌≡◌, ◌≢◌, ◌⊎◌, ◌<◌, ◌≤◌, inl, inr, ℕ, suc, ◌+◌, true, List, [], ◌∷◌, ◌++◌, length, map, get_or, take, drop, set, replicate, refl, ap, sym, subst, ◌∙◌, arith}
+use Rattle.std.specs.Prelude.{Contains, IsNone, vec_len, vec_capacity}
+use Rattle.std.specs.declared.vec.Vec.{Vec}
+use Rattle.std.proofs.lemmas.List.{drop_more, take_more, take_more_set, drop-set-lt, map_push}
+use Rattle.lsm_codec.specs.Map.{Operation}
+use Rattle.lsm_device.specs.Disk.{Disk, image}
+use Rattle.lsm_device.specs.Medium.{disk}
+use Rattle.lsm_device.specs.Outcomes.{Leaves}
+use Rattle.lsm_device.proofs.Outcomes.{seen_outcome}
+use Rattle.lsm_open.specs.CrashState.{CrashState}
+use Rattle.lsm_open.specs.Image.{IsImage, IsImageOfOne}
+use Rattle.lsm_store.specs.Backing.{StoreView, IsBacked}
+use Rattle.lsm_store.specs.Calls.{Call, Reply}
+use Rattle.lsm_store.specs.Crash.{may_leave, last_crash_state}
+use Rattle.lsm_store.specs.Lives.{Life, Lives, IsAfter}
+use Rattle.lsm_store.proofs.Lifelong.{promise_over_lives}
+use Rattle.lsm_lives.specs.Calls.{call_of, reply_of}
+use Rattle.lsm_lives.specs.declared.calls.Reply.{Reply as Told}
+use Rattle.lsm_lives.specs.declared.living.Life.{Life as Given}
+use Rattle.lsm_lives.specs.Living.{calls_of, replies_of, Holds, AfterCrash, AreLived, KeepPromise, HavePlaces, others_after}
+
+-- ---- places
+
+pub length-places : {A : Type 0} (lives : List (Given A)) (places : List (Vec (Told A) A)) → HavePlaces lives places → length places ≡ length lives
+length-places [] [] have = refl
+length-places (life ∷ lives) (place ∷ places) have = ap suc (length-places lives places have.2)
+length-places [] (place ∷ places) have = absurd have
+length-places (life ∷ lives) [] have = absurd have
+
+module _ {A : Type 0} (life : Given A) (place : Vec (Told A) A) (none : place.items ≡ []) (room : vec_len life.steps + 1 ≤ vec_capacity place) where
+  one_place_more : (lives : List (Given A)) (places : List (Vec (Told A) A)) → HavePlaces lives places → HavePlaces (lives ++ life ∷ []) (places ++ place ∷ [])
+  one_place_more [] [] have = (none, room, tt)
+  one_place_more (first ∷ lives) (its ∷ places) have = (have.0, have.1, one_place_more lives places have.2)
+  one_place_more [] (its ∷ places) have = absurd have
+  one_place_more (first ∷ lives) [] have = absurd have
+
+-- a life more has its place
+pub place_made : {A : Type 0} (lives : List (Given A)) (places after : List (Vec (Told A) A)) (i : ℕ) (life : Given A) (place : Vec (Told A) A)
+    → i < length lives → life ≡ get_or lives i life → after ≡ places ++ place ∷ [] → place.items ≡ [] → vec_len life.steps + 1 ≤ vec_capacity place
+    → HavePlaces (take i lives) places → HavePlaces (take (i + 1) lives) after
+place_made {A} lives places after i life place within is pushed none room have =
+    subst (λ (l : List (Given A)). HavePlaces l after) (sym (take_more lives i life within ∙ ap (λ (l : Given A). take i lives ++ l ∷ []) (sym is)))
+    (subst (HavePlaces (take i lives ++ life ∷ [])) (sym pushed) (one_place_more life place none room (take i lives) places have))
+
+-- a place was taken
+pub places_left : {A : Type 0} (lives : List (Given A)) (places : List (Vec (Told A) A)) (i : ℕ) (life : Given A) (new : Vec (Told A) A)
+    → i < length lives → i < length places → life ≡ get_or lives i life
+    → HavePlaces (drop i lives) (drop i places) → HavePlaces (drop (i + 1) lives) (drop (i + 1) (set places i new))
+places_left {A} lives places i life new in_lives in_places is have =
+    let all = subst (λ (l : List (Vec (Told A) A)). HavePlaces (get_or lives i life ∷ drop (i + 1) lives) l) (drop_more places i new in_places)
+    (subst (λ (l : List (Given A)). HavePlaces l (drop i places)) (drop_more lives i life in_lives) have) in
+    subst (HavePlaces (drop (i + 1) lives)) (sym (drop-set-lt (i + 1) places i new (omega arith))) all.2
+
+-- ---- one life more
+
+pub calls_more : {A : Type 0} (lives : List (Given A)) (i : ℕ) (life : Given A) → i < length lives → life ≡ get_or lives i life
+    → calls_of (take (i + 1) lives) ≡ calls_of (take i lives) ++ map call_of life.steps.items ∷ []
+calls_more {A} lives i life within is =
+    ap (λ (l : List (Given A)). calls_of l) (take_more lives i life within ∙ ap (λ (l : Given A). take i lives ++ l ∷ []) (sym is))
+    ∙ map_push (λ (l : Given A). map call_of l.steps.items) (take i lives) life
+
+pub replies_more : {A : Type 0} (places : List (Vec (Told A) A)) (i : ℕ) (new : Vec (Told A) A) → i < length places
+    → replies_of (take (i + 1) (set places i new)) ≡ replies_of (take i places) ++ map reply_of new.items ∷ []
+replies_more {A} places i new within =
+    ap (λ (l : List (Vec (Told A) A)). replies_of l) (take_more_set places i new within) ∙ map_push (λ (v : Vec (Told A) A). map reply_of v.items) (take i places) new
+
+no_others : (lives : List (List Call)) → others_after [] lives ≡ []
+no_others [] = refl
+no_others (calls ∷ lives) = refl
+
+none_behind : (others : List CrashState) (lives : List (List Call)) (calls : List Call) → others_after others (lives ++ calls ∷ []) ≡ []
+none_behind others [] calls = refl
+none_behind others (first ∷ lives) calls = refl
+
+module _ (log_sectors : ℕ) (calls : List Call) (replies : List Reply) where
+  life_behind : (opened : CrashState) (others : List CrashState) (lives : List (List Call)) (answers : List (List Reply)) (mid left : CrashState)
+      → Lives log_sectors opened others lives answers mid → Life log_sectors mid (others_after others lives) calls replies left
+      → Lives log_sectors opened others (lives ++ calls ∷ []) (answers ++ replies ∷ []) left
+  life_behind opened others [] [] mid left same life = (left, subst (λ (o : CrashState). Life log_sectors o others calls replies left) same life, refl)
+  life_behind opened others (first ∷ lives) (its ∷ answers) mid left (next, one, rest) life =
+      (next, one, life_behind next [] lives answers mid left rest (subst (λ (os : List CrashState). Life log_sectors mid os calls replies left) (sym (no_others lives)) life))
+  life_behind opened others [] (its ∷ answers) mid left h life = absurd h
+  life_behind opened others (first ∷ lives) [] mid left h life = absurd h
+
+  pub one_more : (opened : CrashState) (others : List CrashState) (lives : List (List Call)) (answers : List (List Reply)) (mid d : Disk)
+      → AreLived log_sectors opened others lives answers mid
+      → ((o : CrashState) (os : List CrashState) → Holds log_sectors o os mid → AfterCrash log_sectors o os calls replies d)
+      → AreLived log_sectors opened others (lives ++ calls ∷ []) (answers ++ replies ∷ []) d
+  one_more opened others lives answers mid d lived leads =
+      let end = leads lived.left (others_after others lives) lived.holds in
+      record {
+        left = end.left;
+        are = life_behind opened others lives answers lived.left end.left lived.are end.life;
+        holds = subst (λ (os : List CrashState). Holds log_sectors end.left os d) (sym (none_behind others lives calls)) end.holds;
+      }
+
+pub some_life : {A : Type 0} (lives : List (Given A)) → lives ≢ [] → 0 < length lives
+some_life [] some = absurd (some refl)
+some_life (life ∷ lives) some = omega arith
+
+-- no life yet
+pub no_life : (log_sectors : ℕ) (opened : CrashState) (others : List CrashState) (d : Disk) → Holds log_sectors opened others d → AreLived log_sectors opened others [] [] d
+no_life log_sectors opened others d holds = record { left = opened; are = refl; holds = holds }
+
+-- ---- in the words of batches
+
+-- a device of which every crash leaves the same
+pub at_rest_holds : (log_sectors : ℕ) (opened : CrashState) (d : Disk) → Leaves (IsImage log_sectors opened) d → Holds log_sectors opened [] d
+at_rest_holds log_sectors opened d leaves = record {
+  reads = subst (IsImage log_sectors opened) (seen_outcome d) (leaves (replicate (length d.pending) true));
+  crashes = λ mask. inl (leaves mask);
+}
+
+-- the device of a store
+pub running_holds : (s : StoreView) → IsBacked s → IsNone s.state.stopped → Holds s.state.log_sectors (last_crash_state s.state) (may_leave s.state) (disk s.device)
+running_holds s backed runs = record { reads = backed.reads runs; crashes = λ mask. inr (backed.crashes mask) }
+
+pub stopped_holds : (s : StoreView) → IsBacked s → (left : CrashState) × Contains (may_leave s.state) left × Holds s.state.log_sectors left (may_leave s.state) (disk s.device)
+stopped_holds s backed =
+    let d = disk s.device in
+    let read = subst (IsImageOfOne s.state.log_sectors (may_leave s.state)) (seen_outcome d) (backed.crashes (replicate (length d.pending) true)) in
+    (read.0, read.1, record { reads = read.2; crashes = λ mask. inr (backed.crashes mask) })
+
+one_alone : (log_sectors : ℕ) (left : CrashState) (sectors : List (List ℕ)) → IsImage log_sectors left sectors ⊎ IsImageOfOne log_sectors [] sectors → IsImage log_sectors left sectors
+one_alone log_sectors left sectors (inl is) = is
+one_alone log_sectors left sectors (inr (other, found, is)) = absurd (omega (arith, found.1))
+
+module _ (log_sectors : ℕ) (before : List (List Operation)) (opened : CrashState) (was : IsAfter before opened) (lives : List (List Call)) (answers : List (List Reply)) (d : Disk) where
+  only : (lived : AreLived log_sectors opened [] lives answers d) → Holds log_sectors lived.left [] d
+  only lived = subst (λ (os : List CrashState). Holds log_sectors lived.left os d) (no_others lives) lived.holds
+
+  pub promise_kept : AreLived log_sectors opened [] lives answers d → KeepPromise log_sectors before opened lives answers d
+  promise_kept lived =
+      let kept = promise_over_lives log_sectors before opened lives answers lived.left was lived.are in
+      record {
+        batches = kept.0;
+        left = lived.left;
+        keeps = kept.1;
+        device = λ mask. one_alone log_sectors lived.left (image mask d) ((only lived).crashes mask);
+      }

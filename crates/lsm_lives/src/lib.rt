@@ -1,0 +1,14 @@
+//! Calls of a store as values, made one after another, and over lives of a device.
+#![tactic(auto)]
+
+mod calls;
+mod law;
+mod living;
+mod replaying;
+mod serving;
+
+pub use calls::{Call, Reply};
+pub use law::devices_hold_what_was_left;
+pub use living::{Life, lives};
+pub use replaying::{Step, replay};
+pub use serving::serve;
