@@ -1,0 +1,36 @@
+-- What is known of all clients at the end.
+use Rattle.std.proofs.Common.{◌≡◌, ℕ, ◌<◌, ◌≤◌, List, [], ◌∷◌, ◌++◌, length, ap, sym, ◌∙◌, subst, arith}
+use Rattle.lsm_store.specs.Backing.{StoreView, IsBacked}
+use Rattle.lsm_trail.specs.History.{Event, IsLegal, state_after, calls_by, TrailView}
+use Rattle.lsm_trail.specs.Knowledge.{Begin, Known}
+use Rattle.lsm_shared.specs.Clients.{Told, AreAll}
+use Rattle.lsm_shared.specs.Sessions.{SessionView, IsEnded}
+use Rattle.lsm_shared.proofs.Counting.{counted}
+
+pub told_more : (log : List Event) (cs : List Known) (c : Known) → Told log cs → calls_by c.number log ≡ c.mine → Told log (cs ++ c ∷ [])
+told_more log [] c t e = (e, tt)
+told_more log (x ∷ cs) c t e = (t.0, told_more log cs c t.1 e)
+
+pub all_by : (n m : ℕ) (xs ys : List Known) → n ≡ m → xs ≡ ys → AreAll n xs → AreAll m ys
+all_by n m xs ys count items all = subst (λ (k : ℕ). AreAll k ys) count (subst (AreAll n) items all)
+
+-- what holds of the value behind the lock when all clients are retired holds of the parts that it gives
+pub ended : (b : Begin) (clients left : List Known) (session : SessionView) (store : StoreView) (trail : TrailView)
+    → left ≡ [] → 0 < b.clients → AreAll b.clients clients
+    → (Told session.log left → Told session.log clients)
+    → (length left < length clients → (x : ℕ) → b.clients ≤ x → calls_by x session.log ≡ [])
+    → IsLegal b.store.state session.log → session.store.state ≡ state_after b.store.state session.log
+    → (IsBacked b.store → IsBacked session.store) → length session.log ≤ b.limit
+    → store ≡ session.store → trail.log ≡ session.log → IsEnded b clients store trail
+ended b clients left session store trail none some all told strangers legal state backed room is_store is_log =
+    let told' : Told session.log clients = told (subst (Told session.log) (sym none) tt) in
+    let strangers' : (x : ℕ) → b.clients ≤ x → calls_by x session.log ≡ [] = strangers (omega (arith, ap length none, all.0)) in
+    record {
+      legal = subst (IsLegal b.store.state) (sym is_log) legal;
+      state = ap (λ (v : StoreView). v.state) is_store ∙ (state ∙ ap (state_after b.store.state) (sym is_log));
+      backed = λ began. subst IsBacked (sym is_store) (backed began);
+      told = subst (λ (l : List Event). Told l clients) (sym is_log) told';
+      count = ap length is_log ∙ sym (counted b.clients clients session.log all told' strangers');
+      strangers = λ x far. ap (calls_by x) is_log ∙ strangers' x far;
+      room = omega (arith, ap length is_log, room);
+    }

@@ -1,0 +1,107 @@
+-- Sessions: the value behind the lock, how it begins and how it ends.
+use Rattle.std.specs.Prelude.{◌≡◌, ◌≢◌, ◌⊎◌, ℕ, ◌<◌, ◌≤◌, nat_lt, ◌||◌, ◌==◌, Bool, is_some, List, [], ◌∷◌, ◌++◌, length, Option, Some, None}
+use mathlib.Core.List.{IsPrefix}
+use Rattle.atomic_table.specs.declared.shared.Seat.{Seat}
+use Rattle.lsm_device.specs.declared.refusal.Refusal.{Refusal}
+use Rattle.lsm_device.specs.declared.refusal.Refusal.TheVariants.{NoMemory, Stopped, TrailFull, BadLimit, TooManyClients}
+use Rattle.lsm_store.specs.Backing.{StoreView, IsBacked}
+use Rattle.lsm_store.specs.Calls.{Call, Reply}
+use Rattle.lsm_store.specs.Calls.{Refused, Value, Rows}
+use Rattle.lsm_store.specs.Refusals.{first_refusal}
+use Rattle.lsm_store.specs.Run.{Allows}
+use Rattle.lsm_store.specs.Serving.{Serves}
+use Rattle.lsm_store.specs.State.{State}
+use Rattle.lsm_trail.specs.History.{Event, event, IsLegal, state_after, calls_by, TrailView}
+use Rattle.lsm_trail.specs.Knowledge.{Begin, SessionId, Known, View, known, keeper_of, IsKeeperPass}
+use Rattle.lsm_shared.specs.Clients.{Told, calls_made}
+
+-- the refusals of a begin in their order, each with its condition
+abbrev pub begin_refusals : State → ℕ → ℕ → List (Bool × Refusal)
+begin_refusals s clients limit =
+    (is_some s.stopped, Stopped)
+    ∷ (clients == 0 || nat_lt 64 clients, TooManyClients)
+    ∷ (limit == 0 || nat_lt 65536 limit, BadLimit)
+    ∷ []
+
+-- the refusal of a begin that its arguments decide, if they do
+abbrev pub begin_refusal : State → ℕ → ℕ → Option Refusal
+begin_refusal s clients limit = first_refusal (begin_refusals s clients limit)
+
+-- with what a session begins
+abbrev pub begin_with : StoreView → ℕ → ℕ → Begin
+begin_with store clients limit = record { store = store; limit = limit; clients = clients }
+
+-- What contracts see of the value behind the lock: the store, and the history.
+pub record SessionView : Type 0 where
+  pub store : StoreView
+  pub log : List Event
+
+-- What holds of the value behind the lock whenever the lock is free: the trail is one legal history from the begin, the
+-- lock's pass has just that history, so that the words tell its numbers, and the store is in the state after it, which the
+-- device backs where it did at the begin.
+pub record IsSession (id : SessionId) (store : StoreView) (trail : TrailView) (keeper : Seat Event View) : Type 0 where
+  pub pass : IsKeeperPass id trail.log keeper
+  pub dealt : (keeper_of keeper).dealt ≡ id.begin.clients
+  pub legal : IsLegal id.begin.store.state trail.log
+  pub state : store.state ≡ state_after id.begin.store.state trail.log
+  pub backed : IsBacked id.begin.store → IsBacked store
+  pub limit : trail.limit ≡ id.begin.limit
+  pub room : length trail.log ≤ trail.limit
+
+-- what a client knew is true of the history under the lock
+pub record Knew (id : SessionId) (log : List Event) (c : Known) : Type 0 where
+  pub begin : c.begin ≡ id.begin
+  pub seen : IsPrefix c.seen log
+  pub own : calls_by c.number log ≡ c.mine
+  pub legal : IsLegal id.begin.store.state log
+
+-- a reply for which memory was short: the store's, or a value or a page of which there is no second copy
+abbrev pub IsLost : Reply → Type 0
+IsLost (Refused NoMemory) = Unit {0}
+IsLost (Value value) = Unit {0}
+IsLost (Rows page) = Unit {0}
+IsLost other = ⊥
+
+-- One hold of the lock made this call of the client, and entered it.
+pub record IsMade (id : SessionId) (old : SessionView) (c : Known) (call : Call) (reply : Reply) (new : SessionView) (d : Known) : Type 0 where
+  pub knew : Knew id old.log c
+  pub room : length old.log < id.begin.limit
+  pub serves : Serves old.store call reply new.store
+  pub log : new.log ≡ old.log ++ event c.number call reply ∷ []
+  pub legal : IsLegal id.begin.store.state new.log
+  pub client : d ≡ known id.begin c.number new.log (c.mine ++ event c.number call reply ∷ [])
+
+-- One hold of the lock made no call: the trail is full, and the client has seen it.
+pub record IsFull (id : SessionId) (old : SessionView) (c : Known) (new : SessionView) (d : Known) : Type 0 where
+  pub knew : Knew id old.log c
+  pub full : length old.log ≡ id.begin.limit
+  pub same : new ≡ old
+  pub client : d ≡ known id.begin c.number old.log c.mine
+
+-- One hold of the lock found no memory, in the store or for a second copy of its reply. The history, the state and what
+-- the client knows are as they were.
+pub record IsShort (id : SessionId) (old : SessionView) (c : Known) (call : Call) (new : SessionView) (d : Known) : Type 0 where
+  pub room : length old.log < id.begin.limit
+  pub allowed : Allows old.store.state call (Refused NoMemory)
+  pub reply : Reply
+  pub lost : IsLost reply
+  pub serves : Serves old.store call reply new.store
+  pub same_log : new.log ≡ old.log
+  pub same_state : new.store.state ≡ old.store.state
+  pub same_client : d ≡ c
+
+abbrev pub IsRefused : SessionId → SessionView → Known → Call → Refusal → SessionView → Known → Type 0
+IsRefused id old c call TrailFull new d = IsFull id old c new d
+IsRefused id old c call NoMemory new d = IsShort id old c call new d
+IsRefused id old c call other new d = ⊥
+
+-- A session has ended: the trail is a legal history from its begin, which has just the calls of each client, and the
+-- store is in the state after it, which the device backs where it did at the begin.
+pub record IsEnded (b : Begin) (clients : List Known) (store : StoreView) (trail : TrailView) : Type 0 where
+  pub legal : IsLegal b.store.state trail.log
+  pub state : store.state ≡ state_after b.store.state trail.log
+  pub backed : IsBacked b.store → IsBacked store
+  pub told : Told trail.log clients
+  pub count : length trail.log ≡ calls_made clients
+  pub strangers : (client : ℕ) → b.clients ≤ client → calls_by client trail.log ≡ []
+  pub room : length trail.log ≤ b.limit

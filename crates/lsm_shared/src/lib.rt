@@ -1,0 +1,14 @@
+//! A store that many threads share: one lock, one history.
+#![tactic(auto)]
+
+mod answer;
+mod client;
+mod ending;
+mod preparing;
+mod session;
+mod shared;
+
+pub use client::Client;
+pub use preparing::prepare;
+pub use session::Session;
+pub use shared::Shared;

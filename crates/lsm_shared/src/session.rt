@@ -1,0 +1,109 @@
+// The value behind the lock.
+ghost use Rattle.std.specs.Prelude.{◌≡◌, ℕ, ◌≤◌, [], length, IfOk, IfErr};
+ghost use Rattle.lsm_lives.specs.Calls.{call_of, reply_of};
+ghost use Rattle.lsm_store.specs.Backing.{IsBacked};
+ghost use Rattle.lsm_trail.specs.History.{IsLegal, state_after, calls_by};
+ghost use Rattle.lsm_trail.specs.Knowledge.{keeper_of, IsKeeperPass};
+ghost use Rattle.lsm_shared.specs.Sessions.{IsMade, IsRefused};
+
+use crate::answer::answer_of;
+use crate::client::Client;
+use lsm_device::{Device, Refusal};
+use lsm_lives::{Call, Reply, serve};
+use lsm_store::Store;
+use lsm_trail::{Counters, Entry, Numbers, Pass, SessionName, Trail};
+use std::alloc::Allocator;
+use std::marker::{Model, PhantomData};
+
+/// The value behind the lock: the store, the trail, and the pass that writes the words. Contracts see the store and the
+/// history.
+#[derive(Drop)]
+pub struct Session<D: Device, A: Allocator, B: SessionName> {
+    store: Store<D, A>,
+    trail: Trail<A>,
+    keeper: Pass<A>,
+    name: PhantomData<B>,
+}
+
+impl<D: Device, A: Allocator, B: SessionName> Model for Session<D, A, B> {
+    ghost use Rattle.std.specs.Coded.{codes};
+    ghost use Rattle.lsm_codec.specs.Map.{map_code};
+    ghost use Rattle.lsm_shared.specs.Sessions.{SessionView, IsSession};
+
+    ghost Value = { SessionView };
+
+    ghost coded = { Prim.hlevel (codes, map_code) };
+
+    ghost view = { λ s. record { store = s.store; log = s.trail.log } };
+
+    ghost invariant = { λ s. IsSession B.id s.store s.trail s.keeper };
+}
+
+impl<D: Device, A: Allocator, B: SessionName> Session<D, A, B> {
+    // A session with an empty trail, whose clients are dealt.
+    pub(crate) fn new(store: Store<D, A>, trail: Trail<A>, keeper: Pass<A>) -> Session<D, A, B>
+        requires keeper { IsKeeperPass B.id [] keeper × ((keeper_of keeper).dealt ≡ B.id.begin.clients) }
+        requires store { store ≡ B.id.begin.store }
+        requires trail { trail ≡ record { log = []; limit = B.id.begin.limit } }
+        ensures { result ≡ record { store = store; log = [] } }
+    {
+        Session {
+            store,
+            trail,
+            keeper,
+            name: PhantomData,
+        }
+    }
+
+    // The client is no more. Its calls in the trail are those that it made.
+    pub(crate) fn retire(&mut self, counters: &Counters<D, A, B>, client: Client<A, B>)
+        ensures same { self.new ≡ self.old }
+        ensures calls { calls_by client.number self.old.log ≡ client.mine }
+        ensures strangers { (x : ℕ) → B.id.begin.clients ≤ x → calls_by x self.old.log ≡ [] }
+    {
+        let Client { pass, .. } = client;
+        counters.retire(&mut self.keeper, pass);
+    }
+
+    // The store and the trail.
+    pub(crate) fn into_parts(self) -> (Store<D, A>, Trail<A>)
+        ensures parts { (result.0 ≡ self.store) × (result.1.log ≡ self.log) }
+        ensures legal { IsLegal B.id.begin.store.state self.log }
+        ensures state { self.store.state ≡ state_after B.id.begin.store.state self.log }
+        ensures backed { IsBacked B.id.begin.store → IsBacked self.store }
+        ensures room { length self.log ≤ B.id.begin.limit }
+    {
+        let Session { store, trail, .. } = self;
+        (store, trail)
+    }
+}
+
+impl<D: Device, A: Allocator + Clone, B: SessionName> Session<D, A, B> {
+    /// Serves a call of the client, and enters it. It is refused as [`Client::call`] is.
+    pub fn serve(
+        &mut self,
+        counters: &Counters<D, A, B>,
+        me: &mut Client<A, B>,
+        call: Call<A>,
+    ) -> Result<Reply<A>, Refusal>
+        ensures made { IfOk result (λ reply. IsMade B.id self.old me.old (call_of call) (reply_of reply) self.new me.new) }
+        ensures refused { IfErr result (λ e. IsRefused B.id self.old me.old (call_of call) e self.new me.new) }
+    {
+        if self.trail.is_full() {
+            counters.note(&mut self.keeper, &mut me.pass);
+            return Err(Refusal::TrailFull);
+        }
+        let reply = serve(&mut self.store, &call);
+        let answer = answer_of(&reply)?;
+        let entry = Entry::new(me.number, call, reply);
+        let count = self.trail.len();
+        let numbers = Numbers {
+            calls: count as u64 + 1,
+            batches: self.store.batch_count(),
+            synced: self.store.synced_count(),
+        };
+        counters.write(&mut self.keeper, &mut me.pass, count, numbers, &entry);
+        self.trail.push(entry);
+        Ok(answer)
+    }
+}

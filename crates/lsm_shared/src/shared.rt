@@ -1,0 +1,122 @@
+// A store that threads share.
+ghost use Rattle.std.specs.Prelude.{◌≡◌, ◌<◌, ◌≤◌, [], IfOk, MatchResult};
+ghost use Rattle.std.specs.Vec.{vec_capacity};
+ghost use Rattle.lsm_device.specs.declared.refusal.Refusal.TheVariants.{NoMemory, NotYours};
+ghost use Rattle.lsm_trail.specs.Knowledge.{keeper_of, IsKeeperPass};
+ghost use Rattle.lsm_shared.specs.Clients.{newcomers, AreAll};
+ghost use Rattle.lsm_shared.specs.Sessions.{IsEnded};
+
+use crate::client::Client;
+use crate::ending::are_all;
+use crate::session::Session;
+use lsm_device::{Device, Refusal};
+use lsm_store::Store;
+use lsm_trail::{Counters, Opened, Pass, SessionName, Trail};
+use std::alloc::{AllocError, Allocator};
+use std::sync::Mutex;
+
+/// A session: a store behind one lock, with one history of all calls.
+#[derive(Drop)]
+pub struct Shared<D: Device, A: Allocator, B: SessionName> {
+    pub(crate) counters: Counters<D, A, B>,
+    pub(crate) session: Mutex<Session<D, A, B>>,
+    clients: u32,
+    ghost all: { clients ≡ B.id.begin.clients },
+    ghost some: { 0 < clients },
+}
+
+// An empty trail with all its places, and places for the clients.
+fn places<A: Allocator + Clone, B: SessionName>(
+    alloc: A,
+    limit: u32,
+    count: u32,
+) -> Result<(Trail<A>, Vec<Client<A, B>, A>), AllocError>
+    ensures { IfOk result (λ r. (r.0 ≡ record { log = []; limit = limit }) × (r.1.items ≡ []) × (count ≤ vec_capacity r.1)) }
+{
+    let trail = Trail::new(alloc.clone()?, limit as usize)?;
+    let clients = Vec::with_capacity(alloc, count as usize)?;
+    Ok((trail, clients))
+}
+
+// The clients, numbered from 0 on.
+fn deal_all<D: Device, A: Allocator, B: SessionName>(
+    counters: &Counters<D, A, B>,
+    keeper: &mut Pass<A>,
+    clients: &mut Vec<Client<A, B>, A>,
+    count: u32,
+)
+    requires keeper { IsKeeperPass B.id [] keeper.old × ((keeper_of keeper.old).dealt ≡ 0) }
+    requires room { (clients.old.items ≡ []) × (count ≤ vec_capacity clients.old) }
+    ensures keeper { IsKeeperPass B.id [] keeper.new × ((keeper_of keeper.new).dealt ≡ count) }
+    ensures clients { clients.new.items ≡ newcomers B.id.begin count }
+{
+    for number in 0..count {
+        clients.push_reserved(Client::new(number, counters.deal(keeper)));
+    }
+}
+
+impl<D: Device, A: Allocator + Clone, B: SessionName> Shared<D, A, B> {
+    /// Begins the session that was prepared, with all places of its trail, and gives its clients, numbered from 0 on. Want
+    /// of memory hands the store back.
+    pub fn begin(
+        alloc: A,
+        opened: Opened<D, A>,
+    ) -> Result<(Shared<D, A, B>, Vec<Client<A, B>, A>), (Refusal, Store<D, A>)>
+        requires { opened ≡ B.id }
+        ensures { MatchResult result
+            (λ r. r.1.items ≡ newcomers B.id.begin B.id.begin.clients)
+            (λ e. (e.0 ≡ NoMemory) × (e.1 ≡ B.id.begin.store)) }
+    {
+        let count = opened.clients();
+        let Ok((trail, mut clients)) = places(alloc, opened.limit(), count) else {
+            return Err((Refusal::NoMemory, opened.into_store()));
+        };
+        let (store, counters, mut keeper) = opened.named::<B>();
+        deal_all(&counters, &mut keeper, &mut clients, count);
+        let session = Mutex::new(Session::new(store, trail, keeper));
+        Ok((
+            Shared {
+                counters,
+                session,
+                clients: count,
+            },
+            clients,
+        ))
+    }
+}
+
+impl<D: Device, A: Allocator, B: SessionName> Shared<D, A, B> {
+    /// Ends the session: it gives the store, and the trail, which has just the calls that each client made. It is refused
+    /// with `NotYours` where these are not the session's clients, each once, and then hands all back.
+    pub fn finish(
+        self,
+        clients: Vec<Client<A, B>, A>,
+    ) -> Result<(Store<D, A>, Trail<A>), (Refusal, Shared<D, A, B>, Vec<Client<A, B>, A>)>
+        ensures clients { MatchResult result
+            (λ _. AreAll B.id.begin.clients clients.items)
+            (λ e. (¬ AreAll B.id.begin.clients clients.items) × (e.0 ≡ NotYours) × (e.1 ≡ self) × (e.2.items ≡ clients.items)) }
+        ensures ended { IfOk result (λ r. IsEnded B.id.begin clients.items r.0 r.1) }
+    {
+        if !are_all(clients.as_slice(), self.clients) {
+            return Err((Refusal::NotYours, self, clients));
+        }
+        Ok(self.end(clients))
+    }
+
+    fn end(self, clients: Vec<Client<A, B>, A>) -> (Store<D, A>, Trail<A>)
+        requires { (0 < B.id.begin.clients) × AreAll B.id.begin.clients clients.items }
+        ensures { IsEnded B.id.begin clients.items result.0 result.1 }
+    {
+        let Shared {
+            counters,
+            session,
+            ..
+        } = self;
+        let mut session = session.into_inner();
+        let mut left = clients;
+        while let Some(client) = left.pop() {
+            session.retire(&counters, client);
+        }
+        session.into_parts()
+    }
+}

@@ -1,0 +1,4 @@
+pub mod Lists
+pub mod Histories
+pub mod Moves
+pub mod Passes

@@ -1,0 +1,51 @@
+-- Histories: the calls of clients in the order in which one store served them, with its replies.
+use Rattle.std.specs.Prelude.{◌≢◌, ℕ, ◌==◌, List, [], ◌∷◌, length, map, All, if◌then◌else◌}
+use Rattle.lsm_device.specs.declared.refusal.Refusal.TheVariants.{NoMemory}
+use Rattle.lsm_store.specs.RecoveryPoints.{batch_count}
+use Rattle.lsm_store.specs.State.{State}
+use Rattle.lsm_store.specs.Calls.{Call, Reply}
+use Rattle.lsm_store.specs.Calls.{Refused}
+use Rattle.lsm_store.specs.Run.{Run, last_state}
+use Rattle.lsm_trail.specs.declared.numbers.Numbers.{Numbers}
+
+-- a call of a client, and its reply
+pub record Event : Type 0 where
+  pub client : ℕ
+  pub call : Call
+  pub reply : Reply
+
+abbrev pub event : ℕ → Call → Reply → Event
+event client call reply = record { client = client; call = call; reply = reply }
+
+abbrev pub calls_of : List Event → List Call
+calls_of log = map (λ e. e.call) log
+
+abbrev pub replies_of : List Event → List Reply
+replies_of log = map (λ e. e.reply) log
+
+-- A history that is legal from a state on: its replies are those of a run of one store, and none of them tells of want of
+-- memory.
+pub record IsLegal (start : State) (log : List Event) : Type 0 where
+  pub run : Run start (calls_of log) (replies_of log)
+  pub made : All (λ e. e.reply ≢ Refused NoMemory) log
+
+-- the state after a history
+abbrev pub state_after : State → List Event → State
+state_after start log = last_state start (calls_of log) (replies_of log)
+
+-- the calls of one client in it, in order
+abbrev pub calls_by : ℕ → List Event → List Event
+calls_by client [] = []
+calls_by client (e ∷ log) = if e.client == client then e ∷ calls_by client log else calls_by client log
+
+abbrev pub numbers_at : ℕ → State → Numbers
+numbers_at calls s = record { calls = calls; batches = batch_count s.points; synced = s.points.synced }
+
+-- the numbers of a history: its calls, and the batches after it and how many of these are synced
+abbrev pub numbers : State → List Event → Numbers
+numbers start log = numbers_at (length log) (state_after start log)
+
+-- what contracts see of a trail: the history, and how many entries there may be
+pub record TrailView : Type 0 where
+  pub log : List Event
+  pub limit : ℕ

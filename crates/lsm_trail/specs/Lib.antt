@@ -1,0 +1,4 @@
+pub mod History
+pub mod Knowledge
+pub mod Rule
+pub mod Steps

@@ -1,0 +1,20 @@
+//! The history of a store that many clients use: its entries, and its numbers, which are read without a lock.
+#![tactic(auto)]
+
+mod counters;
+mod entry;
+mod knowledge;
+mod numbers;
+mod opened;
+mod rule;
+mod start;
+mod trail;
+
+pub use counters::Counters;
+pub use entry::Entry;
+pub use knowledge::{Knowledge, Pass};
+pub use numbers::Numbers;
+pub use opened::Opened;
+pub use rule::{Compare, Deal, Law, Lend, Note, Nothing, Publish, Put};
+pub use start::{SessionName, Start};
+pub use trail::Trail;

@@ -1,0 +1,15 @@
+//! Tests of stores that threads share.
+#![tactic(auto)]
+
+#[cfg(test)]
+mod beginnings;
+#[cfg(test)]
+mod endings;
+#[cfg(test)]
+mod growth;
+#[cfg(test)]
+mod replies;
+#[cfg(test)]
+mod setup;
+#[cfg(test)]
+mod threads;
