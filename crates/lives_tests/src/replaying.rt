@@ -1,6 +1,6 @@
 //! Steps on a store.
 
-use crate::setup::{Told, are, formatted, fresh, get, put};
+use crate::setup::{Told, are, formatted, fresh, get, page, put};
 use linked_list_allocator::LocalHeap;
 use lsm_device::Refusal;
 use lsm_lives::{Step, replay};
@@ -35,6 +35,30 @@ fn each_step_is_answered(rt: HostRuntime) -> Result<(), Fail> {
     ];
     assert!(rt; are(&replay(alloc, &mut store, &steps)?, &wanted));
     assert!(rt; are(&replay(alloc, &mut store, &steps[..1])?, &wanted[8..]));
+    Ok(())
+}
+
+#[test]
+fn pages_and_snapshots_are_answered(rt: HostRuntime) -> Result<(), Fail> {
+    let alloc = rt.alloc();
+    let mut store = fresh(alloc)?;
+    let steps = vec![in alloc;
+        put(alloc, b"\x61", b"\x31")?,
+        Step::Snapshot,
+        page(alloc, 64),
+        page(alloc, 65),
+        Step::Release(1),
+        Step::Release(1),
+    ]?;
+    let wanted = [
+        Told::Number(1),
+        Told::Number(1),
+        Told::Rows(1),
+        Told::Refused(Refusal::BadLimit),
+        Told::Done,
+        Told::Refused(Refusal::NoSuchSnapshot),
+    ];
+    assert!(rt; are(&replay(alloc, &mut store, &steps)?, &wanted));
     Ok(())
 }
 

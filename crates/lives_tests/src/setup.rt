@@ -35,6 +35,16 @@ pub fn get<A: Allocator + Clone>(alloc: A, key: &[u8]) -> Result<Step<A>, AllocE
     Ok(Step::Get(At::Now, Vec::from_slice(alloc, key)?))
 }
 
+/// A page of the present map, from the first key on.
+pub fn page(alloc: Global, limit: u64) -> Step {
+    Step::Scan {
+        at: At::Now,
+        from: Vec::new(alloc),
+        to: None,
+        limit,
+    }
+}
+
 /// A life without a fuse.
 pub fn life(alloc: Global, steps: Vec<Step>, mask: &[bool]) -> Result<Life, AllocError> {
     Ok(Life {
@@ -52,6 +62,8 @@ pub enum Told {
     Absent,
     Byte(u8),
     Long(usize),
+    /// The rows of a page.
+    Rows(usize),
     Refused(Refusal),
 }
 
@@ -64,6 +76,7 @@ fn reading_of<A: Allocator>(reply: &Reply<A>) -> Told {
             [byte] => Told::Byte(*byte),
             bytes => Told::Long(bytes.len()),
         },
+        Reply::Page(page) => Told::Rows(page.rows().len()),
         Reply::Refused(refusal) => Told::Refused(*refusal),
     }
 }
