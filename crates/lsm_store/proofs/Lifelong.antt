@@ -9,7 +9,7 @@ use Rattle.lsm_open.proofs.Openings.{one_opening}
 use Rattle.lsm_store.specs.Calls.{Call, Reply}
 use Rattle.lsm_store.specs.Calls.{Number, Done, Value, Rows, Refused}
 use Rattle.lsm_store.specs.Promise.{accepted, acknowledged, in_flight, IsBeginning}
-use Rattle.lsm_store.specs.Lives.{Life, Lives, KeptByLife, KeepsLife, KeepsLives, IsAfter, PromiseOverLives}
+use Rattle.lsm_store.specs.Lives.{Life, KeptByLife, IsAfter, PromiseOverLives}
 use Rattle.lsm_store.proofs.Points.{apply_all-append, take_sum}
 use Rattle.lsm_store.proofs.Promises.{promise}
 

@@ -61,6 +61,10 @@ impl Subject {
         self.store.snapshot()
     }
 
+    pub fn may_snapshot(&self) -> Result<(), Refusal> {
+        self.store.may_snapshot()
+    }
+
     pub fn release(&mut self, number: u64) -> Result<(), Refusal> {
         self.store.release(number)
     }

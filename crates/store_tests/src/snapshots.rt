@@ -150,6 +150,20 @@ fn at_most_32_snapshots_live(rt: HostRuntime) -> Result<(), Fail> {
 }
 
 #[test]
+fn a_store_tells_whether_it_may_be_snapshotted(rt: HostRuntime) -> Result<(), Fail> {
+    let mut store = fresh(rt.alloc())?;
+    for number in 1..=32u64 {
+        assert_eq!(rt; store.may_snapshot(), Ok(()));
+        assert_eq!(rt; store.snapshot(), Ok(number));
+    }
+    assert_eq!(rt; store.may_snapshot(), Err(Refusal::TooManySnapshots));
+    store.fuse(0);
+    assert_eq!(rt; store.sync(), Err(Refusal::Io));
+    assert_eq!(rt; store.may_snapshot(), Err(Refusal::Stopped));
+    Ok(())
+}
+
+#[test]
 fn a_snapshot_keeps_its_map(rt: HostRuntime) -> Result<(), Fail> {
     let alloc = rt.alloc();
     let mut store = fresh(alloc)?;
