@@ -1,10 +1,11 @@
 -- What is known of all clients at the end.
 use Rattle.std.proofs.Common.{◌≡◌, ℕ, ◌<◌, ◌≤◌, List, [], ◌∷◌, ◌++◌, length, ap, sym, ◌∙◌, subst, arith}
 use Rattle.lsm_store.specs.Backing.{StoreView, IsBacked}
-use Rattle.lsm_trail.specs.History.{Event, IsLegal, state_after, calls_by, TrailView}
-use Rattle.lsm_trail.specs.Knowledge.{Begin, Known}
+use Rattle.lsm_trail.specs.Begins.{Begin}
+use Rattle.lsm_trail.specs.History.{Event, IsLegal, calls_by, TrailView}
+use Rattle.lsm_trail.specs.Knowledge.{Known}
 use Rattle.lsm_shared.specs.Clients.{Told, AreAll}
-use Rattle.lsm_shared.specs.Sessions.{SessionView, IsEnded}
+use Rattle.lsm_shared.specs.Sessions.{SessionView, ended_state, IsEnded}
 use Rattle.lsm_shared.proofs.Counting.{counted}
 
 pub told_more : (log : List Event) (cs : List Known) (c : Known) → Told log cs → calls_by c.number log ≡ c.mine → Told log (cs ++ c ∷ [])
@@ -19,16 +20,16 @@ pub ended : (b : Begin) (clients left : List Known) (session : SessionView) (sto
     → left ≡ [] → 0 < b.clients → AreAll b.clients clients
     → (Told session.log left → Told session.log clients)
     → (length left < length clients → (x : ℕ) → b.clients ≤ x → calls_by x session.log ≡ [])
-    → IsLegal b.store.state session.log → session.store.state ≡ state_after b.store.state session.log
-    → (IsBacked b.store → IsBacked session.store) → length session.log ≤ b.limit
-    → store ≡ session.store → trail.log ≡ session.log → IsEnded b clients store trail
-ended b clients left session store trail none some all told strangers legal state backed room is_store is_log =
+    → IsLegal b session.log → store.state ≡ ended_state b session.log
+    → (IsBacked b.store → IsBacked store) → length session.log ≤ b.limit
+    → trail.log ≡ session.log → IsEnded b clients store trail
+ended b clients left session store trail none some all told strangers legal state backed room is_log =
     let told' : Told session.log clients = told (subst (Told session.log) (sym none) tt) in
     let strangers' : (x : ℕ) → b.clients ≤ x → calls_by x session.log ≡ [] = strangers (omega (arith, ap length none, all.0)) in
     record {
-      legal = subst (IsLegal b.store.state) (sym is_log) legal;
-      state = ap (λ (v : StoreView). v.state) is_store ∙ (state ∙ ap (state_after b.store.state) (sym is_log));
-      backed = λ began. subst IsBacked (sym is_store) (backed began);
+      legal = subst (IsLegal b) (sym is_log) legal;
+      state = state ∙ ap (ended_state b) (sym is_log);
+      backed = backed;
       told = subst (λ (l : List Event). Told l clients) (sym is_log) told';
       count = ap length is_log ∙ sym (counted b.clients clients session.log all told' strangers');
       strangers = λ x far. ap (calls_by x) is_log ∙ strangers' x far;

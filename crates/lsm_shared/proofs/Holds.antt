@@ -6,8 +6,8 @@ use mathlib.Core.List.{IsPrefix}
 use Rattle.atomic_table.specs.Table.{Me}
 use Rattle.atomic_table.specs.declared.shared.Seat.{Seat}
 use Rattle.lsm_device.specs.declared.refusal.Refusal.{Refusal}
-use Rattle.lsm_device.specs.declared.refusal.Refusal.TheVariants.{NoMemory, TrailFull}
-use Rattle.lsm_store.specs.Backing.{StoreView, IsBacked}
+use Rattle.lsm_device.specs.declared.refusal.Refusal.TheVariants.{NoMemory, TrailFull, NotYours}
+use Rattle.lsm_store.specs.Backing.{StoreView}
 use Rattle.lsm_store.specs.Calls.{Call, Reply}
 use Rattle.lsm_store.specs.Calls.{Commit, Sync, SyncTo, Get, Scan, Snapshot, Release, LogRoom, Number, Done, Value, Rows, Refused}
 use Rattle.lsm_store.specs.Effects.{after, reply_by, takes_memory}
@@ -17,12 +17,13 @@ use Rattle.lsm_store.specs.Refusals.{refusal}
 use Rattle.lsm_store.specs.Run.{Allows, next}
 use Rattle.lsm_store.specs.Serving.{Serves}
 use Rattle.lsm_store.specs.State.{State}
+use Rattle.lsm_trail.specs.Begins.{Begin, base_of}
 use Rattle.lsm_trail.specs.History.{Event, event, IsLegal, state_after, calls_by, numbers, numbers_at, TrailView}
 use Rattle.lsm_trail.specs.Knowledge.{SessionId, Known, View, known, keeper_or, keeper_of, IsKeeperPass}
 use Rattle.lsm_trail.specs.declared.numbers.Numbers.{Numbers}
 use Rattle.lsm_trail.proofs.Histories.{legal_more, state_after-more, calls_by-mine}
 use Rattle.lsm_shared.specs.Clients.{Extends, FindsFull, IsNoCall}
-use Rattle.lsm_shared.specs.Sessions.{SessionView, IsSession, Knew, IsMade, IsFull, IsShort, IsRefused, IsLost}
+use Rattle.lsm_shared.specs.Sessions.{SessionView, IsSession, IsMade, IsFull, IsShort, IsRefused, IsLost}
 
 -- the lock's pass has the history of the trail
 pub log_of_pass : (id : SessionId) (log : List Event) (p : Seat Event View) → IsKeeperPass id log p → (keeper_of p).log ≡ log
@@ -61,30 +62,30 @@ lost s call Done allowed short = absurd short
 lost s call (Value v) allowed short = let k = value_kept s call v (refusal s call) allowed in (k.0, (k.2, k.1))
 lost s call (Rows page) allowed short = let k = page_kept s call page (refusal s call) allowed in (k.0, (k.2, k.1))
 
-module _ (id : SessionId) (store new : StoreView) (trail : TrailView) (keeper : Seat Event View) (session : IsSession id store trail keeper) (call : Call) (reply : Reply) (serves : Serves store call reply new) where
-  allowed_after : Allows (state_after id.begin.store.state trail.log) call reply
+module _ (id : SessionId) (base : ℕ) (store new : StoreView) (trail : TrailView) (keeper : Seat Event View) (session : IsSession id base store trail keeper) (call : Call) (reply : Reply) (serves : Serves store call reply new) where
+  allowed_after : Allows (state_after id.begin trail.log) call reply
   allowed_after = subst (λ (s : State). Allows s call reply) session.state serves.allowed
 
-  module _ (made : reply ≢ Refused NoMemory) (number : ℕ) (e : Event) (is : e ≡ event number call reply) where
-    legal_after : IsLegal id.begin.store.state (trail.log ++ e ∷ [])
-    legal_after = subst (λ (x : Event). IsLegal id.begin.store.state (trail.log ++ x ∷ [])) (sym is) (legal_more id.begin.store.state trail.log (event number call reply) session.legal allowed_after made)
+  module _ (made : reply ≢ Refused NoMemory) (free : call ≢ Release base) (number : ℕ) (e : Event) (is : e ≡ event number call reply) where
+    legal_after : IsLegal id.begin (trail.log ++ e ∷ [])
+    legal_after = subst (λ (x : Event). IsLegal id.begin (trail.log ++ x ∷ [])) (sym is) (legal_more id.begin trail.log (event number call reply) session.legal allowed_after made (λ same. free (same ∙ ap Release (sym session.number))))
 
-    state_entered : new.state ≡ state_after id.begin.store.state (trail.log ++ e ∷ [])
+    state_entered : new.state ≡ state_after id.begin (trail.log ++ e ∷ [])
     state_entered =
         serves.state ∙ ap (λ (s : State). next s call reply) session.state
-        ∙ sym (state_after-more id.begin.store.state trail.log (event number call reply))
-        ∙ ap (λ (x : Event). state_after id.begin.store.state (trail.log ++ x ∷ [])) (sym is)
+        ∙ sym (state_after-more id.begin trail.log (event number call reply))
+        ∙ ap (λ (x : Event). state_after id.begin (trail.log ++ x ∷ [])) (sym is)
 
     log_is : (keeper_of keeper).log ≡ trail.log
     log_is = log_of_pass id trail.log keeper session.pass
 
     -- the history with the entry is legal
-    pub legal_entered : IsLegal id.begin.store.state ((keeper_of keeper).log ++ e ∷ [])
-    legal_entered = subst (λ (l : List Event). IsLegal id.begin.store.state (l ++ e ∷ [])) (sym log_is) legal_after
+    pub legal_entered : IsLegal id.begin ((keeper_of keeper).log ++ e ∷ [])
+    legal_entered = subst (λ (l : List Event). IsLegal id.begin (l ++ e ∷ [])) (sym log_is) legal_after
 
     -- what the store tells after the call are the numbers of that history
     pub numbers_entered : (count batches synced : ℕ) → count ≡ length trail.log → batches ≡ batch_count new.state.points → synced ≡ new.state.points.synced
-        → record { calls = count + 1; batches = batches; synced = synced } ≡ numbers id.begin.store.state ((keeper_of keeper).log ++ e ∷ [])
+        → record { calls = count + 1; batches = batches; synced = synced } ≡ numbers id.begin ((keeper_of keeper).log ++ e ∷ [])
     numbers_entered count batches synced counted told held =
         let calls : count + 1 ≡ length (trail.log ++ e ∷ []) = omega (arith, counted, length-append trail.log (e ∷ [])) in
         let n = length (trail.log ++ e ∷ []) in
@@ -93,14 +94,15 @@ module _ (id : SessionId) (store new : StoreView) (trail : TrailView) (keeper : 
         ∙ ap (λ (x : ℕ). numbers_of n x synced) told
         ∙ ap (λ (x : ℕ). numbers_of n (batch_count new.state.points) x) held
         ∙ ap (numbers_at n) state_entered
-        ∙ ap (λ (l : List Event). numbers id.begin.store.state (l ++ e ∷ [])) (sym log_is)
+        ∙ ap (λ (l : List Event). numbers id.begin (l ++ e ∷ [])) (sym log_is)
 
     -- the session after the call
     pub session_entered : (trail' : TrailView) (keeper' : Seat Event View) → length trail.log < trail.limit
         → trail' ≡ record { log = trail.log ++ e ∷ []; limit = trail.limit }
         → IsKeeperPass id ((keeper_of keeper).log ++ e ∷ []) keeper' → (keeper_of keeper').dealt ≡ (keeper_of keeper).dealt
-        → IsSession id new trail' keeper'
-    session_entered trail' keeper' room pushed pass dealt = subst (λ (t : TrailView). IsSession id new t keeper') (sym pushed) record {
+        → IsSession id base new trail' keeper'
+    session_entered trail' keeper' room pushed pass dealt = subst (λ (t : TrailView). IsSession id base new t keeper') (sym pushed) record {
+      number = session.number;
       pass = subst (λ (l : List Event). IsKeeperPass id (l ++ e ∷ []) keeper') log_is pass;
       dealt = dealt ∙ session.dealt;
       legal = legal_after;
@@ -130,7 +132,7 @@ module _ (id : SessionId) (store new : StoreView) (trail : TrailView) (keeper : 
           room = omega (arith, session.limit);
           serves = subst (λ (r : Reply). Serves store call r new) (sym same) serves;
           log = now;
-          legal = subst (IsLegal id.begin.store.state) (sym log') legal_after;
+          legal = subst (IsLegal id.begin) (sym log') legal_after;
           client =
               client
               ∙ ap (λ (l : List Event). known id.begin me.number l (me.mine ++ e ∷ [])) (ap (λ (l : List Event). l ++ e ∷ []) log_is ∙ sym log')
@@ -153,8 +155,9 @@ module _ (id : SessionId) (store new : StoreView) (trail : TrailView) (keeper : 
     same_state : new.state ≡ store.state
     same_state = serves.state ∙ (lost store.state call reply serves.allowed short).0
 
-    pub session_kept : IsSession id new trail keeper
+    pub session_kept : IsSession id base new trail keeper
     session_kept = record {
+      number = session.number;
       pass = session.pass;
       dealt = session.dealt;
       legal = session.legal;
@@ -213,6 +216,7 @@ finds_full id old new c d f = subst (FindsFull c) (sym f.client) record {
 
 no_call : (id : SessionId) (old new : SessionView) (c d : Known) (call : Call) (e : Refusal) → IsRefused id old c call e new d → IsNoCall c call e d
 no_call id old new c d call TrailFull r = finds_full id old new c d r
+no_call id old new c d call NotYours r = (r.same_client, r.releases ∙ ap (λ (b : Begin). Release (base_of b)) (sym r.begin))
 no_call id old new c d call NoMemory r = (r.same_client, r.allowed.1)
 no_call id old new c d call e r = absurd r
 

@@ -1,3 +1,4 @@
+pub mod Bases
 pub mod Counting
 pub mod Holds
 pub mod Endings

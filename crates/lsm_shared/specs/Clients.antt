@@ -2,11 +2,13 @@
 use Rattle.std.specs.Prelude.{◌≡◌, ℕ, zero, suc, ◌+◌, ◌<◌, ◌≤◌, ◌==◌, Bool, true, false, IsTrue, List, [], ◌∷◌, ◌++◌, length, if◌then◌else◌}
 use mathlib.Core.List.{IsPrefix}
 use Rattle.lsm_device.specs.declared.refusal.Refusal.{Refusal}
-use Rattle.lsm_device.specs.declared.refusal.Refusal.TheVariants.{NoMemory, TrailFull}
+use Rattle.lsm_device.specs.declared.refusal.Refusal.TheVariants.{NoMemory, TrailFull, NotYours}
 use Rattle.lsm_store.specs.Calls.{Call, Reply}
+use Rattle.lsm_store.specs.Calls.{Release}
 use Rattle.lsm_store.specs.Effects.{takes_memory}
+use Rattle.lsm_trail.specs.Begins.{Begin, base_of}
 use Rattle.lsm_trail.specs.History.{Event, event, IsLegal, calls_by}
-use Rattle.lsm_trail.specs.Knowledge.{Begin, Known, known}
+use Rattle.lsm_trail.specs.Knowledge.{Known, known}
 
 -- A client made this call. There is one legal history: all that the client had seen, calls of others, and this call with
 -- this reply. It has just the calls that the client made, each once.
@@ -16,7 +18,7 @@ pub record Extends (c : Known) (call : Call) (reply : Reply) (d : Known) : Type 
   pub between : List Event
   pub seen : d.seen ≡ (c.seen ++ between) ++ event c.number call reply ∷ []
   pub mine : d.mine ≡ c.mine ++ event c.number call reply ∷ []
-  pub legal : IsLegal d.begin.store.state d.seen
+  pub legal : IsLegal d.begin d.seen
   pub own : calls_by d.number d.seen ≡ d.mine
   pub room : length d.seen ≤ d.begin.limit
 
@@ -26,13 +28,15 @@ pub record FindsFull (c d : Known) : Type 0 where
   pub number : d.number ≡ c.number
   pub seen : IsPrefix c.seen d.seen
   pub mine : d.mine ≡ c.mine
-  pub legal : IsLegal d.begin.store.state d.seen
+  pub legal : IsLegal d.begin d.seen
   pub own : calls_by d.number d.seen ≡ d.mine
   pub full : length d.seen ≡ d.begin.limit
 
--- A call that is no entry: the trail was full, or there was no memory for a call that takes some.
+-- A call that is no entry: the trail was full; or it was to release the base, or there was no memory for a call that
+-- takes some, and the client knows what it knew.
 abbrev pub IsNoCall : Known → Call → Refusal → Known → Type 0
 IsNoCall c call TrailFull d = FindsFull c d
+IsNoCall c call NotYours d = (d ≡ c) × (call ≡ Release (base_of c.begin))
 IsNoCall c call NoMemory d = (d ≡ c) × IsTrue (takes_memory call)
 IsNoCall c call other d = ⊥
 

@@ -60,8 +60,9 @@ impl<A: Allocator, B: SessionName> Client<A, B> {
 impl<A: Allocator + Clone, B: SessionName> Client<A, B> {
     /// Makes a call of the store, in one hold of the lock. What the store refuses is a reply too.
     ///
-    /// It is refused with `TrailFull` where the trail has no place for another entry, before anything is done, and with
-    /// `NoMemory`, where the state of the store is as it was. A call that is refused is not in the trail.
+    /// It is refused with `TrailFull` where the trail has no place for another entry, and else with `NotYours` where it is
+    /// to release the session's base, both before anything is done; and with `NoMemory`, where the state of the store is as
+    /// it was. A call that is refused is not in the trail.
     pub fn call<D: Device, R: Wait>(
         &mut self,
         rt: &R,

@@ -1,6 +1,7 @@
 // What a session needs before it has a name.
 ghost use Rattle.std.specs.Prelude.{◌≡◌, ◌⊎◌, ◌<◌, ◌≤◌, Some, None, MatchResult};
 ghost use Rattle.lsm_device.specs.declared.refusal.Refusal.TheVariants.{NoMemory};
+ghost use Rattle.lsm_trail.specs.Begins.{CanPin};
 ghost use Rattle.lsm_shared.specs.Sessions.{begin_refusal, begin_with};
 
 use lsm_device::{Device, Refusal};
@@ -16,7 +17,8 @@ const MOST_ENTRIES: u32 = 65_536;
 /// without the lock. [`Shared::begin`](crate::Shared::begin) begins it, in a function that is generic in its name.
 ///
 /// It is refused with `Stopped`; with `TooManyClients` for no client or more than 64; with `BadLimit` for no place or more
-/// than 65,536; and with `NoMemory`. A refusal hands the store back.
+/// than 65,536; with `TooManySnapshots` where 32 are live, and with `Exhausted` where 2^63 were taken, since the session
+/// pins one; and with `NoMemory`. A refusal hands the store back.
 pub fn prepare<D: Device, A: Allocator + Clone>(
     alloc: A,
     store: Store<D, A>,
@@ -48,7 +50,7 @@ fn check<D: Device, A: Allocator>(
     trail: u32,
 ) -> Result<(), Refusal>
     ensures { MatchResult result
-        (λ _. (begin_refusal store.now.state clients trail ≡ None) × (0 < clients) × (trail ≤ 65536))
+        (λ _. (begin_refusal store.now.state clients trail ≡ None) × (0 < clients) × (trail ≤ 65536) × CanPin (begin_with store.now clients trail))
         (λ e. begin_refusal store.now.state clients trail ≡ Some e) }
 {
     store.log_room()?;
@@ -58,5 +60,6 @@ fn check<D: Device, A: Allocator>(
     if !(1..=MOST_ENTRIES).contains(&trail) {
         return Err(Refusal::BadLimit);
     }
+    store.may_snapshot()?;
     Ok(())
 }

@@ -1,10 +1,11 @@
 // The value behind the lock.
-ghost use Rattle.std.specs.Prelude.{◌≡◌, ℕ, ◌≤◌, [], length, IfOk, IfErr};
+ghost use Rattle.std.specs.Prelude.{◌≡◌, ◌≢◌, ℕ, ◌≤◌, [], length, IfOk, IfErr, MatchBool};
 ghost use Rattle.lsm_lives.specs.Calls.{call_of, reply_of};
 ghost use Rattle.lsm_store.specs.Backing.{IsBacked};
-ghost use Rattle.lsm_trail.specs.History.{IsLegal, state_after, calls_by};
+ghost use Rattle.lsm_store.specs.Calls.{Release};
+ghost use Rattle.lsm_trail.specs.History.{IsLegal, calls_by};
 ghost use Rattle.lsm_trail.specs.Knowledge.{keeper_of, IsKeeperPass};
-ghost use Rattle.lsm_shared.specs.Sessions.{IsMade, IsRefused};
+ghost use Rattle.lsm_shared.specs.Sessions.{IsPinned, IsMade, IsRefused, ended_state};
 
 use crate::answer::answer_of;
 use crate::client::Client;
@@ -15,11 +16,12 @@ use lsm_trail::{Counters, Entry, Numbers, Pass, SessionName, Trail};
 use std::alloc::Allocator;
 use std::marker::{Model, PhantomData};
 
-/// The value behind the lock: the store, the trail, and the pass that writes the words. Contracts see the store and the
-/// history.
+/// The value behind the lock: the store, the number of the base, the trail, and the pass that writes the words. Contracts
+/// see the store and the history.
 #[derive(Drop)]
 pub struct Session<D: Device, A: Allocator, B: SessionName> {
     store: Store<D, A>,
+    base: u64,
     trail: Trail<A>,
     keeper: Pass<A>,
     name: PhantomData<B>,
@@ -36,19 +38,25 @@ impl<D: Device, A: Allocator, B: SessionName> Model for Session<D, A, B> {
 
     ghost view = { λ s. record { store = s.store; log = s.trail.log } };
 
-    ghost invariant = { λ s. IsSession B.id s.store s.trail s.keeper };
+    ghost invariant = { λ s. IsSession B.id s.base s.store s.trail s.keeper };
 }
 
 impl<D: Device, A: Allocator, B: SessionName> Session<D, A, B> {
     // A session with an empty trail, whose clients are dealt.
-    pub(crate) fn new(store: Store<D, A>, trail: Trail<A>, keeper: Pass<A>) -> Session<D, A, B>
+    pub(crate) fn new(
+        store: Store<D, A>,
+        base: u64,
+        trail: Trail<A>,
+        keeper: Pass<A>,
+    ) -> Session<D, A, B>
         requires keeper { IsKeeperPass B.id [] keeper × ((keeper_of keeper).dealt ≡ B.id.begin.clients) }
-        requires store { store ≡ B.id.begin.store }
+        requires pinned { IsPinned B.id.begin base store }
         requires trail { trail ≡ record { log = []; limit = B.id.begin.limit } }
         ensures { result ≡ record { store = store; log = [] } }
     {
         Session {
             store,
+            base,
             trail,
             keeper,
             name: PhantomData,
@@ -65,15 +73,22 @@ impl<D: Device, A: Allocator, B: SessionName> Session<D, A, B> {
         counters.retire(&mut self.keeper, pass);
     }
 
-    // The store and the trail.
+    // The store, which lets the base go unless it is stopped, and the trail.
     pub(crate) fn into_parts(self) -> (Store<D, A>, Trail<A>)
-        ensures parts { (result.0 ≡ self.store) × (result.1.log ≡ self.log) }
-        ensures legal { IsLegal B.id.begin.store.state self.log }
-        ensures state { self.store.state ≡ state_after B.id.begin.store.state self.log }
-        ensures backed { IsBacked B.id.begin.store → IsBacked self.store }
+        ensures trail { result.1.log ≡ self.log }
+        ensures legal { IsLegal B.id.begin self.log }
+        ensures state { result.0.state ≡ ended_state B.id.begin self.log }
+        ensures backed { IsBacked B.id.begin.store → IsBacked result.0 }
         ensures room { length self.log ≤ B.id.begin.limit }
     {
-        let Session { store, trail, .. } = self;
+        let Session {
+            mut store,
+            base,
+            trail,
+            ..
+        } = self;
+        // The base is live, so only a stopped store refuses this.
+        let _ = store.release(base);
         (store, trail)
     }
 }
@@ -93,6 +108,9 @@ impl<D: Device, A: Allocator + Clone, B: SessionName> Session<D, A, B> {
             counters.note(&mut self.keeper, &mut me.pass);
             return Err(Refusal::TrailFull);
         }
+        if releases(&call, self.base) {
+            return Err(Refusal::NotYours);
+        }
         let reply = serve(&mut self.store, &call);
         let answer = answer_of(&reply)?;
         let entry = Entry::new(me.number, call, reply);
@@ -105,5 +123,15 @@ impl<D: Device, A: Allocator + Clone, B: SessionName> Session<D, A, B> {
         counters.write(&mut self.keeper, &mut me.pass, count, numbers, &entry);
         self.trail.push(entry);
         Ok(answer)
+    }
+}
+
+// Whether a call is to release the snapshot of this number.
+fn releases<A: Allocator>(call: &Call<A>, number: u64) -> bool
+    ensures { MatchBool result (call_of call.now ≡ Release number) (call_of call.now ≢ Release number) }
+{
+    match call {
+        Call::Release(released) => *released == number,
+        _ => false,
     }
 }

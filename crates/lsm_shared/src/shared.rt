@@ -2,9 +2,10 @@
 ghost use Rattle.std.specs.Prelude.{◌≡◌, ◌<◌, ◌≤◌, [], IfOk, MatchResult};
 ghost use Rattle.std.specs.Vec.{vec_capacity};
 ghost use Rattle.lsm_device.specs.declared.refusal.Refusal.TheVariants.{NoMemory, NotYours};
+ghost use Rattle.lsm_trail.specs.Begins.{base_of, CanPin};
 ghost use Rattle.lsm_trail.specs.Knowledge.{keeper_of, IsKeeperPass};
 ghost use Rattle.lsm_shared.specs.Clients.{newcomers, AreAll};
-ghost use Rattle.lsm_shared.specs.Sessions.{IsEnded};
+ghost use Rattle.lsm_shared.specs.Sessions.{IsPinned, IsEnded};
 
 use crate::client::Client;
 use crate::ending::are_all;
@@ -21,6 +22,8 @@ pub struct Shared<D: Device, A: Allocator, B: SessionName> {
     pub(crate) counters: Counters<D, A, B>,
     pub(crate) session: Mutex<Session<D, A, B>>,
     clients: u32,
+    base: u64,
+    ghost pinned: { base ≡ base_of B.id.begin },
     ghost all: { clients ≡ B.id.begin.clients },
     ghost some: { 0 < clients },
 }
@@ -36,6 +39,19 @@ fn places<A: Allocator + Clone, B: SessionName>(
     let trail = Trail::new(alloc.clone()?, limit as usize)?;
     let clients = Vec::with_capacity(alloc, count as usize)?;
     Ok((trail, clients))
+}
+
+// Pins the base of the session, and answers its number.
+fn pin<D: Device, A: Allocator + Clone, B: SessionName>(
+    store: &mut Store<D, A>,
+) -> Result<u64, Refusal>
+    requires store { store.old ≡ B.id.begin.store }
+    requires could { CanPin B.id.begin }
+    ensures { MatchResult result
+        (λ base. IsPinned B.id.begin base store.new)
+        (λ e. (e ≡ NoMemory) × (store.new ≡ store.old)) }
+{
+    store.snapshot()
 }
 
 // The clients, numbered from 0 on.
@@ -56,8 +72,8 @@ fn deal_all<D: Device, A: Allocator, B: SessionName>(
 }
 
 impl<D: Device, A: Allocator + Clone, B: SessionName> Shared<D, A, B> {
-    /// Begins the session that was prepared, with all places of its trail, and gives its clients, numbered from 0 on. Want
-    /// of memory hands the store back.
+    /// Begins the session that was prepared, with all places of its trail, and pins its base. It gives the clients, numbered
+    /// from 0 on. Want of memory hands the store back as it was.
     pub fn begin(
         alloc: A,
         opened: Opened<D, A>,
@@ -71,14 +87,19 @@ impl<D: Device, A: Allocator + Clone, B: SessionName> Shared<D, A, B> {
         let Ok((trail, mut clients)) = places(alloc, opened.limit(), count) else {
             return Err((Refusal::NoMemory, opened.into_store()));
         };
-        let (store, counters, mut keeper) = opened.named::<B>();
+        let (mut store, counters, mut keeper) = opened.named::<B>();
+        let base = match pin::<D, A, B>(&mut store) {
+            Ok(base) => base,
+            Err(refusal) => return Err((refusal, store)),
+        };
         deal_all(&counters, &mut keeper, &mut clients, count);
-        let session = Mutex::new(Session::new(store, trail, keeper));
+        let session = Mutex::new(Session::new(store, base, trail, keeper));
         Ok((
             Shared {
                 counters,
                 session,
                 clients: count,
+                base,
             },
             clients,
         ))
@@ -86,8 +107,16 @@ impl<D: Device, A: Allocator + Clone, B: SessionName> Shared<D, A, B> {
 }
 
 impl<D: Device, A: Allocator, B: SessionName> Shared<D, A, B> {
-    /// Ends the session: it gives the store, and the trail, which has just the calls that each client made. It is refused
-    /// with `NotYours` where these are not the session's clients, each once, and then hands all back.
+    /// The number of the base: the snapshot that the session pins from its begin to its end. Its map is that of the begin.
+    pub fn base(&self) -> u64
+        ensures { result ≡ base_of B.id.begin }
+    {
+        self.base
+    }
+
+    /// Ends the session: it gives the store, which lets the base go unless it is stopped, and the trail, which has just the
+    /// calls that each client made. It is refused with `NotYours` where these are not the session's clients, each once, and
+    /// then hands all back.
     pub fn finish(
         self,
         clients: Vec<Client<A, B>, A>,

@@ -1,3 +1,4 @@
+pub mod Bases
 pub mod Lists
 pub mod Histories
 pub mod Moves

@@ -9,8 +9,9 @@ use prog.Atomic.{either}
 use Rattle.atomic_table.specs.Table.{State, step, keeps, stepped, opening, Allows, Splits, Joins}
 use Rattle.atomic_table.proofs.Lists.{at_set, set_again}
 use Rattle.lsm_store.specs.RecoveryPoints.{batch_count}
+use Rattle.lsm_trail.specs.Begins.{Begin, CanPin}
 use Rattle.lsm_trail.specs.History.{Event, IsLegal, calls_by, numbers}
-use Rattle.lsm_trail.specs.Knowledge.{Begin, Keeper, Known, View, known, keeping, view_of, nobody}
+use Rattle.lsm_trail.specs.Knowledge.{Keeper, Known, View, known, keeping, view_of, nobody}
 use Rattle.lsm_trail.specs.Rule.{StandsAt, Drafted, FitsKeeper, FitsClient, Fits, Kept, first_view}
 use Rattle.lsm_trail.specs.Steps.{Puts, published, Publishes, Compares, Notes, dealer, dealt_to}
 use Rattle.lsm_trail.specs.declared.numbers.Numbers.{Numbers}
@@ -98,7 +99,7 @@ module _ (b : Begin) where
           wide = length-set s.words i new ∙ r.wide;
           room = r.room;
           count = get_or-set_other s.words i 0 new 0 (λ e. omega arith) ∙ r.count;
-          rows = λ seen p. row_set s.words i new (3 * length seen + 1) (numbers b.store.state seen) (let l = prefix_length seen r.log p in omega arith) (r.rows seen p);
+          rows = λ seen p. row_set s.words i new (3 * length seen + 1) (numbers b seen) (let l = prefix_length seen r.log p in omega arith) (r.rows seen p);
           strangers = r.strangers;
           fits = views_set (Fits b r.log r.dealt r.writer r.seat words') s.views id w ((f.0.0, f.0.1, f.0.2, f.0.3, drafted), f.1)
               (λ j u apart e. let g = r.fits j u e in (others_keeper r.log r.log r.dealt r.dealt r.writer s.words words' j u.keeper (λ is. apart (is ∙ sym f.0.1)) g.0, g.1));
@@ -121,8 +122,8 @@ module _ (b : Begin) where
       let two : (k + 1) + 1 ≡ k + 2 = omega arith in
       subst (λ (z : ℕ). StandsAt words z n) (sym at) (d.0, d.1.0, subst (λ (z : ℕ). slice_index words z ≡ n.synced) two d.1.1.0)
 
-  publishes_on : (s : St) (r : Kept b s) (id : ℕ) (k : Keeper) (c : Known) (e : Event) → get_elem? s.views id ≡ some (view_of (Some k) (Some c)) → e.client ≡ c.number → length k.log < b.limit → IsLegal b.store.state (k.log ++ e ∷ [])
-      → k.draft ≡ (numbers b.store.state (k.log ++ e ∷ [])).calls ∷ (numbers b.store.state (k.log ++ e ∷ [])).batches ∷ (numbers b.store.state (k.log ++ e ∷ [])).synced ∷ []
+  publishes_on : (s : St) (r : Kept b s) (id : ℕ) (k : Keeper) (c : Known) (e : Event) → get_elem? s.views id ≡ some (view_of (Some k) (Some c)) → e.client ≡ c.number → length k.log < b.limit → IsLegal b (k.log ++ e ∷ [])
+      → k.draft ≡ (numbers b (k.log ++ e ∷ [])).calls ∷ (numbers b (k.log ++ e ∷ [])).batches ∷ (numbers b (k.log ++ e ∷ [])).synced ∷ []
       → Kept b (stepped s 0 (length k.log + 1) id [] (published k c e) keeps)
   publishes_on s r id k c e at by room legal draft =
       let f = r.fits id (view_of (Some k) (Some c)) at in
@@ -132,23 +133,23 @@ module _ (b : Begin) where
       let words' = set s.words 0 (length k.log + 1) in
       let is : r.seat e.client ≡ id = ap r.seat by ∙ f.1.1 in
       let wide = r.wide in
-      let n = numbers b.store.state (r.log ++ e ∷ []) in
+      let n = numbers b (r.log ++ e ∷ []) in
       let drafted : Drafted s.words (3 * length r.log + 4) (n.calls ∷ n.batches ∷ n.synced ∷ []) =
-      subst (λ (l : List Event). Drafted s.words (3 * length r.log + 4) ((numbers b.store.state l).calls ∷ (numbers b.store.state l).batches ∷ (numbers b.store.state l).synced ∷ [])) now
+      subst (λ (l : List Event). Drafted s.words (3 * length r.log + 4) ((numbers b l).calls ∷ (numbers b l).batches ∷ (numbers b l).synced ∷ [])) now
       (subst (λ (ds : List ℕ). Drafted s.words (3 * length r.log + 4) ds) draft f.0.4) in
       record {
         log = log';
         dealt = r.dealt;
         writer = r.writer;
         seat = r.seat;
-        legal = subst (IsLegal b.store.state) now legal;
+        legal = subst (IsLegal b) now legal;
         wide = length-set s.words 0 (length k.log + 1) ∙ r.wide;
         room = omega (arith, room, ap length same, length-append r.log (e ∷ []));
         count = get_or-set_same s.words 0 (length k.log + 1) 0 (omega arith) ∙ omega (arith, ap length same, length-append r.log (e ∷ []));
         rows = λ seen p. ⊎_elim
-            (λ (q : IsPrefix seen r.log). row_count s.words (length k.log + 1) (3 * length seen + 1) (numbers b.store.state seen) (omega arith) (r.rows seen q))
-            (λ (q : seen ≡ log'). subst (λ (l : List Event). StandsAt words' (3 * length l + 1) (numbers b.store.state l)) (sym q)
-            (row_count s.words (length k.log + 1) (3 * length log' + 1) (numbers b.store.state log') (omega arith) (new_row s.words r.log e n drafted)))
+            (λ (q : IsPrefix seen r.log). row_count s.words (length k.log + 1) (3 * length seen + 1) (numbers b seen) (omega arith) (r.rows seen q))
+            (λ (q : seen ≡ log'). subst (λ (l : List Event). StandsAt words' (3 * length l + 1) (numbers b l)) (sym q)
+            (row_count s.words (length k.log + 1) (3 * length log' + 1) (numbers b log') (omega arith) (new_row s.words r.log e n drafted)))
             (prefix_snoc seen r.log e p);
         strangers = λ x far. calls_by-other x r.log e (λ same. let l : c.number < r.dealt = f.1.2 in omega (arith, by, same)) ∙ r.strangers x far;
         fits = views_set (Fits b log' r.dealt r.writer r.seat words') s.views id (published k c e) (
@@ -158,8 +159,8 @@ module _ (b : Begin) where
             (λ j u apart e'. let g = r.fits j u e' in (others_keeper r.log log' r.dealt r.dealt r.writer s.words words' j u.keeper (λ x. apart (x ∙ sym f.0.1)) g.0, others_client r.log e r.dealt r.seat id j u.client is apart g.1));
       }
 
-  pub publishes : (slots id : ℕ) (k : Keeper) (c : Known) (e : Event) (old : ℕ) → old ≡ length k.log → e.client ≡ c.number → length k.log < b.limit → IsLegal b.store.state (k.log ++ e ∷ [])
-      → k.draft ≡ (numbers b.store.state (k.log ++ e ∷ [])).calls ∷ (numbers b.store.state (k.log ++ e ∷ [])).batches ∷ (numbers b.store.state (k.log ++ e ∷ [])).synced ∷ []
+  pub publishes : (slots id : ℕ) (k : Keeper) (c : Known) (e : Event) (old : ℕ) → old ≡ length k.log → e.client ≡ c.number → length k.log < b.limit → IsLegal b (k.log ++ e ∷ [])
+      → k.draft ≡ (numbers b (k.log ++ e ∷ [])).calls ∷ (numbers b (k.log ++ e ∷ [])).batches ∷ (numbers b (k.log ++ e ∷ [])).synced ∷ []
       → Allows (Kept b) slots id (view_of (Some k) (Some c), []) 0 (λ n. either (eqb n old) (old + 1) n) (Publishes (step slots 0 old (old + 1) (some e)) (view_of (Some k) (Some c), []))
   publishes slots id k c e old is by room legal draft s r _ at _ =
       let f = r.fits id (view_of (Some k) (Some c)) at in
@@ -331,7 +332,7 @@ module _ (b : Begin) where
   length-first_words : length first_words ≡ 3 * b.limit + 4
   length-first_words = length-set (set (replicate (3 * b.limit + 4) 0) 2 (batch_count b.store.state.points)) 3 b.store.state.points.synced ∙ (length-set (replicate (3 * b.limit + 4) 0) 2 (batch_count b.store.state.points) ∙ length-replicate (3 * b.limit + 4) 0)
 
-  first_row : StandsAt first_words 1 (numbers b.store.state [])
+  first_row : StandsAt first_words 1 (numbers b [])
   first_row =
       let none = replicate (3 * b.limit + 4) 0 in
       let batches = batch_count b.store.state.points in
@@ -352,17 +353,17 @@ module _ (b : Begin) where
   one zero v e = subst (Fits b [] 0 0 (λ c. c) first_words 0) (some-injective _ _ e) ((refl, refl, refl, refl, tt), tt)
   one (suc by) v e = absurd (some-ne-none v (sym e))
 
-  pub begins : (words : List ℕ) → words ≡ first_words → Kept b (opening words [] (first_view b))
-  begins words is = subst (λ (ws : List ℕ). Kept b (opening ws [] (first_view b))) (sym is) record {
+  pub begins : (words : List ℕ) → CanPin b → words ≡ first_words → Kept b (opening words [] (first_view b))
+  begins words can is = subst (λ (ws : List ℕ). Kept b (opening ws [] (first_view b))) (sym is) record {
     log = [];
     dealt = 0;
     writer = 0;
     seat = λ c. c;
-    legal = legal_none b.store.state;
+    legal = legal_none b can;
     wide = length-first_words;
     room = zero-le;
     count = first_count;
-    rows = λ seen p. subst (λ (l : List Event). StandsAt first_words (3 * length l + 1) (numbers b.store.state l)) (sym (prefix_of_none seen p)) first_row;
+    rows = λ seen p. subst (λ (l : List Event). StandsAt first_words (3 * length l + 1) (numbers b l)) (sym (prefix_of_none seen p)) first_row;
     strangers = λ c _. refl;
     fits = one;
   }

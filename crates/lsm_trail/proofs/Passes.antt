@@ -1,11 +1,12 @@
 -- The steps by passes of which this is known, and what they tell of them.
-use Rattle.std.proofs.Common.{◌≡◌, ℕ, ◌+◌, ◌*◌, ◌<◌, ◌≤◌, ◌==◌, [], ◌∷◌, ◌++◌, length, Option, Some, None, ap, sym, ◌∙◌, subst}
+use Rattle.std.proofs.Common.{◌≡◌, ℕ, ◌+◌, ◌*◌, ◌<◌, ◌≤◌, ◌==◌, [], ◌∷◌, ◌++◌, length, Option, Some, None, sym, subst}
 use mathlib.Core.List.{IsPrefix}
 use mathlib.Core.Option.{some, none}
 use prog.Atomic.{either}
 use Rattle.atomic_table.specs.Table.{Me, step, Allows, Splits, Joins}
+use Rattle.lsm_trail.specs.Begins.{Begin}
 use Rattle.lsm_trail.specs.History.{Event, IsLegal, calls_by, numbers}
-use Rattle.lsm_trail.specs.Knowledge.{Begin, Keeper, Known, View, known, keeping, view_of, nobody, row_of}
+use Rattle.lsm_trail.specs.Knowledge.{Keeper, Known, View, known, keeping, view_of, nobody, row_of}
 use Rattle.lsm_trail.specs.Rule.{Kept}
 use Rattle.lsm_trail.specs.Steps.{Puts, published, Publishes, Compares, Notes, dealer, dealt_to}
 use Rattle.lsm_trail.proofs.Moves.{puts, publishes, compares, notes, lends, gives_back, deals}
@@ -20,8 +21,8 @@ puts_at key slots id me k c i new is there inside = subst (λ (m : M). Allows (K
 pub put_told : (k : Keeper) (c : Option Known) (me me' : M) (new : ℕ) → me ≡ (view_of (Some k) c, []) → Puts (step 0 0 new 0 none) me 0 me' → me' ≡ (view_of (Some (keeping k.begin k.dealt k.log (k.draft ++ new ∷ []))) c, [])
 put_told k c me me' new is rule = let r = subst (λ (m : M). Puts (step 0 0 new 0 none) m 0 me') is rule in λ j. (r.1 j, r.0 j)
 
-pub publishes_at : (key : Begin) (slots id : ℕ) (me : M) (k : Keeper) (c : Known) (e : Event) (old : ℕ) → me ≡ (view_of (Some k) (Some c), []) → old ≡ length k.log → e.client ≡ c.number → length k.log < key.limit → IsLegal key.store.state (k.log ++ e ∷ [])
-    → k.draft ≡ row_of (numbers key.store.state (k.log ++ e ∷ []))
+pub publishes_at : (key : Begin) (slots id : ℕ) (me : M) (k : Keeper) (c : Known) (e : Event) (old : ℕ) → me ≡ (view_of (Some k) (Some c), []) → old ≡ length k.log → e.client ≡ c.number → length k.log < key.limit → IsLegal key (k.log ++ e ∷ [])
+    → k.draft ≡ row_of (numbers key (k.log ++ e ∷ []))
     → Allows (Kept key) slots id me 0 (λ n. either (n == old) (old + 1) n) (Publishes (step slots 0 old (old + 1) (some e)) me)
 publishes_at key slots id me k c e old is len by room legal draft = subst (λ (m : M). Allows (Kept key) slots id m 0 (λ n. either (n == old) (old + 1) n) (Publishes (step slots 0 old (old + 1) (some e)) m)) (sym is) (publishes key slots id k c e old len by room legal draft)
 

@@ -4,8 +4,9 @@ use Rattle.lsm_device.specs.declared.refusal.Refusal.TheVariants.{NoMemory}
 use Rattle.lsm_store.specs.RecoveryPoints.{batch_count}
 use Rattle.lsm_store.specs.State.{State}
 use Rattle.lsm_store.specs.Calls.{Call, Reply}
-use Rattle.lsm_store.specs.Calls.{Refused}
+use Rattle.lsm_store.specs.Calls.{Release, Refused}
 use Rattle.lsm_store.specs.Run.{Run, last_state}
+use Rattle.lsm_trail.specs.Begins.{Begin, base_of, first_state, CanPin}
 use Rattle.lsm_trail.specs.declared.numbers.Numbers.{Numbers}
 
 -- a call of a client, and its reply
@@ -23,15 +24,17 @@ calls_of log = map (λ e. e.call) log
 abbrev pub replies_of : List Event → List Reply
 replies_of log = map (λ e. e.reply) log
 
--- A history that is legal from a state on: its replies are those of a run of one store, and none of them tells of want of
--- memory.
-pub record IsLegal (start : State) (log : List Event) : Type 0 where
-  pub run : Run start (calls_of log) (replies_of log)
+-- A history that is legal where a session begins so: its replies are those of a run of one store in which the base is
+-- pinned, none of them tells of want of memory, and no call releases the base.
+pub record IsLegal (b : Begin) (log : List Event) : Type 0 where
+  pub pinned : CanPin b
+  pub run : Run (first_state b) (calls_of log) (replies_of log)
   pub made : All (λ e. e.reply ≢ Refused NoMemory) log
+  pub keeps_base : All (λ e. e.call ≢ Release (base_of b)) log
 
 -- the state after a history
-abbrev pub state_after : State → List Event → State
-state_after start log = last_state start (calls_of log) (replies_of log)
+abbrev pub state_after : Begin → List Event → State
+state_after b log = last_state (first_state b) (calls_of log) (replies_of log)
 
 -- the calls of one client in it, in order
 abbrev pub calls_by : ℕ → List Event → List Event
@@ -42,8 +45,8 @@ abbrev pub numbers_at : ℕ → State → Numbers
 numbers_at calls s = record { calls = calls; batches = batch_count s.points; synced = s.points.synced }
 
 -- the numbers of a history: its calls, and the batches after it and how many of these are synced
-abbrev pub numbers : State → List Event → Numbers
-numbers start log = numbers_at (length log) (state_after start log)
+abbrev pub numbers : Begin → List Event → Numbers
+numbers b log = numbers_at (length log) (state_after b log)
 
 -- what contracts see of a trail: the history, and how many entries there may be
 pub record TrailView : Type 0 where

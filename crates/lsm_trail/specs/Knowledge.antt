@@ -1,19 +1,13 @@
 -- What passes of a session know.
-use Rattle.std.specs.Prelude.{◌≡◌, ℕ, List, [], ◌∷◌, ◌++◌, Option, Some, None}
+use Rattle.std.specs.Prelude.{◌≡◌, ℕ, List, [], ◌∷◌, Option, Some, None}
 use Rattle.std.specs.FinMap as finite
 use Rattle.atomic_table.specs.Seated.{TableId}
 use Rattle.atomic_table.specs.declared.shared.Seat.{Seat}
 use Rattle.lsm_device.specs.Medium.{zeroed}
-use Rattle.lsm_store.specs.Backing.{StoreView}
 use Rattle.lsm_store.specs.Crash.{reopened}
+use Rattle.lsm_trail.specs.Begins.{Begin}
 use Rattle.lsm_trail.specs.History.{Event}
 use Rattle.lsm_trail.specs.declared.numbers.Numbers.{Numbers}
-
--- With what a session begins: the store, the most entries of its history, and the number of clients.
-pub record Begin : Type 0 where
-  pub store : StoreView
-  pub limit : ℕ
-  pub clients : ℕ
 
 -- A session: the table of its words, and its begin.
 pub record SessionId : Type 0 where

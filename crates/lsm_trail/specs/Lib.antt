@@ -1,3 +1,4 @@
+pub mod Begins
 pub mod History
 pub mod Knowledge
 pub mod Rule

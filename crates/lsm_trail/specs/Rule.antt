@@ -5,8 +5,9 @@ use mathlib.Core.List.{IsPrefix}
 use mathlib.Core.Option.{some}
 use lib.ListN.{get_elem?}
 use Rattle.atomic_table.specs.Table.{State}
+use Rattle.lsm_trail.specs.Begins.{Begin}
 use Rattle.lsm_trail.specs.History.{Event, IsLegal, calls_by, numbers}
-use Rattle.lsm_trail.specs.Knowledge.{Begin, Keeper, Known, View, keeping, view_of}
+use Rattle.lsm_trail.specs.Knowledge.{Keeper, Known, View, keeping, view_of}
 use Rattle.lsm_trail.specs.declared.numbers.Numbers.{Numbers}
 
 -- the numbers stand from this word on
@@ -37,11 +38,11 @@ pub record Kept (b : Begin) (s : State Event View) : Type 0 where
   pub dealt : ℕ
   pub writer : ℕ
   pub seat : ℕ → ℕ
-  pub legal : IsLegal b.store.state log
+  pub legal : IsLegal b log
   pub wide : length s.words ≡ 3 * b.limit + 4
   pub room : length log ≤ b.limit
   pub count : slice_index s.words 0 ≡ length log
-  pub rows : (seen : List Event) → IsPrefix seen log → StandsAt s.words (3 * length seen + 1) (numbers b.store.state seen)
+  pub rows : (seen : List Event) → IsPrefix seen log → StandsAt s.words (3 * length seen + 1) (numbers b seen)
   pub strangers : (c : ℕ) → dealt ≤ c → calls_by c log ≡ []
   pub fits : (by : ℕ) (v : View) → get_elem? s.views by ≡ some v → Fits b log dealt writer seat s.words by v
 

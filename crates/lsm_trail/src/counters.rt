@@ -75,10 +75,10 @@ impl<D: Device, A: Allocator, B: SessionName> Counters<D, A, B> {
     // Makes the history longer by the entry.
     fn publish(&self, keeper: &mut Pass<A>, count: usize, entry: &Entry<A>)
         requires pass { HasBoth B.id (keeper_of keeper.old) (known_of keeper.old) keeper.old }
-        requires draft { (keeper_of keeper.old).draft ≡ row_of (numbers B.id.begin.store.state ((keeper_of keeper.old).log ++ entry.now ∷ [])) }
+        requires draft { (keeper_of keeper.old).draft ≡ row_of (numbers B.id.begin ((keeper_of keeper.old).log ++ entry.now ∷ [])) }
         requires count { (length (keeper_of keeper.old).log ≡ count) × (count < B.id.begin.limit) }
         requires client { entry.now.client ≡ (known_of keeper.old).number }
-        requires legal { IsLegal B.id.begin.store.state ((keeper_of keeper.old).log ++ entry.now ∷ []) }
+        requires legal { IsLegal B.id.begin ((keeper_of keeper.old).log ++ entry.now ∷ []) }
         ensures pass { (keeper.new.table_id ≡ B.id.table) × (keeper.new.me ≡ (published (keeper_of keeper.old) (known_of keeper.old) entry.now, [])) }
         ensures knew { IsPrefix (known_of keeper.old).seen (keeper_of keeper.old).log × (calls_by (known_of keeper.old).number (keeper_of keeper.old).log ≡ (known_of keeper.old).mine) }
     {
@@ -101,9 +101,9 @@ impl<D: Device, A: Allocator, B: SessionName> Counters<D, A, B> {
         requires keeper { IsKeeperPass B.id (keeper_of keeper.old).log keeper.old }
         requires client { IsClientPass B.id client.old }
         requires count { (length (keeper_of keeper.old).log ≡ count) × (count < B.id.begin.limit) }
-        requires next { next ≡ numbers B.id.begin.store.state ((keeper_of keeper.old).log ++ entry.now ∷ []) }
+        requires next { next ≡ numbers B.id.begin ((keeper_of keeper.old).log ++ entry.now ∷ []) }
         requires by { entry.now.client ≡ (known_of client.old).number }
-        requires legal { IsLegal B.id.begin.store.state ((keeper_of keeper.old).log ++ entry.now ∷ []) }
+        requires legal { IsLegal B.id.begin ((keeper_of keeper.old).log ++ entry.now ∷ []) }
         ensures keeper { IsKeeperPass B.id ((keeper_of keeper.old).log ++ entry.now ∷ []) keeper.new }
         ensures dealt { (keeper_of keeper.new).dealt ≡ (keeper_of keeper.old).dealt }
         ensures client { IsClientPass B.id client.new }

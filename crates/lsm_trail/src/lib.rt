@@ -4,6 +4,7 @@
 mod counters;
 mod entry;
 mod knowledge;
+mod law;
 mod numbers;
 mod opened;
 mod rule;
@@ -13,6 +14,7 @@ mod trail;
 pub use counters::Counters;
 pub use entry::Entry;
 pub use knowledge::{Knowledge, Pass};
+pub use law::base_stays;
 pub use numbers::Numbers;
 pub use opened::Opened;
 pub use rule::{Compare, Deal, Law, Lend, Note, Nothing, Publish, Put};

@@ -1,5 +1,6 @@
 // The words of a session that is about to begin.
 ghost use Rattle.std.specs.Prelude.{◌≡◌, ◌+◌, ◌*◌, ◌<◌, ◌≤◌, [], IfOk, MatchResult};
+ghost use Rattle.lsm_trail.specs.Begins.{CanPin};
 ghost use Rattle.lsm_trail.specs.Knowledge.{keeper_of, IsKeeperPass};
 ghost use Rattle.lsm_trail.specs.Rule.{first_view};
 
@@ -31,17 +32,18 @@ impl<D: Device, A: Allocator> Model for Opened<D, A> {
     ghost coded = { Prim.hlevel (codes, map_code) };
 
     ghost use Rattle.std.specs.Prelude.{◌≡◌, ◌+◌, ◌*◌, ◌<◌, ◌≤◌, []};
+    ghost use Rattle.lsm_trail.specs.Begins.{CanPin};
     ghost use Rattle.lsm_trail.specs.Rule.{first_view};
 
     ghost view = { λ o. record { table = o.board.shared.table_id; begin = o.start } };
 
-    ghost invariant = { λ o. (o.board.shared.key ≡ o.start) × (o.board.shared.table_id.words ≡ 3 * o.start.limit + 4) × (o.start.limit ≤ 65536) × (0 < o.start.clients) × (o.keeper.table_id ≡ o.board.shared.table_id) × (o.keeper.me ≡ (first_view o.start, [])) };
+    ghost invariant = { λ o. (o.board.shared.key ≡ o.start) × (o.board.shared.table_id.words ≡ 3 * o.start.limit + 4) × (o.start.limit ≤ 65536) × (0 < o.start.clients) × (o.keeper.table_id ≡ o.board.shared.table_id) × (o.keeper.me ≡ (first_view o.start, [])) × CanPin o.start };
 }
 
 impl<D: Device, A: Allocator + Clone> Opened<D, A> {
     /// Makes the words. Want of memory hands back what the session was to begin with.
     pub fn new(alloc: A, start: Start<D, A>) -> Result<Opened<D, A>, Start<D, A>>
-        requires { (start.limit ≤ 65536) × (0 < start.clients) }
+        requires { (start.limit ≤ 65536) × (0 < start.clients) × CanPin start }
         ensures { MatchResult result (λ o. o.begin ≡ start) (λ s. s ≡ start) }
     {
         match open_board(alloc, &start) {
@@ -81,6 +83,7 @@ impl<D: Device, A: Allocator> Opened<D, A> {
     pub fn named<B: SessionName>(self) -> (Store<D, A>, Counters<D, A, B>, Pass<A>)
         requires { self ≡ B.id }
         ensures store { result.0 ≡ B.id.begin.store }
+        ensures base { CanPin B.id.begin }
         ensures keeper { IsKeeperPass B.id [] result.2 × ((keeper_of result.2).dealt ≡ 0) }
     {
         let Opened {
@@ -97,7 +100,7 @@ fn open_board<D: Device, A: Allocator + Clone>(
     alloc: A,
     start: &Start<D, A>,
 ) -> Result<(Board<D, A>, Pass<A>), AllocError>
-    requires { start.now.limit ≤ 65536 }
+    requires { (start.now.limit ≤ 65536) × CanPin start.now }
     ensures { IfOk result (λ r. (r.0.shared.key ≡ start.now) × (r.0.shared.table_id.words ≡ 3 * start.now.limit + 4) × (r.1.table_id ≡ r.0.shared.table_id) × (r.1.me ≡ (first_view start.now, []))) }
 {
     let mut words = Vec::from_elem(alloc.clone()?, 0u64, 3 * start.limit as usize + 4)?;

@@ -32,7 +32,7 @@ pub struct Start<D: Device, A: Allocator = Global> {
 impl<D: Device, A: Allocator> Model for Start<D, A> {
     ghost use Rattle.std.specs.Coded.{codes};
     ghost use Rattle.lsm_codec.specs.Map.{map_code};
-    ghost use Rattle.lsm_trail.specs.Knowledge.{Begin};
+    ghost use Rattle.lsm_trail.specs.Begins.{Begin};
 
     ghost Value = { Begin };
 

@@ -21,4 +21,4 @@ pub returns : goal.returns
 returns g c =
     let i = c.loop-client.invariant in
     let e = c.into_parts.ensures in
-    ended _ _ _ _ _ _ (search rules) c.requires.0 c.requires.1 i.1 i.2 e.legal e.state e.backed e.room e.parts.0 e.parts.1
+    ended _ _ _ c.loop-client.session _ _ (search rules) c.requires.0 c.requires.1 i.1 i.2 e.legal e.state e.backed e.room e.trail

@@ -1,4 +1,4 @@
-use Rattle.std.proofs.Common.{refl, sym, ◌∙◌, arith}
+use Rattle.std.proofs.Common.{refl, sym, arith}
 use Rattle.lsm_shared.proofs.Endings.{all_by}
 use Rattle.lsm_shared.proofs.shared.Shared.finish.Goals as goal
 

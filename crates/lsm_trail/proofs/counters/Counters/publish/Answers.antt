@@ -1,6 +1,7 @@
 use Rattle.std.proofs.Common.{◌≡◌, [], ◌∷◌, ◌++◌, rules, ap, sym, subst, arith}
+use Rattle.lsm_trail.specs.Begins.{Begin}
 use Rattle.lsm_trail.specs.History.{IsLegal, numbers}
-use Rattle.lsm_trail.specs.Knowledge.{Begin, keeper_of, row_of}
+use Rattle.lsm_trail.specs.Knowledge.{keeper_of, row_of}
 use Rattle.lsm_trail.proofs.Passes.{publishes_at, published_told}
 use Rattle.lsm_trail.proofs.counters.Counters.publish.Goals as goal
 
@@ -13,8 +14,8 @@ compare_exchange_with-requires g c =
       omega (arith, c.args.self.now.wide, ap (λ t. t.words) c.args.self.now.table),
       publishes_at _ _ _ _ _ _ _ _ c.requires.pass.1 (sym c.requires.count.0) c.requires.client
           (omega (arith, c.requires.count.0, c.requires.count.1, ap (λ (b : Begin). b.limit) key))
-          (subst (λ (b : Begin). IsLegal b.store.state next) (sym key) c.requires.legal)
-          (subst (λ (b : Begin). k.draft ≡ row_of (numbers b.store.state next)) (sym key) c.requires.draft),
+          (subst (λ (b : Begin). IsLegal b next) (sym key) c.requires.legal)
+          (subst (λ (b : Begin). k.draft ≡ row_of (numbers b next)) (sym key) c.requires.draft),
     )
 
 pub returns : goal.returns

@@ -1,5 +1,5 @@
 use Rattle.std.proofs.Common.{rules, [], ◌∷◌, Some, ap, ◌∙◌, arith}
-use Rattle.lsm_trail.specs.Knowledge.{Begin}
+use Rattle.lsm_trail.specs.Begins.{Begin}
 use Rattle.lsm_trail.specs.Knowledge.{keeping, view_of, keeper_of, known_of}
 use Rattle.lsm_trail.proofs.Passes.{puts_at, put_told}
 use Rattle.lsm_trail.proofs.counters.Counters.put_row.Goals as goal
