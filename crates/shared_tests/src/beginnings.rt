@@ -87,9 +87,12 @@ fn one_call<B: SessionName, R: Wait + Abort>(
     assert_eq!(rt; clients.len(), 1);
     let mut client = clients.pop().ok_or("a client")?;
     assert_eq!(rt; client.number(), 0);
+    let base = shared.base();
+    let reserved = client.call(rt, &shared, Call::Release(base));
+    assert!(rt; matches!(&reserved, Err(Refusal::NotYours)));
     let first = client.call(rt, &shared, put(alloc, b"\x61", b"\x31")?);
     assert!(rt; matches!(&first, Ok(Reply::Number(1))));
-    for call in [Call::Sync, Call::Room] {
+    for call in [Call::Sync, Call::Room, Call::Release(base)] {
         let next = client.call(rt, &shared, call);
         assert!(rt; matches!(&next, Err(Refusal::TrailFull)));
     }

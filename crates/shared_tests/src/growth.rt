@@ -43,6 +43,55 @@ fn each_growth_is_refused_in_turn(rt: HostRuntime) -> Result<(), Fail> {
     Ok(())
 }
 
+#[test]
+fn each_growth_of_a_begin_is_refused_in_turn(rt: HostRuntime) -> Result<(), Fail> {
+    let mut begun = 0u32;
+    let mut refused = 0u32;
+    for step in 0..64usize {
+        let device = MemDevice::new(rt.alloc(), 8_192)?;
+        let device = format(rt.alloc(), device, 128).map_err(|(r, _)| Fail::from(r.name()))?;
+        let heap = LocalHeap::new(rt.alloc(), 6_000)?;
+        let Ok(store) = Store::open(&heap, device, CACHE) else {
+            return Err(Fail::from("open"));
+        };
+        let Ok(others) = Vec::<u8, _>::with_capacity(&heap, 5_500 + step * 8) else {
+            continue;
+        };
+        // A begin that is refused gives no number.
+        let Ok(opened) = prepare(&heap, store, 1, 1) else {
+            continue;
+        };
+        match begin_beside::<Brand>(&heap, opened, others) {
+            Some(number) => {
+                refused = refused.wrapping_add(1);
+                assert_eq!(rt; number, Ok(1));
+            }
+            None => begun = begun.wrapping_add(1),
+        }
+    }
+    assert!(rt; begun > 0 && refused > 20, "{begun} {refused}");
+    Ok(())
+}
+
+// Begins a session where others have memory. Where it is refused, the others give their memory back: this is then the number
+// of the store's next snapshot.
+fn begin_beside<'a, B: SessionName>(
+    heap: &'a LocalHeap,
+    opened: Opened<MemDevice, &'a LocalHeap>,
+    others: Vec<u8, &'a LocalHeap>,
+) -> Option<Result<u64, Refusal>>
+    requires { opened ≡ B.id }
+{
+    match Shared::<MemDevice, &'a LocalHeap, B>::begin(heap, opened) {
+        Ok(_) => None,
+        Err((Refusal::NoMemory, mut store)) => {
+            drop(others);
+            Some(store.snapshot())
+        }
+        Err((refusal, _)) => Some(Err(refusal)),
+    }
+}
+
 // Puts values and gets them, and tells how many calls wanted memory. None of these is in the trail.
 fn put_and_get<'a, B: SessionName, R: Wait + Abort>(
     rt: &R,

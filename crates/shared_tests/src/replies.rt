@@ -2,7 +2,7 @@
 
 ghost use Rattle.std.specs.Prelude.{◌≡◌};
 
-use crate::setup::{prepared, put};
+use crate::setup::{get, is_value, prepared, put};
 use lsm_device::{MemDevice, Refusal};
 use lsm_lives::{Call, Reply};
 use lsm_shared::Shared;
@@ -20,19 +20,6 @@ fn two_clients_see_one_store(rt: HostRuntime) -> Result<(), Fail> {
     by_turns::<Brand, _>(&rt, rt.alloc(), opened)
 }
 
-// Whether a reply is this value, or none.
-fn is_value(reply: &Result<Reply, Refusal>, value: Option<&[u8]>) -> bool {
-    match (reply, value) {
-        (Ok(Reply::Value(Some(found))), Some(value)) => found.as_slice() == value,
-        (Ok(Reply::Value(None)), None) => true,
-        _ => false,
-    }
-}
-
-fn get(alloc: Global, key: &[u8]) -> Result<Call, Fail> {
-    Ok(Call::Get(At::Now, Vec::from_slice(alloc, key)?))
-}
-
 fn by_turns<B: SessionName, R: Wait + Abort>(
     rt: &R,
     alloc: Global,
@@ -47,13 +34,13 @@ fn by_turns<B: SessionName, R: Wait + Abort>(
     let mut zero = clients.pop().ok_or("another")?;
     let reply = zero.call(rt, &shared, put(alloc, b"\x61", b"\x31")?);
     assert!(rt; matches!(&reply, Ok(Reply::Number(1))));
-    let reply = one.call(rt, &shared, get(alloc, b"\x61")?);
+    let reply = one.call(rt, &shared, get(alloc, At::Now, b"\x61")?);
     assert!(rt; is_value(&reply, Some(b"\x31")));
     let reply = one.call(rt, &shared, put(alloc, b"\x61", b"\x32")?);
     assert!(rt; matches!(&reply, Ok(Reply::Number(2))));
-    let reply = zero.call(rt, &shared, get(alloc, b"\x61")?);
+    let reply = zero.call(rt, &shared, get(alloc, At::Now, b"\x61")?);
     assert!(rt; is_value(&reply, Some(b"\x32")));
-    let reply = zero.call(rt, &shared, get(alloc, b"\x62")?);
+    let reply = zero.call(rt, &shared, get(alloc, At::Now, b"\x62")?);
     assert!(rt; is_value(&reply, None));
     assert!(rt; matches!(&zero.call(rt, &shared, Call::SyncTo(2)), Ok(Reply::Done)));
     assert!(rt; matches!(&one.call(rt, &shared, Call::Sync), Ok(Reply::Done)));
@@ -61,7 +48,7 @@ fn by_turns<B: SessionName, R: Wait + Abort>(
     // What the store refuses is a reply, and an entry.
     let reply = one.call(rt, &shared, Call::SyncTo(3));
     assert!(rt; matches!(&reply, Ok(Reply::Refused(Refusal::NoSuchBatch))));
-    let reply = one.call(rt, &shared, get(alloc, b"")?);
+    let reply = one.call(rt, &shared, get(alloc, At::Now, b"")?);
     assert!(rt; matches!(&reply, Ok(Reply::Refused(Refusal::BadKey))));
     clients.push(zero)?;
     clients.push(one)?;

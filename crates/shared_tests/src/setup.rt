@@ -2,10 +2,10 @@
 
 use lsm_codec::{Batch, Op};
 use lsm_device::{MemDevice, Refusal};
-use lsm_lives::Call;
+use lsm_lives::{Call, Reply};
 use lsm_open::format;
 use lsm_shared::prepare;
-use lsm_store::Store;
+use lsm_store::{At, Store};
 use lsm_trail::Opened;
 use std::alloc::Global;
 use std::test::Fail;
@@ -35,6 +35,20 @@ pub fn prepared(alloc: Global, clients: u32, trail: u32) -> Result<Opened<MemDev
 pub fn put(alloc: Global, key: &[u8], value: &[u8]) -> Result<Call, Refusal> {
     let batch = Batch::new(alloc, Op::put(alloc, key, value)?)?;
     Ok(Call::Commit(batch))
+}
+
+/// A look-up of a key.
+pub fn get(alloc: Global, at: At, key: &[u8]) -> Result<Call, Fail> {
+    Ok(Call::Get(at, Vec::from_slice(alloc, key)?))
+}
+
+/// Whether a reply is this value, or none.
+pub fn is_value(reply: &Result<Reply, Refusal>, value: Option<&[u8]>) -> bool {
+    match (reply, value) {
+        (Ok(Reply::Value(Some(found))), Some(value)) => found.as_slice() == value,
+        (Ok(Reply::Value(None)), None) => true,
+        _ => false,
+    }
 }
 
 /// The key of a client's commit: two numbers, each in two bytes.
