@@ -1,28 +1,51 @@
 //! What crashes leave.
 
-use crate::setup::{CACHE, SECTORS, Subject, crash, formatted, fresh, has, open, opened, put};
+use crate::cases::{Case, Life, check, check_lives};
+use crate::setup::{CACHE, SECTORS, crash, formatted, fresh, open, opened};
 use lsm_device::{Device, MemDevice, Refusal};
+use lsm_store::At;
 use std::alloc::Global;
 use std::test::Fail;
 
+const LONG: [u8; 600] = [5; 600];
+
 // A commit of one sector and one of two, neither synced.
-fn three_sectors_pend(alloc: Global) -> Result<MemDevice, Fail> {
-    let mut store = fresh(alloc)?;
-    store.commit(&put(alloc, b"\x61", b"\x31")?)?;
-    store.commit(&put(alloc, b"\x62", &[5; 600])?)?;
-    Ok(store.into_device())
+const THREE_SECTORS_PEND: [Case; 2] = [Case::Put(b"a", b"1", Ok(1)), Case::Put(b"b", &LONG, Ok(2))];
+
+// One batch synced, and another not.
+const ONE_OF_TWO_IS_SYNCED: [Case; 3] = [
+    Case::Put(b"a", b"1", Ok(1)),
+    Case::Sync(Ok(())),
+    Case::Put(b"b", b"2", Ok(2)),
+];
+
+// A life that finds this beginning of two batches, the second of which puts this value.
+fn finds<'a>(batches: u8, second: &'a [u8]) -> [Case<'a>; 2] {
+    let first = if batches > 0 {
+        Some(b"1".as_slice())
+    } else {
+        None
+    };
+    let second = if batches > 1 { Some(second) } else { None };
+    [
+        Case::Get(At::Now, b"a", Ok(first)),
+        Case::Get(At::Now, b"b", Ok(second)),
+    ]
 }
 
-// How many of those two batches the store holds, if it holds a beginning.
-fn batches_held(store: &mut Subject) -> Result<u8, Refusal> {
-    let first = store.get(b"\x61")?.is_some();
-    let second = store.get(b"\x62")?.is_some();
-    Ok(match (first, second) {
-        (false, false) => 0,
-        (true, false) => 1,
-        (true, true) => 2,
-        (false, true) => 255,
-    })
+// Whether a store finds a beginning of two batches after a life on a formatted device.
+fn check_found(
+    alloc: Global,
+    cases: &[Case],
+    keep: Option<&[bool]>,
+    found: &[Case],
+) -> Result<(), Fail> {
+    let first = Life { cases, keep };
+    let second = Life {
+        cases: found,
+        keep: None,
+    };
+    check_lives(alloc, formatted(alloc)?, &[first, second])
 }
 
 #[test]
@@ -38,166 +61,179 @@ fn a_torn_batch_is_dropped(rt: HostRuntime) -> Result<(), Fail> {
         ([true, true, false], 1),
         ([true, true, true], 2),
     ];
-    for (mask, held) in rows {
-        let device = crash(three_sectors_pend(rt.alloc())?, &mask);
-        let mut store = opened(rt.alloc(), device)?;
-        assert_eq!(rt; batches_held(&mut store)?, held);
+    for (mask, batches) in rows {
+        let found = finds(batches, &LONG);
+        check_found(rt.alloc(), &THREE_SECTORS_PEND, Some(&mask), &found)?;
     }
     Ok(())
-}
-
-#[test]
-fn a_region_is_not_continued_under_its_old_epoch(rt: HostRuntime) -> Result<(), Fail> {
-    let alloc = rt.alloc();
-    let mut store = fresh(alloc)?;
-    store.commit(&put(alloc, b"\x61", b"\x31")?)?;
-    store.commit(&put(alloc, b"\x62", b"\x41")?)?;
-    store.commit(&put(alloc, b"\x63", b"\x33")?)?;
-    let device = store.crash(&[true, false, true]);
-    let mut store = opened(alloc, device)?;
-    assert!(rt; has(&mut store, b"\x61", Some(b"\x31"))?);
-    assert!(rt; has(&mut store, b"\x62", None)?);
-    assert!(rt; has(&mut store, b"\x63", None)?);
-    assert_eq!(rt; store.commit(&put(alloc, b"\x62", b"\x32")?), Ok(2));
-    store.sync()?;
-    let mut store = opened(alloc, store.crash(&[]))?;
-    assert!(rt; has(&mut store, b"\x61", Some(b"\x31"))?);
-    assert!(rt; has(&mut store, b"\x62", Some(b"\x32"))?);
-    assert!(rt; has(&mut store, b"\x63", None)?);
-    Ok(())
-}
-
-// One batch synced, and another not.
-fn one_of_two_is_synced(alloc: Global) -> Result<MemDevice, Fail> {
-    let mut store = fresh(alloc)?;
-    store.commit(&put(alloc, b"\x61", b"\x31")?)?;
-    store.sync()?;
-    store.commit(&put(alloc, b"\x62", b"\x32")?)?;
-    Ok(store.into_device())
 }
 
 #[test]
 fn what_was_synced_is_kept(rt: HostRuntime) -> Result<(), Fail> {
-    let mut store = opened(rt.alloc(), crash(one_of_two_is_synced(rt.alloc())?, &[]))?;
-    assert_eq!(rt; batches_held(&mut store)?, 1);
-    Ok(())
+    check_found(
+        rt.alloc(),
+        &ONE_OF_TWO_IS_SYNCED,
+        Some(&[]),
+        &finds(1, b"2"),
+    )
 }
 
 #[test]
 fn a_device_without_a_crash_keeps_all(rt: HostRuntime) -> Result<(), Fail> {
-    let mut store = opened(rt.alloc(), one_of_two_is_synced(rt.alloc())?)?;
-    assert_eq!(rt; batches_held(&mut store)?, 2);
-    Ok(())
+    check_found(rt.alloc(), &ONE_OF_TWO_IS_SYNCED, None, &finds(2, b"2"))
 }
 
 #[test]
 fn a_sync_to_the_last_batch_keeps_it(rt: HostRuntime) -> Result<(), Fail> {
-    let mut store = fresh(rt.alloc())?;
-    store.commit(&put(rt.alloc(), b"\x61", b"\x31")?)?;
-    store.sync()?;
-    store.commit(&put(rt.alloc(), b"\x62", b"\x32")?)?;
-    let syncs = store.syncs();
-    store.sync_to(2)?;
-    assert_eq!(rt; store.syncs(), syncs.wrapping_add(1));
-    let mut store = opened(rt.alloc(), store.crash(&[]))?;
-    assert_eq!(rt; batches_held(&mut store)?, 2);
-    Ok(())
+    let cases = [
+        Case::Put(b"a", b"1", Ok(1)),
+        Case::Sync(Ok(())),
+        Case::Put(b"b", b"2", Ok(2)),
+        Case::Syncs(1),
+        Case::SyncTo(2, Ok(())),
+        Case::Syncs(2),
+    ];
+    check_found(rt.alloc(), &cases, Some(&[]), &finds(2, b"2"))
 }
 
 #[test]
-fn an_opening_may_fail_at_each_write_and_sync(rt: HostRuntime) -> Result<(), Fail> {
-    let alloc = rt.alloc();
-    // Five writes and syncs: with so many left of them the opening fails, and any mask leaves the batch.
-    for fuse in 0..5u64 {
-        for bits in 0..4u8 {
-            let mut device = crash(one_of_two_is_synced(alloc)?, &[]);
-            device.fuse(fuse);
-            let Err((refusal, device)) = open(alloc, device, CACHE) else {
-                return Err(Fail::from("it opened"));
-            };
-            assert_eq!(rt; refusal, Refusal::Io);
-            let device = crash(device, &[bits & 1 == 1, bits & 2 == 2]);
-            let mut store = opened(alloc, device)?;
-            assert_eq!(rt; batches_held(&mut store)?, 1);
-        }
-    }
-    let mut device = crash(one_of_two_is_synced(alloc)?, &[]);
-    device.fuse(5);
-    let mut store = opened(alloc, device)?;
-    assert_eq!(rt; batches_held(&mut store)?, 1);
-    assert_eq!(rt; store.writes().wrapping_add(store.syncs()), 5);
-    Ok(())
+fn a_region_is_not_continued_under_its_old_epoch(rt: HostRuntime) -> Result<(), Fail> {
+    let first = Life {
+        cases: &[
+            Case::Put(b"a", b"1", Ok(1)),
+            Case::Put(b"b", b"A", Ok(2)),
+            Case::Put(b"c", b"3", Ok(3)),
+        ],
+        keep: Some(&[true, false, true]),
+    };
+    let second = Life {
+        cases: &[
+            Case::Get(At::Now, b"a", Ok(Some(b"1"))),
+            Case::Get(At::Now, b"b", Ok(None)),
+            Case::Get(At::Now, b"c", Ok(None)),
+            Case::Put(b"b", b"2", Ok(2)),
+            Case::Sync(Ok(())),
+        ],
+        keep: Some(&[]),
+    };
+    let third = Life {
+        cases: &[
+            Case::Get(At::Now, b"a", Ok(Some(b"1"))),
+            Case::Get(At::Now, b"b", Ok(Some(b"2"))),
+            Case::Get(At::Now, b"c", Ok(None)),
+        ],
+        keep: Some(&[]),
+    };
+    check_lives(rt.alloc(), formatted(rt.alloc())?, &[first, second, third])
 }
 
 #[test]
 fn a_faulting_sync_stops_the_store(rt: HostRuntime) -> Result<(), Fail> {
-    let alloc = rt.alloc();
-    let mut store = fresh(alloc)?;
-    store.commit(&put(alloc, b"\x61", b"\x31")?)?;
-    store.sync()?;
-    store.commit(&put(alloc, b"\x62", b"\x32")?)?;
-    store.fuse(0);
-    assert_eq!(rt; store.sync(), Err(Refusal::Io));
-    assert_eq!(rt; store.get(b"\x61").map(|_| ()), Err(Refusal::Stopped));
-    assert_eq!(rt;
-        store.commit(&put(alloc, b"\x63", b"\x33")?),
-        Err(Refusal::Stopped)
-    );
-    assert_eq!(rt; store.sync_to(1), Err(Refusal::Stopped));
-    assert_eq!(rt; store.sync(), Err(Refusal::Stopped));
-    assert_eq!(rt; store.log_room(), Err(Refusal::Stopped));
-    let device = store.into_device();
-    let mut none = opened(alloc, crash(device, &[]))?;
-    assert_eq!(rt; batches_held(&mut none)?, 1);
-    Ok(())
+    let cases = [
+        Case::Put(b"a", b"1", Ok(1)),
+        Case::Sync(Ok(())),
+        Case::Put(b"b", b"2", Ok(2)),
+        Case::Fuse(0),
+        Case::Sync(Err(Refusal::Io)),
+        Case::Get(At::Now, b"a", Err(Refusal::Stopped)),
+        Case::Put(b"c", b"3", Err(Refusal::Stopped)),
+        Case::SyncTo(1, Err(Refusal::Stopped)),
+        Case::Sync(Err(Refusal::Stopped)),
+        Case::Room(Err(Refusal::Stopped)),
+    ];
+    check_found(rt.alloc(), &cases, Some(&[]), &finds(1, b"2"))
 }
 
 #[test]
 fn a_faulting_commit_stops_the_store(rt: HostRuntime) -> Result<(), Fail> {
-    let alloc = rt.alloc();
     for fuse in 0..2u64 {
         for keeps in [false, true] {
-            let mut store = fresh(alloc)?;
-            store.commit(&put(alloc, b"\x61", b"\x31")?)?;
-            store.sync()?;
-            store.fuse(fuse);
-            assert_eq!(rt;
-                store.commit(&put(alloc, b"\x62", &[5; 600])?),
-                Err(Refusal::Io)
-            );
-            assert_eq!(rt;
-                store.commit(&put(alloc, b"\x63", b"\x33")?),
-                Err(Refusal::Stopped)
-            );
-            let mut store = opened(alloc, store.crash(&[keeps, keeps]))?;
+            let cases = [
+                Case::Put(b"a", b"1", Ok(1)),
+                Case::Sync(Ok(())),
+                Case::Fuse(fuse),
+                Case::Put(b"b", &LONG, Err(Refusal::Io)),
+                Case::Put(b"c", b"3", Err(Refusal::Stopped)),
+            ];
             // The write that faulted pends, so the whole batch may be there where that was its last.
-            let held = if keeps && fuse == 1 { 2 } else { 1 };
-            assert_eq!(rt; batches_held(&mut store)?, held);
+            let batches = if keeps && fuse == 1 { 2 } else { 1 };
+            let found = finds(batches, &LONG);
+            check_found(rt.alloc(), &cases, Some(&[keeps, keeps]), &found)?;
+        }
+    }
+    Ok(())
+}
+
+// A life that adds this batch, which a crash keeps.
+fn adding<'a>(cases: &'a [Case<'a>; 2]) -> Life<'a> {
+    Life {
+        cases,
+        keep: Some(&[]),
+    }
+}
+
+#[test]
+fn three_lives_fill_the_regions(rt: HostRuntime) -> Result<(), Fail> {
+    let last = Life {
+        cases: &[
+            Case::Room(Ok(0)),
+            Case::Put(b"d", b"1", Err(Refusal::LogFull)),
+            Case::Get(At::Now, b"a", Ok(Some(b"1"))),
+            Case::Get(At::Now, b"c", Ok(Some(b"1"))),
+            Case::Get(At::Now, b"d", Ok(None)),
+        ],
+        keep: None,
+    };
+    let lives = [
+        adding(&[Case::Put(b"a", b"1", Ok(1)), Case::Sync(Ok(()))]),
+        adding(&[Case::Put(b"b", b"1", Ok(2)), Case::Sync(Ok(()))]),
+        adding(&[Case::Put(b"c", b"1", Ok(3)), Case::Sync(Ok(()))]),
+        last,
+    ];
+    check_lives(rt.alloc(), formatted(rt.alloc())?, &lives)
+}
+
+// The device on which one batch is synced and another has been dropped.
+fn with_one_batch(alloc: Global) -> Result<MemDevice, Fail> {
+    let mut store = fresh(alloc)?;
+    check(alloc, &mut store, &ONE_OF_TWO_IS_SYNCED)?;
+    Ok(store.crash(&[]))
+}
+
+// The device that an opening leaves which faults after so many writes and syncs.
+fn refused_at(alloc: Global, fuse: u64) -> Result<MemDevice, Fail> {
+    let mut device = with_one_batch(alloc)?;
+    device.fuse(fuse);
+    match open(alloc, device, CACHE) {
+        Err((Refusal::Io, device)) => Ok(device),
+        Err((refusal, _)) => Err(Fail::from(refusal)),
+        Ok(_) => Err(Fail::from("it opened")),
+    }
+}
+
+#[test]
+fn an_opening_may_fail_at_each_write_and_sync(rt: HostRuntime) -> Result<(), Fail> {
+    // Five writes and syncs: with so many left of them the opening fails, and any mask leaves the batch.
+    for fuse in 0..5u64 {
+        for keep in [[false, false], [true, false], [false, true], [true, true]] {
+            let device = crash(refused_at(rt.alloc(), fuse)?, &keep);
+            let life = Life {
+                cases: &finds(1, b"2"),
+                keep: None,
+            };
+            check_lives(rt.alloc(), device, &[life])?;
         }
     }
     Ok(())
 }
 
 #[test]
-fn three_lives_fill_the_regions(rt: HostRuntime) -> Result<(), Fail> {
-    let alloc = rt.alloc();
-    let mut device = formatted(alloc)?;
-    for (key, number) in [(b"\x61", 1u64), (b"\x62", 2), (b"\x63", 3)] {
-        let mut store = opened(alloc, device)?;
-        assert_eq!(rt; store.commit(&put(alloc, key, b"\x31")?), Ok(number));
-        store.sync()?;
-        device = store.crash(&[]);
-    }
-    let mut store = opened(alloc, device)?;
-    assert_eq!(rt; store.log_room(), Ok(0));
-    assert_eq!(rt;
-        store.commit(&put(alloc, b"\x64", b"\x31")?),
-        Err(Refusal::LogFull)
-    );
-    assert!(rt; has(&mut store, b"\x61", Some(b"\x31"))?);
-    assert!(rt; has(&mut store, b"\x63", Some(b"\x31"))?);
-    assert!(rt; has(&mut store, b"\x64", None)?);
-    Ok(())
+fn an_opening_makes_five_writes_and_syncs(rt: HostRuntime) -> Result<(), Fail> {
+    let mut device = with_one_batch(rt.alloc())?;
+    device.fuse(5);
+    let mut store = opened(rt.alloc(), device)?;
+    assert_eq!(rt; store.writes().wrapping_add(store.syncs()), 5);
+    check(rt.alloc(), &mut store, &finds(1, b"2"))
 }
 
 // How the opening of a device is refused, if it is.
@@ -219,16 +255,17 @@ fn damaged(alloc: Global) -> Result<MemDevice, Fail> {
 
 #[test]
 fn a_cache_has_limits(rt: HostRuntime) -> Result<(), Fail> {
-    let alloc = rt.alloc();
-    assert_eq!(rt;
-        refused(alloc, formatted(alloc)?, 0),
-        Some(Refusal::BadLimit)
-    );
-    assert_eq!(rt;
-        refused(alloc, formatted(alloc)?, 4_097),
-        Some(Refusal::BadLimit)
-    );
-    assert_eq!(rt; refused(alloc, formatted(alloc)?, 4_096), None);
+    for (cache, wanted) in [
+        (0, Some(Refusal::BadLimit)),
+        (4_097, Some(Refusal::BadLimit)),
+        (4_096, None),
+    ] {
+        assert_eq!(rt;
+            refused(rt.alloc(), formatted(rt.alloc())?, cache),
+            wanted,
+            "{cache}"
+        );
+    }
     Ok(())
 }
 

@@ -4,7 +4,7 @@ use lsm_codec::{Batch, Op};
 use lsm_device::{MemDevice, Refusal};
 use lsm_open::format;
 use lsm_store::{At, Page, Store};
-use std::alloc::Global;
+use std::alloc::{Allocator, Global};
 use std::test::Fail;
 
 /// The sectors of the device, and of a log region.
@@ -22,12 +22,12 @@ pub fn formatted(alloc: Global) -> Result<MemDevice, Fail> {
 
 /// A store whose calls tell the prover nothing, so that it has nothing to carry from one line of a test to the next.
 #[derive(Drop)]
-pub struct Subject {
-    store: Store<MemDevice>,
+pub struct Subject<A: Allocator = Global> {
+    store: Store<MemDevice, A>,
 }
 
-impl Subject {
-    pub fn commit(&mut self, batch: &Batch) -> Result<u64, Refusal> {
+impl<A: Allocator + Clone> Subject<A> {
+    pub fn commit(&mut self, batch: &Batch<A>) -> Result<u64, Refusal> {
         self.store.commit(batch)
     }
 
@@ -39,11 +39,7 @@ impl Subject {
         self.store.sync_to(number)
     }
 
-    pub fn get(&mut self, key: &[u8]) -> Result<Option<Vec<u8>>, Refusal> {
-        self.store.get(At::Now, key)
-    }
-
-    pub fn get_at(&mut self, at: At, key: &[u8]) -> Result<Option<Vec<u8>>, Refusal> {
+    pub fn get(&mut self, at: At, key: &[u8]) -> Result<Option<Vec<u8, A>>, Refusal> {
         self.store.get(at, key)
     }
 
@@ -53,7 +49,7 @@ impl Subject {
         from: &[u8],
         to: Option<&[u8]>,
         limit: u64,
-    ) -> Result<Page, Refusal> {
+    ) -> Result<Page<A>, Refusal> {
         self.store.scan(at, from, to, limit)
     }
 
@@ -102,7 +98,11 @@ pub fn crash(device: MemDevice, keep: &[bool]) -> MemDevice {
 }
 
 /// Opens the store on a device.
-pub fn open(alloc: Global, device: MemDevice, cache: u32) -> Result<Subject, (Refusal, MemDevice)> {
+pub fn open<A: Allocator + Clone>(
+    alloc: A,
+    device: MemDevice,
+    cache: u32,
+) -> Result<Subject<A>, (Refusal, MemDevice)> {
     match Store::open(alloc, device, cache) {
         Ok(store) => Ok(Subject { store }),
         Err(refused) => Err(refused),
@@ -120,16 +120,12 @@ pub fn fresh(alloc: Global) -> Result<Subject, Fail> {
 }
 
 /// A batch of one put.
-pub fn put(alloc: Global, key: &[u8], value: &[u8]) -> Result<Batch, Refusal> {
-    Batch::new(alloc, Op::put(alloc, key, value)?)
+pub fn put<A: Allocator + Clone>(alloc: A, key: &[u8], value: &[u8]) -> Result<Batch<A>, Refusal> {
+    let op = Op::put(alloc.clone()?, key, value)?;
+    Batch::new(alloc, op)
 }
 
-/// Whether a key has this value now, or none.
-pub fn has(store: &mut Subject, key: &[u8], value: Option<&[u8]>) -> Result<bool, Refusal> {
-    let found = store.get(key)?;
-    Ok(match (found, value) {
-        (Some(found), Some(value)) => found.as_slice() == value,
-        (None, None) => true,
-        _ => false,
-    })
+/// Adds a put to a batch.
+pub fn add(batch: &mut Batch, key: &[u8], value: &[u8]) -> Result<(), Refusal> {
+    batch.put(key, value)
 }
