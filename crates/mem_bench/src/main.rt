@@ -95,7 +95,8 @@ fn get_versions(table: &Table, count: u32) -> u64 {
     found
 }
 
-fn pages(table: &Table, count: u32) -> anyhow::Result<u64> {
+// How many rows so many pages have, each of 16 rows at most.
+fn pages(table: &Table, count: u32) -> Result<u64, AllocError> {
     let mut rows = 0u64;
     for n in 0..count {
         let range = table.mem.range(&key_of(n), u64::MAX)?;
@@ -106,43 +107,95 @@ fn pages(table: &Table, count: u32) -> anyhow::Result<u64> {
     Ok(rows)
 }
 
+/// What is measured.
+#[derive(Clone, Copy, Debug)]
+enum Work {
+    AddKeys { from: u32, to: u32 },
+    AddVersions(u32),
+    GetKeys(u32),
+    GetVersions(u32),
+    Pages(u32),
+}
+
+/// The works in their order, each with its text.
+const WORKS: [(&str, Work); 14] = [
+    (
+        "20,000 new keys",
+        Work::AddKeys {
+            from: 0,
+            to: 20_000,
+        },
+    ),
+    (
+        "20,000 new keys",
+        Work::AddKeys {
+            from: 20_000,
+            to: 40_000,
+        },
+    ),
+    (
+        "20,000 new keys",
+        Work::AddKeys {
+            from: 40_000,
+            to: 60_000,
+        },
+    ),
+    (
+        "20,000 new keys",
+        Work::AddKeys {
+            from: 60_000,
+            to: 80_000,
+        },
+    ),
+    (
+        "20,000 new keys",
+        Work::AddKeys {
+            from: 80_000,
+            to: 100_000,
+        },
+    ),
+    ("200,000 gets of 100,000 keys", Work::GetKeys(200_000)),
+    ("2,000 versions of one key", Work::AddVersions(2_000)),
+    ("2,000 versions of one key", Work::AddVersions(2_000)),
+    ("2,000 versions of one key", Work::AddVersions(2_000)),
+    ("2,000 versions of one key", Work::AddVersions(2_000)),
+    ("2,000 versions of one key", Work::AddVersions(2_000)),
+    (
+        "200,000 gets at 10,000 versions of one key",
+        Work::GetVersions(200_000),
+    ),
+    ("200,000 gets of the other keys", Work::GetKeys(200_000)),
+    ("10,000 pages of 16 rows", Work::Pages(10_000)),
+];
+
+/// Does a work. It gives how many keys or rows were found.
+fn done(alloc: Global, table: &mut Table, work: Work) -> Result<u64, Refusal> {
+    match work {
+        Work::AddKeys { from, to } => {
+            add_keys(alloc, table, from, to)?;
+            Ok(0)
+        }
+        Work::AddVersions(count) => {
+            add_versions(alloc, table, count)?;
+            Ok(0)
+        }
+        Work::GetKeys(count) => Ok(get_keys(table, count)),
+        Work::GetVersions(count) => Ok(get_versions(table, count)),
+        Work::Pages(count) => Ok(pages(table, count)?),
+    }
+}
+
 fn main(rt: HostRuntime) -> anyhow::Result<()> {
-    let alloc: Global = rt.alloc();
-    let mut table = Table::new(alloc)?;
-    for part in 0..5u32 {
+    let mut table = Table::new(rt.alloc())?;
+    for (what, work) in WORKS {
         let start = Instant::now(&rt)?;
-        if add_keys(alloc, &mut table, part * 20_000, part * 20_000 + 20_000).is_err() {
+        let Ok(found) = done(rt.alloc(), &mut table, work) else {
             println!(rt; "refused")?;
             return Ok(());
-        }
+        };
         let time = start.elapsed(&rt)?.as_micros();
-        eprintln!(rt; "20,000 new keys: {time} us")?;
+        eprintln!(rt; "{what}: {time} us, found {found}")?;
     }
-    let start = Instant::now(&rt)?;
-    let found = get_keys(&table, 200_000);
-    let time = start.elapsed(&rt)?.as_micros();
-    eprintln!(rt; "200,000 gets of 100,000 keys: {time} us, found {found}")?;
-    for _part in 0..5u32 {
-        let start = Instant::now(&rt)?;
-        if add_versions(alloc, &mut table, 2_000).is_err() {
-            println!(rt; "refused")?;
-            return Ok(());
-        }
-        let time = start.elapsed(&rt)?.as_micros();
-        eprintln!(rt; "2,000 versions of one key: {time} us")?;
-    }
-    let start = Instant::now(&rt)?;
-    let found = get_versions(&table, 200_000);
-    let time = start.elapsed(&rt)?.as_micros();
-    eprintln!(rt; "200,000 gets at 10,000 versions of one key: {time} us, found {found}")?;
-    let start = Instant::now(&rt)?;
-    let found = get_keys(&table, 200_000);
-    let time = start.elapsed(&rt)?.as_micros();
-    eprintln!(rt; "200,000 gets of the other keys: {time} us, found {found}")?;
-    let start = Instant::now(&rt)?;
-    let rows = pages(&table, 10_000)?;
-    let time = start.elapsed(&rt)?.as_micros();
-    eprintln!(rt; "10,000 pages of 16 rows: {time} us, rows {rows}")?;
     println!(rt; "ok")?;
     Ok(())
 }
