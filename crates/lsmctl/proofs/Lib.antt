@@ -1,3 +1,7 @@
+pub mod ScriptLaws
+pub mod WordLaws
+pub mod LineLaws
+pub mod LifeLaws
 pub mod NumberLaws
 pub mod ProgramLaws
 pub mod RunLaws

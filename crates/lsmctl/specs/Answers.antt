@@ -1,23 +1,33 @@
 -- What the program prints.
-use Rattle.std.specs.Prelude.{◌≡◌, ℕ, List, [], ◌∷◌, ◌++◌, codes, decimal, string_bytes}
+use Rattle.std.specs.Prelude.{◌≡◌, ℕ, List, [], ◌∷◌, ◌++◌, map, None, codes, decimal, string_bytes}
 use Rattle.lsm_codec.specs.Keys.{Bytes}
 use Rattle.lsm_codec.specs.Words.{word_of}
 use Rattle.lsm_codec.specs.Geometry.{data_blocks_of}
+use Rattle.lsm_store.specs.Paging.{Page}
+use Rattle.lsm_device.specs.Disk.{Disk}
+use Rattle.lsm_open.specs.CrashState.{formatted as empty_store}
+use Rattle.lsm_store.specs.declared.asked.At.TheVariants.{Now}
+use Rattle.lsm_store.specs.Calls.{Call, Scan, Reply, Rows}
+use Rattle.lsm_store.specs.Backing.{StoreView}
+use Rattle.lsm_store.specs.Serving.{Serves}
+use Rattle.lsm_lives.specs.Calls.{call_of}
+use Rattle.lsm_lives.specs.Replaying.{Replays}
+use Rattle.lsm_lives.specs.Living.{KeepPromise}
+use Rattle.lsmctl.specs.Steps.{calls_after, told_after, calls_of_lives, told_lives}
+use Rattle.lsmctl.specs.Replies.{page_lines, replies_text, lives_text}
+use Rattle.lsmctl.specs.declared.steps.Told.{Told}
 use Rattle.lsmctl.specs.declared.request.Request.{Request}
 use Rattle.lsmctl.specs.declared.request.Request.TheVariants as request
 use Rattle.lsmctl.specs.declared.answer.Answer.{Answer}
-use Rattle.lsmctl.specs.declared.answer.Answer.TheVariants.{Formatted, Batch, Value, Absent}
+use Rattle.lsmctl.specs.declared.answer.Answer.TheVariants.{Formatted, Batch, Value, Absent, Lines}
 
--- an answer as text
-abbrev pub answer_text : Answer → List ℕ
-answer_text (Formatted blocks) = codes "formatted blocks " ++ decimal blocks
-answer_text (Batch number) = codes "batch " ++ decimal number
-answer_text (Value word) = codes "value " ++ string_bytes word
-answer_text Absent = codes "absent"
-
--- the line that is printed
-abbrev pub line_of : Answer → List ℕ
-line_of answer = answer_text answer ++ 10 ∷ []
+-- the lines that are printed
+abbrev pub lines_of : Answer → List ℕ
+lines_of (Formatted blocks) = codes "formatted blocks " ++ decimal blocks ++ 10 ∷ []
+lines_of (Batch number) = codes "batch " ++ decimal number ++ 10 ∷ []
+lines_of (Value word) = codes "value " ++ string_bytes word ++ 10 ∷ []
+lines_of Absent = codes "absent" ++ 10 ∷ []
+lines_of (Lines text) = string_bytes text
 
 -- a store was made, and its data blocks are told
 abbrev pub HasFormatted : ℕ → ℕ → Answer → Type 0
@@ -33,8 +43,40 @@ HasFound (Value word) = (bytes : Bytes) × (string_bytes word ≡ word_of bytes)
 HasFound Absent = Unit {0}
 HasFound _ = ⊥
 
+-- lines of this text answer
+abbrev pub HasLines : List ℕ → Answer → Type 0
+HasLines lines (Lines text) = string_bytes text ≡ lines
+HasLines lines _ = ⊥
+
+-- a page of the map was found, and its rows are told
+pub record HasRows (from : Bytes) (limit : ℕ) (answer : Answer) : Type 0 where
+  pub page : Page
+  pub before : StoreView
+  pub after : StoreView
+  pub serves : Serves before (Scan Now from None limit) (Rows page) after
+  pub told : HasLines (page_lines page) answer
+
+-- calls were made of a store, and the replies to them are told, each as its step asks for
+pub record HasReplies (calls : List Call) (steps : List Told) (answer : Answer) : Type 0 where
+  pub replies : List Reply
+  pub before : StoreView
+  pub after : StoreView
+  pub replays : Replays before calls replies after
+  pub told : HasLines (replies_text steps replies) answer
+
+-- Lives were led on an empty store, each a list of calls, and the replies to them are told. They keep the promise over
+-- crashes.
+pub record HasLives (log_sectors : ℕ) (lives : List (List Call)) (steps : List (List Told)) (answer : Answer) : Type 0 where
+  pub replies : List (List Reply)
+  pub left : Disk
+  pub promise : KeepPromise log_sectors [] empty_store lives replies left
+  pub told : HasLines (lives_text steps replies) answer
+
 -- what answers a request
 abbrev pub Gives : Request → Answer → Type 0
 Gives (request.Format file geometry) = HasFormatted geometry.sectors geometry.log_sectors
 Gives (request.Commit file batch) = HasCommitted
 Gives (request.Get file key) = HasFound
+Gives (request.Scan file from limit) = HasRows from.items limit
+Gives (request.Replay file script) = HasReplies (map call_of (calls_after [] script.items)) (told_after [] script.items)
+Gives (request.Lives geometry script) = HasLives geometry.log_sectors (calls_of_lives script.items) (told_lives script.items)

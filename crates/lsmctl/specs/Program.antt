@@ -5,7 +5,7 @@ use Rattle.clap.specs.declared.builder.command.Command.{Command}
 use Rattle.clap.specs.declared.builder.command.Command.TheViews.{out-Command as fields_of}
 use Rattle.clap.specs.declared.builder.ArgAction.TheVariants.{Set}
 use Rattle.lsmctl.specs.declared.asked.Asked.{Asked}
-use Rattle.lsmctl.specs.declared.asked.Asked.TheVariants.{Format, Put, Delete, Get}
+use Rattle.lsmctl.specs.declared.asked.Asked.TheVariants.{Format, Put, Delete, Get, Scan, Replay, Lives}
 
 -- a word that has to be there
 abbrev pub word_rule : Text → Rule
@@ -25,11 +25,14 @@ bare_program = let named : App = new_app (codes "lsmctl") in
     record named { top = record named.top { no_binary_name = true; subcommand_required = true } }
 
 abbrev pub program : App
-program = with_subcommand (with_subcommand (with_subcommand (with_subcommand bare_program
+program = with_subcommand (with_subcommand (with_subcommand (with_subcommand (with_subcommand (with_subcommand (with_subcommand bare_program
     (with_words (new_app (codes "format")) (codes "FILE" ∷ codes "SECTORS" ∷ codes "LOG" ∷ [])).top)
     (with_words (new_app (codes "put")) (codes "FILE" ∷ codes "KEY" ∷ codes "VALUE" ∷ [])).top)
     (with_words (new_app (codes "del")) file_and_key).top)
-    (with_words (new_app (codes "get")) file_and_key).top
+    (with_words (new_app (codes "get")) file_and_key).top)
+    (with_words (new_app (codes "scan")) (codes "FILE" ∷ codes "FROM" ∷ codes "LIMIT" ∷ [])).top)
+    (with_words (new_app (codes "replay")) (codes "FILE" ∷ [])).top)
+    (with_words (new_app (codes "lives")) (codes "SECTORS" ∷ codes "LOG" ∷ [])).top
 
 -- the parser sees the command so, and none of its words belongs to its subcommands too
 pub record IsCommand (app : App) (command : Command) : Type 0 where
@@ -50,3 +53,8 @@ Asks name rows (Delete file key) = (name ≡ codes "del") × HasWord rows (codes
     × HasWord rows (codes "KEY") key.now
 Asks name rows (Get file key) = (name ≡ codes "get") × HasWord rows (codes "FILE") file.now
     × HasWord rows (codes "KEY") key.now
+Asks name rows (Scan file from limit) = (name ≡ codes "scan") × HasWord rows (codes "FILE") file.now
+    × HasWord rows (codes "FROM") from.now × HasWord rows (codes "LIMIT") limit.now
+Asks name rows (Replay file) = (name ≡ codes "replay") × HasWord rows (codes "FILE") file.now
+Asks name rows (Lives sectors log) = (name ≡ codes "lives") × HasWord rows (codes "SECTORS") sectors.now
+    × HasWord rows (codes "LOG") log.now

@@ -2,7 +2,7 @@
 
 use std::fmt;
 
-/// What a subcommand answers, as one line.
+/// What a subcommand answers, as lines.
 #[derive(Debug, Drop)]
 pub enum Answer {
     /// A store was made, with so many data blocks.
@@ -13,20 +13,23 @@ pub enum Answer {
     Value(String),
     /// The key has no value.
     Absent,
+    /// A line for each row, or for each step.
+    Lines(String),
 }
 
 impl fmt::Display for Answer {
     ghost use Rattle.std.specs.Prelude.{Some};
-    ghost use Rattle.lsmctl.specs.Answers.{answer_text};
+    ghost use Rattle.lsmctl.specs.Answers.{lines_of};
 
-    ghost output = { λ answer. Some (answer_text answer) };
+    ghost output = { λ answer. Some (lines_of answer) };
 
     fn fmt<W: fmt::Write>(&self, f: &mut fmt::Formatter<W>) -> fmt::Result {
         match self {
-            Answer::Formatted(blocks) => write!(f, "formatted blocks {blocks}"),
-            Answer::Batch(number) => write!(f, "batch {number}"),
-            Answer::Value(word) => write!(f, "value {word}"),
-            Answer::Absent => write!(f, "absent"),
+            Answer::Formatted(blocks) => writeln!(f, "formatted blocks {blocks}"),
+            Answer::Batch(number) => writeln!(f, "batch {number}"),
+            Answer::Value(word) => writeln!(f, "value {word}"),
+            Answer::Absent => writeln!(f, "absent"),
+            Answer::Lines(text) => write!(f, "{text}"),
         }
     }
 }

@@ -35,6 +35,18 @@ pub enum Asked<'a> {
         file: &'a str,
         key: &'a str,
     },
+    Scan {
+        file: &'a str,
+        from: &'a str,
+        limit: &'a str,
+    },
+    Replay {
+        file: &'a str,
+    },
+    Lives {
+        sectors: &'a str,
+        log: &'a str,
+    },
 }
 
 /// Reads the words after the program's name.
@@ -77,11 +89,17 @@ fn command<'a>(alloc: Global) -> Result<Command<'a>, AllocError>
     )?;
     let delete = taking(alloc, "del", "Delete a key", &["FILE", "KEY"])?;
     let get = taking(alloc, "get", "Print the value of a key", &["FILE", "KEY"])?;
+    let scan = taking(alloc, "scan", "Print a page", &["FILE", "FROM", "LIMIT"])?;
+    let replay = taking(alloc, "replay", "Make the steps of a script", &["FILE"])?;
+    let lives = taking(alloc, "lives", "Lead lives in memory", &["SECTORS", "LOG"])?;
     let command = bare(alloc)
         .subcommand(format)?
         .subcommand(put)?
         .subcommand(delete)?
-        .subcommand(get)?;
+        .subcommand(get)?
+        .subcommand(scan)?
+        .subcommand(replay)?
+        .subcommand(lives)?;
     Ok(command)
 }
 
@@ -123,25 +141,36 @@ fn word<'a>(alloc: Global, place: &'a str) -> Arg<'a>
 fn subcommand<'a>(name: &str, given: &ArgMatches<'a>) -> Result<Asked<'a>, Usage>
     ensures { IfOk result (Asks name.now (rows_of (found_of given.now))) }
 {
-    let file = at(given, "FILE")?;
     match name {
         "format" => Ok(Asked::Format {
-            file,
+            file: at(given, "FILE")?,
             sectors: at(given, "SECTORS")?,
             log: at(given, "LOG")?,
         }),
         "put" => Ok(Asked::Put {
-            file,
+            file: at(given, "FILE")?,
             key: at(given, "KEY")?,
             value: at(given, "VALUE")?,
         }),
         "del" => Ok(Asked::Delete {
-            file,
+            file: at(given, "FILE")?,
             key: at(given, "KEY")?,
         }),
         "get" => Ok(Asked::Get {
-            file,
+            file: at(given, "FILE")?,
             key: at(given, "KEY")?,
+        }),
+        "scan" => Ok(Asked::Scan {
+            file: at(given, "FILE")?,
+            from: at(given, "FROM")?,
+            limit: at(given, "LIMIT")?,
+        }),
+        "replay" => Ok(Asked::Replay {
+            file: at(given, "FILE")?,
+        }),
+        "lives" => Ok(Asked::Lives {
+            sectors: at(given, "SECTORS")?,
+            log: at(given, "LOG")?,
         }),
         _ => Err(Usage::Missing("the subcommand")),
     }

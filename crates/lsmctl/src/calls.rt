@@ -1,11 +1,17 @@
 //! The calls of the store that a request makes, on a store in a file.
 
-ghost use Rattle.std.specs.Prelude.{IfOk};
-ghost use Rattle.lsmctl.specs.Answers.{Gives, HasFormatted, HasCommitted, HasFound};
+ghost use Rattle.std.specs.Prelude.{[], map, IfOk};
+ghost use Rattle.lsm_lives.specs.Calls.{call_of};
+ghost use Rattle.lsmctl.specs.Steps.{calls_after, told_after};
+ghost use Rattle.lsmctl.specs.Answers.{Gives, HasFormatted, HasCommitted, HasFound, HasRows, HasReplies};
 
 use crate::answer::Answer;
 use crate::geometry::Geometry;
+use crate::line::Line;
+use crate::reply::push_page;
 use crate::request::Request;
+use crate::steps::steps_of;
+use crate::runs;
 use lsm_codec::{Batch, word};
 use lsm_device::{FileDevice, Refusal};
 use lsm_store::{At, Store};
@@ -17,14 +23,17 @@ const CACHE: u32 = 256;
 /// Does what is asked for.
 pub fn answer<R: Files<File = File> + AllocGlobal>(
     rt: &R,
-    request: &Request<'_>,
+    request: Request<'_>,
 ) -> Result<Answer, Refusal>
-    ensures { IfOk result (Gives request.now) }
+    ensures { IfOk result (Gives request.entry) }
 {
     match request {
-        Request::Format { file, geometry } => format(rt, file, *geometry),
-        Request::Commit { file, batch } => commit(rt, file, batch),
-        Request::Get { file, key } => get(rt, file, key),
+        Request::Format { file, geometry } => format(rt, file, geometry),
+        Request::Commit { file, batch } => commit(rt, file, &batch),
+        Request::Get { file, key } => get(rt, file, &key),
+        Request::Scan { file, from, limit } => scan(rt, file, &from, limit),
+        Request::Replay { file, script } => replay(rt, file, script),
+        Request::Lives { geometry, script } => runs::lives(rt.alloc(), geometry, script),
     }
 }
 
@@ -78,4 +87,31 @@ fn get<R: Files<File = File> + AllocGlobal>(
         Some(value) => Ok(Answer::Value(word(rt.alloc(), value.as_slice())?)),
         None => Ok(Answer::Absent),
     }
+}
+
+fn replay<R: Files<File = File> + AllocGlobal>(
+    rt: &R,
+    file: &str,
+    script: Vec<Line>,
+) -> Result<Answer, Refusal>
+    ensures { IfOk result (HasReplies (map call_of (calls_after [] script.items)) (told_after [] script.items)) }
+{
+    let steps = steps_of(rt.alloc(), script)?;
+    let mut store = open(rt, file)?;
+    Ok(runs::replay(rt.alloc(), &mut store, &steps)?)
+}
+
+fn scan<R: Files<File = File> + AllocGlobal>(
+    rt: &R,
+    file: &str,
+    from: &[u8],
+    limit: u64,
+) -> Result<Answer, Refusal>
+    ensures { IfOk result (HasRows from.now limit) }
+{
+    let mut store = open(rt, file)?;
+    let page = store.scan(At::Now, from, None, limit)?;
+    let mut text = String::new(rt.alloc());
+    push_page(rt.alloc(), &mut text, &page)?;
+    Ok(Answer::Lines(text))
 }

@@ -5,10 +5,11 @@ ghost use Rattle.lsm_device.specs.declared.refusal.Refusal.TheVariants.{NoMemory
 ghost use Rattle.lsmctl.specs.Faults.{reason_of, mistake, refusal};
 
 use lsm_device::Refusal;
-use std::alloc::AllocError;
+use std::alloc::{AllocError, AllocFailed};
+use std::io;
 use thiserror::Error;
 
-/// What is wrong with the words.
+/// What is wrong with the words, or with the script.
 #[derive(Debug, Drop, Error)]
 pub enum Usage {
     /// What the parser of the words answers, help included.
@@ -26,15 +27,20 @@ pub enum Usage {
     /// A word says no bytes.
     #[error("{0} is hex, or `empty` for no bytes")]
     Bytes(&'static str),
+    /// A line of the script, counted from 1, is none that may stand there.
+    #[error("line {0} of the script can't be read, or may not stand there")]
+    Line(usize),
 }
 
-/// A mistake in the words, or a refusal.
+/// A mistake in the words or the script, a refusal, or a script that could not be read.
 #[derive(Debug, Drop, Error)]
 pub enum Fault {
     #[error("{0}")]
     Usage(Usage),
     #[error("refused {number:02} {name}", number = .0.number(), name = .0.name())]
     Refused(Refusal),
+    #[error("the script could not be read: {0}")]
+    Input(io::Error),
 }
 
 impl From<Usage> for Fault {
@@ -50,6 +56,14 @@ impl From<Refusal> for Fault {
 
     fn from(reason: Refusal) -> Fault {
         Fault::Refused(reason)
+    }
+}
+
+impl<T: Drop> From<AllocFailed<T>> for Fault {
+    ghost from_gives = { λ _ fault. reason_of fault ≡ refusal NoMemory };
+
+    fn from(_: AllocFailed<T>) -> Fault {
+        Fault::Refused(Refusal::NoMemory)
     }
 }
 

@@ -8,9 +8,17 @@ mod asked;
 mod calls;
 mod fault;
 mod geometry;
+mod input;
+mod line;
 mod number;
+mod operations;
 mod program;
+mod reply;
 mod request;
+mod runs;
+mod script;
+mod steps;
+mod words;
 #[cfg(test)]
 mod tests;
 

@@ -2,13 +2,14 @@
 
 ghost use Rattle.std.specs.Prelude.{◌≡◌, ◌≤◌, map, IfOk, IsOkAnd, OnOk};
 ghost use Rattle.std.specs.Io.KnownBytes.{Appends, Keeps};
-ghost use Rattle.lsmctl.specs.Answers.{line_of};
+ghost use Rattle.lsmctl.specs.Answers.{lines_of};
 ghost use Rattle.lsmctl.specs.Runs.{IsServed, HasServed, status_after};
 
 use crate::answer::Answer;
 use crate::asked::asked_for;
 use crate::calls;
 use crate::fault::{Fault, Usage};
+use crate::input::script_text;
 use crate::request::Request;
 use std::convert::AsStr;
 use std::fs::{File, Files};
@@ -18,14 +19,14 @@ use std::io::{Read, Write};
 /// The exit status of a program that did what it was asked for.
 pub const DONE: u8 = 0;
 
-/// The exit status where a refusal, or a failing write, ended the program.
+/// The exit status where a refusal, or a read or write that failed, ended the program.
 pub const REFUSED: u8 = 1;
 
-/// The exit status where the words are wrong.
+/// The exit status where the words or the script are wrong.
 pub const USAGE: u8 = 2;
 
-/// Runs the program on the words after its name, and gives the exit status. An answer goes to `output`, a fault to
-/// `errors`.
+/// Runs the program on the words after its name, and gives the exit status. A script is read from `input`, an answer
+/// goes to `output`, a fault to `errors`.
 pub fn run<R: Files<File = File> + AllocGlobal, S: AsStr, I: Read, O: Write, E: Write>(
     rt: &R,
     words: &[S],
@@ -35,16 +36,15 @@ pub fn run<R: Files<File = File> + AllocGlobal, S: AsStr, I: Read, O: Write, E: 
 ) -> u8
     ensures status { result ≤ 2 }
 
-    // A run that ends with 0 did what the words ask for, printed its answer as one line, and no fault.
-    ensures done { result ≡ 0 → HasServed (map S.text words.entry.now)
-        (λ answer. Appends (O.contents output.old) (O.contents output.new) (line_of answer)) }
+    // A run that ends with 0 did what the words and the script ask for, printed its answer, and no fault.
+    ensures done { result ≡ 0 → HasServed (map S.text words.entry.now) (I.remaining input.old)
+        (λ answer. Appends (O.contents output.old) (O.contents output.new) (lines_of answer)) }
     ensures no_fault { result ≡ 0 → Keeps (E.contents errors.old) (E.contents errors.new) }
 
-    // One that ends with a mistake in the words prints no answer.
+    // One that ends with a mistake in the words or the script prints no answer.
     ensures no_answer { result ≡ 2 → Keeps (O.contents output.old) (O.contents output.new) }
 {
-    let _ = input;
-    let answered = answer(rt, words);
+    let answered = answer(rt, words, input);
     conclude(&answered, output, errors)
 }
 
@@ -56,7 +56,7 @@ fn conclude<O: Write, E: Write>(
 ) -> u8
     ensures status { result ≤ 2 }
     ensures done { result ≡ 0 → IsOkAnd answered.now
-        (λ answer. Appends (O.contents output.old) (O.contents output.new) (line_of answer)) }
+        (λ answer. Appends (O.contents output.old) (O.contents output.new) (lines_of answer)) }
     ensures no_fault { result ≡ 0 → Keeps (E.contents errors.old) (E.contents errors.new) }
     ensures no_answer { result ≡ 2 → Keeps (O.contents output.old) (O.contents output.new) }
 {
@@ -75,26 +75,29 @@ fn status(answered: &Result<Answer, Fault>, written: &io::Result<()>) -> u8
     }
     match answered {
         Ok(_) => DONE,
-        Err(Fault::Refused(_)) => REFUSED,
+        Err(Fault::Refused(_) | Fault::Input(_)) => REFUSED,
         Err(Fault::Usage(_)) => USAGE,
     }
 }
 
 // Does what the words ask for.
-fn answer<R: Files<File = File> + AllocGlobal, S: AsStr>(
+fn answer<R: Files<File = File> + AllocGlobal, S: AsStr, I: Read>(
     rt: &R,
     words: &[S],
+    input: &mut I,
 ) -> Result<Answer, Fault>
-    ensures { IfOk result (IsServed (map S.text words.entry.now)) }
+    ensures { IfOk result (IsServed (map S.text words.entry.now) (I.remaining input.old)) }
 {
-    let request = Request::read(rt.alloc(), asked_for(rt.alloc(), words)?)?;
-    Ok(calls::answer(rt, &request)?)
+    let asked = asked_for(rt.alloc(), words)?;
+    let text = script_text(rt.alloc(), &asked, input)?;
+    let request = Request::read(rt.alloc(), asked, &text)?;
+    Ok(calls::answer(rt, request)?)
 }
 
 fn print<O: Write>(output: &mut O, answer: &Answer) -> io::Result<()>
-    ensures { OnOk result (Appends (O.contents output.old) (O.contents output.new) (line_of answer.now)) }
+    ensures { OnOk result (Appends (O.contents output.old) (O.contents output.new) (lines_of answer.now)) }
 {
-    writeln!(output, "{answer}")?;
+    write!(output, "{answer}")?;
     output.flush()?;
     Ok(())
 }

@@ -6,11 +6,14 @@ ghost use Rattle.lsm_codec.specs.Answers.{Answers, or_then, key_refusal, value_r
 ghost use Rattle.lsm_codec.specs.Words.{bytes_said};
 ghost use Rattle.lsmctl.specs.Faults.{reason_of, mistake, refusal};
 ghost use Rattle.lsmctl.specs.Numbers.{number_said};
+ghost use Rattle.lsmctl.specs.Requests.{page_reason};
 
 use crate::asked::Asked;
 use crate::fault::{Fault, Usage};
 use crate::geometry::Geometry;
+use crate::line::Line;
 use crate::number::parse_number;
+use crate::script::{Kind, read_script};
 use lsm_codec::{Batch, Op, unword};
 use lsm_device::Refusal;
 use std::alloc::Global;
@@ -24,15 +27,28 @@ pub enum Request<'a> {
     Commit { file: &'a str, batch: Batch },
     /// Look up a key.
     Get { file: &'a str, key: Vec<u8> },
+    /// Print so many keys with their values, from a key on.
+    Scan {
+        file: &'a str,
+        from: Vec<u8>,
+        limit: u64,
+    },
+    /// Make the steps of a script.
+    Replay { file: &'a str, script: Vec<Line> },
+    /// Make the lives of a script, on a device in memory.
+    Lives {
+        geometry: Geometry,
+        script: Vec<Line>,
+    },
 }
 
 impl<'a> Request<'a> {
     ghost use Rattle.lsmctl.specs.Requests.{reason_for, Says};
 
-    /// Reads numbers and bytes from the left, then tests the limits, then makes the batch.
-    pub fn read(alloc: Global, asked: Asked<'a>) -> Result<Request<'a>, Fault>
-        ensures { MatchResult result (λ r. (reason_for asked.entry ≡ None) × Says asked.entry r)
-            (λ e. (reason_for asked.entry ≡ Some (reason_of e)) ⊎ (reason_of e ≡ refusal NoMemory)) }
+    /// Reads numbers and bytes from the left, then the text of the script, then tests the limits, then makes the batch.
+    pub fn read(alloc: Global, asked: Asked<'a>, text: &[u8]) -> Result<Request<'a>, Fault>
+        ensures { MatchResult result (λ r. (reason_for asked.entry text.now ≡ None) × Says asked.entry text.now r)
+            (λ e. (reason_for asked.entry text.now ≡ Some (reason_of e)) ⊎ (reason_of e ≡ refusal NoMemory)) }
     {
         match asked {
             Asked::Format { file, sectors, log } => {
@@ -56,6 +72,23 @@ impl<'a> Request<'a> {
                 let key = bytes(alloc, key, "KEY")?;
                 Ok(Request::Get { file, key })
             }
+            Asked::Scan { file, from, limit } => {
+                let from = bytes(alloc, from, "FROM")?;
+                let limit = number(limit, "LIMIT")?;
+                check_limit(limit)?;
+                Ok(Request::Scan { file, from, limit })
+            }
+            Asked::Replay { file } => {
+                let script = read_script(alloc, Kind::Steps, text)?;
+                Ok(Request::Replay { file, script })
+            }
+            Asked::Lives { sectors, log } => {
+                let sectors = number(sectors, "SECTORS")?;
+                let log_sectors = number(log, "LOG")?;
+                let script = read_script(alloc, Kind::Lives, text)?;
+                let geometry = Geometry::new(sectors, log_sectors)?;
+                Ok(Request::Lives { geometry, script })
+            }
         }
     }
 }
@@ -76,6 +109,16 @@ fn bytes(alloc: Global, word: &str, place: &'static str) -> Result<Vec<u8>, Faul
         Some(bytes) => Ok(bytes),
         None => Err(Fault::Usage(Usage::Bytes(place))),
     }
+}
+
+// The rows that a page may have at most: 1 to 64.
+fn check_limit(limit: u64) -> Result<(), Refusal>
+    ensures { MatchResult result (λ _. page_reason limit ≡ None) (λ e. page_reason limit ≡ Some (refusal e)) }
+{
+    if !(1..=64).contains(&limit) {
+        return Err(Refusal::BadLimit);
+    }
+    Ok(())
 }
 
 fn put_batch(alloc: Global, key: &[u8], value: &[u8]) -> Result<Batch, Refusal>

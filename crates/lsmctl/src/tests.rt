@@ -1,5 +1,8 @@
 //! Tests of the program: what it prints and how it ends.
 
+mod lives;
+mod mistakes;
+mod replays;
 mod stored;
 mod table;
 
@@ -19,10 +22,20 @@ pub struct Outcome {
 
 /// Runs the program on words parted by one space; between two spaces stands an empty word.
 pub fn run_line<R: Files<File = File> + AllocGlobal>(rt: &R, line: &str) -> Result<Outcome, Fail> {
+    run_script(rt, line, b"")
+}
+
+/// Runs the program on words and an input.
+pub fn run_script<R: Files<File = File> + AllocGlobal>(
+    rt: &R,
+    line: &str,
+    script: &[u8],
+) -> Result<Outcome, Fail> {
     let words: Vec<&str> = line.split(' ').collect(rt.alloc())?;
+    let mut input = script;
     let mut output = Vec::new(rt.alloc());
     let mut errors = Vec::new(rt.alloc());
-    let status = run(rt, words.as_slice(), &mut empty(), &mut output, &mut errors);
+    let status = run(rt, words.as_slice(), &mut input, &mut output, &mut errors);
     Ok(Outcome {
         status,
         output: String::from_utf8(output)?,
@@ -32,6 +45,21 @@ pub fn run_line<R: Files<File = File> + AllocGlobal>(rt: &R, line: &str) -> Resu
 
 fn is_same(told: &str, text: &str) -> bool {
     told == text
+}
+
+/// Runs a script: the program ends with 0 and prints the replies.
+pub fn expect_replies<R: Files<File = File> + AllocGlobal + Abort>(
+    rt: &R,
+    line: &str,
+    script: &str,
+    replies: &str,
+) -> Result<(), Fail> {
+    let outcome = run_script(rt, line, script.as_bytes())?;
+    let told = outcome.output;
+    assert_eq!(rt; outcome.status, 0, "{line}");
+    assert!(rt; is_same(told.as_str(), replies), "{line}: {told}");
+    assert!(rt; outcome.errors.is_empty(), "{line}");
+    Ok(())
 }
 
 /// Runs a line: the program ends with the status, and prints the text, an answer on `output`, a fault on `errors`.

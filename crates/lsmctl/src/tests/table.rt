@@ -10,7 +10,7 @@ use std::test::Fail;
 const OPEN: &str = "";
 
 /// A line, the exit status, and what is printed. KEY stands for a key of 256 bytes, VALUE for a value of 2,049.
-static ROWS: [(&str, u8, &str); 87] = [
+static ROWS: [(&str, u8, &str); 117] = [
     // The words, help included.
     ("", 2, OPEN),
     ("get", 2, OPEN),
@@ -24,7 +24,12 @@ static ROWS: [(&str, u8, &str); 87] = [
     ("format missing", 2, OPEN),
     ("format missing 8192", 2, OPEN),
     ("format missing 8192 128 1", 2, OPEN),
-    ("scan store empty 2", 2, OPEN),
+    ("scan store empty", 2, OPEN),
+    ("scan store empty 2 3", 2, OPEN),
+    ("replay", 2, OPEN),
+    ("replay store 2", 2, OPEN),
+    ("lives 8192", 2, OPEN),
+    ("lives 8192 128 2", 2, OPEN),
     ("Get store 61", 2, OPEN),
     ("ge store 61", 2, OPEN),
     ("help", 2, OPEN),
@@ -59,7 +64,15 @@ static ROWS: [(&str, u8, &str); 87] = [
     ("put store 61 3", 2, OPEN),
     ("put store 61 ", 2, OPEN),
     ("del store 616", 2, OPEN),
+    ("scan store 6 2", 2, OPEN),
+    ("scan store end 2", 2, OPEN),
+    ("scan store 61 two", 2, OPEN),
+    ("scan store 61 18446744073709551616", 2, OPEN),
+    ("lives +8192 128", 2, OPEN),
+    ("lives 8192 18446744073709551616", 2, OPEN),
     // A mistake is found before the limits, the batch and the file.
+    ("scan missing 6 0", 2, OPEN),
+    ("lives 8191 -1", 2, OPEN),
     ("format missing 8191 +128", 2, OPEN),
     ("put missing KEY 3", 2, OPEN),
     // The limits, before a file is made.
@@ -85,6 +98,23 @@ static ROWS: [(&str, u8, &str); 87] = [
         "refused 25 BadGeometry\n",
     ),
     ("format store 008191 128", 1, "refused 25 BadGeometry\n"),
+    ("lives 8191 128", 1, "refused 25 BadGeometry\n"),
+    ("lives 8192 127", 1, "refused 25 BadGeometry\n"),
+    ("lives 8192 2049", 1, "refused 25 BadGeometry\n"),
+    ("lives 1048577 128", 1, "refused 25 BadGeometry\n"),
+    (
+        "lives 18446744073709551615 128",
+        1,
+        "refused 25 BadGeometry\n",
+    ),
+    ("scan missing 61 0", 1, "refused 28 BadLimit\n"),
+    ("scan missing KEY 65", 1, "refused 28 BadLimit\n"),
+    (
+        "scan missing 61 18446744073709551615",
+        1,
+        "refused 28 BadLimit\n",
+    ),
+    ("scan missing 61 4294967297", 1, "refused 28 BadLimit\n"),
     // The batch, before the file: a key of 256 bytes, a value of 2,049.
     ("put missing empty 31", 1, "refused 16 BadKey\n"),
     ("put missing KEY 31", 1, "refused 16 BadKey\n"),
@@ -97,6 +127,8 @@ static ROWS: [(&str, u8, &str); 87] = [
     ("get missing KEY", 1, "refused 02 Io\n"),
     ("put missing 61 31", 1, "refused 02 Io\n"),
     ("del missing 61", 1, "refused 02 Io\n"),
+    ("scan missing 61 1", 1, "refused 02 Io\n"),
+    ("replay missing", 1, "refused 02 Io\n"),
     ("get  61", 1, "refused 02 Io\n"),
     ("get . 61", 1, "refused 02 Io\n"),
     ("format missing/store 8192 128", 1, "refused 02 Io\n"),
@@ -105,6 +137,8 @@ static ROWS: [(&str, u8, &str); 87] = [
     ("get zeros 61", 1, "refused 21 NotAStore\n"),
     ("put zeros 61 31", 1, "refused 21 NotAStore\n"),
     ("del zeros 61", 1, "refused 21 NotAStore\n"),
+    ("scan zeros 61 64", 1, "refused 21 NotAStore\n"),
+    ("replay zeros", 1, "refused 21 NotAStore\n"),
     ("get nothing 61", 1, "refused 25 BadGeometry\n"),
     ("get short 61", 1, "refused 25 BadGeometry\n"),
     ("put short 61 31", 1, "refused 25 BadGeometry\n"),
@@ -114,6 +148,10 @@ static ROWS: [(&str, u8, &str); 87] = [
     ("get store KEY", 1, "refused 16 BadKey\n"),
     // Answers.
     ("get store 61", 0, "absent\n"),
+    ("scan store empty 64", 0, "end\n"),
+    ("scan store KEY 1", 0, "end\n"),
+    ("replay store", 0, ""),
+    ("lives 8192 128", 0, "open 0\n"),
     ("get store 6A6b", 0, "absent\n"),
     ("format store 0008193 0129", 0, "formatted blocks 959\n"),
     ("format store 8192 2048", 0, "formatted blocks 239\n"),

@@ -1,0 +1,16 @@
+use Rattle.std.proofs.Common.{[], rules}
+use Rattle.lsm_device.specs.Medium.{disk}
+use Rattle.lsm_device.specs.Memory.{medium_in}
+use Rattle.lsm_open.specs.CrashState.{formatted as empty_store}
+use Rattle.lsm_lives.specs.Living.{replies_of}
+use Rattle.lsmctl.proofs.LifeLaws.{IsAfter-nothing, promise_of-lines}
+use Rattle.lsmctl.proofs.runs.lives.Goals as goal
+
+pub returns : goal.returns
+returns c = record {
+  replies = replies_of c.in-Ok.replies.items;
+  left = disk (medium_in c.in-Ok.field-0-1);
+  promise = promise_of-lines _ c.args.script.items _ _ _ c.in_ok-lives.ensures.lives
+    (c.in-Ok.ensures.promise c.args.geometry.log_sectors [] empty_store IsAfter-nothing c.in_ok-device.ensures);
+  told = search rules;
+}

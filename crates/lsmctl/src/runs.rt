@@ -1,0 +1,60 @@
+//! The steps of scripts, made.
+
+ghost use Rattle.std.specs.Prelude.{map, IfOk};
+ghost use Rattle.lsm_device.specs.Medium.{disk};
+ghost use Rattle.lsm_device.specs.Memory.{medium_in};
+ghost use Rattle.lsm_device.specs.Outcomes.{Leaves};
+ghost use Rattle.lsm_open.specs.CrashState.{formatted as empty_store};
+ghost use Rattle.lsm_open.specs.Image.{IsImage};
+ghost use Rattle.lsm_lives.specs.Calls.{call_of};
+ghost use Rattle.lsmctl.specs.Steps.{calls_of_lives, told_lives};
+ghost use Rattle.lsmctl.specs.Answers.{HasReplies, HasLives};
+
+use crate::answer::Answer;
+use crate::geometry::Geometry;
+use crate::line::Line;
+use crate::reply::{push_lives, push_replies};
+use crate::steps::{Lives, Steps, lives_of};
+use lsm_device::{Device, MemDevice, Refusal};
+use lsm_store::Store;
+use std::alloc::Global;
+
+/// Makes steps on a store. A line answers each.
+pub fn replay<D: Device>(
+    alloc: Global,
+    store: &mut Store<D>,
+    steps: &Steps,
+) -> Result<Answer, Refusal>
+    ensures { IfOk result (HasReplies (map call_of steps.now.calls.items) steps.now.told.items) }
+{
+    let replies = lsm_lives::replay(alloc, store, &steps.calls)?;
+    let mut text = String::new(alloc);
+    push_replies(alloc, &mut text, &steps.told, &replies)?;
+    Ok(Answer::Lines(text))
+}
+
+/// Makes the lives of a script on an empty store in memory. A line answers each opening and each step.
+pub fn lives(alloc: Global, geometry: Geometry, script: Vec<Line>) -> Result<Answer, Refusal>
+    ensures { IfOk result (HasLives geometry.log_sectors (calls_of_lives script.items) (told_lives script.items)) }
+{
+    let Lives { lives, told } = lives_of(alloc, script)?;
+    let device = formatted(alloc, geometry)?;
+    let replies = match lsm_lives::lives(alloc, device, &lives) {
+        Ok((replies, _)) => replies,
+        Err((refusal, _)) => return Err(refusal),
+    };
+    let mut text = String::new(alloc);
+    push_lives(alloc, &mut text, &told, &replies)?;
+    Ok(Answer::Lines(text))
+}
+
+// A device in memory with an empty store.
+fn formatted(alloc: Global, geometry: Geometry) -> Result<MemDevice, Refusal>
+    ensures { IfOk result (λ device. Leaves (IsImage geometry.log_sectors empty_store) (disk (medium_in device))) }
+{
+    let device = MemDevice::new(alloc, geometry.sectors())?;
+    match lsm_open::format(alloc, device, geometry.log_sectors()) {
+        Ok(device) => Ok(device),
+        Err((refusal, _)) => Err(refusal),
+    }
+}
