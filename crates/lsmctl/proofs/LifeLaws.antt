@@ -20,8 +20,8 @@ pub IsAfter-nothing : IsAfter [] empty_store
 IsAfter-nothing = record { count = refl; same_map = refl }
 
 -- lives that are made of lines keep the promise as the lives of these lines
-pub promise_of-lines : (lives : List (Life Global)) (lines : List Line) (log_sectors : ℕ) (replies : List (List Reply)) (left : Disk)
-    → map life_of lives ≡ lives_after [] None [] (ended lines) → KeepPromise log_sectors [] empty_store (calls_of lives) replies left
+pub promise_of-lines : (given lives : List (Life Global)) (lines : List Line) (log_sectors : ℕ) (replies : List (List Reply)) (left : Disk)
+    → given ≡ lives → map life_of lives ≡ lives_after [] None [] (ended lines) → KeepPromise log_sectors [] empty_store (calls_of given) replies left
     → KeepPromise log_sectors [] empty_store (calls_of_lives lines) replies left
-promise_of-lines lives lines log_sectors replies left e kept =
-    subst (λ calls. KeepPromise log_sectors [] empty_store calls replies left) (calls_of-lives lives ∙ ap calls_in e) kept
+promise_of-lines given lives lines log_sectors replies left same e kept =
+    subst (λ calls. KeepPromise log_sectors [] empty_store calls replies left) (ap calls_of same ∙ calls_of-lives lives ∙ ap calls_in e) kept

@@ -17,7 +17,7 @@ after-from letter word (Some rest) e = grind arith
 -- the clause of `split_once` at `=`
 pub pair_in-from : (word : List ℕ) (r : Option (Bor (List ℕ) × Bor (List ℕ)))
     → MatchOption r (position_or_len (λ b. b == 61) word ≡ length word)
-        (λ x. (position_or_len (λ b. b == 61) word < length word) × (x.0.now ≡ before_first (λ b. b == 61) word) × (x.1.now ≡ after_first (λ b. b == 61) word))
+    (λ x. (position_or_len (λ b. b == 61) word < length word) × (x.0.now ≡ before_first (λ b. b == 61) word) × (x.1.now ≡ after_first (λ b. b == 61) word))
     → MatchOption r (pair_in word ≡ None) (λ x. pair_in word ≡ Some (x.0.now, x.1.now))
 pair_in-from word None e = rw e grind arith
 pair_in-from word (Some x) e = grind arith

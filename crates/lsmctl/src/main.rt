@@ -18,9 +18,9 @@ mod request;
 mod runs;
 mod script;
 mod steps;
-mod words;
 #[cfg(test)]
 mod tests;
+mod words;
 
 use program::{REFUSED, USAGE, run};
 use std::env;

@@ -22,11 +22,20 @@ use std::alloc::Global;
 #[derive(Drop)]
 pub enum Request<'a> {
     /// Make an empty store.
-    Format { file: &'a str, geometry: Geometry },
+    Format {
+        file: &'a str,
+        geometry: Geometry,
+    },
     /// Commit a batch and sync it.
-    Commit { file: &'a str, batch: Batch },
+    Commit {
+        file: &'a str,
+        batch: Batch,
+    },
     /// Look up a key.
-    Get { file: &'a str, key: Vec<u8> },
+    Get {
+        file: &'a str,
+        key: Vec<u8>,
+    },
     /// Print so many keys with their values, from a key on.
     Scan {
         file: &'a str,
@@ -34,7 +43,10 @@ pub enum Request<'a> {
         limit: u64,
     },
     /// Make the steps of a script.
-    Replay { file: &'a str, script: Vec<Line> },
+    Replay {
+        file: &'a str,
+        script: Vec<Line>,
+    },
     /// Make the lives of a script, on a device in memory.
     Lives {
         geometry: Geometry,

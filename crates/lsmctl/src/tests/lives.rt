@@ -64,7 +64,9 @@ fn a_mask_keeps_pending_writes_by_their_places(rt: HostRuntime) -> Result<(), Fa
         ("none", 0),
         ("all", 2),
     ] {
-        let script = format!(in rt.alloc(); "commit +61=31\ncommit +62={value}\ncrash {mask}\nroom\n")?;
+        let script = format!(in rt.alloc();
+            "commit +61=31\ncommit +62={value}\ncrash {mask}\nroom\n"
+        )?;
         let replies = format!(in rt.alloc(); "open 0\nbatch 1\nbatch 2\nopen {count}\nroom 128\n")?;
         expect_replies(&rt, "lives 8192 128", script.as_str(), replies.as_str())?;
     }
@@ -79,7 +81,10 @@ fn crash_all_keeps_whatever_pends(rt: HostRuntime) -> Result<(), Fail> {
     let outcome = super::run_script(&rt, "lives 16384 2048", script.as_bytes())?;
     assert_eq!(&rt; outcome.status, 0);
     let told = outcome.output;
-    assert!(&rt; told.ends_with("batch 2048\nopen 2048\nroom 2048\n"), "{told}");
+    assert!(&rt;
+        told.ends_with("batch 2048\nopen 2048\nroom 2048\n"),
+        "{told}"
+    );
     Ok(())
 }
 
@@ -91,7 +96,8 @@ fn a_commit_that_forms_no_batch_is_no_step(rt: HostRuntime) -> Result<(), Fail> 
     let large = format!(in rt.alloc(); "+61={part} ")?.repeat(rt.alloc(), 30)?;
     let script = format!(in rt.alloc();
         "commit +empty=31\ncommit -{key}\ncommit +61={value}\ncommit +{key}={value}\ncommit +61=31 -empty +61={value}\n\
-commit {large}-{key}\ncommit {large}-61\ncommit +61=empty\ncrash none\nfuse 0\ncommit -empty\ncommit -61")?;
+commit {large}-{key}\ncommit {large}-61\ncommit +61=empty\ncrash none\nfuse 0\ncommit -empty\ncommit -61"
+    )?;
     expect_replies(
         &rt,
         "lives 8192 128",

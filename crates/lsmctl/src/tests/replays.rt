@@ -6,7 +6,12 @@ use std::test::Fail;
 
 #[test]
 fn a_script_works_on_the_store_in_a_file(rt: HostRuntime) -> Result<(), Fail> {
-    expect(&rt, "format replay.img 8192 128", 0, "formatted blocks 959\n")?;
+    expect(
+        &rt,
+        "format replay.img 8192 128",
+        0,
+        "formatted blocks 959\n",
+    )?;
     expect_replies(
         &rt,
         "replay replay.img",
