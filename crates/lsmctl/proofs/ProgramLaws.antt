@@ -1,14 +1,31 @@
 -- The program's words are such as the parser's definitions compute.
 use Rattle.std.proofs.Common.{◌≡◌, ◌||◌, List, Option, Some, None, option_map, true, refl, sym, ap, ap₂, ◌∙◌}
-use Rattle.clap.specs.Words.{AddsSubcommand, App, Row, Text, is_simple, with_subcommand}
+use Rattle.clap.specs.Words.{AddsSubcommand, App, Row, Text, is_simple, is_simple_and_free, with_subcommand}
 use Rattle.clap.specs.declared.builder.command.Command.{Command}
 use Rattle.clap.proofs.OnLiterals.{clap_on_literals}
-use Rattle.lsmctl.specs.Program.{IsCommand, program}
+use Rattle.lsmctl.specs.declared.asked.Asked.{Asked}
+use Rattle.lsmctl.specs.declared.asked.Asked.TheVariants.{Format, Put, Delete, Get, Scan, Replay, Lives}
+use Rattle.lsmctl.specs.Program.{Asks, IsCommand, has_words, program}
 
 -- the parser's matches of the program are those of its definitions
 pub is_simple-program : is_simple program ≡ true
 unfolding clap_on_literals
 is_simple-program = refl
+
+-- and so are its faults
+pub is_simple_and_free-program : is_simple_and_free program ≡ true
+unfolding clap_on_literals
+is_simple_and_free-program = refl
+
+-- what is asked for has its words
+pub has_words-asked : (name : Text) (rows : List Row) (asked : Asked) → Asks name rows asked → has_words name rows ≡ true
+has_words-asked name rows (Format file sectors log) (n, a, b, c) = rw (n, a, b, c) refl
+has_words-asked name rows (Put file key value) (n, a, b, c) = rw (n, a, b, c) refl
+has_words-asked name rows (Delete file key) (n, a, b) = rw (n, a, b) refl
+has_words-asked name rows (Get file key) (n, a, b) = rw (n, a, b) refl
+has_words-asked name rows (Scan file from limit) (n, a, b, c) = rw (n, a, b, c) refl
+has_words-asked name rows (Replay file) (n, a) = rw (n, a) refl
+has_words-asked name rows (Lives sectors log) (n, a, b) = rw (n, a, b) refl
 
 -- a subcommand's name and its matches, from each of them
 pub found_together : {B : Type 0} (found : Option B) (pair_of : B → Text × List Row) (name : Text) (rows : List Row)

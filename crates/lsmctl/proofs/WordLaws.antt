@@ -1,7 +1,12 @@
 -- What stands behind a letter, and around another.
-use Rattle.std.proofs.Common.{◌≡◌, ◌≢◌, ◌<◌, ◌==◌, ℕ, Bool, true, false, List, [], ◌∷◌, length, Bor, Option, Some, None, option_map, MatchOption, refl, ap, arith, rules}
-use Rattle.std.specs.List.{position_or_len, before_first, after_first}
+use Rattle.std.proofs.Common.{◌≡◌, ◌≢◌, ◌<◌, ◌==◌, ◌||◌, ℕ, Bool, map, true, false, List, [], ◌∷◌, length, Bor, Option, Some, None, option_map, MatchOption, refl, ap, arith, rules}
+use Rattle.std.specs.List.{list_any, position_or_len, before_first, after_first}
 use Rattle.lsmctl.specs.Words.{after, pair_in}
+
+-- a test of each word is one of the texts
+pub list_any-map : {X Y : Type 0} (f : X → Y) (test : Y → Bool) (xs : List X) → list_any test (map f xs) ≡ list_any (λ x. test (f x)) xs
+list_any-map f test [] = refl
+list_any-map f test (x ∷ xs) = ap (λ t. test (f x) || t) (list_any-map f test xs)
 
 -- the clause of `strip_prefix` at a letter
 pub after-from : (letter : ℕ) (word : List ℕ) (r : Option (Bor (List ℕ)))

@@ -56,13 +56,17 @@ pub record HasRows (from : Bytes) (limit : ℕ) (answer : Answer) : Type 0 where
   pub serves : Serves before (Scan Now from None limit) (Rows page) after
   pub told : HasLines (page_lines page) answer
 
--- calls were made of a store, and the replies to them are told, each as its step asks for
-pub record HasReplies (calls : List Call) (steps : List Told) (answer : Answer) : Type 0 where
+-- calls were made of this store, and the replies to them are told, each as its step asks for
+pub record TellsReplies (before : StoreView) (calls : List Call) (steps : List Told) (after : StoreView) (answer : Answer) : Type 0 where
   pub replies : List Reply
-  pub before : StoreView
-  pub after : StoreView
   pub replays : Replays before calls replies after
   pub told : HasLines (replies_text steps replies) answer
+
+-- of some store
+pub record HasReplies (calls : List Call) (steps : List Told) (answer : Answer) : Type 0 where
+  pub before : StoreView
+  pub after : StoreView
+  pub tells : TellsReplies before calls steps after answer
 
 -- Lives were led on an empty store, each a list of calls, and the replies to them are told. They keep the promise over
 -- crashes.

@@ -1,5 +1,6 @@
 -- The words that the program takes, as the parser sees them, and what is asked for by them.
-use Rattle.std.specs.Prelude.{◌≡◌, List, [], ◌∷◌, Some, codes, true, false}
+use Rattle.std.specs.Prelude.{◌≡◌, ◌&&◌, Bool, List, [], ◌∷◌, Some, is_some, codes, true, false, if◌then◌else◌}
+use Rattle.std.specs.Str.{bytes_eq}
 use Rattle.clap.specs.Words.{App, Row, Rule, Text, app_of, first_of, new_app, new_rule, with_rule, with_subcommand}
 use Rattle.clap.specs.declared.builder.command.Command.{Command}
 use Rattle.clap.specs.declared.builder.command.Command.TheViews.{out-Command as fields_of}
@@ -58,3 +59,17 @@ Asks name rows (Scan file from limit) = (name ≡ codes "scan") × HasWord rows 
 Asks name rows (Replay file) = (name ≡ codes "replay") × HasWord rows (codes "FILE") file.now
 Asks name rows (Lives sectors log) = (name ≡ codes "lives") × HasWord rows (codes "SECTORS") sectors.now
     × HasWord rows (codes "LOG") log.now
+
+-- whether the name is one of a subcommand, and there is a word at each of its places
+abbrev pub has_word : List Row → Text → Bool
+has_word rows place = is_some (first_of place rows)
+
+abbrev pub has_words : Text → List Row → Bool
+has_words name rows = if bytes_eq name (codes "format") then has_word rows (codes "FILE") && (has_word rows (codes "SECTORS") && has_word rows (codes "LOG"))
+    else if bytes_eq name (codes "put") then has_word rows (codes "FILE") && (has_word rows (codes "KEY") && has_word rows (codes "VALUE"))
+    else if bytes_eq name (codes "del") then has_word rows (codes "FILE") && has_word rows (codes "KEY")
+    else if bytes_eq name (codes "get") then has_word rows (codes "FILE") && has_word rows (codes "KEY")
+    else if bytes_eq name (codes "scan") then has_word rows (codes "FILE") && (has_word rows (codes "FROM") && has_word rows (codes "LIMIT"))
+    else if bytes_eq name (codes "replay") then has_word rows (codes "FILE")
+    else if bytes_eq name (codes "lives") then has_word rows (codes "SECTORS") && has_word rows (codes "LOG")
+    else false

@@ -20,9 +20,12 @@ counted_word counted.Snapshot = codes "snapshot"
 counted_word counted.Room = codes "room"
 
 -- `refused`, the number in two digits, and the name
+abbrev pub refusal_text : Refusal → List ℕ
+refusal_text refusal = codes "refused " ++ decimal (number_of refusal / 10) ++ decimal (number_of refusal % 10) ++ codes " "
+    ++ name_of refusal
+
 abbrev pub refusal_line : Refusal → List ℕ
-refusal_line refusal = codes "refused " ++ decimal (number_of refusal / 10) ++ decimal (number_of refusal % 10) ++ codes " "
-    ++ name_of refusal ++ 10 ∷ []
+refusal_line refusal = refusal_text refusal ++ 10 ∷ []
 
 -- the key of the first pair that a page leaves out
 abbrev pub next_line : Page → List ℕ

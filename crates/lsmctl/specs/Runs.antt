@@ -1,31 +1,59 @@
 -- What a run of the program does.
-use Rattle.std.specs.Prelude.{◌≡◌, ℕ, List, Option, Some, Result, Ok, Err, IfSome, IsTrue}
+use Rattle.std.specs.Prelude.{◌≡◌, ◌⊎◌, ℕ, Bool, false, List, [], Option, Some, None, is_some, Result, Ok, Err, IfSome, IsTrue, MatchResult, OnOk}
+use Rattle.std.specs.List.{list_any}
+use Rattle.std.specs.Io.KnownBytes.{Appends, Keeps}
 use Rattle.std.specs.declared.io.Error.{Error}
-use Rattle.clap.specs.Words.{Row, Text, subcommand_of}
+use Rattle.clap.specs.Words.{Row, Text, fault_of, subcommand_of}
+use Rattle.lsm_device.specs.declared.refusal.Refusal.TheVariants.{NoMemory}
 use Rattle.lsmctl.specs.declared.asked.Asked.{Asked}
 use Rattle.lsmctl.specs.declared.request.Request.{Request}
 use Rattle.lsmctl.specs.declared.answer.Answer.{Answer}
 use Rattle.lsmctl.specs.declared.fault.Fault.{Fault}
-use Rattle.lsmctl.specs.Faults.{reason_of, status_of}
+use Rattle.lsmctl.specs.Faults.{Reason, mistake, refusal, unread, reason_of, status_of}
+use Rattle.lsmctl.specs.Words.{after}
 use Rattle.lsmctl.specs.Program.{program, Asks}
-use Rattle.lsmctl.specs.Requests.{Says, wants_script}
-use Rattle.lsmctl.specs.Answers.{Gives}
+use Rattle.lsmctl.specs.Requests.{Says, reason_for, wants_script}
+use Rattle.lsmctl.specs.Replies.{refusal_line}
+use Rattle.lsmctl.specs.Answers.{Gives, lines_of}
 
--- what the words ask for: the parser finds a subcommand and its words in them
+-- ---- what is asked for
+
+-- whether a word begins with a dash
+abbrev pub has_dash : List Text → Bool
+has_dash words = list_any (λ word. is_some (after 45 word)) words
+
+-- What the words ask for: the parser finds no fault in them, but a subcommand and its words, and none begins with a dash.
 pub record IsAsked (words : List Text) (asked : Asked) : Type 0 where
   pub name : Text
   pub rows : List Row
+  pub faultless : fault_of program words ≡ []
+  pub dashless : has_dash words ≡ false
   pub found : subcommand_of program words ≡ Some (name, rows)
   pub asks : Asks name rows asked
 
--- the answer is one to what the words and the script ask for, where the script is all of the input, as far as that is known
-pub record IsServed (words : List Text) (input : Option (List ℕ)) (answer : Answer) : Type 0 where
-  pub asked : Asked
-  pub text : List ℕ
-  pub request : Request
+-- they ask for nothing
+pub record AskNothing (words : List Text) : Type 0 where
+  pub none : (asked : Asked) → ¬ (IsAsked words asked)
+
+-- the words and the script, where the script is all of the input, as far as that is known
+pub record IsRead (words : List Text) (input : Option (List ℕ)) (asked : Asked) (text : List ℕ) : Type 0 where
   pub words_ask : IsAsked words asked
   pub whole : IsTrue (wants_script asked) → IfSome input (λ all. text ≡ all)
+
+-- nothing is wrong with them, and the request is what they say
+pub record IsRequested (words : List Text) (input : Option (List ℕ)) (request : Request) : Type 0 where
+  pub asked : Asked
+  pub text : List ℕ
+  pub read : IsRead words input asked text
+  pub sound : reason_for asked text ≡ None
   pub says : Says asked text request
+
+-- ---- what comes of it
+
+-- the answer is one to what the words and the script ask for
+pub record IsServed (words : List Text) (input : Option (List ℕ)) (answer : Answer) : Type 0 where
+  pub request : Request
+  pub requested : IsRequested words input request
   pub gives : Gives request answer
 
 -- such an answer has a property
@@ -34,8 +62,73 @@ pub record HasServed (words : List Text) (input : Option (List ℕ)) (P : Answer
   pub served : IsServed words input answer
   pub has : P answer
 
+-- this is the first that is wrong with the words and the script
+pub record IsWrong (words : List Text) (input : Option (List ℕ)) (reason : Reason) : Type 0 where
+  pub asked : Asked
+  pub text : List ℕ
+  pub read : IsRead words input asked text
+  pub first : reason_for asked text ≡ Some reason
+
+-- nothing is wrong with them, and something was done
+pub record IsTried (words : List Text) (input : Option (List ℕ)) : Type 0 where
+  pub request : Request
+  pub requested : IsRequested words input request
+
+-- a script was asked for, which could not be read
+pub record IsUnread (words : List Text) : Type 0 where
+  pub asked : Asked
+  pub words_ask : IsAsked words asked
+  pub wants : IsTrue (wants_script asked)
+
+-- a reason that is no part of words and script that were read
+abbrev pub IsElsewhere : List Text → Option (List ℕ) → Reason → Type 0
+IsElsewhere words input mistake = AskNothing words
+IsElsewhere words input (refusal r) = (r ≡ NoMemory) ⊎ IsTried words input
+IsElsewhere words input unread = IsUnread words
+
+-- Why there is no answer. A mistake is one of the words or of the script, and nothing was done.
+abbrev pub Fails : List Text → Option (List ℕ) → Reason → Type 0
+Fails words input reason = IsWrong words input reason ⊎ IsElsewhere words input reason
+
+-- ---- how a run ends
+
 -- the exit status: 1 where the answer or the fault could not be written
 abbrev pub status_after : Result Answer Fault → Result (Unit {0}) Error → ℕ
 status_after answered (Err error) = 1
 status_after (Ok answer) (Ok done) = 0
 status_after (Err fault) (Ok done) = status_of (reason_of fault)
+
+-- the output is the answer, or stays as it is
+abbrev pub PrintsAnswer : Result Answer Fault → Result (Unit {0}) Error → Option (List ℕ) → Option (List ℕ) → Type 0
+PrintsAnswer (Ok answer) written old new = OnOk written (Appends old new (lines_of answer))
+PrintsAnswer (Err fault) written old new = Keeps old new
+
+-- a refusal is reported in one line; the text of any other fault is left open
+abbrev pub IsReported : Reason → Option (List ℕ) → Option (List ℕ) → Type 0
+IsReported (refusal r) old new = Appends old new (refusal_line r)
+IsReported _ old new = Unit {0}
+
+-- the errors are the fault, or stay as they are
+abbrev pub PrintsFault : Result Answer Fault → Result (Unit {0}) Error → Option (List ℕ) → Option (List ℕ) → Type 0
+PrintsFault (Ok answer) written old new = Keeps old new
+PrintsFault (Err fault) written old new = OnOk written (IsReported (reason_of fault) old new)
+
+-- the bytes that the writers hold before and after, as far as they are known
+pub record Written : Type 0 where
+  pub output : Option (List ℕ)
+  pub output_after : Option (List ℕ)
+  pub errors : Option (List ℕ)
+  pub errors_after : Option (List ℕ)
+
+-- an answer or a fault was printed, and this is the exit status
+pub record Concludes (answered : Result Answer Fault) (bytes : Written) (ends : ℕ) : Type 0 where
+  pub written : Result (Unit {0}) Error
+  pub status : ends ≡ status_after answered written
+  pub answer : PrintsAnswer answered written bytes.output bytes.output_after
+  pub fault : PrintsFault answered written bytes.errors bytes.errors_after
+
+-- a run of the program: what comes of the words and the input is printed, and this is the exit status
+pub record IsRun (words : List Text) (input : Option (List ℕ)) (bytes : Written) (ends : ℕ) : Type 0 where
+  pub answered : Result Answer Fault
+  pub comes : MatchResult answered (IsServed words input) (λ fault. Fails words input (reason_of fault))
+  pub concludes : Concludes answered bytes ends

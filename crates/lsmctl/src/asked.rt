@@ -1,13 +1,14 @@
 //! What the words ask for, before the words for numbers and bytes are read.
 
-ghost use Rattle.std.specs.Prelude.{◌≡◌, ◌⊎◌, map, IfOk, IfErr, false};
-ghost use Rattle.clap.specs.Words.{found_of, new_app, rows_of, rule_of};
+ghost use Rattle.std.specs.Prelude.{◌≡◌, ◌⊎◌, map, IfOk, IfErr, MatchResult, is_some, false};
+ghost use Rattle.clap.specs.Words.{first_of, found_of, new_app, rows_of, rule_of};
 ghost use Rattle.lsm_device.specs.declared.refusal.Refusal.TheVariants.{NoMemory};
 ghost use Rattle.lsmctl.specs.Faults.{reason_of, mistake, refusal};
-ghost use Rattle.lsmctl.specs.Program.{bare_program, program, word_rule, with_words, IsCommand, Asks, HasWord};
-ghost use Rattle.lsmctl.specs.Runs.{IsAsked};
+ghost use Rattle.lsmctl.specs.Program.{bare_program, program, word_rule, with_words, has_words, IsCommand, Asks, HasWord};
+ghost use Rattle.lsmctl.specs.Runs.{has_dash, IsAsked, AskNothing};
 
 use crate::fault::{Fault, Usage};
+use crate::words::after;
 use clap::error::ErrorKind;
 use clap::{Arg, ArgAction, ArgMatches, Command};
 use lsm_device::Refusal;
@@ -52,7 +53,7 @@ pub enum Asked<'a> {
 /// Reads the words after the program's name.
 pub fn asked_for<'a, S: AsStr>(alloc: Global, words: &'a [S]) -> Result<Asked<'a>, Fault>
     ensures asked { IfOk result (IsAsked (map S.text words.entry.now)) }
-    ensures faults { IfErr result (λ e. (reason_of e ≡ mistake) ⊎ (reason_of e ≡ refusal NoMemory)) }
+    ensures faults { IfErr result (λ e. ((reason_of e ≡ mistake) × AskNothing (map S.text words.entry.now)) ⊎ (reason_of e ≡ refusal NoMemory)) }
 {
     let command = command(alloc)?;
     let matches = match command.try_get_matches_from(words) {
@@ -62,13 +63,20 @@ pub fn asked_for<'a, S: AsStr>(alloc: Global, words: &'a [S]) -> Result<Asked<'a
         }
         Err(error) => return Err(Fault::Usage(Usage::Words(error))),
     };
-    if words.iter().any(|word| word.as_str().starts_with('-')) {
+    if has_dash(words) {
         return Err(Fault::Usage(Usage::Dash));
     }
     let Some((name, given)) = matches.subcommand() else {
         return Err(Fault::Usage(Usage::Missing("the subcommand")));
     };
     Ok(subcommand(name, given)?)
+}
+
+// Whether a word begins with a dash.
+fn has_dash<S: AsStr>(words: &[S]) -> bool
+    ensures { result ≡ has_dash (map S.text words.now) }
+{
+    words.iter().any(|word| after(word.as_str(), '-').is_some())
 }
 
 // The program's command. Each subcommand has its words at fixed places.
@@ -139,7 +147,7 @@ fn word<'a>(alloc: Global, place: &'a str) -> Arg<'a>
 
 // A subcommand's words from their places.
 fn subcommand<'a>(name: &str, given: &ArgMatches<'a>) -> Result<Asked<'a>, Usage>
-    ensures { IfOk result (Asks name.now (rows_of (found_of given.now))) }
+    ensures { MatchResult result (Asks name.now (rows_of (found_of given.now))) (λ _. has_words name.now (rows_of (found_of given.now)) ≡ false) }
 {
     match name {
         "format" => Ok(Asked::Format {
@@ -178,7 +186,8 @@ fn subcommand<'a>(name: &str, given: &ArgMatches<'a>) -> Result<Asked<'a>, Usage
 
 // The word at a place, which the parser asked for.
 fn at<'a>(given: &ArgMatches<'a>, place: &'static str) -> Result<&'a str, Usage>
-    ensures { IfOk result (λ word. HasWord (rows_of (found_of given.now)) place.now word.now) }
+    ensures { MatchResult result (λ word. HasWord (rows_of (found_of given.now)) place.now word.now)
+        (λ _. is_some (first_of place.now (rows_of (found_of given.now))) ≡ false) }
 {
     match given.get_str(place) {
         Some(word) => Ok(word),

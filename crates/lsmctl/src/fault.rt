@@ -4,6 +4,7 @@ ghost use Rattle.std.specs.Prelude.{◌≡◌};
 ghost use Rattle.lsm_device.specs.declared.refusal.Refusal.TheVariants.{NoMemory};
 ghost use Rattle.lsmctl.specs.Faults.{reason_of, mistake, refusal};
 
+use crate::refused::refusal_text;
 use lsm_device::Refusal;
 use std::alloc::{AllocError, AllocFailed};
 use std::io;
@@ -37,7 +38,7 @@ pub enum Usage {
 pub enum Fault {
     #[error("{0}")]
     Usage(Usage),
-    #[error("refused {number:02} {name}", number = .0.number(), name = .0.name())]
+    #[error("{text}", text = refusal_text(.0))]
     Refused(Refusal),
     #[error("the script could not be read: {0}")]
     Input(io::Error),

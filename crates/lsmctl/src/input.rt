@@ -19,7 +19,7 @@ pub fn script_text<I: Read>(
     input: &mut I,
 ) -> Result<Vec<u8>, Fault>
     ensures whole { IfOk result (λ text. IsTrue (wants_script asked.now) → IfSome (I.remaining input.old) (λ all. text.items ≡ all)) }
-    ensures fails { IfErr result (λ e. (reason_of e ≡ refusal NoMemory) ⊎ (reason_of e ≡ unread)) }
+    ensures fails { IfErr result (λ e. (reason_of e ≡ refusal NoMemory) ⊎ ((reason_of e ≡ unread) × IsTrue (wants_script asked.now))) }
 {
     let mut text = Vec::new(alloc);
     if !wants_script(asked) {

@@ -13,6 +13,7 @@ mod line;
 mod number;
 mod operations;
 mod program;
+mod refused;
 mod reply;
 mod request;
 mod runs;

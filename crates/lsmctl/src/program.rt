@@ -1,15 +1,17 @@
 //! The program over a reader and two writers.
 
-ghost use Rattle.std.specs.Prelude.{◌≡◌, ◌≤◌, map, IfOk, IsOkAnd, OnOk};
+ghost use Rattle.std.specs.Prelude.{◌≡◌, ◌≤◌, map, MatchResult, OnOk};
 ghost use Rattle.std.specs.Io.KnownBytes.{Appends, Keeps};
 ghost use Rattle.lsmctl.specs.Answers.{lines_of};
-ghost use Rattle.lsmctl.specs.Runs.{IsServed, HasServed, status_after};
+ghost use Rattle.lsmctl.specs.Faults.{mistake, reason_of};
+ghost use Rattle.lsmctl.specs.Runs.{Concludes, Fails, HasServed, IsReported, IsRun, IsServed, Written, status_after};
 
 use crate::answer::Answer;
 use crate::asked::asked_for;
 use crate::calls;
 use crate::fault::{Fault, Usage};
 use crate::input::script_text;
+use crate::refused::refusal_text;
 use crate::request::Request;
 use std::convert::AsStr;
 use std::fs::{File, Files};
@@ -34,6 +36,13 @@ pub fn run<R: Files<File = File> + AllocGlobal, S: AsStr, I: Read, O: Write, E: 
     output: &mut O,
     errors: &mut E,
 ) -> u8
+    // What comes of the words and the input is printed, an answer or a fault, and decides the exit status.
+    ensures runs { IsRun (map S.text words.entry.now) (I.remaining input.old) record {
+      output = O.contents output.old;
+      output_after = O.contents output.new;
+      errors = E.contents errors.old;
+      errors_after = E.contents errors.new;
+    } result }
     ensures status { result ≤ 2 }
 
     // A run that ends with 0 did what the words and the script ask for, printed its answer, and no fault.
@@ -41,7 +50,8 @@ pub fn run<R: Files<File = File> + AllocGlobal, S: AsStr, I: Read, O: Write, E: 
         (λ answer. Appends (O.contents output.old) (O.contents output.new) (lines_of answer)) }
     ensures no_fault { result ≡ 0 → Keeps (E.contents errors.old) (E.contents errors.new) }
 
-    // One that ends with a mistake in the words or the script prints no answer.
+    // One that ends with 2 found a mistake in the words or the script, and printed no answer.
+    ensures mistake { result ≡ 2 → Fails (map S.text words.entry.now) (I.remaining input.old) mistake }
     ensures no_answer { result ≡ 2 → Keeps (O.contents output.old) (O.contents output.new) }
 {
     let answered = answer(rt, words, input);
@@ -54,11 +64,12 @@ fn conclude<O: Write, E: Write>(
     output: &mut O,
     errors: &mut E,
 ) -> u8
-    ensures status { result ≤ 2 }
-    ensures done { result ≡ 0 → IsOkAnd answered.now
-        (λ answer. Appends (O.contents output.old) (O.contents output.new) (lines_of answer)) }
-    ensures no_fault { result ≡ 0 → Keeps (E.contents errors.old) (E.contents errors.new) }
-    ensures no_answer { result ≡ 2 → Keeps (O.contents output.old) (O.contents output.new) }
+    ensures { Concludes answered.now record {
+      output = O.contents output.old;
+      output_after = O.contents output.new;
+      errors = E.contents errors.old;
+      errors_after = E.contents errors.new;
+    } result }
 {
     match answered {
         Ok(answer) => status(answered, &print(output, answer)),
@@ -86,7 +97,8 @@ fn answer<R: Files<File = File> + AllocGlobal, S: AsStr, I: Read>(
     words: &[S],
     input: &mut I,
 ) -> Result<Answer, Fault>
-    ensures { IfOk result (IsServed (map S.text words.entry.now) (I.remaining input.old)) }
+    ensures { MatchResult result (IsServed (map S.text words.entry.now) (I.remaining input.old))
+        (λ fault. Fails (map S.text words.entry.now) (I.remaining input.old) (reason_of fault)) }
 {
     let asked = asked_for(rt.alloc(), words)?;
     let text = script_text(rt.alloc(), &asked, input)?;
@@ -103,8 +115,14 @@ fn print<O: Write>(output: &mut O, answer: &Answer) -> io::Result<()>
 }
 
 // The parser's texts end with a line feed of their own.
-fn report<E: Write>(errors: &mut E, fault: &Fault) -> io::Result<()> {
+fn report<E: Write>(errors: &mut E, fault: &Fault) -> io::Result<()>
+    ensures { OnOk result (IsReported (reason_of fault.now) (E.contents errors.old) (E.contents errors.new)) }
+{
     match fault {
+        Fault::Refused(refusal) => {
+            let refused = refusal_text(refusal);
+            writeln!(errors, "{refused}")?;
+        }
         Fault::Usage(Usage::Words(error)) => write!(errors, "{error}")?,
         _ => writeln!(errors, "{fault}")?,
     }

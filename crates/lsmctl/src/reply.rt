@@ -5,6 +5,7 @@ ghost use Rattle.lsm_lives.specs.Calls.{reply_of};
 ghost use Rattle.lsm_lives.specs.Living.{replies_of};
 ghost use Rattle.lsmctl.specs.Replies.{counted_word, lives_text, next_line, page_lines, refusal_line, replies_text, reply_line, rows_line};
 
+use crate::refused::refusal_text;
 use crate::steps::{Counted, Told};
 use lsm_codec::word;
 use lsm_device::Refusal;
@@ -97,9 +98,8 @@ fn push_reply(
 fn push_refusal(text: &mut String, refusal: Refusal) -> Result<(), Refusal>
     ensures { OnOk result (string_bytes text.new ≡ string_bytes text.old ++ refusal_line refusal) }
 {
-    let (tens, ones) = (refusal.number() / 10, refusal.number() % 10);
-    let name = refusal.name();
-    writeln!(text, "refused {tens}{ones} {name}")?;
+    let refused = refusal_text(&refusal);
+    writeln!(text, "{refused}")?;
     Ok(())
 }
 

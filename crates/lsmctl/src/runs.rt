@@ -1,6 +1,6 @@
 //! The steps of scripts, made.
 
-ghost use Rattle.std.specs.Prelude.{map, IfOk};
+ghost use Rattle.std.specs.Prelude.{◌≡◌, map, IfOk};
 ghost use Rattle.lsm_device.specs.Medium.{disk};
 ghost use Rattle.lsm_device.specs.Memory.{medium_in};
 ghost use Rattle.lsm_device.specs.Outcomes.{Leaves};
@@ -8,7 +8,7 @@ ghost use Rattle.lsm_open.specs.CrashState.{formatted as empty_store};
 ghost use Rattle.lsm_open.specs.Image.{IsImage};
 ghost use Rattle.lsm_lives.specs.Calls.{call_of};
 ghost use Rattle.lsmctl.specs.Steps.{calls_of_lives, told_lives};
-ghost use Rattle.lsmctl.specs.Answers.{HasReplies, HasLives};
+ghost use Rattle.lsmctl.specs.Answers.{TellsReplies, HasLives};
 
 use crate::answer::Answer;
 use crate::geometry::Geometry;
@@ -25,7 +25,7 @@ pub fn replay<D: Device>(
     store: &mut Store<D>,
     steps: &Steps,
 ) -> Result<Answer, Refusal>
-    ensures { IfOk result (HasReplies (map call_of steps.now.calls.items) steps.now.told.items) }
+    ensures { IfOk result (TellsReplies store.old (map call_of steps.now.calls.items) steps.now.told.items store.new) }
 {
     let replies = lsm_lives::replay(alloc, store, &steps.calls)?;
     let mut text = String::new(alloc);
@@ -50,7 +50,8 @@ pub fn lives(alloc: Global, geometry: Geometry, script: Vec<Line>) -> Result<Ans
 
 // A device in memory with an empty store.
 fn formatted(alloc: Global, geometry: Geometry) -> Result<MemDevice, Refusal>
-    ensures { IfOk result (λ device. Leaves (IsImage geometry.log_sectors empty_store) (disk (medium_in device))) }
+    ensures leaves { IfOk result (λ device. Leaves (IsImage geometry.log_sectors empty_store) (disk (medium_in device))) }
+    ensures size { IfOk result (λ device. (medium_in device).size ≡ geometry.sectors) }
 {
     let device = MemDevice::new(alloc, geometry.sectors())?;
     match lsm_open::format(alloc, device, geometry.log_sectors()) {

@@ -1,7 +1,10 @@
-use Rattle.std.proofs.Common.{rules, ◌≡◌, ◌∙◌, sym, ap, map}
-use Rattle.clap.specs.Words.{App, app_of, found_of, rows_of, is_simple, subcommand_of, subcommand_rows_of}
+use Rattle.std.proofs.Common.{rules, ◌≡◌, ◌∙◌, sym, ap, map, refl, inl, subst, true, false, true≢false}
+use Rattle.clap.specs.declared.error.kind.ErrorKind.TheVariants.{OutOfMemory}
+use Rattle.clap.specs.Words.{App, HasKind, kind_of, app_of, fault_of, found_of, rows_of, is_simple, is_simple_and_free, subcommand_of, subcommand_rows_of}
 use Rattle.lsmctl.specs.Program.{program}
-use Rattle.lsmctl.proofs.ProgramLaws.{is_simple-program, found_together}
+use Rattle.lsmctl.specs.Runs.{AskNothing}
+use Rattle.lsmctl.proofs.RunLaws.{AskNothing-error, AskNothing-words}
+use Rattle.lsmctl.proofs.ProgramLaws.{is_simple-program, is_simple_and_free-program, found_together}
 use Rattle.lsmctl.proofs.asked.asked_for.Goals as goal
 
 pub returns-clause-asked : goal.returns-clause-asked
@@ -14,6 +17,31 @@ returns-clause-asked g c =
     record {
       name = c.in-Some.name.now;
       rows = rows_of (found_of c.in-Some.given.now);
+      faultless = sym (ap (λ (a : App). fault_of a words) shape) ∙ c.in-Ok.ensures.kinds (ap is_simple_and_free shape ∙ is_simple_and_free-program);
+      dashless = search rules;
       found = sym from_program ∙ found_together _ _ _ _ c.in-Some.ensures.name c.in-Some.ensures.rows;
       asks = c.in_ok-subcommand.ensures;
     }
+
+pub returns-in-Err-2-clause-faults : goal.returns-in-Err-2-clause-faults
+returns-in-Err-2-clause-faults g c =
+    let words = map g.S.AsStr.text c.args.words.now in
+    let e = c.in-Err-2.error in
+    let shape : app_of c.in_ok-command.command ≡ program = c.in_ok-command.ensures.shape in
+    let kinds : HasKind (fault_of (app_of c.in_ok-command.command) words) e = c.in-Err-2.ensures.kinds (ap is_simple_and_free shape ∙ is_simple_and_free-program) in
+    let seen = sym c.if-eq.false ∙ c.eq.ensures in
+    let other : kind_of e ≡ OutOfMemory → ⊥ = λ same.
+    let as_told : c.kind.result ≡ OutOfMemory = c.kind.ensures ∙ ap kind_of c.in-Err-2.error-is ∙ same in
+    let bad : false ≡ true = seen ∙ rw as_told refl in true≢false (sym bad) in
+    inl (refl, AskNothing-error words e (subst (λ (a : App). HasKind (fault_of a words) e) shape kinds) other)
+
+pub returns-in_err-subcommand-clause-faults : goal.returns-in_err-subcommand-clause-faults
+returns-in_err-subcommand-clause-faults g c =
+    let words = map g.S.AsStr.text c.args.words.now in
+    let m = c.in-Ok.matches in
+    let shape : app_of c.in_ok-command.command ≡ program = c.in_ok-command.ensures.shape in
+    let matches = c.in-Ok.ensures.matches (ap is_simple shape ∙ is_simple-program) in
+    let from_program : subcommand_rows_of m ≡ subcommand_of program words = matches.1 ∙ ap (λ (a : App). subcommand_of a words) shape in
+    let nothing : AskNothing words = AskNothing-words words c.in-Some.name.now (rows_of (found_of c.in-Some.given.now))
+    (sym from_program ∙ found_together _ _ _ _ c.in-Some.ensures.name c.in-Some.ensures.rows) c.in_err-subcommand.ensures in
+    search rules

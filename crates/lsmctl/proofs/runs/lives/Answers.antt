@@ -11,6 +11,6 @@ returns c = record {
   replies = replies_of c.in-Ok.replies.items;
   left = disk (medium_in c.in-Ok.field-0-1);
   promise = promise_of-lines _ c.in_ok-lives.field-0.lives.items c.args.script.items _ _ _ (search rules) c.in_ok-lives.ensures.lives
-      (c.in-Ok.ensures.promise c.args.geometry.log_sectors [] empty_store IsAfter-nothing c.in_ok-device.ensures);
+      (c.in-Ok.ensures.promise c.args.geometry.log_sectors [] empty_store IsAfter-nothing c.in_ok-device.ensures.leaves);
   told = search rules;
 }

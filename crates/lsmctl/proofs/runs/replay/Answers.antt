@@ -5,8 +5,6 @@ use Rattle.lsmctl.proofs.runs.replay.Goals as goal
 pub returns : goal.returns
 returns g c = record {
   replies = map reply_of c.in_ok-replies.replies.items;
-  before = c.args.store.now;
-  after = c.replay.new.store;
   replays = search rules;
   told = search rules;
 }
