@@ -14,7 +14,7 @@ use Rattle.lsmctl.specs.Faults.{Reason, mistake, refusal, unread, reason_of, sta
 use Rattle.lsmctl.specs.Program.{has_words, program}
 use Rattle.lsmctl.specs.Requests.{reason_for}
 use Rattle.lsmctl.specs.Answers.{lines_of}
-use Rattle.lsmctl.specs.Runs.{AskNothing, Fails, HasServed, IsAsked, IsRead, IsRun, IsServed, PrintsAnswer, PrintsFault, Written, has_dash, status_after}
+use Rattle.lsmctl.specs.Runs.{AskNothing, Fails, HasServed, IsRead, IsRun, IsServed, PrintsAnswer, PrintsFault, Written, has_dash, status_after}
 use Rattle.lsmctl.proofs.ProgramLaws.{has_words-asked}
 
 -- ---- words that ask for nothing

@@ -1,13 +1,14 @@
 -- What the program prints.
-use Rattle.std.specs.Prelude.{◌≡◌, ℕ, List, [], ◌∷◌, ◌++◌, map, None, codes, decimal, string_bytes}
+use Rattle.std.specs.Prelude.{◌≡◌, ℕ, List, [], ◌∷◌, ◌++◌, map, Option, Some, None, codes, decimal, string_bytes}
 use Rattle.lsm_codec.specs.Keys.{Bytes}
+use Rattle.lsm_codec.specs.Map.{Operation}
 use Rattle.lsm_codec.specs.Words.{word_of}
 use Rattle.lsm_codec.specs.Geometry.{data_blocks_of}
 use Rattle.lsm_store.specs.Paging.{Page}
 use Rattle.lsm_device.specs.Disk.{Disk}
 use Rattle.lsm_open.specs.CrashState.{formatted as empty_store}
 use Rattle.lsm_store.specs.declared.asked.At.TheVariants.{Now}
-use Rattle.lsm_store.specs.Calls.{Call, Scan, Reply, Rows}
+use Rattle.lsm_store.specs.Calls.{Call, Commit, Get, Scan, Sync, Reply, Done, Number, Rows, Value as Found}
 use Rattle.lsm_store.specs.Backing.{StoreView}
 use Rattle.lsm_store.specs.Serving.{Serves}
 use Rattle.lsm_lives.specs.Calls.{call_of}
@@ -33,15 +34,29 @@ lines_of (Lines text) = string_bytes text
 abbrev pub HasFormatted : ℕ → ℕ → Answer → Type 0
 HasFormatted sectors log answer = answer ≡ Formatted (data_blocks_of sectors log)
 
--- a batch was committed, and its number is told
-abbrev pub HasCommitted : Answer → Type 0
-HasCommitted answer = (number : ℕ) × (answer ≡ Batch number)
+-- a batch was committed and synced, and its number is told
+pub record HasCommitted (batch : List Operation) (answer : Answer) : Type 0 where
+  pub number : ℕ
+  pub before : StoreView
+  pub between : StoreView
+  pub after : StoreView
+  pub commits : Serves before (Commit batch) (Number number) between
+  pub syncs : Serves between Sync Done after
+  pub told : answer ≡ Batch number
 
--- a value was found, and its word is told, or none was
-abbrev pub HasFound : Answer → Type 0
-HasFound (Value word) = (bytes : Bytes) × (string_bytes word ≡ word_of bytes)
-HasFound Absent = Unit {0}
-HasFound _ = ⊥
+-- a value is told by its word
+abbrev pub TellsValue : Option Bytes → Answer → Type 0
+TellsValue (Some bytes) (Value word) = string_bytes word ≡ word_of bytes
+TellsValue None Absent = Unit {0}
+TellsValue _ _ = ⊥
+
+-- a key was looked up, and its value is told, or that it has none
+pub record HasFound (key : Bytes) (answer : Answer) : Type 0 where
+  pub value : Option Bytes
+  pub before : StoreView
+  pub after : StoreView
+  pub serves : Serves before (Get Now key) (Found value) after
+  pub told : TellsValue value answer
 
 -- lines of this text answer
 abbrev pub HasLines : List ℕ → Answer → Type 0
@@ -79,8 +94,8 @@ pub record HasLives (log_sectors : ℕ) (lives : List (List Call)) (steps : List
 -- what answers a request
 abbrev pub Gives : Request → Answer → Type 0
 Gives (request.Format file geometry) = HasFormatted geometry.sectors geometry.log_sectors
-Gives (request.Commit file batch) = HasCommitted
-Gives (request.Get file key) = HasFound
+Gives (request.Commit file batch) = HasCommitted batch
+Gives (request.Get file key) = HasFound key.items
 Gives (request.Scan file from limit) = HasRows from.items limit
 Gives (request.Replay file script) = HasReplies (map call_of (calls_after [] script.items)) (told_after [] script.items)
 Gives (request.Lives geometry script) = HasLives geometry.log_sectors (calls_of_lives script.items) (told_lives script.items)

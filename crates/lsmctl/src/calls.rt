@@ -67,7 +67,7 @@ fn commit<R: Files<File = File> + AllocGlobal>(
     file: &str,
     batch: &Batch,
 ) -> Result<Answer, Refusal>
-    ensures { IfOk result HasCommitted }
+    ensures { IfOk result (HasCommitted batch.now) }
 {
     let mut store = open(rt, file)?;
     let number = store.commit(batch)?;
@@ -80,7 +80,7 @@ fn get<R: Files<File = File> + AllocGlobal>(
     file: &str,
     key: &[u8],
 ) -> Result<Answer, Refusal>
-    ensures { IfOk result HasFound }
+    ensures { IfOk result (HasFound key.now) }
 {
     let mut store = open(rt, file)?;
     match store.get(At::Now, key)? {

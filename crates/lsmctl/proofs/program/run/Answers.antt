@@ -1,5 +1,3 @@
-use Rattle.std.proofs.Common.{map}
-use Rattle.lsmctl.specs.Runs.{IsRun, Written}
 use Rattle.lsmctl.proofs.RunLaws.{done-of_run, mistake-of_run, status-of_run}
 use Rattle.lsmctl.proofs.program.run.Goals as goal
 
