@@ -53,21 +53,23 @@ pub(crate) fn sector<D: Device>(device: &mut D, at: u32) -> Result<[u8; 512], Fa
     Ok(out)
 }
 
-/// What an opening recovered.
-pub(crate) fn opened<D: Device + Drop, A: Allocator>(
-    answer: Result<Recovered<D, A>, (Refusal, D)>,
+/// What an opening recovers. It tells the prover nothing, so that it has nothing to carry through a test.
+pub(crate) fn opened<D: Device + Drop, A: Allocator + Clone>(
+    alloc: A,
+    device: D,
 ) -> Result<Recovered<D, A>, Fail> {
-    match answer {
+    match recover(alloc, device) {
         Ok(recovered) => Ok(recovered),
         Err((refusal, _)) => Err(refusal.name().into()),
     }
 }
 
-/// How an opening was refused.
-pub(crate) fn refused<D: Device + Drop, A: Allocator>(
-    answer: Result<Recovered<D, A>, (Refusal, D)>,
+/// How an opening is refused.
+pub(crate) fn refused<D: Device + Drop, A: Allocator + Clone>(
+    alloc: A,
+    device: D,
 ) -> Result<(Refusal, D), Fail> {
-    match answer {
+    match recover(alloc, device) {
         Ok(_) => Err("a refusal".into()),
         Err(refused) => Ok(refused),
     }
@@ -83,7 +85,7 @@ pub(crate) fn formatted(alloc: Global) -> Result<MemDevice, Fail> {
 
 /// A device that was formatted and opened once.
 pub(crate) fn fresh(alloc: Global) -> Result<MemDevice, Fail> {
-    Ok(opened(recover(alloc, formatted(alloc)?))?.device)
+    Ok(opened(alloc, formatted(alloc)?)?.device)
 }
 
 /// A device with one synced batch, which puts 61 = 31, and another that a crash has dropped.

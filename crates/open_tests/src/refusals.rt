@@ -14,7 +14,7 @@ const ONES: [u8; 512] = [0xff; 512];
 /// How an opening was refused, after how many writes and syncs.
 fn refusal_of(alloc: Global, device: MemDevice) -> Result<(Refusal, u64, u64), Fail> {
     let (writes, syncs) = (device.writes(), device.syncs());
-    let (refusal, device) = refused(recover(alloc, device))?;
+    let (refusal, device) = refused(alloc, device)?;
     Ok((
         refusal,
         device.writes().wrapping_sub(writes),
@@ -26,7 +26,7 @@ fn refusal_of(alloc: Global, device: MemDevice) -> Result<(Refusal, u64, u64), F
 fn sizes_outside_the_limits(rt: HostRuntime) -> Result<(), Fail> {
     for sectors in [0, 1, 8_191] {
         let device = MemDevice::new(rt.alloc(), sectors)?;
-        let (refusal, device) = refused(recover(rt.alloc(), device))?;
+        let (refusal, device) = refused(rt.alloc(), device)?;
         assert_eq!(rt; refusal, Refusal::BadGeometry);
         assert_eq!(rt;
             (device.reads(), device.writes(), device.syncs()),
@@ -76,12 +76,12 @@ fn a_region_lost_its_batch(rt: HostRuntime) -> Result<(), Fail> {
     // The only region: the store is empty.
     let mut device = with_one_batch(rt.alloc())?;
     put(&mut device, 130, &ZEROS)?;
-    let recovered = opened(recover(rt.alloc(), device))?;
+    let recovered = opened(rt.alloc(), device)?;
     assert_eq!(rt; recovered.count, 0);
     assert_eq!(rt; value_of(&recovered, 0x61), None);
     assert_eq!(rt; open_log(&recovered), Some((0, 130, 3, 1)));
     // A region before another: the next one's first batch is not the next.
-    let mut device = opened(recover(rt.alloc(), with_one_batch(rt.alloc())?))?.device;
+    let mut device = opened(rt.alloc(), with_one_batch(rt.alloc())?)?.device;
     put(&mut device, 130, &ZEROS)?;
     assert_eq!(rt;
         refusal_of(rt.alloc(), device)?,
@@ -108,7 +108,7 @@ fn in_generation(alloc: Global, generation: u64) -> Result<MemDevice, Fail> {
 #[test]
 fn the_last_generation(rt: HostRuntime) -> Result<(), Fail> {
     let device = in_generation(rt.alloc(), (1 << 63) - 1)?;
-    let recovered = opened(recover(rt.alloc(), device))?;
+    let recovered = opened(rt.alloc(), device)?;
     assert_eq!(rt; recovered.regions.generation, 1 << 63);
     assert_eq!(rt; open_log(&recovered), Some((0, 130, 1 << 63, 1)));
     assert_eq!(rt;

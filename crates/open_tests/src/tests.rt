@@ -19,7 +19,7 @@ const MANIFEST: &str =
 fn a_formatted_device_opens(rt: HostRuntime) -> Result<(), Fail> {
     let device = formatted(rt.alloc())?;
     let (reads, writes, syncs) = (device.reads(), device.writes(), device.syncs());
-    let first = opened(recover(rt.alloc(), device))?;
+    let first = opened(rt.alloc(), device)?;
     assert_eq!(rt; first.count, 0);
     assert!(rt; first.mem.is_empty());
     assert_eq!(rt; first.regions.log_sectors, LOG_SECTORS);
@@ -39,7 +39,7 @@ fn a_formatted_device_opens(rt: HostRuntime) -> Result<(), Fail> {
 
 #[test]
 fn a_synced_batch_is_found_again(rt: HostRuntime) -> Result<(), Fail> {
-    let recovered = opened(recover(rt.alloc(), with_one_batch(rt.alloc())?))?;
+    let recovered = opened(rt.alloc(), with_one_batch(rt.alloc())?)?;
     assert_eq!(rt; recovered.count, 1);
     assert_eq!(rt; value_of(&recovered, 0x61), Some(0x31));
     assert_eq!(rt; value_of(&recovered, 0x62), None);
@@ -68,9 +68,9 @@ fn an_opening_is_stopped_at_each_call(rt: HostRuntime) -> Result<(), Fail> {
         for mask in masks {
             let mut device = with_one_batch(rt.alloc())?;
             device.fuse(fuse);
-            let (refusal, device) = refused(recover(rt.alloc(), device))?;
+            let (refusal, device) = refused(rt.alloc(), device)?;
             assert_eq!(rt; refusal, Refusal::Io, "{fuse}");
-            let again = opened(recover(rt.alloc(), device.crash(mask)))?;
+            let again = opened(rt.alloc(), device.crash(mask))?;
             assert_eq!(rt; again.count, 1, "{fuse}");
             assert_eq!(rt; value_of(&again, 0x61), Some(0x31), "{fuse}");
             assert_eq!(rt; value_of(&again, 0x62), None, "{fuse}");
@@ -79,7 +79,7 @@ fn an_opening_is_stopped_at_each_call(rt: HostRuntime) -> Result<(), Fail> {
     }
     let mut device = with_one_batch(rt.alloc())?;
     device.fuse(5);
-    assert_eq!(rt; opened(recover(rt.alloc(), device))?.count, 1);
+    assert_eq!(rt; opened(rt.alloc(), device)?.count, 1);
     Ok(())
 }
 
@@ -87,10 +87,10 @@ fn an_opening_is_stopped_at_each_call(rt: HostRuntime) -> Result<(), Fail> {
 fn what_pends_is_opened_as_it_reads(rt: HostRuntime) -> Result<(), Fail> {
     let mut device = fresh(rt.alloc())?;
     put(&mut device, 130, &log_sector(2, 1, 0x61, 0x31)?)?;
-    let recovered = opened(recover(rt.alloc(), device))?;
+    let recovered = opened(rt.alloc(), device)?;
     assert_eq!(rt; recovered.count, 1);
     // The first sync has made it stand.
-    let again = opened(recover(rt.alloc(), recovered.device.crash(&[])))?;
+    let again = opened(rt.alloc(), recovered.device.crash(&[]))?;
     assert_eq!(rt; again.count, 1);
     assert_eq!(rt; value_of(&again, 0x61), Some(0x31));
     Ok(())
@@ -117,7 +117,7 @@ fn a_batch_is_whole_or_not_there(rt: HostRuntime) -> Result<(), Fail> {
         put(&mut device, 130, &log_sector(2, 1, 0x61, 0x31)?)?;
         put(&mut device, 131, &front)?;
         put(&mut device, 132, &back)?;
-        let recovered = opened(recover(rt.alloc(), device.crash(&keep)))?;
+        let recovered = opened(rt.alloc(), device.crash(&keep))?;
         assert_eq!(rt; recovered.count, count, "{keep:?}");
         let wanted = if count == 0 { None } else { Some(0x31) };
         assert_eq!(rt; value_of(&recovered, 0x61), wanted, "{keep:?}");
@@ -136,13 +136,13 @@ fn a_second_crash_brings_no_old_batch_back(rt: HostRuntime) -> Result<(), Fail> 
     put(&mut device, 130, &log_sector(2, 1, 0x61, 0x31)?)?;
     put(&mut device, 131, &log_sector(2, 2, 0x62, 0x41)?)?;
     put(&mut device, 132, &log_sector(2, 3, 0x63, 0x33)?)?;
-    let recovered = opened(recover(rt.alloc(), device.crash(&[true, false, true])))?;
+    let recovered = opened(rt.alloc(), device.crash(&[true, false, true]))?;
     assert_eq!(rt; recovered.count, 1);
     assert_eq!(rt; open_log(&recovered), Some((1, 258, 3, 2)));
     let mut device = recovered.device;
     put(&mut device, 258, &log_sector(3, 2, 0x62, 0x32)?)?;
     device.sync()?;
-    let again = opened(recover(rt.alloc(), device.crash(&[])))?;
+    let again = opened(rt.alloc(), device.crash(&[]))?;
     assert_eq!(rt; again.count, 2);
     assert_eq!(rt; value_of(&again, 0x61), Some(0x31));
     assert_eq!(rt; value_of(&again, 0x62), Some(0x32));
@@ -152,7 +152,7 @@ fn a_second_crash_brings_no_old_batch_back(rt: HostRuntime) -> Result<(), Fail> 
 
 #[test]
 fn a_region_without_batches_is_opened_again(rt: HostRuntime) -> Result<(), Fail> {
-    let again = opened(recover(rt.alloc(), fresh(rt.alloc())?))?;
+    let again = opened(rt.alloc(), fresh(rt.alloc())?)?;
     assert_eq!(rt; again.regions.generation, 3);
     assert!(rt; again.regions.closed.is_empty());
     assert_eq!(rt; open_log(&again), Some((0, 130, 3, 1)));
@@ -170,7 +170,7 @@ fn three_regions_with_batches_leave_no_open_log(rt: HostRuntime) -> Result<(), F
             &log_sector(life + 2, life + 1, 0x61, life)?,
         )?;
         device.sync()?;
-        let recovered = opened(recover(rt.alloc(), device.crash(&[])))?;
+        let recovered = opened(rt.alloc(), device.crash(&[]))?;
         assert_eq!(rt; recovered.count, life as u64 + 1);
         assert_eq!(rt; value_of(&recovered, 0x61), Some(life));
         assert_eq!(rt; recovered.regions.closed.len(), life as usize + 1);
@@ -182,7 +182,7 @@ fn three_regions_with_batches_leave_no_open_log(rt: HostRuntime) -> Result<(), F
         assert_eq!(rt; open_log(&recovered), next);
         device = recovered.device;
     }
-    let again = opened(recover(rt.alloc(), device))?;
+    let again = opened(rt.alloc(), device)?;
     assert_eq!(rt; (again.count, again.regions.generation), (3, 6));
     assert!(rt; again.regions.open_region.is_none());
     Ok(())
@@ -222,11 +222,11 @@ fn a_file_is_opened(rt: HostRuntime) -> Result<(), Fail> {
         Ok(device) => device,
         Err((refusal, _)) => return Err(refusal.name().into()),
     };
-    let mut device = opened(recover(rt.alloc(), device))?.device;
+    let mut device = opened(rt.alloc(), device)?.device;
     put(&mut device, 130, &log_sector(2, 1, 0x61, 0x31)?)?;
     device.sync()?;
     drop(device);
-    let recovered = opened(recover(rt.alloc(), FileDevice::open(&rt, path)?))?;
+    let recovered = opened(rt.alloc(), FileDevice::open(&rt, path)?)?;
     assert_eq!(rt; (recovered.count, recovered.regions.generation), (1, 3));
     assert_eq!(rt; value_of(&recovered, 0x61), Some(0x31));
     drop(recovered);
