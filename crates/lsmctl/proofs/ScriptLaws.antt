@@ -1,5 +1,5 @@
 -- Lines as text.
-use Rattle.std.proofs.Common.{◌≡◌, ℕ, Bool, true, false, List, Result, None, refl, sym, ap, rules}
+use Rattle.std.proofs.Common.{◌≡◌, ℕ, Bool, true, false, List, Result, refl, sym}
 use Rattle.std.specs.Str.{IsUtf8, is_utf8}
 use Rattle.std.proofs.lemmas.Str.{IsUtf8-from_is_utf8, is_utf8-from_IsUtf8}
 use Rattle.lsmctl.specs.declared.line.Line.{Line}

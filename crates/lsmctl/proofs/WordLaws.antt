@@ -1,5 +1,5 @@
 -- What stands behind a letter, and around another.
-use Rattle.std.proofs.Common.{◌≡◌, ◌≢◌, ◌<◌, ◌==◌, ◌||◌, ℕ, Bool, map, true, false, List, [], ◌∷◌, length, Bor, Option, Some, None, option_map, MatchOption, refl, ap, arith, rules}
+use Rattle.std.proofs.Common.{◌≡◌, ◌≢◌, ◌<◌, ◌==◌, ◌||◌, ℕ, Bool, map, true, false, List, [], ◌∷◌, length, Bor, Option, Some, None, option_map, MatchOption, refl, ap, arith}
 use Rattle.std.specs.List.{list_any, position_or_len, before_first, after_first}
 use Rattle.lsmctl.specs.Words.{after, pair_in}
 

@@ -1,6 +1,5 @@
 -- What the words ask for, and what is wrong with them.
 use Rattle.std.specs.Prelude.{◌≡◌, ℕ, List, [], ◌∷◌, Option, Some, None, is_some, unwrap_or, option_map, map, nat_le, ◌&&◌, Bool, true, false, if◌then◌else◌}
-use Rattle.lsm_device.specs.declared.refusal.Refusal.{Refusal}
 use Rattle.lsm_device.specs.declared.refusal.Refusal.TheVariants.{BadGeometry, BadLimit}
 use Rattle.lsm_codec.specs.Keys.{Bytes}
 use Rattle.lsm_codec.specs.Words.{bytes_said}

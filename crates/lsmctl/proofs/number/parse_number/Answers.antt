@@ -1,4 +1,4 @@
-use Rattle.std.proofs.Common.{◌∙◌, sym, rules}
+use Rattle.std.proofs.Common.{◌∙◌, rules}
 use Rattle.lsmctl.proofs.NumberLaws.{number_said-digits}
 use Rattle.lsmctl.proofs.number.parse_number.Goals as goal
 

@@ -1,4 +1,4 @@
-use Rattle.std.proofs.Common.{◌≡◌, ◌∷◌, ◌++◌, drop, map, []}
+use Rattle.std.proofs.Common.{◌≡◌, ◌∷◌, ◌++◌, drop, map}
 use Rattle.lsmctl.specs.Changes.{batch_refusal, changes_refusal, operation_of}
 use Rattle.lsmctl.proofs.operations.batch_of.Given as goal
 
