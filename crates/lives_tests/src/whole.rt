@@ -2,7 +2,7 @@
 ghost use Rattle.std.specs.Prelude.{[], IfOk};
 ghost use Rattle.lsm_device.specs.Medium.{disk};
 ghost use Rattle.lsm_device.specs.Memory.{medium_in};
-ghost use Rattle.lsm_lives.specs.Living.{calls_of, replies_of, KeepPromise};
+ghost use Rattle.lsm_lives.specs.Living.{steps_of, replies_of, KeepPromise};
 ghost use Rattle.lsm_open.specs.CrashState.{formatted};
 
 use lsm_device::{MemDevice, Refusal};
@@ -17,7 +17,7 @@ pub fn lives_from_format(
     log_sectors: u16,
     given: &[Life],
 ) -> Result<(Vec<Vec<Reply>>, MemDevice), Refusal>
-    ensures { IfOk result (λ answer. KeepPromise log_sectors [] formatted (calls_of given.now) (replies_of answer.0.items) (disk (medium_in answer.1))) }
+    ensures { IfOk result (λ answer. KeepPromise log_sectors [] formatted (steps_of given.now) (replies_of answer.0.items) (disk (medium_in answer.1))) }
 {
     let device = MemDevice::new(alloc, sectors)?;
     let device = match format(alloc, device, log_sectors) {

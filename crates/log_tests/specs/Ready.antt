@@ -6,7 +6,7 @@ use Rattle.lsm_log.specs.Opened.{IsOpen, NoneAboveIn}
 
 -- the log goes with the device, and no sector of its region is of a later epoch
 pub record IsReady (log : Log) (m : Medium) : Type 0 where
-  pub tells : IsTrue m.tells
+  pub tells : IsTrue m.lasting.tells
   pub within : log.start + log.sectors ≤ m.size
   pub opened : IsOpen log (disk m)
   pub above : NoneAboveIn log.epoch log.start log.sectors (disk m)

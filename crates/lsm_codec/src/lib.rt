@@ -33,12 +33,3 @@ pub use operation::Op;
 pub use superblock::Superblock;
 pub use value::Value;
 pub use words::{unword, word, word_says_its_bytes};
-
-#[cfg(test)]
-mod batch_tests;
-#[cfg(test)]
-mod manifest_tests;
-#[cfg(test)]
-mod sector_tests;
-#[cfg(test)]
-mod word_tests;

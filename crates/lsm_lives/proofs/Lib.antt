@@ -1,3 +1,4 @@
 mod Steps
 mod Opened
+mod Lived
 mod Lifetimes

@@ -5,20 +5,23 @@ use Rattle.std.specs.declared.vec.Vec.{Vec}
 use Rattle.std.proofs.lemmas.List.{drop_more, take_more, take_more_set, drop-set-lt, map_push}
 use Rattle.lsm_codec.specs.Map.{Operation}
 use Rattle.lsm_device.specs.Disk.{Disk, image}
-use Rattle.lsm_device.specs.Medium.{disk}
+use Rattle.lsm_device.specs.Medium.{Medium, disk}
 use Rattle.lsm_device.specs.Outcomes.{Leaves}
 use Rattle.lsm_device.proofs.Outcomes.{seen_outcome}
 use Rattle.lsm_open.specs.CrashState.{CrashState}
 use Rattle.lsm_open.specs.Image.{IsImage, IsImageOfOne}
 use Rattle.lsm_store.specs.Backing.{StoreView, IsBacked}
-use Rattle.lsm_store.specs.Calls.{Call, Reply}
+use Rattle.lsm_store.specs.Calls.{Reply}
 use Rattle.lsm_store.specs.Crash.{may_leave, last_crash_state}
-use Rattle.lsm_store.specs.Lives.{Life, Lives, IsAfter}
+use Rattle.lsm_store.specs.Lives.{IsAfter}
+use Rattle.lsm_store.specs.Machine.{Step}
 use Rattle.lsm_store.proofs.Lifelong.{promise_over_lives}
-use Rattle.lsm_lives.specs.Calls.{call_of, reply_of}
+use Rattle.lsm_lives.specs.Calls.{step_of, reply_of}
 use Rattle.lsm_lives.specs.declared.calls.Reply.{Reply as Told}
 use Rattle.lsm_lives.specs.declared.living.Life.{Life as Given}
-use Rattle.lsm_lives.specs.Living.{calls_of, replies_of, Holds, AfterCrash, AreLived, KeepPromise, HavePlaces, others_after}
+use Rattle.lsm_lives.specs.Leading.{LifeView, life_of, LeadsTo, AreLed}
+use Rattle.lsm_lives.specs.Living.{steps_of, steps_in, replies_of, Holds, AreLived, KeepPromise, HavePlaces, others_after}
+use Rattle.lsm_lives.proofs.Lived.{life_led}
 
 -- ---- places
 
@@ -54,54 +57,54 @@ places_left {A} lives places i life new in_lives in_places is have =
 
 -- ---- one life more
 
-pub calls_more : {A : Type 0} (lives : List (Given A)) (i : ℕ) (life : Given A) → i < length lives → life ≡ get_or lives i life
-    → calls_of (take (i + 1) lives) ≡ calls_of (take i lives) ++ map call_of life.steps.items ∷ []
-calls_more {A} lives i life within is =
-    ap (λ (l : List (Given A)). calls_of l) (take_more lives i life within ∙ ap (λ (l : Given A). take i lives ++ l ∷ []) (sym is))
-    ∙ map_push (λ (l : Given A). map call_of l.steps.items) (take i lives) life
+pub lives_more : {A : Type 0} (lives : List (Given A)) (i : ℕ) (life : Given A) → i < length lives → life ≡ get_or lives i life
+    → map life_of (take (i + 1) lives) ≡ map life_of (take i lives) ++ life_of life ∷ []
+lives_more {A} lives i life within is =
+    ap (λ (l : List (Given A)). map life_of l) (take_more lives i life within ∙ ap (λ (l : Given A). take i lives ++ l ∷ []) (sym is))
+    ∙ map_push (λ (l : Given A). life_of l) (take i lives) life
 
 pub replies_more : {A : Type 0} (places : List (Vec (Told A) A)) (i : ℕ) (new : Vec (Told A) A) → i < length places
     → replies_of (take (i + 1) (set places i new)) ≡ replies_of (take i places) ++ map reply_of new.items ∷ []
 replies_more {A} places i new within =
     ap (λ (l : List (Vec (Told A) A)). replies_of l) (take_more_set places i new within) ∙ map_push (λ (v : Vec (Told A) A). map reply_of v.items) (take i places) new
 
-no_others : (lives : List (List Call)) → others_after [] lives ≡ []
-no_others [] = refl
-no_others (calls ∷ lives) = refl
-
-none_behind : (others : List CrashState) (lives : List (List Call)) (calls : List Call) → others_after others (lives ++ calls ∷ []) ≡ []
-none_behind others [] calls = refl
-none_behind others (first ∷ lives) calls = refl
-
-module _ (log_sectors : ℕ) (calls : List Call) (replies : List Reply) where
-  life_behind : (opened : CrashState) (others : List CrashState) (lives : List (List Call)) (answers : List (List Reply)) (mid left : CrashState)
-      → Lives log_sectors opened others lives answers mid → Life log_sectors mid (others_after others lives) calls replies left
-      → Lives log_sectors opened others (lives ++ calls ∷ []) (answers ++ replies ∷ []) left
-  life_behind opened others [] [] mid left same life = (left, subst (λ (o : CrashState). Life log_sectors o others calls replies left) same life, refl)
-  life_behind opened others (first ∷ lives) (its ∷ answers) mid left (next, one, rest) life =
-      (next, one, life_behind next [] lives answers mid left rest (subst (λ (os : List CrashState). Life log_sectors mid os calls replies left) (sym (no_others lives)) life))
-  life_behind opened others [] (its ∷ answers) mid left h life = absurd h
-  life_behind opened others (first ∷ lives) [] mid left h life = absurd h
-
-  pub one_more : (opened : CrashState) (others : List CrashState) (lives : List (List Call)) (answers : List (List Reply)) (mid d : Disk)
-      → AreLived log_sectors opened others lives answers mid
-      → ((o : CrashState) (os : List CrashState) → Holds log_sectors o os mid → AfterCrash log_sectors o os calls replies d)
-      → AreLived log_sectors opened others (lives ++ calls ∷ []) (answers ++ replies ∷ []) d
-  one_more opened others lives answers mid d lived leads =
-      let end = leads lived.left (others_after others lives) lived.holds in
-      record {
-        left = end.left;
-        are = life_behind opened others lives answers lived.left end.left lived.are end.life;
-        holds = subst (λ (os : List CrashState). Holds log_sectors end.left os d) (sym (none_behind others lives calls)) end.holds;
-      }
+-- one led behind others
+module _ (life : LifeView) (replies : List Reply) (mid after : Medium) (leads : LeadsTo life mid replies after) where
+  pub led_more : (lives : List LifeView) (before : Medium) (answers : List (List Reply)) → AreLed lives before answers mid
+      → AreLed (lives ++ life ∷ []) before (answers ++ replies ∷ []) after
+  led_more [] before [] led = (after, subst (λ (m : Medium). LeadsTo life m replies after) led leads, refl)
+  led_more (first ∷ lives) before (its ∷ answers) led = (led.0, led.1, led_more lives led.0 answers led.2)
+  led_more [] before (its ∷ answers) led = absurd led
+  led_more (first ∷ lives) before [] led = absurd led
 
 pub some_life : {A : Type 0} (lives : List (Given A)) → lives ≢ [] → 0 < length lives
 some_life [] some = absurd (some refl)
 some_life (life ∷ lives) some = omega arith
 
--- no life yet
-pub no_life : (log_sectors : ℕ) (opened : CrashState) (others : List CrashState) (d : Disk) → Holds log_sectors opened others d → AreLived log_sectors opened others [] [] d
-no_life log_sectors opened others d holds = record { left = opened; are = refl; holds = holds }
+-- ---- lives on a device that held what a crash left
+
+no_others : (lives : List (List Step)) → others_after [] lives ≡ []
+no_others [] = refl
+no_others (steps ∷ lives) = refl
+
+pub lives_led : (lives : List LifeView) (before : Medium) (replies : List (List Reply)) (after : Medium) → AreLed lives before replies after
+    → (log_sectors : ℕ) (opened : CrashState) (others : List CrashState) → Holds log_sectors opened others (disk before)
+    → AreLived log_sectors opened others (steps_in lives) replies (disk after)
+lives_led [] before [] after same log_sectors opened others holds = record {
+  left = opened;
+  are = refl;
+  holds = subst (λ (m : Medium). Holds log_sectors opened others (disk m)) (sym same) holds;
+}
+lives_led (life ∷ lives) before (replies ∷ rest) after (mid, leads, led) log_sectors opened others holds =
+    let one = life_led log_sectors opened others life before replies mid leads holds in
+    let more = lives_led lives mid rest after led log_sectors one.left [] one.holds in
+    record {
+      left = more.left;
+      are = (one.left, one.life, more.are);
+      holds = subst (λ (os : List CrashState). Holds log_sectors more.left os (disk after)) (no_others (steps_in lives)) more.holds;
+    }
+lives_led [] before (replies ∷ rest) after led log_sectors opened others holds = absurd led
+lives_led (life ∷ lives) before [] after led log_sectors opened others holds = absurd led
 
 -- ---- in the words of batches
 
@@ -126,11 +129,11 @@ one_alone : (log_sectors : ℕ) (left : CrashState) (sectors : List (List ℕ)) 
 one_alone log_sectors left sectors (inl is) = is
 one_alone log_sectors left sectors (inr (other, found, is)) = absurd (omega (arith, found.1))
 
-module _ (log_sectors : ℕ) (before : List (List Operation)) (opened : CrashState) (was : IsAfter before opened) (lives : List (List Call)) (answers : List (List Reply)) (d : Disk) where
+module _ (log_sectors : ℕ) (before : List (List Operation)) (opened : CrashState) (was : IsAfter before opened) (lives : List (List Step)) (answers : List (List Reply)) (d : Disk) where
   only : (lived : AreLived log_sectors opened [] lives answers d) → Holds log_sectors lived.left [] d
   only lived = subst (λ (os : List CrashState). Holds log_sectors lived.left os d) (no_others lives) lived.holds
 
-  pub promise_kept : AreLived log_sectors opened [] lives answers d → KeepPromise log_sectors before opened lives answers d
+  promise_kept : AreLived log_sectors opened [] lives answers d → KeepPromise log_sectors before opened lives answers d
   promise_kept lived =
       let kept = promise_over_lives log_sectors before opened lives answers lived.left was lived.are in
       record {
@@ -139,3 +142,15 @@ module _ (log_sectors : ℕ) (before : List (List Operation)) (opened : CrashSta
         keeps = kept.1;
         device = λ mask. one_alone log_sectors lived.left (image mask d) ((only lived).crashes mask);
       }
+
+steps_of-life : {A : Type 0} (lives : List (Given A)) → steps_in (map life_of lives) ≡ steps_of lives
+steps_of-life [] = refl
+steps_of-life (life ∷ lives) = ap (λ (rest : List (List Step)). map step_of life.steps.items ∷ rest) (steps_of-life lives)
+
+pub led_keep_promise : {A : Type 0} (lives : List (Given A)) (before : Medium) (replies : List (List Reply)) (after : Medium) → AreLed (map life_of lives) before replies after
+    → (log_sectors : ℕ) (batches : List (List Operation)) (opened : CrashState) → IsAfter batches opened → Leaves (IsImage log_sectors opened) (disk before)
+    → KeepPromise log_sectors batches opened (steps_of lives) replies (disk after)
+led_keep_promise {A} lives before replies after led log_sectors batches opened was leaves =
+    subst (λ (steps : List (List Step)). KeepPromise log_sectors batches opened steps replies (disk after)) (steps_of-life lives)
+    (promise_kept log_sectors batches opened was (steps_in (map life_of lives)) replies (disk after)
+    (lives_led (map life_of lives) before replies after led log_sectors opened [] (at_rest_holds log_sectors opened (disk before) leaves)))

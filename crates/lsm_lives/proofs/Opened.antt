@@ -1,86 +1,128 @@
--- One life: its opening, its steps and its crash.
-use Rattle.std.proofs.Common.{◌≡◌, ◌⊎◌, inl, inr, ℕ, Bool, List, ◌∷◌, ◌++◌, refl, ap, sym, subst, ◌∙◌}
-use Rattle.std.proofs.Math.Nat.{add-zero}
-use Rattle.std.proofs.lemmas.List.Elements.{Contains-append_left, Contains-append_right}
+-- An opening on a device, and a life from there until its crash.
+use Rattle.std.proofs.lemmas.Bool.{cases_lt}
+use Rattle.std.proofs.Common.{⊎_elim, ◌<◌, ◌≤◌, arith, ◌≡◌, ◌⊎◌, inl, inr, ℕ, Bool, true, false, List, [], ◌∷◌, Option, None, Some, Result, Ok, Err, refl, ap, sym, subst, ◌∙◌}
+use Rattle.std.specs.Prelude.{IsTrue, IfOk, IfErr, MatchResult, if◌then◌else◌}
 use Rattle.lsm_device.specs.declared.refusal.Refusal.{Refusal}
-use Rattle.lsm_device.specs.Disk.{Disk, image, at_rest}
-use Rattle.lsm_device.specs.Medium.{Medium, disk}
-use Rattle.lsm_device.specs.Outcomes.{Leaves}
-use Rattle.lsm_device.proofs.Moments.{ended}
-use Rattle.lsm_open.specs.CrashState.{CrashState, MayOpen, MayRefuseOpening, left_by_opening}
-use Rattle.lsm_open.specs.Image.{IsImage, IsImageOfOne}
-use Rattle.lsm_open.specs.Opening.{FailsToOpen, IsLeftInOpening}
+use Rattle.lsm_device.specs.declared.refusal.Refusal.TheVariants.{NoMemory, Io, BadGeometry}
+use Rattle.lsm_device.specs.Calls.{AtMost, faults_after}
+use Rattle.lsm_device.specs.Disk.{seen}
+use Rattle.lsm_device.specs.Medium.{Medium, Lasting, KeepsFuse, disk}
+use Rattle.lsm_device.specs.Refusals.{is_no_fault}
+use Rattle.lsm_open.specs.CrashState.{CrashState}
+use Rattle.lsm_open.specs.Image.{IsImage}
+use Rattle.lsm_open.specs.Opening.{opening_refusal, FailsToOpen}
+use Rattle.lsm_root.specs.Layout.{IsDeviceSize}
 use Rattle.lsm_open.proofs.Openings.{same_again}
-use Rattle.lsm_store.specs.Backing.{StoreView, IsBacked}
-use Rattle.lsm_store.specs.Calls.{Call, Reply}
-use Rattle.lsm_store.specs.Calls.{Number, Refused}
-use Rattle.lsm_store.specs.Crash.{reopened, may_leave}
+use Rattle.lsm_store.specs.Backing.{StoreView}
+use Rattle.lsm_store.specs.Calls.{Reply}
+use Rattle.lsm_store.specs.Calls.{Number, Done, Value, Rows, Refused}
 use Rattle.lsm_store.specs.Lives.{all_stopped}
+use Rattle.lsm_store.specs.Machine.{Step}
 use Rattle.lsm_store.specs.RecoveryPoints.{batch_count}
-use Rattle.lsm_store.specs.Run.{Run, last_state, left_in_run}
-use Rattle.lsm_store.specs.State.{State}
-use Rattle.lsm_lives.specs.Living.{Holds, BeforeCrash, AfterCrash}
+use Rattle.lsm_store.specs.Serving.{OpensTo}
+use Rattle.lsm_lives.specs.Leading.{BeginsOn, FailsOn, IsLed, with_fuse}
 use Rattle.lsm_lives.specs.Replaying.{Replays}
-use Rattle.lsm_lives.proofs.Steps.{one_format}
+use Rattle.lsm_lives.proofs.Steps.{go_on}
 
-module _ (log_sectors : ℕ) (opened : CrashState) (others : List CrashState) where
-  abbrev IsLeft : List (List ℕ) → Type 0
-  IsLeft sectors = IsImageOfOne log_sectors (others ++ left_by_opening opened) sectors
+-- ---- openings
 
-  -- what the device held may be left
-  of_held : (sectors : List (List ℕ)) → IsImage log_sectors opened sectors ⊎ IsImageOfOne log_sectors others sectors → IsLeft sectors
-  of_held sectors (inl same) = (opened, Contains-append_right others (left_by_opening opened) opened (same_again opened), same)
-  of_held sectors (inr (left, found, is)) = (left, Contains-append_left others (left_by_opening opened) left found, is)
+-- a store that was not opened for want of memory
+pub not_opened : (before : Medium) → FailsOn before NoMemory before
+not_opened before = record {
+  size = λ other. inl refl;
+  reason = λ size. inr (inl refl);
+  fault = refl;
+  fails = λ log_sectors left is. record {
+    fair = tt;
+    again = (left, same_again left, is);
+    crash = inl refl;
+  };
+  same_size = refl;
+  same_lasting = refl;
+}
 
-  -- a device that was not touched
-  pub untouched : (d : Disk) → Holds log_sectors opened others d → Leaves IsLeft d
-  untouched d holds = λ mask. of_held (image mask d) (holds.crashes mask)
+-- a size that isn't no size of a device is one
+sized : (n : ℕ) → ((IsDeviceSize n → ⊥) → ⊥) → IsDeviceSize n
+sized n not = record {
+  low = ⊎_elim (λ small. absurd (not (λ d. omega (arith, small, d.low)))) (λ le. le) (cases_lt n 8192);
+  high = ⊎_elim (λ large. absurd (not (λ d. omega (arith, large, d.high)))) (λ le. le) (cases_lt 1048576 n);
+}
 
-  -- a device whose opening was refused
-  pub refused : (before after : Medium) (refusal : Refusal) → Holds log_sectors opened others (disk before) → FailsToOpen before log_sectors opened refusal after → Leaves IsLeft (disk after)
-  refused before after refusal holds fails = λ mask. by (image mask (disk after)) (ended (Leaves (IsLeftInOpening before log_sectors opened)) before.history after.history fails.crash mask)
-    where
-      by : (sectors : List (List ℕ)) → IsLeftInOpening before log_sectors opened sectors → IsLeft sectors
-      by sectors (inl (mask, is)) = subst IsLeft (sym is) (untouched (disk before) holds mask)
-      by sectors (inr (left, found, is)) = (left, Contains-append_right others (left_by_opening opened) left found, is)
+module _ {X : Type 0} (medium : X → Medium) (start : X) where
+  abbrev began : Medium
+  began = medium start
 
-  module _ (calls : List Call) (replies : List Reply) where
-    -- at the end of a life whose opening was refused
-    pub ends_refused : (refusal : Refusal) (d : Disk) → MayRefuseOpening opened refusal → Leaves IsLeft d → replies ≡ Refused refusal ∷ all_stopped calls
-        → BeforeCrash log_sectors opened others calls replies d
-    ends_refused refusal d fair leaves is = subst (λ (all : List Reply). BeforeCrash log_sectors opened others calls all d) (sym is) (record { answered = (fair, refl); crashes = leaves })
+  abbrev held : List (List ℕ)
+  held = seen (disk (medium start))
 
-    -- at the end of a life whose opening answered this store
-    module _ (s new : StoreView) (fair : MayOpen opened) (starts : s.state ≡ reopened log_sectors opened) (backed : IsBacked s) (more : List Reply) (replays : Replays s calls more new) where
-      Left : ℕ → State → Type 0
-      Left n t = Leaves (IsImageOfOne n (may_leave t)) (disk new.device)
+  refusal_in : Result StoreView (Refusal × X) → Refusal
+  refusal_in (Ok s) = BadGeometry
+  refusal_in (Err e) = e.0
 
-      same_sectors : new.state.log_sectors ≡ log_sectors
-      same_sectors =
-          one_format new.state.log_sectors s.state.log_sectors (may_leave new.state) (left_in_run s.state calls more) (disk new.device) (replays.backed backed).crashes
-          (ended (Leaves (IsImageOfOne s.state.log_sectors (left_in_run s.state calls more))) s.device.history new.device.history (replays.crash backed))
-          ∙ ap (λ (t : State). t.log_sectors) starts
+  -- what an opening answers
+  pub opening : (r : Result StoreView (Refusal × X))
+      → ((IsDeviceSize began.size → ⊥) → r ≡ Err (BadGeometry, start))
+      → (IsDeviceSize began.size → MatchResult r (λ s. opening_refusal held ≡ None) (λ e. (opening_refusal held ≡ Some e.0) ⊎ ((e.0 ≡ NoMemory) ⊎ (e.0 ≡ Io))))
+      → ((log_sectors : ℕ) (left : CrashState) → IsImage log_sectors left held → IfOk r (λ s. OpensTo began log_sectors left s))
+      → ((log_sectors : ℕ) (left : CrashState) → IsImage log_sectors left held → IfErr r (λ e. FailsToOpen began log_sectors left e.0 (medium e.1)))
+      → MatchResult r (λ s. s.device.calls.faults ≡ began.calls.faults) (λ e. (medium e.1).calls.faults ≡ faults_after (is_no_fault e.0) began.calls.faults)
+      → IfOk r (λ s. AtMost 6210 38 3 began.calls s.device.calls)
+      → MatchResult r (λ s. s.device.size ≡ began.size) (λ e. (medium e.1).size ≡ began.size)
+      → MatchResult r (λ s. s.device.lasting ≡ began.lasting) (λ e. (medium e.1).lasting ≡ began.lasting)
+      → MatchResult r (λ s. BeginsOn began s) (λ e. FailsOn began e.0 (medium e.1))
+  unfolding refusal_in
+  opening (Ok s) size refusal opens fails faults calls same_size lasting =
+      let fits = sized began.size (λ other. subst (λ (r : Result StoreView (Refusal × X)). MatchResult r (λ _. Unit {0}) (λ _. ⊥)) (size other) tt) in
+      record {
+        size = fits;
+        unrefused = refusal fits;
+        opens = opens;
+        no_fault = faults;
+        calls = calls;
+        same_size = same_size;
+        same_lasting = lasting;
+      }
+  opening (Err e) size refusal opens fails faults calls same_size lasting = record {
+    size = λ other. inr (ap refusal_in (size other));
+    reason = refusal;
+    fault = faults;
+    fails = fails;
+    same_size = same_size;
+    same_lasting = lasting;
+  }
 
-      ends : new.state ≡ last_state (reopened log_sectors opened) calls more
-      ends = replays.state ∙ ap (λ (t : State). last_state t calls more) starts
+-- ---- a life until its crash
 
-      left : Left log_sectors (last_state (reopened log_sectors opened) calls more)
-      unfolding Left
-      left = subst (Left log_sectors) ends (subst (λ (n : ℕ). Left n new.state) same_sectors (replays.backed backed).crashes)
+module _ (before : Medium) (steps : List Step) (replies : List Reply) (after : Medium) where
+  -- the store was opened and made the steps
+  pub led_opened : (s end : StoreView) (more : List Reply) (n : ℕ) → BeginsOn before s → Replays s steps more end → after ≡ end.device
+      → n ≡ batch_count s.state.points → replies ≡ Number n ∷ more → IsLed before steps replies after
+  led_opened s end more n begins replays into counted is = subst (λ (all : List Reply). IsLed before steps all after) (sym is) (s, begins, counted, end, replays, into)
 
-      pub ends_opened : (n : ℕ) → n ≡ batch_count s.state.points → replies ≡ Number n ∷ more → BeforeCrash log_sectors opened others calls replies (disk new.device)
-      unfolding Left
-      ends_opened n counted is = subst (λ (all : List Reply). BeforeCrash log_sectors opened others calls all (disk new.device)) (sym is) (record {
-        answered = (fair, counted ∙ ap (λ (t : State). batch_count t.points) starts ∙ add-zero opened.count, subst (λ (t : State). Run t calls more) starts replays.run);
-        crashes = left;
-      })
+  -- its opening was refused
+  pub led_refused : (refusal : Refusal) → FailsOn before refusal after → replies ≡ Refused refusal ∷ all_stopped steps → IsLed before steps replies after
+  led_refused refusal fails is = subst (λ (all : List Reply). IsLed before steps all after) (sym is) (fails, refl)
 
-    -- after the crash
-    pub crash_ends : (mask : List Bool) (d : Disk) → BeforeCrash log_sectors opened others calls replies d → AfterCrash log_sectors opened others calls replies (at_rest (image mask d))
-    crash_ends mask d before =
-        let found = before.crashes mask in
-        record {
-          left = found.0;
-          life = record { answered = before.answered; crash = found.1 };
-          holds = record { reads = found.2; crashes = λ keep. inl found.2 };
-        }
+-- ---- its fuse
+
+-- nothing that is done in a life changes what lasts
+lasting_in : (before : Medium) (steps : List Step) (replies : List Reply) (after : Medium) → IsLed before steps replies after → after.lasting ≡ before.lasting
+lasting_in before steps (Number n ∷ more) after (s, begins, counted, end, replays, into) =
+    ap (λ (m : Medium). m.lasting) into ∙ (go_on s steps more end replays).same_lasting ∙ begins.same_lasting
+lasting_in before steps (Refused e ∷ more) after (fails, stopped) = fails.same_lasting
+lasting_in before steps (Done ∷ more) after led = absurd led
+lasting_in before steps (Value v ∷ more) after led = absurd led
+lasting_in before steps (Rows page ∷ more) after led = absurd led
+lasting_in before steps [] after led = absurd led
+
+none_set : (n : ℕ) → None ≡ Some n → ⊥
+none_set n is = cc
+
+-- so the fuse that it set bounds what passes
+fuse_bounds : (fuse : Option ℕ) (before after : Medium) → after.lasting ≡ (with_fuse fuse before).lasting → KeepsFuse after.lasting.fuse_set after.calls → KeepsFuse fuse after.calls
+fuse_bounds None before after same keeps = record { at_most = λ n is. absurd (none_set n is) }
+fuse_bounds (Some n) before after same keeps = subst (λ (set : Option ℕ). KeepsFuse set after.calls) (ap (λ (l : Lasting). l.fuse_set) same) keeps
+
+pub fuse_kept : (fuse : Option ℕ) (before : Medium) (steps : List Step) (replies : List Reply) (after : Medium) → IsLed (with_fuse fuse before) steps replies after
+    → KeepsFuse after.lasting.fuse_set after.calls → KeepsFuse fuse after.calls
+fuse_kept fuse before steps replies after led keeps = fuse_bounds fuse before after (lasting_in (with_fuse fuse before) steps replies after led) keeps

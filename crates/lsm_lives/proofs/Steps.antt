@@ -1,25 +1,27 @@
--- Calls one after another.
+-- Steps one after another.
 use Rattle.std.proofs.Common.{◌≡◌, ◌<◌, ℕ, ◌+◌, List, [], ◌∷◌, ◌++◌, length, map, get_or, drop, Option, Some, None, refl, ap, sym, subst, ◌∙◌}
 use Rattle.std.specs.Prelude.{Contains}
 use Rattle.std.proofs.lemmas.List.{drop_more, map_push}
 use Rattle.std.proofs.lemmas.List.Elements.{Contains-append_left, Contains-append_right}
 use Rattle.lsm_device.specs.Disk.{Disk, image}
+use Rattle.lsm_device.specs.Calls.{faults_after}
 use Rattle.lsm_device.specs.History.{EachSince}
 use Rattle.lsm_device.specs.Medium.{disk}
 use Rattle.lsm_device.specs.Outcomes.{Leaves}
 use Rattle.lsm_device.proofs.Moments.{started, joined, weaker, ended}
 use Rattle.lsm_open.specs.CrashState.{CrashState}
 use Rattle.lsm_open.specs.Image.{IsImageOfOne}
-use Rattle.lsm_store.specs.Backing.{StoreView, IsBacked}
-use Rattle.lsm_store.specs.Calls.{Call, Reply}
-use Rattle.lsm_store.specs.Crash.{left_inside, may_leave}
-use Rattle.lsm_store.specs.Run.{Run, next, last_state, left_in_run}
-use Rattle.lsm_store.specs.Serving.{Serves}
+use Rattle.lsm_store.specs.Backing.{StoreView, IsBacked, machine_of}
+use Rattle.lsm_store.specs.Calls.{Reply}
+use Rattle.lsm_store.specs.Crash.{may_leave}
+use Rattle.lsm_store.specs.Machine.{Machine, Step, Called}
+use Rattle.lsm_store.specs.Run.{AdmitsStep, AllowsStep, next_machine, left_in_step, Course, Run, last_machine, left_in_run}
+use Rattle.lsm_store.specs.Serving.{ServesStep, is_faultless}
 use Rattle.lsm_store.specs.State.{State}
-use Rattle.lsm_lives.specs.Calls.{call_of, reply_of}
+use Rattle.lsm_lives.specs.Calls.{step_of, reply_of}
 use Rattle.lsm_lives.specs.declared.calls.Call.{Call as Asked}
 use Rattle.lsm_lives.specs.declared.calls.Reply.{Reply as Told}
-use Rattle.lsm_lives.specs.Replaying.{Replays, faults_told}
+use Rattle.lsm_lives.specs.Replaying.{Replays, GoOn, faults_told}
 
 first_or : ℕ → Option (ℕ × CrashState) → ℕ
 first_or n (Some both) = both.0
@@ -48,49 +50,85 @@ reply_added {A} done after reply is = ap (λ (all : List (Told A)). map reply_of
 pub reply_first : {A : Type 0} (done after : List (Told A)) (reply : Told A) → done ≡ [] → after ≡ done ++ reply ∷ [] → map reply_of after ≡ reply_of reply ∷ []
 reply_first {A} done after reply none is = ap (λ (all : List (Told A)). map reply_of all) (is ∙ ap (λ (all : List (Told A)). all ++ reply ∷ []) none)
 
--- the next call of a list
-pub next_call : {A : Type 0} (calls : List (Asked A)) (i : ℕ) (call : Asked A) → i < length calls → call ≡ get_or calls i call → map call_of (drop i calls) ≡ call_of call ∷ map call_of (drop (i + 1) calls)
-next_call {A} calls i call within is =
-    ap (λ (all : List (Asked A)). map call_of all) (drop_more calls i call within ∙ ap (λ (c : Asked A). c ∷ drop (i + 1) calls) (sym is))
+-- the next step of a list
+pub next_step : {A : Type 0} (calls : List (Asked A)) (i : ℕ) (call : Asked A) → i < length calls → call ≡ get_or calls i call → map step_of (drop i calls) ≡ step_of call ∷ map step_of (drop (i + 1) calls)
+next_step {A} calls i call within is =
+    ap (λ (all : List (Asked A)). map step_of all) (drop_more calls i call within ∙ ap (λ (c : Asked A). c ∷ drop (i + 1) calls) (sym is))
 
--- ---- calls one after another
+-- ---- steps one after another
 
--- no call
-pub no_call : (s : StoreView) → Replays s [] [] s
-no_call s = record {
-  run = tt;
-  state = refl;
+-- What one step comes to, as it is read here.
+record StepsTo (old : StoreView) (step : Step) (reply : Reply) (new : StoreView) : Type 0 where
+  course : AdmitsStep (machine_of old) step reply
+  run : IsBacked old → AllowsStep (machine_of old) step reply
+  machine : machine_of new ≡ next_machine (machine_of old) step reply
+  faults : new.device.calls.faults ≡ faults_after (is_faultless reply) old.device.calls.faults
+  same_size : new.device.size ≡ old.device.size
+  same_lasting : new.device.lasting ≡ old.device.lasting
+  crash : IsBacked old → EachSince (Leaves (IsImageOfOne old.state.log_sectors (left_in_step (machine_of old) step))) old.device.history new.device.history
+  backed : IsBacked old → IsBacked new
+
+machine_in : State → Machine
+machine_in t = record { state = t }
+
+of_step : (old : StoreView) (step : Step) (reply : Reply) (new : StoreView) → ServesStep old step reply new → StepsTo old step reply new
+unfolding machine_in
+of_step old (Called call) reply new serves = record {
+  course = serves.admitted;
+  run = serves.allowed;
+  machine = ap machine_in serves.state;
+  faults = serves.fault;
+  same_size = serves.same_size;
+  same_lasting = serves.same_lasting;
+  crash = serves.crash;
+  backed = serves.backed;
+}
+
+-- no step
+no_step : (s : StoreView) → GoOn s [] [] s
+no_step s = record {
+  course = tt;
+  run = λ backed. tt;
+  machine = refl;
   faults = refl;
   same_size = refl;
-  same_tells = refl;
+  same_lasting = refl;
   crash = λ backed. started (Leaves (IsImageOfOne s.state.log_sectors (may_leave s.state))) s.device.history backed.crashes;
   backed = λ backed. backed;
 }
 
--- one call, and others behind it
-module _ (old mid new : StoreView) (call : Call) (reply : Reply) (serves : Serves old call reply mid) (calls : List Call) (replies : List Reply) (rest : Replays mid calls replies new) where
+-- one step, and others behind it
+module _ (old mid new : StoreView) (step : Step) (reply : Reply) (one : StepsTo old step reply mid) (steps : List Step) (replies : List Reply) (rest : GoOn mid steps replies new) where
   format : IsBacked old → mid.state.log_sectors ≡ old.state.log_sectors
-  format backed = one_format mid.state.log_sectors old.state.log_sectors (may_leave mid.state) (left_inside old.state call) (disk mid.device) (serves.backed backed).crashes
-      (ended (Leaves (IsImageOfOne old.state.log_sectors (left_inside old.state call))) old.device.history mid.device.history (serves.crash backed))
+  format backed = one_format mid.state.log_sectors old.state.log_sectors (may_leave mid.state) (left_in_step (machine_of old) step) (disk mid.device) (one.backed backed).crashes
+      (ended (Leaves (IsImageOfOne old.state.log_sectors (left_in_step (machine_of old) step))) old.device.history mid.device.history (one.crash backed))
 
-  in_rest : IsBacked old → EachSince (Leaves (IsImageOfOne old.state.log_sectors (left_in_run (next old.state call reply) calls replies))) mid.device.history new.device.history
-  in_rest backed = subst (λ (s : State). EachSince (Leaves (IsImageOfOne old.state.log_sectors (left_in_run s calls replies))) mid.device.history new.device.history) serves.state
-      (subst (λ (n : ℕ). EachSince (Leaves (IsImageOfOne n (left_in_run mid.state calls replies))) mid.device.history new.device.history) (format backed) (rest.crash (serves.backed backed)))
+  in_rest : IsBacked old → EachSince (Leaves (IsImageOfOne old.state.log_sectors (left_in_run (next_machine (machine_of old) step reply) steps replies))) mid.device.history new.device.history
+  in_rest backed = subst (λ (m : Machine). EachSince (Leaves (IsImageOfOne old.state.log_sectors (left_in_run m steps replies))) mid.device.history new.device.history) one.machine
+      (subst (λ (n : ℕ). EachSince (Leaves (IsImageOfOne n (left_in_run (machine_of mid) steps replies))) mid.device.history new.device.history) (format backed) (rest.crash (one.backed backed)))
 
-  pub call_first : Replays old (call ∷ calls) (reply ∷ replies) new
-  call_first = record {
-    run = (serves.allowed, subst (λ (s : State). Run s calls replies) serves.state rest.run);
-    state = rest.state ∙ ap (λ (s : State). last_state s calls replies) serves.state;
-    faults = rest.faults ∙ ap (faults_told replies) serves.fault;
-    same_size = rest.same_size ∙ serves.same_size;
-    same_tells = rest.same_tells ∙ serves.same_tells;
+  step_first : GoOn old (step ∷ steps) (reply ∷ replies) new
+  step_first = record {
+    course = (one.course, subst (λ (m : Machine). Course m steps replies) one.machine rest.course);
+    run = λ backed. (one.run backed, subst (λ (m : Machine). Run m steps replies) one.machine (rest.run (one.backed backed)));
+    machine = rest.machine ∙ ap (λ (m : Machine). last_machine m steps replies) one.machine;
+    faults = rest.faults ∙ ap (faults_told replies) one.faults;
+    same_size = rest.same_size ∙ one.same_size;
+    same_lasting = rest.same_lasting ∙ one.same_lasting;
     crash = λ backed.
         let n = old.state.log_sectors in
-        let inside = left_inside old.state call in
-        let behind = left_in_run (next old.state call reply) calls replies in
+        let inside = left_in_step (machine_of old) step in
+        let behind = left_in_run (next_machine (machine_of old) step reply) steps replies in
         let all = Leaves (IsImageOfOne n (inside ++ behind)) in
         joined all old.device.history mid.device.history new.device.history
-        (weaker (Leaves (IsImageOfOne n inside)) all old.device.history mid.device.history (more_left n inside (inside ++ behind) (λ left found. Contains-append_left inside behind left found)) (serves.crash backed))
+        (weaker (Leaves (IsImageOfOne n inside)) all old.device.history mid.device.history (more_left n inside (inside ++ behind) (λ left found. Contains-append_left inside behind left found)) (one.crash backed))
         (weaker (Leaves (IsImageOfOne n behind)) all mid.device.history new.device.history (more_left n behind (inside ++ behind) (λ left found. Contains-append_right inside behind left found)) (in_rest backed));
-    backed = λ backed. rest.backed (serves.backed backed);
+    backed = λ backed. rest.backed (one.backed backed);
   }
+
+-- what steps one after another come to
+pub go_on : (old : StoreView) (steps : List Step) (replies : List Reply) (new : StoreView) → Replays old steps replies new → GoOn old steps replies new
+go_on old [] [] new same = subst (GoOn old [] []) (sym same) (no_step old)
+go_on old (step ∷ steps) (reply ∷ replies) new (mid, serves, rest) = step_first old mid new step reply (of_step old step reply mid serves) steps replies (go_on mid steps replies new rest)
+go_on old [] (reply ∷ replies) new h = absurd h
+go_on old (step ∷ steps) [] new h = absurd h

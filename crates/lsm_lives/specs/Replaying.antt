@@ -1,35 +1,45 @@
--- What a store does at calls one after another.
+-- What a store does at steps one after another.
 use Rattle.std.specs.Prelude.{◌≡◌, ℕ, List, [], ◌∷◌, ◌++◌}
 use Rattle.lsm_device.specs.Calls.{faults_after}
 use Rattle.lsm_device.specs.History.{EachSince}
 use Rattle.lsm_device.specs.Outcomes.{Leaves}
 use Rattle.lsm_open.specs.Image.{IsImageOfOne}
-use Rattle.lsm_store.specs.Backing.{StoreView, IsBacked}
-use Rattle.lsm_store.specs.Calls.{Call, Reply}
-use Rattle.lsm_store.specs.Run.{Run, last_state, left_in_run}
-use Rattle.lsm_store.specs.Serving.{is_faultless}
+use Rattle.lsm_store.specs.Backing.{StoreView, IsBacked, machine_of}
+use Rattle.lsm_store.specs.Calls.{Reply}
+use Rattle.lsm_store.specs.Machine.{Step}
+use Rattle.lsm_store.specs.Run.{Run, Course, last_machine, left_in_run}
+use Rattle.lsm_store.specs.Serving.{ServesStep, is_faultless}
+
+-- Steps of a store one after another, each served by the store that the one before it left.
+abbrev pub Replays : StoreView → List Step → List Reply → StoreView → Type 0
+Replays old [] [] new = new ≡ old
+Replays old (step ∷ steps) (reply ∷ replies) new = (mid : StoreView) × ServesStep old step reply mid × Replays mid steps replies new
+Replays old [] (reply ∷ replies) new = ⊥
+Replays old (step ∷ steps) [] new = ⊥
+
+-- Behind these replies there are more, those of the steps.
+pub record Answers (old : StoreView) (steps : List Step) (before after : List Reply) (new : StoreView) : Type 0 where
+  pub more : List Reply
+  pub added : after ≡ before ++ more
+  pub replays : Replays old steps more new
 
 -- the faults of a device after these replies, where so many were counted before: one for each reply that tells of one
 abbrev pub faults_told : List Reply → ℕ → ℕ
 faults_told [] faults = faults
 faults_told (reply ∷ replies) faults = faults_told replies (faults_after (is_faultless reply) faults)
 
--- What calls of a store, one after another, do.
-pub record Replays (old : StoreView) (calls : List Call) (replies : List Reply) (new : StoreView) : Type 0 where
-  -- its state allows the replies, and goes on by them
-  pub run : Run old.state calls replies
-  pub state : new.state ≡ last_state old.state calls replies
+-- What steps one after another come to.
+pub record GoOn (old : StoreView) (steps : List Step) (replies : List Reply) (new : StoreView) : Type 0 where
+  -- memory decides the replies but for bytes that the device gives; where it backs the state they are a run
+  pub course : Course (machine_of old) steps replies
+  pub run : IsBacked old → Run (machine_of old) steps replies
+  -- the machine goes on by them
+  pub machine : machine_of new ≡ last_machine (machine_of old) steps replies
   -- the device had a fault for each reply that tells of one, and no other
   pub faults : new.device.calls.faults ≡ faults_told replies old.device.calls.faults
   pub same_size : new.device.size ≡ old.device.size
-  pub same_tells : new.device.tells ≡ old.device.tells
+  pub same_lasting : new.device.lasting ≡ old.device.lasting
   -- at every moment of them, every crash leaves what it may
-  pub crash : IsBacked old → EachSince (Leaves (IsImageOfOne old.state.log_sectors (left_in_run old.state calls replies))) old.device.history new.device.history
+  pub crash : IsBacked old → EachSince (Leaves (IsImageOfOne old.state.log_sectors (left_in_run (machine_of old) steps replies))) old.device.history new.device.history
   -- the device backs the state again
   pub backed : IsBacked old → IsBacked new
-
--- Behind these replies there are more, those of the calls.
-pub record Answers (old : StoreView) (calls : List Call) (before after : List Reply) (new : StoreView) : Type 0 where
-  pub more : List Reply
-  pub added : after ≡ before ++ more
-  pub replays : Replays old calls more new

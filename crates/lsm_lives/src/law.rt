@@ -1,16 +1,37 @@
-// When a device holds what a crash left.
+// What steps and lives come to, and when a device holds what a crash left.
 ghost use Rattle.std.specs.Prelude.{ℕ, List, [], IsNone, Contains};
 ghost use Rattle.lsm_device.specs.Disk.{Disk};
-ghost use Rattle.lsm_device.specs.Medium.{disk};
+ghost use Rattle.lsm_device.specs.Medium.{Medium, disk};
 ghost use Rattle.lsm_device.specs.Outcomes.{Leaves};
-ghost use Rattle.lsm_lives.specs.Living.{Holds};
+ghost use Rattle.lsm_lives.specs.Leading.{LifeView, LeadsTo, AreLed};
+ghost use Rattle.lsm_lives.specs.Living.{steps_in, Holds, AfterCrash, AreLived};
+ghost use Rattle.lsm_lives.specs.Replaying.{Replays, GoOn};
 ghost use Rattle.lsm_open.specs.CrashState.{CrashState};
 ghost use Rattle.lsm_open.specs.Image.{IsImage};
 ghost use Rattle.lsm_store.specs.Backing.{StoreView, IsBacked};
+ghost use Rattle.lsm_store.specs.Calls.{Reply};
 ghost use Rattle.lsm_store.specs.Crash.{may_leave, last_crash_state};
+ghost use Rattle.lsm_store.specs.Machine.{Step};
 
-/// A device holds what a crash left, so that [`lives`](crate::lives) say what they do with it: where every crash of it
-/// leaves the same, as after a format and after other lives; and where it is taken back of a store, without a crash.
+/// Steps one after another, each as the store serves it, are a run of the machine where the device backs its state: the
+/// machine allows the replies and goes on by them, and at every moment every crash leaves what the run may leave.
+pub fn steps_go_on()
+    ensures { (old : StoreView) (steps : List Step) (replies : List Reply) (new : StoreView) → Replays old steps replies new → GoOn old steps replies new }
+{}
+
+/// Lives that were led on a device which held what a crash left are lives of the machine: each opening answers what the
+/// crash before it left, each reply is one that the state allows, and the device holds what the last crash left.
+pub fn led_lives_go_on()
+    ensures life { (life : LifeView) (before : Medium) (replies : List Reply) (after : Medium) → LeadsTo life before replies after
+        → (log_sectors : ℕ) (opened : CrashState) (others : List CrashState) → Holds log_sectors opened others (disk before)
+        → AfterCrash log_sectors opened others life.steps replies (disk after) }
+    ensures lives { (lives : List LifeView) (before : Medium) (replies : List (List Reply)) (after : Medium) → AreLed lives before replies after
+        → (log_sectors : ℕ) (opened : CrashState) (others : List CrashState) → Holds log_sectors opened others (disk before)
+        → AreLived log_sectors opened others (steps_in lives) replies (disk after) }
+{}
+
+/// A device holds what a crash left where every crash of it leaves the same, as after a format and after other lives; and
+/// where it is taken back of a store, without a crash.
 pub fn devices_hold_what_was_left()
     ensures at_rest { (log_sectors : ℕ) (left : CrashState) (d : Disk) → Leaves (IsImage log_sectors left) d → Holds log_sectors left [] d }
     ensures running { (s : StoreView) → IsBacked s → IsNone s.state.stopped

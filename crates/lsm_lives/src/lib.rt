@@ -8,7 +8,7 @@ mod replaying;
 mod serving;
 
 pub use calls::{Call, Reply};
-pub use law::devices_hold_what_was_left;
+pub use law::{devices_hold_what_was_left, led_lives_go_on, steps_go_on};
 pub use living::{Life, lives};
 pub use replaying::{Step, replay};
 pub use serving::serve;

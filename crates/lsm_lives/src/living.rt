@@ -1,16 +1,14 @@
 // Lives of a store on a device, each from an opening to a crash.
-ghost use Rattle.std.specs.Prelude.{◌≡◌, ◌≢◌, ◌≤◌, ◌+◌, ◌++◌, ℕ, List, [], map, length, IfErr, IfOk, IsSome, None, vec_capacity, vec_len};
+ghost use Rattle.std.specs.Prelude.{◌≡◌, ◌≢◌, ◌≤◌, ◌+◌, ◌++◌, ℕ, List, [], map, length, IfErr, IfOk, MatchResult, IsSome, None, vec_capacity, vec_len};
 ghost use Rattle.lsm_codec.specs.Map.{Operation};
 ghost use Rattle.lsm_device.specs.Medium.{disk, crashed};
-ghost use Rattle.lsm_device.specs.Disk.{seen};
-ghost use Rattle.lsm_device.specs.Memory.{medium_in, fuse_in};
+ghost use Rattle.lsm_device.specs.Memory.{medium_in, fuse_in, failure_in};
 ghost use Rattle.lsm_device.specs.Outcomes.{Leaves};
-ghost use Rattle.lsm_lives.specs.Calls.{call_of, reply_of};
-ghost use Rattle.lsm_lives.specs.Living.{calls_of, replies_of, Holds, BeforeCrash, AfterCrash, AreLived, KeepPromise, HavePlaces};
-ghost use Rattle.lsm_open.specs.CrashState.{CrashState, MayOpen, MayRefuseOpening, left_by_opening};
-ghost use Rattle.lsm_open.specs.Image.{IsImage, IsImageOfOne};
-ghost use Rattle.lsm_store.specs.Backing.{IsBacked};
-ghost use Rattle.lsm_store.specs.Crash.{reopened};
+ghost use Rattle.lsm_lives.specs.Calls.{step_of, reply_of};
+ghost use Rattle.lsm_lives.specs.Leading.{life_of, BeginsOn, FailsOn, IsLed, LeadsTo, AreLed, with_fuse};
+ghost use Rattle.lsm_lives.specs.Living.{steps_of, replies_of, KeepPromise, HavePlaces};
+ghost use Rattle.lsm_open.specs.CrashState.{CrashState};
+ghost use Rattle.lsm_open.specs.Image.{IsImage};
 ghost use Rattle.lsm_store.specs.Lives.{IsAfter, all_stopped};
 
 use crate::calls::Reply;
@@ -46,19 +44,16 @@ pub fn lives<A: Allocator + Clone, B: Allocator>(
 ) -> Result<(Vec<Vec<Reply<A>, A>, A>, MemDevice<B>), (Refusal, MemDevice<B>)>
     ensures refused { IfErr result (λ e. e ≡ (Refusal.NoMemory, device)) }
 
-    // Without a life the device comes back as it came; else nothing pends on it.
+    // Whatever the device holds, life by life it is the same device: the fuse is set, the store is opened, makes the
+    // steps and replies, and the device crashes by the mask. Without a life it comes back as it came.
+    ensures led { IfOk result (λ given. AreLed (map life_of lives.now) (medium_in device) (replies_of given.0.items) (medium_in given.1)) }
     ensures no_life { lives.now ≡ [] → IfOk result (λ given. given.1 ≡ device) }
-    ensures at_rest { lives.now ≢ [] → IfOk result (λ given. ((disk (medium_in given.1)).pending ≡ []) × (fuse_in given.1 ≡ None)) }
-
-    // Life by life the replies are an opening of what the crash before left, a run of the machine, and a crash, also on a
-    // device on which writes pend at first.
-    ensures lives { (log_sectors : ℕ) (opened : CrashState) (others : List CrashState) → Holds log_sectors opened others (disk (medium_in device))
-        → IfOk result (λ given. AreLived log_sectors opened others (calls_of lives.now) (replies_of given.0.items) (disk (medium_in given.1))) }
+    ensures disarmed { lives.now ≢ [] → IfOk result (λ given. (fuse_in given.1 ≡ None) × (failure_in given.1 ≡ None)) }
 
     // The promise over crashes: on a device that holds the map after some batches, as it does after a format and after
     // other lives, each life keeps a beginning of the batches, with every acknowledged one.
     ensures promise { (log_sectors : ℕ) (before : List (List Operation)) (opened : CrashState) → IsAfter before opened → Leaves (IsImage log_sectors opened) (disk (medium_in device))
-        → IfOk result (λ given. KeepPromise log_sectors before opened (calls_of lives.now) (replies_of given.0.items) (disk (medium_in given.1))) }
+        → IfOk result (λ given. KeepPromise log_sectors before opened (steps_of lives.now) (replies_of given.0.items) (disk (medium_in given.1))) }
 {
     let mut replies = match places(&alloc, lives) {
         Ok(replies) => replies,
@@ -91,10 +86,9 @@ fn live_each<A: Allocator + Clone, B: Allocator>(
     places: &mut Vec<Vec<Reply<A>, A>, A>,
 ) -> MemDevice<B>
     requires { HavePlaces lives.now places.old.items }
+    ensures led { AreLed (map life_of lives.now) (medium_in device) (replies_of places.new.items) (medium_in result) }
     ensures no_life { lives.now ≡ [] → result ≡ device }
-    ensures at_rest { lives.now ≢ [] → ((disk (medium_in result)).pending ≡ []) × (fuse_in result ≡ None) }
-    ensures lives { (log_sectors : ℕ) (opened : CrashState) (others : List CrashState) → Holds log_sectors opened others (disk (medium_in device))
-        → AreLived log_sectors opened others (calls_of lives.now) (replies_of places.new.items) (disk (medium_in result)) }
+    ensures disarmed { lives.now ≢ [] → (fuse_in result ≡ None) × (failure_in result ≡ None) }
 {
     let mut device = device;
     for (index, life) in lives.iter().enumerate() {
@@ -112,9 +106,8 @@ fn live<A: Allocator + Clone, B: Allocator>(
 ) -> MemDevice<B>
     requires none_yet { replies.old.items ≡ [] }
     requires room { vec_len life.now.steps + 1 ≤ vec_capacity replies.old }
-    ensures at_rest { ((disk (medium_in result)).pending ≡ []) × (fuse_in result ≡ None) }
-    ensures lives { (log_sectors : ℕ) (opened : CrashState) (others : List CrashState) → Holds log_sectors opened others (disk (medium_in device))
-        → AfterCrash log_sectors opened others (map call_of life.now.steps.items) (map reply_of replies.new.items) (disk (medium_in result)) }
+    ensures led { LeadsTo (life_of life.now) (medium_in device) (map reply_of replies.new.items) (medium_in result) }
+    ensures disarmed { (fuse_in result ≡ None) × (failure_in result ≡ None) }
 {
     let mut device = device;
     set_fuse(&mut device, life.fuse);
@@ -125,7 +118,7 @@ fn live<A: Allocator + Clone, B: Allocator>(
 // Sets the fuse, where there is one.
 fn set_fuse<B: Allocator>(device: &mut MemDevice<B>, fuse: Option<u64>)
     ensures fuse { IsSome fuse → fuse_in device.new ≡ fuse }
-    ensures same_medium { medium_in device.new ≡ medium_in device.old }
+    ensures medium { medium_in device.new ≡ with_fuse fuse (medium_in device.old) }
 {
     if let Some(n) = fuse {
         device.fuse(n);
@@ -135,7 +128,7 @@ fn set_fuse<B: Allocator>(device: &mut MemDevice<B>, fuse: Option<u64>)
 // Crashes the device: of the pending writes those are kept that the mask says.
 fn crash<B: Allocator>(device: MemDevice<B>, mask: &[bool]) -> MemDevice<B>
     ensures left { medium_in result ≡ crashed mask.now (medium_in device) }
-    ensures no_fuse { fuse_in result ≡ None }
+    ensures disarmed { (fuse_in result ≡ None) × (failure_in result ≡ None) }
 {
     device.crash(mask)
 }
@@ -149,8 +142,7 @@ fn open_and_serve<A: Allocator + Clone, B: Allocator>(
 ) -> MemDevice<B>
     requires none_yet { replies.old.items ≡ [] }
     requires room { length steps.now + 1 ≤ vec_capacity replies.old }
-    ensures { (log_sectors : ℕ) (opened : CrashState) (others : List CrashState) → Holds log_sectors opened others (disk (medium_in device))
-        → BeforeCrash log_sectors opened others (map call_of steps.now) (map reply_of replies.new.items) (disk (medium_in result)) }
+    ensures { IsLed (medium_in device) (map step_of steps.now) (map reply_of replies.new.items) (medium_in result) }
 {
     match open(alloc, device) {
         Ok(mut store) => {
@@ -171,10 +163,7 @@ fn open<A: Allocator + Clone, B: Allocator>(
     alloc: &A,
     device: MemDevice<B>,
 ) -> Result<Store<MemDevice<B>, A>, (Refusal, MemDevice<B>)>
-    ensures opens { (log_sectors : ℕ) (opened : CrashState) → IsImage log_sectors opened (seen (disk (medium_in device)))
-        → IfOk result (λ s. MayOpen opened × (s.state ≡ reopened log_sectors opened) × IsBacked s) }
-    ensures fails { (log_sectors : ℕ) (opened : CrashState) (others : List CrashState) → Holds log_sectors opened others (disk (medium_in device))
-        → IfErr result (λ e. MayRefuseOpening opened e.0 × Leaves (IsImageOfOne log_sectors (others ++ left_by_opening opened)) (disk (medium_in e.1))) }
+    ensures { MatchResult result (λ s. BeginsOn (medium_in device) s) (λ e. FailsOn (medium_in device) e.0 (medium_in e.1)) }
 {
     match alloc.clone() {
         Ok(alloc) => Store::open(alloc, device, CACHE),
@@ -185,7 +174,7 @@ fn open<A: Allocator + Clone, B: Allocator>(
 // Each step is answered that the store is stopped.
 fn refuse_each<A: Allocator>(steps: &[Step<A>], replies: &mut Vec<Reply<A>, A>)
     requires room { vec_len replies.old + length steps.now ≤ vec_capacity replies.old }
-    ensures { map reply_of replies.new.items ≡ map reply_of replies.old.items ++ all_stopped (map call_of steps.now) }
+    ensures { map reply_of replies.new.items ≡ map reply_of replies.old.items ++ all_stopped (map step_of steps.now) }
 {
     for _step in steps {
         replies.push_reserved(Reply::Refused(Refusal::Stopped));

@@ -1,7 +1,7 @@
 // A store makes calls one after another.
 ghost use Rattle.std.specs.Prelude.{◌≡◌, ◌≤◌, ◌+◌, ◌++◌, [], length, map, IfErr, OnErr, IfOk, vec_capacity, vec_len};
 ghost use Rattle.lsm_device.specs.declared.refusal.Refusal.TheVariants.{NoMemory};
-ghost use Rattle.lsm_lives.specs.Calls.{call_of, reply_of};
+ghost use Rattle.lsm_lives.specs.Calls.{step_of, reply_of};
 ghost use Rattle.lsm_lives.specs.Replaying.{Answers, Replays};
 
 use crate::calls::{Call, Reply};
@@ -22,7 +22,7 @@ pub fn replay<D: Device, A: Allocator + Clone>(
     store: &mut Store<D, A>,
     steps: &[Step<A>],
 ) -> Result<Vec<Reply<A>, A>, Refusal>
-    ensures replays { IfOk result (λ replies. Replays store.old (map call_of steps.now) (map reply_of replies.items) store.new) }
+    ensures replays { IfOk result (λ replies. Replays store.old (map step_of steps.now) (map reply_of replies.items) store.new) }
     ensures refused { IfErr result (λ refusal. refusal ≡ NoMemory) }
     ensures nothing_done { OnErr result (store.new ≡ store.old) }
 {
@@ -38,7 +38,7 @@ pub(crate) fn serve_each<D: Device, A: Allocator + Clone>(
     replies: &mut Vec<Reply<A>, A>,
 )
     requires room { vec_len replies.old + length steps.now ≤ vec_capacity replies.old }
-    ensures { Answers store.old (map call_of steps.now) (map reply_of replies.old.items) (map reply_of replies.new.items) store.new }
+    ensures { Answers store.old (map step_of steps.now) (map reply_of replies.old.items) (map reply_of replies.new.items) store.new }
 {
     for step in steps {
         let reply = serve(store, step);

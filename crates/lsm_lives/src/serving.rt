@@ -32,7 +32,7 @@ pub fn serve<D: Device, A: Allocator + Clone>(store: &mut Store<D, A>, call: &Ca
         },
         Call::Snapshot => number(store.snapshot()),
         Call::Release(n) => done(store.release(*n)),
-        Call::Room => number(store.log_room().map(u64::from)),
+        Call::Room => room(store.log_room()),
     }
 }
 
@@ -50,6 +50,15 @@ fn number<A: Allocator>(answered: Result<u64, Refusal>) -> Reply<A>
 {
     match answered {
         Ok(n) => Reply::Number(n),
+        Err(refusal) => Reply::Refused(refusal),
+    }
+}
+
+fn room<A: Allocator>(answered: Result<u32, Refusal>) -> Reply<A>
+    ensures { reply_of result ≡ reply_by Number answered }
+{
+    match answered {
+        Ok(sectors) => Reply::Number(u64::from(sectors)),
         Err(refusal) => Reply::Refused(refusal),
     }
 }

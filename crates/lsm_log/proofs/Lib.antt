@@ -5,3 +5,4 @@ pub mod Logs
 pub mod Longest
 pub mod Regions
 pub mod Replaying
+pub mod Taking

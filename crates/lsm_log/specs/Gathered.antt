@@ -1,5 +1,5 @@
 -- How far a replay has come.
-use Rattle.std.specs.Prelude.{◌≡◌, ℕ, ◌+◌, Bool, true, false, List, ◌∷◌, ◌++◌}
+use Rattle.std.specs.Prelude.{◌≡◌, ℕ, ◌+◌, Bool, true, false, List, [], ◌∷◌, ◌++◌, Some, None}
 use Rattle.lsm_log.specs.declared.gathered.Gathered.{Gathered}
 use Rattle.lsm_codec.specs.Map.{Operation}
 use Rattle.lsm_codec.specs.LogSectors.{part_of}
@@ -13,6 +13,22 @@ batches_with g rest = g.batches.items ++ map_while batch_of (texts_from g.epoch 
 -- how many of the sectors to come are awaited
 abbrev pub awaited_in : {A : Type 0} → Gathered A → List (List ℕ) → ℕ
 awaited_in g rest = awaited_from g.epoch g.number g.part g.parts g.text.items (map_while part_of rest)
+
+-- one batch more is read, that of the text, and the first part of the next one is awaited
+pub record IsOneMore {A : Type 0} (old new : Gathered A) : Type 0 where
+  pub batch : List Operation
+  pub is : batch_of old.text.items ≡ Some batch
+  pub batches : new.batches.items ≡ old.batches.items ++ batch ∷ []
+  pub epoch : new.epoch ≡ old.epoch
+  pub number : new.number ≡ old.number + 1
+  pub part : new.part ≡ 0
+  pub parts : new.parts ≡ 0
+  pub text : new.text.items ≡ []
+
+-- All parts of a batch are read. Whether their text is a batch's: if so, it is one batch more.
+abbrev pub HasEnded : {A : Type 0} → Bool → Gathered A → Gathered A → Type 0
+HasEnded true old new = IsOneMore old new
+HasEnded false old new = (batch_of old.text.items ≡ None) × (new.batches.items ≡ old.batches.items)
 
 -- Whether the sector was the awaited one. If so, it is read; if not, the replay ends before it, whatever follows.
 abbrev pub HasTaken : {A : Type 0} → Bool → List ℕ → Gathered A → Gathered A → Type 0

@@ -59,20 +59,20 @@ impl Log {
 
         // Where the log goes with its region, a crash at any moment leaves all batches that stand, and of the others and
         // this one a beginning.
-        ensures any_moment { let old = disk (D.medium device.old) in IsTrue (D.medium device.old).tells → IsOpen self.old (disk (D.medium device.old)) → EachSince
+        ensures any_moment { let old = disk (D.medium device.old) in IsTrue (D.medium device.old).lasting.tells → IsOpen self.old (disk (D.medium device.old)) → EachSince
             (Leaves (λ image. IsBetween (batches_in self.old old.stands) (batches_in self.old (seen old) ++ batch.now ∷ []) (batches_in self.old image)))
             (D.medium device.old).history (D.medium device.new).history }
 
         // Nothing but sectors of the log's epoch is written, and only within the region.
-        ensures written { IsTrue (D.medium device.old).tells → IsOpen self.old (disk (D.medium device.old)) → EachSince (IsGrownBy self.old (disk (D.medium device.old)))
+        ensures written { IsTrue (D.medium device.old).lasting.tells → IsOpen self.old (disk (D.medium device.old)) → EachSince (IsGrownBy self.old (disk (D.medium device.old)))
             (D.medium device.old).history (D.medium device.new).history }
 
         // Reads give this batch behind the others, and what stands is the same.
-        ensures open { IsTrue (D.medium device.old).tells → IsOpen self.old (disk (D.medium device.old)) → OnOk result (IsOpen self.new (disk (D.medium device.new))) }
-        ensures appended { IsTrue (D.medium device.old).tells → IsOpen self.old (disk (D.medium device.old)) → OnOk result
+        ensures open { IsTrue (D.medium device.old).lasting.tells → IsOpen self.old (disk (D.medium device.old)) → OnOk result (IsOpen self.new (disk (D.medium device.new))) }
+        ensures appended { IsTrue (D.medium device.old).lasting.tells → IsOpen self.old (disk (D.medium device.old)) → OnOk result
             (batches_in self.new (seen (disk (D.medium device.new)))
             ≡ batches_in self.old (seen (disk (D.medium device.old))) ++ batch.now ∷ []) }
-        ensures stands { IsTrue (D.medium device.old).tells → IsOpen self.old (disk (D.medium device.old)) → OnOk result
+        ensures stands { IsTrue (D.medium device.old).lasting.tells → IsOpen self.old (disk (D.medium device.old)) → OnOk result
             (batches_in self.new (disk (D.medium device.new)).stands ≡ batches_in self.old (disk (D.medium device.old)).stands) }
         ensures takes { OnOk result (TakesBatch batch.now self.old self.new) }
 
@@ -88,7 +88,7 @@ impl Log {
         ensures calls { AtMost 0 (sectors_of batch.now) 0 (D.medium device.old).calls (D.medium device.new).calls }
         ensures few { sectors_of batch.now ≤ 128 }
         ensures same_size { (D.medium device.new).size ≡ (D.medium device.old).size }
-        ensures same_tells { (D.medium device.new).tells ≡ (D.medium device.old).tells }
+        ensures same_lasting { (D.medium device.new).lasting ≡ (D.medium device.old).lasting }
     {
         let parts = sectors_of(batch);
         if self.room() < parts {
@@ -113,16 +113,16 @@ impl Log {
         requires count { parts ≡ sectors_of batch.now }
         requires room { self.now.used + parts ≤ self.now.sectors }
         requires within { self.now.start + self.now.sectors ≤ (D.medium device.old).size }
-        ensures moments { IsTrue (D.medium device.old).tells → EachSince
+        ensures moments { IsTrue (D.medium device.old).lasting.tells → EachSince
             (HasSomeOf (disk (D.medium device.old)) (run_at (self.now.start + self.now.used) (batch_sectors self.now.epoch self.now.next batch.now)))
             (D.medium device.old).history (D.medium device.new).history }
-        ensures whole { IsTrue (D.medium device.old).tells → OnOk result
+        ensures whole { IsTrue (D.medium device.old).lasting.tells → OnOk result
             (disk (D.medium device.new) ≡ grown (run_at (self.now.start + self.now.used) (batch_sectors self.now.epoch self.now.next batch.now)) (disk (D.medium device.old))) }
         ensures faults { (D.medium device.new).calls.faults ≡ faults_after (is_ok result) (D.medium device.old).calls.faults }
         ensures last { OnErr result ((D.medium device.new).calls.last_faulted ≡ true) }
         ensures calls { AtMost 0 parts 0 (D.medium device.old).calls (D.medium device.new).calls }
         ensures same_size { (D.medium device.new).size ≡ (D.medium device.old).size }
-        ensures same_tells { (D.medium device.new).tells ≡ (D.medium device.old).tells }
+        ensures same_lasting { (D.medium device.new).lasting ≡ (D.medium device.old).lasting }
     {
         for part in 0..parts {
             let sector = self.sector_of_part(text, part, parts);

@@ -1,12 +1,12 @@
 // The batches of a region are read back.
-ghost use Rattle.std.specs.Prelude.{◌≡◌, ◌⊎◌, ◌<◌, ◌≤◌, ◌^◌, ◌+◌, List, ℕ, length, true, IsTrue, IfOk, IfErr, option_map};
+ghost use Rattle.std.specs.Prelude.{◌≡◌, ◌⊎◌, ◌<◌, ◌≤◌, ◌^◌, ◌+◌, List, ℕ, length, true, Some, slice_get, IsTrue, IfOk, OnOk, IfErr, option_map};
 ghost use Rattle.lsm_codec.specs.LogSectors.{lent_part};
 ghost use Rattle.lsm_device.specs.Areas.{area};
 ghost use Rattle.lsm_device.specs.Calls.{AtMost, faults_after};
 ghost use Rattle.lsm_device.specs.Disk.{seen};
 ghost use Rattle.lsm_device.specs.Medium.{disk};
 ghost use Rattle.lsm_device.specs.Refusals.{faultless};
-ghost use Rattle.lsm_log.specs.Gathered.{HasTaken};
+ghost use Rattle.lsm_log.specs.Gathered.{batches_with, awaited_in, HasEnded, HasTaken};
 ghost use Rattle.lsm_log.specs.Longest.{IsLongest};
 ghost use Rattle.lsm_log.specs.Opened.{AreNumbers};
 ghost use Rattle.lsm_log.specs.Replay.{is_awaited as is_awaited_part, awaited, replay as replay_of};
@@ -14,7 +14,7 @@ ghost use Rattle.lsm_log.specs.Replay.{is_awaited as is_awaited_part, awaited, r
 use crate::gathered::Gathered;
 use lsm_codec::{Batch, LogSector};
 use lsm_device::{Device, Refusal};
-use std::alloc::Allocator;
+use std::alloc::{AllocError, Allocator};
 
 impl<A: Allocator + Clone> Gathered<A> {
     fn is_awaited(&self, sector: &LogSector) -> bool
@@ -25,7 +25,42 @@ impl<A: Allocator + Clone> Gathered<A> {
                 && (sector.part == self.part && (self.part == 0 || sector.parts == self.parts)))
     }
 
-    // Reads the sector if it is the awaited one.
+    // No batch is read yet, and the first part of the first batch is awaited.
+    fn new(alloc: &A, epoch: u64, first: u64) -> Result<Gathered<A>, AllocError>
+        ensures begins { IfOk result (λ g. (sectors : List (List ℕ)) → (batches_with g sectors ≡ replay_of epoch first sectors)
+            × (awaited_in g sectors ≡ awaited epoch first sectors)) }
+        ensures first { IfOk result (λ g. g.first ≡ first) }
+    {
+        Ok(Gathered {
+            epoch,
+            first,
+            batches: Vec::new(alloc.clone()?),
+            number: first,
+            part: 0,
+            parts: 0,
+            text: Vec::new(alloc.clone()?),
+        })
+    }
+
+    // All parts of a batch are read: it joins the others, unless their text is no batch's.
+    fn end_batch(&mut self, alloc: &A) -> Result<bool, Refusal>
+        requires { self.old.number ≤ 2 ^ 63 }
+        ensures ended { IfOk result (λ ended. HasEnded ended self.old self.new) }
+        ensures same_first { self.new.first ≡ self.old.first }
+        ensures refused { IfErr result (λ refusal. refusal ≡ Refusal.NoMemory) }
+    {
+        let Some(batch) = Batch::decode(alloc.clone()?, &self.text)? else {
+            return Ok(false); // It is damaged.
+        };
+        self.batches.push(batch)?;
+        self.number += 1;
+        self.part = 0;
+        self.parts = 0;
+        self.text.clear();
+        Ok(true)
+    }
+
+    // Takes the sector if it is the awaited one.
     fn take(&mut self, alloc: &A, bytes: &[u8; 512]) -> Result<bool, Refusal>
         ensures taken { IfOk result (λ taken. HasTaken taken bytes.now self.old self.new) }
         ensures same_first { self.new.first ≡ self.old.first }
@@ -38,20 +73,62 @@ impl<A: Allocator + Clone> Gathered<A> {
             return Ok(false);
         }
         self.text.extend_from_slice(sector.payload)?;
-        if sector.part + 1 < sector.parts {
-            self.part = sector.part + 1;
-            self.parts = sector.parts;
-            return Ok(true);
+        if sector.part + 1 == sector.parts {
+            return Ok(self.end_batch(alloc)?);
         }
-        let Some(batch) = Batch::decode(alloc.clone()?, &self.text)? else {
-            return Ok(false);
-        };
-        self.batches.push(batch)?;
-        self.number += 1;
-        self.part = 0;
-        self.parts = 0;
-        self.text.clear();
+        self.part = sector.part + 1;
+        self.parts = sector.parts;
         Ok(true)
+    }
+
+    // Reads a sector, and takes it if it is the awaited one.
+    fn read<D: Device>(&mut self, alloc: &A, device: &mut D, at: u32) -> Result<bool, Refusal>
+        requires { at < (D.medium device.old).size }
+        ensures taken { IsTrue (D.medium device.old).lasting.tells → IfOk result (λ taken. (bytes : List ℕ)
+            × (slice_get (seen (disk (D.medium device.old))) at ≡ Some bytes) × HasTaken taken bytes self.old self.new) }
+        ensures same_first { self.new.first ≡ self.old.first }
+        ensures refused { IfErr result (λ refusal. (refusal ≡ Refusal.NoMemory)
+            ⊎ ((refusal ≡ Refusal.Io) × ((D.medium device.new).calls.last_faulted ≡ true))) }
+        ensures faults { (D.medium device.new).calls.faults ≡ faults_after (faultless result) (D.medium device.old).calls.faults }
+        ensures calls { AtMost 1 0 0 (D.medium device.old).calls (D.medium device.new).calls }
+        ensures unchanged { IsTrue (D.medium device.old).lasting.tells → (D.medium device.new).history ≡ (D.medium device.old).history }
+        ensures same_size { (D.medium device.new).size ≡ (D.medium device.old).size }
+        ensures same_lasting { (D.medium device.new).lasting ≡ (D.medium device.old).lasting }
+    {
+        let mut bytes = [0; 512];
+        device.read(at, &mut bytes)?;
+        Ok(self.take(alloc, &bytes)?)
+    }
+
+    // Reads sectors from the first on, up to the first that is not the awaited one.
+    fn read_region<D: Device>(
+        &mut self,
+        alloc: &A,
+        device: &mut D,
+        start: u32,
+        sectors: u32,
+    ) -> Result<(), Refusal>
+        requires { start + sectors ≤ (D.medium device.old).size }
+        ensures read { IsTrue (D.medium device.old).lasting.tells → OnOk result
+            (self.new.batches.items ≡ batches_with self.old (area start sectors (seen (disk (D.medium device.old))))) }
+        ensures same_first { self.new.first ≡ self.old.first }
+        ensures refused { IfErr result (λ refusal. (refusal ≡ Refusal.NoMemory)
+            ⊎ ((refusal ≡ Refusal.Io) × ((D.medium device.new).calls.last_faulted ≡ true))) }
+        ensures faults { (D.medium device.new).calls.faults ≡ faults_after (faultless result) (D.medium device.old).calls.faults }
+        ensures calls { AtMost sectors 0 0 (D.medium device.old).calls (D.medium device.new).calls }
+        ensures reads { IsTrue (D.medium device.old).lasting.tells
+            → AtMost (awaited_in self.old (area start sectors (seen (disk (D.medium device.old)))) + 1) 0 0
+            (D.medium device.old).calls (D.medium device.new).calls }
+        ensures unchanged { IsTrue (D.medium device.old).lasting.tells → (D.medium device.new).history ≡ (D.medium device.old).history }
+        ensures same_size { (D.medium device.new).size ≡ (D.medium device.old).size }
+        ensures same_lasting { (D.medium device.new).lasting ≡ (D.medium device.old).lasting }
+    {
+        for at in start..start + sectors {
+            if !self.read(alloc, device, at)? {
+                return Ok(());
+            }
+        }
+        Ok(())
     }
 }
 
@@ -66,7 +143,7 @@ pub fn replay<D: Device, A: Allocator + Clone>(
     first: u64,
 ) -> Result<Vec<Batch<A>, A>, Refusal>
     requires { start + sectors ≤ (D.medium device.old).size }
-    ensures replayed { IsTrue (D.medium device.old).tells → IfOk result (λ batches.
+    ensures replayed { IsTrue (D.medium device.old).lasting.tells → IfOk result (λ batches.
         batches.items ≡ replay_of epoch first (area start sectors (seen (disk (D.medium device.old))))) }
 
     // The last batch has a number that a batch may have.
@@ -79,29 +156,15 @@ pub fn replay<D: Device, A: Allocator + Clone>(
 
     // It reads the awaited sectors and at most one more, and nothing else is done to the device.
     ensures calls { AtMost sectors 0 0 (D.medium device.old).calls (D.medium device.new).calls }
-    ensures reads { IsTrue (D.medium device.old).tells
+    ensures reads { IsTrue (D.medium device.old).lasting.tells
         → AtMost (awaited epoch first (area start sectors (seen (disk (D.medium device.old)))) + 1) 0 0
         (D.medium device.old).calls (D.medium device.new).calls }
-    ensures unchanged { IsTrue (D.medium device.old).tells → (D.medium device.new).history ≡ (D.medium device.old).history }
+    ensures unchanged { IsTrue (D.medium device.old).lasting.tells → (D.medium device.new).history ≡ (D.medium device.old).history }
     ensures same_size { (D.medium device.new).size ≡ (D.medium device.old).size }
-    ensures same_tells { (D.medium device.new).tells ≡ (D.medium device.old).tells }
+    ensures same_lasting { (D.medium device.new).lasting ≡ (D.medium device.old).lasting }
 {
-    let mut gathered = Gathered {
-        epoch,
-        first,
-        batches: Vec::new(alloc.clone()?),
-        number: first,
-        part: 0,
-        parts: 0,
-        text: Vec::new(alloc.clone()?),
-    };
-    let mut bytes = [0; 512];
-    for at in start..start + sectors {
-        device.read(at, &mut bytes)?;
-        if !gathered.take(&alloc, &bytes)? {
-            return Ok(gathered.batches);
-        }
-    }
+    let mut gathered = Gathered::new(&alloc, epoch, first)?;
+    gathered.read_region(&alloc, device, start, sectors)?;
     Ok(gathered.batches)
 }
 

@@ -1,5 +1,5 @@
 -- Versions in the order of entries, and those of a batch put among them.
-use Rattle.std.specs.Prelude.{ℕ, List, [], ◌∷◌}
+use Rattle.std.specs.Prelude.{ℕ, ◌+◌, List, [], ◌∷◌}
 use Rattle.std.specs.declared.cmp.Ordering.{Ordering}
 use Rattle.std.specs.Ordering.{nat_cmp, ordering_then}
 use Rattle.std.specs.FinMap.Entries.{by_order}
@@ -24,3 +24,8 @@ version_by number operation = record { key = operation.key; number = number; val
 abbrev pub with_batch : ℕ → List Operation → List Version → List Version
 with_batch number [] versions = versions
 with_batch number (operation ∷ rest) versions = with_batch number rest (placed (version_by number operation) versions)
+
+-- versions with those of batches, the first of which has the number behind n
+abbrev pub with_batches : ℕ → List (List Operation) → List Version → List Version
+with_batches n [] versions = versions
+with_batches n (batch ∷ rest) versions = with_batches (n + 1) rest (with_batch (n + 1) batch versions)

@@ -6,7 +6,7 @@ use Rattle.std.proofs.lemmas.List.Elements.{All-nil, All-cons}
 use Rattle.lsm_codec.specs.declared.log_record.LogRecord.{LogRecord}
 use Rattle.lsm_codec.specs.Map.{Operation}
 use Rattle.lsm_open.specs.Image.{batches_at, all_batches, follow_on, one_if_some, regions_with_batches}
-use Rattle.lsm_open.specs.Reopening.{kept_before, with_batches}
+use Rattle.lsm_open.specs.Reopening.{kept_before, kept_records}
 
 abbrev Sectors : Type 0
 Sectors = List (List ℕ)
@@ -39,36 +39,36 @@ module _ (n : ℕ) (s : Sectors) where
   kept_batches [] r rest is = refl
   kept_batches (b ∷ bs) r rest is = ap (λ (l : Batches). l ++ all_batches n s rest) is
 
-  pub same_batches : (logs : List LogRecord) → all_batches n s (with_batches n s logs) ≡ all_batches n s logs
+  pub same_batches : (logs : List LogRecord) → all_batches n s (kept_records n s logs) ≡ all_batches n s logs
   same_batches [] = refl
-  same_batches (r ∷ rest) = kept_batches (batches_at n s r) r (with_batches n s rest) refl ∙ ap (λ (l : Batches). batches_at n s r ++ l) (same_batches rest)
+  same_batches (r ∷ rest) = kept_batches (batches_at n s r) r (kept_records n s rest) refl ∙ ap (λ (l : Batches). batches_at n s r ++ l) (same_batches rest)
 
   kept_regions : (bs : Batches) (r : LogRecord) (rest : List LogRecord) → batches_at n s r ≡ bs → regions_with_batches n s (kept_before bs r rest) ≡ one_if_some bs + regions_with_batches n s rest
   kept_regions [] r rest is = omega arith
   kept_regions (b ∷ bs) r rest is = ap (λ (l : Batches). one_if_some l + regions_with_batches n s rest) is
 
-  pub same_regions : (logs : List LogRecord) → regions_with_batches n s (with_batches n s logs) ≡ regions_with_batches n s logs
+  pub same_regions : (logs : List LogRecord) → regions_with_batches n s (kept_records n s logs) ≡ regions_with_batches n s logs
   same_regions [] = refl
-  same_regions (r ∷ rest) = kept_regions (batches_at n s r) r (with_batches n s rest) refl ∙ ap (λ (k : ℕ). one_if_some (batches_at n s r) + k) (same_regions rest)
+  same_regions (r ∷ rest) = kept_regions (batches_at n s r) r (kept_records n s rest) refl ∙ ap (λ (k : ℕ). one_if_some (batches_at n s r) + k) (same_regions rest)
 
   kept_length : (bs : Batches) (r : LogRecord) (rest : List LogRecord) → length (kept_before bs r rest) ≡ one_if_some bs + length rest
   kept_length [] r rest = omega arith
   kept_length (b ∷ bs) r rest = omega arith
 
-  pub count_kept : (logs : List LogRecord) → length (with_batches n s logs) ≡ regions_with_batches n s logs
+  pub count_kept : (logs : List LogRecord) → length (kept_records n s logs) ≡ regions_with_batches n s logs
   count_kept [] = refl
-  count_kept (r ∷ rest) = let later = count_kept rest in omega (arith, later, kept_length (batches_at n s r) r (with_batches n s rest))
+  count_kept (r ∷ rest) = let later = count_kept rest in omega (arith, later, kept_length (batches_at n s r) r (kept_records n s rest))
 
   kept_follow : (k : ℕ) (bs : Batches) (r : LogRecord) (rest : List LogRecord) → batches_at n s r ≡ bs → (r.first_batch == k) ≡ true → follow_on n s (k + length bs) rest ≡ true → follow_on n s k (kept_before bs r rest) ≡ true
   kept_follow k [] r rest is first next = let same : k + 0 ≡ k = omega arith in subst (λ (m : ℕ). follow_on n s m rest ≡ true) same next
   kept_follow k (b ∷ bs) r rest is first next =
       ap (λ (t : Bool). t && follow_on n s (k + length (batches_at n s r)) rest) first ∙ subst (λ (l : Batches). follow_on n s (k + length l) rest ≡ true) (sym is) next
 
-  pub same_follow : (k : ℕ) (logs : List LogRecord) → follow_on n s k logs ≡ true → follow_on n s k (with_batches n s logs) ≡ true
+  pub same_follow : (k : ℕ) (logs : List LogRecord) → follow_on n s k logs ≡ true → follow_on n s k (kept_records n s logs) ≡ true
   same_follow k [] follows = refl
   same_follow k (r ∷ rest) follows =
       let both = and_parts (r.first_batch == k) (follow_on n s (k + length (batches_at n s r)) rest) follows in
-      kept_follow k (batches_at n s r) r (with_batches n s rest) refl both.0 (same_follow (k + length (batches_at n s r)) rest both.1)
+      kept_follow k (batches_at n s r) r (kept_records n s rest) refl both.0 (same_follow (k + length (batches_at n s r)) rest both.1)
 
   abbrev pub Holds : LogRecord → Type 0
   Holds r = 1 ≤ length (batches_at n s r)
@@ -77,9 +77,9 @@ module _ (n : ℕ) (s : Sectors) where
   kept_hold [] r rest is all = all
   kept_hold (b ∷ bs) r rest is all = All-cons Holds r rest (omega (arith, ap length is)) all
 
-  pub all_hold : (logs : List LogRecord) → All Holds (with_batches n s logs)
+  pub all_hold : (logs : List LogRecord) → All Holds (kept_records n s logs)
   all_hold [] = All-nil Holds
-  all_hold (r ∷ rest) = kept_hold (batches_at n s r) r (with_batches n s rest) refl (all_hold rest)
+  all_hold (r ∷ rest) = kept_hold (batches_at n s r) r (kept_records n s rest) refl (all_hold rest)
 
 -- ---- regions that replay to the same in other sectors
 

@@ -7,3 +7,5 @@ pub mod Recovering
 pub mod OpeningMoments
 pub mod Zeroed
 pub mod EmptyStores
+pub mod OpeningRefusals
+pub mod CountedCalls

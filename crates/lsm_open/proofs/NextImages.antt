@@ -16,7 +16,7 @@ use Rattle.lsm_log.proofs.Epochs.{later_is_free, none_above_more}
 use Rattle.lsm_log.proofs.Logs.{none_read}
 use Rattle.lsm_open.specs.CrashState.{CrashState, in_next_generation}
 use Rattle.lsm_open.specs.Image.{first_region, region_start, batches_at, all_batches, follow_on, one_if_some, regions_with_batches, left_in, image_by, image_of, IsImage}
-use Rattle.lsm_open.specs.Reopening.{with_batches, is_free, least_free, new_records, next_contents}
+use Rattle.lsm_open.specs.Reopening.{kept_records, is_free, least_free, new_records, next_contents}
 use Rattle.lsm_open.proofs.KeptRecords.{all_batches-append, regions-append, follow_on-append, same_batches, same_regions, same_follow, batches_agree, regions_agree, follow_agree}
 use Rattle.lsm_root.specs.Roots.{Root, Missing, Damaged, OtherSize, Unreadable, Stands, root_of}
 
@@ -127,7 +127,7 @@ least_low closed region is = by (is_free 0 closed) (is_free 1 closed) (is_free 2
     by false false true e = let same : 2 ≡ region = ap (λ (o : Option ℕ). unwrap_or o 3) e in omega (arith, same)
     by false false false e = absurd (cc)
 
-module _ (n : ℕ) (m : Contents) (count : ℕ) (closed : List LogRecord) (s : Sectors) (kept : closed ≡ with_batches n s m.logs) (counts : count ≡ m.base + length (all_batches n s m.logs)) (follows : follow_on n s (m.base + 1) m.logs ≡ true) where
+module _ (n : ℕ) (m : Contents) (count : ℕ) (closed : List LogRecord) (s : Sectors) (kept : closed ≡ kept_records n s m.logs) (counts : count ≡ m.base + length (all_batches n s m.logs)) (follows : follow_on n s (m.base + 1) m.logs ≡ true) where
   -- the kept regions follow on
   closed_follows : follow_on n s (m.base + 1) closed ≡ true
   closed_follows = subst (λ (logs : List LogRecord). follow_on n s (m.base + 1) logs ≡ true) (sym kept) (same_follow n s (m.base + 1) m.logs follows)
@@ -145,7 +145,7 @@ module _ (n : ℕ) (m : Contents) (count : ℕ) (closed : List LogRecord) (s : S
 
 -- ---- an image with the next manifest
 
-module _ (n : ℕ) (left : CrashState) (s i : Sectors) (m : Contents) (closed : List LogRecord) (is : IsImage n left s) (stands : StandsFor n left s m) (kept : closed ≡ with_batches n s m.logs) (inside : first_region + 3 * n ≤ length i) (behind : drop 130 i ≡ drop 130 s) where
+module _ (n : ℕ) (left : CrashState) (s i : Sectors) (m : Contents) (closed : List LogRecord) (is : IsImage n left s) (stands : StandsFor n left s m) (kept : closed ≡ kept_records n s m.logs) (inside : first_region + 3 * n ≤ length i) (behind : drop 130 i ≡ drop 130 s) where
   pub counts : left.count ≡ m.base + length (all_batches n s m.logs)
   counts = ap (λ (x : CrashState). x.count) stands.left_is
 

@@ -1,7 +1,7 @@
 -- From what the calls of an opening promise to what it leaves at each moment, and to what it answers.
-use Rattle.std.proofs.Common.{◌≡◌, ◌≢◌, ◌⊎◌, inl, inr, ⊎_elim, ℕ, suc, ◌+◌, ◌*◌, ◌≤◌, ◌==◌, leb, Bool, true, false, cond, List, [], length, replicate, Some, None, refl, sym, ◌∙◌, ap, subst, arith}
+use Rattle.std.proofs.Common.{◌≡◌, ◌≢◌, ◌⊎◌, inl, inr, ℕ, suc, ◌+◌, ◌*◌, ◌≤◌, ◌==◌, Bool, true, false, cond, List, [], length, drop, replicate, Some, None, refl, sym, ◌∙◌, ap, subst, arith}
 use Rattle.std.specs.Prelude.{Option, option_map, unwrap_or}
-use Rattle.std.proofs.lemmas.Bool.{eqb-true, cond-true, and_cases, leb-false}
+use Rattle.std.proofs.lemmas.Bool.{eqb-true, cond-true}
 use Rattle.std.proofs.lemmas.List.{append-nil}
 use Rattle.lsm_codec.specs.declared.log_record.LogRecord.{LogRecord}
 use Rattle.lsm_codec.specs.Manifests.{Contents, IsManifest}
@@ -10,17 +10,20 @@ use Rattle.lsm_device.specs.History.{present, Becomes, EachSince}
 use Rattle.lsm_device.specs.Medium.{Medium, disk}
 use Rattle.lsm_device.specs.Outcomes.{Leaves}
 use Rattle.lsm_device.specs.declared.refusal.Refusal.{Refusal}
-use Rattle.lsm_device.specs.declared.refusal.Refusal.TheVariants.{NoMemory, Io, Exhausted}
-use Rattle.lsm_device.proofs.Moments.{now_is, unchanged, became, joined, weaker, ended}
+use Rattle.lsm_device.specs.declared.refusal.Refusal.TheVariants.{NoMemory, Io, BadGeometry, Exhausted}
+use Rattle.lsm_device.proofs.Moments.{now_is, unchanged, weaker, ended}
 use Rattle.lsm_device.proofs.Outcomes.{seen_outcome}
+use Rattle.lsm_codec.specs.Map.{Operation}
+use Rattle.lsm_mem.specs.EntryOrder.{with_batches}
+use Rattle.lsm_mem.proofs.Replays.{map_of-with_batches}
 use Rattle.lsm_mem.specs.Versions.{Version, NumberedBelow, map_of}
 use Rattle.lsm_open.specs.Answered.{IsInsideIfOpen, IsWithin}
 use Rattle.lsm_open.specs.CrashState.{CrashState, last_number, left_by_opening, MayRefuseOpening}
-use Rattle.lsm_open.specs.Image.{first_region, IsImage, IsImageOfOne}
+use Rattle.lsm_open.specs.Image.{first_region, all_batches, IsImage, IsImageOfOne}
 use Rattle.lsm_open.specs.Layout.{Layout, manifest_for}
-use Rattle.lsm_open.specs.Opening.{is_device_size, root_refusal, opening_refusal, IsLeftInOpening, CrashesInOpening, FailsToOpen}
-use Rattle.lsm_open.specs.Recovered.{IsRecovered}
-use Rattle.lsm_open.specs.Reopening.{with_batches, least_free, next_contents, IsNewLog, IsNewIfOpen, IsNextLayout, HasCome, GoesOn}
+use Rattle.lsm_open.specs.Opening.{root_refusal, opening_refusal, CrashesInOpening, FailsToOpen}
+use Rattle.lsm_open.specs.Recovered.{IsReopened, IsRecovered}
+use Rattle.lsm_open.specs.Reopening.{kept_records, least_free, next_contents, IsNewLog, IsNewIfOpen, IsNextLayout, HasCome, GoesOn}
 use Rattle.lsm_open.specs.declared.regions.OpenRegion.{OpenRegion}
 use Rattle.lsm_open.specs.declared.replayed.Replayed.{Replayed}
 use Rattle.lsm_open.proofs.NextImages.{StandsFor, stands_here, manifest_of_image, least_low}
@@ -28,7 +31,7 @@ use Rattle.lsm_open.proofs.NextManifests.{closed_few, next_fits}
 use Rattle.lsm_open.proofs.Openings.{same_again}
 use Rattle.lsm_open.proofs.Recovering.{layout_says, left_at, recovered}
 use Rattle.lsm_root.specs.Installed.{IsOldOrNew, IsInstalled}
-use Rattle.lsm_root.specs.Layout.{IsGeometry}
+use Rattle.lsm_root.specs.Layout.{IsDeviceSize, IsGeometry}
 use Rattle.lsm_root.specs.Roots.{Stands, root_of}
 use Rattle.std.proofs.Math.Nat.{mul-le-mul_right}
 
@@ -56,7 +59,7 @@ installs n count g b t m manifest closed given o is generation base table same l
 -- ---- the regions lie inside each device of a fair size
 
 pub regions_inside : (size n : ℕ) → IsGeometry size n → first_region + 3 * n ≤ size
-regions_inside size n is = omega (arith, is.log_high, is.sectors_low)
+regions_inside size n is = omega (arith, is.log_high, is.device.low)
 
 -- ---- at rest
 
@@ -83,14 +86,20 @@ module _ {A : Type 0} (n k : ℕ) (left : CrashState) (m : Contents) (replayed :
   stands : StandsFor k left (seen (present old)) m
   stands = subst (λ (j : ℕ). StandsFor j left (seen (present old)) m) (sym here.0) here.1
 
-  kept : replayed.closed.items ≡ with_batches k (seen (present old)) m.logs
+  kept : replayed.closed.items ≡ kept_records k (seen (present old)) m.logs
   kept = sym (goes.kept ∙ append-nil replayed.closed.items)
 
   count_is : replayed.count ≡ left.count
   count_is = let said = ap (λ (x : CrashState). x.count) stands.left_is in omega (arith, said, goes.counts)
 
   remembers : map_of replayed.mem left.count ≡ left.map
-  remembers = ap (map_of replayed.mem) (sym count_is) ∙ sym goes.map ∙ sym (ap (λ (x : CrashState). x.map) stands.left_is)
+  remembers =
+      let all : List (List Operation) = all_batches k (seen (present old)) m.logs in
+      let counted : left.count ≡ m.base + length all = ap (λ (x : CrashState). x.count) stands.left_is in
+      ap (λ (vs : List Version). map_of vs left.count) (sym goes.versions)
+      ∙ ap (map_of (with_batches m.base all [])) counted
+      ∙ map_of-with_batches m.base all [] tt
+      ∙ sym (ap (λ (x : CrashState). x.map) stands.left_is)
 
   left_has_next : left.generation ≢ last_number
   left_has_next = λ e. has_next (sym (ap (λ (x : CrashState). x.generation) stands.left_is) ∙ e)
@@ -119,7 +128,7 @@ module _ {A : Type 0} (n k : ℕ) (left : CrashState) (m : Contents) (replayed :
       let size : k ≡ l.log_sectors = sym next.log_size in
       let next_here : IsNextLayout l.log_sectors m left.count l = subst (λ (j : ℕ). IsNextLayout j m left.count l) size (subst (λ (c : ℕ). IsNextLayout k m c l) count_is next) in
       let come_here : HasCome m left.count l.closed [] = subst (λ (ls : List LogRecord). HasCome m left.count ls []) (sym same) (subst (λ (c : ℕ). HasCome m c replayed.closed.items []) count_is come) in
-      let kept_here : l.closed ≡ with_batches l.log_sectors s m.logs = same ∙ kept ∙ ap (λ (j : ℕ). with_batches j s m.logs) size in
+      let kept_here : l.closed ≡ kept_records l.log_sectors s m.logs = same ∙ kept ∙ ap (λ (j : ℕ). kept_records j s m.logs) size in
       let root_here : root_of d.stands ≡ Stands l.log_sectors (next_contents m l.closed left.count) =
       installed.stands.root ∙ ap (λ (c : ℕ). Stands k (next_contents m replayed.closed.items c)) count_is ∙ ap (λ (ls : List LogRecord). Stands k (next_contents m ls left.count)) (sym same) ∙ ap (λ (j : ℕ). Stands j (next_contents m l.closed left.count)) size in
       let done : IsRecovered l.log_sectors left l left.count replayed.mem d =
@@ -127,6 +136,29 @@ module _ {A : Type 0} (n k : ℕ) (left : CrashState) (m : Contents) (replayed :
       (subst (λ (j : ℕ). 1 ≤ j) size some) (subst (λ (j : ℕ). first_region + 3 * j ≤ length s) size inside) left_has_next installed.settled root_here installed.stands.all
       remembers (subst (λ (c : ℕ). NumberedBelow (c + 1) replayed.mem) count_is numbered) in
       subst (λ (c : ℕ). IsRecovered n left l c replayed.mem d) (sym count_is) (subst (λ (j : ℕ). IsRecovered j left l left.count replayed.mem d) (sym size ∙ here.0) done)
+
+-- ---- what is reopened, whatever the device holds
+
+module _ {A : Type 0} (k : ℕ) (m : Contents) (replayed : Replayed A) (s : Sectors) (start d : Disk) (l : Layout) (root : root_of s ≡ Stands k m) (goes : GoesOn k s m replayed []) (next : IsNextLayout k m replayed.count l)
+    (same : l.closed ≡ replayed.closed.items) (is : seen start ≡ s) (installed : IsInstalled start (Stands k (next_contents m replayed.closed.items replayed.count)) d) where
+  size_is : k ≡ l.log_sectors
+  size_is = sym next.log_size
+
+  pub reopened : IsReopened s l replayed.count replayed.mem d
+  reopened = record {
+    manifest = m;
+    root = root ∙ ap (λ (j : ℕ). Stands j m) size_is;
+    layout = subst (λ (j : ℕ). IsNextLayout j m replayed.count l) size_is next;
+    closed = same ∙ sym (goes.kept ∙ append-nil replayed.closed.items) ∙ ap (λ (j : ℕ). kept_records j s m.logs) size_is;
+    counts = (let counted : replayed.count ≡ m.base + length (all_batches k s m.logs) = omega (arith, goes.counts) in counted) ∙ ap (λ (j : ℕ). m.base + length (all_batches j s m.logs)) size_is;
+    remembers = sym goes.versions ∙ ap (λ (j : ℕ). with_batches m.base (all_batches j s m.logs) []) size_is;
+    installed = installed.stands.root
+        ∙ ap (λ (ls : List LogRecord). Stands k (next_contents m ls replayed.count)) (sym same)
+        ∙ ap (λ (c : Contents). Stands k c) (sym (layout_says k m replayed.count l next))
+        ∙ ap (λ (j : ℕ). Stands j (manifest_for l)) size_is;
+    rests = installed.settled;
+    same_behind = installed.stands.all ∙ ap (drop 130) is;
+  }
 
 -- ---- within the limits, whatever the device holds
 
@@ -138,7 +170,7 @@ module _ (size k : ℕ) (m : Contents) (count : ℕ) (l : Layout) (geometry : Is
   log_low_here = omega (arith, next.log_size, geometry.log_low)
 
   inside_here : first_region + 3 * l.log_sectors ≤ size
-  inside_here = omega (arith, log_high_here, geometry.sectors_low)
+  inside_here = omega (arith, log_high_here, geometry.device.low)
 
   fits_here : IsManifest (manifest_for l)
   fits_here = subst IsManifest (sym (layout_says k m count l next)) (next_fits m count l.closed fits come has_next)
@@ -198,17 +230,10 @@ fair_refusal n left s refusal is (inr (inl e)) = subst (MayRefuseOpening left) (
 fair_refusal n left s refusal is (inr (inr e)) = subst (MayRefuseOpening left) (sym e) tt
 
 -- the size of a device that holds an image is within the limits
-no_size : (size : ℕ) → 8192 ≤ size → size ≤ 1048576 → is_device_size size ≡ false → ⊥
-no_size size low high is = ⊎_elim
-    (λ (h : leb 8192 size ≡ false). omega (arith, low, leb-false 8192 size h))
-    (λ (h : leb size 1048576 ≡ false). omega (arith, high, leb-false size 1048576 h))
-    (and_cases (leb 8192 size) (leb size 1048576) is)
-
-pub image_has_size : (n : ℕ) (left : CrashState) (s : Sectors) (size : ℕ) → IsImage n left s → length s ≡ size → ((i : Sectors) (log : ℕ) (m : Contents) → root_of i ≡ Stands log m → IsGeometry (length i) log × IsManifest m) → is_device_size size ≡ false → ⊥
-image_has_size n left s size is long laws small =
+pub image_has_size : (n : ℕ) (left : CrashState) (s : Sectors) (size : ℕ) → IsImage n left s → length s ≡ size → ((i : Sectors) (log : ℕ) (m : Contents) → root_of i ≡ Stands log m → IsGeometry (length i) log × IsManifest m) → IsDeviceSize size
+image_has_size n left s size is long laws =
     let there = manifest_of_image n left s is in
-    let geometry = (laws s n there.0 there.1.root).0 in
-    no_size size (omega (arith, long, geometry.sectors_low)) (omega (arith, long, geometry.sectors_high)) small
+    subst IsDeviceSize long (laws s n there.0 there.1.root).0.device
 
 module _ (before mid after : Medium) (n : ℕ) (left : CrashState) (is : IsImage n left (seen (disk before))) (begins : Becomes (synced (disk before)) before.history mid.history) where
   -- after its first sync the device rests
@@ -219,12 +244,7 @@ module _ (before mid after : Medium) (n : ℕ) (left : CrashState) (is : IsImage
   image_after = subst (λ (d : Disk). IsImage n left (seen d)) (sym (now_is (synced (disk before)) before.history mid.history begins)) is
 
   pub crashes : EachSince (Leaves (IsImageOfOne n (left_by_opening left))) mid.history after.history → CrashesInOpening before n left after
-  crashes each =
-      let P : Disk → Type 0 = Leaves (IsLeftInOpening before n left) in
-      let settled : Leaves (IsImageOfOne n (left_by_opening left)) (synced (disk before)) = rests_leave n left (synced (disk before)) refl is in
-      joined P before.history mid.history after.history
-      (became P (synced (disk before)) before.history mid.history begins (λ mask. inl (mask, refl)) (λ mask. inr (settled mask)))
-      (weaker (Leaves (IsImageOfOne n (left_by_opening left))) P mid.history after.history (λ d leaves mask. inr (leaves mask)) each)
+  crashes each = record { synced_history = mid.history; first_sync = begins; crash = each }
 
   pub fails : (refusal : Refusal) → (opening_refusal (seen (disk mid)) ≡ Some refusal) ⊎ ((refusal ≡ NoMemory) ⊎ (refusal ≡ Io)) → EachSince (Leaves (IsImageOfOne n (left_by_opening left))) mid.history after.history → FailsToOpen before n left refusal after
   fails refusal says each = record {
@@ -232,7 +252,7 @@ module _ (before mid after : Medium) (n : ℕ) (left : CrashState) (is : IsImage
     again =
         let all : List Bool = replicate (length (disk after).pending) true in
         subst (IsImageOfOne n (left_by_opening left)) (seen_outcome (disk after)) (ended (Leaves (IsImageOfOne n (left_by_opening left))) mid.history after.history each all);
-    crash = crashes each;
+    crash = inr (crashes each);
   }
 
 -- it failed in its first sync
@@ -240,5 +260,11 @@ pub fails_at_once : (before after : Medium) (n : ℕ) (left : CrashState) → Is
 fails_at_once before after n left is same = record {
   fair = tt;
   again = (left, same_again left, subst (λ (h : List Disk). IsImage n left (seen (present h))) (sym same) is);
-  crash = unchanged (Leaves (IsLeftInOpening before n left)) before.history after.history same (λ mask. inl (mask, refl));
+  crash = inl same;
 }
+
+-- it ended in its beginning
+pub begun_fails : (before after : Medium) (n : ℕ) (left : CrashState) (refusal : Refusal) → IsImage n left (seen (disk before)) → IsDeviceSize before.size
+    → ((refusal ≡ BadGeometry) × (IsDeviceSize before.size → ⊥)) ⊎ (refusal ≡ Io) → after.history ≡ before.history → FailsToOpen before n left refusal after
+begun_fails before after n left refusal is fair (inl small) same = absurd (small.1 fair)
+begun_fails before after n left refusal is fair (inr io) same = subst (λ (r : Refusal). FailsToOpen before n left r after) (sym io) (fails_at_once before after n left is same)

@@ -1,8 +1,8 @@
 -- What an opening makes of an image.
 use Rattle.std.proofs.Common.{◌≡◌, ◌≢◌, inl, inr, ℕ, ◌+◌, ◌*◌, ◌≤◌, ◌<◌, true, false, List, [], ◌∷◌, ◌++◌, length, drop, get_or, Some, None, refl, sym, ◌∙◌, ap, subst, arith, All}
-use Rattle.std.specs.Prelude.{Option, option_map}
+use Rattle.std.specs.Prelude.{◌↔◌, Option, option_map}
 use Rattle.std.specs.FinMap as finite
-use Rattle.std.proofs.lemmas.List.{length-drop}
+use Rattle.std.proofs.lemmas.List.{length-append, length-drop}
 use Rattle.std.proofs.lemmas.List.Elements.{All-nil}
 use Rattle.lsm_codec.specs.declared.log_record.LogRecord.{LogRecord}
 use Rattle.lsm_codec.specs.Manifests.{Contents, IsManifest}
@@ -17,11 +17,11 @@ use Rattle.lsm_open.specs.CrashState.{CrashState, last_number, in_next_generatio
 use Rattle.lsm_open.specs.Image.{first_region, region_start, batches_at, all_batches, follow_on, IsImage, IsImageOfOne}
 use Rattle.lsm_open.specs.Layout.{Layout, open_records, manifest_for, closed_batches, open_batches, IsOther, IsClosed, IsOpened, IsCarriedBy}
 use Rattle.lsm_open.specs.Recovered.{IsRecovered}
-use Rattle.lsm_open.specs.Reopening.{with_batches, least_free, new_records, next_contents, IsNewLog, IsNewIfOpen, IsNextLayout, HasCome}
+use Rattle.lsm_open.specs.Reopening.{kept_records, least_free, new_records, next_contents, IsNewLog, IsNewIfOpen, IsNextLayout, HasCome}
 use Rattle.lsm_open.specs.declared.regions.OpenRegion.{OpenRegion}
 use Rattle.lsm_open.proofs.KeptRecords.{count_kept, all_hold, Holds}
 use Rattle.lsm_open.proofs.NextImages.{StandsFor, free_for_next, least_low, batches_behind, same_image, counts, fresh_here, fresh_next, closed_agree, follows_here, next_image}
-use Rattle.lsm_open.proofs.NextManifests.{least_elsewhere, none_free, closed_few, closed_low}
+use Rattle.lsm_open.proofs.NextManifests.{least_elsewhere, none_free, closed_few, closed_low, next_fits}
 use Rattle.lsm_open.proofs.Openings.{same_again, next_again}
 use Rattle.lsm_root.specs.Installed.{IsOldOrNew}
 use Rattle.lsm_root.specs.Roots.{Stands, root_of}
@@ -55,7 +55,7 @@ layout_says n m count l next =
 
 -- ---- at each moment of the installation
 
-module _ (n : ℕ) (left : CrashState) (start : Disk) (m : Contents) (closed : List LogRecord) (is : IsImage n left (seen start)) (stands : StandsFor n left (seen start) m) (kept : closed ≡ with_batches n (seen start) m.logs)
+module _ (n : ℕ) (left : CrashState) (start : Disk) (m : Contents) (closed : List LogRecord) (is : IsImage n left (seen start)) (stands : StandsFor n left (seen start) m) (kept : closed ≡ kept_records n (seen start) m.logs)
     (rests : start.pending ≡ []) (some : 1 ≤ n) (inside : first_region + 3 * n ≤ length (seen start)) (has_next : left.generation ≢ last_number) where
   outcome_is : (c : Sectors) → IsOutcome start c → c ≡ seen start
   outcome_is c (mask, e) = e ∙ ap (λ (ws : List Write). image mask (record { stands = start.stands; pending = ws })) rests ∙ sym (ap (λ (ws : List Write). written start.stands ws) rests)
@@ -72,7 +72,7 @@ module _ (n : ℕ) (left : CrashState) (start : Disk) (m : Contents) (closed : L
 -- ---- after it
 
 module _ (left : CrashState) (s : Sectors) (m : Contents) (l : Layout) (versions : List Version) (d : Disk) (fits : IsManifest m) (is : IsImage l.log_sectors left s) (stands : StandsFor l.log_sectors left s m) (next : IsNextLayout l.log_sectors m left.count l)
-    (come : HasCome m left.count l.closed []) (kept : l.closed ≡ with_batches l.log_sectors s m.logs) (some : 1 ≤ l.log_sectors) (inside : first_region + 3 * l.log_sectors ≤ length s)
+    (come : HasCome m left.count l.closed []) (kept : l.closed ≡ kept_records l.log_sectors s m.logs) (some : 1 ≤ l.log_sectors) (inside : first_region + 3 * l.log_sectors ≤ length s)
     (has_next : left.generation ≢ last_number) (rests : d.pending ≡ []) (root : root_of d.stands ≡ Stands l.log_sectors (next_contents m l.closed left.count)) (behind : drop 130 d.stands ≡ drop 130 s) where
   inside_here : first_region + 3 * l.log_sectors ≤ length d.stands
   inside_here = inside_too l.log_sectors d.stands s some behind inside
@@ -121,7 +121,7 @@ module _ (left : CrashState) (s : Sectors) (m : Contents) (l : Layout) (versions
       below g e le ne is = omega arith
 
   opened_by : (o : Option OpenRegion) → l.open_region ≡ o → IsOpened l d o
-  opened_by None none = none_free l.closed (closed_few m left.count l.closed fits come) (sym next.least ∙ ap (option_map (λ (o : OpenRegion). o.region)) none)
+  opened_by None none = tt
   opened_by (Some o) open_is =
       let new = new_of o open_is in
       record {
@@ -131,6 +131,16 @@ module _ (left : CrashState) (s : Sectors) (m : Contents) (l : Layout) (versions
         epoch = omega (arith, new.epoch, next.generation);
         is_open = new_open o.log (numbers o open_is) new.used new.next d (free_now o open_is);
       }
+
+  -- no log is open exactly where all three regions are closed
+  few_with : (o : OpenRegion) → l.open_region ≡ Some o → length l.closed + 1 ≤ 3
+  few_with o open_is =
+      let logs : length (manifest_for l).logs ≤ 3 = (subst IsManifest (sym (layout_says l.log_sectors m left.count l next)) (next_fits m left.count l.closed fits come (λ e. has_next (generation_is ∙ e)))).numbers.logs in
+      omega (arith, logs, length-append l.closed (open_records l.open_region), ap (λ (k : Option OpenRegion). length (open_records k)) open_is)
+
+  closed_by : (o : Option OpenRegion) → l.open_region ≡ o → (l.open_region ≡ None) ↔ (length l.closed ≡ 3)
+  closed_by None none = (λ _. none_free l.closed (closed_few m left.count l.closed fits come) (sym next.least ∙ ap (option_map (λ (o : OpenRegion). o.region)) none), λ _. none)
+  closed_by (Some o) open_is = (λ none. absurd (let e : Some o ≡ None = sym open_is ∙ none in cc), λ full. absurd (omega (arith, few_with o open_is, full)))
 
   empty_by : (o : Option OpenRegion) → l.open_region ≡ o → open_batches o d.stands ≡ []
   empty_by None none = refl
@@ -183,6 +193,7 @@ module _ (left : CrashState) (s : Sectors) (m : Contents) (l : Layout) (versions
   pub recovered : map_of versions left.count ≡ left.map → NumberedBelow (left.count + 1) versions → IsRecovered l.log_sectors left l left.count versions d
   recovered remembers numbered = record {
     carried = carried;
+    all_closed = closed_by l.open_region refl;
     rests = rests;
     empty = empty_by l.open_region refl;
     log_size = refl;

@@ -1,24 +1,20 @@
 -- One region more, or one batch more, is replayed.
 use Rattle.std.proofs.Common.{◌≡◌, ◌≢◌, ℕ, ◌+◌, ◌≤◌, ◌&&◌, Bool, false, List, [], ◌∷◌, ◌++◌, length, refl, sym, ◌∙◌, ap, subst, arith, append_assoc}
-use Rattle.std.specs.FinMap as finite
 use Rattle.std.proofs.lemmas.Bool.{eq-eqb, ne_eqb}
 use Rattle.std.proofs.lemmas.List.{append-nil, length-append}
 use Rattle.lsm_codec.specs.declared.log_record.LogRecord.{LogRecord}
 use Rattle.lsm_codec.specs.Manifests.{Contents}
-use Rattle.lsm_codec.specs.Map.{Map, Operation, apply, apply_all}
-use Rattle.lsm_mem.specs.Versions.{map_of}
+use Rattle.lsm_codec.specs.Map.{Operation}
+use Rattle.lsm_mem.specs.EntryOrder.{with_batches}
+use Rattle.lsm_mem.proofs.Replays.{with_batches-append}
 use Rattle.lsm_open.specs.CrashState.{last_number}
 use Rattle.lsm_open.specs.Image.{batches_at, all_batches, follow_on}
-use Rattle.lsm_open.specs.Reopening.{kept_before, with_batches, HasCome, HasReplayed, GoesOn}
+use Rattle.lsm_open.specs.Reopening.{kept_before, kept_records, HasCome, HasReplayed, GoesOn}
 use Rattle.lsm_open.specs.declared.replayed.Replayed.{Replayed}
 use Rattle.lsm_open.proofs.NextManifests.{come_dropped, come_kept}
 
 abbrev Batches : Type 0
 Batches = List (List Operation)
-
-pub apply_all-append : (m : Map) (xs ys : Batches) → apply_all m (xs ++ ys) ≡ apply_all (apply_all m xs) ys
-apply_all-append m [] ys = refl
-apply_all-append m (x ∷ xs) ys = apply_all-append (apply m x) xs ys
 
 kept-append : (bs : Batches) (r : LogRecord) (xs : List LogRecord) → kept_before bs r xs ≡ kept_before bs r [] ++ xs
 kept-append [] r xs = refl
@@ -37,23 +33,24 @@ module _ {A : Type 0} (m : Contents) (old new : Replayed A) (r : LogRecord) (res
   come_step come = come_by m old.count new.count old.closed.items new.closed.items r rest bs come step.first step.closed step.count step.count_high
 
   module _ (n : ℕ) (s : List (List ℕ)) (is : bs ≡ batches_at n s r) (on : GoesOn n s m old (r ∷ rest)) where
-    kept_step : with_batches n s m.logs ≡ new.closed.items ++ with_batches n s rest
+    kept_step : kept_records n s m.logs ≡ new.closed.items ++ kept_records n s rest
     kept_step =
         on.kept
-        ∙ ap (λ (l : List LogRecord). old.closed.items ++ l) (kept-append (batches_at n s r) r (with_batches n s rest))
-        ∙ sym (append_assoc old.closed.items (kept_before (batches_at n s r) r []) (with_batches n s rest))
-        ∙ ap (λ (b : Batches). (old.closed.items ++ kept_before b r []) ++ with_batches n s rest) (sym is)
-        ∙ ap (λ (l : List LogRecord). l ++ with_batches n s rest) (sym step.closed)
+        ∙ ap (λ (l : List LogRecord). old.closed.items ++ l) (kept-append (batches_at n s r) r (kept_records n s rest))
+        ∙ sym (append_assoc old.closed.items (kept_before (batches_at n s r) r []) (kept_records n s rest))
+        ∙ ap (λ (b : Batches). (old.closed.items ++ kept_before b r []) ++ kept_records n s rest) (sym is)
+        ∙ ap (λ (l : List LogRecord). l ++ kept_records n s rest) (sym step.closed)
 
     counts_step : m.base + length (all_batches n s m.logs) ≡ new.count + length (all_batches n s rest)
     counts_step = omega (arith, on.counts, step.count, ap length is, length-append (batches_at n s r) (all_batches n s rest))
 
-    map_step : apply_all finite.empty (all_batches n s m.logs) ≡ apply_all (map_of new.mem new.count) (all_batches n s rest)
-    map_step =
-        on.map
-        ∙ apply_all-append (map_of old.mem old.count) (batches_at n s r) (all_batches n s rest)
-        ∙ ap (λ (b : Batches). apply_all (apply_all (map_of old.mem old.count) b) (all_batches n s rest)) (sym is)
-        ∙ ap (λ (x : Map). apply_all x (all_batches n s rest)) (sym step.map)
+    versions_step : with_batches m.base (all_batches n s m.logs) [] ≡ with_batches new.count (all_batches n s rest) new.mem
+    versions_step =
+        on.versions
+        ∙ with_batches-append old.count (batches_at n s r) (all_batches n s rest) old.mem
+        ∙ ap (λ (b : Batches). with_batches (old.count + length b) (all_batches n s rest) (with_batches old.count b old.mem)) (sym is)
+        ∙ ap (λ (k : ℕ). with_batches k (all_batches n s rest) (with_batches old.count bs old.mem)) (sym step.count)
+        ∙ ap (with_batches new.count (all_batches n s rest)) (sym step.versions)
 
     follows_step : follow_on n s (m.base + 1) m.logs ≡ follow_on n s (new.count + 1) rest
     follows_step =
@@ -63,7 +60,7 @@ module _ {A : Type 0} (m : Contents) (old new : Replayed A) (r : LogRecord) (res
         ∙ ap (λ (k : ℕ). follow_on n s k rest) long
 
     pub goes_on_step : GoesOn n s m new rest
-    goes_on_step = record { kept = kept_step; counts = counts_step; map = map_step; follows = follows_step }
+    goes_on_step = record { kept = kept_step; counts = counts_step; versions = versions_step; follows = follows_step }
 
 -- a region whose first batch doesn't come next
 pub mismatch : {A : Type 0} (m : Contents) (old : Replayed A) (r : LogRecord) (rest : List LogRecord) (n : ℕ) (s : List (List ℕ)) → GoesOn n s m old (r ∷ rest) → r.first_batch ≢ old.count + 1 → follow_on n s (m.base + 1) m.logs ≡ false
@@ -72,8 +69,8 @@ mismatch m old r rest n s on other =
 
 pub goes_started : {A : Type 0} (m : Contents) (new : Replayed A) (n : ℕ) (s : List (List ℕ)) → new.closed.items ≡ [] → new.mem ≡ [] → new.count ≡ m.base → GoesOn n s m new m.logs
 goes_started m new n s closed mem count = record {
-  kept = ap (λ (l : List LogRecord). l ++ with_batches n s m.logs) (sym closed);
+  kept = ap (λ (l : List LogRecord). l ++ kept_records n s m.logs) (sym closed);
   counts = ap (λ (k : ℕ). k + length (all_batches n s m.logs)) (sym count);
-  map = ap (λ vs. apply_all (map_of vs new.count) (all_batches n s m.logs)) (sym mem);
+  versions = ap (λ (k : ℕ). with_batches k (all_batches n s m.logs) []) (sym count) ∙ ap (with_batches new.count (all_batches n s m.logs)) (sym mem);
   follows = ap (λ (k : ℕ). follow_on n s (k + 1) m.logs) (sym count);
 }

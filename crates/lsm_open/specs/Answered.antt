@@ -1,6 +1,8 @@
 -- What an opening promises beside the store that it recovers.
 use Rattle.std.specs.Prelude.{◌≡◌, ◌≤◌, ◌⊎◌, ℕ, ◌+◌, ◌*◌, List, length, Option, Some, None, option_map, Result, MatchResult}
-use Rattle.lsm_codec.specs.Manifests.{IsManifest}
+use Rattle.lsm_codec.specs.Manifests.{IsManifest, sector_count}
+use Rattle.lsm_device.specs.Calls.{more}
+use Rattle.lsm_device.specs.declared.calls.Calls.{Calls}
 use Rattle.lsm_device.specs.declared.refusal.Refusal.{Refusal}
 use Rattle.lsm_device.specs.declared.refusal.Refusal.TheVariants.{NoMemory, Io}
 use Rattle.lsm_log.specs.Opened.{AreNumbers}
@@ -12,8 +14,8 @@ use Rattle.lsm_open.specs.Reopening.{least_free, IsNewLog}
 use Rattle.lsm_open.specs.declared.regions.OpenRegion.{OpenRegion}
 
 -- An opening answers Ok only where no refusal holds, and an Err is the one that holds, or want of memory or a fault.
-abbrev pub Answers : {X : Type 0} → Option Refusal → Result X Refusal → Type 0
-Answers refusal result = MatchResult result (λ x. refusal ≡ None) (λ e. (refusal ≡ Some e) ⊎ ((e ≡ NoMemory) ⊎ (e ≡ Io)))
+abbrev pub OpensUnless : {X : Type 0} → Option Refusal → Result X Refusal → Type 0
+OpensUnless refusal result = MatchResult result (λ x. refusal ≡ None) (λ e. (refusal ≡ Some e) ⊎ ((e ≡ NoMemory) ⊎ (e ≡ Io)))
 
 -- an open region of a device of this size: a new log of the generation, behind so many batches
 pub record IsInside (size log_sectors generation count : ℕ) (o : OpenRegion) : Type 0 where
@@ -37,3 +39,8 @@ pub record IsWithin (size : ℕ) (l : Layout) (count : ℕ) (versions : List Ver
   pub opened : IsInsideIfOpen size l.log_sectors l.generation count l.open_region
   pub count_high : count ≤ last_number
   pub numbered : NumberedBelow (count + 1) versions
+
+-- The manifest of a layout was written, with one superblock and nothing else, among so many syncs.
+pub record HasInstalled (l : Layout) (syncs : ℕ) (old new : Calls) : Type 0 where
+  pub written : new.writes ≡ more (sector_count (manifest_for l) + 1) old.writes
+  pub synced : new.syncs ≡ more syncs old.syncs

@@ -76,7 +76,7 @@ pub record IsLogAt (log_sectors generation : ℕ) (d : Disk) (o : OpenRegion) : 
 
 abbrev pub IsOpened : Layout → Disk → Option OpenRegion → Type 0
 IsOpened l d (Some o) = IsLogAt l.log_sectors l.generation d o
-IsOpened l d None = length l.closed ≡ 3
+IsOpened l d None = Unit {0}
 
 -- no sector that stands or pends in a log region is of an epoch above the generation
 pub record NoneAbove (l : Layout) (d : Disk) : Type 0 where

@@ -1,11 +1,11 @@
 -- What an opening makes of a manifest, and of the batches that its regions hold.
 use Rattle.std.specs.Prelude.{◌≡◌, ℕ, ◌+◌, ◌≤◌, ◌==◌, not, Bool, List, [], ◌∷◌, ◌++◌, length, Option, Some, None, option_map, if◌then◌else◌}
 use Rattle.std.specs.List.{All, list_all}
-use Rattle.std.specs.FinMap as finite
 use Rattle.lsm_codec.specs.declared.log_record.LogRecord.{LogRecord}
 use Rattle.lsm_codec.specs.Manifests.{Contents, IsLogRecord, LogsAgree, Pairwise}
-use Rattle.lsm_codec.specs.Map.{Operation, apply_all}
-use Rattle.lsm_mem.specs.Versions.{NumberedBelow, map_of}
+use Rattle.lsm_codec.specs.Map.{Operation}
+use Rattle.lsm_mem.specs.EntryOrder.{with_batches}
+use Rattle.lsm_mem.specs.Versions.{NumberedBelow}
 use Rattle.lsm_open.specs.CrashState.{last_number}
 use Rattle.lsm_open.specs.Image.{region_start, batches_at, all_batches, follow_on}
 use Rattle.lsm_open.specs.Layout.{Layout}
@@ -18,9 +18,9 @@ kept_before [] r rest = rest
 kept_before (batch ∷ more) r rest = r ∷ rest
 
 -- the log records of the regions that hold batches
-abbrev pub with_batches : ℕ → List (List ℕ) → List LogRecord → List LogRecord
-with_batches log_sectors sectors [] = []
-with_batches log_sectors sectors (r ∷ rest) = kept_before (batches_at log_sectors sectors r) r (with_batches log_sectors sectors rest)
+abbrev pub kept_records : ℕ → List (List ℕ) → List LogRecord → List LogRecord
+kept_records log_sectors sectors [] = []
+kept_records log_sectors sectors (r ∷ rest) = kept_before (batches_at log_sectors sectors r) r (kept_records log_sectors sectors rest)
 
 -- no log record is of this region
 abbrev pub is_free : ℕ → List LogRecord → Bool
@@ -82,12 +82,12 @@ pub record HasReplayed {A : Type 0} (r : LogRecord) (batches : List (List Operat
   pub closed : new.closed.items ≡ old.closed.items ++ kept_before batches r []
   pub count : new.count ≡ old.count + length batches
   pub count_high : new.count ≤ last_number
-  pub map : map_of new.mem new.count ≡ apply_all (map_of old.mem old.count) batches
+  pub versions : new.mem ≡ with_batches old.count batches old.mem
   pub numbered : NumberedBelow (new.count + 1) new.mem
 
 -- How far a replay of a manifest's regions has come by what sectors hold: it goes on from here as it began.
 pub record GoesOn {A : Type 0} (log_sectors : ℕ) (sectors : List (List ℕ)) (m : Contents) (replayed : Replayed A) (rest : List LogRecord) : Type 0 where
-  pub kept : with_batches log_sectors sectors m.logs ≡ replayed.closed.items ++ with_batches log_sectors sectors rest
+  pub kept : kept_records log_sectors sectors m.logs ≡ replayed.closed.items ++ kept_records log_sectors sectors rest
   pub counts : m.base + length (all_batches log_sectors sectors m.logs) ≡ replayed.count + length (all_batches log_sectors sectors rest)
-  pub map : apply_all finite.empty (all_batches log_sectors sectors m.logs) ≡ apply_all (map_of replayed.mem replayed.count) (all_batches log_sectors sectors rest)
+  pub versions : with_batches m.base (all_batches log_sectors sectors m.logs) [] ≡ with_batches replayed.count (all_batches log_sectors sectors rest) replayed.mem
   pub follows : follow_on log_sectors sectors (m.base + 1) m.logs ≡ follow_on log_sectors sectors (replayed.count + 1) rest

@@ -1,14 +1,15 @@
 // The log of the next generation is opened.
 ghost use Rattle.std.specs.Prelude.{◌≡◌, ◌≢◌, ◌⊎◌, ◌<◌, ◌≤◌, ◌^◌, ◌+◌, [], IsTrue, IfOk, OnOk, IfErr, option_map};
-ghost use Rattle.lsm_codec.specs.Manifests.{IsManifest};
+ghost use Rattle.lsm_codec.specs.Manifests.{IsManifest, sector_count};
 ghost use Rattle.lsm_device.specs.Calls.{faults_after, AtMost};
 ghost use Rattle.lsm_device.specs.History.{EachSince};
 ghost use Rattle.lsm_device.specs.Medium.{disk};
 ghost use Rattle.lsm_device.specs.Outcomes.{Leaves};
-ghost use Rattle.lsm_device.specs.Refusals.{faultless};
+ghost use Rattle.lsm_device.specs.Refusals.{faultless, is_no_fault};
 ghost use Rattle.lsm_open.specs.CrashState.{last_number};
-ghost use Rattle.lsm_open.specs.Layout.{layout_of};
+ghost use Rattle.lsm_open.specs.Layout.{layout_of, manifest_for};
 ghost use Rattle.lsm_open.specs.Reopening.{is_free, least_free, next_contents, IsNewIfOpen, IsNextLayout, HasCome};
+ghost use Rattle.lsm_root.specs.Counted.{CallsMade};
 ghost use Rattle.lsm_root.specs.Installed.{IsReady, IsOldOrNew, IsInstalled};
 ghost use Rattle.lsm_root.specs.Layout.{IsGeometry};
 ghost use Rattle.lsm_root.specs.Roots.{Stands};
@@ -72,20 +73,24 @@ pub(crate) fn reopen<A: Allocator + Clone, D: Device>(
     requires fits { IsManifest loaded.now.manifest }
     requires has_next { loaded.now.manifest.generation ≢ last_number }
     requires come { HasCome loaded.now.manifest count closed.items [] }
-    requires ready { IsTrue (D.medium device.old).tells → IsReady (D.medium device.old).size loaded.now.log_sectors (loaded.now.manifest.generation + 1) (disk (D.medium device.old)) }
+    requires ready { IsTrue (D.medium device.old).lasting.tells → IsReady (D.medium device.old).size loaded.now.log_sectors (loaded.now.manifest.generation + 1) (disk (D.medium device.old)) }
     ensures layout { IfOk result (λ r. IsNextLayout loaded.now.log_sectors loaded.now.manifest count (layout_of r)) }
     ensures kept { IfOk result (λ r. r.closed.items ≡ closed.items) }
-    ensures any_moment { IsTrue (D.medium device.old).tells → EachSince
+    ensures any_moment { IsTrue (D.medium device.old).lasting.tells → EachSince
         (Leaves (IsOldOrNew (disk (D.medium device.old)) (Stands loaded.now.log_sectors (next_contents loaded.now.manifest closed.items count))))
         (D.medium device.old).history (D.medium device.new).history }
-    ensures installed { IsTrue (D.medium device.old).tells → OnOk result
+    ensures installed { IsTrue (D.medium device.old).lasting.tells → OnOk result
         (IsInstalled (disk (D.medium device.old)) (Stands loaded.now.log_sectors (next_contents loaded.now.manifest closed.items count)) (disk (D.medium device.new))) }
     ensures refused { IfErr result (λ refusal. (refusal ≡ Refusal.NoMemory) ⊎ (refusal ≡ Refusal.Io)) }
+
+    // Unless a call of it failed, the device wasn't called.
+    ensures untouched { IfErr result (λ refusal. IsTrue (is_no_fault refusal) → device.new ≡ device.old) }
+    ensures made { IfOk result (λ r. CallsMade (sector_count (manifest_for (layout_of r)) + 1) 2 (D.medium device.old).calls (D.medium device.new).calls) }
     ensures calls { AtMost 0 38 2 (D.medium device.old).calls (D.medium device.new).calls }
     ensures faults { (D.medium device.new).calls.faults ≡ faults_after (faultless result) (D.medium device.old).calls.faults }
     ensures stops { IfErr result (λ refusal. refusal ≡ Refusal.Io → IsTrue (D.medium device.new).calls.last_faulted) }
     ensures same_size { (D.medium device.new).size ≡ (D.medium device.old).size }
-    ensures same_tells { (D.medium device.new).tells ≡ (D.medium device.old).tells }
+    ensures same_lasting { (D.medium device.new).lasting ≡ (D.medium device.old).lasting }
 {
     let generation = loaded.manifest.generation() + 1;
     let open_region = open_least_free(loaded.log_sectors, &closed, generation, count);

@@ -24,7 +24,7 @@ module _ (size log : ℕ) (m : Contents) (s : Superblock) (limits : IsSuperblock
   from_found : m.generation ≡ s.generation → s.log_sectors ≡ log → IsManifest m → IsStanding size log m (Names s)
   from_found same logs fits = record {
     next = record { next = ap (λ (n : ℕ). n + 1) same; same_size = sized; same_log = logs };
-    geometry = subst (λ (n : ℕ). IsGeometry n log) sized (subst (λ (n : ℕ). IsGeometry s.sectors n) logs (record { sectors_low = limits.sectors_low; sectors_high = limits.sectors_high; log_low = limits.log_low; log_high = limits.log_high }));
+    geometry = subst (λ (n : ℕ). IsGeometry n log) sized (subst (λ (n : ℕ). IsGeometry s.sectors n) logs (record { device = record { low = limits.sectors_low; high = limits.sectors_high }; log_low = limits.log_low; log_high = limits.log_high }));
     fits = fits;
   }
 

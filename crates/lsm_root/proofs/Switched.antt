@@ -14,11 +14,13 @@ use Rattle.lsm_device.proofs.Outcomes.{Within, All-kept_of, image-grown, seen-gr
 use Rattle.lsm_device.proofs.Runs.{All-run_at, grown-nil}
 use Rattle.lsm_codec.proofs.FormatLaws.{manifest_laws_hold}
 use Rattle.lsm_root.specs.Pieces.{pieces, joined}
-use Rattle.lsm_root.specs.Layout.{IsGeometry, place}
+use Rattle.lsm_root.specs.Layout.{place}
+use Rattle.lsm_root.specs.Planned.{Planned, contents_in, planned, IsPrepared}
 use Rattle.lsm_root.specs.Roots.{superblock_in, Root, Stands}
 use Rattle.lsm_root.specs.Installed.{IsNext, IsSettled, IsReady, IsOld, IsNew, IsOldOrNew, IsInstalled, KeepsBehind, IsStage}
-use Rattle.lsm_codec.specs.Manifests.{Contents, IsManifest, sector_count, manifest_bytes, manifest_of}
-use Rattle.lsm_root.proofs.Cutting.{length-pieces, joined-pieces, few_sectors}
+use Rattle.lsm_codec.specs.Manifests.{Contents, manifest_of}
+use Rattle.lsm_root.proofs.Cutting.{length-pieces, joined-pieces}
+use Rattle.lsm_root.proofs.Preparing.{fills}
 use Rattle.lsm_root.proofs.Frames.{Image, InArea, same_length, superblock_stays, behind_stays, root_stays, root_of_outcome, superblock_of_outcome, run_stands, switch_behind, switch_root}
 
 -- what an installation asks of the disk, the manifest's text and the superblock
@@ -117,7 +119,7 @@ module _ {start : Disk} {new : Superblock} {text : List ℕ} {m : Contents} (can
   stage_behind d (inr (inr (inr is))) = λ from n low. inr (ap (disk_in from n) is ∙ disk_in-synced from n (appended (last_of new) (synced (grown (run_of new text) start)))
       ∙ ap synced (grown_behind from n low (last_of new ∷ []) last_front (synced (grown (run_of new text) start)) ∙ ready_behind from n low))
 
-abbrev written_as : Superblock → List ℕ → Write
+abbrev pub written_as : Superblock → List ℕ → Write
 written_as new bytes = record { at = new.generation % 2; bytes = bytes }
 
 module _ {old : List Disk} {new : Superblock} {text : List ℕ} {m : Contents} (can : CanInstall (present old) new text m) (bytes : List ℕ) (is : bytes ≡ superblock_sector new) (now : List Disk) where
@@ -141,27 +143,31 @@ none_leaves start next settled = λ mask. inl (record { root = root_of_outcome s
 pub none_behind : (start : Disk) → KeepsBehind start start
 none_behind start = λ from n low. inl refl
 
--- from what the call requires
-pub prepared : (size : ℕ) (d : Disk) (new : Superblock) (text : List ℕ) (m : Contents) → length d.stands ≡ size → new.sectors ≡ size → IsGeometry size new.log_sectors
-    → IsReady size new.log_sectors new.generation d → IsManifest m → m.generation ≡ new.generation → text ≡ manifest_bytes m → new.manifest_sectors ≡ sector_count m
-    → CanInstall d new text m
-prepared size d new text m long sized geometry ready fits same spells count =
-    let few : sector_count m ≤ 37 = few_sectors m fits in
-    record {
-      sized = long ∙ sym sized;
-      settled = ready.settled;
-      next = subst (λ (n : ℕ). IsNext n new.log_sectors new.generation (superblock_in (seen d))) (sym sized) ready.next;
-      fits = record {
-        generation_low = omega (arith, same, fits.numbers.generation_low);
-        generation_high = omega (arith, same, fits.numbers.generation_high);
-        sectors_low = omega (arith, sized, geometry.sectors_low);
-        sectors_high = omega (arith, sized, geometry.sectors_high);
-        log_low = geometry.log_low;
-        log_high = geometry.log_high;
-        manifest_low = omega (arith, count, manifest_laws_hold.sectors_low m);
-        manifest_high = omega (arith, count, few);
-      };
-      whole = ap length spells ∙ manifest_laws_hold.size m ∙ ap (λ (n : ℕ). 512 * n) (sym count);
-      reads = ap manifest_of spells ∙ manifest_laws_hold.format.decoded m fits;
-      generation = same;
-    }
+-- from what was prepared
+pub can_install : (size : ℕ) (d : Disk) (s : Superblock) (text : List ℕ) → length d.stands ≡ size → size ≡ s.sectors
+    → IsReady size s.log_sectors (contents_in text).generation d → IsPrepared s text → CanInstall d s text (contents_in text)
+can_install size d s text long same ready is = record {
+  sized = long ∙ same;
+  settled = ready.settled;
+  next = subst (λ (n : ℕ). IsNext n s.log_sectors s.generation (superblock_in (seen d))) same (subst (λ (n : ℕ). IsNext size s.log_sectors n (superblock_in (seen d))) is.generation ready.next);
+  fits = is.superblock;
+  whole = fills s text is;
+  reads = ap manifest_of is.spelled ∙ manifest_laws_hold.format.decoded (contents_in text) is.manifest;
+  generation = is.generation;
+}
+
+-- what an installation of what is planned does
+module _ {s : Superblock} {text : List ℕ} {p : Planned} (view_is : planned s text ≡ p) (is : IsPrepared s text) (size : ℕ) (old : List Disk) (long : length (present old).stands ≡ size) (same : size ≡ p.size)
+    (ready : IsReady size p.log p.manifest.generation (present old)) (read : List ℕ) (reads : read ≡ text) (bytes : List ℕ) (spelled : bytes ≡ superblock_sector s) where
+  can : CanInstall (present old) s read (contents_in text)
+  can = subst (λ (t : List ℕ). CanInstall (present old) s t (contents_in text)) (sym reads)
+      (can_install size (present old) s text long (same ∙ sym (ap (λ (q : Planned). q.size) view_is)) (subst (λ (q : Planned). IsReady size q.log q.manifest.generation (present old)) (sym view_is) ready) is)
+
+  pub planned_moment : (now : List Disk) → EachSince (IsStage (present old) (run_of s read) (written_as s bytes)) old now → EachSince (Leaves (IsOldOrNew (present old) (Stands p.log p.manifest))) old now
+  planned_moment now stages = subst (λ (q : Planned). EachSince (Leaves (IsOldOrNew (present old) (Stands q.log q.manifest))) old now) view_is (any_moment can bytes spelled now stages)
+
+  pub planned_behind : (now : List Disk) → EachSince (IsStage (present old) (run_of s read) (written_as s bytes)) old now → EachSince (KeepsBehind (present old)) old now
+  planned_behind now stages = any_behind can bytes spelled now stages
+
+  pub planned_installed : (d : Disk) → d ≡ synced (appended (written_as s bytes) (synced (grown (run_of s read) (present old)))) → IsInstalled (present old) (Stands p.log p.manifest) d
+  planned_installed d all = subst (λ (q : Planned). IsInstalled (present old) (Stands q.log q.manifest) d) view_is (at_last can bytes spelled d all)

@@ -77,15 +77,15 @@ fn newer(even: &[u8; 512], odd: &[u8; 512]) -> Result<Superblock, Refusal>
 // Reads the superblock that counts.
 fn read_superblock<D: Device>(device: &mut D) -> Result<Superblock, Refusal>
     requires large { 2 ≤ (D.medium device.old).size }
-    ensures told { IsTrue (D.medium device.old).tells → TellsCounted (superblock_in (seen (disk (D.medium device.old)))) result }
+    ensures told { IsTrue (D.medium device.old).lasting.tells → TellsCounted (superblock_in (seen (disk (D.medium device.old)))) result }
     ensures fits { IfOk result IsSuperblock }
     ensures refused { IfErr result (λ refusal. (refusal ≡ Refusal.Io) ⊎ ((refusal ≡ Refusal.NotAStore) ⊎ (refusal ≡ Refusal.BadSuper))) }
-    ensures unchanged { IsTrue (D.medium device.old).tells → (D.medium device.new).history ≡ (D.medium device.old).history }
+    ensures unchanged { IsTrue (D.medium device.old).lasting.tells → (D.medium device.new).history ≡ (D.medium device.old).history }
     ensures counts { AtMost 2 0 0 (D.medium device.old).calls (D.medium device.new).calls }
     ensures faults { (D.medium device.new).calls.faults ≡ faults_after (faultless result) (D.medium device.old).calls.faults }
     ensures stops { IfErr result (λ refusal. refusal ≡ Refusal.Io → IsTrue (D.medium device.new).calls.last_faulted) }
     ensures same_size { (D.medium device.new).size ≡ (D.medium device.old).size }
-    ensures same_tells { (D.medium device.new).tells ≡ (D.medium device.old).tells }
+    ensures same_lasting { (D.medium device.new).lasting ≡ (D.medium device.old).lasting }
 {
     let mut even = BLANK;
     device.read(0, &mut even)?;
@@ -103,15 +103,15 @@ fn read_text<A: Allocator, D: Device>(
     sectors: u16,
 ) -> Result<Vec<u8, A>, Refusal>
     requires within { at + sectors ≤ (D.medium device.old).size }
-    ensures bytes { IsTrue (D.medium device.old).tells → IfOk result (λ text.
+    ensures bytes { IsTrue (D.medium device.old).lasting.tells → IfOk result (λ text.
         text.items ≡ joined (area at sectors (seen (disk (D.medium device.old))))) }
-    ensures unchanged { IsTrue (D.medium device.old).tells → (D.medium device.new).history ≡ (D.medium device.old).history }
+    ensures unchanged { IsTrue (D.medium device.old).lasting.tells → (D.medium device.new).history ≡ (D.medium device.old).history }
     ensures refused { IfErr result (λ refusal. (refusal ≡ Refusal.NoMemory) ⊎ (refusal ≡ Refusal.Io)) }
     ensures counts { AtMost sectors 0 0 (D.medium device.old).calls (D.medium device.new).calls }
     ensures faults { (D.medium device.new).calls.faults ≡ faults_after (faultless result) (D.medium device.old).calls.faults }
     ensures stops { IfErr result (λ refusal. refusal ≡ Refusal.Io → IsTrue (D.medium device.new).calls.last_faulted) }
     ensures same_size { (D.medium device.new).size ≡ (D.medium device.old).size }
-    ensures same_tells { (D.medium device.new).tells ≡ (D.medium device.old).tells }
+    ensures same_lasting { (D.medium device.new).lasting ≡ (D.medium device.old).lasting }
 {
     let mut text = Vec::new(alloc);
     let mut sector = [0; 512];
@@ -147,21 +147,21 @@ fn loaded_from<A: Allocator + Clone>(
 /// Reads the root, by at most 66 reads. It answers what the root of the device's sectors is: LOG and the manifest of the
 /// greater generation, or why there is none; or `NoMemory`, or `Io` where a read failed.
 pub fn load<A: Allocator + Clone, D: Device>(alloc: A, device: &mut D) -> Result<Loaded<A>, Refusal>
-    ensures loaded { IsTrue (D.medium device.old).tells → Tells (root_of (seen (disk (D.medium device.old)))) result }
+    ensures loaded { IsTrue (D.medium device.old).lasting.tells → Tells (root_of (seen (disk (D.medium device.old)))) result }
 
     // So it is of any device, whether it tells what it holds or not.
     ensures fits { IfOk result (λ l. IsGeometry (D.medium device.old).size l.log_sectors × IsManifest l.manifest) }
     ensures refused { IfErr result (λ refusal. ((root : Root) × (refusal_of root ≡ Some refusal)) ⊎ ((refusal ≡ Refusal.NoMemory) ⊎ (refusal ≡ Refusal.Io))) }
 
     // The next generation may be installed.
-    ensures next { IsTrue (D.medium device.old).tells → IfOk result (λ l.
+    ensures next { IsTrue (D.medium device.old).lasting.tells → IfOk result (λ l.
         IsNext (D.medium device.old).size l.log_sectors (l.manifest.generation + 1) (superblock_in (seen (disk (D.medium device.old))))) }
-    ensures unchanged { IsTrue (D.medium device.old).tells → (D.medium device.new).history ≡ (D.medium device.old).history }
+    ensures unchanged { IsTrue (D.medium device.old).lasting.tells → (D.medium device.new).history ≡ (D.medium device.old).history }
     ensures counts { AtMost 66 0 0 (D.medium device.old).calls (D.medium device.new).calls }
     ensures faults { (D.medium device.new).calls.faults ≡ faults_after (faultless result) (D.medium device.old).calls.faults }
     ensures stops { IfErr result (λ refusal. refusal ≡ Refusal.Io → IsTrue (D.medium device.new).calls.last_faulted) }
     ensures same_size { (D.medium device.new).size ≡ (D.medium device.old).size }
-    ensures same_tells { (D.medium device.new).tells ≡ (D.medium device.old).tells }
+    ensures same_lasting { (D.medium device.new).lasting ≡ (D.medium device.old).lasting }
 {
     if device.sectors() < SUPERBLOCKS {
         return Err(Refusal::BadGeometry); // There is no place for them.

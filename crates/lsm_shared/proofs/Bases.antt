@@ -1,13 +1,13 @@
 -- The base is released at the end.
 use Rattle.std.proofs.Common.{◌≡◌, ℕ, Bool, true, false, not, is_some, List, Some, None, Result, Ok, Err, refl, ap, sym, ◌∙◌, subst, if◌then◌else◌}
 use Rattle.lsm_device.specs.declared.refusal.Refusal.{Refusal}
-use Rattle.lsm_device.specs.declared.refusal.Refusal.TheVariants.{NoMemory, Io, Stopped, NoSuchSnapshot}
+use Rattle.lsm_device.specs.declared.refusal.Refusal.TheVariants.{NoMemory, Io, Stopped, NoSuchSnapshot, BadTable}
 use Rattle.lsm_store.specs.Backing.{StoreView}
 use Rattle.lsm_store.specs.Calls.{reply_of}
 use Rattle.lsm_store.specs.Calls.{Release, Done, Refused}
 use Rattle.lsm_store.specs.Effects.{after, reply_by}
 use Rattle.lsm_store.specs.Refusals.{refusal}
-use Rattle.lsm_store.specs.Run.{Allows, next}
+use Rattle.lsm_store.specs.Run.{Admits, next}
 use Rattle.lsm_store.specs.Serving.{Serves}
 use Rattle.lsm_store.specs.State.{State, snapshot_of}
 use Rattle.lsm_trail.specs.Begins.{Begin, base_of}
@@ -23,16 +23,17 @@ module _ (s : State) (number : ℕ) (live : is_some (snapshot_of s number) ≡ t
   released_is : (b : Bool) → is_some s.stopped ≡ b → released number s ≡ (if b then s else after s (Release number))
   released_is b is = ap (λ (t : Bool). if t then s else after s (Release number)) is
 
-  refused_running : (e : Refusal) → is_some s.stopped ≡ false → Allows s (Release number) (Refused e) → ⊥
-  refused_running NoMemory runs allowed = cc (allowed.1)
-  refused_running Io runs allowed = allowed.1 refl
-  refused_running e runs allowed = no (allowed ∙ ap (reply_by s (Release number)) (refusal_is false runs))
+  refused_running : (e : Refusal) → is_some s.stopped ≡ false → Admits s (Release number) (Refused e) → ⊥
+  refused_running NoMemory runs admitted = cc (admitted.1)
+  refused_running Io runs admitted = admitted.1 refl
+  refused_running BadTable runs admitted = cc (admitted.1)
+  refused_running e runs admitted = no (admitted ∙ ap (reply_by s (Release number)) (refusal_is false runs))
     where
       no : Refused e ≡ Done → ⊥
       no is = cc
 
-  done_stopped : is_some s.stopped ≡ true → Allows s (Release number) Done → ⊥
-  done_stopped stopped allowed = no (allowed ∙ ap (reply_by s (Release number)) (refusal_is true stopped))
+  done_stopped : is_some s.stopped ≡ true → Admits s (Release number) Done → ⊥
+  done_stopped stopped admitted = no (admitted ∙ ap (reply_by s (Release number)) (refusal_is true stopped))
     where
       no : Done ≡ Refused Stopped → ⊥
       no is = cc
@@ -41,17 +42,17 @@ module _ (s : State) (number : ℕ) (live : is_some (snapshot_of s number) ≡ t
   refused_still Io = refl
   refused_still e = refl
 
-  pub releases : (res : Result (Unit {0}) Refusal) → Allows s (Release number) (reply_of (λ x. Done) res) → next s (Release number) (reply_of (λ x. Done) res) ≡ released number s
-  releases (Ok x) allowed = by (is_some s.stopped) refl
+  pub releases : (res : Result (Unit {0}) Refusal) → Admits s (Release number) (reply_of (λ x. Done) res) → next s (Release number) (reply_of (λ x. Done) res) ≡ released number s
+  releases (Ok x) admitted = by (is_some s.stopped) refl
     where
       by : (b : Bool) → is_some s.stopped ≡ b → after s (Release number) ≡ released number s
-      by true stopped = absurd (done_stopped stopped allowed)
+      by true stopped = absurd (done_stopped stopped admitted)
       by false runs = sym (released_is false runs)
-  releases (Err e) allowed = by (is_some s.stopped) refl
+  releases (Err e) admitted = by (is_some s.stopped) refl
     where
       by : (b : Bool) → is_some s.stopped ≡ b → next s (Release number) (Refused e) ≡ released number s
       by true stopped = refused_still e ∙ sym (released_is true stopped)
-      by false runs = absurd (refused_running e runs allowed)
+      by false runs = absurd (refused_running e runs admitted)
 
 -- the store when its session has ended
 pub ended_by : (b : Begin) (base : ℕ) (log : List Event) (old new : StoreView) (res : Result (Unit {0}) Refusal) → IsLegal b log → base ≡ base_of b → old.state ≡ state_after b log
@@ -59,7 +60,7 @@ pub ended_by : (b : Begin) (base : ℕ) (log : List Event) (old new : StoreView)
 ended_by b base log old new res legal number state serves =
     let s = state_after b log in
     let reply = reply_of (λ x. Done) res in
-    let allowed : Allows s (Release (base_of b)) reply = subst (λ (p : State × ℕ). Allows p.0 (Release p.1) reply) (λ i. (state i, number i)) serves.allowed in
+    let admitted : Admits s (Release (base_of b)) reply = subst (λ (p : State × ℕ). Admits p.0 (Release p.1) reply) (λ i. (state i, number i)) serves.admitted in
     serves.state
     ∙ (λ i. next (state i) (Release (number i)) reply)
-    ∙ releases s (base_of b) (ap is_some (base_kept b log legal)) res allowed
+    ∙ releases s (base_of b) (ap is_some (base_kept b log legal)) res admitted

@@ -130,7 +130,7 @@ all_calls n cs (e ∷ log) all strangers =
 
 made_in : (log : List Event) (cs : List Known) → Told log cs → calls_made cs ≡ calls_in log cs
 made_in log [] told = refl
-made_in log (c ∷ cs) told = omega (arith, ap length told.0, made_in log cs told.1)
+made_in log (c ∷ cs) told = omega (arith, ap length told.1, made_in log cs told.2)
 
 pub counted : (n : ℕ) (cs : List Known) (log : List Event) → AreAll n cs → Told log cs → Strangers n log → calls_made cs ≡ length log
 counted n cs log all told strangers = made_in log cs told ∙ all_calls n cs log all strangers

@@ -1,5 +1,6 @@
 -- What is known of all clients at the end.
 use Rattle.std.proofs.Common.{◌≡◌, ℕ, ◌<◌, ◌≤◌, List, [], ◌∷◌, ◌++◌, length, ap, sym, ◌∙◌, subst, arith}
+use mathlib.Core.List.{IsPrefix}
 use Rattle.lsm_store.specs.Backing.{StoreView, IsBacked}
 use Rattle.lsm_trail.specs.Begins.{Begin}
 use Rattle.lsm_trail.specs.History.{Event, IsLegal, calls_by, TrailView}
@@ -8,9 +9,9 @@ use Rattle.lsm_shared.specs.Clients.{Told, AreAll}
 use Rattle.lsm_shared.specs.Sessions.{SessionView, ended_state, IsEnded}
 use Rattle.lsm_shared.proofs.Counting.{counted}
 
-pub told_more : (log : List Event) (cs : List Known) (c : Known) → Told log cs → calls_by c.number log ≡ c.mine → Told log (cs ++ c ∷ [])
-told_more log [] c t e = (e, tt)
-told_more log (x ∷ cs) c t e = (t.0, told_more log cs c t.1 e)
+pub told_more : (log : List Event) (cs : List Known) (c : Known) → Told log cs → IsPrefix c.seen log → calls_by c.number log ≡ c.mine → Told log (cs ++ c ∷ [])
+told_more log [] c t seen e = (seen, e, tt)
+told_more log (x ∷ cs) c t seen e = (t.0, t.1, told_more log cs c t.2 seen e)
 
 pub all_by : (n m : ℕ) (xs ys : List Known) → n ≡ m → xs ≡ ys → AreAll n xs → AreAll m ys
 all_by n m xs ys count items all = subst (λ (k : ℕ). AreAll k ys) count (subst (AreAll n) items all)

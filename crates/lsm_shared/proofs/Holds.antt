@@ -1,79 +1,80 @@
 -- What one hold of the lock does to a session.
-use Rattle.std.proofs.Common.{◌≡◌, ◌≢◌, ℕ, ◌+◌, ◌<◌, ◌≤◌, ◌==◌, Bool, false, List, [], ◌∷◌, ◌++◌, length, Option, Some, None, Result, Ok, Err, refl, ap, sym, ◌∙◌, subst, arith, length-append}
-use Rattle.std.specs.Prelude.{IsTrue, IsNone, IfOk, IfErr, IsErrAnd}
+use Rattle.std.proofs.Common.{◌≡◌, ◌≢◌, ℕ, ◌+◌, ◌<◌, ◌≤◌, ◌==◌, Bool, false, List, [], ◌∷◌, ◌++◌, length, Result, Ok, Err, refl, ap, sym, ◌∙◌, subst, arith, length-append}
+use Rattle.std.specs.Prelude.{IsTrue, IfOk, IfErr, IsErrAnd}
 use Rattle.std.proofs.lemmas.Bool.Decides.{nat_tests}
-use mathlib.Core.List.{IsPrefix}
 use Rattle.atomic_table.specs.Table.{Me}
 use Rattle.atomic_table.specs.declared.shared.Seat.{Seat}
 use Rattle.lsm_device.specs.declared.refusal.Refusal.{Refusal}
 use Rattle.lsm_device.specs.declared.refusal.Refusal.TheVariants.{NoMemory, TrailFull, NotYours}
-use Rattle.lsm_store.specs.Backing.{StoreView}
+use Rattle.lsm_store.specs.Backing.{StoreView, IsBacked}
 use Rattle.lsm_store.specs.Calls.{Call, Reply}
 use Rattle.lsm_store.specs.Calls.{Commit, Sync, SyncTo, Get, Scan, Snapshot, Release, LogRoom, Number, Done, Value, Rows, Refused}
-use Rattle.lsm_store.specs.Effects.{after, reply_by, takes_memory}
-use Rattle.lsm_store.specs.Paging.{Page}
+use Rattle.lsm_store.specs.Effects.{after, takes_memory}
+use Rattle.lsm_store.specs.Machine.{Step, Called}
 use Rattle.lsm_store.specs.RecoveryPoints.{batch_count}
-use Rattle.lsm_store.specs.Refusals.{refusal}
-use Rattle.lsm_store.specs.Run.{Allows, next}
+use Rattle.lsm_store.specs.Run.{Allows, Admits, asks_value, asks_page, next}
 use Rattle.lsm_store.specs.Serving.{Serves}
 use Rattle.lsm_store.specs.State.{State}
-use Rattle.lsm_trail.specs.Begins.{Begin, base_of}
 use Rattle.lsm_trail.specs.History.{Event, event, IsLegal, state_after, calls_by, numbers, numbers_at, TrailView}
 use Rattle.lsm_trail.specs.Knowledge.{SessionId, Known, View, known, keeper_or, keeper_of, IsKeeperPass}
 use Rattle.lsm_trail.specs.declared.numbers.Numbers.{Numbers}
 use Rattle.lsm_trail.proofs.Histories.{legal_more, state_after-more, calls_by-mine}
-use Rattle.lsm_shared.specs.Clients.{Extends, FindsFull, IsNoCall}
-use Rattle.lsm_shared.specs.Sessions.{SessionView, IsSession, IsMade, IsFull, IsShort, IsRefused, IsLost}
+use Rattle.lsm_shared.specs.Clients.{Extends, Sees, Denies, IsNoCall}
+use Rattle.lsm_shared.specs.Sessions.{SessionView, IsSession, Finds, IsMade, IsShort, IsRefused, IsLost}
 
 -- the lock's pass has the history of the trail
 pub log_of_pass : (id : SessionId) (log : List Event) (p : Seat Event View) → IsKeeperPass id log p → (keeper_of p).log ≡ log
 log_of_pass id log p is = ap (λ (m : Me Event View). (keeper_or m.0.keeper).log) is.1
 
--- a call that was answered with a value has changed nothing, and takes memory
-value_kept : (s : State) (call : Call) (v : Option (List ℕ)) (o : Option Refusal) → Value v ≡ reply_by s call o → (after s call ≡ s) × IsTrue (takes_memory call) × IsNone o
-value_kept s call v (Some e) is = absurd (cc is)
-value_kept s (Commit batch) v None is = absurd (cc is)
-value_kept s Sync v None is = absurd (cc is)
-value_kept s (SyncTo number) v None is = absurd (cc is)
-value_kept s (Get at key) v None is = (refl, refl, refl)
-value_kept s (Scan at from to limit) v None is = absurd (cc is)
-value_kept s Snapshot v None is = absurd (cc is)
-value_kept s (Release number) v None is = absurd (cc is)
-value_kept s LogRoom v None is = absurd (cc is)
+-- a call that asks for a value changes nothing, and takes memory
+value_kept : (s : State) (call : Call) → IsTrue (asks_value call) → (after s call ≡ s) × IsTrue (takes_memory call)
+value_kept s (Get at key) is = (refl, refl)
+value_kept s (Commit batch) is = absurd (cc is)
+value_kept s Sync is = absurd (cc is)
+value_kept s (SyncTo number) is = absurd (cc is)
+value_kept s (Scan at from to limit) is = absurd (cc is)
+value_kept s Snapshot is = absurd (cc is)
+value_kept s (Release number) is = absurd (cc is)
+value_kept s LogRoom is = absurd (cc is)
 
--- and so has one that was answered with a page
-page_kept : (s : State) (call : Call) (page : Page) (o : Option Refusal) → Rows page ≡ reply_by s call o → (after s call ≡ s) × IsTrue (takes_memory call) × IsNone o
-page_kept s call page (Some e) is = absurd (cc is)
-page_kept s (Commit batch) page None is = absurd (cc is)
-page_kept s Sync page None is = absurd (cc is)
-page_kept s (SyncTo number) page None is = absurd (cc is)
-page_kept s (Get at key) page None is = absurd (cc is)
-page_kept s (Scan at from to limit) page None is = (refl, refl, refl)
-page_kept s Snapshot page None is = absurd (cc is)
-page_kept s (Release number) page None is = absurd (cc is)
-page_kept s LogRoom page None is = absurd (cc is)
+-- and so does one that asks for a page
+page_kept : (s : State) (call : Call) → IsTrue (asks_page call) → (after s call ≡ s) × IsTrue (takes_memory call)
+page_kept s (Scan at from to limit) is = (refl, refl)
+page_kept s (Commit batch) is = absurd (cc is)
+page_kept s Sync is = absurd (cc is)
+page_kept s (SyncTo number) is = absurd (cc is)
+page_kept s (Get at key) is = absurd (cc is)
+page_kept s Snapshot is = absurd (cc is)
+page_kept s (Release number) is = absurd (cc is)
+page_kept s LogRoom is = absurd (cc is)
 
 -- a reply for which memory was short has changed nothing
-pub lost : (s : State) (call : Call) (reply : Reply) → Allows s call reply → IsLost reply → (next s call reply ≡ s) × Allows s call (Refused NoMemory)
-lost s call (Refused NoMemory) allowed short = (refl, allowed)
-lost s call (Refused e) allowed short = absurd short
-lost s call (Number n) allowed short = absurd short
-lost s call Done allowed short = absurd short
-lost s call (Value v) allowed short = let k = value_kept s call v (refusal s call) allowed in (k.0, (k.2, k.1))
-lost s call (Rows page) allowed short = let k = page_kept s call page (refusal s call) allowed in (k.0, (k.2, k.1))
+pub lost : (s : State) (call : Call) (reply : Reply) → Admits s call reply → IsLost reply → (next s call reply ≡ s) × Allows s call (Refused NoMemory)
+lost s call (Refused NoMemory) admitted short = (refl, admitted)
+lost s call (Refused e) admitted short = absurd short
+lost s call (Number n) admitted short = absurd short
+lost s call Done admitted short = absurd short
+lost s call (Value v) admitted short = let k = value_kept s call admitted.1 in (k.0, (admitted.0, k.1))
+lost s call (Rows page) admitted short = let k = page_kept s call admitted.1 in (k.0, (admitted.0, k.1))
+
+abbrev call_in : Step → Call
+call_in (Called call) = call
 
 module _ (id : SessionId) (base : ℕ) (store new : StoreView) (trail : TrailView) (keeper : Seat Event View) (session : IsSession id base store trail keeper) (call : Call) (reply : Reply) (serves : Serves store call reply new) where
-  allowed_after : Allows (state_after id.begin trail.log) call reply
-  allowed_after = subst (λ (s : State). Allows s call reply) session.state serves.allowed
+  admitted_after : Admits (state_after id.begin trail.log) call reply
+  admitted_after = subst (λ (s : State). Admits s call reply) session.state serves.admitted
 
-  module _ (made : reply ≢ Refused NoMemory) (free : call ≢ Release base) (number : ℕ) (e : Event) (is : e ≡ event number call reply) where
+  allowed_after : IsBacked id.begin.store → Allows (state_after id.begin trail.log) call reply
+  allowed_after began = subst (λ (s : State). Allows s call reply) session.state (serves.allowed (session.backed began))
+
+  module _ (made : reply ≢ Refused NoMemory) (free : call ≢ Release base) (number : ℕ) (e : Event) (is : e ≡ event number (Called call) reply) where
     legal_after : IsLegal id.begin (trail.log ++ e ∷ [])
-    legal_after = subst (λ (x : Event). IsLegal id.begin (trail.log ++ x ∷ [])) (sym is) (legal_more id.begin trail.log (event number call reply) session.legal allowed_after made (λ same. free (same ∙ ap Release (sym session.number))))
+    legal_after = subst (λ (x : Event). IsLegal id.begin (trail.log ++ x ∷ [])) (sym is) (legal_more id.begin trail.log (event number (Called call) reply) session.legal admitted_after allowed_after made (λ same. free (ap call_in same ∙ ap Release (sym session.number))))
 
     state_entered : new.state ≡ state_after id.begin (trail.log ++ e ∷ [])
     state_entered =
         serves.state ∙ ap (λ (s : State). next s call reply) session.state
-        ∙ sym (state_after-more id.begin trail.log (event number call reply))
+        ∙ sym (state_after-more id.begin trail.log (event number (Called call) reply))
         ∙ ap (λ (x : Event). state_after id.begin (trail.log ++ x ∷ [])) (sym is)
 
     log_is : (keeper_of keeper).log ≡ trail.log
@@ -113,47 +114,42 @@ module _ (id : SessionId) (base : ℕ) (store new : StoreView) (trail : TrailVie
     }
 
     -- what the call did
-    made_by : (me d : Known) (answer : Reply) (trail' : TrailView) → me.begin ≡ id.begin → length trail.log < trail.limit → answer ≡ reply → number ≡ me.number
+    made_by : (c me d : Known) (answer : Reply) (trail' : TrailView) → Finds id (record { store = store; log = trail.log }) c → me ≡ known id.begin c.number trail.log c.mine
+        → length trail.log < trail.limit → answer ≡ reply → number ≡ me.number
         → trail' ≡ record { log = trail.log ++ e ∷ []; limit = trail.limit }
         → d ≡ known id.begin me.number ((keeper_of keeper).log ++ e ∷ []) (me.mine ++ e ∷ [])
-        → IsPrefix me.seen (keeper_of keeper).log × (calls_by me.number (keeper_of keeper).log ≡ me.mine)
-        → IsMade id (record { store = store; log = trail.log }) me call answer (record { store = new; log = trail'.log }) d
-    made_by me d answer trail' begins room same by pushed client knew =
-        let entered : e ≡ event me.number call answer = is ∙ (ap (λ (n : ℕ). event n call reply) by ∙ ap (event me.number call) (sym same)) in
+        → IsMade id (record { store = store; log = trail.log }) c call answer (record { store = new; log = trail'.log }) d
+    made_by c me d answer trail' finds sees room same by pushed client =
+        let entered : e ≡ event c.number (Called call) answer = is ∙ (ap (λ (n : ℕ). event n (Called call) reply) (by ∙ ap (λ (k : Known). k.number) sees) ∙ ap (event c.number (Called call)) (sym same)) in
         let log' : trail'.log ≡ trail.log ++ e ∷ [] = ap (λ (t : TrailView). t.log) pushed in
-        let now : trail'.log ≡ trail.log ++ event me.number call answer ∷ [] = log' ∙ ap (λ (x : Event). trail.log ++ x ∷ []) entered in
         record {
-          knew = record {
-            begin = begins;
-            seen = subst (IsPrefix me.seen) log_is knew.0;
-            own = ap (calls_by me.number) (sym log_is) ∙ knew.1;
-            legal = session.legal;
-          };
+          finds = finds;
           room = omega (arith, session.limit);
           serves = subst (λ (r : Reply). Serves store call r new) (sym same) serves;
-          log = now;
+          log = log' ∙ ap (λ (x : Event). trail.log ++ x ∷ []) entered;
           legal = subst (IsLegal id.begin) (sym log') legal_after;
+          state = state_entered ∙ ap (state_after id.begin) (sym log');
           client =
               client
-              ∙ ap (λ (l : List Event). known id.begin me.number l (me.mine ++ e ∷ [])) (ap (λ (l : List Event). l ++ e ∷ []) log_is ∙ sym log')
-              ∙ ap (λ (x : Event). known id.begin me.number trail'.log (me.mine ++ x ∷ [])) entered;
+              ∙ ap (λ (k : Known). known id.begin k.number ((keeper_of keeper).log ++ e ∷ []) (k.mine ++ e ∷ [])) sees
+              ∙ ap (λ (l : List Event). known id.begin c.number l (c.mine ++ e ∷ [])) (ap (λ (l : List Event). l ++ e ∷ []) log_is ∙ sym log')
+              ∙ ap (λ (x : Event). known id.begin c.number trail'.log (c.mine ++ x ∷ [])) entered;
         }
 
     -- and so it did it to what contracts see
-    pub made_to : (old : SessionView) (was : record { store = store; log = trail.log } ≡ old) (c me d : Known) (is_c : me ≡ c) (answer : Reply) (trail' : TrailView) → me.begin ≡ id.begin → length trail.log < trail.limit → answer ≡ reply → number ≡ me.number
+    pub made_to : (old : SessionView) (was : record { store = store; log = trail.log } ≡ old) (c me d : Known) (answer : Reply) (trail' : TrailView) → Finds id old c → me ≡ known id.begin c.number old.log c.mine
+        → length trail.log < trail.limit → answer ≡ reply → number ≡ me.number
         → trail' ≡ record { log = trail.log ++ e ∷ []; limit = trail.limit }
         → d ≡ known id.begin me.number ((keeper_of keeper).log ++ e ∷ []) (me.mine ++ e ∷ [])
-        → IsPrefix me.seen (keeper_of keeper).log × (calls_by me.number (keeper_of keeper).log ≡ me.mine)
         → IsMade id old c call answer (record { store = new; log = trail'.log }) d
-    made_to old was c me d is_c answer trail' begins room same by pushed client knew =
-        subst (λ (v : SessionView). IsMade id v c call answer (record { store = new; log = trail'.log }) d) was
-        (subst (λ (k : Known). IsMade id (record { store = store; log = trail.log }) k call answer (record { store = new; log = trail'.log }) d) is_c
-        (made_by me d answer trail' begins room same by pushed client knew))
+    made_to old was c me d answer trail' finds sees room same by pushed client =
+        subst (λ (v : SessionView). Finds id v c → me ≡ known id.begin c.number v.log c.mine → IsMade id v c call answer (record { store = new; log = trail'.log }) d) was
+        (λ found shown. made_by c me d answer trail' found shown room same by pushed client) finds sees
 
   -- where memory was short, the session is as it was
   module _ (short : IsLost reply) where
     same_state : new.state ≡ store.state
-    same_state = serves.state ∙ (lost store.state call reply serves.allowed short).0
+    same_state = serves.state ∙ (lost store.state call reply serves.admitted short).0
 
     pub session_kept : IsSession id base new trail keeper
     session_kept = record {
@@ -167,17 +163,21 @@ module _ (id : SessionId) (base : ℕ) (store new : StoreView) (trail : TrailVie
       room = session.room;
     }
 
-    pub short_to : (old : SessionView) (was : record { store = store; log = trail.log } ≡ old) (c : Known) → length trail.log < trail.limit → IsRefused id old c call NoMemory (record { store = new; log = trail.log }) c
-    short_to old was c room = subst (λ (v : SessionView). IsShort id v c call (record { store = new; log = trail.log }) c) was record {
-      room = omega (arith, session.limit);
-      allowed = (lost store.state call reply serves.allowed short).1;
-      reply = reply;
-      lost = short;
-      serves = serves;
-      same_log = refl;
-      same_state = same_state;
-      same_client = refl;
-    }
+    pub short_to : (old : SessionView) (was : record { store = store; log = trail.log } ≡ old) (c d : Known) → Finds id old c → d ≡ known id.begin c.number old.log c.mine
+        → length trail.log < trail.limit → IsRefused id old c call NoMemory (record { store = new; log = trail.log }) d
+    short_to old was c d finds sees room =
+        subst (λ (v : SessionView). Finds id v c → d ≡ known id.begin c.number v.log c.mine → IsShort id v c call (record { store = new; log = trail.log }) d) was
+        (λ found shown. record {
+          finds = found;
+          room = omega (arith, session.limit);
+          allowed = (lost store.state call reply serves.admitted short).1;
+          reply = reply;
+          lost = short;
+          serves = serves;
+          same_log = refl;
+          same_state = same_state;
+          client = shown;
+        }) finds sees
 
 -- a place is left where the trail isn't full
 pub place_left : (n limit : ℕ) (full : Bool) → full ≡ (n == limit) → full ≡ false → n ≤ limit → n < limit
@@ -191,33 +191,30 @@ refused_with (Err x) e f P is known p = subst P (sym (is ∙ known)) p
 -- what a call tells a client, from what its hold did
 extends : (id : SessionId) (old new : SessionView) (c d : Known) (call : Call) (reply : Reply) → IsMade id old c call reply new d → Extends c call reply d
 extends id old new c d call reply m =
-    let e = event c.number call reply in
+    let e = event c.number (Called call) reply in
     subst (Extends c call reply) (sym m.client) record {
-      begin = sym m.knew.begin;
+      begin = sym m.finds.begin;
       number = refl;
-      between = m.knew.seen.0;
-      seen = m.log ∙ ap (λ (l : List Event). l ++ e ∷ []) (sym m.knew.seen.1);
+      between = m.finds.seen.0;
+      seen = m.log ∙ ap (λ (l : List Event). l ++ e ∷ []) (sym m.finds.seen.1);
       mine = refl;
       legal = m.legal;
-      own = ap (calls_by c.number) m.log ∙ (calls_by-mine c.number old.log e refl ∙ ap (λ (l : List Event). l ++ e ∷ []) m.knew.own);
+      own = ap (calls_by c.number) m.log ∙ (calls_by-mine c.number old.log e refl ∙ ap (λ (l : List Event). l ++ e ∷ []) m.finds.own);
       room = omega (arith, m.room, ap length m.log, length-append old.log (e ∷ []));
     }
 
-finds_full : (id : SessionId) (old new : SessionView) (c d : Known) → IsFull id old c new d → FindsFull c d
-finds_full id old new c d f = subst (FindsFull c) (sym f.client) record {
-  begin = sym f.knew.begin;
-  number = refl;
-  seen = f.knew.seen;
-  mine = refl;
-  legal = f.knew.legal;
-  own = f.knew.own;
-  full = f.full;
-}
+module _ (id : SessionId) (old : SessionView) (c d : Known) (finds : Finds id old c) (is : d ≡ known id.begin c.number old.log c.mine) where
+  sees : Sees c d
+  sees = subst (Sees c) (sym is) record { begin = sym finds.begin; number = refl; seen = finds.seen; mine = refl; legal = finds.legal; own = finds.own }
+
+  -- a client that is denied a call has seen the history behind which it is
+  denied : (call : Call) (e : Refusal) → Denies id.begin old.log call e → IsNoCall c call e d
+  denied call e why = (sees, subst (λ (k : Known). Denies k.begin k.seen call e) (sym is) why)
 
 no_call : (id : SessionId) (old new : SessionView) (c d : Known) (call : Call) (e : Refusal) → IsRefused id old c call e new d → IsNoCall c call e d
-no_call id old new c d call TrailFull r = finds_full id old new c d r
-no_call id old new c d call NotYours r = (r.same_client, r.releases ∙ ap (λ (b : Begin). Release (base_of b)) (sym r.begin))
-no_call id old new c d call NoMemory r = (r.same_client, r.allowed.1)
+no_call id old new c d call TrailFull r = denied id old c d r.finds r.client call TrailFull r.full
+no_call id old new c d call NotYours r = denied id old c d r.finds r.client call NotYours (r.room, r.releases)
+no_call id old new c d call NoMemory r = denied id old c d r.finds r.client call NoMemory (r.room, subst (λ (s : State). Allows s call (Refused NoMemory)) r.finds.state r.allowed)
 no_call id old new c d call e r = absurd r
 
 pub tells_made : {T : Type 0} (res : Result T Refusal) (f : T → Reply) (id : SessionId) (old new : SessionView) (c d : Known) (call : Call) → IfOk res (λ r. IsMade id old c call (f r) new d) → IfOk res (λ r. Extends c call (f r) d)

@@ -1,4 +1,5 @@
 pub mod Bases
 pub mod Counting
+pub mod Crashes
 pub mod Holds
 pub mod Endings

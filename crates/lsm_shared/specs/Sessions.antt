@@ -9,6 +9,7 @@ use Rattle.lsm_store.specs.Calls.{Call, Reply}
 use Rattle.lsm_store.specs.Calls.{Snapshot, Release, Refused, Value, Rows}
 use Rattle.lsm_store.specs.Effects.{after}
 use Rattle.lsm_store.specs.Refusals.{refusals, first_refusal}
+use Rattle.lsm_store.specs.Machine.{Called}
 use Rattle.lsm_store.specs.Run.{Allows}
 use Rattle.lsm_store.specs.Serving.{Serves}
 use Rattle.lsm_store.specs.State.{State}
@@ -59,12 +60,15 @@ pub record IsSession (id : SessionId) (base : ℕ) (store : StoreView) (trail : 
   pub limit : trail.limit ≡ id.begin.limit
   pub room : length trail.log ≤ trail.limit
 
--- what a client knew is true of the history under the lock
-pub record Knew (id : SessionId) (log : List Event) (c : Known) : Type 0 where
+-- What a hold of the lock finds: one legal history, and the store in the state after it, which the device backs where it
+-- did at the begin. What the client knew of the history is true.
+pub record Finds (id : SessionId) (old : SessionView) (c : Known) : Type 0 where
+  pub legal : IsLegal id.begin old.log
+  pub state : old.store.state ≡ state_after id.begin old.log
+  pub backed : IsBacked id.begin.store → IsBacked old.store
   pub begin : c.begin ≡ id.begin
-  pub seen : IsPrefix c.seen log
-  pub own : calls_by c.number log ≡ c.mine
-  pub legal : IsLegal id.begin log
+  pub seen : IsPrefix c.seen old.log
+  pub own : calls_by c.number old.log ≡ c.mine
 
 -- a reply for which memory was short: the store's, or a value or a page of which there is no second copy
 abbrev pub IsLost : Reply → Type 0
@@ -75,32 +79,34 @@ IsLost other = ⊥
 
 -- One hold of the lock made this call of the client, and entered it.
 pub record IsMade (id : SessionId) (old : SessionView) (c : Known) (call : Call) (reply : Reply) (new : SessionView) (d : Known) : Type 0 where
-  pub knew : Knew id old.log c
+  pub finds : Finds id old c
   pub room : length old.log < id.begin.limit
   pub serves : Serves old.store call reply new.store
-  pub log : new.log ≡ old.log ++ event c.number call reply ∷ []
+  pub log : new.log ≡ old.log ++ event c.number (Called call) reply ∷ []
   pub legal : IsLegal id.begin new.log
-  pub client : d ≡ known id.begin c.number new.log (c.mine ++ event c.number call reply ∷ [])
+  pub state : new.store.state ≡ state_after id.begin new.log
+  pub client : d ≡ known id.begin c.number new.log (c.mine ++ event c.number (Called call) reply ∷ [])
 
--- One hold of the lock made no call: the trail is full, and the client has seen it.
+-- One hold of the lock made no call: the trail is full. All is as it was, but that the client has seen the history.
 pub record IsFull (id : SessionId) (old : SessionView) (c : Known) (new : SessionView) (d : Known) : Type 0 where
-  pub knew : Knew id old.log c
+  pub finds : Finds id old c
   pub full : length old.log ≡ id.begin.limit
   pub same : new ≡ old
   pub client : d ≡ known id.begin c.number old.log c.mine
 
 -- One hold of the lock made no call: it was to release the base, and the trail has a place for another entry. All is as it
--- was.
+-- was, but that the client has seen the history.
 pub record IsReserved (id : SessionId) (old : SessionView) (c : Known) (call : Call) (new : SessionView) (d : Known) : Type 0 where
-  pub begin : c.begin ≡ id.begin
+  pub finds : Finds id old c
   pub room : length old.log < id.begin.limit
   pub releases : call ≡ Release (base_of id.begin)
   pub same : new ≡ old
-  pub same_client : d ≡ c
+  pub client : d ≡ known id.begin c.number old.log c.mine
 
--- One hold of the lock found no memory, in the store or for a second copy of its reply. The history, the state and what
--- the client knows are as they were.
+-- One hold of the lock found no memory, in the store or for a second copy of its reply. The history and the state are as
+-- they were, and the client has seen the history.
 pub record IsShort (id : SessionId) (old : SessionView) (c : Known) (call : Call) (new : SessionView) (d : Known) : Type 0 where
+  pub finds : Finds id old c
   pub room : length old.log < id.begin.limit
   pub allowed : Allows old.store.state call (Refused NoMemory)
   pub reply : Reply
@@ -108,7 +114,7 @@ pub record IsShort (id : SessionId) (old : SessionView) (c : Known) (call : Call
   pub serves : Serves old.store call reply new.store
   pub same_log : new.log ≡ old.log
   pub same_state : new.store.state ≡ old.store.state
-  pub same_client : d ≡ c
+  pub client : d ≡ known id.begin c.number old.log c.mine
 
 abbrev pub IsRefused : SessionId → SessionView → Known → Call → Refusal → SessionView → Known → Type 0
 IsRefused id old c call TrailFull new d = IsFull id old c new d
@@ -124,8 +130,9 @@ released number s = if is_some s.stopped then s else after s (Release number)
 abbrev pub ended_state : Begin → List Event → State
 ended_state b log = released (base_of b) (state_after b log)
 
--- A session has ended: the trail is a legal history from its begin, which has just the calls of each client, and the
--- store is in the state after it with the base released, which the device backs where it did at the begin.
+-- A session has ended: the trail is a legal history from its begin, which begins with what each client had seen and has just
+-- the calls that it made, and the store is in the state after it with the base released, which the device backs where it
+-- did at the begin.
 pub record IsEnded (b : Begin) (clients : List Known) (store : StoreView) (trail : TrailView) : Type 0 where
   pub legal : IsLegal b trail.log
   pub state : store.state ≡ ended_state b trail.log

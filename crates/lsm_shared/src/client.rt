@@ -62,7 +62,7 @@ impl<A: Allocator + Clone, B: SessionName> Client<A, B> {
     ///
     /// It is refused with `TrailFull` where the trail has no place for another entry, and else with `NotYours` where it is
     /// to release the session's base, both before anything is done; and with `NoMemory`, where the state of the store is as
-    /// it was. A call that is refused is not in the trail.
+    /// it was. A call that is refused is not in the trail, and the client has then seen the history up to there.
     pub fn call<D: Device, R: Wait>(
         &mut self,
         rt: &R,

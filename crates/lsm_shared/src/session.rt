@@ -1,11 +1,12 @@
 // The value behind the lock.
 ghost use Rattle.std.specs.Prelude.{◌≡◌, ◌≢◌, ℕ, ◌≤◌, [], length, IfOk, IfErr, MatchBool};
+ghost use mathlib.Core.List.{IsPrefix};
 ghost use Rattle.lsm_lives.specs.Calls.{call_of, reply_of};
 ghost use Rattle.lsm_store.specs.Backing.{IsBacked};
 ghost use Rattle.lsm_store.specs.Calls.{Release};
 ghost use Rattle.lsm_trail.specs.History.{IsLegal, calls_by};
-ghost use Rattle.lsm_trail.specs.Knowledge.{keeper_of, IsKeeperPass};
-ghost use Rattle.lsm_shared.specs.Sessions.{IsPinned, IsMade, IsRefused, ended_state};
+ghost use Rattle.lsm_trail.specs.Knowledge.{known, keeper_of, IsKeeperPass};
+ghost use Rattle.lsm_shared.specs.Sessions.{IsPinned, Finds, IsMade, IsRefused, ended_state};
 
 use crate::answer::answer_of;
 use crate::client::Client;
@@ -63,9 +64,19 @@ impl<D: Device, A: Allocator, B: SessionName> Session<D, A, B> {
         }
     }
 
-    // The client is no more. Its calls in the trail are those that it made.
+    // The client sees the history. What it knew of it is true.
+    fn show(&mut self, counters: &Counters<D, A, B>, client: &mut Client<A, B>)
+        ensures same { self.new ≡ self.old }
+        ensures finds { Finds B.id self.old client.old }
+        ensures known { client.new ≡ known B.id.begin client.old.number self.old.log client.old.mine }
+    {
+        counters.note(&mut self.keeper, &mut client.pass);
+    }
+
+    // The client is no more. The trail begins with what it had seen, and its calls in it are those that it made.
     pub(crate) fn retire(&mut self, counters: &Counters<D, A, B>, client: Client<A, B>)
         ensures same { self.new ≡ self.old }
+        ensures seen { IsPrefix client.seen self.old.log }
         ensures calls { calls_by client.number self.old.log ≡ client.mine }
         ensures strangers { (x : ℕ) → B.id.begin.clients ≤ x → calls_by x self.old.log ≡ [] }
     {
@@ -94,7 +105,7 @@ impl<D: Device, A: Allocator, B: SessionName> Session<D, A, B> {
 }
 
 impl<D: Device, A: Allocator + Clone, B: SessionName> Session<D, A, B> {
-    /// Serves a call of the client, and enters it. It is refused as [`Client::call`] is.
+    /// Serves a call of the client, and enters it. It is refused as [`Client::call`] is. The client sees the history first.
     pub fn serve(
         &mut self,
         counters: &Counters<D, A, B>,
@@ -104,8 +115,8 @@ impl<D: Device, A: Allocator + Clone, B: SessionName> Session<D, A, B> {
         ensures made { IfOk result (λ reply. IsMade B.id self.old me.old (call_of call) (reply_of reply) self.new me.new) }
         ensures refused { IfErr result (λ e. IsRefused B.id self.old me.old (call_of call) e self.new me.new) }
     {
+        self.show(counters, me);
         if self.trail.is_full() {
-            counters.note(&mut self.keeper, &mut me.pass);
             return Err(Refusal::TrailFull);
         }
         if releases(&call, self.base) {

@@ -114,8 +114,8 @@ impl<D: Device, A: Allocator, B: SessionName> Shared<D, A, B> {
         self.base
     }
 
-    /// Ends the session: it gives the store, which lets the base go unless it is stopped, and the trail, which has just the
-    /// calls that each client made. It is refused with `NotYours` where these are not the session's clients, each once, and
+    /// Ends the session: it gives the store, which lets the base go unless it is stopped, and the trail, which begins with
+    /// what each client had seen and has just the calls that each client made. It is refused with `NotYours` where these are not the session's clients, each once, and
     /// then hands all back.
     pub fn finish(
         self,

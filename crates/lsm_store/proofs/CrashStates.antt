@@ -14,7 +14,8 @@ use Rattle.lsm_store.specs.Refusals.{refusal}
 use Rattle.lsm_store.specs.Effects.{with_sectors, after, decided, reply_by, Use, use_of}
 use Rattle.lsm_store.specs.Effects.{Untouched, Reads, Changes}
 use Rattle.lsm_store.specs.Crash.{closed_with, crash_state_at, left_between, left_with, may_leave, last_crash_state, left_besides, left_inside}
-use Rattle.lsm_store.specs.Run.{Allows, after_fault, next}
+use Rattle.lsm_store.specs.Machine.{Machine, Step, Called}
+use Rattle.lsm_store.specs.Run.{Admits, after_fault, next, AdmitsStep, next_machine, left_in_step}
 use Rattle.lsm_store.proofs.Membership.{in_head, one_in, in_map, map_cases}
 use Rattle.lsm_store.proofs.Points.{present_in, with_batch_cases}
 
@@ -111,10 +112,13 @@ answer_unrefused s call reply answers is = by (refusal s call) (subst IsAnswer i
     by (Some e) h = absurd h
 
 -- what a crash may leave after a reply, it may leave inside the call
-pub goes_inside : (s : State) (call : Call) (reply : Reply) (left : CrashState) → Allows s call reply → Contains (may_leave (next s call reply)) left → Contains (left_inside s call) left
-goes_inside s call (Refused Io) left allows found = inside_unrefused s call left allows.0 (after_fault_goes s call left (use_of s call) found)
-goes_inside s call (Refused e) left allows found = Contains-append_left (may_leave s) _ left found
-goes_inside s call (Number n) left allows found = inside_unrefused s call left (answer_unrefused s call (Number n) tt allows) (after_goes s call left found)
-goes_inside s call Done left allows found = inside_unrefused s call left (answer_unrefused s call Done tt allows) (after_goes s call left found)
-goes_inside s call (Value v) left allows found = inside_unrefused s call left (answer_unrefused s call (Value v) tt allows) (after_goes s call left found)
-goes_inside s call (Rows page) left allows found = inside_unrefused s call left (answer_unrefused s call (Rows page) tt allows) (after_goes s call left found)
+pub goes_inside : (s : State) (call : Call) (reply : Reply) (left : CrashState) → Admits s call reply → Contains (may_leave (next s call reply)) left → Contains (left_inside s call) left
+goes_inside s call (Refused Io) left may found = inside_unrefused s call left may.0 (after_fault_goes s call left (use_of s call) found)
+goes_inside s call (Refused e) left may found = Contains-append_left (may_leave s) _ left found
+goes_inside s call (Number n) left may found = inside_unrefused s call left (answer_unrefused s call (Number n) tt may) (after_goes s call left found)
+goes_inside s call Done left may found = inside_unrefused s call left (answer_unrefused s call Done tt may) (after_goes s call left found)
+goes_inside s call (Value v) left may found = inside_unrefused s call left may.0 (after_goes s call left found)
+goes_inside s call (Rows page) left may found = inside_unrefused s call left may.0 (after_goes s call left found)
+
+pub goes_in_step : (m : Machine) (step : Step) (reply : Reply) (left : CrashState) → AdmitsStep m step reply → Contains (may_leave (next_machine m step reply).state) left → Contains (left_in_step m step) left
+goes_in_step m (Called call) reply left may found = goes_inside m.state call reply left may found

@@ -6,8 +6,9 @@ use Rattle.std.proofs.lemmas.List.{length-append, length-take-le, take-append-le
 use Rattle.lsm_codec.specs.Map.{Operation, apply_all}
 use Rattle.lsm_open.specs.CrashState.{CrashState, left_by_opening}
 use Rattle.lsm_open.proofs.Openings.{one_opening}
-use Rattle.lsm_store.specs.Calls.{Call, Reply}
+use Rattle.lsm_store.specs.Calls.{Reply}
 use Rattle.lsm_store.specs.Calls.{Number, Done, Value, Rows, Refused}
+use Rattle.lsm_store.specs.Machine.{Step}
 use Rattle.lsm_store.specs.Promise.{accepted, acknowledged, in_flight, IsBeginning}
 use Rattle.lsm_store.specs.Lives.{Life, KeptByLife, IsAfter, PromiseOverLives}
 use Rattle.lsm_store.proofs.Points.{apply_all-append, take_sum}
@@ -21,18 +22,18 @@ beyond xs ys n =
     ∙ ap (λ l. xs ++ take n l) (drop_at xs ys (length xs) refl)
 
 -- what a life keeps
-record IsKeptBy (before : List (List Operation)) (calls : List Call) (replies : List Reply) (left : CrashState) : Type 0 where
+record IsKeptBy (before : List (List Operation)) (steps : List Step) (replies : List Reply) (left : CrashState) : Type 0 where
   pub kept : List (List Operation)
-  pub by_life : KeptByLife before calls replies kept
+  pub by_life : KeptByLife before steps replies kept
   pub after : IsAfter kept left
 
 module _ (before : List (List Operation)) (opened : CrashState) (was : IsAfter before opened) where
-  from_beginning : (n : ℕ) (calls : List Call) (replies : List Reply) (left : CrashState) → IsBeginning opened (accepted calls replies ++ in_flight calls replies) (acknowledged opened.count calls replies) left
-      → IsKeptBy before calls (Number n ∷ replies) left
-  from_beginning n calls replies left h =
-      let more = accepted calls replies ++ in_flight calls replies in
+  from_beginning : (n : ℕ) (steps : List Step) (replies : List Reply) (left : CrashState) → IsBeginning opened (accepted steps replies ++ in_flight steps replies) (acknowledged opened.count steps replies) left
+      → IsKeptBy before steps (Number n ∷ replies) left
+  from_beginning n steps replies left h =
+      let more = accepted steps replies ++ in_flight steps replies in
       let within : length before + h.holds ≤ length (before ++ more) = rw length-append (omega (arith, h.among)) in
-      let known : acknowledged (length before) calls replies ≤ h.holds = subst (λ k. acknowledged k calls replies ≤ h.holds) was.count h.at_least in
+      let known : acknowledged (length before) steps replies ≤ h.holds = subst (λ k. acknowledged k steps replies ≤ h.holds) was.count h.at_least in
       record {
         kept = take (length before + h.holds) (before ++ more);
         by_life = record { holds = length before + h.holds; at_least = omega (arith, known); among = within; is = refl };
@@ -49,19 +50,19 @@ module _ (before : List (List Operation)) (opened : CrashState) (was : IsAfter b
       (λ next. subst (IsAfter before) (sym next.0) (record { count = was.count; same_map = was.same_map }))
       (one_opening opened left found)
 
-  one_life : (log_sectors : ℕ) (calls : List Call) (replies : List Reply) (left : CrashState) → Life log_sectors opened [] calls replies left → IsKeptBy before calls replies left
-  one_life log_sectors calls (Number n ∷ replies) left life = from_beginning n calls replies left ((promise log_sectors opened calls replies life.answered.2).between left life.crash)
-  one_life log_sectors calls (Refused e ∷ replies) left life = record { kept = before; by_life = refl; after = same_after left life.crash }
-  one_life log_sectors calls [] left life = absurd life.answered
-  one_life log_sectors calls (Done ∷ replies) left life = absurd life.answered
-  one_life log_sectors calls (Value v ∷ replies) left life = absurd life.answered
-  one_life log_sectors calls (Rows page ∷ replies) left life = absurd life.answered
+  one_life : (log_sectors : ℕ) (steps : List Step) (replies : List Reply) (left : CrashState) → Life log_sectors opened [] steps replies left → IsKeptBy before steps replies left
+  one_life log_sectors steps (Number n ∷ replies) left life = from_beginning n steps replies left ((promise log_sectors opened life.machine steps replies life.answered.2 life.answered.3).between left life.crash)
+  one_life log_sectors steps (Refused e ∷ replies) left life = record { kept = before; by_life = refl; after = same_after left life.crash }
+  one_life log_sectors steps [] left life = absurd life.answered
+  one_life log_sectors steps (Done ∷ replies) left life = absurd life.answered
+  one_life log_sectors steps (Value v ∷ replies) left life = absurd life.answered
+  one_life log_sectors steps (Rows page ∷ replies) left life = absurd life.answered
 
 pub promise_over_lives : PromiseOverLives
 promise_over_lives log_sectors before opened [] [] left was same = (before, (refl, same, subst (IsAfter before) (sym same) was))
-promise_over_lives log_sectors before opened (calls ∷ lives) (replies ∷ rest) left was (mid, life, later) =
-    let first = one_life before opened was log_sectors calls replies mid life in
+promise_over_lives log_sectors before opened (steps ∷ lives) (replies ∷ rest) left was (mid, life, later) =
+    let first = one_life before opened was log_sectors steps replies mid life in
     let then = promise_over_lives log_sectors first.kept mid lives rest left first.after later in
     (then.0, (first.kept, mid, record { opens = was; life = life; keeps = first.by_life }, then.1))
 promise_over_lives log_sectors before opened [] (replies ∷ rest) left was h = absurd h
-promise_over_lives log_sectors before opened (calls ∷ lives) [] left was h = absurd h
+promise_over_lives log_sectors before opened (steps ∷ lives) [] left was h = absurd h

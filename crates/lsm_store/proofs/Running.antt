@@ -1,58 +1,66 @@
--- Laws of calls one after another.
-use Rattle.std.proofs.Common.{◌≡◌, ⊎_elim, Bool, true, false, cond, List, [], ◌∷◌, ◌++◌, Option, Some, None, is_some, refl, ap, sym, subst, ◌∙◌}
-use Rattle.std.specs.Prelude.{Contains, IsNone}
+-- Laws of steps one after another.
+use Rattle.std.proofs.Common.{◌≡◌, ⊎_elim, Bool, true, false, cond, List, [], ◌∷◌, ◌++◌, ◌≢◌, Option, Some, None, is_some, refl, ap, sym, subst, ◌∙◌}
+use Rattle.std.specs.Prelude.{Contains, IsNone, IsSome, IsTrue}
 use Rattle.std.proofs.lemmas.List.Elements.{Contains-append_left, Contains-append_right, Contains-append_cases}
 use Rattle.std.specs.List.{AllByRecursion}
 use Rattle.lsm_device.specs.declared.refusal.Refusal.{Refusal}
-use Rattle.lsm_device.specs.declared.refusal.Refusal.TheVariants.{NoMemory, Io, Stopped}
+use Rattle.lsm_device.specs.declared.refusal.Refusal.TheVariants.{NoMemory, Io, Stopped, BadTable}
 use Rattle.lsm_open.specs.CrashState.{CrashState}
+use Rattle.lsm_codec.specs.Keys.{Bytes}
 use Rattle.lsm_store.specs.State.{State}
+use Rattle.lsm_store.specs.Paging.{Page}
 use Rattle.lsm_store.specs.Calls.{Call, Reply}
 use Rattle.lsm_store.specs.Calls.{Commit, Sync, SyncTo, Get, Scan, Snapshot, Release, LogRoom, Number, Done, Value, Rows, Refused}
 use Rattle.lsm_store.specs.Refusals.{refusals, first_refusal, refusal}
 use Rattle.lsm_store.specs.Effects.{answer, after, decided, completed, reply_by, state_by}
-use Rattle.lsm_store.specs.Crash.{may_leave, left_inside}
-use Rattle.lsm_store.specs.Run.{Allows, next, Run, last_state, left_in_run, ample_replies, ample_state}
+use Rattle.lsm_store.specs.Crash.{may_leave}
+use Rattle.lsm_store.specs.Machine.{Machine, Step, Called}
+use Rattle.lsm_store.specs.Run.{Allows, Admits, asks_value, asks_page, next, AllowsStep, AdmitsStep, next_machine, left_in_step, RunBy, Run, Course, last_machine, left_in_run, decided_step, completed_step, ample_replies, ample_machine}
 
 -- ---- joining
 
-module _ (more : List Call) (others : List Reply) where
-  pub run_join : (s : State) (calls : List Call) (replies : List Reply) → Run s calls replies → Run (last_state s calls replies) more others → Run s (calls ++ more) (replies ++ others)
-  run_join s [] [] run rest = rest
-  run_join s (call ∷ calls) (reply ∷ replies) run rest = (run.0, run_join (next s call reply) calls replies run.1 rest)
-  run_join s [] (reply ∷ replies) run rest = absurd run
-  run_join s (call ∷ calls) [] run rest = absurd run
+module _ (more : List Step) (others : List Reply) where
+  pub run_join : (May : Machine → Step → Reply → Type 0) (m : Machine) (steps : List Step) (replies : List Reply) → RunBy May m steps replies → RunBy May (last_machine m steps replies) more others
+      → RunBy May m (steps ++ more) (replies ++ others)
+  run_join May m [] [] run rest = rest
+  run_join May m (step ∷ steps) (reply ∷ replies) run rest = (run.0, run_join May (next_machine m step reply) steps replies run.1 rest)
+  run_join May m [] (reply ∷ replies) run rest = absurd run
+  run_join May m (step ∷ steps) [] run rest = absurd run
 
-  pub last_join : (s : State) (calls : List Call) (replies : List Reply) → Run s calls replies → last_state s (calls ++ more) (replies ++ others) ≡ last_state (last_state s calls replies) more others
-  last_join s [] [] run = refl
-  last_join s (call ∷ calls) (reply ∷ replies) run = last_join (next s call reply) calls replies run.1
-  last_join s [] (reply ∷ replies) run = absurd run
-  last_join s (call ∷ calls) [] run = absurd run
+  pub last_join : (m : Machine) (steps : List Step) (replies : List Reply) → Course m steps replies → last_machine m (steps ++ more) (replies ++ others) ≡ last_machine (last_machine m steps replies) more others
+  last_join m [] [] run = refl
+  last_join m (step ∷ steps) (reply ∷ replies) run = last_join (next_machine m step reply) steps replies run.1
+  last_join m [] (reply ∷ replies) run = absurd run
+  last_join m (step ∷ steps) [] run = absurd run
 
-  pub left_behind : (left : CrashState) (s : State) (calls : List Call) (replies : List Reply) → Run s calls replies
-      → Contains (left_in_run (last_state s calls replies) more others) left → Contains (left_in_run s (calls ++ more) (replies ++ others)) left
-  left_behind left s [] [] run found = found
-  left_behind left s (call ∷ calls) (reply ∷ replies) run found = Contains-append_right (left_inside s call) _ left (left_behind left (next s call reply) calls replies run.1 found)
-  left_behind left s [] (reply ∷ replies) run found = absurd run
-  left_behind left s (call ∷ calls) [] run found = absurd run
+  pub left_behind : (left : CrashState) (m : Machine) (steps : List Step) (replies : List Reply) → Course m steps replies
+      → Contains (left_in_run (last_machine m steps replies) more others) left → Contains (left_in_run m (steps ++ more) (replies ++ others)) left
+  left_behind left m [] [] run found = found
+  left_behind left m (step ∷ steps) (reply ∷ replies) run found = Contains-append_right (left_in_step m step) _ left (left_behind left (next_machine m step reply) steps replies run.1 found)
+  left_behind left m [] (reply ∷ replies) run found = absurd run
+  left_behind left m (step ∷ steps) [] run found = absurd run
+
+-- what a crash may leave before a step, it may leave inside it
+pub before_step : (left : CrashState) (m : Machine) (step : Step) → Contains (may_leave m.state) left → Contains (left_in_step m step) left
+before_step left m (Called call) found = Contains-append_left (may_leave m.state) _ left found
 
 -- what a state may leave is left in each run from it
-pub left_now : (left : CrashState) (s : State) (calls : List Call) (replies : List Reply) → Contains (may_leave s) left → Contains (left_in_run s calls replies) left
-left_now left s [] [] found = found
-left_now left s [] (reply ∷ replies) found = found
-left_now left s (call ∷ calls) [] found = found
-left_now left s (call ∷ calls) (reply ∷ replies) found = Contains-append_left (left_inside s call) _ left (Contains-append_left (may_leave s) _ left found)
+pub left_now : (left : CrashState) (m : Machine) (steps : List Step) (replies : List Reply) → Contains (may_leave m.state) left → Contains (left_in_run m steps replies) left
+left_now left m [] [] found = found
+left_now left m [] (reply ∷ replies) found = found
+left_now left m (step ∷ steps) [] found = found
+left_now left m (step ∷ steps) (reply ∷ replies) found = Contains-append_left (left_in_step m step) _ left (before_step left m step found)
 
-module _ (more : List Call) (others : List Reply) where
-  pub left_before : (left : CrashState) (s : State) (calls : List Call) (replies : List Reply) → Run s calls replies
-      → Contains (left_in_run s calls replies) left → Contains (left_in_run s (calls ++ more) (replies ++ others)) left
-  left_before left s [] [] run found = left_now left s more others found
-  left_before left s (call ∷ calls) (reply ∷ replies) run found = ⊎_elim
-      (λ here. Contains-append_left (left_inside s call) _ left here)
-      (λ later. Contains-append_right (left_inside s call) _ left (left_before left (next s call reply) calls replies run.1 later))
-      (Contains-append_cases (left_inside s call) (left_in_run (next s call reply) calls replies) left found)
-  left_before left s [] (reply ∷ replies) run found = absurd run
-  left_before left s (call ∷ calls) [] run found = absurd run
+module _ (more : List Step) (others : List Reply) where
+  pub left_before : (left : CrashState) (m : Machine) (steps : List Step) (replies : List Reply) → Course m steps replies
+      → Contains (left_in_run m steps replies) left → Contains (left_in_run m (steps ++ more) (replies ++ others)) left
+  left_before left m [] [] run found = left_now left m more others found
+  left_before left m (step ∷ steps) (reply ∷ replies) run found = ⊎_elim
+      (λ here. Contains-append_left (left_in_step m step) _ left here)
+      (λ later. Contains-append_right (left_in_step m step) _ left (left_before left (next_machine m step reply) steps replies run.1 later))
+      (Contains-append_cases (left_in_step m step) (left_in_run (next_machine m step reply) steps replies) left found)
+  left_before left m [] (reply ∷ replies) run found = absurd run
+  left_before left m (step ∷ steps) [] run found = absurd run
 
 -- ---- ample memory, and no fault
 
@@ -60,6 +68,7 @@ module _ (more : List Call) (others : List Reply) where
 abbrev pub IsDecided : Option Refusal → Type 0
 IsDecided (Some NoMemory) = ⊥
 IsDecided (Some Io) = ⊥
+IsDecided (Some BadTable) = ⊥
 IsDecided other = Unit {0}
 
 pub refusal_decided : (s : State) (call : Call) → IsDecided (refusal s call)
@@ -108,37 +117,135 @@ module _ (s : State) where
   pub decided_goes : (call : Call) → Allows s call (decided s call) × (next s call (decided s call) ≡ completed s call)
   decided_goes call = by_either call (refusal s call) refl (refusal_decided s call)
 
-pub ample_run : (s : State) (calls : List Call) → Run s calls (ample_replies s calls)
-ample_run s [] = tt
-ample_run s (call ∷ calls) =
-    let goes = decided_goes s call in
-    (goes.0, subst (λ (t : State). Run t calls (ample_replies (completed s call) calls)) (sym goes.1) (ample_run (completed s call) calls))
+-- the same of a step
+pub step_goes : (m : Machine) (step : Step) → AllowsStep m step (decided_step m step) × (next_machine m step (decided_step m step) ≡ completed_step m step)
+step_goes m (Called call) = let goes = decided_goes m.state call in (goes.0, λ i. record { state = goes.1 i })
 
-pub ample_last : (s : State) (calls : List Call) → last_state s calls (ample_replies s calls) ≡ ample_state s calls
-ample_last s [] = refl
-ample_last s (call ∷ calls) =
-    ap (λ (t : State). last_state t calls (ample_replies (completed s call) calls)) (decided_goes s call).1 ∙ ample_last (completed s call) calls
+pub ample_run : (m : Machine) (steps : List Step) → Run m steps (ample_replies m steps)
+ample_run m [] = tt
+ample_run m (step ∷ steps) =
+    let goes = step_goes m step in
+    (goes.0, subst (λ (n : Machine). Run n steps (ample_replies (completed_step m step) steps)) (sym goes.1) (ample_run (completed_step m step) steps))
+
+pub ample_last : (m : Machine) (steps : List Step) → last_machine m steps (ample_replies m steps) ≡ ample_machine m steps
+ample_last m [] = refl
+ample_last m (step ∷ steps) =
+    ap (λ (n : Machine). last_machine n steps (ample_replies (completed_step m step) steps)) (step_goes m step).1 ∙ ample_last (completed_step m step) steps
+
+-- ---- what memory admits
+
+-- where an answer is a value or a page, nothing refuses the call, and it asks for one
+value_asked : (s : State) (call : Call) (value : Option Bytes) → Value value ≡ decided s call → IsNone (refusal s call) × IsTrue (asks_value call)
+value_asked s call value is = by (refusal s call) is
+  where
+    at : (c : Call) → Value value ≡ answer s c → IsTrue (asks_value c)
+    at (Commit batch) e = cc
+    at Sync e = cc
+    at (SyncTo number) e = cc
+    at (Get a key) e = refl
+    at (Scan a from to limit) e = cc
+    at Snapshot e = cc
+    at (Release number) e = cc
+    at LogRoom e = cc
+
+    by : (o : Option Refusal) → Value value ≡ reply_by s call o → IsNone o × IsTrue (asks_value call)
+    by None e = (refl, at call e)
+    by (Some refused) e = cc
+
+page_asked : (s : State) (call : Call) (page : Page) → Rows page ≡ decided s call → IsNone (refusal s call) × IsTrue (asks_page call)
+page_asked s call page is = by (refusal s call) is
+  where
+    at : (c : Call) → Rows page ≡ answer s c → IsTrue (asks_page c)
+    at (Commit batch) e = cc
+    at Sync e = cc
+    at (SyncTo number) e = cc
+    at (Get a key) e = cc
+    at (Scan a from to limit) e = refl
+    at Snapshot e = cc
+    at (Release number) e = cc
+    at LogRoom e = cc
+
+    by : (o : Option Refusal) → Rows page ≡ reply_by s call o → IsNone o × IsTrue (asks_page call)
+    by None e = (refl, at call e)
+    by (Some refused) e = cc
+
+-- a state decides no bad table
+pub no_bad_table : (s : State) (call : Call) → Allows s call (Refused BadTable) → ⊥
+no_bad_table s call allows = by (refusal s call) (refusal_decided s call) allows
+  where
+    at : (c : Call) → Refused BadTable ≡ answer s c → ⊥
+    at (Commit batch) e = cc
+    at Sync e = cc
+    at (SyncTo number) e = cc
+    at (Get a key) e = cc
+    at (Scan a from to limit) e = cc
+    at Snapshot e = cc
+    at (Release number) e = cc
+    at LogRoom e = cc
+
+    by : (o : Option Refusal) → IsDecided o → Refused BadTable ≡ reply_by s call o → ⊥
+    by None h e = at call e
+    by (Some refused) h e = let same : BadTable ≡ refused = cc in subst (λ (r : Refusal). IsDecided (Some r)) (sym same) h
+
+pub no_bad_table_in : (m : Machine) (step : Step) → AllowsStep m step (Refused BadTable) → ⊥
+no_bad_table_in m (Called call) allows = no_bad_table m.state call allows
+
+-- what a state allows, memory admits
+pub admits : (s : State) (call : Call) (reply : Reply) → Allows s call reply → Admits s call reply
+admits s call (Refused NoMemory) allows = allows
+admits s call (Refused Io) allows = allows
+admits s call (Refused BadTable) allows = absurd (no_bad_table s call allows)
+admits s call (Refused e) allows = allows
+admits s call (Number n) allows = allows
+admits s call Done allows = allows
+admits s call (Value value) allows = value_asked s call value allows
+admits s call (Rows page) allows = page_asked s call page allows
+
+pub admits_step : (m : Machine) (step : Step) (reply : Reply) → AllowsStep m step reply → AdmitsStep m step reply
+admits_step m (Called call) reply allows = admits m.state call reply allows
+
+pub course_of : (m : Machine) (steps : List Step) (replies : List Reply) → Run m steps replies → Course m steps replies
+course_of m [] [] run = tt
+course_of m (step ∷ steps) (reply ∷ replies) run = (admits_step m step reply run.0, course_of (next_machine m step reply) steps replies run.1)
+course_of m [] (reply ∷ replies) run = absurd run
+course_of m (step ∷ steps) [] run = absurd run
 
 -- ---- a stopped store
 
 pub stopped_refusal : (s : State) (call : Call) (others : List CrashState) → s.stopped ≡ Some others → refusal s call ≡ Some Stopped
 stopped_refusal s call others is = ap (λ (o : Option (List CrashState)). first_refusal ((is_some o, Stopped) ∷ refusals s call)) is
 
--- a reply that the state decides where it refuses
-stopped_reply : (s : State) (call : Call) (reply : Reply) → refusal s call ≡ Some Stopped → Allows s call reply → reply ≡ Refused Stopped
-stopped_reply s call (Refused NoMemory) is allows = absurd (no (subst IsNone is allows.0))
-  where
-    no : IsNone (Some Stopped) → ⊥
-    no h = cc
-stopped_reply s call (Refused Io) is allows = absurd (no (subst IsNone is allows.0))
-  where
-    no : IsNone (Some Stopped) → ⊥
-    no h = cc
-stopped_reply s call (Refused e) is allows = allows ∙ ap (reply_by s call) is
-stopped_reply s call (Number n) is allows = allows ∙ ap (reply_by s call) is
-stopped_reply s call Done is allows = allows ∙ ap (reply_by s call) is
-stopped_reply s call (Value v) is allows = allows ∙ ap (reply_by s call) is
-stopped_reply s call (Rows page) is allows = allows ∙ ap (reply_by s call) is
+no_none : IsNone (Some Stopped) → ⊥
+no_none h = cc
+
+-- a reply that memory admits where the state refuses
+stopped_reply : (s : State) (call : Call) (reply : Reply) → refusal s call ≡ Some Stopped → Admits s call reply → reply ≡ Refused Stopped
+stopped_reply s call (Refused NoMemory) is admits = absurd (no_none (subst IsNone is admits.0))
+stopped_reply s call (Refused Io) is admits = absurd (no_none (subst IsNone is admits.0))
+stopped_reply s call (Refused BadTable) is admits = absurd (no_none (subst IsNone is admits.0))
+stopped_reply s call (Refused e) is admits = admits ∙ ap (reply_by s call) is
+stopped_reply s call (Number n) is admits = admits ∙ ap (reply_by s call) is
+stopped_reply s call Done is admits = admits ∙ ap (reply_by s call) is
+stopped_reply s call (Value v) is admits = absurd (no_none (subst IsNone is admits.0))
+stopped_reply s call (Rows page) is admits = absurd (no_none (subst IsNone is admits.0))
+
+pub stopped_admits : (s : State) (call : Call) (reply : Reply) (others : List CrashState) → s.stopped ≡ Some others → Admits s call reply → reply ≡ Refused Stopped
+stopped_admits s call reply others is admits = stopped_reply s call reply (stopped_refusal s call others is) admits
 
 pub stopped_answers : (s : State) (call : Call) (reply : Reply) (others : List CrashState) → s.stopped ≡ Some others → Allows s call reply → reply ≡ Refused Stopped
-stopped_answers s call reply others is allows = stopped_reply s call reply (stopped_refusal s call others is) allows
+stopped_answers s call reply others is allows = stopped_admits s call reply others is (admits s call reply allows)
+
+some_of : {X : Type 0} (o : Option X) → IsSome o → (x : X) × (o ≡ Some x)
+some_of (Some x) is = (x, refl)
+some_of None is = cc
+
+pub step_stopped : (m : Machine) (step : Step) (reply : Reply) → IsSome m.state.stopped → AdmitsStep m step reply → reply ≡ Refused Stopped
+step_stopped m (Called call) reply stopped may = let others = some_of m.state.stopped stopped in stopped_admits m.state call reply others.0 others.1 may
+
+-- a refusal that tells of no fault changes nothing
+pub step_refused : (m : Machine) (step : Step) (e : Refusal) → e ≢ Io → next_machine m step (Refused e) ≡ m
+step_refused m (Called call) Io other = absurd (other refl)
+step_refused m (Called call) e other = refl
+
+pub step_stays : (m : Machine) (step : Step) (reply : Reply) → IsSome m.state.stopped → AdmitsStep m step reply → next_machine m step reply ≡ m
+step_stays m step reply stopped may = ap (next_machine m step) (step_stopped m step reply stopped may) ∙ step_refused m step Stopped (λ e. cc)

@@ -5,6 +5,7 @@ pub mod Calls
 pub mod Refusals
 pub mod Effects
 pub mod Crash
+pub mod Machine
 pub mod Run
 pub mod Promise
 pub mod Lives

@@ -15,8 +15,8 @@ mod store;
 pub use asked::At;
 pub use device_law::{device_reads_on, recovered_is_stored, stored_is_backed, sync_keeps_stored};
 pub use law::{
-    ample_calls_run, crash_keeps_a_beginning, crash_states_go_on, crashes_keep_beginnings,
-    runs_join, stopped_refuses,
+    allowed_is_admitted, ample_steps_run, crash_keeps_a_beginning, crash_states_go_on,
+    crashes_keep_beginnings, runs_join, stopped_refuses,
 };
 pub use page::{Page, Row};
 pub use store::Store;

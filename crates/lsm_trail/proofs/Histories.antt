@@ -2,36 +2,40 @@
 use Rattle.std.proofs.Common.{◌≡◌, ◌≢◌, ℕ, ◌==◌, Bool, true, false, List, [], ◌∷◌, ◌++◌, if◌then◌else◌, refl, ap, arith, eq-eqb, ne_eqb}
 use Rattle.std.proofs.lemmas.List.Elements.{All-push}
 use Rattle.lsm_device.specs.declared.refusal.Refusal.TheVariants.{NoMemory}
-use Rattle.lsm_store.specs.State.{State}
-use Rattle.lsm_store.specs.Calls.{Release, Refused}
-use Rattle.lsm_store.specs.Run.{Allows, next, Run, last_state}
-use Rattle.lsm_trail.specs.Begins.{Begin, base_of, first_state, CanPin}
-use Rattle.lsm_trail.specs.History.{Event, calls_of, replies_of, IsLegal, state_after, calls_by}
+use Rattle.lsm_store.specs.Backing.{IsBacked}
+use Rattle.lsm_store.specs.Calls.{Reply, Release, Refused}
+use Rattle.lsm_store.specs.Machine.{Machine, Step, Called}
+use Rattle.lsm_store.specs.Run.{AllowsStep, AdmitsStep, next_machine, RunBy, last_machine}
+use Rattle.lsm_trail.specs.Begins.{Begin, base_of, first_machine, CanPin}
+use Rattle.lsm_trail.specs.History.{Event, steps_of, replies_of, IsLegal, machine_after, state_after, calls_by}
 
--- the state after these entries
-abbrev state_behind : State → List Event → State
-state_behind s log = last_state s (calls_of log) (replies_of log)
+-- the machine after these entries
+abbrev machine_behind : Machine → List Event → Machine
+machine_behind m log = last_machine m (steps_of log) (replies_of log)
 
-run_more : (s : State) (log : List Event) (e : Event) → Run s (calls_of log) (replies_of log) → Allows (state_behind s log) e.call e.reply → Run s (calls_of (log ++ e ∷ [])) (replies_of (log ++ e ∷ []))
-run_more s [] e run allowed = (allowed, tt)
-run_more s (x ∷ log) e run allowed = (run.0, run_more (next s x.call x.reply) log e run.1 allowed)
+run_more : (May : Machine → Step → Reply → Type 0) (m : Machine) (log : List Event) (e : Event) → RunBy May m (steps_of log) (replies_of log) → May (machine_behind m log) e.step e.reply
+    → RunBy May m (steps_of (log ++ e ∷ [])) (replies_of (log ++ e ∷ []))
+run_more May m [] e run may = (may, tt)
+run_more May m (x ∷ log) e run may = (run.0, run_more May (next_machine m x.step x.reply) log e run.1 may)
 
-state_more : (s : State) (log : List Event) (e : Event) → state_behind s (log ++ e ∷ []) ≡ next (state_behind s log) e.call e.reply
-state_more s [] e = refl
-state_more s (x ∷ log) e = state_more (next s x.call x.reply) log e
+machine_more : (m : Machine) (log : List Event) (e : Event) → machine_behind m (log ++ e ∷ []) ≡ next_machine (machine_behind m log) e.step e.reply
+machine_more m [] e = refl
+machine_more m (x ∷ log) e = machine_more (next_machine m x.step x.reply) log e
 
-pub state_after-more : (b : Begin) (log : List Event) (e : Event) → state_after b (log ++ e ∷ []) ≡ next (state_after b log) e.call e.reply
-state_after-more b log e = state_more (first_state b) log e
+pub state_after-more : (b : Begin) (log : List Event) (e : Event) → state_after b (log ++ e ∷ []) ≡ (next_machine (machine_after b log) e.step e.reply).state
+state_after-more b log e = ap (λ (m : Machine). m.state) (machine_more (first_machine b) log e)
 
 pub legal_none : (b : Begin) → CanPin b → IsLegal b []
-legal_none b pinned = record { pinned = pinned; run = tt; made = λ k d below. absurd (omega arith); keeps_base = λ k d below. absurd (omega arith) }
+legal_none b pinned = record { pinned = pinned; course = tt; run = λ backed. tt; made = λ k d below. absurd (omega arith); keeps_base = λ k d below. absurd (omega arith) }
 
-pub legal_more : (b : Begin) (log : List Event) (e : Event) → IsLegal b log → Allows (state_after b log) e.call e.reply → e.reply ≢ Refused NoMemory → e.call ≢ Release (base_of b) → IsLegal b (log ++ e ∷ [])
-legal_more b log e legal allowed made keeps = record {
+pub legal_more : (b : Begin) (log : List Event) (e : Event) → IsLegal b log → AdmitsStep (machine_after b log) e.step e.reply → (IsBacked b.store → AllowsStep (machine_after b log) e.step e.reply)
+    → e.reply ≢ Refused NoMemory → e.step ≢ Called (Release (base_of b)) → IsLegal b (log ++ e ∷ [])
+legal_more b log e legal admitted allowed made keeps = record {
   pinned = legal.pinned;
-  run = run_more (first_state b) log e legal.run allowed;
+  course = run_more AdmitsStep (first_machine b) log e legal.course admitted;
+  run = λ backed. run_more AllowsStep (first_machine b) log e (legal.run backed) (allowed backed);
   made = All-push (λ (x : Event). x.reply ≢ Refused NoMemory) log e legal.made made;
-  keeps_base = All-push (λ (x : Event). x.call ≢ Release (base_of b)) log e legal.keeps_base keeps;
+  keeps_base = All-push (λ (x : Event). x.step ≢ Called (Release (base_of b))) log e legal.keeps_base keeps;
 }
 
 keeps_or : (b : Bool) (x : Event) (ks bs ms : List Event) → ks ≡ bs ++ ms → (if b then x ∷ ks else ks) ≡ (if b then x ∷ bs else bs) ++ ms

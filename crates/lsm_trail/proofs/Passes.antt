@@ -44,8 +44,8 @@ pub compares_at : (key : Begin) (slots id : ℕ) (me : M) (k : Keeper) (c : Know
 compares_at key slots id me k c is = subst (λ (m : M). Allows (Kept key) slots id m 0 (λ n. n) (Compares (step slots 0 0 0 none) m)) (sym is) (compares key slots id k c)
 
 pub compared : (k : Keeper) (c : Known) (me me' : M) → me ≡ (view_of (Some k) (Some c), []) → Compares (step 0 0 0 0 none) me 0 me'
-    → (me' ≡ (view_of (Some k) None, [])) × (calls_by c.number k.log ≡ c.mine) × ((x : ℕ) → k.dealt ≤ x → calls_by x k.log ≡ [])
-compared k c me me' is rule = let r = subst (λ (m : M). Compares (step 0 0 0 0 none) m 0 me') is rule in ((λ j. (r.1.0 j, r.0 j)), r.1.2, r.1.3)
+    → (me' ≡ (view_of (Some k) None, [])) × IsPrefix c.seen k.log × (calls_by c.number k.log ≡ c.mine) × ((x : ℕ) → k.dealt ≤ x → calls_by x k.log ≡ [])
+compared k c me me' is rule = let r = subst (λ (m : M). Compares (step 0 0 0 0 none) m 0 me') is rule in ((λ j. (r.1.0 j, r.0 j)), r.1.1, r.1.2, r.1.3)
 
 pub notes_at : (key : Begin) (slots id : ℕ) (me : M) (k : Keeper) (c : Known) → me ≡ (view_of (Some k) (Some c), []) → Allows (Kept key) slots id me 0 (λ n. n) (Notes (step slots 0 0 0 none) me)
 notes_at key slots id me k c is = subst (λ (m : M). Allows (Kept key) slots id m 0 (λ n. n) (Notes (step slots 0 0 0 none) m)) (sym is) (notes key slots id k c)

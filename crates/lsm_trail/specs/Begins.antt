@@ -3,6 +3,7 @@ use Rattle.std.specs.Prelude.{◌≡◌, ℕ, None}
 use Rattle.lsm_store.specs.Backing.{StoreView}
 use Rattle.lsm_store.specs.Calls.{Snapshot}
 use Rattle.lsm_store.specs.Effects.{after}
+use Rattle.lsm_store.specs.Machine.{Machine}
 use Rattle.lsm_store.specs.Refusals.{refusal}
 use Rattle.lsm_store.specs.State.{State, snapshot_of}
 
@@ -19,6 +20,9 @@ base_of b = b.store.state.next_snapshot
 -- the state in which the history begins: the base is pinned
 abbrev pub first_state : Begin → State
 first_state b = after b.store.state Snapshot
+
+abbrev pub first_machine : Begin → Machine
+first_machine b = record { state = first_state b }
 
 -- The base can be pinned: the store doesn't refuse it, and its number is no live snapshot's.
 pub record CanPin (b : Begin) : Type 0 where

@@ -140,11 +140,12 @@ impl<D: Device, A: Allocator, B: SessionName> Counters<D, A, B> {
         self.board.shared.split_seat::<Deal>(keeper)
     }
 
-    /// The client is no more. Its calls in the history are those that it made.
+    /// The client is no more. The history begins with what it had seen, and its calls in it are those that it made.
     pub fn retire(&self, keeper: &mut Pass<A>, client: Pass<A>)
         requires keeper { IsKeeperPass B.id (keeper_of keeper.old).log keeper.old }
         requires client { IsClientPass B.id client }
         ensures keeper { (keeper.new.table_id ≡ keeper.old.table_id) × (keeper.new.me ≡ keeper.old.me) }
+        ensures seen { IsPrefix (known_of client).seen (keeper_of keeper.old).log }
         ensures calls { calls_by (known_of client).number (keeper_of keeper.old).log ≡ (known_of client).mine }
         ensures strangers { (x : ℕ) → (keeper_of keeper.old).dealt ≤ x → calls_by x (keeper_of keeper.old).log ≡ [] }
     {

@@ -3,27 +3,10 @@
 
 ghost use Rattle.std.specs.Prelude.{◌≤◌};
 
-mod answer;
-mod asked;
-mod calls;
-mod fault;
-mod geometry;
-mod input;
-mod line;
-mod number;
-mod operations;
-mod program;
-mod refused;
-mod reply;
-mod request;
-mod runs;
-mod script;
-mod steps;
-#[cfg(test)]
-mod tests;
-mod words;
-
-use program::{REFUSED, USAGE, run};
+use lsm_cli::run;
+use lsm_requests::ending::conclude;
+use lsm_requests::fault::{Fault, Usage};
+use std::alloc::AllocError;
 use std::env;
 use std::io::ErrorKind;
 use std::process::ExitCode;
@@ -36,19 +19,23 @@ fn main(rt: HostRuntime) -> ExitCode {
 fn status(rt: &HostRuntime) -> u8
     ensures { result ≤ 2 }
 {
-    let words = match env::args(rt) {
-        Ok(words) => words,
-        Err(error) if error.kind() == ErrorKind::OutOfMemory => return REFUSED,
-        Err(_) => return USAGE,
-    };
-    let Ok(words) = words.skip(1).collect::<Vec<String>>(rt.alloc()) else {
-        return REFUSED;
-    };
-    run(
-        rt,
-        words.as_slice(),
-        &mut rt.stdin(),
-        &mut rt.stdout(),
-        &mut rt.stderr(),
-    )
+    match words_of(rt) {
+        Ok(words) => run(
+            rt,
+            words.as_slice(),
+            &mut rt.stdin(),
+            &mut rt.stdout(),
+            &mut rt.stderr(),
+        ),
+        Err(fault) => conclude(&Err(fault), &mut rt.stdout(), &mut rt.stderr()),
+    }
+}
+
+// The words after the program's name, each of which has to be a text.
+fn words_of(rt: &HostRuntime) -> Result<Vec<String>, Fault> {
+    match env::args(rt) {
+        Ok(words) => Ok(words.skip(1).collect(rt.alloc())?),
+        Err(error) if error.kind() == ErrorKind::OutOfMemory => Err(Fault::from(AllocError)),
+        Err(_) => Err(Fault::Usage(Usage::NoText)),
+    }
 }

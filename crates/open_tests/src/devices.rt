@@ -14,13 +14,10 @@ const BATCH: &str =
     "4c534d4c000000000000000200000000000000010000000100080000000000000001010161000131";
 
 /// A log sector of a batch of one put.
-pub(crate) fn log_sector(epoch: u8, number: u8, key: u8, value: u8) -> Result<[u8; 512], Fail> {
-    let mut sector = [0; 512];
-    if decode_to_slice(BATCH, &mut sector[..40]).is_err() {
-        return Err("the text is hex".into());
-    }
+pub(crate) fn log_sector(epoch: u8, number: u64, key: u8, value: u8) -> Result<[u8; 512], Fail> {
+    let mut sector = sector_of(BATCH)?;
     sector[11] = epoch;
-    sector[19] = number;
+    sector[12..20].copy_from_slice(&number.to_be_bytes());
     sector[36] = key;
     sector[39] = value;
     Ok(sector)
@@ -75,12 +72,17 @@ pub(crate) fn refused<D: Device + Drop, A: Allocator + Clone>(
     }
 }
 
-/// A formatted device.
-pub(crate) fn formatted(alloc: Global) -> Result<MemDevice, Fail> {
-    match format(alloc, MemDevice::new(alloc, SECTORS)?, LOG_SECTORS) {
+/// What a format made.
+pub(crate) fn made<D: Device + Drop>(answer: Result<D, (Refusal, D)>) -> Result<D, Fail> {
+    match answer {
         Ok(device) => Ok(device),
         Err((refusal, _)) => Err(refusal.name().into()),
     }
+}
+
+/// A formatted device.
+pub(crate) fn formatted(alloc: Global) -> Result<MemDevice, Fail> {
+    made(format(alloc, MemDevice::new(alloc, SECTORS)?, LOG_SECTORS))
 }
 
 /// A device that was formatted and opened once.
@@ -95,6 +97,11 @@ pub(crate) fn with_one_batch(alloc: Global) -> Result<MemDevice, Fail> {
     device.sync()?;
     put(&mut device, 131, &log_sector(2, 2, 0x62, 0x41)?)?;
     Ok(device.crash(&[]))
+}
+
+/// A device after a crash that keeps these pending writes.
+pub(crate) fn crash(device: MemDevice, keep: &[bool]) -> MemDevice {
+    device.crash(keep)
 }
 
 /// The value of a key of one byte, where it is one byte.

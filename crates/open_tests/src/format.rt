@@ -1,8 +1,10 @@
-use hex;
+//! Formats of devices in memory and of a file.
+use crate::devices::{SECTORS, crash, made, put, sector, sector_of};
 use linked_list_allocator::LocalHeap;
 use lsm_device::{Device, FileDevice, MemDevice, Refusal};
 use lsm_open::format;
 use lsm_root::load;
+use std::alloc::Global;
 use std::fs;
 use std::test::Fail;
 
@@ -13,174 +15,129 @@ const SUPERBLOCK: &str = "4c534d53000100000000000000010000200000800001";
 
 const MANIFEST: &str = "4c534d4d00000000000000010000000000000000000000000000000100000000";
 
-fn put<D: Device>(device: &mut D, at: u32, bytes: &[u8; 512]) -> Result<(), Fail> {
-    if at >= device.sectors() {
-        return Err("a sector of the device".into());
-    }
-    device.write(at, bytes)?;
-    Ok(())
-}
-
-fn sector<D: Device>(device: &mut D, at: u32) -> Result<[u8; 512], Fail> {
-    if at >= device.sectors() {
-        return Err("a sector of the device".into());
-    }
-    let mut out = [0; 512];
-    device.read(at, &mut out)?;
-    Ok(out)
-}
-
-/// What a failed format handed back.
-fn refused<D: Drop>(answer: Result<D, (Refusal, D)>) -> Result<(Refusal, D), Fail> {
-    match answer {
-        Ok(_) => Err("a refusal".into()),
-        Err(refused) => Ok(refused),
-    }
-}
-
-/// What a format made.
-fn made<D: Drop>(answer: Result<D, (Refusal, D)>) -> Result<D, Fail> {
-    match answer {
-        Ok(device) => Ok(device),
-        Err((refusal, _)) => Err(refusal.name().into()),
-    }
-}
-
-#[test]
-fn a_formatted_device(rt: HostRuntime) -> Result<(), Fail> {
-    let mut device = MemDevice::new(rt.alloc(), 8_192)?;
-    // Whatever stood or pended before.
+/// A device with ones in some sectors, of which two pend.
+fn worn(alloc: Global) -> Result<MemDevice, Fail> {
+    let mut device = MemDevice::new(alloc, SECTORS)?;
     for at in [0, 1, 2, 66, 130, 513, 514] {
         put(&mut device, at, &ONES)?;
     }
     device.sync()?;
-    put(&mut device, 0, &ONES)?;
-    put(&mut device, 300, &ONES)?;
-    let (writes, syncs) = (device.writes(), device.syncs());
-    let device = made(format(rt.alloc(), device, 128))?;
-    assert_eq!(rt; device.writes().wrapping_sub(writes), 516);
-    assert_eq!(rt; device.syncs().wrapping_sub(syncs), 3);
-    assert_eq!(rt; device.reads(), 0);
-    // Nothing pends: a crash that drops all changes nothing.
-    let mut device = device.crash(&[]);
+    for at in [0, 300] {
+        put(&mut device, at, &ONES)?;
+    }
+    Ok(device)
+}
+
+/// The device after a format, and a crash that drops all that pends.
+fn formatted_worn(alloc: Global) -> Result<MemDevice, Fail> {
+    let device = made(format(alloc, worn(alloc)?, 128))?;
+    Ok(crash(device, &[]))
+}
+
+/// Whether root and log regions are those of an empty store, and the sector behind them is as it was.
+fn is_empty_store(device: &mut MemDevice) -> Result<bool, Fail> {
     for at in 0..514u32 {
         let text = match at {
             1 => SUPERBLOCK,
             66 => MANIFEST,
             _ => "",
         };
-        let mut wanted = hex::decode(rt.alloc(), text).ok().ok_or("the text is hex")?;
-        wanted.resize(512, 0)?;
-        assert!(rt;
-            sector(&mut device, at)?.as_slice() == wanted.as_slice(),
-            "sector {at}"
-        );
+        if sector(device, at)? != sector_of(text)? {
+            return Ok(false);
+        }
     }
-    assert_eq!(rt; sector(&mut device, 514)?[0], 0xff);
-    let loaded = load(rt.alloc(), &mut device)?;
-    assert_eq!(rt; loaded.log_sectors, 128);
-    assert_eq!(rt; loaded.manifest.generation(), 1);
-    assert_eq!(rt;
-        (loaded.manifest.base(), loaded.manifest.next_table()),
-        (0, 1)
-    );
-    assert!(rt; loaded.manifest.logs().is_empty());
-    assert_eq!(rt; lsm_codec::data_blocks(8_192, 128), 959);
-    Ok(())
+    Ok(sector(device, 514)? == ONES)
+}
+
+/// Whether the root that is loaded is that of an empty store.
+fn loads_empty<D: Device>(alloc: Global, device: &mut D) -> Result<bool, Fail> {
+    let loaded = load(alloc, device)?;
+    let manifest = &loaded.manifest;
+    Ok(
+        loaded.log_sectors == 128
+            && manifest.generation() == 1
+            && manifest.base() == 0
+            && manifest.next_table() == 1
+            && manifest.logs().is_empty(),
+    )
 }
 
 #[test]
-fn the_limits(rt: HostRuntime) -> Result<(), Fail> {
-    for (sectors, log_sectors) in [
-        (8_191, 128),
-        (8_192, 127),
-        (8_192, 2_049),
-        (0, 128),
-        (1_048_577, 128),
-    ] {
-        let device = MemDevice::new(rt.alloc(), sectors)?;
-        let (refusal, device) = refused(format(rt.alloc(), device, log_sectors))?;
-        assert_eq!(rt; refusal, Refusal::BadGeometry);
-        assert_eq!(rt; device.sectors(), sectors);
-        assert_eq!(rt;
-            (device.reads(), device.writes(), device.syncs()),
-            (0, 0, 0)
-        );
-    }
-    let device = MemDevice::new(rt.alloc(), 8_192)?;
-    let mut device = made(format(rt.alloc(), device, 2_048))?;
-    assert_eq!(rt; (device.writes(), device.syncs()), (6_276, 3));
-    assert_eq!(rt; load(rt.alloc(), &mut device)?.log_sectors, 2_048);
+fn a_formatted_device(rt: HostRuntime) -> Result<(), Fail> {
+    let mut device = formatted_worn(rt.alloc())?;
+    assert!(rt; is_empty_store(&mut device)?);
+    assert!(rt; loads_empty(rt.alloc(), &mut device)?);
     Ok(())
+}
+
+/// Whether a format is refused with Io where the device fails after so many calls, and succeeds after a crash.
+fn is_formatted_again(alloc: Global, fuse: u64) -> Result<bool, Fail> {
+    let mut device = MemDevice::new(alloc, SECTORS)?;
+    device.fuse(fuse);
+    match format(alloc, device, 128) {
+        Ok(_) => Ok(false),
+        Err((refusal, device)) => {
+            let mut device = made(format(alloc, crash(device, &[true; 600]), 128))?;
+            Ok(refusal == Refusal::Io && loads_empty(alloc, &mut device)?)
+        }
+    }
 }
 
 #[test]
 fn device_calls_that_fail(rt: HostRuntime) -> Result<(), Fail> {
-    for fuse in [0, 1, 513, 514, 515, 516, 517, 518, 519] {
-        let mut device = MemDevice::new(rt.alloc(), 8_192)?;
-        device.fuse(fuse);
-        let answer = format(rt.alloc(), device, 128);
-        if fuse == 519 {
-            made(answer)?;
-            continue;
-        }
-        let (refusal, device) = refused(answer)?;
-        assert_eq!(rt; refusal, Refusal::Io);
-        // The device can be formatted again.
-        let device = device.crash(&[true; 600]);
-        let mut device = made(format(rt.alloc(), device, 128))?;
-        assert_eq!(rt; load(rt.alloc(), &mut device)?.manifest.generation(), 1);
+    for fuse in [0, 1, 513, 514, 515, 516, 517, 518] {
+        assert!(rt; is_formatted_again(rt.alloc(), fuse)?, "{fuse}");
     }
     Ok(())
 }
 
+/// Whether a format on a heap of this size succeeds. Where it is refused no call of the device was made.
+fn is_formatted_on(alloc: Global, size: usize) -> Result<bool, Fail> {
+    let device = MemDevice::new(alloc, SECTORS)?;
+    let heap = LocalHeap::new(alloc, size)?;
+    match format(&heap, device, 128) {
+        Ok(_) => Ok(true),
+        Err((refusal, device)) => {
+            if refusal == Refusal::NoMemory && device.writes() == 0 && device.syncs() == 0 {
+                return Ok(false);
+            }
+            Err("NoMemory, before any call".into())
+        }
+    }
+}
+
 #[test]
 fn memory_that_is_refused(rt: HostRuntime) -> Result<(), Fail> {
-    let mut device = MemDevice::new(rt.alloc(), 8_192)?;
-    let mut formatted = 0u32;
+    let mut refused = 0u32;
     for step in 1..32usize {
-        let heap = LocalHeap::new(rt.alloc(), step * 64)?;
-        device = match format(&heap, device, 128) {
-            Ok(device) => {
-                formatted = formatted.wrapping_add(1);
-                device
-            }
-            Err((refusal, device)) => {
-                assert_eq!(rt; refusal, Refusal::NoMemory);
-                assert_eq!(rt; formatted, 0);
-                device
-            }
-        };
+        if !is_formatted_on(rt.alloc(), step * 64)? {
+            refused = refused.wrapping_add(1);
+        }
     }
-    assert!(rt; formatted > 0 && formatted < 31, "{formatted}");
+    assert!(rt; refused > 0 && refused < 31, "{refused}");
     Ok(())
+}
+
+/// Whether the file loads as an empty store, its superblock is the one above, and a shorter copy is refused.
+fn is_formatted_file(rt: &HostRuntime, path: &str) -> Result<bool, Fail> {
+    let mut device = FileDevice::open(rt, path)?;
+    if sector(&mut device, 1)? != sector_of(SUPERBLOCK)? || !loads_empty(rt.alloc(), &mut device)? {
+        return Ok(false);
+    }
+    drop(device);
+    let bytes = fs::read(rt, path)?;
+    let shorter = bytes.get(..8_191 * 512).ok_or("a whole file")?;
+    fs::write(rt, path, shorter)?;
+    let mut device = FileDevice::open(rt, path)?;
+    Ok(load(rt.alloc(), &mut device).err() == Some(Refusal::BadGeometry))
 }
 
 #[test]
 fn a_formatted_file(rt: HostRuntime) -> Result<(), Fail> {
     let path = "a_formatted_file.img";
-    let device = FileDevice::create(&rt, path, 8_192)?;
+    let device = FileDevice::create(&rt, path, SECTORS)?;
     drop(made(format(rt.alloc(), device, 128))?);
-    let mut device = FileDevice::open(&rt, path)?;
-    let superblock = sector(&mut device, 1)?;
-    let wanted = hex::decode(rt.alloc(), SUPERBLOCK)
-        .ok()
-        .ok_or("the text is hex")?;
-    assert!(rt; superblock.starts_with(&wanted));
-    let loaded = load(rt.alloc(), &mut device)?;
-    assert_eq!(rt; loaded.log_sectors, 128);
-    assert_eq!(rt; loaded.manifest.generation(), 1);
-    drop(device);
-    // Another size than the superblock's.
-    let bytes = fs::read(&rt, path)?;
-    let shorter = bytes.get(..8_191 * 512).ok_or("a whole file")?;
-    fs::write(&rt, path, shorter)?;
-    let mut device = FileDevice::open(&rt, path)?;
-    assert_eq!(rt;
-        load(rt.alloc(), &mut device).err(),
-        Some(Refusal::BadGeometry)
-    );
-    drop(device);
+    assert!(rt; is_formatted_file(&rt, path)?);
     fs::remove_file(&rt, path)?;
     Ok(())
 }

@@ -1,92 +1,96 @@
+//! Openings that are refused for what a device holds.
 use crate::devices::{
-    SECTORS, formatted, fresh, open_log, opened, put, refused, sector, sector_of, value_of,
-    with_one_batch,
+    SECTORS, formatted, fresh, open_log, opened, put, refused, sector, value_of, with_one_batch,
 };
-use lsm_device::{Device, MemDevice, Refusal};
-use lsm_open::recover;
+use lsm_device::{MemDevice, Refusal};
 use std::alloc::Global;
 use std::test::Fail;
 
 const ZEROS: [u8; 512] = [0; 512];
 
-const ONES: [u8; 512] = [0xff; 512];
-
-/// How an opening was refused, after how many writes and syncs.
-fn refusal_of(alloc: Global, device: MemDevice) -> Result<(Refusal, u64, u64), Fail> {
+/// Whether an opening is refused so, and the device was synced once and not written.
+fn is_refused_with(alloc: Global, device: MemDevice, wanted: Refusal) -> Result<bool, Fail> {
     let (writes, syncs) = (device.writes(), device.syncs());
     let (refusal, device) = refused(alloc, device)?;
-    Ok((
-        refusal,
-        device.writes().wrapping_sub(writes),
-        device.syncs().wrapping_sub(syncs),
-    ))
+    Ok(refusal == wanted && device.writes() == writes && device.syncs().wrapping_sub(syncs) == 1)
 }
 
 #[test]
-fn sizes_outside_the_limits(rt: HostRuntime) -> Result<(), Fail> {
-    for sectors in [0, 1, 8_191] {
-        let device = MemDevice::new(rt.alloc(), sectors)?;
-        let (refusal, device) = refused(rt.alloc(), device)?;
-        assert_eq!(rt; refusal, Refusal::BadGeometry);
-        assert_eq!(rt;
-            (device.reads(), device.writes(), device.syncs()),
-            (0, 0, 0)
+fn zeros_are_no_store(rt: HostRuntime) -> Result<(), Fail> {
+    let zeros = MemDevice::new(rt.alloc(), SECTORS)?;
+    assert!(rt; is_refused_with(rt.alloc(), zeros, Refusal::NotAStore)?);
+    Ok(())
+}
+
+/// A device of a store where one byte of a sector is another.
+fn with_byte(alloc: Global, at: u32, place: usize, byte: u8) -> Result<MemDevice, Fail> {
+    let mut device = fresh(alloc)?;
+    let mut bytes = sector(&mut device, at)?;
+    if place < 512 {
+        bytes[place] = byte;
+    }
+    put(&mut device, at, &bytes)?;
+    Ok(device)
+}
+
+#[test]
+fn damaged_roots(rt: HostRuntime) -> Result<(), Fail> {
+    // The magic of a superblock, the generation in sector 0 where sector 1 has 1, and the magic of the manifest.
+    for (at, place, byte, wanted) in [
+        (0, 0, 0, Refusal::BadSuper),
+        (0, 13, 4, Refusal::BadSuper),
+        (2, 0, 0, Refusal::BadManifest),
+    ] {
+        let device = with_byte(rt.alloc(), at, place, byte)?;
+        assert!(rt;
+            is_refused_with(rt.alloc(), device, wanted)?,
+            "{at} {place}"
         );
     }
     Ok(())
 }
 
-#[test]
-fn images_that_no_store_left(rt: HostRuntime) -> Result<(), Fail> {
-    let zeros = MemDevice::new(rt.alloc(), SECTORS)?;
-    assert_eq!(rt; refusal_of(rt.alloc(), zeros)?, (Refusal::NotAStore, 0, 1));
-    let mut device = fresh(rt.alloc())?;
-    put(&mut device, 0, &ONES)?;
-    assert_eq!(rt; refusal_of(rt.alloc(), device)?, (Refusal::BadSuper, 0, 1));
-    // The generation in sector 0 is 4, and that in sector 1 is 1.
-    let mut device = fresh(rt.alloc())?;
-    let mut superblock = sector(&mut device, 0)?;
-    assert_eq!(rt; superblock[13], 2);
-    superblock[13] = 4;
-    put(&mut device, 0, &superblock)?;
-    assert_eq!(rt; refusal_of(rt.alloc(), device)?, (Refusal::BadSuper, 0, 1));
-    let mut device = fresh(rt.alloc())?;
-    let mut manifest = sector(&mut device, 2)?;
-    manifest[0] = 0;
-    put(&mut device, 2, &manifest)?;
-    assert_eq!(rt;
-        refusal_of(rt.alloc(), device)?,
-        (Refusal::BadManifest, 0, 1)
-    );
-    // The same sectors on a larger device.
-    let mut device = fresh(rt.alloc())?;
-    let mut larger = MemDevice::new(rt.alloc(), 8_200)?;
+/// The sectors of a store on a larger device.
+fn on_a_larger_device(alloc: Global) -> Result<MemDevice, Fail> {
+    let mut device = fresh(alloc)?;
+    let mut larger = MemDevice::new(alloc, 8_200)?;
     for at in 0..514u32 {
         put(&mut larger, at, &sector(&mut device, at)?)?;
     }
-    assert_eq!(rt;
-        refusal_of(rt.alloc(), larger)?,
-        (Refusal::BadGeometry, 0, 1)
-    );
+    Ok(larger)
+}
+
+#[test]
+fn a_store_of_another_size(rt: HostRuntime) -> Result<(), Fail> {
+    let device = on_a_larger_device(rt.alloc())?;
+    assert!(rt; is_refused_with(rt.alloc(), device, Refusal::BadGeometry)?);
     Ok(())
+}
+
+/// Whether a store whose only region lost its batch opens empty.
+fn opens_empty(alloc: Global) -> Result<bool, Fail> {
+    let mut device = with_one_batch(alloc)?;
+    put(&mut device, 130, &ZEROS)?;
+    let recovered = opened(alloc, device)?;
+    Ok(
+        recovered.count == 0
+            && value_of(&recovered, 0x61).is_none()
+            && open_log(&recovered) == Some((0, 130, 3, 1)),
+    )
+}
+
+/// A store with a region before another that lost its batch, so that the next one's first batch is not the next.
+fn with_a_gap(alloc: Global) -> Result<MemDevice, Fail> {
+    let mut device = opened(alloc, with_one_batch(alloc)?)?.device;
+    put(&mut device, 130, &ZEROS)?;
+    Ok(device)
 }
 
 #[test]
 fn a_region_lost_its_batch(rt: HostRuntime) -> Result<(), Fail> {
-    // The only region: the store is empty.
-    let mut device = with_one_batch(rt.alloc())?;
-    put(&mut device, 130, &ZEROS)?;
-    let recovered = opened(rt.alloc(), device)?;
-    assert_eq!(rt; recovered.count, 0);
-    assert_eq!(rt; value_of(&recovered, 0x61), None);
-    assert_eq!(rt; open_log(&recovered), Some((0, 130, 3, 1)));
-    // A region before another: the next one's first batch is not the next.
-    let mut device = opened(rt.alloc(), with_one_batch(rt.alloc())?)?.device;
-    put(&mut device, 130, &ZEROS)?;
-    assert_eq!(rt;
-        refusal_of(rt.alloc(), device)?,
-        (Refusal::BadManifest, 0, 1)
-    );
+    assert!(rt; opens_empty(rt.alloc())?);
+    let device = with_a_gap(rt.alloc())?;
+    assert!(rt; is_refused_with(rt.alloc(), device, Refusal::BadManifest)?);
     Ok(())
 }
 
@@ -105,17 +109,19 @@ fn in_generation(alloc: Global, generation: u64) -> Result<MemDevice, Fail> {
     Ok(device)
 }
 
+/// Whether the store opens in its last generation.
+fn opens_for_the_last_time(alloc: Global) -> Result<bool, Fail> {
+    let recovered = opened(alloc, in_generation(alloc, (1 << 63) - 1)?)?;
+    Ok(
+        recovered.regions.generation == 1 << 63
+            && open_log(&recovered) == Some((0, 130, 1 << 63, 1)),
+    )
+}
+
 #[test]
 fn the_last_generation(rt: HostRuntime) -> Result<(), Fail> {
-    let device = in_generation(rt.alloc(), (1 << 63) - 1)?;
-    let recovered = opened(rt.alloc(), device)?;
-    assert_eq!(rt; recovered.regions.generation, 1 << 63);
-    assert_eq!(rt; open_log(&recovered), Some((0, 130, 1 << 63, 1)));
-    assert_eq!(rt;
-        refusal_of(rt.alloc(), recovered.device)?,
-        (Refusal::Exhausted, 0, 1)
-    );
+    assert!(rt; opens_for_the_last_time(rt.alloc())?);
     let device = in_generation(rt.alloc(), 1 << 63)?;
-    assert_eq!(rt; refusal_of(rt.alloc(), device)?, (Refusal::Exhausted, 0, 1));
+    assert!(rt; is_refused_with(rt.alloc(), device, Refusal::Exhausted)?);
     Ok(())
 }

@@ -1,10 +1,12 @@
+//! Openings of what a crash left.
 use crate::devices::{
-    LOG_SECTORS, SECTORS, formatted, fresh, log_sector, open_log, opened, put, refused, sector,
-    sector_of, value_of, with_one_batch,
+    LOG_SECTORS, SECTORS, crash, formatted, fresh, log_sector, made, open_log, opened, put,
+    refused, sector, sector_of, value_of, with_one_batch,
 };
 use linked_list_allocator::LocalHeap;
 use lsm_device::{Device, FileDevice, MemDevice, Refusal};
-use lsm_open::{format, recover};
+use lsm_open::{Recovered, format, recover};
+use std::alloc::{Allocator, Global};
 use std::fs;
 use std::test::Fail;
 
@@ -15,221 +17,256 @@ const SUPERBLOCK: &str = "4c534d53000100000000000000020000200000800001";
 const MANIFEST: &str =
     "4c534d4d000000000000000200000000000000000000000000000001010000000000000000000000020000000000000001";
 
+/// Whether the store is that of a formatted device after its first opening.
+fn is_new<D: Device, A: Allocator>(store: &Recovered<D, A>) -> bool {
+    let regions = &store.regions;
+    store.count == 0
+        && store.mem.is_empty()
+        && regions.log_sectors == LOG_SECTORS
+        && regions.generation == 2
+        && regions.base == 0
+        && regions.next_table == 1
+        && regions.closed.is_empty()
+        && open_log(store) == Some((0, 130, 2, 1))
+}
+
+/// Whether the root of the first opening stands.
+fn has_new_root(device: MemDevice) -> Result<bool, Fail> {
+    let mut device = crash(device, &[]);
+    Ok(
+        sector(&mut device, 0)? == sector_of(SUPERBLOCK)?
+            && sector(&mut device, 2)? == sector_of(MANIFEST)?,
+    )
+}
+
 #[test]
 fn a_formatted_device_opens(rt: HostRuntime) -> Result<(), Fail> {
-    let device = formatted(rt.alloc())?;
-    let (reads, writes, syncs) = (device.reads(), device.writes(), device.syncs());
-    let first = opened(rt.alloc(), device)?;
-    assert_eq!(rt; first.count, 0);
-    assert!(rt; first.mem.is_empty());
-    assert_eq!(rt; first.regions.log_sectors, LOG_SECTORS);
-    assert_eq!(rt; first.regions.generation, 2);
-    assert_eq!(rt; (first.regions.base, first.regions.next_table), (0, 1));
-    assert!(rt; first.regions.closed.is_empty());
-    assert_eq!(rt; open_log(&first), Some((0, 130, 2, 1)));
-    let device = first.device;
-    assert_eq!(rt; device.reads().wrapping_sub(reads), 3);
-    assert_eq!(rt; device.writes().wrapping_sub(writes), 2);
-    assert_eq!(rt; device.syncs().wrapping_sub(syncs), 3);
-    let mut device = device.crash(&[]);
-    assert!(rt; sector(&mut device, 0)? == sector_of(SUPERBLOCK)?);
-    assert!(rt; sector(&mut device, 2)? == sector_of(MANIFEST)?);
+    let first = opened(rt.alloc(), formatted(rt.alloc())?)?;
+    assert!(rt; is_new(&first));
+    assert!(rt; has_new_root(first.device)?);
     Ok(())
+}
+
+/// Whether the store has the one synced batch, in the next generation, behind which a log is open.
+fn has_one_batch<D: Device, A: Allocator>(store: &Recovered<D, A>) -> bool {
+    let Some(closed) = store.regions.closed.first() else {
+        return false;
+    };
+    store.count == 1
+        && value_of(store, 0x61) == Some(0x31)
+        && value_of(store, 0x62).is_none()
+        && store.regions.generation == 3
+        && open_log(store) == Some((1, 258, 3, 2))
+        && closed.region == 0
+        && closed.epoch == 2
+        && closed.first_batch == 1
 }
 
 #[test]
 fn a_synced_batch_is_found_again(rt: HostRuntime) -> Result<(), Fail> {
-    let recovered = opened(rt.alloc(), with_one_batch(rt.alloc())?)?;
-    assert_eq!(rt; recovered.count, 1);
-    assert_eq!(rt; value_of(&recovered, 0x61), Some(0x31));
-    assert_eq!(rt; value_of(&recovered, 0x62), None);
-    assert_eq!(rt; recovered.regions.generation, 3);
-    assert_eq!(rt; open_log(&recovered), Some((1, 258, 3, 2)));
-    for listed in recovered.regions.closed.iter() {
-        assert_eq!(rt;
-            (listed.region, listed.epoch, listed.first_batch),
-            (0, 2, 1)
-        );
-    }
-    let manifest = recovered.regions.manifest(rt.alloc())?;
-    assert_eq!(rt; manifest.generation(), 3);
-    assert_eq!(rt; manifest.logs().len(), 2);
+    let store = opened(rt.alloc(), with_one_batch(rt.alloc())?)?;
+    assert!(rt; has_one_batch(&store));
     // Two superblocks, a manifest, the batch's sector and the one behind it.
-    assert_eq!(rt; recovered.device.reads(), 5);
-    assert_eq!(rt; recovered.device.writes(), 2);
-    assert_eq!(rt; recovered.device.syncs(), 3);
+    assert!(rt; store.device.reads() == 5);
     Ok(())
+}
+
+/// Whether an opening that fails after so many device calls leaves the same again.
+fn is_left_again(alloc: Global, fuse: u64, mask: &[bool]) -> Result<bool, Fail> {
+    let mut device = with_one_batch(alloc)?;
+    device.fuse(fuse);
+    let (refusal, device) = refused(alloc, device)?;
+    let again = opened(alloc, crash(device, mask))?;
+    Ok(
+        refusal == Refusal::Io
+            && again.count == 1
+            && value_of(&again, 0x61) == Some(0x31)
+            && value_of(&again, 0x62).is_none()
+            && [3, 4].contains(&again.regions.generation),
+    )
 }
 
 #[test]
 fn an_opening_is_stopped_at_each_call(rt: HostRuntime) -> Result<(), Fail> {
-    let masks: [&[bool]; 4] = [&[], &[true], &[false, true], &[true, true]];
     for fuse in 0..5u64 {
-        for mask in masks {
-            let mut device = with_one_batch(rt.alloc())?;
-            device.fuse(fuse);
-            let (refusal, device) = refused(rt.alloc(), device)?;
-            assert_eq!(rt; refusal, Refusal::Io, "{fuse}");
-            let again = opened(rt.alloc(), device.crash(mask))?;
-            assert_eq!(rt; again.count, 1, "{fuse}");
-            assert_eq!(rt; value_of(&again, 0x61), Some(0x31), "{fuse}");
-            assert_eq!(rt; value_of(&again, 0x62), None, "{fuse}");
-            assert!(rt; [3, 4].contains(&again.regions.generation), "{fuse}");
+        for mask in [[false, false], [true, false], [false, true], [true, true]] {
+            assert!(rt; is_left_again(rt.alloc(), fuse, &mask)?, "{fuse} {mask:?}");
         }
     }
-    let mut device = with_one_batch(rt.alloc())?;
-    device.fuse(5);
-    assert_eq!(rt; opened(rt.alloc(), device)?.count, 1);
     Ok(())
+}
+
+/// Whether a batch that pended is there after an opening, and a crash that drops all that pends.
+fn stands_once_opened(alloc: Global) -> Result<bool, Fail> {
+    let mut device = fresh(alloc)?;
+    put(&mut device, 130, &log_sector(2, 1, 0x61, 0x31)?)?;
+    let store = opened(alloc, device)?;
+    let count = store.count;
+    let again = opened(alloc, crash(store.device, &[]))?;
+    Ok(count == 1 && again.count == 1 && value_of(&again, 0x61) == Some(0x31))
 }
 
 #[test]
 fn what_pends_is_opened_as_it_reads(rt: HostRuntime) -> Result<(), Fail> {
-    let mut device = fresh(rt.alloc())?;
-    put(&mut device, 130, &log_sector(2, 1, 0x61, 0x31)?)?;
-    let recovered = opened(rt.alloc(), device)?;
-    assert_eq!(rt; recovered.count, 1);
-    // The first sync has made it stand.
-    let again = opened(rt.alloc(), recovered.device.crash(&[]))?;
-    assert_eq!(rt; again.count, 1);
-    assert_eq!(rt; value_of(&again, 0x61), Some(0x31));
+    assert!(rt; stands_once_opened(rt.alloc())?);
     Ok(())
 }
 
-#[test]
-fn a_batch_is_whole_or_not_there(rt: HostRuntime) -> Result<(), Fail> {
-    // Which of three pending sectors a crash keeps: batch 1 in the first, batch 2 in the other two.
-    let rows: [([bool; 3], u64); 4] = [
-        ([true, false, true], 1),
-        ([false, true, true], 0),
-        ([true, true, false], 1),
-        ([true, true, true], 2),
-    ];
-    // Batch 2 puts 62 with 600 bytes: a text of 607 bytes.
+/// A device where batch 1 pends in one sector, and batch 2 in two. This puts 62 with 600 bytes: a text of 607 bytes.
+fn with_two_pending(alloc: Global) -> Result<MemDevice, Fail> {
     let mut front = sector_of(
         "4c534d4c000000000000000200000000000000020000000201e00000000000000001010162",
     )?;
     front[37] = 0x02;
     front[38] = 0x58;
     let back = sector_of("4c534d4c0000000000000002000000000000000200010002007f000000000000")?;
-    for (keep, count) in rows {
-        let mut device = fresh(rt.alloc())?;
-        put(&mut device, 130, &log_sector(2, 1, 0x61, 0x31)?)?;
-        put(&mut device, 131, &front)?;
-        put(&mut device, 132, &back)?;
-        let recovered = opened(rt.alloc(), device.crash(&keep))?;
-        assert_eq!(rt; recovered.count, count, "{keep:?}");
-        let wanted = if count == 0 { None } else { Some(0x31) };
-        assert_eq!(rt; value_of(&recovered, 0x61), wanted, "{keep:?}");
-        assert_eq!(rt;
-            value_of(&recovered, 0x62).is_some(),
-            count == 2,
-            "{keep:?}"
-        );
+    let mut device = fresh(alloc)?;
+    put(&mut device, 130, &log_sector(2, 1, 0x61, 0x31)?)?;
+    put(&mut device, 131, &front)?;
+    put(&mut device, 132, &back)?;
+    Ok(device)
+}
+
+/// Whether the first so many batches are there after a crash that keeps these sectors.
+fn keeps_batches(alloc: Global, keep: &[bool], count: u64) -> Result<bool, Fail> {
+    let store = opened(alloc, crash(with_two_pending(alloc)?, keep))?;
+    Ok(
+        store.count == count
+            && value_of(&store, 0x61).is_some() == (count > 0)
+            && value_of(&store, 0x62).is_some() == (count == 2),
+    )
+}
+
+#[test]
+fn a_batch_is_whole_or_not_there(rt: HostRuntime) -> Result<(), Fail> {
+    for (keep, count) in [
+        ([true, false, true], 1),
+        ([false, true, true], 0),
+        ([true, true, false], 1),
+        ([true, true, true], 2),
+    ] {
+        assert!(rt; keeps_batches(rt.alloc(), &keep, count)?, "{keep:?}");
     }
     Ok(())
+}
+
+/// A device where a crash kept batches 1 and 3 of three, and which then was opened and given another batch 2.
+fn with_another_second(alloc: Global) -> Result<MemDevice, Fail> {
+    let mut device = fresh(alloc)?;
+    put(&mut device, 130, &log_sector(2, 1, 0x61, 0x31)?)?;
+    put(&mut device, 131, &log_sector(2, 2, 0x62, 0x41)?)?;
+    put(&mut device, 132, &log_sector(2, 3, 0x63, 0x33)?)?;
+    let mut device = opened(alloc, crash(device, &[true, false, true]))?.device;
+    put(&mut device, 258, &log_sector(3, 2, 0x62, 0x32)?)?;
+    device.sync()?;
+    Ok(crash(device, &[]))
+}
+
+/// Whether the new batch 2 is there, and the old batch 3 is not.
+fn has_no_old_batch<D: Device, A: Allocator>(store: &Recovered<D, A>) -> bool {
+    store.count == 2
+        && value_of(store, 0x61) == Some(0x31)
+        && value_of(store, 0x62) == Some(0x32)
+        && value_of(store, 0x63).is_none()
 }
 
 #[test]
 fn a_second_crash_brings_no_old_batch_back(rt: HostRuntime) -> Result<(), Fail> {
-    let mut device = fresh(rt.alloc())?;
-    put(&mut device, 130, &log_sector(2, 1, 0x61, 0x31)?)?;
-    put(&mut device, 131, &log_sector(2, 2, 0x62, 0x41)?)?;
-    put(&mut device, 132, &log_sector(2, 3, 0x63, 0x33)?)?;
-    let recovered = opened(rt.alloc(), device.crash(&[true, false, true]))?;
-    assert_eq!(rt; recovered.count, 1);
-    assert_eq!(rt; open_log(&recovered), Some((1, 258, 3, 2)));
-    let mut device = recovered.device;
-    put(&mut device, 258, &log_sector(3, 2, 0x62, 0x32)?)?;
-    device.sync()?;
-    let again = opened(rt.alloc(), device.crash(&[]))?;
-    assert_eq!(rt; again.count, 2);
-    assert_eq!(rt; value_of(&again, 0x61), Some(0x31));
-    assert_eq!(rt; value_of(&again, 0x62), Some(0x32));
-    assert_eq!(rt; value_of(&again, 0x63), None);
+    let store = opened(rt.alloc(), with_another_second(rt.alloc())?)?;
+    assert!(rt; has_no_old_batch(&store));
     Ok(())
 }
 
-#[test]
-fn a_region_without_batches_is_opened_again(rt: HostRuntime) -> Result<(), Fail> {
-    let again = opened(rt.alloc(), fresh(rt.alloc())?)?;
-    assert_eq!(rt; again.regions.generation, 3);
-    assert!(rt; again.regions.closed.is_empty());
-    assert_eq!(rt; open_log(&again), Some((0, 130, 3, 1)));
-    Ok(())
-}
-
-#[test]
-fn three_regions_with_batches_leave_no_open_log(rt: HostRuntime) -> Result<(), Fail> {
-    let mut device = fresh(rt.alloc())?;
-    for life in 0..3u8 {
-        let at = 130 + 128 * life as u32;
+/// Fills a region with batches of one sector each, which put the number's lowest byte with the one above as its value.
+fn fill(device: &mut MemDevice, at: u32, sectors: u32, epoch: u8, first: u64) -> Result<(), Fail> {
+    let mut number = first;
+    for place in at..at.saturating_add(sectors) {
+        let bytes = number.to_be_bytes();
         put(
-            &mut device,
-            at,
-            &log_sector(life + 2, life + 1, 0x61, life)?,
+            device,
+            place,
+            &log_sector(epoch, number, bytes[7], bytes[6])?,
         )?;
-        device.sync()?;
-        let recovered = opened(rt.alloc(), device.crash(&[]))?;
-        assert_eq!(rt; recovered.count, life as u64 + 1);
-        assert_eq!(rt; value_of(&recovered, 0x61), Some(life));
-        assert_eq!(rt; recovered.regions.closed.len(), life as usize + 1);
-        let next = match life {
-            0 => Some((1, 258, 3, 2)),
-            1 => Some((2, 386, 4, 3)),
-            _ => None,
-        };
-        assert_eq!(rt; open_log(&recovered), next);
-        device = recovered.device;
+        number = number.wrapping_add(1);
     }
-    let again = opened(rt.alloc(), device)?;
-    assert_eq!(rt; (again.count, again.regions.generation), (3, 6));
-    assert!(rt; again.regions.open_region.is_none());
+    device.sync()?;
     Ok(())
+}
+
+/// A device of a store whose three regions are full: 6,144 batches.
+fn with_full_regions(alloc: Global) -> Result<MemDevice, Fail> {
+    let mut device = made(format(alloc, MemDevice::new(alloc, SECTORS)?, 2_048))?;
+    for (epoch, at, first) in [(2, 130, 1), (3, 2_178, 2_049), (4, 4_226, 4_097)] {
+        device = opened(alloc, device)?.device;
+        fill(&mut device, at, 2_048, epoch, first)?;
+    }
+    Ok(crash(device, &[]))
+}
+
+/// Whether all are there: each key has the value of its last batch, and no log is open.
+fn has_all<D: Device, A: Allocator>(store: &Recovered<D, A>) -> bool {
+    for key in 1..=255u8 {
+        if value_of(store, key) != Some(23) {
+            return false;
+        }
+    }
+    store.count == 6_144
+        && store.regions.generation == 5
+        && store.regions.open_region.is_none()
+        && value_of(store, 0) == Some(24)
+}
+
+#[test]
+fn three_full_regions_open_again(rt: HostRuntime) -> Result<(), Fail> {
+    let store = opened(rt.alloc(), with_full_regions(rt.alloc())?)?;
+    assert!(rt; has_all(&store));
+    Ok(())
+}
+
+/// Whether an opening on a heap of this size finds the batch. Where it is refused, nothing was written.
+fn is_opened_on(alloc: Global, size: usize) -> Result<bool, Fail> {
+    let device = with_one_batch(alloc)?;
+    let heap = LocalHeap::new(alloc, size)?;
+    match recover(&heap, device) {
+        Ok(store) => Ok(has_one_batch(&store)),
+        Err((refusal, device)) => {
+            if refusal == Refusal::NoMemory && device.writes() == 0 {
+                return Ok(false);
+            }
+            Err("NoMemory, and nothing written".into())
+        }
+    }
 }
 
 #[test]
 fn memory_that_is_refused(rt: HostRuntime) -> Result<(), Fail> {
-    let mut device = with_one_batch(rt.alloc())?;
-    let mut recovered = 0u32;
+    let mut refused = 0u32;
     for step in 1..64usize {
-        let heap = LocalHeap::new(rt.alloc(), step * 64)?;
-        device = match recover(&heap, device) {
-            Ok(found) => {
-                assert_eq!(rt; found.count, 1);
-                recovered = recovered.wrapping_add(1);
-                found.device
-            }
-            Err((refusal, device)) => {
-                assert_eq!(rt; refusal, Refusal::NoMemory);
-                assert_eq!(rt; recovered, 0);
-                device
-            }
-        };
+        if !is_opened_on(rt.alloc(), step * 64)? {
+            refused = refused.wrapping_add(1);
+        }
     }
-    assert!(rt; recovered > 0 && recovered < 63, "{recovered}");
+    assert!(rt; refused > 0 && refused < 63, "{refused}");
+    Ok(())
+}
+
+/// A file with a synced batch.
+fn file_with_one_batch(rt: &HostRuntime, path: &str) -> Result<(), Fail> {
+    let device = FileDevice::create(rt, path, SECTORS)?;
+    let device = made(format(rt.alloc(), device, LOG_SECTORS))?;
+    let mut device = opened(rt.alloc(), device)?.device;
+    put(&mut device, 130, &log_sector(2, 1, 0x61, 0x31)?)?;
+    device.sync()?;
     Ok(())
 }
 
 #[test]
 fn a_file_is_opened(rt: HostRuntime) -> Result<(), Fail> {
     let path = "a_file_is_opened.img";
-    let device = match format(
-        rt.alloc(),
-        FileDevice::create(&rt, path, SECTORS)?,
-        LOG_SECTORS,
-    ) {
-        Ok(device) => device,
-        Err((refusal, _)) => return Err(refusal.name().into()),
-    };
-    let mut device = opened(rt.alloc(), device)?.device;
-    put(&mut device, 130, &log_sector(2, 1, 0x61, 0x31)?)?;
-    device.sync()?;
-    drop(device);
-    let recovered = opened(rt.alloc(), FileDevice::open(&rt, path)?)?;
-    assert_eq!(rt; (recovered.count, recovered.regions.generation), (1, 3));
-    assert_eq!(rt; value_of(&recovered, 0x61), Some(0x31));
-    drop(recovered);
+    file_with_one_batch(&rt, path)?;
+    let store = opened(rt.alloc(), FileDevice::open(&rt, path)?)?;
+    assert!(rt; has_one_batch(&store));
+    drop(store);
     fs::remove_file(&rt, path)?;
     Ok(())
 }

@@ -27,8 +27,12 @@ pub enum Case<'a> {
     Room(Result<u32, Refusal>),
     /// Sets the fuse of the device.
     Fuse(u64),
+    /// Lets the device call of this number fail, and a write pend or not.
+    Fail(u64, bool),
     /// How many syncs the device has made since the table's first case.
     Syncs(u64),
+    /// How many batches there are.
+    Count(u64),
 }
 
 /// Has a store answer each case of a table.
@@ -75,7 +79,12 @@ fn holds(alloc: Global, store: &mut Subject, syncs: u64, case: Case) -> bool {
             store.fuse(n);
             true
         }
+        Case::Fail(n, kept) => {
+            store.fail(n, kept);
+            true
+        }
         Case::Syncs(wanted) => store.syncs().wrapping_sub(syncs) == wanted,
+        Case::Count(wanted) => store.batch_count() == wanted,
     }
 }
 
@@ -169,6 +178,7 @@ fn a_wrong_answer_is_noticed(rt: HostRuntime) -> Result<(), Fail> {
         Case::Release(9, Ok(())),
         Case::Room(Ok(128)),
         Case::Syncs(1),
+        Case::Count(1),
     ];
     for case in wrong {
         assert!(rt; first_wrong(rt.alloc(), &mut store, &[case]).is_some());

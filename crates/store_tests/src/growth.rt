@@ -1,7 +1,8 @@
-//! Growths that memory refuses.
+//! Growths that memory refuses, and many batches.
 
-use crate::setup::{CACHE, formatted, open, put};
+use crate::setup::{CACHE, Subject, formatted, formatted_with, open, opened, put};
 use linked_list_allocator::LocalHeap;
+use lsm_codec::Batch;
 use lsm_device::Refusal;
 use std::alloc::Global;
 use std::test::Fail;
@@ -39,5 +40,32 @@ fn each_growth_of_a_commit_is_refused_in_turn(rt: HostRuntime) -> Result<(), Fai
         }
     }
     assert!(rt; refused > 0 && accepted > 0, "{refused} {accepted}");
+    Ok(())
+}
+
+// Commits a batch under each number up to the last, until the log is full, and tells the number that comes next.
+fn fill(store: &mut Subject, batch: &Batch, next: u64, last: u64) -> Result<u64, Fail> {
+    for number in next..=last {
+        match store.commit(batch) {
+            Ok(given) if given == number => {}
+            Err(Refusal::LogFull) => return Ok(number),
+            _ => return Err(Fail::from("another answer")),
+        }
+    }
+    Ok(last.wrapping_add(1))
+}
+
+#[test]
+fn three_regions_hold_five_thousand_batches(rt: HostRuntime) -> Result<(), Fail> {
+    let batch = put(rt.alloc(), b"key", b"value")?;
+    let mut device = formatted_with(rt.alloc(), 2_048)?;
+    let mut next = 1;
+    for _life in 0..3u32 {
+        let mut store = opened(rt.alloc(), device)?;
+        next = fill(&mut store, &batch, next, 5_000)?;
+        device = store.into_device();
+    }
+    let store = opened(rt.alloc(), device)?;
+    assert!(rt; next == 5_001 && store.batch_count() == 5_000, "{next}");
     Ok(())
 }

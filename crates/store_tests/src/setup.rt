@@ -16,8 +16,13 @@ pub const CACHE: u32 = 256;
 
 /// A formatted device.
 pub fn formatted(alloc: Global) -> Result<MemDevice, Fail> {
+    formatted_with(alloc, LOG_SECTORS)
+}
+
+/// A device that was formatted with log regions of so many sectors.
+pub fn formatted_with(alloc: Global, log_sectors: u16) -> Result<MemDevice, Fail> {
     let device = MemDevice::new(alloc, SECTORS)?;
-    format(alloc, device, LOG_SECTORS).map_err(|(refusal, _)| Fail::from(refusal.name()))
+    format(alloc, device, log_sectors).map_err(|(refusal, _)| Fail::from(refusal.name()))
 }
 
 /// A store whose calls tell the prover nothing, so that it has nothing to carry from one line of a test to the next.
@@ -71,6 +76,18 @@ impl<A: Allocator + Clone> Subject<A> {
 
     pub fn fuse(&mut self, n: u64) {
         self.store.fuse(n);
+    }
+
+    pub fn fail(&mut self, n: u64, kept: bool) {
+        self.store.fail(n, kept);
+    }
+
+    pub fn batch_count(&self) -> u64 {
+        self.store.batch_count()
+    }
+
+    pub fn reads(&self) -> u64 {
+        self.store.reads()
     }
 
     pub fn writes(&self) -> u64 {

@@ -33,6 +33,6 @@ returns-in-Ok-get c =
     let medium = c.crash-device.ensures.left ∙ ap (crashed keep) c.into_device.ensures in
     let second = c.in-Ok-open-2.ensures.opens 128 left.0 refl (subst (λ (m : Medium). IsImage 128 left.0 (seen (disk m))) (sym medium) left.2) in
     let found = option_map {T = Vec ℕ Global} {U = List ℕ} (λ v. v.items) c.in-Ok-get.found in
-    found_in left.0 key found (subst (λ (s : State). Allows s (Get Now key) (Value found)) second.state c.in-Ok-get.ensures.allowed)
+    found_in left.0 key found (subst (λ (s : State). Allows s (Get Now key) (Value found)) second.state (c.in-Ok-get.ensures.serves.allowed second.backed))
     ∙ ap (λ (m : Map). finite.get m key) (left_map batch number left.0 left.1)
     ∙ get_put key value batch (c.in_ok-batch.ensures ∙ ap (λ (o : Operation). o ∷ []) c.in_ok-put.ensures.1)

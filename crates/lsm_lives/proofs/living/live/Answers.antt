@@ -1,18 +1,22 @@
-use Rattle.std.proofs.Common.{List, map, sym, subst}
-use Rattle.lsm_device.specs.Disk.{image, at_rest}
-use Rattle.lsm_device.specs.Medium.{Medium, disk}
-use Rattle.lsm_device.specs.Memory.{medium_in}
+use Rattle.std.proofs.Common.{Bool, List, map, ap, subst, ◌∙◌}
+use Rattle.lsm_device.specs.Medium.{Medium, crashed}
+use Rattle.lsm_device.specs.Memory.{medium_in, fuses_kept}
 use Rattle.lsm_lives.specs.declared.calls.Call.{Call as Asked}
-use Rattle.lsm_lives.specs.Calls.{call_of, reply_of}
-use Rattle.lsm_lives.specs.Living.{Holds, AfterCrash}
-use Rattle.lsm_lives.proofs.Opened.{crash_ends}
+use Rattle.lsm_lives.specs.Calls.{step_of, reply_of}
+use Rattle.lsm_lives.specs.Leading.{IsLed}
+use Rattle.lsm_lives.proofs.Opened.{fuse_kept}
 use Rattle.lsm_lives.proofs.living.live.Goals as goal
 
-pub returns-clause-lives : goal.returns-clause-lives
-returns-clause-lives g c = λ log_sectors opened others holds.
+pub returns-clause-led : goal.returns-clause-led
+returns-clause-led g c =
     let replies = map reply_of c.open_and_serve-device.new.replies.items in
     let ended = medium_in c.open_and_serve-device.result in
-    let before = c.open_and_serve-device.ensures log_sectors opened others (subst (λ (m : Medium). Holds log_sectors opened others (disk m)) (sym c.set_fuse.ensures.same_medium) holds) in
-    subst (λ (m : Medium). AfterCrash log_sectors opened others (map call_of c.args.life.now.steps.items) replies (disk m)) (sym c.crash.ensures.left)
-    (subst (λ (steps : List (Asked g.row.A.Denot)). AfterCrash log_sectors opened others (map call_of steps) replies (at_rest (image c.deref-2.result.now (disk ended)))) c.deref.ensures.value
-    (crash_ends log_sectors opened others (map call_of c.deref.result.now) replies c.deref-2.result.now (disk ended) before))
+    let steps = map step_of c.args.life.now.steps.items in
+    let led = subst (λ (m : Medium). IsLed m steps replies ended) c.set_fuse.ensures.medium
+    (subst (λ (all : List (Asked g.row.A.Denot)). IsLed (medium_in c.set_fuse.new.device) (map step_of all) replies ended) c.deref.ensures.value c.open_and_serve-device.ensures) in
+    record {
+      end = ended;
+      led = led;
+      fuse = fuse_kept c.args.life.now.fuse (medium_in c.args.device) steps replies ended led (fuses_kept c.open_and_serve-device.result).now;
+      crash = c.crash.ensures.left ∙ ap (λ (mask : List Bool). crashed mask ended) c.deref-2.ensures.value;
+    }

@@ -1,10 +1,11 @@
-use Rattle.std.proofs.Common.{◌+◌, List, [], ◌∷◌, ◌++◌, drop, map, arith, sym, subst, ◌∙◌, ap, append_assoc}
+use Rattle.std.proofs.Common.{List, [], ◌∷◌, ◌++◌, map, arith, refl, sym, subst, ◌∙◌, ap, append_assoc}
 use Rattle.std.proofs.lemmas.List.{append-nil, drop_all}
-use Rattle.lsm_store.specs.Calls.{Call, Reply}
+use Rattle.lsm_store.specs.Calls.{Reply}
+use Rattle.lsm_store.specs.Machine.{Step}
 use Rattle.lsm_lives.specs.declared.calls.Call.{Call as Asked}
-use Rattle.lsm_lives.specs.Calls.{call_of, reply_of}
+use Rattle.lsm_lives.specs.Calls.{step_of, reply_of}
 use Rattle.lsm_lives.specs.Replaying.{Answers, Replays}
-use Rattle.lsm_lives.proofs.Steps.{call_first, next_call, no_call, reply_added}
+use Rattle.lsm_lives.proofs.Steps.{next_step, reply_added}
 use Rattle.lsm_lives.proofs.replaying.serve_each.Goals as goal
 
 pub loop-step-preserved : goal.loop-step-preserved
@@ -21,9 +22,9 @@ loop-step-preserved g c =
       capacity = c.push_reserved.ensures.capacity ∙ inv.capacity;
       goes_on = λ more last replays.
           let all = inv.goes_on (reply_of reply ∷ more) last
-          (subst (λ (calls : List Call). Replays c.loop-step.store calls (reply_of reply ∷ more) last) (sym (next_call steps i step c.loop-step-test.true c.step-item.is))
-          (call_first c.loop-step.store c.serve-reply.new.store last (call_of step) (reply_of reply) c.serve-reply.ensures (map call_of (drop (i + 1) steps)) more replays)) in
-          subst (λ (after : List Reply). Answers c.args.store.now (map call_of steps) (map reply_of c.args.replies.now.items) after last)
+          (subst (λ (all : List Step). Replays c.loop-step.store all (reply_of reply ∷ more) last) (sym (next_step steps i step c.loop-step-test.true c.step-item.is))
+          (c.serve-reply.new.store, c.serve-reply.ensures, replays)) in
+          subst (λ (after : List Reply). Answers c.args.store.now (map step_of steps) (map reply_of c.args.replies.now.items) after last)
           (sym (append_assoc (map reply_of done) (reply_of reply ∷ []) more)
           ∙ ap (λ (l : List Reply). l ++ more) (sym (reply_added done c.push_reserved.new.self.items reply c.push_reserved.ensures.items))) all;
     }
@@ -32,5 +33,5 @@ pub returns : goal.returns
 returns g c =
     let steps = c.args.steps.now in
     let s = c.loop-step.store in
-    subst (λ (after : List Reply). Answers c.args.store.now (map call_of steps) (map reply_of c.args.replies.now.items) after s) (append-nil (map reply_of c.loop-step.replies.items))
-    (c.loop-step.invariant.goes_on [] s (subst (λ (left : List (Asked g.row.A.Denot)). Replays s (map call_of left) [] s) (sym (drop_all c.loop-step.step-index steps (omega arith))) (no_call s)))
+    subst (λ (after : List Reply). Answers c.args.store.now (map step_of steps) (map reply_of c.args.replies.now.items) after s) (append-nil (map reply_of c.loop-step.replies.items))
+    (c.loop-step.invariant.goes_on [] s (subst (λ (left : List (Asked g.row.A.Denot)). Replays s (map step_of left) [] s) (sym (drop_all c.loop-step.step-index steps (omega arith))) refl))

@@ -1,29 +1,28 @@
-use Rattle.std.proofs.Common.{◌≡◌, ◌+◌, ◌*◌, ◌∙◌, List, ℕ, ap, subst, sym, refl, arith}
-use Rattle.lsm_codec.specs.Manifests.{Contents, sector_count}
-use Rattle.lsm_codec.specs.declared.log_record.LogRecord.{LogRecord}
+use Rattle.std.proofs.Common.{◌≡◌, ◌+◌, ◌*◌, ◌∙◌, ℕ, ap, subst, sym, refl, arith}
+use Rattle.lsm_codec.specs.Manifests.{sector_count}
 use Rattle.lsm_device.specs.Disk.{Disk}
 use Rattle.lsm_device.specs.Medium.{disk}
 use Rattle.lsm_device.proofs.Counting.{AtMost-joined}
-use Rattle.lsm_root.specs.Counted.{Made}
+use Rattle.lsm_root.specs.Counted.{CallsMade}
 use Rattle.lsm_root.specs.Installed.{IsReady, IsInstalled}
+use Rattle.lsm_root.specs.Planned.{Planned}
 use Rattle.lsm_root.specs.Roots.{Stands}
-use Rattle.lsm_root.proofs.Counting.{Made-joined}
+use Rattle.lsm_root.proofs.Counting.{CallsMade-joined}
 use Rattle.lsm_open.specs.Formatted.{empty_manifest}
 use Rattle.lsm_open.proofs.Zeroed.{zeroed_ready, is_formatted, empty_takes_one}
 use Rattle.lsm_open.proofs.formatting.write_empty.Goals as goal
 
-abbrev with_logs : List LogRecord → Contents
-with_logs logs = record { generation = 1; base = 0; next_table = 1; logs = logs }
+pub install-requires-clause-same_device : goal.install-requires-clause-same_device
+install-requires-clause-same_device g c = c.zero_front.ensures.same_size ∙ ap (λ (p : Planned). p.size) (sym c.requires.root)
 
 pub install-requires-clause-ready : goal.install-requires-clause-ready
 install-requires-clause-ready g c = λ t.
     let D = g.D.Device in
     let size = (D.medium c.args.device.now).size in
-    let told = rw c.zero_front.ensures.same_tells at t in
-    let generation : 1 ≡ c.new-manifest.result.generation = sym (ap (λ (m : Contents). m.generation) c.new-manifest.ensures) in
-    let here = zeroed_ready size (130 + 3 * c.args.log_sectors) (disk (D.medium c.args.device.now)) (g.met.D.Device.sound c.args.device.now told).now (omega (arith, c.requires.geometry.sectors_low, c.requires.geometry.log_high)) c.args.log_sectors (omega arith) in
-    subst (λ (n : ℕ). IsReady n c.args.log_sectors c.new-manifest.result.generation (disk (D.medium c.zero_front.new.device))) (sym c.zero_front.ensures.same_size)
-    (subst (λ (n : ℕ). IsReady size c.args.log_sectors n (disk (D.medium c.zero_front.new.device))) generation
+    let told = rw c.zero_front.ensures.same_lasting at t in
+    let here = zeroed_ready size (130 + 3 * c.args.log_sectors) (disk (D.medium c.args.device.now)) (g.met.D.Device.sound c.args.device.now told).now (omega (arith, c.requires.geometry.device.low, c.requires.geometry.log_high)) c.args.log_sectors (omega arith) in
+    subst (λ (p : Planned). IsReady (D.medium c.zero_front.new.device).size p.log p.manifest.generation (disk (D.medium c.zero_front.new.device))) (sym c.requires.root)
+    (subst (λ (n : ℕ). IsReady n c.args.log_sectors 1 (disk (D.medium c.zero_front.new.device))) (sym c.zero_front.ensures.same_size)
     (subst (IsReady size c.args.log_sectors 1) (sym (c.in_ok-zero_front.ensures.zeroed told)) here))
 
 pub returns-in_err-install-clause-counts : goal.returns-in_err-install-clause-counts
@@ -37,17 +36,15 @@ returns-clause-counts g c =
 pub returns-clause-made : goal.returns-clause-made
 returns-clause-made g c =
     let D = g.D.Device in
-    let manifest : c.new-manifest.result ≡ empty_manifest = c.new-manifest.ensures ∙ ap with_logs c.new.ensures.items in
-    let one : sector_count c.new-manifest.result ≡ 1 = ap sector_count manifest ∙ empty_takes_one in
-    let last : Made 2 2 (D.medium c.zero_front.new.device).calls (D.medium c.install.new.device).calls = subst (λ (n : ℕ). Made (n + 1) 2 (D.medium c.zero_front.new.device).calls (D.medium c.install.new.device).calls) one c.in_ok-install.ensures.made in
-    Made-joined (130 + 3 * c.args.log_sectors) 1 2 2 (132 + 3 * c.args.log_sectors) 3 _ _ _ (omega arith) (omega arith) c.in_ok-zero_front.ensures.made last
+    let one : sector_count c.args.root.now.manifest ≡ 1 = ap (λ (p : Planned). sector_count p.manifest) c.requires.root ∙ empty_takes_one in
+    let last : CallsMade 2 2 (D.medium c.zero_front.new.device).calls (D.medium c.install.new.device).calls = subst (λ (n : ℕ). CallsMade (n + 1) 2 (D.medium c.zero_front.new.device).calls (D.medium c.install.new.device).calls) one c.in_ok-install.ensures.made in
+    CallsMade-joined (130 + 3 * c.args.log_sectors) 1 2 2 (132 + 3 * c.args.log_sectors) 3 _ _ _ (omega arith) (omega arith) c.in_ok-zero_front.ensures.made last
 
 pub returns-clause-formatted : goal.returns-clause-formatted
 returns-clause-formatted g c = λ t.
     let D = g.D.Device in
     let size = (D.medium c.args.device.now).size in
-    let manifest : c.new-manifest.result ≡ empty_manifest = c.new-manifest.ensures ∙ ap with_logs c.new.ensures.items in
-    let installed : IsInstalled (disk (D.medium c.zero_front.new.device)) (Stands c.args.log_sectors c.new-manifest.result) (disk (D.medium c.install.new.device)) = c.in_ok-install.ensures.installed (rw c.zero_front.ensures.same_tells t) in
-    is_formatted size (130 + 3 * c.args.log_sectors) (disk (D.medium c.args.device.now)) (g.met.D.Device.sound c.args.device.now t).now (omega (arith, c.requires.geometry.sectors_low, c.requires.geometry.log_high)) c.args.log_sectors (disk (D.medium c.install.new.device)) refl
-    (subst (λ (d : Disk). IsInstalled d (Stands c.args.log_sectors empty_manifest) (disk (D.medium c.install.new.device))) (c.in_ok-zero_front.ensures.zeroed t)
-    (subst (λ (m : Contents). IsInstalled (disk (D.medium c.zero_front.new.device)) (Stands c.args.log_sectors m) (disk (D.medium c.install.new.device))) manifest installed))
+    let installed : IsInstalled (disk (D.medium c.zero_front.new.device)) (Stands c.args.log_sectors empty_manifest) (disk (D.medium c.install.new.device)) =
+    subst (λ (p : Planned). IsInstalled (disk (D.medium c.zero_front.new.device)) (Stands p.log p.manifest) (disk (D.medium c.install.new.device))) c.requires.root (c.in_ok-install.ensures.installed (rw c.zero_front.ensures.same_lasting t)) in
+    is_formatted size (130 + 3 * c.args.log_sectors) (disk (D.medium c.args.device.now)) (g.met.D.Device.sound c.args.device.now t).now (omega (arith, c.requires.geometry.device.low, c.requires.geometry.log_high)) c.args.log_sectors (disk (D.medium c.install.new.device)) refl
+    (subst (λ (d : Disk). IsInstalled d (Stands c.args.log_sectors empty_manifest) (disk (D.medium c.install.new.device))) (c.in_ok-zero_front.ensures.zeroed t) installed)

@@ -2,7 +2,7 @@ use Rattle.std.proofs.Common.{◌≡◌, IsTrue, replicate}
 use Rattle.lsm_codec.specs.Formats.{blank}
 use Rattle.lsm_device.specs.Calls.{AtMost}
 use Rattle.lsm_device.specs.Runs.{run_at, Reached}
-use Rattle.lsm_root.specs.Counted.{Made}
+use Rattle.lsm_root.specs.Counted.{CallsMade}
 use Rattle.lsm_open.proofs.formatting.zero_front.Given as goal
 
 abbrev pub invariant-loop-at : goal.invariant-loop-at
@@ -10,9 +10,9 @@ invariant-loop-at g l =
     let D = g.D.Device in
     record {
       same_size : (D.medium l.device).size ≡ (D.medium l.fn.device).size;
-      same_tells : (D.medium l.device).tells ≡ (D.medium l.fn.device).tells;
+      same_lasting : (D.medium l.device).lasting ≡ (D.medium l.fn.device).lasting;
       no_fault : (D.medium l.device).calls.faults ≡ (D.medium l.fn.device).calls.faults;
       counts : AtMost 0 l.at 0 (D.medium l.fn.device).calls (D.medium l.device).calls;
-      made : Made l.at 0 (D.medium l.fn.device).calls (D.medium l.device).calls;
-      reached : IsTrue (D.medium l.fn.device).tells → Reached (D.medium l.fn.device).history (D.medium l.device).history (run_at 0 (replicate l.count blank)) l.at;
+      made : CallsMade l.at 0 (D.medium l.fn.device).calls (D.medium l.device).calls;
+      reached : IsTrue (D.medium l.fn.device).lasting.tells → Reached (D.medium l.fn.device).history (D.medium l.device).history (run_at 0 (replicate l.count blank)) l.at;
     }

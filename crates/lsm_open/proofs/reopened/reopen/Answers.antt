@@ -1,5 +1,5 @@
-use Rattle.std.proofs.Common.{◌≡◌, subst}
-use Rattle.lsm_codec.specs.Manifests.{Contents}
+use Rattle.std.proofs.Common.{rules, ◌≡◌, ◌+◌, subst}
+use Rattle.lsm_codec.specs.Manifests.{Contents, sector_count}
 use Rattle.lsm_device.specs.History.{EachSince}
 use Rattle.lsm_device.specs.Medium.{disk}
 use Rattle.lsm_device.specs.Outcomes.{Leaves}
@@ -7,6 +7,7 @@ use Rattle.lsm_device.proofs.Moments.{started}
 use Rattle.lsm_open.specs.Reopening.{next_contents}
 use Rattle.lsm_open.proofs.NextManifests.{next_fits}
 use Rattle.lsm_open.proofs.OpeningMoments.{installs}
+use Rattle.lsm_root.specs.Counted.{CallsMade}
 use Rattle.lsm_root.specs.Installed.{IsOldOrNew, IsInstalled}
 use Rattle.lsm_root.specs.Roots.{Stands}
 use Rattle.lsm_root.proofs.Switched.{none_leaves}
@@ -43,3 +44,11 @@ returns-clause-installed g c = λ t.
     installs c.args.loaded.now.log_sectors c.args.count c.generation-generation.result c.base.result c.next_table.result m c.in_ok-manifest.manifest c.args.closed.items c.deref.result.now c.open_least_free-open_region.result
     c.in_ok-manifest.ensures c.generation-generation.ensures c.base.ensures c.next_table.ensures c.deref.ensures.value c.open_least_free-open_region.ensures.least c.open_least_free-open_region.ensures.new_log in
     subst (λ (x : Contents). IsInstalled (disk (D.medium c.args.device.now)) (Stands c.args.loaded.now.log_sectors x) (disk (D.medium c.install.new.device))) says (c.in_ok-install.ensures.installed t)
+
+pub returns-clause-layout : goal.returns-clause-layout
+returns-clause-layout g c = search rules
+
+pub returns-clause-made : goal.returns-clause-made
+returns-clause-made g c =
+    let D = g.D.Device in
+    subst (λ (x : Contents). CallsMade (sector_count x + 1) 2 (D.medium c.args.device.now).calls (D.medium c.install.new.device).calls) c.in_ok-manifest.ensures c.in_ok-install.ensures.made

@@ -23,15 +23,15 @@ loop-listed-preserved g c =
     let step = c.in_ok-add_region.ensures.replayed in
     record {
       same_size = c.add_region.ensures.same_size ∙ inv.same_size;
-      same_tells = c.add_region.ensures.same_tells ∙ inv.same_tells;
+      same_lasting = c.add_region.ensures.same_lasting ∙ inv.same_lasting;
       no_fault = c.in_ok-add_region.ensures.faults ∙ inv.no_fault;
       calls = AtMost-joined (i * n) 0 0 n 0 0 ((i + 1) * n) 0 0 _ _ _ (omega arith) (omega arith) (omega arith) inv.calls c.add_region.ensures.calls;
-      unchanged = λ t. c.add_region.ensures.unchanged (rw inv.same_tells t) ∙ inv.unchanged t;
+      unchanged = λ t. c.add_region.ensures.unchanged (rw inv.same_lasting t) ∙ inv.unchanged t;
       all = inv.all;
       come = come_step c.args.manifest.now c.loop-listed.replayed c.add_region.new.self r (drop (i + 1) logs) step.0 step.1 (subst (HasCome c.args.manifest.now c.loop-listed.replayed.count c.loop-listed.replayed.closed.items) rest inv.come);
       numbered = step.1.numbered;
       goes_on = λ t.
-          let gave : step.0 ≡ batches_at n (seen (disk (D.medium c.args.device.now))) r = subst (λ (h : List Disk). step.0 ≡ batches_at n (seen (present h)) r) (inv.unchanged t) (step.2 (rw inv.same_tells t)) in
+          let gave : step.0 ≡ batches_at n (seen (disk (D.medium c.args.device.now))) r = subst (λ (h : List Disk). step.0 ≡ batches_at n (seen (present h)) r) (inv.unchanged t) (step.2 (rw inv.same_lasting t)) in
           goes_on_step c.args.manifest.now c.loop-listed.replayed c.add_region.new.self r (drop (i + 1) logs) step.0 step.1 n (seen (disk (D.medium c.args.device.now))) gave
           (subst (GoesOn n (seen (disk (D.medium c.args.device.now))) c.args.manifest.now c.loop-listed.replayed) rest (inv.goes_on t));
     }

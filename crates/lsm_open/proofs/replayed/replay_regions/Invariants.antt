@@ -11,12 +11,12 @@ invariant-loop-listed g l =
     let D = g.D.Device in
     record {
       same_size : (D.medium l.device).size ≡ (D.medium l.fn.device).size;
-      same_tells : (D.medium l.device).tells ≡ (D.medium l.fn.device).tells;
+      same_lasting : (D.medium l.device).lasting ≡ (D.medium l.fn.device).lasting;
       no_fault : (D.medium l.device).calls.faults ≡ (D.medium l.fn.device).calls.faults;
       calls : AtMost (l.listed-index * l.log_sectors) 0 0 (D.medium l.fn.device).calls (D.medium l.device).calls;
-      unchanged : IsTrue (D.medium l.fn.device).tells → (D.medium l.device).history ≡ (D.medium l.fn.device).history;
+      unchanged : IsTrue (D.medium l.fn.device).lasting.tells → (D.medium l.device).history ≡ (D.medium l.fn.device).history;
       all : l.logs ≡ l.manifest.logs;
       come : HasCome l.manifest l.replayed.count l.replayed.closed.items (drop l.listed-index l.logs);
       numbered : NumberedBelow (l.replayed.count + 1) l.replayed.mem;
-      goes_on : IsTrue (D.medium l.fn.device).tells → GoesOn l.log_sectors (seen (disk (D.medium l.fn.device))) l.manifest l.replayed (drop l.listed-index l.logs);
+      goes_on : IsTrue (D.medium l.fn.device).lasting.tells → GoesOn l.log_sectors (seen (disk (D.medium l.fn.device))) l.manifest l.replayed (drop l.listed-index l.logs);
     }

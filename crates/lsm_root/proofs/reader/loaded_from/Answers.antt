@@ -8,7 +8,7 @@ pub returns-clause-fits : goal.returns-clause-fits
 returns-clause-fits g c =
     let found : Some c.in-Some.manifest ≡ manifest_of c.args.text.now = rw c.in-Some.is at c.in_ok-manifest.ensures.answer in
     let limits = c.requires.fits in (
-      record { sectors_low = limits.sectors_low; sectors_high = limits.sectors_high; log_low = limits.log_low; log_high = limits.log_high },
+      record { device = record { low = limits.sectors_low; high = limits.sectors_high }; log_low = limits.log_low; log_high = limits.log_high },
       (manifest_laws_hold.format.spelled c.args.text.now c.in-Some.manifest (sym found)).0,
     )
 

@@ -1,4 +1,4 @@
-use Rattle.std.proofs.Common.{◌≡◌, ◌+◌, ◌≤◌, ap, arith, refl, ℕ}
+use Rattle.std.proofs.Common.{◌≡◌, ◌+◌, ◌≤◌, ap, arith, refl, rules, ℕ}
 use Rattle.lsm_codec.specs.BatchText.{sectors_of}
 use Rattle.lsm_log.proofs.Logs.{append_nothing, written_nothing, append_moments, append_written, append_open, append_reads}
 use Rattle.lsm_log.proofs.log.Log.append.Goals as goal
@@ -37,3 +37,15 @@ returns-clause-appended g c = λ t o.
     let log = c.args.self.now in
     let room : log.used + sectors_of c.args.batch.now ≤ log.sectors = omega arith in
     append_reads log (g.D.Device.medium c.args.device.now).history o c.args.batch.now c.sectors_of-parts.ensures.whole c.requires.number room (g.D.Device.medium c.write_parts.new.device).history (c.in_ok-write_parts.ensures.whole t)
+
+pub returns-then-room-parts-clause-full : goal.returns-then-room-parts-clause-full
+returns-then-room-parts-clause-full g c = search rules
+
+pub returns-then-room-parts-clause-refused : goal.returns-then-room-parts-clause-refused
+returns-then-room-parts-clause-refused g c = search rules
+
+pub returns-then-room-parts-clause-faults : goal.returns-then-room-parts-clause-faults
+returns-then-room-parts-clause-faults g c = search rules
+
+pub returns-clause-takes : goal.returns-clause-takes
+returns-clause-takes g c = search rules

@@ -12,7 +12,7 @@ returns-in_err-write-clause-moments g c = λ t.
     let inv = c.loop-part.invariant in
     let log = c.args.self.now in
     let here = sector_at log.epoch log.next c.args.batch.now c.args.text.now c.loop-part.part c.args.parts _ c.loop-part-test.true c.requires.count c.requires.text c.sector_of_part-sector.ensures in
-    run_fault _ _ _ (log.start + log.used) (log.start + log.used + c.loop-part.part) (batch_sectors log.epoch log.next c.args.batch.now) c.loop-part.part _ (omega arith) here.0 here.1 (inv.reached t) (c.in_err-write.ensures.may_pend (rw inv.same_tells t))
+    run_fault _ _ _ (log.start + log.used) (log.start + log.used + c.loop-part.part) (batch_sectors log.epoch log.next c.args.batch.now) c.loop-part.part _ (omega arith) here.0 here.1 (inv.reached t) (c.in_err-write.ensures.may_pend (rw inv.same_lasting t))
 
 pub returns-in_err-write-clause-calls : goal.returns-in_err-write-clause-calls
 returns-in_err-write-clause-calls g c =
@@ -26,7 +26,7 @@ loop-part-init g c =
     let D = g.D.Device in
     record {
       same_size = refl;
-      same_tells = refl;
+      same_lasting = refl;
       no_fault = refl;
       calls = none_made 0 0 0 (D.medium c.args.device.now).calls;
       reached = λ t. reached_none _ _;
@@ -39,10 +39,10 @@ loop-part-preserved g c =
     let here = sector_at log.epoch log.next c.args.batch.now c.args.text.now c.loop-part.part c.args.parts _ c.loop-part-test.true c.requires.count c.requires.text c.sector_of_part-sector.ensures in
     record {
       same_size = c.write.ensures.same_size ∙ inv.same_size;
-      same_tells = c.write.ensures.same_tells ∙ inv.same_tells;
+      same_lasting = c.write.ensures.same_lasting ∙ inv.same_lasting;
       no_fault = ap (λ (k : Calls). k.faults) c.in_ok-write.ensures.counted ∙ inv.no_fault;
       calls = AtMost-joined 0 c.loop-part.part 0 0 1 0 0 (c.loop-part.part + 1) 0 _ _ _ (omega arith) (omega arith) (omega arith) inv.calls (write_made true _ _ c.in_ok-write.ensures.counted);
-      reached = λ t. run_more _ _ _ (log.start + log.used) (log.start + log.used + c.loop-part.part) (batch_sectors log.epoch log.next c.args.batch.now) c.loop-part.part _ (omega arith) here.0 here.1 (inv.reached t) (c.in_ok-write.ensures.pends (rw inv.same_tells t));
+      reached = λ t. run_more _ _ _ (log.start + log.used) (log.start + log.used + c.loop-part.part) (batch_sectors log.epoch log.next c.args.batch.now) c.loop-part.part _ (omega arith) here.0 here.1 (inv.reached t) (c.in_ok-write.ensures.pends (rw inv.same_lasting t));
     }
 
 pub returns-clause-whole : goal.returns-clause-whole

@@ -9,8 +9,8 @@ invariant-loop-part g l =
     let D = g.D.Device in
     record {
       same_size : (D.medium l.device).size ≡ (D.medium l.fn.device).size;
-      same_tells : (D.medium l.device).tells ≡ (D.medium l.fn.device).tells;
+      same_lasting : (D.medium l.device).lasting ≡ (D.medium l.fn.device).lasting;
       no_fault : (D.medium l.device).calls.faults ≡ (D.medium l.fn.device).calls.faults;
       calls : AtMost 0 l.part 0 (D.medium l.fn.device).calls (D.medium l.device).calls;
-      reached : IsTrue (D.medium l.fn.device).tells → Reached (D.medium l.fn.device).history (D.medium l.device).history (run_at (l.self.start + l.self.used) (batch_sectors l.self.epoch l.self.next l.batch)) l.part;
+      reached : IsTrue (D.medium l.fn.device).lasting.tells → Reached (D.medium l.fn.device).history (D.medium l.device).history (run_at (l.self.start + l.self.used) (batch_sectors l.self.epoch l.self.next l.batch)) l.part;
     }

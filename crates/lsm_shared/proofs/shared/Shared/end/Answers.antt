@@ -13,7 +13,7 @@ loop-client-preserved g c =
     let was = c.loop-client.session.log in (
       same ∙ i.0,
       λ t. subst (λ (l : List Event). Told l c.args.clients.items) (sym log)
-          (i.1 (subst (Told was) (sym c.in-Some.ensures.items) (told_more was c.pop.new.self.items c.in-Some.client (subst (λ (l : List Event). Told l c.pop.new.self.items) log t) c.retire.ensures.calls))),
+          (i.1 (subst (Told was) (sym c.in-Some.ensures.items) (told_more was c.pop.new.self.items c.in-Some.client (subst (λ (l : List Event). Told l c.pop.new.self.items) log t) c.retire.ensures.seen c.retire.ensures.calls))),
       λ _ x far. ap (calls_by x) log ∙ c.retire.ensures.strangers x far,
     )
 

@@ -22,4 +22,4 @@ returns g c =
     let is = c.join_seat.ensures.2 ∙ (λ i. (view_of ((c.requires.keeper.1 i).0.keeper) ((c.requires.client.1 i).0.client), (c.requires.keeper.1 i).1)) in
     let k = keeping g.B.SessionName.id.begin (keeper_of c.args.keeper.now).dealt (keeper_of c.args.keeper.now).log [] in
     let t = compared k (known_of c.args.client) _ c.load.new.seat.me is c.load.ensures.2 in
-    record { keeper = (search rules, t.0 ∙ sym c.requires.keeper.1); calls = t.1; strangers = t.2 }
+    record { keeper = (search rules, t.0 ∙ sym c.requires.keeper.1); seen = t.1; calls = t.2; strangers = t.3 }

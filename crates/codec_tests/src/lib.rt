@@ -1,0 +1,11 @@
+//! Tests of the formats.
+#![tactic(auto)]
+
+#[cfg(test)]
+mod batches;
+#[cfg(test)]
+mod manifests;
+#[cfg(test)]
+mod sectors;
+#[cfg(test)]
+mod words;

@@ -1,0 +1,280 @@
+//! Manifests.
+
+use linked_list_allocator::LocalHeap;
+use lsm_codec::{LogRecord, Manifest};
+use lsm_device::Refusal;
+use std::alloc::Global;
+use std::process::Abort;
+use std::test::Fail;
+
+/// The region, the epoch and the first batch of a log record.
+type Row = (u8, u64, u64);
+
+/// The log records of these numbers.
+fn records(alloc: Global, rows: &[Row]) -> Result<Vec<LogRecord>, Fail> {
+    let mut logs = Vec::new(alloc);
+    for (region, epoch, first_batch) in rows {
+        logs.push(LogRecord {
+            region: *region,
+            epoch: *epoch,
+            first_batch: *first_batch,
+        })?;
+    }
+    Ok(logs)
+}
+
+/// A manifest with table number 1 to come.
+fn manifest(alloc: Global, generation: u64, base: u64, logs: &[Row]) -> Result<Manifest, Fail> {
+    Ok(Manifest::new(generation, base, 1, records(alloc, logs)?))
+}
+
+/// The sectors of a manifest with few log records.
+fn sectors_of(alloc: Global, manifest: &Manifest) -> Result<Vec<u8>, Fail> {
+    if manifest.logs().len() > 255 {
+        return Err("a manifest of few log records".into());
+    }
+    let sectors = manifest.encode(alloc)?;
+    if sectors.len() != 512 * manifest.sectors() as usize {
+        return Err("whole sectors".into());
+    }
+    Ok(sectors)
+}
+
+/// Whether the bytes spell a manifest.
+fn is_read(alloc: Global, bytes: &[u8]) -> Result<bool, Fail> {
+    Ok(Manifest::decode(alloc, bytes)?.is_some())
+}
+
+const FORMATTED: &str = "4c534d4d00000000000000010000000000000000000000000000000100000000";
+
+const OPENED: &str = "4c534d4d000000000000000200000000000000000000000000000001\
+010000000000000000000000020000000000000001";
+
+/// Whether one sector begins with the bytes of the hex text, and goes on with zeros.
+fn begins_with(alloc: Global, sector: &[u8], text: &str) -> Result<bool, Fail> {
+    let front = hex::decode(alloc, text).ok().ok_or("the text is hex")?;
+    Ok(
+        sector.len() == 512
+            && sector.starts_with(&front)
+            && sector.iter().skip(front.len()).all(|byte| *byte == 0),
+    )
+}
+
+/// Whether the sectors are read as the manifest with these numbers and log records.
+fn is_read_as(alloc: Global, sectors: &[u8], generation: u64, logs: &[Row]) -> Result<bool, Fail> {
+    let wanted = records(alloc, logs)?;
+    let Some(again) = Manifest::decode(alloc, sectors)? else {
+        return Ok(false);
+    };
+    Ok(has(&again, generation, &wanted))
+}
+
+/// Whether the manifest has this generation and these log records, no batch in tables, and table number 1 to come.
+fn has(manifest: &Manifest, generation: u64, logs: &[LogRecord]) -> bool {
+    manifest.generation() == generation
+        && manifest.base() == 0
+        && manifest.next_table() == 1
+        && manifest.logs() == logs
+}
+
+/// Whether the manifest is spelled so, and read back.
+fn is_spelled(alloc: Global, generation: u64, logs: &[Row], text: &str) -> Result<bool, Fail> {
+    let manifest = manifest(alloc, generation, 0, logs)?;
+    let sectors = sectors_of(alloc, &manifest)?;
+    Ok(begins_with(alloc, &sectors, text)? && is_read_as(alloc, &sectors, generation, logs)?)
+}
+
+#[test]
+fn manifests_of_a_format_and_an_open(rt: HostRuntime) -> Result<(), Fail> {
+    assert!(rt; is_spelled(rt.alloc(), 1, &[], FORMATTED)?);
+    assert!(rt; is_spelled(rt.alloc(), 2, &[(0, 2, 1)], OPENED)?);
+    Ok(())
+}
+
+/// Whether the manifest is within the limits, as `fits` says, and just then read back from its sectors.
+fn is_limited(alloc: Global, manifest: &Manifest, fits: bool) -> Result<bool, Fail> {
+    let sectors = sectors_of(alloc, manifest)?;
+    Ok(manifest.is_within_limits() == fits && is_read(alloc, &sectors)? == fits)
+}
+
+/// The same of the manifest with these log records, of generation 5 and with 7 batches in tables.
+fn are_limited(alloc: Global, logs: &[Row], fits: bool) -> Result<bool, Fail> {
+    let manifest = manifest(alloc, 5, 7, logs)?;
+    is_limited(alloc, &manifest, fits)
+}
+
+#[test]
+fn log_records_in_order_and_out_of_it(rt: HostRuntime) -> Result<(), Fail> {
+    let last = (1 << 63) + 1;
+    for (first, second, third, fits, what) in [
+        ((2, 3, 8), (0, 4, 9), (1, 5, 20), true, "three regions"),
+        ((2, 3, 8), (0, 4, 9), (2, 5, 20), false, "a region twice"),
+        ((2, 3, 8), (0, 4, 9), (3, 5, 20), false, "a region above 2"),
+        ((2, 3, 8), (0, 3, 9), (1, 5, 20), false, "an epoch twice"),
+        ((2, 4, 8), (0, 3, 9), (1, 5, 20), false, "epochs that fall"),
+        ((2, 0, 8), (0, 4, 9), (1, 5, 20), false, "epoch 0"),
+        (
+            (2, 3, 8),
+            (0, 4, 9),
+            (1, 6, 20),
+            false,
+            "an epoch above the generation",
+        ),
+        (
+            (2, 3, 7),
+            (0, 4, 9),
+            (1, 5, 20),
+            false,
+            "a first batch that is in tables",
+        ),
+        (
+            (2, 3, 9),
+            (0, 4, 10),
+            (1, 5, 20),
+            false,
+            "a first batch too late",
+        ),
+        (
+            (2, 3, 8),
+            (0, 4, 8),
+            (1, 5, 20),
+            false,
+            "a first batch twice",
+        ),
+        ((2, 3, 8), (0, 4, 9), (1, 5, last), true, "no batch left"),
+        (
+            (2, 3, 8),
+            (0, 4, 9),
+            (1, 5, last + 1),
+            false,
+            "a batch above the last",
+        ),
+    ] {
+        assert!(rt;
+            are_limited(rt.alloc(), &[first, second, third], fits)?,
+            "{what}"
+        );
+    }
+    Ok(())
+}
+
+#[test]
+fn four_log_records_are_too_many(rt: HostRuntime) -> Result<(), Fail> {
+    let four = [(0, 1, 8), (1, 2, 9), (2, 3, 10), (0, 4, 11)];
+    assert!(rt; are_limited(rt.alloc(), &four, false)?);
+    Ok(())
+}
+
+/// The same of the manifest with these numbers and no log record.
+fn are_numbers_limited(
+    alloc: Global,
+    generation: u64,
+    base: u64,
+    next_table: u64,
+    fits: bool,
+) -> Result<bool, Fail> {
+    let manifest = Manifest::new(generation, base, next_table, Vec::new(alloc));
+    is_limited(alloc, &manifest, fits)
+}
+
+#[test]
+fn numbers_at_their_limits(rt: HostRuntime) -> Result<(), Fail> {
+    let last = 1 << 63;
+    for (generation, base, next_table, fits) in [
+        (1, 0, 1, true),
+        (last, last, last + 1, true),
+        (0, 0, 1, false),
+        (last + 1, 0, 1, false),
+        (1, last + 1, 1, false),
+        (1, 0, 0, false),
+        (1, 0, last + 2, false),
+    ] {
+        assert!(rt; are_numbers_limited(rt.alloc(), generation, base, next_table, fits)?);
+    }
+    Ok(())
+}
+
+/// The sectors of the manifest of an open.
+fn opened(alloc: Global) -> Result<Vec<u8>, Fail> {
+    let manifest = manifest(alloc, 2, 0, &[(0, 2, 1)])?;
+    sectors_of(alloc, &manifest)
+}
+
+/// Whether those sectors are read no longer with the lowest bit of a byte changed.
+fn is_lost_without(alloc: Global, at: usize) -> Result<bool, Fail> {
+    let mut sectors = opened(alloc)?;
+    if let Some(byte) = sectors.get_mut(at) {
+        *byte ^= 1;
+    }
+    Ok(!is_read(alloc, &sectors)?)
+}
+
+/// Whether those sectors are read, cut down or filled up with zeros to a size.
+fn is_read_at_size(alloc: Global, size: usize) -> Result<bool, Fail> {
+    let mut sectors = opened(alloc)?;
+    sectors.truncate(size);
+    for _ in sectors.len()..size {
+        sectors.push(0)?;
+    }
+    is_read(alloc, &sectors)
+}
+
+#[test]
+fn bytes_that_spell_no_manifest(rt: HostRuntime) -> Result<(), Fail> {
+    for (at, what) in [
+        (0, "another first byte"),
+        (28, "another count of log records"),
+        (29, "a level 0 run"),
+        (31, "a table record"),
+        (49, "a byte behind the text"),
+        (511, "a byte at the end"),
+    ] {
+        assert!(rt; is_lost_without(rt.alloc(), at)?, "{what}");
+    }
+    Ok(())
+}
+
+#[test]
+fn sizes_that_hold_no_manifest(rt: HostRuntime) -> Result<(), Fail> {
+    for (size, is_whole) in [
+        (512, true),
+        (513, false),
+        (1_024, false),
+        (511, false),
+        (49, false),
+        (48, false),
+        (31, false),
+        (0, false),
+    ] {
+        assert!(rt;
+            is_read_at_size(rt.alloc(), size)? == is_whole,
+            "{size} bytes"
+        );
+    }
+    Ok(())
+}
+
+/// What refuses an empty manifest, spelled and read in a heap of so many bytes.
+fn in_heap(alloc: Global, size: usize) -> Result<Option<Refusal>, Fail> {
+    let heap = LocalHeap::new(alloc, size)?;
+    let manifest = Manifest::new(1, 0, 1, Vec::new(&heap));
+    match manifest.encode(&heap) {
+        Ok(sectors) => Ok(Manifest::decode(&heap, &sectors).err()),
+        Err(refusal) => Ok(Some(refusal)),
+    }
+}
+
+#[test]
+fn a_manifest_in_small_heaps(rt: HostRuntime) -> Result<(), Fail> {
+    let mut refused = 0u32;
+    let mut whole = 0u32;
+    for step in 1..64usize {
+        match in_heap(rt.alloc(), step * 32)? {
+            Some(Refusal::NoMemory) if whole == 0 => refused = refused.wrapping_add(1),
+            Some(_) => return Err("want of memory, in the smaller heaps".into()),
+            None => whole = whole.wrapping_add(1),
+        }
+    }
+    assert!(rt; refused > 10 && whole > 10, "{refused} {whole}");
+    Ok(())
+}

@@ -1,0 +1,84 @@
+-- The words that the program takes, as the parser sees them, and what is asked for by them.
+use Rattle.std.specs.Prelude.{◌≡◌, ◌&&◌, Bool, List, [], ◌∷◌, Some, is_some, codes, true, false, if◌then◌else◌}
+use Rattle.std.specs.Str.{bytes_eq}
+use Rattle.clap.specs.Words.{App, Row, Rule, Text, app_of, first_of, new_app, new_rule, with_rule, with_subcommand}
+use Rattle.clap.specs.declared.builder.command.Command.{Command}
+use Rattle.clap.specs.declared.builder.command.Command.TheViews.{out-Command as fields_of}
+use Rattle.clap.specs.declared.builder.ArgAction.TheVariants.{Set}
+use Rattle.lsm_requests.specs.declared.asked.Asked.{Asked}
+use Rattle.lsm_requests.specs.declared.asked.Asked.TheVariants.{Format, Put, Delete, Get, Scan, Replay, Lives}
+
+-- a word that has to be there
+abbrev pub word_rule : Text → Rule
+word_rule name = record (new_rule name) { required = true; action = Some Set }
+
+-- a command with words at fixed places
+abbrev pub with_words : App → List Text → App
+with_words app [] = app
+with_words app (name ∷ names) = with_words (with_rule app (word_rule name)) names
+
+abbrev pub file_and_key : List Text
+file_and_key = codes "FILE" ∷ codes "KEY" ∷ []
+
+-- the program has no options: the words after its name are a subcommand and its words
+abbrev pub bare_program : App
+bare_program = let named : App = new_app (codes "lsmctl") in
+    record named { top = record named.top { no_binary_name = true; subcommand_required = true } }
+
+-- a command with one subcommand more, which has words at fixed places
+abbrev pub with_words_at : App → Text → List Text → App
+with_words_at app name places = with_subcommand app (with_words (new_app name) places).top
+
+-- the subcommands that make and change a store
+abbrev pub with_changes : App → App
+with_changes app = with_words_at (with_words_at (with_words_at app
+    (codes "format") (codes "FILE" ∷ codes "SECTORS" ∷ codes "LOG" ∷ []))
+    (codes "put") (codes "FILE" ∷ codes "KEY" ∷ codes "VALUE" ∷ []))
+    (codes "del") file_and_key
+
+-- and those that read one, or a script
+abbrev pub program : App
+program = with_words_at (with_words_at (with_words_at (with_words_at (with_changes bare_program)
+    (codes "get") file_and_key)
+    (codes "scan") (codes "FILE" ∷ codes "FROM" ∷ codes "LIMIT" ∷ []))
+    (codes "replay") (codes "FILE" ∷ []))
+    (codes "lives") (codes "SECTORS" ∷ codes "LOG" ∷ [])
+
+-- the parser sees the command so, and none of its words belongs to its subcommands too
+pub record IsCommand (app : App) (command : Command) : Type 0 where
+  pub shape : app_of command ≡ app
+  pub local : (fields_of command).has_globals ≡ false
+
+-- the word at a place
+abbrev pub HasWord : List Row → Text → Text → Type 0
+HasWord rows place word = first_of place rows ≡ Some word
+
+-- what is asked for by a subcommand's name and its words
+abbrev pub Asks : Text → List Row → Asked → Type 0
+Asks name rows (Format file sectors log) = (name ≡ codes "format") × HasWord rows (codes "FILE") file.now
+    × HasWord rows (codes "SECTORS") sectors.now × HasWord rows (codes "LOG") log.now
+Asks name rows (Put file key value) = (name ≡ codes "put") × HasWord rows (codes "FILE") file.now
+    × HasWord rows (codes "KEY") key.now × HasWord rows (codes "VALUE") value.now
+Asks name rows (Delete file key) = (name ≡ codes "del") × HasWord rows (codes "FILE") file.now
+    × HasWord rows (codes "KEY") key.now
+Asks name rows (Get file key) = (name ≡ codes "get") × HasWord rows (codes "FILE") file.now
+    × HasWord rows (codes "KEY") key.now
+Asks name rows (Scan file from limit) = (name ≡ codes "scan") × HasWord rows (codes "FILE") file.now
+    × HasWord rows (codes "FROM") from.now × HasWord rows (codes "LIMIT") limit.now
+Asks name rows (Replay file) = (name ≡ codes "replay") × HasWord rows (codes "FILE") file.now
+Asks name rows (Lives sectors log) = (name ≡ codes "lives") × HasWord rows (codes "SECTORS") sectors.now
+    × HasWord rows (codes "LOG") log.now
+
+-- whether the name is one of a subcommand, and there is a word at each of its places
+abbrev pub has_word : List Row → Text → Bool
+has_word rows place = is_some (first_of place rows)
+
+abbrev pub has_words : Text → List Row → Bool
+has_words name rows = if bytes_eq name (codes "format") then has_word rows (codes "FILE") && (has_word rows (codes "SECTORS") && has_word rows (codes "LOG"))
+    else if bytes_eq name (codes "put") then has_word rows (codes "FILE") && (has_word rows (codes "KEY") && has_word rows (codes "VALUE"))
+    else if bytes_eq name (codes "del") then has_word rows (codes "FILE") && has_word rows (codes "KEY")
+    else if bytes_eq name (codes "get") then has_word rows (codes "FILE") && has_word rows (codes "KEY")
+    else if bytes_eq name (codes "scan") then has_word rows (codes "FILE") && (has_word rows (codes "FROM") && has_word rows (codes "LIMIT"))
+    else if bytes_eq name (codes "replay") then has_word rows (codes "FILE")
+    else if bytes_eq name (codes "lives") then has_word rows (codes "SECTORS") && has_word rows (codes "LOG")
+    else false

@@ -1,0 +1,239 @@
+//! The words after the program's name, as a subcommand with its words.
+
+ghost use Rattle.std.specs.Prelude.{◌≡◌, ◌⊎◌, map, IfOk, IfErr, MatchResult, is_some, false};
+ghost use Rattle.clap.specs.Words.{App, first_of, found_of, kind_of, new_app, rows_of, rule_of};
+ghost use Rattle.clap.specs.declared.error.kind.ErrorKind.TheVariants.{OutOfMemory};
+ghost use Rattle.lsm_device.specs.declared.refusal.Refusal.TheVariants.{NoMemory};
+ghost use Rattle.lsm_requests.specs.Faults.{reason_of, mistake, refusal};
+ghost use Rattle.lsm_requests.specs.Words.{after};
+ghost use Rattle.lsm_cli.specs.Program.{bare_program, program, word_rule, with_changes, with_words, with_words_at, has_words, IsCommand, Asks, HasWord};
+ghost use Rattle.lsm_cli.specs.Runs.{has_dash, IsAsked, AskNothing};
+
+use clap::error::ErrorKind;
+use clap::{Arg, ArgAction, ArgMatches, Command};
+use lsm_device::Refusal;
+use lsm_requests::asked::Asked;
+use lsm_requests::fault::{Fault, Usage};
+use lsm_requests::words::after;
+use std::alloc::{AllocError, Global};
+use std::convert::AsStr;
+
+/// Reads the words after the program's name.
+pub fn asked_for<'a, S: AsStr>(alloc: Global, words: &'a [S]) -> Result<Asked<'a>, Fault>
+    ensures asked { IfOk result (IsAsked (map S.text words.entry.now)) }
+    ensures faults { IfErr result (λ e. ((reason_of e ≡ mistake) × AskNothing (map S.text words.entry.now)) ⊎ (reason_of e ≡ refusal NoMemory)) }
+{
+    let command = command(alloc)?;
+    let matches = match command.try_get_matches_from(words) {
+        Ok(matches) => matches,
+        Err(error) => return Err(Fault::Usage(mistake_of(alloc, words, &error)?)),
+    };
+    if let Some(word) = dashed(words) {
+        return Err(Fault::Usage(dash(alloc, word)?));
+    }
+    let Some((name, given)) = matches.subcommand() else {
+        return Err(Fault::Usage(Usage::Missing("the subcommand")));
+    };
+    Ok(subcommand(name, given)?)
+}
+
+// What the parser found wrong with the words, unless memory was refused.
+fn mistake_of<S: AsStr>(alloc: Global, words: &[S], error: &clap::Error) -> Result<Usage, Refusal>
+    ensures { MatchResult result (λ _. kind_of error.now ≡ OutOfMemory → ⊥) (λ e. e ≡ NoMemory) }
+{
+    if error.kind() == ErrorKind::OutOfMemory {
+        return Err(Refusal::NoMemory);
+    }
+    Ok(told(alloc, words, error)?)
+}
+
+// The parser's text, but not where a word begins with a dash: it tells how to hand on such a word, which is no help here.
+fn told<S: AsStr>(alloc: Global, words: &[S], error: &clap::Error) -> Result<Usage, AllocError> {
+    match dashed(words) {
+        Some(word) if error.kind() != ErrorKind::DisplayHelp => dash(alloc, word),
+        _ => Ok(Usage::Words(format!(in alloc; "{error}")?)),
+    }
+}
+
+// The first word that begins with a dash.
+fn dashed<S: AsStr>(words: &[S]) -> Option<&str>
+    ensures { is_some result ≡ has_dash (map S.text words.now) }
+{
+    for word in words {
+        if begins_with_dash(word.as_str()) {
+            return Some(word.as_str());
+        }
+    }
+    None
+}
+
+fn begins_with_dash(word: &str) -> bool
+    ensures { result ≡ is_some (after 45 word.now) }
+{
+    after(word, '-').is_some()
+}
+
+fn dash(alloc: Global, word: &str) -> Result<Usage, AllocError> {
+    let word = String::from_str(alloc, word)?;
+    Ok(Usage::Dash { word })
+}
+
+// The program's command. Each subcommand has its words at fixed places.
+fn command<'a>(alloc: Global) -> Result<Command<'a>, AllocError>
+    ensures { IfOk result (IsCommand program) }
+{
+    let command = bare(alloc)?;
+    let command = with_changes(alloc, command)?;
+    let command = adding(
+        alloc,
+        command,
+        "get",
+        "Print the value of a key",
+        &["FILE", "KEY"],
+    )?;
+    let command = adding(
+        alloc,
+        command,
+        "scan",
+        "Print a page",
+        &["FILE", "FROM", "LIMIT"],
+    )?;
+    let command = adding(
+        alloc,
+        command,
+        "replay",
+        "Make the steps of a script",
+        &["FILE"],
+    )?;
+    let command = adding(
+        alloc,
+        command,
+        "lives",
+        "Lead lives in memory",
+        &["SECTORS", "LOG"],
+    )?;
+    Ok(command)
+}
+
+// The command with the subcommands that make and change a store.
+fn with_changes<'a>(alloc: Global, command: Command<'a>) -> Result<Command<'a>, AllocError>
+    ensures { IfOk result (λ r. (app : App) → IsCommand app command.entry → IsCommand (with_changes app) r) }
+{
+    let command = adding(
+        alloc,
+        command,
+        "format",
+        "Make an empty store in a new file",
+        &["FILE", "SECTORS", "LOG"],
+    )?;
+    let command = adding(
+        alloc,
+        command,
+        "put",
+        "Put a value under a key",
+        &["FILE", "KEY", "VALUE"],
+    )?;
+    let command = adding(alloc, command, "del", "Delete a key", &["FILE", "KEY"])?;
+    Ok(command)
+}
+
+// The command with one subcommand more, whose words stand at these places.
+fn adding<'a>(
+    alloc: Global,
+    command: Command<'a>,
+    name: &'a str,
+    about: &'a str,
+    places: &[&'a str],
+) -> Result<Command<'a>, AllocError>
+    ensures { IfOk result (λ r. (app : App) → IsCommand app command.entry
+        → IsCommand (with_words_at app name.entry.now (map (λ place. place.now) places.now)) r) }
+{
+    let subcommand = taking(alloc, name, about, places)?;
+    Ok(command.subcommand(subcommand)?)
+}
+
+// The command without its subcommands. The usage of each begins with the program's name.
+fn bare<'a>(alloc: Global) -> Result<Command<'a>, AllocError>
+    ensures { IfOk result (IsCommand bare_program) }
+{
+    let command = Command::new(alloc, "lsmctl")
+        .about("An ordered key-value store in a file")
+        .no_binary_name(true)
+        .subcommand_required(true)
+        .bin_name("lsmctl")?;
+    Ok(command)
+}
+
+// A subcommand with words that have to be there, at fixed places.
+fn taking<'a>(
+    alloc: Global,
+    name: &'a str,
+    about: &'a str,
+    places: &[&'a str],
+) -> Result<Command<'a>, AllocError>
+    ensures { IfOk result (IsCommand (with_words (new_app name.entry.now) (map (λ place. place.now) places.now))) }
+{
+    let mut command = Command::new(alloc, name).about(about);
+    for place in places {
+        command = command.arg(word(alloc, place))?;
+    }
+    Ok(command)
+}
+
+// A word that has to be there.
+fn word<'a>(alloc: Global, place: &'a str) -> Arg<'a>
+    ensures rule { rule_of result ≡ word_rule place.entry.now }
+    ensures local { result.global ≡ false }
+{
+    Arg::new(alloc, place).required(true).action(ArgAction::Set)
+}
+
+// A subcommand's words from their places.
+fn subcommand<'a>(name: &str, given: &ArgMatches<'a>) -> Result<Asked<'a>, Usage>
+    ensures { MatchResult result (Asks name.now (rows_of (found_of given.now))) (λ _. has_words name.now (rows_of (found_of given.now)) ≡ false) }
+{
+    match name {
+        "format" => Ok(Asked::Format {
+            file: at(given, "FILE")?,
+            sectors: at(given, "SECTORS")?,
+            log: at(given, "LOG")?,
+        }),
+        "put" => Ok(Asked::Put {
+            file: at(given, "FILE")?,
+            key: at(given, "KEY")?,
+            value: at(given, "VALUE")?,
+        }),
+        "del" => Ok(Asked::Delete {
+            file: at(given, "FILE")?,
+            key: at(given, "KEY")?,
+        }),
+        "get" => Ok(Asked::Get {
+            file: at(given, "FILE")?,
+            key: at(given, "KEY")?,
+        }),
+        "scan" => Ok(Asked::Scan {
+            file: at(given, "FILE")?,
+            from: at(given, "FROM")?,
+            limit: at(given, "LIMIT")?,
+        }),
+        "replay" => Ok(Asked::Replay {
+            file: at(given, "FILE")?,
+        }),
+        "lives" => Ok(Asked::Lives {
+            sectors: at(given, "SECTORS")?,
+            log: at(given, "LOG")?,
+        }),
+        _ => Err(Usage::Missing("the subcommand")),
+    }
+}
+
+// The word at a place, which the parser asked for.
+fn at<'a>(given: &ArgMatches<'a>, place: &'static str) -> Result<&'a str, Usage>
+    ensures { MatchResult result (λ word. HasWord (rows_of (found_of given.now)) place.now word.now)
+        (λ _. is_some (first_of place.now (rows_of (found_of given.now))) ≡ false) }
+{
+    match given.get_str(place) {
+        Some(word) => Ok(word),
+        None => Err(Usage::Missing(place)),
+    }
+}

@@ -1,0 +1,115 @@
+-- A life on a device that held what a crash left.
+use Rattle.std.proofs.Common.{◌≡◌, ◌⊎◌, inl, inr, ℕ, Bool, List, [], ◌∷◌, ◌++◌, Option, None, Some, refl, ap, sym, subst, ◌∙◌}
+use Rattle.std.proofs.Math.Nat.{add-zero}
+use Rattle.std.proofs.lemmas.List.Elements.{Contains-append_left, Contains-append_right}
+use Rattle.lsm_device.specs.declared.refusal.Refusal.{Refusal}
+use Rattle.lsm_device.specs.Disk.{Disk, image, at_rest}
+use Rattle.lsm_device.specs.History.{present}
+use Rattle.lsm_device.specs.Medium.{Medium, disk}
+use Rattle.lsm_device.specs.Outcomes.{Leaves}
+use Rattle.lsm_device.proofs.Moments.{ended}
+use Rattle.lsm_open.specs.CrashState.{CrashState, left_by_opening}
+use Rattle.lsm_open.specs.Image.{IsImage, IsImageOfOne}
+use Rattle.lsm_open.specs.Opening.{FailsToOpen, CrashesInOpening}
+use Rattle.lsm_open.proofs.Openings.{same_again}
+use Rattle.lsm_store.specs.Backing.{StoreView, machine_of}
+use Rattle.lsm_store.specs.Calls.{Reply}
+use Rattle.lsm_store.specs.Calls.{Number, Done, Value, Rows, Refused}
+use Rattle.lsm_store.specs.Crash.{reopened, may_leave}
+use Rattle.lsm_store.specs.Lives.{IsAnswered, left_by_life}
+use Rattle.lsm_store.specs.Machine.{Machine, Step}
+use Rattle.lsm_store.specs.RecoveryPoints.{batch_count}
+use Rattle.lsm_store.specs.Run.{last_machine, left_in_run}
+use Rattle.lsm_store.specs.Serving.{OpensTo}
+use Rattle.lsm_store.specs.State.{State}
+use Rattle.lsm_lives.specs.Leading.{LifeView, IsLed, LeadsTo, with_fuse}
+use Rattle.lsm_lives.specs.Living.{Holds, AfterCrash}
+use Rattle.lsm_lives.specs.Replaying.{GoOn}
+use Rattle.lsm_lives.proofs.Steps.{one_format, go_on}
+
+-- a fuse is no change of the disk
+disk-with_fuse : (fuse : Option ℕ) (m : Medium) → disk (with_fuse fuse m) ≡ disk m
+disk-with_fuse None m = refl
+disk-with_fuse (Some n) m = refl
+
+-- So a life was answered, and each crash at its end leaves what it may.
+record Ends (log_sectors : ℕ) (opened : CrashState) (others : List CrashState) (steps : List Step) (replies : List Reply) (d : Disk) : Type 0 where
+  machine : Machine
+  answered : IsAnswered log_sectors opened machine steps replies
+  crashes : Leaves (IsImageOfOne log_sectors (left_by_life opened others machine steps replies)) d
+
+module _ (log_sectors : ℕ) (opened : CrashState) (others : List CrashState) where
+  abbrev IsLeft : List (List ℕ) → Type 0
+  IsLeft sectors = IsImageOfOne log_sectors (others ++ left_by_opening opened) sectors
+
+  -- what the device held may be left
+  of_held : (sectors : List (List ℕ)) → IsImage log_sectors opened sectors ⊎ IsImageOfOne log_sectors others sectors → IsLeft sectors
+  of_held sectors (inl same) = (opened, Contains-append_right others (left_by_opening opened) opened (same_again opened), same)
+  of_held sectors (inr (left, found, is)) = (left, Contains-append_left others (left_by_opening opened) left found, is)
+
+  -- a device whose opening was refused
+  refused : (before after : Medium) (refusal : Refusal) → Holds log_sectors opened others (disk before) → FailsToOpen before log_sectors opened refusal after → Leaves IsLeft (disk after)
+  refused before after refusal holds fails = by fails.crash
+    where
+      untouched : Leaves IsLeft (disk before)
+      untouched = λ mask. of_held (image mask (disk before)) (holds.crashes mask)
+
+      by : (after.history ≡ before.history) ⊎ CrashesInOpening before log_sectors opened after → Leaves IsLeft (disk after)
+      by (inl same) = subst (λ (h : List Disk). Leaves IsLeft (present h)) (sym same) untouched
+      by (inr crashes) = λ mask.
+          let found = ended (Leaves (IsImageOfOne log_sectors (left_by_opening opened))) crashes.synced_history after.history crashes.crash mask in
+          (found.0, Contains-append_right others (left_by_opening opened) found.0 found.1, found.2)
+
+  -- at the end of a life whose opening answered this store
+  module _ (before : Medium) (s new : StoreView) (opens : OpensTo before log_sectors opened s) (steps : List Step) (more : List Reply) (runs : GoOn s steps more new) where
+    Left : ℕ → State → Type 0
+    Left n t = Leaves (IsImageOfOne n (may_leave t)) (disk new.device)
+
+    same_sectors : new.state.log_sectors ≡ log_sectors
+    same_sectors =
+        one_format new.state.log_sectors s.state.log_sectors (may_leave new.state) (left_in_run (machine_of s) steps more) (disk new.device) (runs.backed opens.backed).crashes
+        (ended (Leaves (IsImageOfOne s.state.log_sectors (left_in_run (machine_of s) steps more))) s.device.history new.device.history (runs.crash opens.backed))
+        ∙ ap (λ (t : State). t.log_sectors) opens.state
+
+    left : Left log_sectors (last_machine (machine_of s) steps more).state
+    unfolding Left
+    left = subst (Left log_sectors) (ap (λ (m : Machine). m.state) runs.machine) (subst (λ (n : ℕ). Left n new.state) same_sectors (runs.backed opens.backed).crashes)
+
+    ends_opened : (n : ℕ) → n ≡ batch_count s.state.points → Ends log_sectors opened others steps (Number n ∷ more) (disk new.device)
+    unfolding Left
+    ends_opened n counted = record {
+      machine = machine_of s;
+      answered = (opens.fair, counted ∙ ap (λ (t : State). batch_count t.points) opens.state ∙ add-zero opened.count, record { state = opens.state }, runs.run opens.backed);
+      crashes = left;
+    }
+
+  -- at the end of a life that was led
+  at_end : (before : Medium) (steps : List Step) (replies : List Reply) (after : Medium) → IsLed before steps replies after → Holds log_sectors opened others (disk before) → Ends log_sectors opened others steps replies (disk after)
+  at_end before steps (Number n ∷ more) after (s, begins, counted, end, replays, into) holds =
+      subst (λ (m : Medium). Ends log_sectors opened others steps (Number n ∷ more) (disk m)) (sym into)
+      (ends_opened before s end (begins.opens log_sectors opened holds.reads) steps more (go_on s steps more end replays) n counted)
+  at_end before steps (Refused e ∷ more) after (refuses, stopped) holds =
+      let fails = refuses.fails log_sectors opened holds.reads in
+      record { machine = record { state = reopened log_sectors opened }; answered = (fails.fair, stopped); crashes = refused before after e holds fails }
+  at_end before steps (Done ∷ more) after led holds = absurd led
+  at_end before steps (Value v ∷ more) after led holds = absurd led
+  at_end before steps (Rows page ∷ more) after led holds = absurd led
+  at_end before steps [] after led holds = absurd led
+
+  -- after the crash
+  crash_ends : (steps : List Step) (replies : List Reply) (mask : List Bool) (d : Disk) → Ends log_sectors opened others steps replies d → AfterCrash log_sectors opened others steps replies (at_rest (image mask d))
+  crash_ends steps replies mask d before =
+      let found = before.crashes mask in
+      record {
+        left = found.0;
+        life = record { machine = before.machine; answered = before.answered; crash = found.1 };
+        holds = record { reads = found.2; crashes = λ keep. inl found.2 };
+      }
+
+  -- a whole life
+  pub life_led : (life : LifeView) (before : Medium) (replies : List Reply) (after : Medium) → LeadsTo life before replies after → Holds log_sectors opened others (disk before)
+      → AfterCrash log_sectors opened others life.steps replies (disk after)
+  life_led life before replies after leads holds =
+      let starts = subst (λ (d : Disk). Holds log_sectors opened others d) (sym (disk-with_fuse life.fuse before)) holds in
+      subst (λ (m : Medium). AfterCrash log_sectors opened others life.steps replies (disk m)) (sym leads.crash)
+      (crash_ends life.steps replies life.mask (disk leads.end) (at_end (with_fuse life.fuse before) life.steps replies leads.end leads.led starts))

@@ -1,0 +1,82 @@
+-- Lives on a device in memory, whatever it holds.
+use Rattle.std.specs.Prelude.{◌≡◌, ◌⊎◌, ℕ, Bool, List, [], ◌∷◌, Option, None, Some, map}
+use Rattle.lsm_device.specs.Calls.{AtMost, faults_after}
+use Rattle.lsm_device.specs.Disk.{seen}
+use Rattle.lsm_device.specs.Medium.{Medium, KeepsFuse, disk, fused, crashed}
+use Rattle.lsm_device.specs.Refusals.{is_no_fault}
+use Rattle.lsm_device.specs.declared.refusal.Refusal.{Refusal}
+use Rattle.lsm_device.specs.declared.refusal.Refusal.TheVariants.{NoMemory, Io, BadGeometry}
+use Rattle.lsm_open.specs.CrashState.{CrashState}
+use Rattle.lsm_open.specs.Image.{IsImage}
+use Rattle.lsm_open.specs.Opening.{opening_refusal, FailsToOpen}
+use Rattle.lsm_root.specs.Layout.{IsDeviceSize}
+use Rattle.lsm_store.specs.Backing.{StoreView}
+use Rattle.lsm_store.specs.Calls.{Reply}
+use Rattle.lsm_store.specs.Calls.{Number, Refused}
+use Rattle.lsm_store.specs.Lives.{all_stopped}
+use Rattle.lsm_store.specs.Machine.{Step}
+use Rattle.lsm_store.specs.RecoveryPoints.{batch_count}
+use Rattle.lsm_store.specs.Serving.{OpensTo}
+use Rattle.lsm_lives.specs.Calls.{step_of}
+use Rattle.lsm_lives.specs.Replaying.{Replays}
+use Rattle.lsm_lives.specs.declared.living.Life.{Life as Given}
+
+-- what a life is asked to be
+pub record LifeView : Type 0 where
+  pub fuse : Option ℕ
+  pub steps : List Step
+  pub mask : List Bool
+
+abbrev pub life_of : {A : Type 0} → Given A → LifeView
+life_of life = record { fuse = life.fuse; steps = map step_of life.steps.items; mask = life.mask.items }
+
+-- An opening of the device answered this store.
+pub record BeginsOn (before : Medium) (s : StoreView) : Type 0 where
+  -- neither the device's size nor what it holds refuses it, and of what a crash left it is the store that was
+  pub size : IsDeviceSize before.size
+  pub unrefused : opening_refusal (seen (disk before)) ≡ None
+  pub opens : (log_sectors : ℕ) (left : CrashState) → IsImage log_sectors left (seen (disk before)) → OpensTo before log_sectors left s
+  -- no call of the device faulted in it
+  pub no_fault : s.device.calls.faults ≡ before.calls.faults
+  pub calls : AtMost 6210 38 3 before.calls s.device.calls
+  pub same_size : s.device.size ≡ before.size
+  pub same_lasting : s.device.lasting ≡ before.lasting
+
+-- It was refused.
+pub record FailsOn (before : Medium) (refusal : Refusal) (after : Medium) : Type 0 where
+  -- for the device's size, as what it holds calls for, or for want of memory, or with Io, which is told exactly where a call
+  -- of the device faulted in it
+  pub size : (IsDeviceSize before.size → ⊥) → (refusal ≡ NoMemory) ⊎ (refusal ≡ BadGeometry)
+  pub reason : IsDeviceSize before.size → (opening_refusal (seen (disk before)) ≡ Some refusal) ⊎ ((refusal ≡ NoMemory) ⊎ (refusal ≡ Io))
+  pub fault : after.calls.faults ≡ faults_after (is_no_fault refusal) before.calls.faults
+  -- of what a crash left it leaves the same
+  pub fails : (log_sectors : ℕ) (left : CrashState) → IsImage log_sectors left (seen (disk before)) → FailsToOpen before log_sectors left refusal after
+  pub same_size : after.size ≡ before.size
+  pub same_lasting : after.lasting ≡ before.lasting
+
+-- A life until its crash. The store was opened and made the steps; or its opening was refused, and then no step touched
+-- the device.
+abbrev pub IsLed : Medium → List Step → List Reply → Medium → Type 0
+IsLed before steps (Number n ∷ replies) after = (s : StoreView) × BeginsOn before s × (n ≡ batch_count s.state.points) × (end : StoreView) × Replays s steps replies end × (after ≡ end.device)
+IsLed before steps (Refused e ∷ replies) after = FailsOn before e after × (replies ≡ all_stopped steps)
+IsLed before steps replies after = ⊥
+
+-- the device as a life begins: with its fuse set, where it has one
+abbrev pub with_fuse : Option ℕ → Medium → Medium
+with_fuse None m = m
+with_fuse (Some n) m = fused n m
+
+-- A life on a device: its fuse is set, it is led, and the device crashes by its mask. With a fuse of n at most n of its
+-- writes and syncs answered Ok.
+pub record LeadsTo (life : LifeView) (before : Medium) (replies : List Reply) (after : Medium) : Type 0 where
+  pub end : Medium
+  pub led : IsLed (with_fuse life.fuse before) life.steps replies end
+  pub fuse : KeepsFuse life.fuse end.calls
+  pub crash : after ≡ crashed life.mask end
+
+-- Lives one after another, each on the device as the crash before it left it.
+abbrev pub AreLed : List LifeView → Medium → List (List Reply) → Medium → Type 0
+AreLed [] before [] after = after ≡ before
+AreLed (life ∷ lives) before (replies ∷ rest) after = (mid : Medium) × LeadsTo life before replies mid × AreLed lives mid rest after
+AreLed [] before (replies ∷ rest) after = ⊥
+AreLed (life ∷ lives) before [] after = ⊥

@@ -1,0 +1,13 @@
+use Rattle.std.proofs.Common.{rules}
+use Rattle.lsm_requests.proofs.calls.commit.Goals as goal
+
+pub returns : goal.returns
+returns g c = record {
+  number = c.in_ok-number.number;
+  before = c.in_ok-store.store;
+  between = c.commit.new.self;
+  after = c.sync.new.self;
+  commits = search rules;
+  syncs = search rules;
+  told = search rules;
+}

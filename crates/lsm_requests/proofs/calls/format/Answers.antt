@@ -1,0 +1,11 @@
+use Rattle.std.proofs.Common.{rules}
+use Rattle.lsm_requests.proofs.calls.format.Goals as goal
+
+pub returns-in-Ok : goal.returns-in-Ok
+returns-in-Ok g c = record {
+  file = c.in-Ok.field-0;
+  size = search rules;
+  made = search rules;
+  no_fault = search rules;
+  told = search rules;
+}

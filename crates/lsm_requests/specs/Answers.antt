@@ -1,0 +1,110 @@
+-- What the program prints.
+use Rattle.std.specs.Prelude.{◌≡◌, ℕ, ◌+◌, ◌*◌, List, [], ◌∷◌, ◌++◌, map, Option, Some, None, codes, decimal, string_bytes}
+use Rattle.lsm_codec.specs.Keys.{Bytes}
+use Rattle.lsm_codec.specs.Map.{Operation}
+use Rattle.lsm_codec.specs.Words.{word_of}
+use Rattle.lsm_codec.specs.Geometry.{data_blocks_of}
+use Rattle.lsm_store.specs.Machine.{Step}
+use Rattle.lsm_store.specs.Paging.{Page}
+use Rattle.lsm_device.specs.Calls.{no_calls}
+use Rattle.lsm_device.specs.Disk.{Disk}
+use Rattle.lsm_device.specs.declared.file.FileDevice.{FileDevice}
+use Rattle.lsm_root.specs.Counted.{CallsMade}
+use Rattle.lsm_open.specs.CrashState.{formatted as empty_store}
+use Rattle.lsm_store.specs.declared.asked.At.TheVariants.{Now}
+use Rattle.lsm_store.specs.Calls.{Commit, Get, Scan, Sync, Reply, Done, Number, Rows, Value as Found}
+use Rattle.lsm_store.specs.Backing.{StoreView}
+use Rattle.lsm_store.specs.Serving.{Serves}
+use Rattle.lsm_lives.specs.Calls.{step_of}
+use Rattle.lsm_lives.specs.Replaying.{Replays}
+use Rattle.lsm_lives.specs.Living.{KeepPromise}
+use Rattle.lsm_requests.specs.Steps.{calls_after, told_after, steps_of_lives, told_lives}
+use Rattle.lsm_requests.specs.Replies.{page_lines, replies_text, lives_text}
+use Rattle.lsm_requests.specs.declared.steps.Told.{Told}
+use Rattle.lsm_requests.specs.declared.request.Request.{Request}
+use Rattle.lsm_requests.specs.declared.request.Request.TheVariants as request
+use Rattle.lsm_requests.specs.declared.answer.Answer.{Answer}
+use Rattle.lsm_requests.specs.declared.answer.Answer.TheVariants.{Formatted, Batch, Value, Absent, Lines}
+
+-- the lines that are printed
+abbrev pub lines_of : Answer → List ℕ
+lines_of (Formatted blocks) = codes "formatted blocks " ++ decimal blocks ++ 10 ∷ []
+lines_of (Batch number) = codes "batch " ++ decimal number ++ 10 ∷ []
+lines_of (Value word) = codes "value " ++ string_bytes word ++ 10 ∷ []
+lines_of Absent = codes "absent" ++ 10 ∷ []
+lines_of (Lines text) = string_bytes text
+
+-- A file of so many sectors was made a store: since it was made, just the writes and syncs of a format were made in it, and
+-- none of them failed. Its data blocks are told.
+pub record HasFormatted (sectors log : ℕ) (answer : Answer) : Type 0 where
+  pub file : FileDevice
+  pub size : file.sectors ≡ sectors
+  pub made : CallsMade (132 + 3 * log) 3 no_calls file.calls
+  pub no_fault : file.calls.faults ≡ 0
+  pub told : answer ≡ Formatted (data_blocks_of sectors log)
+
+-- a batch was committed and synced, and its number is told
+pub record HasCommitted (batch : List Operation) (answer : Answer) : Type 0 where
+  pub number : ℕ
+  pub before : StoreView
+  pub between : StoreView
+  pub after : StoreView
+  pub commits : Serves before (Commit batch) (Number number) between
+  pub syncs : Serves between Sync Done after
+  pub told : answer ≡ Batch number
+
+-- a value is told by its word
+abbrev pub TellsValue : Option Bytes → Answer → Type 0
+TellsValue (Some bytes) (Value word) = string_bytes word ≡ word_of bytes
+TellsValue None Absent = Unit {0}
+TellsValue _ _ = ⊥
+
+-- a key was looked up, and its value is told, or that it has none
+pub record HasFound (key : Bytes) (answer : Answer) : Type 0 where
+  pub value : Option Bytes
+  pub before : StoreView
+  pub after : StoreView
+  pub serves : Serves before (Get Now key) (Found value) after
+  pub told : TellsValue value answer
+
+-- lines of this text answer
+abbrev pub HasLines : List ℕ → Answer → Type 0
+HasLines lines (Lines text) = string_bytes text ≡ lines
+HasLines lines _ = ⊥
+
+-- a page of the map was found, and its rows are told
+pub record HasRows (from : Bytes) (limit : ℕ) (answer : Answer) : Type 0 where
+  pub page : Page
+  pub before : StoreView
+  pub after : StoreView
+  pub serves : Serves before (Scan Now from None limit) (Rows page) after
+  pub told : HasLines (page_lines page) answer
+
+-- steps were made of this store, and the replies to them are told, each as its line asks for
+pub record TellsReplies (before : StoreView) (made : List Step) (steps : List Told) (after : StoreView) (answer : Answer) : Type 0 where
+  pub replies : List Reply
+  pub replays : Replays before made replies after
+  pub told : HasLines (replies_text steps replies) answer
+
+-- of some store
+pub record HasReplies (made : List Step) (steps : List Told) (answer : Answer) : Type 0 where
+  pub before : StoreView
+  pub after : StoreView
+  pub tells : TellsReplies before made steps after answer
+
+-- Lives were led on an empty store, each a list of steps, and the replies to them are told. They keep the promise over
+-- crashes.
+pub record HasLives (log_sectors : ℕ) (lives : List (List Step)) (steps : List (List Told)) (answer : Answer) : Type 0 where
+  pub replies : List (List Reply)
+  pub left : Disk
+  pub promise : KeepPromise log_sectors [] empty_store lives replies left
+  pub told : HasLines (lives_text steps replies) answer
+
+-- what answers a request
+abbrev pub Gives : Request → Answer → Type 0
+Gives (request.Format file geometry) = HasFormatted geometry.sectors geometry.log_sectors
+Gives (request.Commit file batch) = HasCommitted batch
+Gives (request.Get file key) = HasFound key.items
+Gives (request.Scan file from limit) = HasRows from.items limit
+Gives (request.Replay file script) = HasReplies (map step_of (calls_after [] script.items)) (told_after [] script.items)
+Gives (request.Lives geometry script) = HasLives geometry.log_sectors (steps_of_lives script.items) (told_lives script.items)

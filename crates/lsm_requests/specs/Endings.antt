@@ -1,0 +1,44 @@
+-- How a run ends: what is printed, and the exit status.
+use Rattle.std.specs.Prelude.{◌≡◌, ℕ, List, Option, Result, Ok, Err, OnOk}
+use Rattle.std.specs.Io.KnownBytes.{Appends, Keeps}
+use Rattle.std.specs.declared.io.Error.{Error}
+use Rattle.lsm_requests.specs.declared.answer.Answer.{Answer}
+use Rattle.lsm_requests.specs.declared.fault.Fault.{Fault}
+use Rattle.lsm_requests.specs.Faults.{Reason, refusal, reason_of, status_of}
+use Rattle.lsm_requests.specs.Replies.{refusal_line}
+use Rattle.lsm_requests.specs.Answers.{lines_of}
+
+-- the exit status: 1 where the answer or the fault could not be written
+abbrev pub status_after : Result Answer Fault → Result (Unit {0}) Error → ℕ
+status_after answered (Err error) = 1
+status_after (Ok answer) (Ok done) = 0
+status_after (Err fault) (Ok done) = status_of (reason_of fault)
+
+-- the output is the answer, or stays as it is
+abbrev pub PrintsAnswer : Result Answer Fault → Result (Unit {0}) Error → Option (List ℕ) → Option (List ℕ) → Type 0
+PrintsAnswer (Ok answer) written old new = OnOk written (Appends old new (lines_of answer))
+PrintsAnswer (Err fault) written old new = Keeps old new
+
+-- a refusal is reported in one line; the text of any other fault is left open
+abbrev pub IsReported : Reason → Option (List ℕ) → Option (List ℕ) → Type 0
+IsReported (refusal r) old new = Appends old new (refusal_line r)
+IsReported _ old new = Unit {0}
+
+-- the errors are the fault, or stay as they are; that an answer could not be written is told as far as it can be
+abbrev pub PrintsFault : Result Answer Fault → Result (Unit {0}) Error → Option (List ℕ) → Option (List ℕ) → Type 0
+PrintsFault (Ok answer) written old new = OnOk written (Keeps old new)
+PrintsFault (Err fault) written old new = OnOk written (IsReported (reason_of fault) old new)
+
+-- the bytes that the writers hold before and after, as far as they are known
+pub record Written : Type 0 where
+  pub output : Option (List ℕ)
+  pub output_after : Option (List ℕ)
+  pub errors : Option (List ℕ)
+  pub errors_after : Option (List ℕ)
+
+-- an answer or a fault was printed, and this is the exit status
+pub record Concludes (answered : Result Answer Fault) (bytes : Written) (ends : ℕ) : Type 0 where
+  pub written : Result (Unit {0}) Error
+  pub status : ends ≡ status_after answered written
+  pub answer : PrintsAnswer answered written bytes.output bytes.output_after
+  pub fault : PrintsFault answered written bytes.errors bytes.errors_after

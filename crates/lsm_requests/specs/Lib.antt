@@ -1,0 +1,12 @@
+pub mod Numbers
+pub mod Limits
+pub mod Faults
+pub mod Words
+pub mod Changes
+pub mod Lines
+pub mod Scripts
+pub mod Requests
+pub mod Steps
+pub mod Replies
+pub mod Answers
+pub mod Endings

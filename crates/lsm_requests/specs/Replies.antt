@@ -1,0 +1,73 @@
+-- Replies as lines.
+use Rattle.std.specs.Prelude.{ℕ, ◌/◌, ◌%◌, List, [], ◌∷◌, ◌++◌, codes, decimal, Option, Some, None}
+use Rattle.std.specs.List.{flat_map}
+use Rattle.lsm_device.specs.declared.refusal.Refusal.{Refusal}
+use Rattle.lsm_device.specs.Refusals.{number_of, name_of}
+use Rattle.lsm_codec.specs.Words.{word_of}
+use Rattle.lsm_codec.specs.Keys.{Bytes}
+use Rattle.lsm_store.specs.Paging.{Page}
+use Rattle.lsm_store.specs.Calls.{Reply, Number, Done, Value, Rows, Refused}
+use Rattle.lsm_requests.specs.declared.steps.Counted.{Counted}
+use Rattle.lsm_requests.specs.declared.steps.Counted.TheVariants as counted
+use Rattle.lsm_requests.specs.declared.steps.Told.{Told}
+use Rattle.lsm_requests.specs.declared.steps.Told.TheVariants as told
+
+-- the word before a number
+abbrev pub counted_word : Counted → List ℕ
+counted_word counted.Opened = codes "open"
+counted_word counted.Batch = codes "batch"
+counted_word counted.Snapshot = codes "snapshot"
+counted_word counted.Room = codes "room"
+
+-- `refused`, the number in two digits, and the name
+abbrev pub refusal_text : Refusal → List ℕ
+refusal_text refusal = codes "refused " ++ decimal (number_of refusal / 10) ++ decimal (number_of refusal % 10) ++ codes " "
+    ++ name_of refusal
+
+abbrev pub refusal_line : Refusal → List ℕ
+refusal_line refusal = refusal_text refusal ++ 10 ∷ []
+
+-- the key of the first pair that a page leaves out
+abbrev pub next_line : Page → List ℕ
+next_line page = next page.next
+  where
+    next : Option Bytes → List ℕ
+    next (Some key) = codes "next " ++ word_of key ++ 10 ∷ []
+    next None = codes "end" ++ 10 ∷ []
+
+-- a row in such a line, and in one of its own
+abbrev pub row_pair : Bytes × Bytes → List ℕ
+row_pair row = word_of row.0 ++ codes "=" ++ word_of row.1 ++ codes " "
+
+abbrev pub row_line : Bytes × Bytes → List ℕ
+row_line row = word_of row.0 ++ codes " " ++ word_of row.1 ++ 10 ∷ []
+
+-- a page in one line
+abbrev pub rows_line : Page → List ℕ
+rows_line page = codes "rows " ++ flat_map row_pair page.rows ++ next_line page
+
+-- a page in lines of its own
+abbrev pub page_lines : Page → List ℕ
+page_lines page = flat_map row_line page.rows ++ next_line page
+
+-- a store's reply
+abbrev pub reply_line : Counted → Reply → List ℕ
+reply_line counted (Number number) = counted_word counted ++ codes " " ++ decimal number ++ 10 ∷ []
+reply_line counted Done = codes "ok" ++ 10 ∷ []
+reply_line counted (Value (Some value)) = codes "value " ++ word_of value ++ 10 ∷ []
+reply_line counted (Value None) = codes "absent" ++ 10 ∷ []
+reply_line counted (Rows page) = rows_line page
+reply_line counted (Refused refusal) = refusal_line refusal
+
+-- a line for each step
+abbrev pub replies_text : List Told → List Reply → List ℕ
+replies_text [] replies = []
+replies_text (told.NoBatch refusal ∷ steps) replies = refusal_line refusal ++ replies_text steps replies
+replies_text (told.Reply counted ∷ steps) (reply ∷ replies) = reply_line counted reply ++ replies_text steps replies
+replies_text (told.Reply counted ∷ steps) [] = replies_text steps []
+
+-- the lines of each life
+abbrev pub lives_text : List (List Told) → List (List Reply) → List ℕ
+lives_text [] replies = []
+lives_text (steps ∷ lives) (replies ∷ more) = replies_text steps replies ++ lives_text lives more
+lives_text (steps ∷ lives) [] = lives_text lives []

@@ -1,0 +1,91 @@
+-- The calls of a script, and how the replies to its steps are told.
+use Rattle.std.specs.Prelude.{ℕ, ◌+◌, ◌*◌, ◌^◌, ◌-◌, min, List, [], ◌∷◌, ◌++◌, length, map, replicate, slice_get, Bool, true, false, Option, Some, None, if◌then◌else◌}
+use Rattle.std.specs.Global.{Global}
+use Rattle.lsm_store.specs.Calls.{Call, Commit, Snapshot}
+use Rattle.lsm_store.specs.Machine.{Step}
+use Rattle.lsm_lives.specs.declared.calls.Call.{Call as Asked}
+use Rattle.lsm_lives.specs.declared.living.Life.{Life}
+use Rattle.lsm_lives.specs.Calls.{call_of, step_of}
+use Rattle.lsm_requests.specs.declared.line.Line.{Line}
+use Rattle.lsm_requests.specs.declared.line.Line.TheVariants as line
+use Rattle.lsm_requests.specs.declared.line.Kept.{Kept}
+use Rattle.lsm_requests.specs.declared.line.Kept.TheVariants.{All, Places}
+use Rattle.lsm_requests.specs.declared.steps.Counted.{Counted}
+use Rattle.lsm_requests.specs.declared.steps.Counted.TheVariants as counted
+use Rattle.lsm_requests.specs.declared.steps.Told.{Told}
+use Rattle.lsm_requests.specs.declared.steps.Told.TheVariants as told
+
+-- what a number counts in the reply to a call
+abbrev pub counted_by : Call → Counted
+counted_by (Commit batch) = counted.Batch
+counted_by Snapshot = counted.Snapshot
+counted_by _ = counted.Room
+
+-- ---- steps alone, each after those before it
+
+-- the steps that are calls
+abbrev pub calls_after : List (Asked Global) → List Line → List (Asked Global)
+calls_after calls [] = calls
+calls_after calls (line.Call call ∷ lines) = calls_after (calls ++ call ∷ []) lines
+calls_after calls (_ ∷ lines) = calls_after calls lines
+
+-- how each step is told
+abbrev pub told_after : List Told → List Line → List Told
+told_after steps [] = steps
+told_after steps (line.Call call ∷ lines) = told_after (steps ++ told.Reply (counted_by (call_of call)) ∷ []) lines
+told_after steps (line.NoBatch refusal ∷ lines) = told_after (steps ++ told.NoBatch refusal ∷ []) lines
+told_after steps (_ ∷ lines) = told_after steps lines
+
+-- ---- lives, each after those before it
+
+-- the end of a script ends its last life, unless a crash did
+abbrev pub is_crash : Line → Bool
+is_crash (line.Crash kept) = true
+is_crash _ = false
+
+abbrev pub ended : List Line → List Line
+ended lines = by_last (slice_get lines (length lines - 1))
+  where
+    by_last : Option Line → List Line
+    by_last None = lines ++ line.Crash All ∷ []
+    by_last (Some last) = if is_crash last then lines else lines ++ line.Crash All ∷ []
+
+-- a life makes at most 38 writes in its opening and 128 in each call, so that a mask of as many places keeps all that pend
+abbrev pub mask_said : Kept → ℕ → List Bool
+mask_said All calls = replicate (min (38 + min (128 * calls) (2 ^ 64 - 1)) (2 ^ 64 - 1)) true
+mask_said (Places places) calls = places.items
+
+-- a life by its fuse, its calls and its mask
+abbrev pub life_of : Life Global → Option ℕ × List (Asked Global) × List Bool
+life_of life = (life.fuse, life.steps.items, life.mask.items)
+
+-- a line `crash` makes a life of the lines since the one before it
+abbrev pub lives_after : List (Option ℕ × List (Asked Global) × List Bool) → Option ℕ → List (Asked Global) → List Line
+    → List (Option ℕ × List (Asked Global) × List Bool)
+lives_after lives fuse calls [] = lives
+lives_after lives fuse calls (line.Call call ∷ lines) = lives_after lives fuse (calls ++ call ∷ []) lines
+lives_after lives fuse calls (line.NoBatch refusal ∷ lines) = lives_after lives fuse calls lines
+lives_after lives fuse calls (line.Fuse number ∷ lines) = lives_after lives (Some number) calls lines
+lives_after lives fuse calls (line.Crash kept ∷ lines) = lives_after (lives ++ (fuse, calls, mask_said kept (length calls)) ∷ []) None [] lines
+
+-- the steps of each life
+abbrev pub steps_in : List (Option ℕ × List (Asked Global) × List Bool) → List (List Step)
+steps_in lives = map (λ life. map step_of life.1) lives
+
+abbrev pub steps_of_lives : List Line → List (List Step)
+steps_of_lives lines = steps_in (lives_after [] None [] (ended lines))
+
+-- a life is told by its opening and its steps
+abbrev pub opened : List Told
+opened = told.Reply counted.Opened ∷ []
+
+abbrev pub told_lives_after : List (List Told) → List Told → List Line → List (List Told)
+told_lives_after lives steps [] = lives
+told_lives_after lives steps (line.Call call ∷ lines) = told_lives_after lives (steps ++ told.Reply (counted_by (call_of call)) ∷ []) lines
+told_lives_after lives steps (line.NoBatch refusal ∷ lines) = told_lives_after lives (steps ++ told.NoBatch refusal ∷ []) lines
+told_lives_after lives steps (line.Fuse number ∷ lines) = told_lives_after lives steps lines
+told_lives_after lives steps (line.Crash kept ∷ lines) = told_lives_after (lives ++ steps ∷ []) opened lines
+
+-- how the lives of a script are told
+abbrev pub told_lives : List Line → List (List Told)
+told_lives lines = told_lives_after [] opened (ended lines)

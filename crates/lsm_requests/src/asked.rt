@@ -1,0 +1,36 @@
+//! What the words ask for, before the words for numbers and bytes are read.
+
+/// A subcommand with its words.
+#[derive(Clone, Copy, Debug, PartialEq, Eq)]
+pub enum Asked<'a> {
+    Format {
+        file: &'a str,
+        sectors: &'a str,
+        log: &'a str,
+    },
+    Put {
+        file: &'a str,
+        key: &'a str,
+        value: &'a str,
+    },
+    Delete {
+        file: &'a str,
+        key: &'a str,
+    },
+    Get {
+        file: &'a str,
+        key: &'a str,
+    },
+    Scan {
+        file: &'a str,
+        from: &'a str,
+        limit: &'a str,
+    },
+    Replay {
+        file: &'a str,
+    },
+    Lives {
+        sectors: &'a str,
+        log: &'a str,
+    },
+}

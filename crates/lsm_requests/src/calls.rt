@@ -1,0 +1,117 @@
+//! The calls of the store that a request makes, on a store in a file.
+
+ghost use Rattle.std.specs.Prelude.{[], map, IfOk};
+ghost use Rattle.lsm_lives.specs.Calls.{step_of};
+ghost use Rattle.lsm_requests.specs.Steps.{calls_after, told_after};
+ghost use Rattle.lsm_requests.specs.Answers.{Gives, HasFormatted, HasCommitted, HasFound, HasRows, HasReplies};
+
+use crate::answer::Answer;
+use crate::geometry::Geometry;
+use crate::line::Line;
+use crate::reply::push_page;
+use crate::request::Request;
+use crate::runs;
+use crate::steps::steps_of;
+use lsm_codec::{Batch, word};
+use lsm_device::{FileDevice, Refusal};
+use lsm_store::{At, Store};
+use std::fs::{File, Files};
+
+/// The blocks that an opened store may keep in memory.
+const CACHE: u32 = 256;
+
+/// Does what is asked for.
+pub fn answer<R: Files<File = File> + AllocGlobal>(
+    rt: &R,
+    request: Request<'_>,
+) -> Result<Answer, Refusal>
+    ensures { IfOk result (Gives request.entry) }
+{
+    match request {
+        Request::Format { file, geometry } => format(rt, file, geometry),
+        Request::Commit { file, batch } => commit(rt, file, &batch),
+        Request::Get { file, key } => get(rt, file, &key),
+        Request::Scan { file, from, limit } => scan(rt, file, &from, limit),
+        Request::Replay { file, script } => replay(rt, file, script),
+        Request::Lives { geometry, script } => runs::lives(rt.alloc(), geometry, script),
+    }
+}
+
+fn format<R: Files<File = File> + AllocGlobal>(
+    rt: &R,
+    file: &str,
+    geometry: Geometry,
+) -> Result<Answer, Refusal>
+    ensures { IfOk result (HasFormatted geometry.sectors geometry.log_sectors) }
+{
+    let device = FileDevice::create(rt, file, geometry.sectors())?;
+    match lsm_open::format(rt.alloc(), device, geometry.log_sectors()) {
+        Ok(_) => Ok(Answer::Formatted(geometry.data_blocks())),
+        Err((refusal, _)) => Err(refusal),
+    }
+}
+
+fn open<R: Files<File = File> + AllocGlobal>(
+    rt: &R,
+    file: &str,
+) -> Result<Store<FileDevice>, Refusal> {
+    let device = FileDevice::open(rt, file)?;
+    match Store::open(rt.alloc(), device, CACHE) {
+        Ok(store) => Ok(store),
+        Err((refusal, _)) => Err(refusal),
+    }
+}
+
+fn commit<R: Files<File = File> + AllocGlobal>(
+    rt: &R,
+    file: &str,
+    batch: &Batch,
+) -> Result<Answer, Refusal>
+    ensures { IfOk result (HasCommitted batch.now) }
+{
+    let mut store = open(rt, file)?;
+    let number = store.commit(batch)?;
+    store.sync()?;
+    Ok(Answer::Batch(number))
+}
+
+fn get<R: Files<File = File> + AllocGlobal>(
+    rt: &R,
+    file: &str,
+    key: &[u8],
+) -> Result<Answer, Refusal>
+    ensures { IfOk result (HasFound key.now) }
+{
+    let mut store = open(rt, file)?;
+    match store.get(At::Now, key)? {
+        Some(value) => Ok(Answer::Value(word(rt.alloc(), value.as_slice())?)),
+        None => Ok(Answer::Absent),
+    }
+}
+
+fn replay<R: Files<File = File> + AllocGlobal>(
+    rt: &R,
+    file: &str,
+    script: Vec<Line>,
+) -> Result<Answer, Refusal>
+    ensures { IfOk result (HasReplies (map step_of (calls_after [] script.items)) (told_after [] script.items)) }
+{
+    let steps = steps_of(rt.alloc(), script)?;
+    let mut store = open(rt, file)?;
+    Ok(runs::replay(rt.alloc(), &mut store, &steps)?)
+}
+
+fn scan<R: Files<File = File> + AllocGlobal>(
+    rt: &R,
+    file: &str,
+    from: &[u8],
+    limit: u64,
+) -> Result<Answer, Refusal>
+    ensures { IfOk result (HasRows from.now limit) }
+{
+    let mut store = open(rt, file)?;
+    let page = store.scan(At::Now, from, None, limit)?;
+    let mut text = String::new(rt.alloc());
+    push_page(rt.alloc(), &mut text, &page)?;
+    Ok(Answer::Lines(text))
+}

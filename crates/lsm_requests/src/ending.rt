@@ -1,0 +1,103 @@
+//! How a run of the program ends: what is printed, and the exit status.
+
+ghost use Rattle.std.specs.Prelude.{◌≡◌, ◌≤◌, OnOk};
+ghost use Rattle.std.specs.Io.KnownBytes.{Appends, Keeps};
+ghost use Rattle.lsm_requests.specs.Answers.{lines_of};
+ghost use Rattle.lsm_requests.specs.Faults.{reason_of};
+ghost use Rattle.lsm_requests.specs.Endings.{Concludes, IsReported, status_after};
+
+use crate::answer::Answer;
+use crate::fault::{Fault, Usage};
+use crate::refused::refusal_text;
+use std::io;
+use std::io::Write;
+
+/// The exit status of a program that did what it was asked for.
+pub const DONE: u8 = 0;
+
+/// The exit status where a refusal, or a read or write that failed, ended the program.
+pub const REFUSED: u8 = 1;
+
+/// The exit status where the words or the script are wrong.
+pub const USAGE: u8 = 2;
+
+/// Writes the answer or the fault, and gives the exit status. That an answer could not be written is told on `errors`.
+pub fn conclude<O: Write, E: Write>(
+    answered: &Result<Answer, Fault>,
+    output: &mut O,
+    errors: &mut E,
+) -> u8
+    ensures concludes { Concludes answered.now record {
+      output = O.contents output.old;
+      output_after = O.contents output.new;
+      errors = E.contents errors.old;
+      errors_after = E.contents errors.new;
+    } result }
+    ensures status { result ≤ 2 }
+{
+    match answered {
+        Ok(answer) => status(answered, &print_or_tell(output, errors, answer)),
+        Err(fault) => status(answered, &report(errors, fault)),
+    }
+}
+
+// The exit status, from what was answered and whether it could be written.
+fn status(answered: &Result<Answer, Fault>, written: &io::Result<()>) -> u8
+    ensures { result ≡ status_after answered.now written.now }
+{
+    if written.is_err() {
+        return REFUSED;
+    }
+    match answered {
+        Ok(_) => DONE,
+        Err(Fault::Refused(_) | Fault::Input(_)) => REFUSED,
+        Err(Fault::Usage(_)) => USAGE,
+    }
+}
+
+// Prints the answer, and tells where that fails. Where that can't be told either, the status is all that does.
+fn print_or_tell<O: Write, E: Write>(
+    output: &mut O,
+    errors: &mut E,
+    answer: &Answer,
+) -> io::Result<()>
+    ensures printed { OnOk result (Appends (O.contents output.old) (O.contents output.new) (lines_of answer.now)) }
+    ensures silent { OnOk result (Keeps (E.contents errors.old) (E.contents errors.new)) }
+{
+    let printed = print(output, answer);
+    if let Err(error) = &printed {
+        tell(errors, error);
+    }
+    printed
+}
+
+fn tell<E: Write>(errors: &mut E, error: &io::Error) {
+    let told = writeln!(errors, "error: the answer could not be written: {error}");
+    if told.is_ok() {
+        let _ = errors.flush();
+    }
+}
+
+fn print<O: Write>(output: &mut O, answer: &Answer) -> io::Result<()>
+    ensures { OnOk result (Appends (O.contents output.old) (O.contents output.new) (lines_of answer.now)) }
+{
+    write!(output, "{answer}")?;
+    output.flush()?;
+    Ok(())
+}
+
+// The parser's texts end with a line feed of their own.
+fn report<E: Write>(errors: &mut E, fault: &Fault) -> io::Result<()>
+    ensures { OnOk result (IsReported (reason_of fault.now) (E.contents errors.old) (E.contents errors.new)) }
+{
+    match fault {
+        Fault::Refused(refusal) => {
+            let refused = refusal_text(refusal);
+            writeln!(errors, "{refused}")?;
+        }
+        Fault::Usage(Usage::Words(error)) => write!(errors, "{error}")?,
+        _ => writeln!(errors, "error: {fault}")?,
+    }
+    errors.flush()?;
+    Ok(())
+}

@@ -1,0 +1,153 @@
+//! Replies as lines.
+
+ghost use Rattle.std.specs.Prelude.{◌≡◌, ◌++◌, map, IfErr, OnOk, string_bytes};
+ghost use Rattle.lsm_device.specs.declared.refusal.Refusal.TheVariants.{NoMemory};
+ghost use Rattle.lsm_lives.specs.Calls.{reply_of};
+ghost use Rattle.lsm_lives.specs.Living.{replies_of};
+ghost use Rattle.lsm_requests.specs.Replies.{counted_word, lives_text, next_line, page_lines, refusal_line, replies_text, reply_line, rows_line};
+
+use crate::refused::refusal_text;
+use crate::steps::{Counted, Told};
+use lsm_codec::word;
+use lsm_device::Refusal;
+use lsm_lives::Reply;
+use lsm_store::Page;
+use std::alloc::Global;
+use std::fmt::Write;
+
+/// Adds a line for each step.
+pub fn push_replies(
+    alloc: Global,
+    text: &mut String,
+    told: &[Told],
+    replies: &[Reply],
+) -> Result<(), Refusal>
+    ensures text { OnOk result (string_bytes text.new ≡ string_bytes text.old ++ replies_text told.now (map reply_of replies.now)) }
+    ensures refused { IfErr result (λ e. e ≡ NoMemory) }
+{
+    let mut rest = replies;
+    for step in told {
+        match step {
+            Told::NoBatch(refusal) => push_refusal(text, *refusal)?,
+            Told::Reply(counted) => {
+                if let Some((reply, others)) = rest.split_first() {
+                    push_reply(alloc, text, *counted, reply)?;
+                    rest = others;
+                }
+            }
+        }
+    }
+    Ok(())
+}
+
+/// Adds the lines of each life.
+pub fn push_lives(
+    alloc: Global,
+    text: &mut String,
+    told: &[Vec<Told>],
+    replies: &[Vec<Reply>],
+) -> Result<(), Refusal>
+    ensures text { OnOk result (string_bytes text.new ≡ string_bytes text.old
+        ++ lives_text (map (λ t. t.items) told.now) (replies_of replies.now)) }
+    ensures refused { IfErr result (λ e. e ≡ NoMemory) }
+{
+    let mut rest = replies;
+    for life in told {
+        if let Some((replies, others)) = rest.split_first() {
+            push_replies(alloc, text, life, replies)?;
+            rest = others;
+        }
+    }
+    Ok(())
+}
+
+// The word before a number.
+fn word_of(counted: Counted) -> &'static str
+    ensures { result.now ≡ counted_word counted }
+{
+    match counted {
+        Counted::Opened => "open",
+        Counted::Batch => "batch",
+        Counted::Snapshot => "snapshot",
+        Counted::Room => "room",
+    }
+}
+
+fn push_reply(
+    alloc: Global,
+    text: &mut String,
+    counted: Counted,
+    reply: &Reply,
+) -> Result<(), Refusal>
+    ensures text { OnOk result (string_bytes text.new ≡ string_bytes text.old ++ reply_line counted (reply_of reply.now)) }
+    ensures refused { IfErr result (λ e. e ≡ NoMemory) }
+{
+    match reply {
+        Reply::Number(number) => {
+            let what = word_of(counted);
+            writeln!(text, "{what} {number}")?;
+        }
+        Reply::Done => text.push_str("ok\n")?,
+        Reply::Value(Some(value)) => {
+            let value = word(alloc, value)?;
+            writeln!(text, "value {value}")?;
+        }
+        Reply::Value(None) => text.push_str("absent\n")?,
+        Reply::Page(page) => push_rows(alloc, text, page)?,
+        Reply::Refused(refusal) => push_refusal(text, *refusal)?,
+    }
+    Ok(())
+}
+
+fn push_refusal(text: &mut String, refusal: Refusal) -> Result<(), Refusal>
+    ensures text { OnOk result (string_bytes text.new ≡ string_bytes text.old ++ refusal_line refusal) }
+    ensures refused { IfErr result (λ e. e ≡ NoMemory) }
+{
+    let refused = refusal_text(&refusal);
+    writeln!(text, "{refused}")?;
+    Ok(())
+}
+
+// The rows of a page as one line.
+fn push_rows(alloc: Global, text: &mut String, page: &Page) -> Result<(), Refusal>
+    ensures text { OnOk result (string_bytes text.new ≡ string_bytes text.old ++ rows_line page.now) }
+    ensures refused { IfErr result (λ e. e ≡ NoMemory) }
+{
+    text.push_str("rows ")?;
+    for row in page.rows() {
+        let key = word(alloc, row.key())?;
+        let value = word(alloc, row.value())?;
+        write!(text, "{key}={value} ")?;
+    }
+    push_next(alloc, text, page)?;
+    Ok(())
+}
+
+/// Adds a line for each row of a page, and one for where the next page begins.
+pub fn push_page(alloc: Global, text: &mut String, page: &Page) -> Result<(), Refusal>
+    ensures text { OnOk result (string_bytes text.new ≡ string_bytes text.old ++ page_lines page.now) }
+    ensures refused { IfErr result (λ e. e ≡ NoMemory) }
+{
+    for row in page.rows() {
+        let key = word(alloc, row.key())?;
+        let value = word(alloc, row.value())?;
+        writeln!(text, "{key} {value}")?;
+    }
+    push_next(alloc, text, page)?;
+    Ok(())
+}
+
+// The key of the first pair that a page leaves out.
+fn push_next(alloc: Global, text: &mut String, page: &Page) -> Result<(), Refusal>
+    ensures text { OnOk result (string_bytes text.new ≡ string_bytes text.old ++ next_line page.now) }
+    ensures refused { IfErr result (λ e. e ≡ NoMemory) }
+{
+    match page.next_key() {
+        Some(key) => {
+            let key = word(alloc, key)?;
+            writeln!(text, "next {key}")?;
+        }
+        None => text.push_str("end\n")?,
+    }
+    Ok(())
+}

@@ -1,0 +1,43 @@
+-- A root that was prepared is what was asked for.
+use Rattle.std.proofs.Common.{◌≡◌, ◌≤◌, ◌*◌, ℕ, List, [], length, Option, sym, ◌∙◌, ap, subst, arith}
+use Rattle.std.specs.Prelude.{unwrap_or}
+use Rattle.lsm_codec.specs.declared.superblock.Superblock.{Superblock}
+use Rattle.lsm_codec.specs.Manifests.{Contents, IsManifest, sector_count, manifest_bytes, manifest_of}
+use Rattle.lsm_codec.proofs.FormatLaws.{manifest_laws_hold}
+use Rattle.lsm_root.specs.Layout.{IsGeometry}
+use Rattle.lsm_root.specs.Planned.{Planned, contents_in, IsPrepared}
+use Rattle.lsm_root.proofs.Cutting.{few_sectors}
+
+module _ (text : List ℕ) (m : Contents) (fits : IsManifest m) (spells : text ≡ manifest_bytes m) where
+  says : contents_in text ≡ m
+  says = ap (λ (r : Option Contents). unwrap_or r (record { generation = 0; base = 0; next_table = 0; logs = [] })) (ap manifest_of spells ∙ manifest_laws_hold.format.decoded m fits)
+
+  pub plans : (size log : ℕ) → (let p : Planned = record { size = size; log = log; manifest = contents_in text } in p) ≡ record { size = size; log = log; manifest = m }
+  plans size log = ap (λ (c : Contents). let p : Planned = record { size = size; log = log; manifest = c } in p) says
+
+  pub prepares : (s : Superblock) → IsGeometry s.sectors s.log_sectors → m.generation ≡ s.generation → s.manifest_sectors ≡ sector_count m → IsPrepared s text
+  prepares s geometry same count =
+      let few : sector_count m ≤ 37 = few_sectors m fits in
+      record {
+        superblock = record {
+          generation_low = omega (arith, same, fits.numbers.generation_low);
+          generation_high = omega (arith, same, fits.numbers.generation_high);
+          sectors_low = geometry.device.low;
+          sectors_high = geometry.device.high;
+          log_low = geometry.log_low;
+          log_high = geometry.log_high;
+          manifest_low = omega (arith, count, manifest_laws_hold.sectors_low m);
+          manifest_high = omega (arith, count, few);
+        };
+        manifest = subst IsManifest (sym says) fits;
+        spelled = spells ∙ ap manifest_bytes (sym says);
+        generation = ap (λ (c : Contents). c.generation) says ∙ same;
+        sectors = count ∙ ap sector_count (sym says);
+      }
+
+-- what is prepared fills its sectors, and they are few
+pub fills : (s : Superblock) (text : List ℕ) → IsPrepared s text → length text ≡ 512 * s.manifest_sectors
+fills s text is = ap length is.spelled ∙ manifest_laws_hold.size (contents_in text) ∙ ap (λ (n : ℕ). 512 * n) (sym is.sectors)
+
+pub are_few : (s : Superblock) (text : List ℕ) → IsPrepared s text → s.manifest_sectors ≤ 37
+are_few s text is = let few : sector_count (contents_in text) ≤ 37 = few_sectors (contents_in text) is.manifest in omega (arith, is.sectors, few)

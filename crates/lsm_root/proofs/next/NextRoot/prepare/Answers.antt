@@ -1,0 +1,26 @@
+use Rattle.std.proofs.Common.{arith, sym, rules}
+use Rattle.lsm_root.proofs.Preparing.{plans, prepares}
+use Rattle.lsm_root.proofs.next.NextRoot.prepare.Goals as goal
+
+pub encode-requires : goal.encode-requires
+encode-requires g c =
+    let fits = c.requires.valid (omega (arith, c.generation-generation.ensures, c.if-generation-gt-LAST_GENERATION.false)) in
+    omega (arith, fits.numbers.logs)
+
+pub sectors-requires : goal.sectors-requires
+sectors-requires g c =
+    let fits = c.requires.valid (omega (arith, c.generation-generation.ensures, c.if-generation-gt-LAST_GENERATION.false)) in
+    omega (arith, fits.numbers.logs)
+
+pub invariant_of-result : goal.invariant_of-result
+invariant_of-result g c =
+    let fits = c.requires.valid (omega (arith, c.generation-generation.ensures, c.if-generation-gt-LAST_GENERATION.false)) in
+    prepares _ c.args.manifest.now fits c.in_ok-text.ensures.spelled _ c.requires.geometry (sym c.generation-generation.ensures) c.sectors.ensures.fewest
+
+pub returns-clause-prepared : goal.returns-clause-prepared
+returns-clause-prepared g c =
+    let fits = c.requires.valid (omega (arith, c.generation-generation.ensures, c.if-generation-gt-LAST_GENERATION.false)) in
+    plans _ c.args.manifest.now fits c.in_ok-text.ensures.spelled c.args.sectors c.args.log_sectors
+
+pub returns-then-generation-gt-LAST_GENERATION-clause-exhausted : goal.returns-then-generation-gt-LAST_GENERATION-clause-exhausted
+returns-then-generation-gt-LAST_GENERATION-clause-exhausted g c = search rules

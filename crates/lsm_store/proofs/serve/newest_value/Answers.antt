@@ -1,0 +1,5 @@
+use Rattle.std.proofs.Common.{rules}
+use Rattle.lsm_store.proofs.serve.newest_value.Goals as goal
+
+pub returns : goal.returns
+returns g c = search rules

@@ -1,7 +1,0 @@
-pub mod ScriptLaws
-pub mod WordLaws
-pub mod LineLaws
-pub mod LifeLaws
-pub mod NumberLaws
-pub mod ProgramLaws
-pub mod RunLaws

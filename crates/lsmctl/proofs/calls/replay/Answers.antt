@@ -1,9 +1,0 @@
-use Rattle.std.proofs.Common.{rules}
-use Rattle.lsmctl.proofs.calls.replay.Goals as goal
-
-pub returns : goal.returns
-returns g c = record {
-  before = c.in_ok-store.store;
-  after = c.replay.new.store;
-  tells = search rules;
-}

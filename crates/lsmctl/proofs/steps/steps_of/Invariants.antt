@@ -1,8 +1,0 @@
-use Rattle.std.proofs.Common.{◌≡◌, []}
-use Rattle.std.specs.Vec.Iter.{into_iter_items}
-use Rattle.lsmctl.specs.Steps.{calls_after, told_after}
-use Rattle.lsmctl.proofs.steps.steps_of.Given as goal
-
-abbrev pub invariant-loop-line : goal.invariant-loop-line
-invariant-loop-line l = (calls_after l.calls.items (into_iter_items l.line-iterator) ≡ calls_after [] l.fn.lines.items)
-    × (told_after l.told.items (into_iter_items l.line-iterator) ≡ told_after [] l.fn.lines.items)

@@ -1,0 +1,9 @@
+//! Tests of the memory table.
+#![tactic(auto)]
+
+#[cfg(test)]
+mod growth;
+#[cfg(test)]
+mod tables;
+#[cfg(test)]
+mod versions;

@@ -1,0 +1,7 @@
+//! Tests of the root.
+#![tactic(auto)]
+
+#[cfg(test)]
+mod quiet;
+#[cfg(test)]
+mod roots;

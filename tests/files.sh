@@ -1,0 +1,152 @@
+#!/usr/bin/env bash
+# Looks what `lsmctl` does to a real file: that a write which fails or falls short is told, that a file is read back by
+# other processes, and that what is told to stand was synced before.
+#
+#     tests/files.sh PROGRAM
+#
+# PROGRAM is a built `lsmctl`. Writes are made to fail, and to fall short, by a limit of the file size, which `prlimit`
+# sets in bytes. Syncs are seen by `strace`. Where the machine lacks one of them, that part is skipped, and a line says so.
+set -u
+
+program=$(realpath "${1:?the path of a built lsmctl}")
+folder=$(mktemp -d)
+trap 'rm -rf "$folder"' EXIT
+cd "$folder" || exit 1
+
+fail() {
+    echo "files.sh: $*" >&2
+    exit 1
+}
+
+# Runs the program with no write above so many bytes of a file. Leaves `status`, and what it printed in `said`: no file, which
+# the limit would cut. A write at the limit fails, and one across it falls short; the signal that then comes is ignored, or
+# ends the program.
+run_below() {
+    local bytes=$1 signal=$2
+    shift 2
+    said=$(
+        if [ "$signal" = ignored ]; then trap '' XFSZ; fi
+        exec prlimit --core=0 --fsize="$bytes" "$program" "$@" 2>&1
+    )
+    status=$?
+}
+
+# What a `put` under a limit left: all of it where it was acknowledged, else everything or nothing.
+look() {
+    local limit=$1 got
+    "$program" get store 61 >found 2>err || fail "limit $limit: get after a put that ended with $status: $(cat err)"
+    got=$(cat found)
+    case $status in
+    0) [ "$got" = "value 31" ] || fail "limit $limit: a put was acknowledged, and get prints '$got'" ;;
+    *) [ "$got" = "value 31" ] || [ "$got" = absent ] || fail "limit $limit: get prints '$got'" ;;
+    esac
+}
+
+"$program" format fresh 8192 128 >out 2>err || fail "format: $(cat err)"
+size=$((8192 * 512))
+[ "$(stat -c %s fresh)" -eq "$size" ] || fail "a file of 8192 sectors has $(stat -c %s fresh) bytes"
+
+# ---- writes that fail and writes that fall short
+
+puts_below_limits() {
+    local refused=0 killed=0 done=0 sector part limit
+    # The sectors of the root, and of the beginning of the log; at a sector's begin its write fails, within it it falls short.
+    for sector in 0 1 2 3 40 66 67 129 130 131 8191; do
+        for part in 0 1 511; do
+            limit=$((sector * 512 + part))
+            cp fresh store
+            run_below "$limit" ignored put store 61 31
+            case $status in
+            0)
+                [ "$said" = "batch 1" ] || fail "limit $limit: put prints '$said'"
+                done=$((done + 1))
+                ;;
+            1)
+                [ "$said" = "refused 02 Io" ] || fail "limit $limit: put prints '$said'"
+                refused=$((refused + 1))
+                ;;
+            *) fail "limit $limit: put ended with $status: $said" ;;
+            esac
+            look "$limit"
+        done
+        # With the signal not ignored the program is ended by it, or doesn't meet the limit.
+        cp fresh store
+        run_below $((sector * 512)) taken put store 61 31
+        if [ "$status" -gt 128 ]; then killed=$((killed + 1)); fi
+        [ -z "$said" ] || [ "$status" -eq 0 ] || fail "limit $((sector * 512)): put ended with $status: $said"
+        look "$((sector * 512))"
+    done
+    [ "$refused" -ge 12 ] && [ "$killed" -ge 4 ] && [ "$done" -ge 3 ] || fail "puts below a limit: $refused refused, $killed ended, $done done"
+    echo "files.sh: of puts below a limit of the file size $refused were refused, $killed ended by the signal, $done done; none was lost"
+}
+
+formats_below_limits() {
+    local limit
+    for limit in 0 511 512 66816 $((size / 2)) $((size - 512)) $((size - 1)); do
+        rm -f made
+        run_below "$limit" ignored format made 8192 128
+        [ "$status" -eq 1 ] && [ "$said" = "refused 02 Io" ] || fail "format below $limit bytes ended with $status: $said"
+    done
+    run_below "$size" ignored format made 8192 128
+    [ "$status" -eq 0 ] && [ "$(stat -c %s made)" -eq "$size" ] || fail "format below $size bytes ended with $status: $said"
+    echo "files.sh: format is refused below each limit of the file size that its file exceeds"
+}
+
+if command -v prlimit >prlimit.path; then
+    puts_below_limits
+    formats_below_limits
+else
+    echo "files.sh: skipped: writes that fail or fall short, for want of prlimit"
+fi
+
+# ---- a file that other processes read
+
+cp fresh store
+"$program" put store 61 31323334 >out 2>err || fail "put: $(cat err)"
+"$program" put store 62 empty >out 2>err || fail "put: $(cat err)"
+cp store moved
+for file in store moved; do
+    [ "$("$program" get "$file" 61)" = "value 31323334" ] || fail "$file: get 61 by another process"
+    [ "$("$program" get "$file" 62)" = "value empty" ] || fail "$file: get 62 by another process"
+    [ "$(stat -c %s "$file")" -eq "$size" ] || fail "$file: its length changed"
+    # The batch's text stands in the file as other programs read it.
+    LC_ALL=C grep -aq 1234 "$file" || fail "$file: the value is not in the file"
+done
+echo "files.sh: a file, and a copy of it, is read back by other processes"
+
+# ---- syncs
+
+# The calls of one run that write the file (w), sync its data (d), sync it whole (s) and print (p), in their order.
+calls_of() {
+    strace -qq -e trace=pwrite64,pwritev,fdatasync,fsync,write -o trace "$program" "$@" >out 2>err || fail "$* under strace: $(cat err)"
+    calls=$(sed -n -e 's/^pwrite.*/w/p' -e 's/^fdatasync(.* = 0$/d/p' -e 's/^fsync(.* = 0$/s/p' -e 's/^write(1,.*/p/p' trace | tr -d '\n')
+}
+
+count() {
+    printf %s "$calls" | tr -dc "$1" | wc -c
+}
+
+# Nothing is written behind the last sync, and nothing told before it.
+told_after_a_sync() {
+    [[ $calls =~ ^[wds]*dp+$ ]] || fail "$1: its calls are $(printf %s "$calls" | tr -s w)"
+}
+
+if command -v strace >strace.path && strace -qq -o trace true 2>err; then
+    calls_of format traced 8192 128
+    told_after_a_sync format
+    # The zeros of the new file are synced whole, before the store is written.
+    [[ $calls =~ ^w{8192}s ]] || fail "format: no sync of the new file behind its zeros"
+    [ "$(count s)" -eq 1 ] || fail "format: $(count s) syncs of the whole file"
+    formatting=$(count d)
+    calls_of put traced 61 31
+    told_after_a_sync put
+    putting=$(count d)
+    calls_of get traced 61
+    told_after_a_sync get
+    getting=$(count d)
+    # Format syncs its zeros, and each opening what pended; then a root is installed with two syncs. A put syncs its batch.
+    [ "$formatting $putting $getting" = "3 4 3" ] || fail "syncs of data: format $formatting, put $putting, get $getting"
+    echo "files.sh: syncs of data: format $formatting and one of the whole file, put $putting, get $getting; each before the line that tells"
+else
+    echo "files.sh: skipped: the count of syncs, for want of strace"
+fi
