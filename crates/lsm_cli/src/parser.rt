@@ -1,12 +1,13 @@
 //! The words after the program's name, as a subcommand with its words.
 
-ghost use Rattle.std.specs.Prelude.{◌≡◌, ◌⊎◌, map, IfOk, IfErr, MatchResult, is_some, false};
-ghost use Rattle.clap.specs.Words.{App, first_of, found_of, kind_of, new_app, rows_of, rule_of};
+ghost use Rattle.std.specs.Prelude.{◌≡◌, ◌⊎◌, ◌&&◌, [], map, IfOk, IfErr, MatchResult, is_some, false};
+ghost use Rattle.clap.specs.Words.{App, app_of, fault_of, first_of, found_of, kind_of, new_app, rows_of, rule_of, subcommand_of, subcommand_rows_of, with_rule};
+ghost use Rattle.clap.specs.declared.builder.command.Command.TheViews.{out-Command as fields_of};
 ghost use Rattle.clap.specs.declared.error.kind.ErrorKind.TheVariants.{OutOfMemory};
 ghost use Rattle.lsm_device.specs.declared.refusal.Refusal.TheVariants.{NoMemory};
 ghost use Rattle.lsm_requests.specs.Faults.{reason_of, mistake, refusal};
 ghost use Rattle.lsm_requests.specs.Words.{after};
-ghost use Rattle.lsm_cli.specs.Program.{bare_program, program, word_rule, with_changes, with_words, with_words_at, has_words, IsCommand, Asks, HasWord};
+ghost use Rattle.lsm_cli.specs.Program.{bare_program, program, word_rule, with_changes, with_words, with_words_at, has_word, has_words, IsCommand, Asks, HasWord};
 ghost use Rattle.lsm_cli.specs.Runs.{has_dash, IsAsked, AskNothing};
 
 use clap::error::ErrorKind;
@@ -23,11 +24,7 @@ pub fn asked_for<'a, S: AsStr>(alloc: Global, words: &'a [S]) -> Result<Asked<'a
     ensures asked { IfOk result (IsAsked (map S.text words.entry.now)) }
     ensures faults { IfErr result (λ e. ((reason_of e ≡ mistake) × AskNothing (map S.text words.entry.now)) ⊎ (reason_of e ≡ refusal NoMemory)) }
 {
-    let command = command(alloc)?;
-    let matches = match command.try_get_matches_from(words) {
-        Ok(matches) => matches,
-        Err(error) => return Err(Fault::Usage(mistake_of(alloc, words, &error)?)),
-    };
+    let matches = parsed(alloc, words)?;
     if let Some(word) = dashed(words) {
         return Err(Fault::Usage(dash(alloc, word)?));
     }
@@ -35,6 +32,19 @@ pub fn asked_for<'a, S: AsStr>(alloc: Global, words: &'a [S]) -> Result<Asked<'a
         return Err(Fault::Usage(Usage::Missing("the subcommand")));
     };
     Ok(subcommand(name, given)?)
+}
+
+// What the parser finds in the words.
+fn parsed<'a, S: AsStr>(alloc: Global, words: &'a [S]) -> Result<ArgMatches<'a>, Fault>
+    ensures found { IfOk result (λ m. subcommand_rows_of m ≡ subcommand_of program (map S.text words.entry.now)) }
+    ensures faultless { IfOk result (λ _. fault_of program (map S.text words.entry.now) ≡ []) }
+    ensures faults { IfErr result (λ e. ((reason_of e ≡ mistake) × AskNothing (map S.text words.entry.now)) ⊎ (reason_of e ≡ refusal NoMemory)) }
+{
+    let command = command(alloc)?;
+    match command.try_get_matches_from(words) {
+        Ok(matches) => Ok(matches),
+        Err(error) => Err(Fault::Usage(mistake_of(alloc, words, &error)?)),
+    }
 }
 
 // What the parser found wrong with the words, unless memory was refused.
@@ -175,9 +185,21 @@ fn taking<'a>(
 {
     let mut command = Command::new(alloc, name).about(about);
     for place in places {
-        command = command.arg(word(alloc, place))?;
+        command = with_place(alloc, command, place)?;
     }
     Ok(command)
+}
+
+// The command with one word more.
+fn with_place<'a>(
+    alloc: Global,
+    command: Command<'a>,
+    place: &'a str,
+) -> Result<Command<'a>, AllocError>
+    ensures { IfOk result (λ r. (app_of r ≡ with_rule (app_of command.entry) (word_rule place.entry.now))
+        × ((fields_of r).has_globals ≡ (fields_of command.entry).has_globals)) }
+{
+    Ok(command.arg(word(alloc, place))?)
 }
 
 // A word that has to be there.
@@ -193,38 +215,69 @@ fn subcommand<'a>(name: &str, given: &ArgMatches<'a>) -> Result<Asked<'a>, Usage
     ensures { MatchResult result (Asks name.now (rows_of (found_of given.now))) (λ _. has_words name.now (rows_of (found_of given.now)) ≡ false) }
 {
     match name {
-        "format" => Ok(Asked::Format {
-            file: at(given, "FILE")?,
-            sectors: at(given, "SECTORS")?,
-            log: at(given, "LOG")?,
-        }),
-        "put" => Ok(Asked::Put {
-            file: at(given, "FILE")?,
-            key: at(given, "KEY")?,
-            value: at(given, "VALUE")?,
-        }),
-        "del" => Ok(Asked::Delete {
-            file: at(given, "FILE")?,
-            key: at(given, "KEY")?,
-        }),
-        "get" => Ok(Asked::Get {
-            file: at(given, "FILE")?,
-            key: at(given, "KEY")?,
-        }),
-        "scan" => Ok(Asked::Scan {
-            file: at(given, "FILE")?,
-            from: at(given, "FROM")?,
-            limit: at(given, "LIMIT")?,
-        }),
-        "replay" => Ok(Asked::Replay {
-            file: at(given, "FILE")?,
-        }),
-        "lives" => Ok(Asked::Lives {
-            sectors: at(given, "SECTORS")?,
-            log: at(given, "LOG")?,
-        }),
+        "format" => {
+            let (file, sectors, log) = three(given, "FILE", "SECTORS", "LOG")?;
+            Ok(Asked::Format { file, sectors, log })
+        }
+        "put" => {
+            let (file, key, value) = three(given, "FILE", "KEY", "VALUE")?;
+            Ok(Asked::Put { file, key, value })
+        }
+        "del" => {
+            let (file, key) = two(given, "FILE", "KEY")?;
+            Ok(Asked::Delete { file, key })
+        }
+        "get" => {
+            let (file, key) = two(given, "FILE", "KEY")?;
+            Ok(Asked::Get { file, key })
+        }
+        "scan" => {
+            let (file, from, limit) = three(given, "FILE", "FROM", "LIMIT")?;
+            Ok(Asked::Scan { file, from, limit })
+        }
+        "replay" => {
+            let file = at(given, "FILE")?;
+            Ok(Asked::Replay { file })
+        }
+        "lives" => {
+            let (sectors, log) = two(given, "SECTORS", "LOG")?;
+            Ok(Asked::Lives { sectors, log })
+        }
         _ => Err(Usage::Missing("the subcommand")),
     }
+}
+
+// The words at three places.
+fn three<'a>(
+    given: &ArgMatches<'a>,
+    first: &'static str,
+    second: &'static str,
+    third: &'static str,
+) -> Result<(&'a str, &'a str, &'a str), Usage>
+    ensures { let rows = rows_of (found_of given.now) in
+        MatchResult result
+        (λ words. (HasWord rows first.now words.0.now) × (HasWord rows second.now words.1.now) × (HasWord rows third.now words.2.now))
+        (λ _. (has_word rows first.now && (has_word rows second.now && has_word rows third.now)) ≡ false) }
+{
+    let first = at(given, first)?;
+    let (second, third) = two(given, second, third)?;
+    Ok((first, second, third))
+}
+
+// The words at two places.
+fn two<'a>(
+    given: &ArgMatches<'a>,
+    first: &'static str,
+    second: &'static str,
+) -> Result<(&'a str, &'a str), Usage>
+    ensures { let rows = rows_of (found_of given.now) in
+        MatchResult result
+        (λ words. (HasWord rows first.now words.0.now) × (HasWord rows second.now words.1.now))
+        (λ _. (has_word rows first.now && has_word rows second.now) ≡ false) }
+{
+    let first = at(given, first)?;
+    let second = at(given, second)?;
+    Ok((first, second))
 }
 
 // The word at a place, which the parser asked for.
