@@ -1,6 +1,8 @@
 //! Lives of a store in memory, from scripts.
 
 use crate::setup::{Outcome, expect_replies, run_script};
+use std::fs::{File, Files};
+use std::process::Abort;
 use std::test::Fail;
 
 #[test]
@@ -35,42 +37,76 @@ fn an_opening_that_faults_stops_the_life(rt: HostRuntime) -> Result<(), Fail> {
     )
 }
 
-#[test]
-fn the_end_of_the_input_ends_the_last_life(rt: HostRuntime) -> Result<(), Fail> {
-    expect_replies(&rt, "lives 8192 128", "", "open 0\n")?;
-    expect_replies(&rt, "lives 8192 128", "room", "open 0\nroom 128\n")?;
-    expect_replies(&rt, "lives 8192 2048", "room\n", "open 0\nroom 2048\n")?;
-    expect_replies(&rt, "lives 8192 128", "crash all", "open 0\n")?;
-    expect_replies(&rt, "lives 8192 128", "crash none\n", "open 0\n")?;
-    expect_replies(
-        &rt,
+/// Sizes, a script without a line feed at its end or without a crash, and the replies.
+static ENDS: [(&str, &str, &str); 6] = [
+    ("lives 8192 128", "", "open 0\n"),
+    ("lives 8192 128", "room", "open 0\nroom 128\n"),
+    ("lives 8192 2048", "room\n", "open 0\nroom 2048\n"),
+    ("lives 8192 128", "crash all", "open 0\n"),
+    ("lives 8192 128", "crash none\n", "open 0\n"),
+    (
         "lives 8192 128",
         "crash none\ncrash all\nfuse 5\n",
         "open 0\nopen 0\nopen 0\n",
-    )
+    ),
+];
+
+#[test]
+fn the_end_of_the_input_ends_the_last_life(rt: HostRuntime) -> Result<(), Fail> {
+    expect_ends(&rt, &ENDS)
 }
 
-// Batch 1 takes one log sector, batch 2 two.
+// Runs each row.
+fn expect_ends<R: Files<File = File> + AllocGlobal + Abort>(
+    rt: &R,
+    rows: &[(&str, &str, &str)],
+) -> Result<(), Fail> {
+    for (words, script, replies) in rows {
+        expect_replies(rt, words, script, replies)?;
+    }
+    Ok(())
+}
+
+/// A mask, and how many of two batches it keeps. Batch 1 takes one log sector, batch 2 two.
+static MASKS: [(&str, u8); 8] = [
+    ("101", 1),
+    ("011", 0),
+    ("110", 1),
+    ("111", 2),
+    ("1", 1),
+    ("11100", 2),
+    ("none", 0),
+    ("all", 2),
+];
+
 #[test]
 fn a_mask_keeps_pending_writes_by_their_places(rt: HostRuntime) -> Result<(), Fail> {
     let value = "32".repeat(rt.alloc(), 600)?;
-    for (mask, count) in [
-        ("101", 1u8),
-        ("011", 0),
-        ("110", 1),
-        ("111", 2),
-        ("1", 1),
-        ("11100", 2),
-        ("none", 0),
-        ("all", 2),
-    ] {
-        let script = format!(in rt.alloc();
-            "commit +61=31\ncommit +62={value}\ncrash {mask}\nroom\n"
-        )?;
-        let replies = format!(in rt.alloc(); "open 0\nbatch 1\nbatch 2\nopen {count}\nroom 128\n")?;
-        expect_replies(&rt, "lives 8192 128", script.as_str(), replies.as_str())?;
+    expect_masks(&rt, value.as_str(), &MASKS)
+}
+
+// Runs each row.
+fn expect_masks<R: Files<File = File> + AllocGlobal + Abort>(
+    rt: &R,
+    value: &str,
+    rows: &[(&str, u8)],
+) -> Result<(), Fail> {
+    for (mask, count) in rows {
+        expect_kept(rt, value, mask, *count)?;
     }
     Ok(())
+}
+
+// A crash by this mask keeps so many of two batches.
+fn expect_kept<R: Files<File = File> + AllocGlobal + Abort>(
+    rt: &R,
+    value: &str,
+    mask: &str,
+    count: u8,
+) -> Result<(), Fail> {
+    let script = format!(in rt.alloc(); "commit +61=31\ncommit +62={value}\ncrash {mask}\nroom\n")?;
+    let replies = format!(in rt.alloc(); "open 0\nbatch 1\nbatch 2\nopen {count}\nroom 128\n")?;
+    expect_replies(rt, "lives 8192 128", script.as_str(), replies.as_str())
 }
 
 // More writes pend than one call makes.
@@ -88,15 +124,14 @@ fn kept_all(outcome: &Outcome) -> bool {
     outcome.status == 0
         && outcome
             .output
-            .ends_with("batch 2048\nopen 2048\nroom 2048\n")
+            .ends_with(b"batch 2048\nopen 2048\nroom 2048\n")
 }
 
 #[test]
 fn a_commit_that_forms_no_batch_is_no_step(rt: HostRuntime) -> Result<(), Fail> {
     let key = "61".repeat(rt.alloc(), 256)?;
     let value = "31".repeat(rt.alloc(), 2_049)?;
-    let part = "31".repeat(rt.alloc(), 2_048)?;
-    let large = format!(in rt.alloc(); "+61={part} ")?.repeat(rt.alloc(), 30)?;
+    let large = puts(&rt)?;
     let script = format!(in rt.alloc();
         "commit +empty=31\ncommit -{key}\ncommit +61={value}\ncommit +{key}={value}\ncommit +61=31 -empty +61={value}\n\
 commit {large}-{key}\ncommit {large}-61\ncommit +61=empty\ncrash none\nfuse 0\ncommit -empty\ncommit -61"
@@ -108,6 +143,13 @@ commit {large}-{key}\ncommit {large}-61\ncommit +61=empty\ncrash none\nfuse 0\nc
         "open 0\nrefused 16 BadKey\nrefused 16 BadKey\nrefused 17 BadValue\nrefused 16 BadKey\nrefused 16 BadKey\n\
 refused 18 BatchTooBig\nrefused 18 BatchTooBig\nbatch 1\nrefused 02 Io\nrefused 16 BadKey\nrefused 03 Stopped\n",
     )
+}
+
+// Thirty puts, of 2,048 bytes each.
+fn puts<R: AllocGlobal>(rt: &R) -> Result<String, Fail> {
+    let value = "31".repeat(rt.alloc(), 2_048)?;
+    let put = format!(in rt.alloc(); "+61={value} ")?;
+    Ok(put.repeat(rt.alloc(), 30)?)
 }
 
 #[test]

@@ -2,6 +2,8 @@
 
 use crate::setup::{expect_ending, expect_misplaced, expect_unread, run_script};
 use std::fs;
+use std::fs::{File, Files};
+use std::process::Abort;
 use std::test::Fail;
 
 /// Lines that may stand in no script.
@@ -65,10 +67,18 @@ static LINES: [&str; 55] = [
 
 #[test]
 fn a_line_outside_the_table_is_a_mistake(rt: HostRuntime) -> Result<(), Fail> {
-    for line in LINES {
+    expect_none_read(&rt, &LINES)
+}
+
+// A script with one of these lines is refused for it.
+fn expect_none_read<R: Files<File = File> + AllocGlobal + Abort>(
+    rt: &R,
+    lines: &[&str],
+) -> Result<(), Fail> {
+    for line in lines {
         let script = format!(in rt.alloc(); "sync\n{line}\nroom\n")?;
-        expect_unread(&rt, "lives 8192 128", script.as_bytes(), 2, line)?;
-        expect_unread(&rt, "replay missing", script.as_bytes(), 2, line)?;
+        expect_unread(rt, "lives 8192 128", script.as_bytes(), 2, line)?;
+        expect_unread(rt, "replay missing", script.as_bytes(), 2, line)?;
     }
     Ok(())
 }

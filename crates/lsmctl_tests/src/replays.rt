@@ -1,8 +1,15 @@
 //! Scripts on a store in a file.
 
-use crate::setup::{expect, expect_replies, expect_unread};
+use crate::setup::{expect, expect_each, expect_replies, expect_unread};
 use std::fs;
 use std::test::Fail;
+
+/// What is found after the scripts.
+static FOUND: [(&str, u8, &str); 3] = [
+    ("scan replay.img empty 2", 0, "61 31\n63 33\nnext 64\n"),
+    ("scan replay.img 62 64", 0, "63 33\n64 empty\nend\n"),
+    ("scan replay.img 65 1", 0, "end\n"),
+];
 
 #[test]
 fn a_script_works_on_the_store_in_a_file(rt: HostRuntime) -> Result<(), Fail> {
@@ -27,9 +34,7 @@ refused 19 BadRange\nrefused 28 BadLimit\nok\nrefused 07 NoSuchSnapshot\n",
         "value 31\nabsent\nok\nrefused 09 NoSuchBatch\nroom 128\nbatch 3\nvalue empty\nsnapshot 1\nrefused 16 BadKey\n\
 refused 07 NoSuchSnapshot\n",
     )?;
-    expect(&rt, "scan replay.img empty 2", 0, "61 31\n63 33\nnext 64\n")?;
-    expect(&rt, "scan replay.img 62 64", 0, "63 33\n64 empty\nend\n")?;
-    expect(&rt, "scan replay.img 65 1", 0, "end\n")?;
+    expect_each(&rt, &FOUND)?;
     fs::remove_file(&rt, "replay.img")?;
     Ok(())
 }
@@ -37,13 +42,18 @@ refused 07 NoSuchSnapshot\n",
 #[test]
 fn a_script_of_ten_thousand_lines(rt: HostRuntime) -> Result<(), Fail> {
     expect(&rt, "format long.img 8192 128", 0, "formatted blocks 959\n")?;
-    let script = "get 61\n".repeat(rt.alloc(), 9_999)?;
-    let script = format!(in rt.alloc(); "{script}room")?;
-    let replies = "absent\n".repeat(rt.alloc(), 9_999)?;
-    let replies = format!(in rt.alloc(); "{replies}room 128\n")?;
+    let script = repeated(&rt, "get 61\n", "room")?;
+    let replies = repeated(&rt, "absent\n", "room 128\n")?;
     expect_replies(&rt, "replay long.img", script.as_str(), replies.as_str())?;
-    let script = format!(in rt.alloc(); "{script}s\n")?;
+    let script = repeated(&rt, "get 61\n", "rooms\n")?;
     expect_unread(&rt, "replay long.img", script.as_bytes(), 10_000, "rooms")?;
     fs::remove_file(&rt, "long.img")?;
     Ok(())
+}
+
+// A line 9,999 times, and another behind it.
+fn repeated<R: AllocGlobal>(rt: &R, line: &str, last: &str) -> Result<String, Fail> {
+    let mut text = line.repeat(rt.alloc(), 9_999)?;
+    text.push_str(last)?;
+    Ok(text)
 }

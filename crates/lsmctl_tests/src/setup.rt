@@ -7,11 +7,11 @@ use std::process::Abort;
 use std::test::Fail;
 
 /// What a run of the program gave.
-#[derive(Debug, Drop)]
+#[derive(Drop)]
 pub struct Outcome {
     pub status: u8,
-    pub output: String,
-    pub errors: String,
+    pub output: Vec<u8>,
+    pub errors: Vec<u8>,
 }
 
 /// Runs the program over a reader and two writers, and gives its status.
@@ -43,8 +43,8 @@ pub fn run_script<R: Files<File = File> + AllocGlobal>(
     let status = status_of(rt, words.as_slice(), &mut input, &mut output, &mut errors);
     Ok(Outcome {
         status,
-        output: String::from_utf8(output)?,
-        errors: String::from_utf8(errors)?,
+        output,
+        errors,
     })
 }
 
@@ -55,7 +55,7 @@ fn is_ended(outcome: &Outcome, status: u8, text: &str) -> bool {
     } else {
         (&outcome.errors, &outcome.output)
     };
-    outcome.status == status && told.as_str() == text && silent.is_empty()
+    outcome.status == status && told.as_slice() == text.as_bytes() && silent.is_empty()
 }
 
 /// Runs a script: the program ends with the status, and prints the text, an answer on `output`, a fault on `errors`.
@@ -67,7 +67,11 @@ pub fn expect_ending<R: Files<File = File> + AllocGlobal + Abort>(
     text: &str,
 ) -> Result<(), Fail> {
     let outcome = run_script(rt, line, script)?;
-    assert!(rt; is_ended(&outcome, status, text), "{line}: {outcome:?}");
+    assert!(rt;
+        is_ended(&outcome, status, text),
+        "{line}: {}",
+        outcome.status
+    );
     Ok(())
 }
 
@@ -91,6 +95,17 @@ pub fn expect<R: Files<File = File> + AllocGlobal + Abort>(
     expect_ending(rt, line, b"", status, text)
 }
 
+/// Runs lines one after another, each with its status and the text that it prints.
+pub fn expect_each<R: Files<File = File> + AllocGlobal + Abort>(
+    rt: &R,
+    rows: &[(&str, u8, &str)],
+) -> Result<(), Fail> {
+    for (line, status, text) in rows {
+        expect(rt, line, *status, text)?;
+    }
+    Ok(())
+}
+
 /// Runs a script with a line of this number and text that can't be read. It is refused whole.
 pub fn expect_unread<R: Files<File = File> + AllocGlobal + Abort>(
     rt: &R,
@@ -99,10 +114,7 @@ pub fn expect_unread<R: Files<File = File> + AllocGlobal + Abort>(
     number: u32,
     line: &str,
 ) -> Result<(), Fail> {
-    let told = format!(in rt.alloc();
-        "error: line {number} of the script can't be read: {line:?}\n"
-    )?;
-    expect_ending(rt, words, script, 2, told.as_str())
+    expect_refused(rt, words, script, "can't be read", number, line)
 }
 
 /// Runs a script with a line of this number and text that may not stand there. It is refused whole.
@@ -113,8 +125,18 @@ pub fn expect_misplaced<R: Files<File = File> + AllocGlobal + Abort>(
     number: u32,
     line: &str,
 ) -> Result<(), Fail> {
-    let told = format!(in rt.alloc();
-        "error: line {number} of the script may not stand there: {line:?}\n"
-    )?;
+    expect_refused(rt, words, script, "may not stand there", number, line)
+}
+
+// Runs a script that is refused for a line.
+fn expect_refused<R: Files<File = File> + AllocGlobal + Abort>(
+    rt: &R,
+    words: &str,
+    script: &[u8],
+    why: &str,
+    number: u32,
+    line: &str,
+) -> Result<(), Fail> {
+    let told = format!(in rt.alloc(); "error: line {number} of the script {why}: {line:?}\n")?;
     expect_ending(rt, words, script, 2, told.as_str())
 }

@@ -221,23 +221,46 @@ fn expect_rows<R: Files<File = File> + AllocGlobal + Abort>(
     let key = "61".repeat(rt.alloc(), 256)?;
     let value = "31".repeat(rt.alloc(), 2049)?;
     for (row, status, text) in rows {
-        let with_key = row.replace(rt.alloc(), "KEY", key.as_str())?;
-        let line = with_key.replace(rt.alloc(), "VALUE", value.as_str())?;
-        if *status == 2 {
-            let outcome = run_line(rt, line.as_str())?;
-            assert!(rt; is_mistake(&outcome), "{line}");
-        } else {
-            expect(rt, line.as_str(), *status, text)?;
-        }
+        let line = with_words(rt, row, key.as_str(), value.as_str())?;
+        expect_row(rt, line.as_str(), *status, text)?;
     }
     Ok(())
+}
+
+// A row with its key and its value.
+fn with_words<R: AllocGlobal>(rt: &R, row: &str, key: &str, value: &str) -> Result<String, Fail> {
+    let with_key = row.replace(rt.alloc(), "KEY", key)?;
+    Ok(with_key.replace(rt.alloc(), "VALUE", value)?)
+}
+
+fn expect_row<R: Files<File = File> + AllocGlobal + Abort>(
+    rt: &R,
+    line: &str,
+    status: u8,
+    text: &str,
+) -> Result<(), Fail> {
+    if status == 2 {
+        let outcome = run_line(rt, line)?;
+        assert!(rt; is_mistake(&outcome), "{line}");
+        return Ok(());
+    }
+    expect(rt, line, status, text)
 }
 
 #[test]
 fn each_run_answers_as_documented(rt: HostRuntime) -> Result<(), Fail> {
     prepare(&rt)?;
-    expect_rows(&rt, &ROWS)?;
+    expect_rows(&rt, rows())?;
     assert!(&rt; fs::metadata(&rt, "missing").is_err());
+    expect_lengths(&rt)
+}
+
+fn rows() -> &'static [(&'static str, u8, &'static str)] {
+    &ROWS
+}
+
+// The files have the lengths that they were given, and are removed.
+fn expect_lengths<R: Files<File = File> + AllocGlobal + Abort>(rt: &R) -> Result<(), Fail> {
     for (path, bytes) in [
         ("cut", 8_193 * 512 - 1),
         ("short", 8_192 * 512),
@@ -246,7 +269,7 @@ fn each_run_answers_as_documented(rt: HostRuntime) -> Result<(), Fail> {
         ("nothing", 0),
         ("store", 8_192 * 512),
     ] {
-        expect_length(&rt, path, bytes)?;
+        expect_length(rt, path, bytes)?;
     }
     Ok(())
 }

@@ -1,6 +1,8 @@
 //! The texts of mistakes, word for word.
 
 use crate::setup::expect;
+use std::fs::{File, Files};
+use std::process::Abort;
 use std::test::Fail;
 
 /// A line of words, and what is told of them.
@@ -61,8 +63,16 @@ Usage: lsmctl <COMMAND>\n\nFor more information, try '--help'.\n",
 
 #[test]
 fn a_mistake_is_told_with_its_word(rt: HostRuntime) -> Result<(), Fail> {
-    for (line, text) in ROWS {
-        expect(&rt, line, 2, text)?;
+    expect_texts(&rt, &ROWS)
+}
+
+// Runs each row.
+fn expect_texts<R: Files<File = File> + AllocGlobal + Abort>(
+    rt: &R,
+    rows: &[(&str, &str)],
+) -> Result<(), Fail> {
+    for (line, text) in rows {
+        expect(rt, line, 2, text)?;
     }
     Ok(())
 }
