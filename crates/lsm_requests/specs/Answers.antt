@@ -7,18 +7,21 @@ use Rattle.lsm_codec.specs.Geometry.{data_blocks_of}
 use Rattle.lsm_store.specs.Machine.{Step}
 use Rattle.lsm_store.specs.Paging.{Page}
 use Rattle.lsm_device.specs.Calls.{no_calls}
-use Rattle.lsm_device.specs.Disk.{Disk}
+use Rattle.lsm_device.specs.Medium.{Medium, disk}
+use Rattle.lsm_device.specs.Outcomes.{Leaves}
 use Rattle.lsm_device.specs.declared.file.FileDevice.{FileDevice}
 use Rattle.lsm_root.specs.Counted.{CallsMade}
 use Rattle.lsm_open.specs.CrashState.{formatted as empty_store}
+use Rattle.lsm_open.specs.Image.{IsImage}
 use Rattle.lsm_store.specs.declared.asked.At.TheVariants.{Now}
 use Rattle.lsm_store.specs.Calls.{Commit, Get, Scan, Sync, Reply, Done, Number, Rows, Value as Found}
 use Rattle.lsm_store.specs.Backing.{StoreView}
 use Rattle.lsm_store.specs.Serving.{Serves}
 use Rattle.lsm_lives.specs.Calls.{step_of}
 use Rattle.lsm_lives.specs.Replaying.{Replays}
-use Rattle.lsm_lives.specs.Living.{KeepPromise}
-use Rattle.lsm_requests.specs.Steps.{calls_after, told_after, steps_of_lives, told_lives}
+use Rattle.lsm_lives.specs.Leading.{AreLed, LifeView}
+use Rattle.lsm_lives.specs.Living.{KeepPromise, steps_in}
+use Rattle.lsm_requests.specs.Steps.{calls_after, told_after, lives_said, told_lives}
 use Rattle.lsm_requests.specs.Replies.{page_lines, replies_text, lives_text}
 use Rattle.lsm_requests.specs.declared.steps.Told.{Told}
 use Rattle.lsm_requests.specs.declared.request.Request.{Request}
@@ -92,12 +95,16 @@ pub record HasReplies (made : List Step) (steps : List Told) (answer : Answer) :
   pub after : StoreView
   pub tells : TellsReplies before made steps after answer
 
--- Lives were led on an empty store, each a list of steps, and the replies to them are told. They keep the promise over
--- crashes.
-pub record HasLives (log_sectors : ℕ) (lives : List (List Step)) (steps : List (List Told)) (answer : Answer) : Type 0 where
+-- Lives were led on a device in memory of so many sectors with an empty store, and the replies to them are told. They keep
+-- the promise over crashes.
+pub record HasLives (sectors log_sectors : ℕ) (lives : List LifeView) (steps : List (List Told)) (answer : Answer) : Type 0 where
+  pub device : Medium
+  pub left : Medium
   pub replies : List (List Reply)
-  pub left : Disk
-  pub promise : KeepPromise log_sectors [] empty_store lives replies left
+  pub size : device.size ≡ sectors
+  pub begins : Leaves (IsImage log_sectors empty_store) (disk device)
+  pub led : AreLed lives device replies left
+  pub promise : KeepPromise log_sectors [] empty_store (steps_in lives) replies (disk left)
   pub told : HasLines (lives_text steps replies) answer
 
 -- what answers a request
@@ -107,4 +114,4 @@ Gives (request.Commit file batch) = HasCommitted batch
 Gives (request.Get file key) = HasFound key.items
 Gives (request.Scan file from limit) = HasRows from.items limit
 Gives (request.Replay file script) = HasReplies (map step_of (calls_after [] script.items)) (told_after [] script.items)
-Gives (request.Lives geometry script) = HasLives geometry.log_sectors (steps_of_lives script.items) (told_lives script.items)
+Gives (request.Lives geometry script) = HasLives geometry.sectors geometry.log_sectors (lives_said script.items) (told_lives script.items)

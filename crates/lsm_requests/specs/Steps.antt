@@ -2,10 +2,10 @@
 use Rattle.std.specs.Prelude.{ℕ, ◌+◌, ◌*◌, ◌^◌, ◌-◌, min, List, [], ◌∷◌, ◌++◌, length, map, replicate, slice_get, Bool, true, false, Option, Some, None, if◌then◌else◌}
 use Rattle.std.specs.Global.{Global}
 use Rattle.lsm_store.specs.Calls.{Call, Commit, Snapshot}
-use Rattle.lsm_store.specs.Machine.{Step}
 use Rattle.lsm_lives.specs.declared.calls.Call.{Call as Asked}
 use Rattle.lsm_lives.specs.declared.living.Life.{Life}
 use Rattle.lsm_lives.specs.Calls.{call_of, step_of}
+use Rattle.lsm_lives.specs.Leading.{LifeView}
 use Rattle.lsm_requests.specs.declared.line.Line.{Line}
 use Rattle.lsm_requests.specs.declared.line.Line.TheVariants as line
 use Rattle.lsm_requests.specs.declared.line.Kept.{Kept}
@@ -68,12 +68,13 @@ lives_after lives fuse calls (line.NoBatch refusal ∷ lines) = lives_after live
 lives_after lives fuse calls (line.Fuse number ∷ lines) = lives_after lives (Some number) calls lines
 lives_after lives fuse calls (line.Crash kept ∷ lines) = lives_after (lives ++ (fuse, calls, mask_said kept (length calls)) ∷ []) None [] lines
 
--- the steps of each life
-abbrev pub steps_in : List (Option ℕ × List (Asked Global) × List Bool) → List (List Step)
-steps_in lives = map (λ life. map step_of life.1) lives
+-- as what a life of a store is asked to be
+abbrev pub view_of : Option ℕ × List (Asked Global) × List Bool → LifeView
+view_of (fuse, calls, mask) = record { fuse = fuse; steps = map step_of calls; mask = mask }
 
-abbrev pub steps_of_lives : List Line → List (List Step)
-steps_of_lives lines = steps_in (lives_after [] None [] (ended lines))
+-- the lives of a script
+abbrev pub lives_said : List Line → List LifeView
+lives_said lines = map view_of (lives_after [] None [] (ended lines))
 
 -- a life is told by its opening and its steps
 abbrev pub opened : List Told

@@ -3,7 +3,7 @@
 use std::fmt;
 
 /// What a subcommand answers, as lines.
-#[derive(Debug, Drop)]
+#[derive(Drop)]
 pub enum Answer {
     /// A store was made, with so many data blocks.
     Formatted(u32),

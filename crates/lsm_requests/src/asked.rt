@@ -1,7 +1,7 @@
 //! What the words ask for, before the words for numbers and bytes are read.
 
 /// A subcommand with its words.
-#[derive(Clone, Copy, Debug, PartialEq, Eq)]
+#[derive(Clone, Copy)]
 pub enum Asked<'a> {
     Format {
         file: &'a str,

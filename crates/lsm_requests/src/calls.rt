@@ -13,8 +13,9 @@ use crate::request::Request;
 use crate::runs;
 use crate::steps::steps_of;
 use lsm_codec::{Batch, word};
-use lsm_device::{FileDevice, Refusal};
+use lsm_device::{Device, FileDevice, Refusal};
 use lsm_store::{At, Store};
+use std::alloc::Global;
 use std::fs::{File, Files};
 
 /// The blocks that an opened store may keep in memory.
@@ -70,6 +71,12 @@ fn commit<R: Files<File = File> + AllocGlobal>(
     ensures { IfOk result (HasCommitted batch.now) }
 {
     let mut store = open(rt, file)?;
+    Ok(commit_and_sync(&mut store, batch)?)
+}
+
+fn commit_and_sync<D: Device>(store: &mut Store<D>, batch: &Batch) -> Result<Answer, Refusal>
+    ensures { IfOk result (HasCommitted batch.now) }
+{
     let number = store.commit(batch)?;
     store.sync()?;
     Ok(Answer::Batch(number))
@@ -83,8 +90,15 @@ fn get<R: Files<File = File> + AllocGlobal>(
     ensures { IfOk result (HasFound key.now) }
 {
     let mut store = open(rt, file)?;
+    Ok(find(rt.alloc(), &mut store, key)?)
+}
+
+// Looks a key up.
+fn find<D: Device>(alloc: Global, store: &mut Store<D>, key: &[u8]) -> Result<Answer, Refusal>
+    ensures { IfOk result (HasFound key.now) }
+{
     match store.get(At::Now, key)? {
-        Some(value) => Ok(Answer::Value(word(rt.alloc(), value.as_slice())?)),
+        Some(value) => Ok(Answer::Value(word(alloc, value.as_slice())?)),
         None => Ok(Answer::Absent),
     }
 }
@@ -110,8 +124,20 @@ fn scan<R: Files<File = File> + AllocGlobal>(
     ensures { IfOk result (HasRows from.now limit) }
 {
     let mut store = open(rt, file)?;
+    Ok(list(rt.alloc(), &mut store, from, limit)?)
+}
+
+// Lists a page.
+fn list<D: Device>(
+    alloc: Global,
+    store: &mut Store<D>,
+    from: &[u8],
+    limit: u64,
+) -> Result<Answer, Refusal>
+    ensures { IfOk result (HasRows from.now limit) }
+{
     let page = store.scan(At::Now, from, None, limit)?;
-    let mut text = String::new(rt.alloc());
-    push_page(rt.alloc(), &mut text, &page)?;
+    let mut text = String::new(alloc);
+    push_page(alloc, &mut text, &page)?;
     Ok(Answer::Lines(text))
 }

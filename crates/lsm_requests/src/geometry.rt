@@ -10,7 +10,7 @@ use lsm_codec::data_blocks;
 use lsm_device::Refusal;
 
 /// The sectors of a device and of each of its three log regions, within the limits.
-#[derive(Clone, Copy, Debug, PartialEq, Eq)]
+#[derive(Clone, Copy)]
 pub struct Geometry {
     sectors: u32,
     log_sectors: u16,

@@ -1,6 +1,6 @@
 //! One line of a script.
 
-ghost use Rattle.std.specs.Prelude.{map, option_map};
+ghost use Rattle.std.specs.Prelude.{map, option_and_then, option_map};
 ghost use Rattle.lsm_requests.specs.Words.{Reads};
 ghost use Rattle.lsm_requests.specs.Lines.{means, line_said, commit_said, other_said, bare_said, one_said, get_said, scan_said, end_said, at_said, crash_said, places_said, place_said};
 
@@ -54,11 +54,30 @@ fn read_other(alloc: Global, name: &str, rest: &[&str]) -> Result<Line, Unread>
     match rest {
         [] => read_bare(name),
         [word] => read_one(alloc, name, word),
-        [key, at] => read_get(alloc, name, snapshot(at)?, key),
+        [key, at] => get_at(alloc, name, at, key),
         [from, to, limit] => read_scan(alloc, name, At::Now, from, to, limit),
-        [from, to, limit, at] => read_scan(alloc, name, snapshot(at)?, from, to, limit),
+        [from, to, limit, at] => scan_at(alloc, name, at, from, to, limit),
         _ => Err(Unread::Malformed),
     }
+}
+
+fn get_at(alloc: Global, name: &str, at: &str, key: &str) -> Result<Line, Unread>
+    ensures { Reads means (option_and_then (λ at. get_said name.now at key.now) (at_said at.now)) result }
+{
+    read_get(alloc, name, snapshot(at)?, key)
+}
+
+fn scan_at(
+    alloc: Global,
+    name: &str,
+    at: &str,
+    from: &str,
+    to: &str,
+    limit: &str,
+) -> Result<Line, Unread>
+    ensures { Reads means (option_and_then (λ at. scan_said name.now at from.now to.now limit.now) (at_said at.now)) result }
+{
+    read_scan(alloc, name, snapshot(at)?, from, to, limit)
 }
 
 // Reads a line of one word.

@@ -6,7 +6,7 @@ use lsm_device::Refusal;
 use std::fmt;
 
 /// A refusal as the program prints it: `refused`, its number in two digits, and its name.
-#[derive(Clone, Copy, Debug, PartialEq, Eq)]
+#[derive(Clone, Copy)]
 pub struct RefusalText {
     refusal: Refusal,
 }

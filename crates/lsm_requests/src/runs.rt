@@ -8,7 +8,7 @@ ghost use Rattle.lsm_device.specs.Outcomes.{Leaves};
 ghost use Rattle.lsm_open.specs.CrashState.{formatted as empty_store};
 ghost use Rattle.lsm_open.specs.Image.{IsImage};
 ghost use Rattle.lsm_lives.specs.Calls.{step_of};
-ghost use Rattle.lsm_requests.specs.Steps.{steps_of_lives, told_lives};
+ghost use Rattle.lsm_requests.specs.Steps.{lives_said, told_lives};
 ghost use Rattle.lsm_requests.specs.Answers.{TellsReplies, HasLives};
 
 use crate::answer::Answer;
@@ -38,7 +38,7 @@ pub fn replay<D: Device>(
 /// Makes the lives of a script on an empty store in memory. A line answers each opening and each step. It is refused
 /// for want of memory alone.
 pub fn lives(alloc: Global, geometry: Geometry, script: Vec<Line>) -> Result<Answer, Refusal>
-    ensures tells { IfOk result (HasLives geometry.log_sectors (steps_of_lives script.items) (told_lives script.items)) }
+    ensures tells { IfOk result (HasLives geometry.sectors geometry.log_sectors (lives_said script.items) (told_lives script.items)) }
     ensures refused { IfErr result (λ e. e ≡ NoMemory) }
 {
     let Lives { lives, told } = lives_of(alloc, script)?;

@@ -13,7 +13,7 @@ use lsm_device::Refusal;
 use std::alloc::{AllocError, Global};
 
 /// Which lines a script may have.
-#[derive(Clone, Copy, Debug, PartialEq, Eq)]
+#[derive(Clone, Copy)]
 pub enum Kind {
     /// Steps alone.
     Steps,

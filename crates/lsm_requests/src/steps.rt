@@ -1,7 +1,8 @@
 //! Scripts as calls of the store, and how their replies are told.
 
-ghost use Rattle.std.specs.Prelude.{◌≡◌, ◌∷◌, [], map, None, IfOk, OnOk, length};
+ghost use Rattle.std.specs.Prelude.{◌≡◌, ◌∷◌, ◌++◌, [], map, None, IfOk, OnOk, length};
 ghost use Rattle.lsm_lives.specs.Calls.{call_of};
+ghost use Rattle.lsm_requests.specs.declared.steps.Told.TheVariants.{Reply};
 ghost use Rattle.lsm_requests.specs.Steps.{calls_after, told_after, counted_by, ended, mask_said, life_of, lives_after, opened, told_lives};
 
 use crate::line::{Kept, Line};
@@ -16,7 +17,7 @@ const OPENING_WRITES: usize = 38;
 const CALL_WRITES: usize = 128;
 
 /// What a number in a reply counts.
-#[derive(Clone, Copy, Debug, PartialEq, Eq)]
+#[derive(Clone, Copy)]
 pub enum Counted {
     /// The batches of a store that was opened.
     Opened,
@@ -29,7 +30,7 @@ pub enum Counted {
 }
 
 /// How the reply of a step is told.
-#[derive(Clone, Copy, Debug, PartialEq, Eq)]
+#[derive(Clone, Copy)]
 pub enum Told {
     /// As the store's reply. A number in it counts this.
     Reply(Counted),
@@ -44,24 +45,41 @@ pub struct Steps {
     pub told: Vec<Told>,
 }
 
+impl Steps {
+    fn new(alloc: Global) -> Steps
+        ensures { (result.calls.items ≡ []) × (result.told.items ≡ []) }
+    {
+        Steps {
+            calls: Vec::new(alloc),
+            told: Vec::new(alloc),
+        }
+    }
+
+    // Adds a call, which is told by its reply.
+    fn add(&mut self, call: Call) -> Result<(), AllocError>
+        ensures { OnOk result ((self.new.calls.items ≡ self.old.calls.items ++ call ∷ [])
+            × (self.new.told.items ≡ self.old.told.items ++ Reply (counted_by (call_of call)) ∷ [])) }
+    {
+        self.told.push(Told::Reply(counted_in(&call)))?;
+        self.calls.push(call)?;
+        Ok(())
+    }
+}
+
 /// The steps of a script that has steps alone.
 pub fn steps_of(alloc: Global, lines: Vec<Line>) -> Result<Steps, AllocError>
     ensures calls { IfOk result (λ steps. steps.calls.items ≡ calls_after [] lines.items) }
     ensures told { IfOk result (λ steps. steps.told.items ≡ told_after [] lines.items) }
 {
-    let mut calls = Vec::new(alloc);
-    let mut told = Vec::new(alloc);
+    let mut steps = Steps::new(alloc);
     for line in lines {
         match line {
-            Line::Call(call) => {
-                told.push(Told::Reply(counted_in(&call)))?;
-                calls.push(call)?;
-            }
-            Line::NoBatch(refusal) => told.push(Told::NoBatch(refusal))?,
+            Line::Call(call) => steps.add(call)?,
+            Line::NoBatch(refusal) => steps.told.push(Told::NoBatch(refusal))?,
             Line::Fuse(_) | Line::Crash(_) => {}
         }
     }
-    Ok(Steps { calls, told })
+    Ok(steps)
 }
 
 /// The lives of a script, and how the replies of each are told, its opening first.
@@ -71,39 +89,66 @@ pub struct Lives {
     pub told: Vec<Vec<Told>>,
 }
 
+impl Lives {
+    // Ends a life by a crash, behind the others.
+    fn end(&mut self, alloc: Global, begun: Begun, kept: Kept) -> Result<(), AllocError>
+        ensures lives { OnOk result (map life_of self.new.lives.items ≡ map life_of self.old.lives.items
+            ++ (begun.fuse, begun.steps.calls.items, mask_said kept (length begun.steps.calls.items)) ∷ []) }
+        ensures told { OnOk result (map (λ told. told.items) self.new.told.items ≡ map (λ told. told.items) self.old.told.items
+            ++ begun.steps.told.items ∷ []) }
+    {
+        let Begun { fuse, steps } = begun;
+        let mask = mask_of(alloc, kept, steps.calls.len())?;
+        self.lives.push(Life {
+            fuse,
+            steps: steps.calls,
+            mask,
+        })?;
+        self.told.push(steps.told)?;
+        Ok(())
+    }
+}
+
+// A life that no crash has ended yet.
+#[derive(Drop)]
+struct Begun {
+    fuse: Option<u64>,
+    steps: Steps,
+}
+
+impl Begun {
+    fn new(alloc: Global) -> Result<Begun, AllocError>
+        ensures { IfOk result (λ begun. (begun.fuse ≡ None) × (begun.steps.calls.items ≡ []) × (begun.steps.told.items ≡ opened)) }
+    {
+        let mut steps = Steps::new(alloc);
+        steps.told.push(Told::Reply(Counted::Opened))?;
+        Ok(Begun { fuse: None, steps })
+    }
+}
+
 /// The lives of a script. Its end ends the last of them, unless a crash did.
 pub fn lives_of(alloc: Global, lines: Vec<Line>) -> Result<Lives, AllocError>
     ensures lives { IfOk result (λ lives. map life_of lives.lives.items ≡ lives_after [] None [] (ended lines.items)) }
     ensures told { IfOk result (λ lives. map (λ told. told.items) lives.told.items ≡ told_lives lines.items) }
 {
     let lines = ended(lines)?;
-    let mut lives = Vec::new(alloc);
-    let mut all_told = Vec::new(alloc);
-    let mut fuse = None;
-    let mut steps = Vec::new(alloc);
-    let mut told = opening(alloc)?;
+    let mut lives = Lives {
+        lives: Vec::new(alloc),
+        told: Vec::new(alloc),
+    };
+    let mut begun = Begun::new(alloc)?;
     for line in lines {
         match line {
-            Line::Call(call) => {
-                told.push(Told::Reply(counted_in(&call)))?;
-                steps.push(call)?;
-            }
-            Line::NoBatch(refusal) => told.push(Told::NoBatch(refusal))?,
-            Line::Fuse(count) => fuse = Some(count),
+            Line::Call(call) => begun.steps.add(call)?,
+            Line::NoBatch(refusal) => begun.steps.told.push(Told::NoBatch(refusal))?,
+            Line::Fuse(count) => begun.fuse = Some(count),
             Line::Crash(kept) => {
-                let mask = mask_of(alloc, kept, steps.len())?;
-                lives.push(Life { fuse, steps, mask })?;
-                all_told.push(told)?;
-                fuse = None;
-                steps = Vec::new(alloc);
-                told = opening(alloc)?;
+                lives.end(alloc, begun, kept)?;
+                begun = Begun::new(alloc)?;
             }
         }
     }
-    Ok(Lives {
-        lives,
-        told: all_told,
-    })
+    Ok(lives)
 }
 
 // The lines with a crash at their end.
@@ -114,13 +159,6 @@ fn ended(mut lines: Vec<Line>) -> Result<Vec<Line>, AllocError>
         lines.push(Line::Crash(Kept::All))?;
     }
     Ok(lines)
-}
-
-// How a life is told that begins.
-fn opening(alloc: Global) -> Result<Vec<Told>, AllocError>
-    ensures { IfOk result (λ told. told.items ≡ opened) }
-{
-    Ok(vec![in alloc; Told::Reply(Counted::Opened)]?)
 }
 
 // All pending writes of a life are among those that its opening and its calls made.

@@ -11,7 +11,7 @@ use lsm_codec::unword;
 use std::alloc::{AllocError, AllocFailed, Global};
 
 /// Why a line was not read.
-#[derive(Debug, Drop)]
+#[derive(Drop)]
 pub enum Unread {
     /// It is none of the lines of a script.
     Malformed,

@@ -1,10 +1,10 @@
 use Rattle.std.proofs.Common.{rules}
-use Rattle.lsm_requests.proofs.calls.scan.Goals as goal
+use Rattle.lsm_requests.proofs.calls.list.Goals as goal
 
 pub returns : goal.returns
 returns g c = record {
   page = c.in_ok-page.page;
-  before = c.in_ok-store.store;
+  before = c.args.store.now;
   after = c.scan.new.self;
   serves = search rules;
   told = search rules;
