@@ -17,6 +17,11 @@ impl Model for Past {
     ghost also_owns = { λ _. ftrue };
 }
 
+// It owns nothing.
+unsafe impl Send for Past {}
+
+unsafe impl Sync for Past {}
+
 impl Past {
     ghost use Rattle.lsm_device.specs.Ending.{life_in};
 

@@ -1,18 +1,11 @@
 //! The snapshot that a session pins as its base.
 
-ghost use Rattle.std.specs.Prelude.{◌≡◌};
-
-use crate::setup::{get, is_value, put, small};
-use lsm_codec::{Batch, Op};
+use crate::setup::{prepared, small};
+use crate::turns::{Ask, Told, Turn, play, put};
 use lsm_device::{MemDevice, Refusal};
-use lsm_lives::{Call, Reply};
-use lsm_shared::{Client, Shared, prepare};
+use lsm_shared::prepare;
 use lsm_store::{At, Store};
-use lsm_trail::{Opened, SessionName};
 use std::alloc::Global;
-use std::marker::Brand;
-use std::process::Abort;
-use std::sync::Wait;
 use std::test::Fail;
 
 // A small store with so many snapshots.
@@ -33,135 +26,92 @@ fn release_all(store: &mut Store<MemDevice>, last: u64) -> u64 {
     live
 }
 
+// A store on which no session began, since all snapshots are taken.
+fn refused(alloc: Global, store: Store<MemDevice>) -> Result<Store<MemDevice>, Fail> {
+    match prepare(alloc, store, 1, 1) {
+        Err((Refusal::TooManySnapshots, store)) => Ok(store),
+        Err((refusal, _)) => Err(Fail::from(refusal.name())),
+        Ok(_) => Err(Fail::from("it begins")),
+    }
+}
+
+// Whether a session had this base, and the store has given it back: of the snapshots before it so many are live, and the
+// next one has the number after it.
+fn is_given_back(store: &mut Store<MemDevice>, base: u64, live: u64) -> bool {
+    store.release(base) == Err(Refusal::NoSuchSnapshot)
+        && release_all(store, base.wrapping_sub(1)) == live
+        && store.snapshot() == Ok(base.wrapping_add(1))
+}
+
 #[test]
 fn a_session_takes_the_place_of_a_snapshot(rt: HostRuntime) -> Result<(), Fail> {
-    let store = with_snapshots(rt.alloc(), 32)?;
-    let Err((refusal, mut store)) = prepare(rt.alloc(), store, 1, 1) else {
-        return Err(Fail::from("it begins"));
-    };
-    assert_eq!(rt; refusal, Refusal::TooManySnapshots);
+    let mut store = refused(rt.alloc(), with_snapshots(rt.alloc(), 32)?)?;
     store.release(5)?;
-    let Ok(opened) = prepare(rt.alloc(), store, 1, 1) else {
-        return Err(Fail::from("prepare"));
-    };
-    let mut store = without_a_call::<Brand, _>(&rt, rt.alloc(), opened)?;
-    assert_eq!(rt; store.release(33), Err(Refusal::NoSuchSnapshot));
-    assert_eq!(rt; release_all(&mut store, 32), 31);
-    assert_eq!(rt; store.snapshot(), Ok(34));
+    let opened = prepared(rt.alloc(), store, 1, 1)?;
+    let mut left = play(&rt, rt.alloc(), opened, &[])?;
+    assert!(rt; left.base == 33 && left.trail.is_empty());
+    assert!(rt; is_given_back(&mut left.store, 33, 31));
     Ok(())
 }
 
-fn without_a_call<B: SessionName, R: Abort>(
-    rt: &R,
-    alloc: Global,
-    opened: Opened<MemDevice>,
-) -> Result<Store<MemDevice>, Fail>
-    requires { opened ≡ B.id }
-{
-    let Ok((shared, clients)) = Shared::<MemDevice, Global, B>::begin(alloc, opened) else {
-        return Err(Fail::from("begin"));
-    };
-    assert_eq!(rt; shared.base(), 33);
-    let Ok((store, trail)) = shared.finish(clients) else {
-        return Err(Fail::from("finish"));
-    };
-    assert!(rt; trail.is_empty());
+// A small store with one pair.
+fn with_a_pair(alloc: Global) -> Result<Store<MemDevice>, Fail> {
+    let mut store = small(alloc)?;
+    store.commit(&put(alloc, b"\x61", b"\x31")?)?;
     Ok(store)
 }
 
-// Makes a call, of which nothing is said, so that the prover has nothing to carry from one line to the next.
-fn ask<B: SessionName, R: Wait>(
-    rt: &R,
-    shared: &Shared<MemDevice, Global, B>,
-    client: &mut Client<Global, B>,
-    call: Call,
-) -> Result<Reply, Refusal> {
-    client.call(rt, shared, call)
-}
+const BESIDE_THE_BASE: &[Turn<'static>] = &[
+    (0, Ask::Put(b"\x61", b"\x32"), Ok(Told::Number(2))),
+    // Other snapshots are the clients' own.
+    (0, Ask::Snapshot, Ok(Told::Number(2))),
+    (0, Ask::Snapshot, Ok(Told::Number(3))),
+    (0, Ask::Release(2), Ok(Told::Done)),
+    (
+        0,
+        Ask::Release(2),
+        Ok(Told::Refused(Refusal::NoSuchSnapshot)),
+    ),
+    (0, Ask::Release(1), Err(Refusal::NotYours)),
+    (
+        0,
+        Ask::Get(At::Snap(1), b"\x61"),
+        Ok(Told::Value(Some(b"\x31"))),
+    ),
+    (
+        0,
+        Ask::Get(At::Now, b"\x61"),
+        Ok(Told::Value(Some(b"\x32"))),
+    ),
+];
 
 #[test]
 fn the_base_keeps_the_map_of_the_begin(rt: HostRuntime) -> Result<(), Fail> {
-    let alloc = rt.alloc();
-    let mut store = small(alloc)?;
-    store.commit(&Batch::new(alloc, Op::put(alloc, b"\x61", b"\x31")?)?)?;
-    let Ok(opened) = prepare(alloc, store, 1, 16) else {
-        return Err(Fail::from("prepare"));
-    };
-    let mut store = beside_the_base::<Brand, _>(&rt, alloc, opened)?;
-    assert_eq!(rt; store.release(1), Err(Refusal::NoSuchSnapshot));
-    assert_eq!(rt; store.release(3), Ok(()));
-    assert_eq!(rt; store.batch_count(), 2);
+    let opened = prepared(rt.alloc(), with_a_pair(rt.alloc())?, 1, 16)?;
+    let mut left = play(&rt, rt.alloc(), opened, BESIDE_THE_BASE)?;
+    assert!(rt; left.base == 1 && left.trail.len() == 7 && left.store.batch_count() == 2);
+    assert!(rt;
+        left.store.release(1) == Err(Refusal::NoSuchSnapshot) && left.store.release(3) == Ok(())
+    );
     Ok(())
 }
 
-fn beside_the_base<B: SessionName, R: Wait + Abort>(
-    rt: &R,
-    alloc: Global,
-    opened: Opened<MemDevice>,
-) -> Result<Store<MemDevice>, Fail>
-    requires { opened ≡ B.id }
-{
-    let Ok((shared, mut clients)) = Shared::<MemDevice, Global, B>::begin(alloc, opened) else {
-        return Err(Fail::from("begin"));
-    };
-    let mut client = clients.pop().ok_or("a client")?;
-    assert_eq!(rt; shared.base(), 1);
-    let reply = ask(rt, &shared, &mut client, put(alloc, b"\x61", b"\x32")?);
-    assert!(rt; matches!(&reply, Ok(Reply::Number(2))));
-    // Other snapshots are the clients' own.
-    for number in [2, 3] {
-        let reply = ask(rt, &shared, &mut client, Call::Snapshot);
-        assert!(rt; matches!(&reply, Ok(Reply::Number(n)) if *n == number));
-    }
-    let reply = ask(rt, &shared, &mut client, Call::Release(2));
-    assert!(rt; matches!(&reply, Ok(Reply::Done)));
-    let reply = ask(rt, &shared, &mut client, Call::Release(2));
-    assert!(rt; matches!(&reply, Ok(Reply::Refused(Refusal::NoSuchSnapshot))));
-    let reply = ask(rt, &shared, &mut client, Call::Release(1));
-    assert!(rt; matches!(&reply, Err(Refusal::NotYours)));
-    let reply = ask(rt, &shared, &mut client, get(alloc, At::Snap(1), b"\x61")?);
-    assert!(rt; is_value(&reply, Some(b"\x31")));
-    let reply = ask(rt, &shared, &mut client, get(alloc, At::Now, b"\x61")?);
-    assert!(rt; is_value(&reply, Some(b"\x32")));
-    clients.push(client)?;
-    let Ok((store, trail)) = shared.finish(clients) else {
-        return Err(Fail::from("finish"));
-    };
-    assert_eq!(rt; trail.len(), 7);
+// A small store whose device fails at the next write or sync.
+fn failing(alloc: Global) -> Result<Store<MemDevice>, Fail> {
+    let mut store = small(alloc)?;
+    store.fuse(0);
     Ok(store)
 }
 
 #[test]
 fn a_session_of_a_stopped_store_ends(rt: HostRuntime) -> Result<(), Fail> {
-    let mut store = small(rt.alloc())?;
-    store.fuse(0);
-    let Ok(opened) = prepare(rt.alloc(), store, 1, 2) else {
-        return Err(Fail::from("prepare"));
-    };
-    let mut store = stopped::<Brand, _>(&rt, rt.alloc(), opened)?;
-    assert_eq!(rt; store.release(1), Err(Refusal::Stopped));
+    let opened = prepared(rt.alloc(), failing(rt.alloc())?, 1, 2)?;
+    let turns = [
+        (0, Ask::Sync, Ok(Told::Refused(Refusal::Io))),
+        (0, Ask::Release(1), Err(Refusal::NotYours)),
+    ];
+    let mut left = play(&rt, rt.alloc(), opened, &turns)?;
+    assert!(rt; left.base == 1 && left.trail.len() == 1);
+    assert!(rt; left.store.release(1) == Err(Refusal::Stopped));
     Ok(())
-}
-
-fn stopped<B: SessionName, R: Wait + Abort>(
-    rt: &R,
-    alloc: Global,
-    opened: Opened<MemDevice>,
-) -> Result<Store<MemDevice>, Fail>
-    requires { opened ≡ B.id }
-{
-    let Ok((shared, mut clients)) = Shared::<MemDevice, Global, B>::begin(alloc, opened) else {
-        return Err(Fail::from("begin"));
-    };
-    let mut client = clients.pop().ok_or("a client")?;
-    let reply = ask(rt, &shared, &mut client, Call::Sync);
-    assert!(rt; matches!(&reply, Ok(Reply::Refused(Refusal::Io))));
-    let reply = ask(rt, &shared, &mut client, Call::Release(1));
-    assert!(rt; matches!(&reply, Err(Refusal::NotYours)));
-    clients.push(client)?;
-    let Ok((store, trail)) = shared.finish(clients) else {
-        return Err(Fail::from("finish"));
-    };
-    assert_eq!(rt; trail.len(), 1);
-    Ok(store)
 }

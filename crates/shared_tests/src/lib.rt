@@ -15,3 +15,5 @@ mod replies;
 mod setup;
 #[cfg(test)]
 mod threads;
+#[cfg(test)]
+mod turns;
