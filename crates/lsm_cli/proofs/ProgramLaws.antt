@@ -3,8 +3,8 @@ use Rattle.std.proofs.Common.{◌≡◌, ◌||◌, Bool, List, Option, Some, Non
 use Rattle.clap.specs.Words.{AddsSubcommand, App, Row, Text, is_simple, is_simple_and_free, with_subcommand}
 use Rattle.clap.specs.declared.builder.command.Command.{Command}
 use Rattle.clap.proofs.OnLiterals.{clap_on_literals}
-use Rattle.lsm_requests.specs.declared.asked.Asked.{Asked}
-use Rattle.lsm_requests.specs.declared.asked.Asked.TheVariants.{Format, Put, Delete, Get, Scan, Replay, Lives}
+use Rattle.lsm_language.specs.declared.asked.Asked.{Asked}
+use Rattle.lsm_language.specs.declared.asked.Asked.TheVariants.{Format, Put, Delete, Get, Scan, Replay, Lives}
 use Rattle.lsm_cli.specs.Program.{Asks, IsCommand, has_words, program}
 
 -- the parser's matches of the program are those of its definitions

@@ -8,11 +8,11 @@ use Rattle.clap.specs.declared.error.kind.ErrorKind.{ErrorKind}
 use Rattle.clap.specs.declared.error.kind.ErrorKind.TheVariants.{OutOfMemory}
 use Rattle.lsm_device.specs.declared.refusal.Refusal.TheVariants.{NoMemory}
 use Rattle.lsm_requests.specs.declared.answer.Answer.{Answer}
-use Rattle.lsm_requests.specs.declared.asked.Asked.{Asked}
-use Rattle.lsm_requests.specs.declared.fault.Fault.{Fault}
-use Rattle.lsm_requests.specs.Faults.{Reason, mistake, refusal, unread, reason_of, status_of}
+use Rattle.lsm_language.specs.declared.asked.Asked.{Asked}
+use Rattle.lsm_language.specs.declared.fault.Fault.{Fault}
+use Rattle.lsm_language.specs.Faults.{Reason, mistake, refusal, unread, reason_of, status_of}
 use Rattle.lsm_cli.specs.Program.{has_words, program}
-use Rattle.lsm_requests.specs.Requests.{reason_for}
+use Rattle.lsm_language.specs.Requests.{reason_for}
 use Rattle.lsm_requests.specs.Answers.{lines_of}
 use Rattle.lsm_requests.specs.Endings.{PrintsAnswer, PrintsFault, Written, status_after}
 use Rattle.lsm_cli.specs.Runs.{AskNothing, Fails, HasServed, IsRead, IsRun, IsServed, has_dash}

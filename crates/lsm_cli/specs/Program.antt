@@ -5,8 +5,8 @@ use Rattle.clap.specs.Words.{App, Row, Rule, Text, app_of, first_of, new_app, ne
 use Rattle.clap.specs.declared.builder.command.Command.{Command}
 use Rattle.clap.specs.declared.builder.command.Command.TheViews.{out-Command as fields_of}
 use Rattle.clap.specs.declared.builder.ArgAction.TheVariants.{Set}
-use Rattle.lsm_requests.specs.declared.asked.Asked.{Asked}
-use Rattle.lsm_requests.specs.declared.asked.Asked.TheVariants.{Format, Put, Delete, Get, Scan, Replay, Lives}
+use Rattle.lsm_language.specs.declared.asked.Asked.{Asked}
+use Rattle.lsm_language.specs.declared.asked.Asked.TheVariants.{Format, Put, Delete, Get, Scan, Replay, Lives}
 
 -- a word that has to be there
 abbrev pub word_rule : Text → Rule

@@ -3,14 +3,14 @@ use Rattle.std.specs.Prelude.{◌≡◌, ◌⊎◌, ℕ, Bool, false, List, [], 
 use Rattle.std.specs.List.{list_any}
 use Rattle.clap.specs.Words.{Row, Text, fault_of, subcommand_of}
 use Rattle.lsm_device.specs.declared.refusal.Refusal.TheVariants.{NoMemory}
-use Rattle.lsm_requests.specs.declared.asked.Asked.{Asked}
-use Rattle.lsm_requests.specs.declared.request.Request.{Request}
+use Rattle.lsm_language.specs.declared.asked.Asked.{Asked}
+use Rattle.lsm_language.specs.declared.request.Request.{Request}
 use Rattle.lsm_requests.specs.declared.answer.Answer.{Answer}
-use Rattle.lsm_requests.specs.declared.fault.Fault.{Fault}
-use Rattle.lsm_requests.specs.Faults.{Reason, mistake, refusal, unread, reason_of}
-use Rattle.lsm_requests.specs.Words.{after}
+use Rattle.lsm_language.specs.declared.fault.Fault.{Fault}
+use Rattle.lsm_language.specs.Faults.{Reason, mistake, refusal, unread, reason_of}
+use Rattle.lsm_language.specs.Words.{after}
 use Rattle.lsm_cli.specs.Program.{program, Asks}
-use Rattle.lsm_requests.specs.Requests.{Says, reason_for, wants_script}
+use Rattle.lsm_language.specs.Requests.{Says, reason_for, wants_script}
 use Rattle.lsm_requests.specs.Answers.{Gives}
 use Rattle.lsm_requests.specs.Endings.{Concludes, Written}
 

@@ -5,17 +5,17 @@ ghost use Rattle.clap.specs.Words.{App, app_of, fault_of, first_of, found_of, ki
 ghost use Rattle.clap.specs.declared.builder.command.Command.TheViews.{out-Command as fields_of};
 ghost use Rattle.clap.specs.declared.error.kind.ErrorKind.TheVariants.{OutOfMemory};
 ghost use Rattle.lsm_device.specs.declared.refusal.Refusal.TheVariants.{NoMemory};
-ghost use Rattle.lsm_requests.specs.Faults.{reason_of, mistake, refusal};
-ghost use Rattle.lsm_requests.specs.Words.{after};
+ghost use Rattle.lsm_language.specs.Faults.{reason_of, mistake, refusal};
+ghost use Rattle.lsm_language.specs.Words.{after};
 ghost use Rattle.lsm_cli.specs.Program.{bare_program, program, word_rule, with_changes, with_words, with_words_at, has_word, has_words, IsCommand, Asks, HasWord};
 ghost use Rattle.lsm_cli.specs.Runs.{has_dash, IsAsked, AskNothing};
 
 use clap::error::ErrorKind;
 use clap::{Arg, ArgAction, ArgMatches, Command};
 use lsm_device::Refusal;
-use lsm_requests::asked::Asked;
-use lsm_requests::fault::{Fault, Usage};
-use lsm_requests::words::after;
+use lsm_language::asked::Asked;
+use lsm_language::fault::{Fault, Usage};
+use lsm_language::words::after;
 use std::alloc::{AllocError, Global};
 use std::convert::AsStr;
 

@@ -3,16 +3,16 @@
 ghost use Rattle.std.specs.Prelude.{◌≡◌, ◌≤◌, map, MatchResult};
 ghost use Rattle.std.specs.Io.KnownBytes.{Appends, Keeps};
 ghost use Rattle.lsm_requests.specs.Answers.{lines_of};
-ghost use Rattle.lsm_requests.specs.Faults.{mistake, reason_of};
+ghost use Rattle.lsm_language.specs.Faults.{mistake, reason_of};
 ghost use Rattle.lsm_cli.specs.Runs.{Fails, HasServed, IsRun, IsServed};
 
 use crate::parser::asked_for;
+use lsm_language::fault::Fault;
+use lsm_language::input::script_text;
+use lsm_language::request::Request;
 use lsm_requests::answer::Answer;
 use lsm_requests::calls;
 use lsm_requests::ending::conclude;
-use lsm_requests::fault::Fault;
-use lsm_requests::input::script_text;
-use lsm_requests::request::Request;
 use std::convert::AsStr;
 use std::fs::{File, Files};
 use std::io::{Read, Write};

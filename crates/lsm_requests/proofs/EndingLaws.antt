@@ -2,8 +2,8 @@
 use Rattle.std.proofs.Common.{◌≤◌, Result, Ok, Err, arith}
 use Rattle.std.specs.declared.io.Error.{Error}
 use Rattle.lsm_requests.specs.declared.answer.Answer.{Answer}
-use Rattle.lsm_requests.specs.declared.fault.Fault.{Fault}
-use Rattle.lsm_requests.specs.Faults.{Reason, mistake, refusal, unread, reason_of, status_of}
+use Rattle.lsm_language.specs.declared.fault.Fault.{Fault}
+use Rattle.lsm_language.specs.Faults.{Reason, mistake, refusal, unread, reason_of, status_of}
 use Rattle.lsm_requests.specs.Endings.{status_after}
 
 status_of-at_most : (r : Reason) → status_of r ≤ 2

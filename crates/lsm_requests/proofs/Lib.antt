@@ -1,6 +1,2 @@
-pub mod ScriptLaws
-pub mod WordLaws
-pub mod LineLaws
 pub mod LifeLaws
-pub mod NumberLaws
 pub mod EndingLaws

@@ -8,7 +8,7 @@ use Rattle.lsm_store.specs.Lives.{IsAfter}
 use Rattle.lsm_lives.specs.declared.living.Life.{Life}
 use Rattle.lsm_lives.specs.Leading.{AreLed, life_of as view_of_life}
 use Rattle.lsm_lives.specs.Living.{steps_in, steps_of, KeepPromise}
-use Rattle.lsm_requests.specs.declared.line.Line.{Line}
+use Rattle.lsm_language.specs.declared.line.Line.{Line}
 use Rattle.lsm_requests.specs.Steps.{ended, life_of, lives_after, lives_said, view_of}
 
 -- an empty store is one after no batch

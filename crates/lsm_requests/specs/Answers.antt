@@ -24,8 +24,8 @@ use Rattle.lsm_lives.specs.Living.{KeepPromise, steps_in}
 use Rattle.lsm_requests.specs.Steps.{calls_after, told_after, lives_said, told_lives}
 use Rattle.lsm_requests.specs.Replies.{page_lines, replies_text, lives_text}
 use Rattle.lsm_requests.specs.declared.steps.Told.{Told}
-use Rattle.lsm_requests.specs.declared.request.Request.{Request}
-use Rattle.lsm_requests.specs.declared.request.Request.TheVariants as request
+use Rattle.lsm_language.specs.declared.request.Request.{Request}
+use Rattle.lsm_language.specs.declared.request.Request.TheVariants as request
 use Rattle.lsm_requests.specs.declared.answer.Answer.{Answer}
 use Rattle.lsm_requests.specs.declared.answer.Answer.TheVariants.{Formatted, Batch, Value, Absent, Lines}
 

@@ -3,9 +3,8 @@ use Rattle.std.specs.Prelude.{◌≡◌, ℕ, List, Option, Result, Ok, Err, OnO
 use Rattle.std.specs.Io.KnownBytes.{Appends, Keeps}
 use Rattle.std.specs.declared.io.Error.{Error}
 use Rattle.lsm_requests.specs.declared.answer.Answer.{Answer}
-use Rattle.lsm_requests.specs.declared.fault.Fault.{Fault}
-use Rattle.lsm_requests.specs.Faults.{Reason, refusal, reason_of, status_of}
-use Rattle.lsm_requests.specs.Replies.{refusal_line}
+use Rattle.lsm_language.specs.declared.fault.Fault.{Fault}
+use Rattle.lsm_language.specs.Faults.{refusal_line, Reason, refusal, reason_of, status_of}
 use Rattle.lsm_requests.specs.Answers.{lines_of}
 
 -- the exit status: 1 where the answer or the fault could not be written

@@ -1,11 +1,3 @@
-pub mod Numbers
-pub mod Limits
-pub mod Faults
-pub mod Words
-pub mod Changes
-pub mod Lines
-pub mod Scripts
-pub mod Requests
 pub mod Steps
 pub mod Replies
 pub mod Answers

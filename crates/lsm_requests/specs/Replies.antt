@@ -1,12 +1,11 @@
 -- Replies as lines.
-use Rattle.std.specs.Prelude.{ℕ, ◌/◌, ◌%◌, List, [], ◌∷◌, ◌++◌, codes, decimal, Option, Some, None}
+use Rattle.std.specs.Prelude.{ℕ, List, [], ◌∷◌, ◌++◌, codes, decimal, Option, Some, None}
 use Rattle.std.specs.List.{flat_map}
-use Rattle.lsm_device.specs.declared.refusal.Refusal.{Refusal}
-use Rattle.lsm_device.specs.Refusals.{number_of, name_of}
 use Rattle.lsm_codec.specs.Words.{word_of}
 use Rattle.lsm_codec.specs.Keys.{Bytes}
 use Rattle.lsm_store.specs.Paging.{Page}
 use Rattle.lsm_store.specs.Calls.{Reply, Number, Done, Value, Rows, Refused}
+use Rattle.lsm_language.specs.Faults.{refusal_line}
 use Rattle.lsm_requests.specs.declared.steps.Counted.{Counted}
 use Rattle.lsm_requests.specs.declared.steps.Counted.TheVariants as counted
 use Rattle.lsm_requests.specs.declared.steps.Told.{Told}
@@ -18,14 +17,6 @@ counted_word counted.Opened = codes "open"
 counted_word counted.Batch = codes "batch"
 counted_word counted.Snapshot = codes "snapshot"
 counted_word counted.Room = codes "room"
-
--- `refused`, the number in two digits, and the name
-abbrev pub refusal_text : Refusal → List ℕ
-refusal_text refusal = codes "refused " ++ decimal (number_of refusal / 10) ++ decimal (number_of refusal % 10) ++ codes " "
-    ++ name_of refusal
-
-abbrev pub refusal_line : Refusal → List ℕ
-refusal_line refusal = refusal_text refusal ++ 10 ∷ []
 
 -- the key of the first pair that a page leaves out
 abbrev pub next_line : Page → List ℕ

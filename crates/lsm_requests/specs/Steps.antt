@@ -6,10 +6,10 @@ use Rattle.lsm_lives.specs.declared.calls.Call.{Call as Asked}
 use Rattle.lsm_lives.specs.declared.living.Life.{Life}
 use Rattle.lsm_lives.specs.Calls.{call_of, step_of}
 use Rattle.lsm_lives.specs.Leading.{LifeView}
-use Rattle.lsm_requests.specs.declared.line.Line.{Line}
-use Rattle.lsm_requests.specs.declared.line.Line.TheVariants as line
-use Rattle.lsm_requests.specs.declared.line.Kept.{Kept}
-use Rattle.lsm_requests.specs.declared.line.Kept.TheVariants.{All, Places}
+use Rattle.lsm_language.specs.declared.line.Line.{Line}
+use Rattle.lsm_language.specs.declared.line.Line.TheVariants as line
+use Rattle.lsm_language.specs.declared.line.Kept.{Kept}
+use Rattle.lsm_language.specs.declared.line.Kept.TheVariants.{All, Places}
 use Rattle.lsm_requests.specs.declared.steps.Counted.{Counted}
 use Rattle.lsm_requests.specs.declared.steps.Counted.TheVariants as counted
 use Rattle.lsm_requests.specs.declared.steps.Told.{Told}

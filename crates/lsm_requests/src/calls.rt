@@ -6,14 +6,14 @@ ghost use Rattle.lsm_requests.specs.Steps.{calls_after, told_after};
 ghost use Rattle.lsm_requests.specs.Answers.{Gives, HasFormatted, HasCommitted, HasFound, HasRows, HasReplies};
 
 use crate::answer::Answer;
-use crate::geometry::Geometry;
-use crate::line::Line;
 use crate::reply::push_page;
-use crate::request::Request;
 use crate::runs;
 use crate::steps::steps_of;
 use lsm_codec::{Batch, word};
 use lsm_device::{Device, FileDevice, Refusal};
+use lsm_language::geometry::Geometry;
+use lsm_language::line::Line;
+use lsm_language::request::Request;
 use lsm_store::{At, Store};
 use std::alloc::Global;
 use std::fs::{File, Files};

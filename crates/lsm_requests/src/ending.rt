@@ -3,12 +3,12 @@
 ghost use Rattle.std.specs.Prelude.{◌≡◌, ◌≤◌, OnOk};
 ghost use Rattle.std.specs.Io.KnownBytes.{Appends, Keeps};
 ghost use Rattle.lsm_requests.specs.Answers.{lines_of};
-ghost use Rattle.lsm_requests.specs.Faults.{reason_of};
+ghost use Rattle.lsm_language.specs.Faults.{reason_of};
 ghost use Rattle.lsm_requests.specs.Endings.{Concludes, IsReported, status_after};
 
 use crate::answer::Answer;
-use crate::fault::{Fault, Usage};
-use crate::refused::refusal_text;
+use lsm_language::fault::{Fault, Usage};
+use lsm_language::refused::refusal_text;
 use std::io;
 use std::io::Write;
 

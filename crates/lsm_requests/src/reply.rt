@@ -4,12 +4,13 @@ ghost use Rattle.std.specs.Prelude.{◌≡◌, ◌++◌, map, IfErr, OnOk, strin
 ghost use Rattle.lsm_device.specs.declared.refusal.Refusal.TheVariants.{NoMemory};
 ghost use Rattle.lsm_lives.specs.Calls.{reply_of};
 ghost use Rattle.lsm_lives.specs.Living.{replies_of};
-ghost use Rattle.lsm_requests.specs.Replies.{counted_word, lives_text, next_line, page_lines, refusal_line, replies_text, reply_line, rows_line};
+ghost use Rattle.lsm_language.specs.Faults.{refusal_line};
+ghost use Rattle.lsm_requests.specs.Replies.{counted_word, lives_text, next_line, page_lines, replies_text, reply_line, rows_line};
 
-use crate::refused::refusal_text;
 use crate::steps::{Counted, Told};
 use lsm_codec::word;
 use lsm_device::Refusal;
+use lsm_language::refused::refusal_text;
 use lsm_lives::Reply;
 use lsm_store::Page;
 use std::alloc::Global;

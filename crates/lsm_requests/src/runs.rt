@@ -12,11 +12,11 @@ ghost use Rattle.lsm_requests.specs.Steps.{lives_said, told_lives};
 ghost use Rattle.lsm_requests.specs.Answers.{TellsReplies, HasLives};
 
 use crate::answer::Answer;
-use crate::geometry::Geometry;
-use crate::line::Line;
 use crate::reply::{push_lives, push_replies};
 use crate::steps::{Lives, Steps, lives_of};
 use lsm_device::{Device, MemDevice, Refusal};
+use lsm_language::geometry::Geometry;
+use lsm_language::line::Line;
 use lsm_store::Store;
 use std::alloc::{AllocError, Global};
 

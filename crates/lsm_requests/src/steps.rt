@@ -5,8 +5,8 @@ ghost use Rattle.lsm_lives.specs.Calls.{call_of};
 ghost use Rattle.lsm_requests.specs.declared.steps.Told.TheVariants.{Reply};
 ghost use Rattle.lsm_requests.specs.Steps.{calls_after, told_after, counted_by, ended, mask_said, life_of, lives_after, opened, told_lives};
 
-use crate::line::{Kept, Line};
 use lsm_device::Refusal;
+use lsm_language::line::{Kept, Line};
 use lsm_lives::{Call, Life};
 use std::alloc::{AllocError, Global};
 

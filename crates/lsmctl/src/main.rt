@@ -4,8 +4,8 @@
 ghost use Rattle.std.specs.Prelude.{◌≤◌};
 
 use lsm_cli::run;
+use lsm_language::fault::{Fault, Usage};
 use lsm_requests::ending::conclude;
-use lsm_requests::fault::{Fault, Usage};
 use std::alloc::AllocError;
 use std::env;
 use std::io::ErrorKind;

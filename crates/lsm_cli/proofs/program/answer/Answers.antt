@@ -1,5 +1,5 @@
 use Rattle.std.proofs.Common.{map, rules}
-use Rattle.lsm_requests.specs.Faults.{reason_of}
+use Rattle.lsm_language.specs.Faults.{reason_of}
 use Rattle.lsm_cli.specs.Runs.{Fails, IsRead}
 use Rattle.lsm_cli.proofs.RunLaws.{Fails-request}
 use Rattle.lsm_cli.proofs.program.answer.Goals as goal

@@ -1,0 +1,4 @@
+pub mod ScriptLaws
+pub mod WordLaws
+pub mod LineLaws
+pub mod NumberLaws

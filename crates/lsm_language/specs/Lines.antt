@@ -1,0 +1,114 @@
+-- What a line of a script says.
+use Rattle.std.specs.Prelude.{ℕ, ◌==◌, Bool, true, false, List, [], ◌∷◌, codes, Option, Some, None, option_map, option_and_then, if◌then◌else◌}
+use Rattle.std.specs.Str.{bytes_eq}
+use Rattle.lsm_device.specs.declared.refusal.Refusal.{Refusal}
+use Rattle.lsm_codec.specs.Keys.{Bytes}
+use Rattle.lsm_codec.specs.Map.{Operation}
+use Rattle.lsm_codec.specs.Words.{bytes_said}
+use Rattle.lsm_store.specs.declared.asked.At.{At}
+use Rattle.lsm_store.specs.declared.asked.At.TheVariants.{Now, Snap}
+use Rattle.lsm_store.specs.Calls.{Call, Commit, Sync, SyncTo, Get, Scan, Snapshot, Release, LogRoom}
+use Rattle.lsm_lives.specs.Calls.{call_of}
+use Rattle.lsm_language.specs.Numbers.{number_said}
+use Rattle.lsm_language.specs.Words.{read_all, words_in, after}
+use Rattle.lsm_language.specs.Changes.{changes_said, batch_refusal}
+use Rattle.lsm_language.specs.declared.line.Line.{Line}
+use Rattle.lsm_language.specs.declared.line.Line.TheVariants as line
+use Rattle.lsm_language.specs.declared.line.Kept.{Kept}
+use Rattle.lsm_language.specs.declared.line.Kept.TheVariants.{All, Places}
+
+-- a line's meaning
+pub data Said : Type 0 where
+  step : Call → Said
+  -- a commit whose operations form no batch
+  no_batch : Refusal → Said
+  fuse : ℕ → Said
+  crash_all : Said
+  crash : List Bool → Said
+
+-- ---- from words
+
+-- operations commit as one batch, or are refused as one
+abbrev pub batch_said : List Operation → Said
+batch_said changes = refused (batch_refusal changes)
+  where
+    refused : Option Refusal → Said
+    refused None = step (Commit changes)
+    refused (Some refusal) = no_batch refusal
+
+-- there is one operation at least
+abbrev pub some_said : List Operation → Option Said
+some_said [] = None
+some_said (change ∷ changes) = Some (batch_said (change ∷ changes))
+
+abbrev pub commit_said : List (List ℕ) → Option Said
+commit_said words = option_and_then some_said (changes_said words)
+
+-- `@S` names a snapshot
+abbrev pub at_said : List ℕ → Option At
+at_said word = option_and_then (λ number. option_map Snap (number_said number)) (after 64 word)
+
+abbrev pub get_said : List ℕ → At → List ℕ → Option Said
+get_said name at key = if bytes_eq name (codes "get") then option_map (λ key. step (Get at key)) (bytes_said key) else None
+
+-- where a scan ends: `end`, or before a key
+abbrev pub end_said : List ℕ → Option (Option Bytes)
+end_said word = if bytes_eq word (codes "end") then Some None else option_map Some (bytes_said word)
+
+abbrev pub scan_said : List ℕ → At → List ℕ → List ℕ → List ℕ → Option Said
+scan_said name at from to limit = if bytes_eq name (codes "scan") then option_and_then (λ from. option_and_then (λ to.
+    option_map (λ limit. step (Scan at from to limit)) (number_said limit)) (end_said to)) (bytes_said from) else None
+
+-- a digit 0 or 1 for each pending write
+abbrev pub place_said : ℕ → Option Bool
+place_said b = if b == 48 then Some false else if b == 49 then Some true else None
+
+abbrev pub places_said : List ℕ → Option (List Bool)
+places_said word = read_all place_said [] word
+
+-- the pending writes that a crash keeps
+abbrev pub crash_said : List ℕ → Option Said
+crash_said word = if bytes_eq word (codes "all") then Some crash_all else if bytes_eq word (codes "none") then Some (crash [])
+    else if bytes_eq word [] then None else option_map crash (places_said word)
+
+-- a line of the one word
+abbrev pub bare_said : List ℕ → Option Said
+bare_said name = if bytes_eq name (codes "sync") then Some (step Sync) else if bytes_eq name (codes "snapshot") then Some (step Snapshot)
+    else if bytes_eq name (codes "room") then Some (step LogRoom) else None
+
+-- a line of two words
+abbrev pub one_said : List ℕ → List ℕ → Option Said
+one_said name word = if bytes_eq name (codes "syncto") then option_map (λ n. step (SyncTo n)) (number_said word)
+    else if bytes_eq name (codes "get") then get_said name Now word
+    else if bytes_eq name (codes "release") then option_map (λ n. step (Release n)) (number_said word)
+    else if bytes_eq name (codes "fuse") then option_map fuse (number_said word)
+    else if bytes_eq name (codes "crash") then crash_said word else None
+
+-- a line that is no `commit`
+abbrev pub other_said : List ℕ → List (List ℕ) → Option Said
+other_said name [] = bare_said name
+other_said name (a ∷ []) = one_said name a
+other_said name (a ∷ b ∷ []) = option_and_then (λ at. get_said name at a) (at_said b)
+other_said name (a ∷ b ∷ c ∷ []) = scan_said name Now a b c
+other_said name (a ∷ b ∷ c ∷ d ∷ []) = option_and_then (λ at. scan_said name at a b c) (at_said d)
+other_said name (a ∷ b ∷ c ∷ d ∷ e ∷ words) = None
+
+abbrev pub words_said : List (List ℕ) → Option Said
+words_said [] = None
+words_said (name ∷ words) = if bytes_eq name (codes "commit") then commit_said words else other_said name words
+
+-- what a line says, if it is one of a script
+abbrev pub line_said : List ℕ → Option Said
+line_said line = words_said (words_in line)
+
+-- ---- as values
+
+abbrev pub crash_means : Kept → Said
+crash_means All = crash_all
+crash_means (Places places) = crash places.items
+
+abbrev pub means : Line → Said
+means (line.Call call) = step (call_of call)
+means (line.NoBatch refusal) = no_batch refusal
+means (line.Fuse number) = fuse number
+means (line.Crash kept) = crash_means kept

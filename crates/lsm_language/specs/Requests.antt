@@ -1,0 +1,79 @@
+-- What the words ask for, and what is wrong with them.
+use Rattle.std.specs.Prelude.{◌≡◌, ℕ, List, [], ◌∷◌, Option, Some, None, is_some, unwrap_or, option_map, map, nat_le, ◌&&◌, Bool, true, false, if◌then◌else◌}
+use Rattle.lsm_device.specs.declared.refusal.Refusal.TheVariants.{BadGeometry, BadLimit}
+use Rattle.lsm_codec.specs.Keys.{Bytes}
+use Rattle.lsm_codec.specs.Words.{bytes_said}
+use Rattle.lsm_codec.specs.Answers.{or_then, key_refusal, value_refusal}
+use Rattle.lsm_language.specs.Numbers.{number_said}
+use Rattle.lsm_language.specs.Limits.{is_geometry}
+use Rattle.lsm_language.specs.Faults.{Reason, mistake, refusal}
+use Rattle.lsm_language.specs.Lines.{means}
+use Rattle.lsm_language.specs.Scripts.{script_said}
+use Rattle.lsm_language.specs.declared.script.Kind.TheVariants.{Steps, Lives}
+use Rattle.lsm_language.specs.declared.asked.Asked.{Asked}
+use Rattle.lsm_language.specs.declared.asked.Asked.TheVariants as asked
+use Rattle.lsm_language.specs.declared.request.Request.{Request}
+use Rattle.lsm_language.specs.declared.request.Request.TheVariants as request
+
+-- the first of two reasons
+abbrev pub or_else : Option Reason → Option Reason → Option Reason
+or_else (Some reason) next = Some reason
+or_else None next = next
+
+-- a word that says nothing is a mistake
+abbrev pub said_reason : {X : Type 0} → Option X → Option Reason
+said_reason (Some x) = None
+said_reason None = Some mistake
+
+abbrev pub limits_reason : ℕ → ℕ → Option Reason
+limits_reason sectors log = if is_geometry sectors log then None else Some (refusal BadGeometry)
+
+abbrev pub number_in : List ℕ → ℕ
+number_in word = unwrap_or (number_said word) 0
+
+abbrev pub bytes_in : List ℕ → Bytes
+bytes_in word = unwrap_or (bytes_said word) []
+
+-- a page has 1 to 64 rows at most
+abbrev pub page_reason : ℕ → Option Reason
+page_reason limit = if nat_le 1 limit && nat_le limit 64 then None else Some (refusal BadLimit)
+
+-- whether the input is read for the script: where the words before it are right
+abbrev pub wants_script : Asked → Bool
+wants_script (asked.Replay file) = true
+wants_script (asked.Lives sectors log) = is_some (number_said sectors.now) && is_some (number_said log.now)
+wants_script _ = false
+
+-- the first thing that is wrong: numbers and bytes from the left, then the script, then the limits, then the batch
+abbrev pub reason_for : Asked → List ℕ → Option Reason
+reason_for (asked.Format file sectors log) text = or_else (said_reason (number_said sectors.now))
+    (or_else (said_reason (number_said log.now)) (limits_reason (number_in sectors.now) (number_in log.now)))
+reason_for (asked.Put file key value) text = or_else (said_reason (bytes_said key.now))
+    (or_else (said_reason (bytes_said value.now))
+    (option_map refusal (or_then (key_refusal (bytes_in key.now)) (value_refusal (bytes_in value.now)))))
+reason_for (asked.Delete file key) text = or_else (said_reason (bytes_said key.now))
+    (option_map refusal (key_refusal (bytes_in key.now)))
+reason_for (asked.Get file key) text = said_reason (bytes_said key.now)
+reason_for (asked.Scan file from limit) text = or_else (said_reason (bytes_said from.now))
+    (or_else (said_reason (number_said limit.now)) (page_reason (number_in limit.now)))
+reason_for (asked.Replay file) text = said_reason (script_said Steps text)
+reason_for (asked.Lives sectors log) text = or_else (said_reason (number_said sectors.now))
+    (or_else (said_reason (number_said log.now)) (or_else (said_reason (script_said Lives text))
+    (limits_reason (number_in sectors.now) (number_in log.now))))
+
+-- the request has the numbers and bytes that the words say, the batch of one operation on them, and what the script says
+abbrev pub Says : Asked → List ℕ → Request → Type 0
+Says (asked.Format file sectors log) text (request.Format path geometry) = (path.now ≡ file.now)
+    × (number_said sectors.now ≡ Some geometry.sectors) × (number_said log.now ≡ Some geometry.log_sectors)
+Says (asked.Put file key value) text (request.Commit path batch) = (path.now ≡ file.now)
+    × (batch ≡ record { key = bytes_in key.now; value = Some (bytes_in value.now) } ∷ [])
+Says (asked.Delete file key) text (request.Commit path batch) = (path.now ≡ file.now)
+    × (batch ≡ record { key = bytes_in key.now; value = None } ∷ [])
+Says (asked.Get file key) text (request.Get path bytes) = (path.now ≡ file.now) × (bytes_said key.now ≡ Some bytes.items)
+Says (asked.Scan file from limit) text (request.Scan path bytes rows) = (path.now ≡ file.now)
+    × (bytes_said from.now ≡ Some bytes.items) × (number_said limit.now ≡ Some rows)
+Says (asked.Replay file) text (request.Replay path script) = (path.now ≡ file.now)
+    × (script_said Steps text ≡ Some (map means script.items))
+Says (asked.Lives sectors log) text (request.Lives geometry script) = (number_said sectors.now ≡ Some geometry.sectors)
+    × (number_said log.now ≡ Some geometry.log_sectors) × (script_said Lives text ≡ Some (map means script.items))
+Says _ _ _ = ⊥

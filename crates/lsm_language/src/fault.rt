@@ -1,0 +1,83 @@
+//! Why the program did not do what it was asked for.
+
+ghost use Rattle.std.specs.Prelude.{◌≡◌};
+ghost use Rattle.lsm_device.specs.declared.refusal.Refusal.TheVariants.{NoMemory};
+ghost use Rattle.lsm_language.specs.Faults.{reason_of, mistake, refusal};
+
+use crate::refused::refusal_text;
+use lsm_device::Refusal;
+use std::alloc::{AllocError, AllocFailed};
+use std::io;
+use thiserror::Error;
+
+/// What is wrong with the words, or with the script.
+#[derive(Debug, Drop, Error)]
+pub enum Usage {
+    /// The text of the parser of the words, help included.
+    #[error("{0}")]
+    Words(String),
+    /// A word is no text, so that it can't be told which.
+    #[error("a word is no UTF-8 text")]
+    NoText,
+    /// A word begins with a dash.
+    #[error("{word:?} begins with a dash: there are no options, and no word does")]
+    Dash { word: String },
+    /// A word is missing.
+    #[error("{0} is missing")]
+    Missing(&'static str),
+    /// A word is no decimal number below 2^64.
+    #[error("{place} is {word:?}: expected a decimal number below 2^64, of digits alone")]
+    Number { place: &'static str, word: String },
+    /// A word says no bytes.
+    #[error("{place} is {word:?}: expected hex, two digits a byte, or empty for no bytes")]
+    Bytes { place: &'static str, word: String },
+    /// A line of the script, counted from 1, is none of its language.
+    #[error("line {number} of the script can't be read: {line:?}")]
+    Line { number: usize, line: String },
+    /// A line of the script, counted from 1, may not stand there.
+    #[error("line {number} of the script may not stand there: {line:?}")]
+    Misplaced { number: usize, line: String },
+}
+
+/// A mistake in the words or the script, a refusal, or a script that could not be read.
+#[derive(Debug, Drop, Error)]
+pub enum Fault {
+    #[error("{0}")]
+    Usage(Usage),
+    #[error("{text}", text = refusal_text(.0))]
+    Refused(Refusal),
+    #[error("the script could not be read: {0}")]
+    Input(io::Error),
+}
+
+impl From<Usage> for Fault {
+    ghost from_gives = { λ _ fault. reason_of fault ≡ mistake };
+
+    fn from(usage: Usage) -> Fault {
+        Fault::Usage(usage)
+    }
+}
+
+impl From<Refusal> for Fault {
+    ghost from_gives = { λ r fault. reason_of fault ≡ refusal r };
+
+    fn from(reason: Refusal) -> Fault {
+        Fault::Refused(reason)
+    }
+}
+
+impl<T: Drop> From<AllocFailed<T>> for Fault {
+    ghost from_gives = { λ _ fault. reason_of fault ≡ refusal NoMemory };
+
+    fn from(_: AllocFailed<T>) -> Fault {
+        Fault::Refused(Refusal::NoMemory)
+    }
+}
+
+impl From<AllocError> for Fault {
+    ghost from_gives = { λ _ fault. reason_of fault ≡ refusal NoMemory };
+
+    fn from(_: AllocError) -> Fault {
+        Fault::Refused(Refusal::NoMemory)
+    }
+}

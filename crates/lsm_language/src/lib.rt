@@ -1,0 +1,14 @@
+//! What is asked of a store in words and scripts.
+#![tactic(auto)]
+
+pub mod asked;
+pub mod fault;
+pub mod geometry;
+pub mod input;
+pub mod line;
+pub mod number;
+pub mod operations;
+pub mod refused;
+pub mod request;
+pub mod script;
+pub mod words;

@@ -1,6 +1,0 @@
-use Rattle.std.proofs.Common.{◌∙◌, rules}
-use Rattle.lsm_requests.proofs.NumberLaws.{number_said-digits}
-use Rattle.lsm_requests.proofs.number.parse_number.Goals as goal
-
-pub returns : goal.returns
-returns c = c.ok.ensures.value ∙ number_said-digits c.args.word.now c.parse.result (search rules) c.parse.ensures.value.0

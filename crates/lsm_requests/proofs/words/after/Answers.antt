@@ -1,6 +1,0 @@
-use Rattle.std.proofs.lemmas.Str.Pattern.{strip_prefix_char}
-use Rattle.lsm_requests.proofs.WordLaws.{after-from}
-use Rattle.lsm_requests.proofs.words.after.Goals as goal
-
-pub returns : goal.returns
-returns c = after-from c.args.letter c.args.word.now _ (strip_prefix_char c.args.letter c.args.word.now _ c.strip_prefix.ensures.cases c.requires)
