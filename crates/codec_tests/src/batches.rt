@@ -334,7 +334,7 @@ fn read_back<'h>(heap: &'h LocalHeap, batch: &Batch<&'h LocalHeap>) -> Result<us
     Ok(again.text_len())
 }
 
-/// A batch of one put, and then of seven, or what refuses it.
+/// A batch of seven puts, or what refuses it.
 fn seven_puts<'h>(heap: &'h LocalHeap) -> Result<Batch<&'h LocalHeap>, Refusal> {
     let mut batch = Batch::new(heap, Op::put(heap, b"a", &[1; 40])?)?;
     fill(&mut batch)?;
