@@ -22,7 +22,14 @@ fn are(operations: &[Op], wanted: &[(&[u8], Option<&[u8]>)]) -> bool {
 
 /// Whether the operation puts this value under the key, or deletes the key where there is none.
 fn is_change(operation: &Op, key: &[u8], value: Option<&[u8]>) -> bool {
-    operation.key() == key && operation.value() == value
+    if operation.key() != key {
+        return false;
+    }
+    match (operation.value(), value) {
+        (Some(found), Some(wanted)) => found == wanted,
+        (None, None) => true,
+        _ => false,
+    }
 }
 
 /// Whether a batch has this text, and reads back from it with these operations.
@@ -31,16 +38,18 @@ fn is_spelled(
     batch: &Batch,
     text: &str,
     wanted: &[(&[u8], Option<&[u8]>)],
-) -> Result<bool, Fail> {
+) -> Result<bool, Refusal> {
     let bytes = batch.encode(alloc)?;
     if hex::encode(alloc, &bytes)?.as_str() != text || batch.text_len() != bytes.len() {
         return Ok(false);
     }
-    let again = Batch::decode(alloc, &bytes)?.ok_or("a batch is read")?;
+    let Some(again) = Batch::decode(alloc, &bytes)? else {
+        return Ok(false);
+    };
     Ok(again.text_len() == bytes.len() && are(again.operations(), wanted))
 }
 
-fn one_put_is_spelled(alloc: Global) -> Result<bool, Fail> {
+fn one_put_is_spelled(alloc: Global) -> Result<bool, Refusal> {
     let first = Op::put(alloc, b"a", b"1")?;
     if first.text_len() != 6 {
         return Ok(false);
@@ -60,7 +69,7 @@ fn a_batch_of_one_put(rt: HostRuntime) -> Result<(), Fail> {
     Ok(())
 }
 
-fn three_operations_are_spelled(alloc: Global) -> Result<bool, Fail> {
+fn three_operations_are_spelled(alloc: Global) -> Result<bool, Refusal> {
     let mut batch = Batch::new(alloc, Op::delete(alloc, b"a")?)?;
     batch.put(b"b", b"")?;
     batch.delete(b"c")?;
@@ -82,26 +91,65 @@ fn puts_and_deletes_stay_in_order(rt: HostRuntime) -> Result<(), Fail> {
     Ok(())
 }
 
-/// Whether a put is refused so, by an operation and by a batch, which stays as it is.
-fn refuses_put(alloc: Global, key: &[u8], value: &[u8], refusal: Refusal) -> Result<bool, Fail> {
-    if Op::put(alloc, key, value).err() != Some(refusal) {
-        return Ok(false);
+/// Whether a call on a batch was refused so.
+fn is_refused(answer: Result<(), Refusal>, refusal: Refusal) -> bool {
+    match answer {
+        Ok(()) => false,
+        Err(found) => found == refusal,
     }
-    let mut batch = Batch::new(alloc, Op::delete(alloc, b"a")?)?;
-    Ok(batch.put(key, value) == Err(refusal) && batch.text_len() == 5)
 }
 
-/// Whether a delete is refused for its key, by an operation and by a batch, which stays as it is.
-fn refuses_delete(alloc: Global, key: &[u8]) -> Result<bool, Fail> {
-    if Op::delete(alloc, key).err() != Some(Refusal::BadKey) {
+/// Whether making an operation was refused so.
+fn is_no_operation(answer: Result<Op, Refusal>, refusal: Refusal) -> bool {
+    match answer {
+        Ok(_) => false,
+        Err(found) => found == refusal,
+    }
+}
+
+/// A batch of one delete, whose text has 5 bytes.
+fn one_delete(alloc: Global) -> Result<Batch, Refusal> {
+    Batch::new(alloc, Op::delete(alloc, b"a")?)
+}
+
+/// Whether a put of so many bytes is refused so, by an operation and by a batch, which stays as it is.
+fn refuses_put(
+    alloc: Global,
+    key_len: usize,
+    value_len: usize,
+    refusal: Refusal,
+) -> Result<bool, Refusal> {
+    let bytes = [0u8; 2_049];
+    if key_len > 2_049 || value_len > 2_049 {
         return Ok(false);
     }
-    let mut batch = Batch::new(alloc, Op::delete(alloc, b"a")?)?;
-    Ok(batch.delete(key) == Err(Refusal::BadKey) && batch.text_len() == 5)
+    let key = &bytes[..key_len];
+    let value = &bytes[..value_len];
+    let mut batch = one_delete(alloc)?;
+    Ok(
+        is_no_operation(Op::put(alloc, key, value), refusal)
+            && is_refused(batch.put(key, value), refusal)
+            && batch.text_len() == 5,
+    )
+}
+
+/// Whether a delete of so many bytes is refused for its key, by an operation and by a batch, which stays as it is.
+fn refuses_delete(alloc: Global, key_len: usize) -> Result<bool, Refusal> {
+    let bytes = [0u8; 256];
+    if key_len > 256 {
+        return Ok(false);
+    }
+    let key = &bytes[..key_len];
+    let mut batch = one_delete(alloc)?;
+    Ok(
+        is_no_operation(Op::delete(alloc, key), Refusal::BadKey)
+            && is_refused(batch.delete(key), Refusal::BadKey)
+            && batch.text_len() == 5,
+    )
 }
 
 /// Whether the batch of one put has a text of this size.
-fn takes(alloc: Global, key: &[u8], value: &[u8], size: usize) -> Result<bool, Fail> {
+fn takes(alloc: Global, key: &[u8], value: &[u8], size: usize) -> Result<bool, Refusal> {
     let batch = Batch::new(alloc, Op::put(alloc, key, value)?)?;
     let text = batch.encode(alloc)?;
     Ok(batch.text_len() == size && text.len() == size)
@@ -109,24 +157,26 @@ fn takes(alloc: Global, key: &[u8], value: &[u8], size: usize) -> Result<bool, F
 
 #[test]
 fn keys_and_values_outside_their_limits(rt: HostRuntime) -> Result<(), Fail> {
-    let bytes = [0u8; 2_049];
-    let key = &bytes[..255];
-    let value = &bytes[..2_048];
-    for (bad_key, bad_value, refusal) in [
-        (&bytes[..0], value, Refusal::BadKey),
-        (&bytes[..256], value, Refusal::BadKey),
-        (key, bytes.as_slice(), Refusal::BadValue),
-        (&bytes[..0], bytes.as_slice(), Refusal::BadKey),
+    for (key_len, value_len, refusal) in [
+        (0, 2_048, Refusal::BadKey),
+        (256, 2_048, Refusal::BadKey),
+        (255, 2_049, Refusal::BadValue),
+        (0, 2_049, Refusal::BadKey),
     ] {
-        assert!(rt; refuses_put(rt.alloc(), bad_key, bad_value, refusal)?);
+        assert!(rt; refuses_put(rt.alloc(), key_len, value_len, refusal)?);
     }
-    assert!(rt; refuses_delete(rt.alloc(), &bytes[..0])?);
-    assert!(rt; refuses_delete(rt.alloc(), &bytes[..256])?);
-    assert!(rt; takes(rt.alloc(), key, value, 2 + 4 + 255 + 2_048)?);
+    assert!(rt; refuses_delete(rt.alloc(), 0)? && refuses_delete(rt.alloc(), 256)?);
     Ok(())
 }
 
-fn are_kept(alloc: Global, key: &[u8], value: &[u8]) -> Result<bool, Fail> {
+#[test]
+fn a_key_and_a_value_at_their_limits(rt: HostRuntime) -> Result<(), Fail> {
+    let bytes = [0u8; 2_048];
+    assert!(rt; takes(rt.alloc(), &bytes[..255], &bytes, 2 + 4 + 255 + 2_048)?);
+    Ok(())
+}
+
+fn are_kept(alloc: Global, key: &[u8], value: &[u8]) -> Result<bool, Refusal> {
     if key.is_empty() || key.len() > 255 || value.len() > 2_048 {
         return Ok(false);
     }
@@ -144,13 +194,14 @@ fn a_key_and_a_value_keep_their_bytes(rt: HostRuntime) -> Result<(), Fail> {
 #[test]
 fn text_sizes_of_one_put(rt: HostRuntime) -> Result<(), Fail> {
     let bytes = [7u8; 474];
-    assert!(rt; takes(rt.alloc(), b"a", &bytes[..473], 480)?);
-    assert!(rt; takes(rt.alloc(), b"a", &bytes, 481)?);
+    assert!(rt;
+        takes(rt.alloc(), b"a", &bytes[..473], 480)? && takes(rt.alloc(), b"a", &bytes, 481)?
+    );
     Ok(())
 }
 
 /// A batch of 29 puts of 2,048 bytes, under the keys 1 to 29.
-fn nearly_full(alloc: Global, bytes: &[u8]) -> Result<Batch, Fail> {
+fn nearly_full(alloc: Global, bytes: &[u8]) -> Result<Batch, Refusal> {
     let mut batch = Batch::new(alloc, Op::put(alloc, &[1], bytes)?)?;
     for key in 2..=29u8 {
         batch.put(&[key], bytes)?;
@@ -160,33 +211,42 @@ fn nearly_full(alloc: Global, bytes: &[u8]) -> Result<Batch, Fail> {
 
 /// Whether the batch takes one more put just where the text then has 61,440 bytes, and after it nothing.
 fn fills_up(batch: &mut Batch, bytes: &[u8; 2_048]) -> bool {
-    if batch.put(&[30], &bytes[..1_897]) != Err(Refusal::BatchTooBig) {
+    if !is_refused(batch.put(&[30], &bytes[..1_897]), Refusal::BatchTooBig) {
         return false;
     }
     if batch.text_len() != 2 + 29 * 2_053 || batch.operations().len() != 29 {
         return false;
     }
-    batch.put(&[30], &bytes[..1_896]) == Ok(())
+    batch.put(&[30], &bytes[..1_896]).is_ok()
         && batch.text_len() == 61_440
-        && batch.delete(&[30]) == Err(Refusal::BatchTooBig)
-        && batch.put(&[], bytes) == Err(Refusal::BadKey)
+        && is_refused(batch.delete(&[30]), Refusal::BatchTooBig)
+        && is_refused(batch.put(&[], bytes), Refusal::BadKey)
 }
 
 /// Whether a text of 30 operations is read, and one with an operation more is not.
-fn is_the_longest(alloc: Global, text: &mut Vec<u8>) -> Result<bool, Fail> {
-    if text.len() != 61_440 {
-        return Ok(false);
-    }
-    let again = Batch::decode(alloc, text)?.ok_or("a batch is read")?;
-    if again.operations().len() != 30 {
+fn is_the_longest(alloc: Global, text: &mut Vec<u8>) -> Result<bool, Refusal> {
+    if text.len() != 61_440 || count_in(alloc, text)? != 30 {
         return Ok(false);
     }
     text[1] = 31;
     text.extend_from_slice(&[2, 1, 30])?;
+    Ok(is_no_text(alloc, text)?)
+}
+
+/// How many operations a text spells, or 0 where it spells no batch.
+fn count_in(alloc: Global, text: &[u8]) -> Result<usize, Refusal> {
+    match Batch::decode(alloc, text)? {
+        Some(batch) => Ok(batch.operations().len()),
+        None => Ok(0),
+    }
+}
+
+/// Whether a text spells no batch.
+fn is_no_text(alloc: Global, text: &[u8]) -> Result<bool, Refusal> {
     Ok(Batch::decode(alloc, text)?.is_none())
 }
 
-fn the_full_batch(alloc: Global) -> Result<bool, Fail> {
+fn the_full_batch(alloc: Global) -> Result<bool, Refusal> {
     let bytes = [7u8; 2_048];
     let mut batch = nearly_full(alloc, &bytes)?;
     if !fills_up(&mut batch, &bytes) {
@@ -203,32 +263,34 @@ fn a_batch_of_61_440_bytes_is_full(rt: HostRuntime) -> Result<(), Fail> {
 }
 
 /// Whether the hex of a text spells no batch.
-fn is_no_batch(alloc: Global, text: &str) -> Result<bool, Fail> {
-    let text = hex::decode(alloc, text).ok().ok_or("the text is hex")?;
-    Ok(Batch::decode(alloc, &text)?.is_none())
+fn is_no_batch(alloc: Global, text: &str) -> Result<bool, Refusal> {
+    let Ok(text) = hex::decode(alloc, text) else {
+        return Ok(false);
+    };
+    is_no_text(alloc, &text)
 }
 
 #[test]
 fn texts_that_spell_no_batch(rt: HostRuntime) -> Result<(), Fail> {
-    for (text, what) in [
-        ("", "no byte"),
-        ("0000", "no operation"),
-        ("0001", "an operation is missing"),
-        ("00010101610001", "a byte is missing"),
-        ("0002010161000131", "an operation is missing"),
-        ("000101016100013100", "a byte more"),
-        ("0001030161000131", "another kind"),
-        ("0001000161000131", "another kind"),
-        ("00010100000131", "a key without a byte"),
-        ("00010200", "a key without a byte"),
+    for text in [
+        "", // No byte.
+        "0000", // No operation.
+        "0001", // An operation is missing.
+        "00010101610001", // A byte is missing.
+        "0002010161000131", // An operation is missing.
+        "000101016100013100", // A byte more.
+        "0001030161000131", // Another kind.
+        "0001000161000131", // Another kind.
+        "00010100000131", // A key without a byte.
+        "00010200", // A key without a byte.
     ] {
-        assert!(rt; is_no_batch(rt.alloc(), text)?, "{what}");
+        assert!(rt; is_no_batch(rt.alloc(), text)?, "{text}");
     }
     Ok(())
 }
 
 /// Whether the text of one put with a value of this size is read.
-fn reads_value_of(alloc: Global, size: u16) -> Result<bool, Fail> {
+fn reads_value_of(alloc: Global, size: u16) -> Result<bool, Refusal> {
     let mut text = [0u8; 2_056];
     text[1] = 1;
     text[2] = 1;
@@ -239,35 +301,28 @@ fn reads_value_of(alloc: Global, size: u16) -> Result<bool, Fail> {
     if end > 2_056 {
         return Ok(false);
     }
-    Ok(Batch::decode(alloc, &text[..end])?.is_some())
+    Ok(!is_no_text(alloc, &text[..end])?)
 }
 
 #[test]
 fn values_of_2_048_bytes_and_of_2_049(rt: HostRuntime) -> Result<(), Fail> {
-    assert!(rt; reads_value_of(rt.alloc(), 2_048)?);
-    assert!(rt; !reads_value_of(rt.alloc(), 2_049)?);
+    assert!(rt; reads_value_of(rt.alloc(), 2_048)? && !reads_value_of(rt.alloc(), 2_049)?);
     Ok(())
 }
 
-/// What refuses a put of 40 bytes. One that is refused has to leave the batch.
-fn put_refusal(batch: &mut Batch<&LocalHeap>) -> Result<Option<Refusal>, Fail> {
-    let before = batch.operations().len();
-    let refusal = batch.put(b"b", &[2; 40]).err();
-    if refusal.is_some() && batch.operations().len() != before {
-        return Err("a refused put leaves the batch".into());
-    }
-    Ok(refusal)
-}
-
-/// Puts until there are seven operations, or the refusal that comes before.
-fn fill(batch: &mut Batch<&LocalHeap>) -> Result<Option<Refusal>, Fail> {
+/// Puts until there are seven operations, or the refusal that comes before. A put that is refused has to leave the batch,
+/// or this is refused otherwise.
+fn fill(batch: &mut Batch<&LocalHeap>) -> Result<(), Refusal> {
     for _ in 0..6 {
-        let refusal = put_refusal(batch)?;
-        if refusal.is_some() {
-            return Ok(refusal);
+        let before = batch.operations().len();
+        if let Err(refusal) = batch.put(b"b", &[2; 40]) {
+            if batch.operations().len() != before {
+                return Err(Refusal::WrongState);
+            }
+            return Err(refusal);
         }
     }
-    Ok(None)
+    Ok(())
 }
 
 /// Spells a batch and reads it back, with the memory of a heap.
@@ -279,25 +334,23 @@ fn read_back<'h>(heap: &'h LocalHeap, batch: &Batch<&'h LocalHeap>) -> Result<us
     Ok(again.text_len())
 }
 
-/// What refuses a batch of seven puts in a heap of so many bytes, or whether it is whole there.
-fn in_heap(alloc: Global, size: usize) -> Result<Option<Refusal>, Fail> {
+/// A batch of seven puts, or what refuses it.
+fn seven_puts<'h>(heap: &'h LocalHeap) -> Result<Batch<&'h LocalHeap>, Refusal> {
+    let mut batch = Batch::new(heap, Op::put(heap, b"a", &[1; 40])?)?;
+    fill(&mut batch)?;
+    Ok(batch)
+}
+
+/// The size of the text of seven puts that is read back, or what refuses it.
+fn size_of_seven(heap: &LocalHeap) -> Result<usize, Refusal> {
+    let batch = seven_puts(heap)?;
+    read_back(heap, &batch)
+}
+
+/// The same in a heap of so many bytes.
+fn in_heap(alloc: Global, size: usize) -> Result<Result<usize, Refusal>, Fail> {
     let heap = LocalHeap::new(alloc, size)?;
-    let first = match Op::put(&heap, b"a", &[1; 40]) {
-        Ok(first) => first,
-        Err(refusal) => return Ok(Some(refusal)),
-    };
-    let mut batch = match Batch::new(&heap, first) {
-        Ok(batch) => batch,
-        Err(refusal) => return Ok(Some(refusal)),
-    };
-    if let Some(refusal) = fill(&mut batch)? {
-        return Ok(Some(refusal));
-    }
-    match read_back(&heap, &batch) {
-        Ok(size) if size == 2 + 7 * 45 => Ok(None),
-        Ok(_) => Err("the batch is read back".into()),
-        Err(refusal) => Ok(Some(refusal)),
-    }
+    Ok(size_of_seven(&heap))
 }
 
 #[test]
@@ -306,9 +359,9 @@ fn each_growth_is_refused_in_turn(rt: HostRuntime) -> Result<(), Fail> {
     let mut whole = 0u32;
     for step in 1..160usize {
         match in_heap(rt.alloc(), step * 32)? {
-            Some(Refusal::NoMemory) if whole == 0 => refused = refused.wrapping_add(1),
-            Some(_) => return Err("want of memory, in the smaller heaps".into()),
-            None => whole = whole.wrapping_add(1),
+            Err(Refusal::NoMemory) if whole == 0 => refused = refused.wrapping_add(1),
+            Ok(317) => whole = whole.wrapping_add(1), // 2 + 7 * 45.
+            _ => return Err("want of memory in the smaller heaps, else the whole batch".into()),
         }
     }
     assert!(rt; refused > 10 && whole > 10, "{refused} {whole}");

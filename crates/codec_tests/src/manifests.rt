@@ -1,5 +1,6 @@
 //! Manifests.
 
+use crate::sectors::is_sector;
 use linked_list_allocator::LocalHeap;
 use lsm_codec::{LogRecord, Manifest};
 use lsm_device::Refusal;
@@ -11,7 +12,7 @@ use std::test::Fail;
 type Row = (u8, u64, u64);
 
 /// The log records of these numbers.
-fn records(alloc: Global, rows: &[Row]) -> Result<Vec<LogRecord>, Fail> {
+fn records(alloc: Global, rows: &[Row]) -> Result<Vec<LogRecord>, Refusal> {
     let mut logs = Vec::new(alloc);
     for (region, epoch, first_batch) in rows {
         logs.push(LogRecord {
@@ -24,24 +25,24 @@ fn records(alloc: Global, rows: &[Row]) -> Result<Vec<LogRecord>, Fail> {
 }
 
 /// A manifest with table number 1 to come.
-fn manifest(alloc: Global, generation: u64, base: u64, logs: &[Row]) -> Result<Manifest, Fail> {
+fn manifest(alloc: Global, generation: u64, base: u64, logs: &[Row]) -> Result<Manifest, Refusal> {
     Ok(Manifest::new(generation, base, 1, records(alloc, logs)?))
 }
 
-/// The sectors of a manifest with few log records.
-fn sectors_of(alloc: Global, manifest: &Manifest) -> Result<Vec<u8>, Fail> {
+/// The sectors of a manifest with few log records, or none where they aren't whole.
+fn sectors_of(alloc: Global, manifest: &Manifest) -> Result<Vec<u8>, Refusal> {
     if manifest.logs().len() > 255 {
-        return Err("a manifest of few log records".into());
+        return Err(Refusal::BadLimit);
     }
     let sectors = manifest.encode(alloc)?;
     if sectors.len() != 512 * manifest.sectors() as usize {
-        return Err("whole sectors".into());
+        return Err(Refusal::BadLimit);
     }
     Ok(sectors)
 }
 
 /// Whether the bytes spell a manifest.
-fn is_read(alloc: Global, bytes: &[u8]) -> Result<bool, Fail> {
+fn is_read(alloc: Global, bytes: &[u8]) -> Result<bool, Refusal> {
     Ok(Manifest::decode(alloc, bytes)?.is_some())
 }
 
@@ -50,18 +51,13 @@ const FORMATTED: &str = "4c534d4d00000000000000010000000000000000000000000000000
 const OPENED: &str = "4c534d4d000000000000000200000000000000000000000000000001\
 010000000000000000000000020000000000000001";
 
-/// Whether one sector begins with the bytes of the hex text, and goes on with zeros.
-fn begins_with(alloc: Global, sector: &[u8], text: &str) -> Result<bool, Fail> {
-    let front = hex::decode(alloc, text).ok().ok_or("the text is hex")?;
-    Ok(
-        sector.len() == 512
-            && sector.starts_with(&front)
-            && sector.iter().skip(front.len()).all(|byte| *byte == 0),
-    )
-}
-
 /// Whether the sectors are read as the manifest with these numbers and log records.
-fn is_read_as(alloc: Global, sectors: &[u8], generation: u64, logs: &[Row]) -> Result<bool, Fail> {
+fn is_read_as(
+    alloc: Global,
+    sectors: &[u8],
+    generation: u64,
+    logs: &[Row],
+) -> Result<bool, Refusal> {
     let wanted = records(alloc, logs)?;
     let Some(again) = Manifest::decode(alloc, sectors)? else {
         return Ok(false);
@@ -78,10 +74,10 @@ fn has(manifest: &Manifest, generation: u64, logs: &[LogRecord]) -> bool {
 }
 
 /// Whether the manifest is spelled so, and read back.
-fn is_spelled(alloc: Global, generation: u64, logs: &[Row], text: &str) -> Result<bool, Fail> {
+fn is_spelled(alloc: Global, generation: u64, logs: &[Row], text: &str) -> Result<bool, Refusal> {
     let manifest = manifest(alloc, generation, 0, logs)?;
     let sectors = sectors_of(alloc, &manifest)?;
-    Ok(begins_with(alloc, &sectors, text)? && is_read_as(alloc, &sectors, generation, logs)?)
+    Ok(is_sector(&sectors, text) && is_read_as(alloc, &sectors, generation, logs)?)
 }
 
 #[test]
@@ -92,13 +88,13 @@ fn manifests_of_a_format_and_an_open(rt: HostRuntime) -> Result<(), Fail> {
 }
 
 /// Whether the manifest is within the limits, as `fits` says, and just then read back from its sectors.
-fn is_limited(alloc: Global, manifest: &Manifest, fits: bool) -> Result<bool, Fail> {
+fn is_limited(alloc: Global, manifest: &Manifest, fits: bool) -> Result<bool, Refusal> {
     let sectors = sectors_of(alloc, manifest)?;
     Ok(manifest.is_within_limits() == fits && is_read(alloc, &sectors)? == fits)
 }
 
 /// The same of the manifest with these log records, of generation 5 and with 7 batches in tables.
-fn are_limited(alloc: Global, logs: &[Row], fits: bool) -> Result<bool, Fail> {
+fn are_limited(alloc: Global, logs: &[Row], fits: bool) -> Result<bool, Refusal> {
     let manifest = manifest(alloc, 5, 7, logs)?;
     is_limited(alloc, &manifest, fits)
 }
@@ -106,54 +102,21 @@ fn are_limited(alloc: Global, logs: &[Row], fits: bool) -> Result<bool, Fail> {
 #[test]
 fn log_records_in_order_and_out_of_it(rt: HostRuntime) -> Result<(), Fail> {
     let last = (1 << 63) + 1;
-    for (first, second, third, fits, what) in [
-        ((2, 3, 8), (0, 4, 9), (1, 5, 20), true, "three regions"),
-        ((2, 3, 8), (0, 4, 9), (2, 5, 20), false, "a region twice"),
-        ((2, 3, 8), (0, 4, 9), (3, 5, 20), false, "a region above 2"),
-        ((2, 3, 8), (0, 3, 9), (1, 5, 20), false, "an epoch twice"),
-        ((2, 4, 8), (0, 3, 9), (1, 5, 20), false, "epochs that fall"),
-        ((2, 0, 8), (0, 4, 9), (1, 5, 20), false, "epoch 0"),
-        (
-            (2, 3, 8),
-            (0, 4, 9),
-            (1, 6, 20),
-            false,
-            "an epoch above the generation",
-        ),
-        (
-            (2, 3, 7),
-            (0, 4, 9),
-            (1, 5, 20),
-            false,
-            "a first batch that is in tables",
-        ),
-        (
-            (2, 3, 9),
-            (0, 4, 10),
-            (1, 5, 20),
-            false,
-            "a first batch too late",
-        ),
-        (
-            (2, 3, 8),
-            (0, 4, 8),
-            (1, 5, 20),
-            false,
-            "a first batch twice",
-        ),
-        ((2, 3, 8), (0, 4, 9), (1, 5, last), true, "no batch left"),
-        (
-            (2, 3, 8),
-            (0, 4, 9),
-            (1, 5, last + 1),
-            false,
-            "a batch above the last",
-        ),
+    for (first, second, third, fits) in [
+        ((2, 3, 8), (0, 4, 9), (1, 5, 20), true), // Three regions.
+        ((2, 3, 8), (0, 4, 9), (2, 5, 20), false), // A region twice.
+        ((2, 3, 8), (0, 4, 9), (3, 5, 20), false), // A region above 2.
+        ((2, 3, 8), (0, 3, 9), (1, 5, 20), false), // An epoch twice.
+        ((2, 4, 8), (0, 3, 9), (1, 5, 20), false), // Epochs that fall.
+        ((2, 0, 8), (0, 4, 9), (1, 5, 20), false), // Epoch 0.
+        ((2, 3, 8), (0, 4, 9), (1, 6, 20), false), // An epoch above the generation.
+        ((2, 3, 7), (0, 4, 9), (1, 5, 20), false), // A first batch that is in tables.
+        ((2, 3, 9), (0, 4, 10), (1, 5, 20), false), // A first batch too late.
+        ((2, 3, 8), (0, 4, 8), (1, 5, 20), false), // A first batch twice.
+        ((2, 3, 8), (0, 4, 9), (1, 5, last), true), // No batch left.
+        ((2, 3, 8), (0, 4, 9), (1, 5, last + 1), false), // A batch above the last.
     ] {
-        assert!(rt;
-            are_limited(rt.alloc(), &[first, second, third], fits)?,
-            "{what}"
-        );
+        assert!(rt; are_limited(rt.alloc(), &[first, second, third], fits)?);
     }
     Ok(())
 }
@@ -172,7 +135,7 @@ fn are_numbers_limited(
     base: u64,
     next_table: u64,
     fits: bool,
-) -> Result<bool, Fail> {
+) -> Result<bool, Refusal> {
     let manifest = Manifest::new(generation, base, next_table, Vec::new(alloc));
     is_limited(alloc, &manifest, fits)
 }
@@ -195,13 +158,13 @@ fn numbers_at_their_limits(rt: HostRuntime) -> Result<(), Fail> {
 }
 
 /// The sectors of the manifest of an open.
-fn opened(alloc: Global) -> Result<Vec<u8>, Fail> {
+fn opened(alloc: Global) -> Result<Vec<u8>, Refusal> {
     let manifest = manifest(alloc, 2, 0, &[(0, 2, 1)])?;
     sectors_of(alloc, &manifest)
 }
 
 /// Whether those sectors are read no longer with the lowest bit of a byte changed.
-fn is_lost_without(alloc: Global, at: usize) -> Result<bool, Fail> {
+fn is_lost_without(alloc: Global, at: usize) -> Result<bool, Refusal> {
     let mut sectors = opened(alloc)?;
     if let Some(byte) = sectors.get_mut(at) {
         *byte ^= 1;
@@ -210,7 +173,7 @@ fn is_lost_without(alloc: Global, at: usize) -> Result<bool, Fail> {
 }
 
 /// Whether those sectors are read, cut down or filled up with zeros to a size.
-fn is_read_at_size(alloc: Global, size: usize) -> Result<bool, Fail> {
+fn is_read_at_size(alloc: Global, size: usize) -> Result<bool, Refusal> {
     let mut sectors = opened(alloc)?;
     sectors.truncate(size);
     for _ in sectors.len()..size {
@@ -221,15 +184,15 @@ fn is_read_at_size(alloc: Global, size: usize) -> Result<bool, Fail> {
 
 #[test]
 fn bytes_that_spell_no_manifest(rt: HostRuntime) -> Result<(), Fail> {
-    for (at, what) in [
-        (0, "another first byte"),
-        (28, "another count of log records"),
-        (29, "a level 0 run"),
-        (31, "a table record"),
-        (49, "a byte behind the text"),
-        (511, "a byte at the end"),
+    for at in [
+        0, // Another first byte.
+        28, // Another count of log records.
+        29, // A level 0 run.
+        31, // A table record.
+        49, // A byte behind the text.
+        511, // A byte at the end.
     ] {
-        assert!(rt; is_lost_without(rt.alloc(), at)?, "{what}");
+        assert!(rt; is_lost_without(rt.alloc(), at)?, "{at}");
     }
     Ok(())
 }
@@ -254,14 +217,16 @@ fn sizes_that_hold_no_manifest(rt: HostRuntime) -> Result<(), Fail> {
     Ok(())
 }
 
-/// What refuses an empty manifest, spelled and read in a heap of so many bytes.
-fn in_heap(alloc: Global, size: usize) -> Result<Option<Refusal>, Fail> {
+/// Whether an empty manifest is read from its sectors with the memory of a heap.
+fn is_read_back(heap: &LocalHeap) -> Result<bool, Refusal> {
+    let sectors = Manifest::new(1, 0, 1, Vec::new(heap)).encode(heap)?;
+    Ok(Manifest::decode(heap, &sectors)?.is_some())
+}
+
+/// The same in a heap of so many bytes.
+fn in_heap(alloc: Global, size: usize) -> Result<Result<bool, Refusal>, Fail> {
     let heap = LocalHeap::new(alloc, size)?;
-    let manifest = Manifest::new(1, 0, 1, Vec::new(&heap));
-    match manifest.encode(&heap) {
-        Ok(sectors) => Ok(Manifest::decode(&heap, &sectors).err()),
-        Err(refusal) => Ok(Some(refusal)),
-    }
+    Ok(is_read_back(&heap))
 }
 
 #[test]
@@ -270,9 +235,9 @@ fn a_manifest_in_small_heaps(rt: HostRuntime) -> Result<(), Fail> {
     let mut whole = 0u32;
     for step in 1..64usize {
         match in_heap(rt.alloc(), step * 32)? {
-            Some(Refusal::NoMemory) if whole == 0 => refused = refused.wrapping_add(1),
-            Some(_) => return Err("want of memory, in the smaller heaps".into()),
-            None => whole = whole.wrapping_add(1),
+            Err(Refusal::NoMemory) if whole == 0 => refused = refused.wrapping_add(1),
+            Ok(true) => whole = whole.wrapping_add(1),
+            _ => return Err("want of memory in the smaller heaps, else the manifest".into()),
         }
     }
     assert!(rt; refused > 10 && whole > 10, "{refused} {whole}");

@@ -1,18 +1,26 @@
 //! Superblocks and log sectors.
 
+use hex::decode_to_slice;
 use lsm_codec::{LogSector, Superblock, data_blocks};
-use std::alloc::Global;
 use std::process::Abort;
 use std::test::Fail;
 
 /// A sector that begins with the bytes of the hex text, and goes on with zeros.
-fn sector_of(alloc: Global, text: &str) -> Result<[u8; 512], Fail> {
-    let front = hex::decode(alloc, text).ok().ok_or("the text is hex")?;
+pub fn sector_of(text: &str) -> Option<[u8; 512]> {
     let mut sector = [0; 512];
-    for (at, byte) in sector.iter_mut().zip(front.iter()) {
-        *at = *byte;
+    let end = text.len() / 2;
+    if end > 512 || decode_to_slice(text, &mut sector[..end]).is_err() {
+        return None;
     }
-    Ok(sector)
+    Some(sector)
+}
+
+/// Whether a sector is that one.
+pub fn is_sector(sector: &[u8], text: &str) -> bool {
+    match sector_of(text) {
+        Some(wanted) => sector == wanted.as_slice(),
+        None => false,
+    }
 }
 
 /// The sector with the lowest bit of a byte changed.
@@ -44,16 +52,16 @@ fn is_read_as(sector: &[u8; 512], part: &LogSector) -> bool {
 }
 
 /// Whether the part is spelled so, and read back.
-fn is_part(alloc: Global, part: &LogSector, text: &str) -> Result<bool, Fail> {
+fn is_part(part: &LogSector, text: &str) -> bool {
     if !part.is_within_limits() {
-        return Ok(false);
+        return false;
     }
     let sector = part.encode();
-    Ok(sector == sector_of(alloc, text)? && is_read_as(&sector, part))
+    is_sector(&sector, text) && is_read_as(&sector, part)
 }
 
 #[test]
-fn the_log_sector_of_a_first_batch(rt: HostRuntime) -> Result<(), Fail> {
+fn the_log_sector_of_a_first_batch(rt: HostRuntime) {
     let payload = [0, 1, 1, 1, 0x61, 0, 1, 0x31];
     let part = LogSector {
         epoch: 2,
@@ -62,8 +70,7 @@ fn the_log_sector_of_a_first_batch(rt: HostRuntime) -> Result<(), Fail> {
         parts: 1,
         payload: &payload,
     };
-    assert!(rt; is_part(rt.alloc(), &part, FIRST_BATCH)?);
-    Ok(())
+    assert!(rt; is_part(&part, FIRST_BATCH));
 }
 
 /// Whether the part is outside the limits, and its sector spells none.
@@ -105,71 +112,49 @@ fn is_limited(epoch: u64, batch: u64, part: u16, parts: u16, length: usize, fits
 #[test]
 fn log_sectors_at_their_limits(rt: HostRuntime) {
     let last = 1 << 63;
-    for (epoch, batch, part, parts, length, fits, what) in [
-        (last, last, 126, 128, 480, true, "the last but one"),
-        (last, last, 127, 128, 1, true, "the last part"),
-        (0, last, 126, 128, 480, false, "epoch 0"),
-        (
-            last + 1,
-            last,
-            126,
-            128,
-            480,
-            false,
-            "an epoch above the last",
-        ),
-        (last, 0, 126, 128, 480, false, "batch 0"),
-        (
-            last,
-            last + 1,
-            126,
-            128,
-            480,
-            false,
-            "a batch above the last",
-        ),
-        (last, last, 128, 128, 480, false, "a part behind the last"),
-        (last, last, 126, 129, 480, false, "too many parts"),
-        (last, last, 127, 128, 0, false, "no byte"),
-        (
-            last,
-            last,
-            126,
-            128,
-            479,
-            false,
-            "a short part before the last",
-        ),
+    for (epoch, batch, part, parts, length, fits) in [
+        (last, last, 126, 128, 480, true), // The last but one.
+        (last, last, 127, 128, 1, true), // The last part.
+        (0, last, 126, 128, 480, false), // Epoch 0.
+        (last + 1, last, 126, 128, 480, false), // An epoch above the last.
+        (last, 0, 126, 128, 480, false), // Batch 0.
+        (last, last + 1, 126, 128, 480, false), // A batch above the last.
+        (last, last, 128, 128, 480, false), // A part behind the last.
+        (last, last, 126, 129, 480, false), // Too many parts.
+        (last, last, 127, 128, 0, false), // No byte.
+        (last, last, 126, 128, 479, false), // A short part before the last.
     ] {
-        assert!(rt;
-            is_limited(epoch, batch, part, parts, length, fits),
-            "{what}"
-        );
+        assert!(rt; is_limited(epoch, batch, part, parts, length, fits));
     }
 }
 
 /// Whether the superblock of a small device is spelled so, and read back.
-fn is_superblock(alloc: Global, generation: u64, text: &str) -> Result<bool, Fail> {
+fn is_superblock(generation: u64, text: &str) -> bool {
     let superblock = Superblock {
         generation,
         sectors: 8_192,
         log_sectors: 128,
         manifest_sectors: 1,
     };
-    let sector = superblock.encode();
-    Ok(sector == sector_of(alloc, text)? && Superblock::decode(&sector) == Some(superblock))
+    is_sector(&superblock.encode(), text) && is_found(&superblock)
+}
+
+/// Whether the superblock is read back from its sector.
+fn is_found(superblock: &Superblock) -> bool {
+    match Superblock::decode(&superblock.encode()) {
+        Some(found) => found == *superblock,
+        None => false,
+    }
 }
 
 #[test]
-fn superblocks_of_a_format_and_an_open(rt: HostRuntime) -> Result<(), Fail> {
-    assert!(rt; is_superblock(rt.alloc(), 1, FORMATTED)?);
-    assert!(rt; is_superblock(rt.alloc(), 2, OPENED)?);
-    Ok(())
+fn superblocks_of_a_format_and_an_open(rt: HostRuntime) {
+    assert!(rt; is_superblock(1, FORMATTED) && is_superblock(2, OPENED));
 }
 
 /// Whether the superblock is within the limits and read back.
 fn is_within(superblock: &Superblock) -> bool {
-    superblock.is_within_limits() && Superblock::decode(&superblock.encode()) == Some(*superblock)
+    superblock.is_within_limits() && is_found(superblock)
 }
 
 /// Whether the superblock is outside the limits, and its sector spells none.
@@ -201,28 +186,20 @@ fn is_superblock_limited(
 #[test]
 fn superblocks_at_their_limits(rt: HostRuntime) {
     let last = 1 << 63;
-    for (generation, sectors, log_sectors, manifest_sectors, fits, what) in [
-        (1, 8_192, 128, 1, true, "the least"),
-        (last, 1_048_576, 2_048, 64, true, "the greatest"),
-        (0, 8_192, 128, 1, false, "generation 0"),
-        (
-            last + 1,
-            1_048_576,
-            2_048,
-            64,
-            false,
-            "a generation above the last",
-        ),
-        (1, 8_191, 128, 1, false, "a device too small"),
-        (last, 1_048_577, 2_048, 64, false, "a device too large"),
-        (1, 8_192, 127, 1, false, "a log too small"),
-        (last, 1_048_576, 2_049, 64, false, "a log too large"),
-        (1, 8_192, 128, 0, false, "no sector"),
-        (last, 1_048_576, 2_048, 65, false, "too many sectors"),
+    for (generation, sectors, log_sectors, manifest_sectors, fits) in [
+        (1, 8_192, 128, 1, true), // The least.
+        (last, 1_048_576, 2_048, 64, true), // The greatest.
+        (0, 8_192, 128, 1, false), // Generation 0.
+        (last + 1, 1_048_576, 2_048, 64, false), // A generation above the last.
+        (1, 8_191, 128, 1, false), // A device too small.
+        (last, 1_048_577, 2_048, 64, false), // A device too large.
+        (1, 8_192, 127, 1, false), // A log too small.
+        (last, 1_048_576, 2_049, 64, false), // A log too large.
+        (1, 8_192, 128, 0, false), // No sector.
+        (last, 1_048_576, 2_048, 65, false), // Too many sectors.
     ] {
         assert!(rt;
-            is_superblock_limited(generation, sectors, log_sectors, manifest_sectors, fits),
-            "{what}"
+            is_superblock_limited(generation, sectors, log_sectors, manifest_sectors, fits)
         );
     }
 }
@@ -249,7 +226,7 @@ fn zeros_are_no_superblock_and_no_part(rt: HostRuntime) {
 
 #[test]
 fn each_byte_of_a_superblock_is_read(rt: HostRuntime) -> Result<(), Fail> {
-    let superblock = sector_of(rt.alloc(), FORMATTED)?;
+    let superblock = sector_of(FORMATTED).ok_or("the text is hex")?;
     for at in (0..6).chain(22..512) {
         assert!(rt; is_superblock_lost(&superblock, at), "byte {at}");
     }
@@ -258,7 +235,7 @@ fn each_byte_of_a_superblock_is_read(rt: HostRuntime) -> Result<(), Fail> {
 
 #[test]
 fn each_byte_of_a_log_sector_is_read(rt: HostRuntime) -> Result<(), Fail> {
-    let part = sector_of(rt.alloc(), FIRST_BATCH)?;
+    let part = sector_of(FIRST_BATCH).ok_or("the text is hex")?;
     for at in (0..4).chain(26..32).chain(40..512) {
         assert!(rt; is_part_lost(&part, at), "byte {at}");
     }

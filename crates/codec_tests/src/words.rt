@@ -8,13 +8,20 @@ use std::process::Abort;
 use std::test::Fail;
 
 /// Whether a word is read as these bytes.
-fn says(alloc: Global, text: &str, bytes: &[u8]) -> Result<bool, Fail> {
-    let said = unword(alloc, text)?.ok_or("a word is read")?;
-    Ok(said.as_slice() == bytes)
+fn says(alloc: Global, text: &str, bytes: &[u8]) -> Result<bool, Refusal> {
+    match unword(alloc, text)? {
+        Some(said) => Ok(said.as_slice() == bytes),
+        None => Ok(false),
+    }
+}
+
+/// Whether a word says no bytes at all.
+fn says_nothing(alloc: Global, text: &str) -> Result<bool, Refusal> {
+    Ok(unword(alloc, text)?.is_none())
 }
 
 /// Whether the word of these bytes is this.
-fn is_word_of(alloc: Global, text: &str, bytes: &[u8]) -> Result<bool, Fail> {
+fn is_word_of(alloc: Global, text: &str, bytes: &[u8]) -> Result<bool, Refusal> {
     Ok(word(alloc, bytes)?.as_str() == text)
 }
 
@@ -35,28 +42,33 @@ fn words_say_their_bytes(rt: HostRuntime) -> Result<(), Fail> {
 }
 
 #[test]
-fn words_in_either_case_and_others(rt: HostRuntime) -> Result<(), Fail> {
-    for text in ["6a", "6A"] {
-        assert!(rt; says(rt.alloc(), text, b"j")?, "{text}");
-    }
+fn words_in_either_case(rt: HostRuntime) -> Result<(), Fail> {
+    assert!(rt; says(rt.alloc(), "6a", b"j")? && says(rt.alloc(), "6A", b"j")?);
+    Ok(())
+}
+
+#[test]
+fn words_that_say_nothing(rt: HostRuntime) -> Result<(), Fail> {
     for text in ["", "6", "6g", "0x61", "EMPTY", "empt", "61 ", "+61"] {
-        assert!(rt; unword(rt.alloc(), text)?.is_none(), "{text}");
+        assert!(rt; says_nothing(rt.alloc(), text)?, "{text}");
     }
     Ok(())
 }
 
-/// Whether want of memory is told of both.
-fn is_told_without_memory(alloc: Global) -> Result<bool, Fail> {
-    let heap = LocalHeap::new(alloc, 64)?;
+/// Whether want of memory is told of a word.
+fn has_no_word(heap: &LocalHeap) -> bool {
+    matches!(word(heap, &[7; 200]), Err(Refusal::NoMemory))
+}
+
+/// Whether want of memory is told of its bytes.
+fn has_no_bytes(alloc: Global, heap: &LocalHeap) -> Result<bool, Refusal> {
     let text = word(alloc, &[7; 200])?;
-    Ok(
-        word(&heap, &[7; 200]).err() == Some(Refusal::NoMemory)
-            && unword(&heap, text.as_str()).err() == Some(Refusal::NoMemory),
-    )
+    Ok(matches!(unword(heap, text.as_str()), Err(Refusal::NoMemory)))
 }
 
 #[test]
 fn words_without_memory(rt: HostRuntime) -> Result<(), Fail> {
-    assert!(rt; is_told_without_memory(rt.alloc())?);
+    let heap = LocalHeap::new(rt.alloc(), 64)?;
+    assert!(rt; has_no_word(&heap) && has_no_bytes(rt.alloc(), &heap)?);
     Ok(())
 }

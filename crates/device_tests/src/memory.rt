@@ -7,8 +7,8 @@ use std::alloc::{Allocator, Global};
 use std::test::Fail;
 
 // A device of four sectors.
-fn four(alloc: Global) -> Result<MemDevice, Fault> {
-    MemDevice::new(alloc, 4).map_err(|_| Fault)
+fn four(alloc: Global) -> Result<MemDevice, Refusal> {
+    Ok(MemDevice::new(alloc, 4)?)
 }
 
 fn has_counts<A: Allocator>(device: &MemDevice<A>, reads: u64, writes: u64, syncs: u64) -> bool {
@@ -24,7 +24,7 @@ fn a_new_device_is_zero(rt: HostRuntime) -> Result<(), Fail> {
 }
 
 // Three writes pend: ones to sector 0, twos to sector 1, threes to sector 0.
-fn three_pend(alloc: Global) -> Result<MemDevice, Fault> {
+fn three_pend(alloc: Global) -> Result<MemDevice, Refusal> {
     let mut device = four(alloc)?;
     put(&mut device, 0, &ONES)?;
     put(&mut device, 1, &TWOS)?;
@@ -40,7 +40,7 @@ fn a_read_gives_the_newest_pending_write(rt: HostRuntime) -> Result<(), Fail> {
 }
 
 // After a crash by the mask sectors 0 and 1 begin so, counts are new, and nothing pends.
-fn leaves(alloc: Global, mask: &[bool], bytes: [u8; 2]) -> Result<bool, Fault> {
+fn leaves(alloc: Global, mask: &[bool], bytes: [u8; 2]) -> Result<bool, Refusal> {
     let mut device = three_pend(alloc)?.crash(mask);
     let anew = has_counts(&device, 0, 0, 0);
     let left = begin_with(&mut device, &bytes);
@@ -70,7 +70,7 @@ fn a_crash_keeps_what_the_mask_says(rt: HostRuntime) -> Result<(), Fail> {
 }
 
 // Ones stand in sector 0, and twos pend to sectors 0 and 3.
-fn one_stands(alloc: Global) -> Result<MemDevice, Fault> {
+fn one_stands(alloc: Global) -> Result<MemDevice, Refusal> {
     let mut device = four(alloc)?;
     put(&mut device, 0, &ONES)?;
     device.sync()?;
@@ -103,7 +103,7 @@ fn answers(device: &mut MemDevice, wanted: [bool; 6]) -> bool {
 }
 
 // Whether a device with this fuse answers so, and a crash that keeps nothing leaves such sectors, and takes the fuse away.
-fn burns(alloc: Global, n: u64, wanted: [bool; 6], left: [u8; 4]) -> Result<bool, Fault> {
+fn burns(alloc: Global, n: u64, wanted: [bool; 6], left: [u8; 4]) -> Result<bool, Refusal> {
     let mut device = four(alloc)?;
     device.fuse(n);
     let answered = answers(&mut device, wanted);
@@ -136,7 +136,7 @@ fn fails(
     kept: bool,
     wanted: [bool; 6],
     left: [u8; 4],
-) -> Result<bool, Fault> {
+) -> Result<bool, Refusal> {
     let mut device = four(alloc)?;
     device.fail(n, kept);
     let answered = answers(&mut device, wanted);
@@ -207,14 +207,13 @@ fn a_failing_call_decides_beside_a_fuse(rt: HostRuntime) -> Result<(), Fail> {
     Ok(())
 }
 
-// How many of 32 writes on a heap of so many bytes answer Ok before one that doesn't.
-fn writes_before_a_fault<A: Allocator>(device: &mut MemDevice<A>) -> u64 {
-    let mut written = 0u64;
-    for _ in 0..32 {
-        if put(device, 0, &ONES).is_err() {
-            break;
+// How many of so many writes answer Ok.
+fn passing_writes<A: Allocator>(device: &mut MemDevice<A>, writes: u8) -> u8 {
+    let mut written = 0u8;
+    for _ in 0..writes {
+        if put(device, 0, &ONES).is_ok() {
+            written = written.wrapping_add(1);
         }
-        written = written.wrapping_add(1);
     }
     written
 }
@@ -223,7 +222,7 @@ fn writes_before_a_fault<A: Allocator>(device: &mut MemDevice<A>) -> u64 {
 fn a_record_that_cannot_grow_is_a_fault(rt: HostRuntime) -> Result<(), Fail> {
     let heap = LocalHeap::new(rt.alloc(), 8192)?;
     let mut device = MemDevice::new(&heap, 4)?;
-    let written = writes_before_a_fault(&mut device);
+    let written = passing_writes(&mut device, 32);
     // A sync takes no memory.
     device.sync()?;
     let full = put(&mut device, 1, &TWOS) == Err(Fault) && begin_with(&mut device, &[1, 0]);
@@ -241,12 +240,7 @@ fn writes_kept(alloc: Global, bytes: usize) -> Result<Option<u8>, Fail> {
     let Ok(mut device) = MemDevice::new(&heap, 4) else {
         return Ok(None);
     };
-    let mut kept = 0u8;
-    for _ in 0..6 {
-        if put(&mut device, 0, &ONES).is_ok() {
-            kept = kept.wrapping_add(1);
-        }
-    }
+    let kept = passing_writes(&mut device, 6);
     device.sync()?;
     if !begin_with(&mut device, &[u8::from(kept > 0)]) {
         return Ok(Some(u8::MAX));

@@ -6,4 +6,6 @@ mod used;
 pub use used::{append, begin, open_again, settle};
 
 #[cfg(test)]
+mod subject;
+#[cfg(test)]
 mod tests;

@@ -70,6 +70,11 @@ pub manifest_refused : (root whole : Root) (e : Refusal) → whole ≡ root → 
 manifest_refused root whole e is (inl full) = inr (inl full)
 manifest_refused root whole e is (inr none) = inl (ap refusal_of (is ∙ none.0) ∙ ap Some (sym none.1))
 
+-- the same where only the refusal is told
+pub manifest_refusal : (root : Root) (e : Refusal) → (e ≡ NoMemory) ⊎ ((root ≡ Unreadable) × (e ≡ BadManifest)) → ((r : Root) × (refusal_of r ≡ Some e)) ⊎ ((e ≡ NoMemory) ⊎ (e ≡ Io))
+manifest_refusal root e (inl full) = inr (inl full)
+manifest_refusal root e (inr none) = inl (Unreadable, ap Some (sym none.1))
+
 pub superblock_refused : (image : List (List ℕ)) (e : Refusal) → 2 ≤ length image → (e ≡ Io) ⊎ (((superblock_in image ≡ Blank) × (e ≡ NotAStore)) ⊎ ((superblock_in image ≡ Broken) × (e ≡ BadSuper))) → IsTold (root_of image) e
 superblock_refused image e large (inl fault) = inr (inr fault)
 superblock_refused image e large (inr (inl none)) = inl (ap refusal_of (root_whole image large ∙ ap (λ (r : Reading). root_by r image) none.0) ∙ ap Some (sym none.1))

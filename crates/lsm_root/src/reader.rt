@@ -11,7 +11,7 @@ ghost use Rattle.lsm_root.specs.Layout.{IsGeometry};
 ghost use Rattle.lsm_root.specs.Loaded.{Tells, TellsSuperblock, TellsCounted, TellsManifest, Reads, refusal_of};
 ghost use Rattle.lsm_root.specs.Installed.{IsNext};
 ghost use Rattle.lsm_root.specs.Pieces.{joined};
-ghost use Rattle.lsm_root.specs.Roots.{Root, reading_of, in_slot, follows, newer, superblock_in, root_with, root_of};
+ghost use Rattle.lsm_root.specs.Roots.{Root, Names, reading_of, in_slot, follows, newer, superblock_in, root_with, root_of};
 
 use crate::writer::{AREA_SECTORS, SUPERBLOCKS};
 use lsm_codec::{Manifest, Superblock};
@@ -95,9 +95,34 @@ fn read_superblock<D: Device>(device: &mut D) -> Result<Superblock, Refusal>
     Ok(superblock)
 }
 
+// Reads it where it is of a device of this size.
+fn own_superblock<D: Device>(device: &mut D) -> Result<Superblock, Refusal>
+    ensures told { IsTrue (D.medium device.old).lasting.tells → IfOk result (λ s. superblock_in (seen (disk (D.medium device.old))) ≡ Names s) }
+    ensures why { IsTrue (D.medium device.old).lasting.tells → IfErr result (λ refusal.
+        (refusal_of (root_of (seen (disk (D.medium device.old)))) ≡ Some refusal) ⊎ ((refusal ≡ Refusal.NoMemory) ⊎ (refusal ≡ Refusal.Io))) }
+    ensures fits { IfOk result IsSuperblock }
+    ensures sized { IfOk result (λ s. s.sectors ≡ (D.medium device.old).size) }
+    ensures refused { IfErr result (λ refusal. ((root : Root) × (refusal_of root ≡ Some refusal)) ⊎ ((refusal ≡ Refusal.NoMemory) ⊎ (refusal ≡ Refusal.Io))) }
+    ensures unchanged { IsTrue (D.medium device.old).lasting.tells → (D.medium device.new).history ≡ (D.medium device.old).history }
+    ensures counts { AtMost 2 0 0 (D.medium device.old).calls (D.medium device.new).calls }
+    ensures faults { (D.medium device.new).calls.faults ≡ faults_after (faultless result) (D.medium device.old).calls.faults }
+    ensures stops { IfErr result (λ refusal. refusal ≡ Refusal.Io → IsTrue (D.medium device.new).calls.last_faulted) }
+    ensures same_size { (D.medium device.new).size ≡ (D.medium device.old).size }
+    ensures same_lasting { (D.medium device.new).lasting ≡ (D.medium device.old).lasting }
+{
+    if device.sectors() < SUPERBLOCKS {
+        return Err(Refusal::BadGeometry); // There is no place for them.
+    }
+    let superblock = read_superblock(device)?;
+    if superblock.sectors != device.sectors() {
+        return Err(Refusal::BadGeometry); // It is another device's.
+    }
+    Ok(superblock)
+}
+
 // The bytes of sectors, one after the other.
-fn read_text<A: Allocator, D: Device>(
-    alloc: A,
+fn read_text<A: Allocator + Clone, D: Device>(
+    alloc: &A,
     device: &mut D,
     at: u32,
     sectors: u16,
@@ -113,7 +138,7 @@ fn read_text<A: Allocator, D: Device>(
     ensures same_size { (D.medium device.new).size ≡ (D.medium device.old).size }
     ensures same_lasting { (D.medium device.new).lasting ≡ (D.medium device.old).lasting }
 {
-    let mut text = Vec::new(alloc);
+    let mut text = Vec::new(alloc.clone()?);
     let mut sector = [0; 512];
     for part in 0..sectors {
         device.read(at + part as u32, &mut sector)?;
@@ -163,15 +188,9 @@ pub fn load<A: Allocator + Clone, D: Device>(alloc: A, device: &mut D) -> Result
     ensures same_size { (D.medium device.new).size ≡ (D.medium device.old).size }
     ensures same_lasting { (D.medium device.new).lasting ≡ (D.medium device.old).lasting }
 {
-    if device.sectors() < SUPERBLOCKS {
-        return Err(Refusal::BadGeometry); // There is no place for them.
-    }
-    let superblock = read_superblock(device)?;
-    if superblock.sectors != device.sectors() {
-        return Err(Refusal::BadGeometry); // It is another device's.
-    }
+    let superblock = own_superblock(device)?;
     let at = SUPERBLOCKS + AREA_SECTORS * (superblock.generation % 2) as u32;
-    let text = read_text(alloc.clone()?, device, at, superblock.manifest_sectors)?;
+    let text = read_text(&alloc, device, at, superblock.manifest_sectors)?;
     let loaded = loaded_from(alloc, &superblock, &text)?;
     Ok(loaded)
 }

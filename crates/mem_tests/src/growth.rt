@@ -1,25 +1,26 @@
 //! Inserts into tables whose memory is short.
 
-use crate::tables::{is_version, lists, put};
+use crate::tables::{Table, is_version, lists, put};
 use linked_list_allocator::LocalHeap;
 use lsm_codec::Batch;
+use lsm_device::Refusal;
 use lsm_mem::Mem;
-use std::alloc::{AllocError, Global};
+use std::alloc::Global;
 use std::test::Fail;
 
 const HEAP: usize = 16_384;
 
 /// A batch of eleven keys, so that a twelfth splits the tree's node.
-fn eleven_keys(heap: &LocalHeap) -> Result<Batch<&LocalHeap>, Fail> {
+fn eleven_keys(heap: &LocalHeap) -> Result<Batch<&LocalHeap>, Refusal> {
     let mut batch = put(heap, b"a", b"1")?;
-    for key in [b"b", b"e", b"f", b"g", b"h", b"i", b"j", b"k", b"l", b"m"] {
-        batch.put(key, b"1")?;
+    for key in [b'b', b'e', b'f', b'g', b'h', b'i', b'j', b'k', b'l', b'm'] {
+        batch.put(&[key], b"1")?;
     }
     Ok(batch)
 }
 
 /// A batch that brings a twelfth key and a thirteenth, one of them twice.
-fn more_keys(heap: &LocalHeap) -> Result<Batch<&LocalHeap>, Fail> {
+fn more_keys(heap: &LocalHeap) -> Result<Batch<&LocalHeap>, Refusal> {
     let mut batch = put(heap, b"a", b"2")?;
     batch.put(b"c", b"2")?;
     batch.delete(b"b")?;
@@ -29,7 +30,7 @@ fn more_keys(heap: &LocalHeap) -> Result<Batch<&LocalHeap>, Fail> {
 }
 
 /// Whether the table is as it was before the second batch.
-fn is_as_before<'h>(heap: &'h LocalHeap, mem: &Mem<&'h LocalHeap>) -> Result<bool, Fail> {
+fn is_as_before<'h>(heap: &'h LocalHeap, mem: &Mem<&'h LocalHeap>) -> Result<bool, Refusal> {
     Ok(
         lists(mem, heap, b"", 9, b"a1b1e1f1g1h1i1j1k1l1m1")?
             && is_version(mem, b"a", 9, 1, Some(b"1"))
@@ -38,38 +39,63 @@ fn is_as_before<'h>(heap: &'h LocalHeap, mem: &Mem<&'h LocalHeap>) -> Result<boo
 }
 
 /// Whether the table has both batches.
-fn has_both<'h>(heap: &'h LocalHeap, mem: &Mem<&'h LocalHeap>) -> Result<bool, Fail> {
+fn has_both<'h>(heap: &'h LocalHeap, mem: &Mem<&'h LocalHeap>) -> Result<bool, Refusal> {
     Ok(
         lists(mem, heap, b"", 1, b"a1b1e1f1g1h1i1j1k1l1m1")?
             && lists(mem, heap, b"", 2, b"a2bc3d2e1f1g1h1i1j1k1l1m1")?,
     )
 }
 
-/// Whether the second batch is inserted at once where all of the heap but so many bytes is taken, or none where that
-/// can't be taken. Where it is refused the table is as before, and takes the batch once there is memory.
+/// All memory of the heap but so many bytes, where it can be taken.
+fn all_but(heap: &LocalHeap, left: usize) -> Option<Vec<u8, &LocalHeap>> {
+    let size = HEAP.saturating_sub(heap.used()).saturating_sub(left);
+    Vec::with_capacity(heap, size).ok()
+}
+
+/// Whether a batch is inserted at once where all of the heap but so many bytes is taken, or none where that can't be taken.
+/// The memory is given back.
+fn inserts_beside<'h>(
+    heap: &'h LocalHeap,
+    table: &mut Table<&'h LocalHeap>,
+    batch: &Batch<&'h LocalHeap>,
+    left: usize,
+) -> Option<bool> {
+    let _taken = all_but(heap, left)?;
+    Some(table.insert(batch).is_ok())
+}
+
+/// Whether the second batch is. Where it is refused the table is as before, and takes the batch once there is memory.
+fn inserts_second<'h>(
+    heap: &'h LocalHeap,
+    table: &mut Table<&'h LocalHeap>,
+    left: usize,
+) -> Result<Option<bool>, Refusal> {
+    let second = more_keys(heap)?;
+    let is_whole = inserts_beside(heap, table, &second, left);
+    if matches!(is_whole, Some(false)) {
+        if !is_as_before(heap, table.mem())? {
+            return Err(Refusal::WrongState);
+        }
+        table.insert(&second)?;
+    }
+    Ok(is_whole)
+}
+
+/// The same of a table with the first batch, which then has both.
+fn inserts_both(heap: &LocalHeap, left: usize) -> Result<Option<bool>, Refusal> {
+    let mut table = Table::new(heap)?;
+    let first = eleven_keys(heap)?; // It stays, and so leaves no gap.
+    table.insert(&first)?;
+    let is_whole = inserts_second(heap, &mut table, left)?;
+    if is_whole.is_some() && !has_both(heap, table.mem())? {
+        return Err(Refusal::WrongState);
+    }
+    Ok(is_whole)
+}
+
 fn in_heap(alloc: Global, left: usize) -> Result<Option<bool>, Fail> {
     let heap = LocalHeap::new(alloc, HEAP)?;
-    let mut mem = Mem::new(&heap)?;
-    let first = eleven_keys(&heap)?;
-    mem.insert(&first, 1)?;
-    let second = more_keys(&heap)?;
-    let size = HEAP.saturating_sub(heap.used()).saturating_sub(left);
-    let taken: Result<Vec<u8, &LocalHeap>, AllocError> = Vec::with_capacity(&heap, size);
-    if taken.is_err() {
-        return Ok(None);
-    }
-    let is_whole = mem.insert(&second, 2).is_ok();
-    drop(taken);
-    if !is_whole {
-        if !is_as_before(&heap, &mem)? {
-            return Err("a refused insert leaves the table".into());
-        }
-        mem.insert(&second, 2)?;
-    }
-    if !has_both(&heap, &mem)? {
-        return Err("both batches are there".into());
-    }
-    Ok(Some(is_whole))
+    Ok(inserts_both(&heap, left)?)
 }
 
 #[test]

@@ -3,8 +3,50 @@
 use lsm_codec::{Batch, Op};
 use lsm_device::Refusal;
 use lsm_mem::Mem;
-use std::alloc::{AllocError, Allocator};
-use std::test::Fail;
+use std::alloc::{AllocError, Allocator, Global};
+use std::marker::Model;
+
+/// A table that numbers its batches from 1 on. Its calls tell the prover nothing, so that a test has nothing to carry from
+/// one line to the next.
+#[derive(Drop)]
+pub struct Table<A: Allocator = Global> {
+    mem: Mem<A>,
+    next: u64,
+}
+
+impl<A: Allocator> Model for Table<A> {
+    ghost use Rattle.std.specs.Prelude.{ℕ};
+    ghost use Rattle.lsm_mem.specs.Versions.{NumberedBelow};
+
+    ghost Value = { ℕ };
+
+    ghost view = { λ t. t.next };
+
+    ghost invariant = { λ t. NumberedBelow t.next t.mem };
+}
+
+impl<A: Allocator + Clone> Table<A> {
+    pub fn new(alloc: A) -> Result<Table<A>, AllocError> {
+        Ok(Table {
+            mem: Mem::new(alloc)?,
+            next: 1,
+        })
+    }
+
+    /// Inserts a batch. One that is refused leaves its number to the next.
+    pub fn insert(&mut self, batch: &Batch<A>) -> Result<(), AllocError> {
+        if self.next == u64::MAX {
+            return Err(AllocError);
+        }
+        self.mem.insert(batch, self.next)?;
+        self.next += 1;
+        Ok(())
+    }
+
+    pub fn mem(&self) -> &Mem<A> {
+        &self.mem
+    }
+}
 
 pub fn put<A: Allocator + Clone>(alloc: A, key: &[u8], value: &[u8]) -> Result<Batch<A>, Refusal> {
     let first = Op::put(alloc.clone()?, key, value)?;
@@ -25,8 +67,16 @@ pub fn is_version<A: Allocator>(
     value: Option<&[u8]>,
 ) -> bool {
     match mem.get(key, at) {
-        Some(version) => version.number == number && version.value == value,
+        Some(version) => version.number == number && is_value(version.value, value),
         None => false,
+    }
+}
+
+fn is_value(found: Option<&[u8]>, wanted: Option<&[u8]>) -> bool {
+    match (found, wanted) {
+        (Some(found), Some(wanted)) => found == wanted,
+        (None, None) => true,
+        _ => false,
     }
 }
 
@@ -54,7 +104,7 @@ pub fn lists<A: Allocator + Clone>(
     from: &[u8],
     at: u64,
     wanted: &[u8],
-) -> Result<bool, Fail> {
+) -> Result<bool, Refusal> {
     let found = listed(mem, alloc, from, at)?;
     Ok(found.as_slice() == wanted)
 }

@@ -1,41 +1,49 @@
 //! Versions that a table keeps.
 
-use crate::tables::{delete, is_version, lists, put};
+use crate::tables::{Table, delete, is_version, lists, put};
+use lsm_codec::Batch;
+use lsm_device::Refusal;
 use lsm_mem::Mem;
 use std::alloc::Global;
 use std::test::Fail;
 
 /// A table with four versions of one key.
-fn four_versions(alloc: Global) -> Result<Mem, Fail> {
-    let mut mem = Mem::new(alloc)?;
-    mem.insert(&put(alloc, b"a", b"1")?, 1)?;
-    mem.insert(&put(alloc, b"a", b"2")?, 2)?;
-    mem.insert(&put(alloc, b"a", b"3")?, 3)?;
-    mem.insert(&put(alloc, b"a", b"4")?, 4)?;
-    Ok(mem)
+fn four_versions(alloc: Global) -> Result<Table, Refusal> {
+    let mut table = Table::new(alloc)?;
+    for value in [b'1', b'2', b'3', b'4'] {
+        table.insert(&put(alloc, b"a", &[value])?)?;
+    }
+    Ok(table)
+}
+
+fn has_none(mem: &Mem, key: &[u8], at: u64) -> bool {
+    mem.get(key, at).is_none()
 }
 
 #[test]
 fn each_snapshot_keeps_its_version(rt: HostRuntime) -> Result<(), Fail> {
-    let mem = four_versions(rt.alloc())?;
+    let table = four_versions(rt.alloc())?;
     for (at, number, value) in [
-        (1, 1, b"1".as_slice()),
-        (2, 2, b"2".as_slice()),
-        (3, 3, b"3".as_slice()),
-        (4, 4, b"4".as_slice()),
-        (9, 4, b"4".as_slice()),
+        (1, 1, b'1'),
+        (2, 2, b'2'),
+        (3, 3, b'3'),
+        (4, 4, b'4'),
+        (9, 4, b'4'),
     ] {
-        assert!(rt; is_version(&mem, b"a", at, number, Some(value)), "{at}");
+        assert!(rt;
+            is_version(table.mem(), b"a", at, number, Some(&[value])),
+            "{at}"
+        );
     }
-    assert!(rt; mem.get(b"a", 0).is_none() && mem.get(b"b", 9).is_none());
+    assert!(rt; has_none(table.mem(), b"a", 0) && has_none(table.mem(), b"b", 9));
     Ok(())
 }
 
-fn is_empty_until_an_insert(alloc: Global) -> Result<bool, Fail> {
-    let mut mem = Mem::new(alloc)?;
-    let was_empty = mem.is_empty();
-    mem.insert(&put(alloc, b"a", b"1")?, 1)?;
-    Ok(was_empty && !mem.is_empty())
+fn is_empty_until_an_insert(alloc: Global) -> Result<bool, Refusal> {
+    let mut table = Table::new(alloc)?;
+    let was_empty = table.mem().is_empty();
+    table.insert(&put(alloc, b"a", b"1")?)?;
+    Ok(was_empty && !table.mem().is_empty())
 }
 
 #[test]
@@ -44,41 +52,53 @@ fn a_new_table_is_empty(rt: HostRuntime) -> Result<(), Fail> {
     Ok(())
 }
 
+fn put_and_delete(alloc: Global) -> Result<Batch, Refusal> {
+    let mut batch = put(alloc, b"a", b"1")?;
+    batch.delete(b"a")?;
+    Ok(batch)
+}
+
+fn delete_and_put(alloc: Global) -> Result<Batch, Refusal> {
+    let mut batch = delete(alloc, b"a")?;
+    batch.put(b"a", b"2")?;
+    Ok(batch)
+}
+
 /// A table with two batches, each of a put and a delete of one key.
-fn puts_and_deletes(alloc: Global) -> Result<Mem, Fail> {
-    let mut mem = Mem::new(alloc)?;
-    let mut put_first = put(alloc, b"a", b"1")?;
-    put_first.delete(b"a")?;
-    mem.insert(&put_first, 1)?;
-    let mut delete_first = delete(alloc, b"a")?;
-    delete_first.put(b"a", b"2")?;
-    mem.insert(&delete_first, 2)?;
-    Ok(mem)
+fn puts_and_deletes(alloc: Global) -> Result<Table, Refusal> {
+    let mut table = Table::new(alloc)?;
+    table.insert(&put_and_delete(alloc)?)?;
+    table.insert(&delete_and_put(alloc)?)?;
+    Ok(table)
 }
 
 #[test]
 fn the_later_operation_of_a_batch_wins(rt: HostRuntime) -> Result<(), Fail> {
-    let mem = puts_and_deletes(rt.alloc())?;
-    assert!(rt; is_version(&mem, b"a", 1, 1, None));
-    assert!(rt; is_version(&mem, b"a", 2, 2, Some(b"2")));
+    let table = puts_and_deletes(rt.alloc())?;
+    assert!(rt; is_version(table.mem(), b"a", 1, 1, None));
+    assert!(rt; is_version(table.mem(), b"a", 2, 2, Some(b"2")));
     Ok(())
 }
 
+fn three_keys(alloc: Global) -> Result<Batch, Refusal> {
+    let mut batch = put(alloc, b"c", b"1")?;
+    batch.put(b"a", b"1")?;
+    batch.put(b"b", b"1")?;
+    Ok(batch)
+}
+
 /// A table with three batches over several keys.
-fn several_keys(alloc: Global) -> Result<Mem, Fail> {
-    let mut mem = Mem::new(alloc)?;
-    let mut three = put(alloc, b"c", b"1")?;
-    three.put(b"a", b"1")?;
-    three.put(b"b", b"1")?;
-    mem.insert(&three, 1)?;
-    mem.insert(&delete(alloc, b"b")?, 2)?;
-    mem.insert(&put(alloc, b"ab", b"")?, 3)?;
-    Ok(mem)
+fn several_keys(alloc: Global) -> Result<Table, Refusal> {
+    let mut table = Table::new(alloc)?;
+    table.insert(&three_keys(alloc)?)?;
+    table.insert(&delete(alloc, b"b")?)?;
+    table.insert(&put(alloc, b"ab", b"")?)?;
+    Ok(table)
 }
 
 #[test]
 fn a_range_gives_the_newest_version_of_each_key(rt: HostRuntime) -> Result<(), Fail> {
-    let mem = several_keys(rt.alloc())?;
+    let table = several_keys(rt.alloc())?;
     for (from, at, wanted) in [
         (b"".as_slice(), 0, b"".as_slice()),
         (b"".as_slice(), 1, b"a1b1c1".as_slice()),
@@ -88,7 +108,7 @@ fn a_range_gives_the_newest_version_of_each_key(rt: HostRuntime) -> Result<(), F
         (b"ba".as_slice(), 9, b"c1".as_slice()),
         (b"d".as_slice(), 9, b"".as_slice()),
     ] {
-        assert!(rt; lists(&mem, rt.alloc(), from, at, wanted)?, "{at}");
+        assert!(rt; lists(table.mem(), rt.alloc(), from, at, wanted)?, "{at}");
     }
     Ok(())
 }

@@ -1,6 +1,7 @@
-use Rattle.std.proofs.Common.{[], sym, arith}
+use Rattle.std.proofs.Common.{[], refl, sym, arith}
 use Rattle.lsm_codec.specs.LogSectors.{lent_part}
 use Rattle.lsm_log.proofs.Gathering.{ends_no_part, ends_other, number_is, taken_more}
+use Rattle.lsm_log.proofs.Taking.{taken_last}
 use Rattle.lsm_log.proofs.gathered.Gathered.take.Goals as goal
 
 pub returns-in_default-clause-taken : goal.returns-in_default-clause-taken
@@ -18,6 +19,11 @@ returns-clause-taken g c = λ rest.
     let s = c.args.self.now in
     taken_more s.epoch s.number s.part s.parts s.text.items c.args.bytes.now rest (lent_part c.in-Some.sector) (sym c.in-Some.ensures.answer) (sym c.if-not-is_awaited.ensures) (λ e. absurd (c.if-sector.false e))
     c.extend_from_slice.new.self.items s.batches.items c.in_ok-extend_from_slice.ensures.items
+
+pub returns-then-sector-clause-taken : goal.returns-then-sector-clause-taken
+returns-then-sector-clause-taken g c =
+    let s = c.args.self.now in
+    taken_last s _ c.end_batch.new.self c.args.bytes.now (lent_part c.in-Some.sector) (sym c.in-Some.ensures.answer) (sym c.if-not-is_awaited.ensures) c.if-sector.true c.in_ok-extend_from_slice.ensures.items refl refl refl _ c.in_ok-end_batch.ensures.ended
 
 pub end_batch-requires : goal.end_batch-requires
 end_batch-requires g c =

@@ -39,7 +39,7 @@ returns-clause-appended g c = λ t o.
     append_reads log (g.D.Device.medium c.args.device.now).history o c.args.batch.now c.sectors_of-parts.ensures.whole c.requires.number room (g.D.Device.medium c.write_parts.new.device).history (c.in_ok-write_parts.ensures.whole t)
 
 pub returns-then-room-parts-clause-full : goal.returns-then-room-parts-clause-full
-returns-then-room-parts-clause-full g c = search rules
+returns-then-room-parts-clause-full g c = (λ e. omega arith, λ lt. refl)
 
 pub returns-then-room-parts-clause-refused : goal.returns-then-room-parts-clause-refused
 returns-then-room-parts-clause-refused g c = search rules
@@ -48,4 +48,4 @@ pub returns-then-room-parts-clause-faults : goal.returns-then-room-parts-clause-
 returns-then-room-parts-clause-faults g c = search rules
 
 pub returns-clause-takes : goal.returns-clause-takes
-returns-clause-takes g c = search rules
+returns-clause-takes g c = record { start = refl; sectors = refl; epoch = refl; first = refl; next = refl; used = ap (λ (n : ℕ). c.args.self.now.used + n) c.sectors_of-parts.ensures.value }

@@ -1,4 +1,4 @@
-use Rattle.std.proofs.Common.{arith, sym, rules}
+use Rattle.std.proofs.Common.{arith, sym, refl}
 use Rattle.lsm_root.proofs.Preparing.{plans, prepares}
 use Rattle.lsm_root.proofs.next.NextRoot.prepare.Goals as goal
 
@@ -23,4 +23,4 @@ returns-clause-prepared g c =
     plans _ c.args.manifest.now fits c.in_ok-text.ensures.spelled c.args.sectors c.args.log_sectors
 
 pub returns-then-generation-gt-LAST_GENERATION-clause-exhausted : goal.returns-then-generation-gt-LAST_GENERATION-clause-exhausted
-returns-then-generation-gt-LAST_GENERATION-clause-exhausted g c = search rules
+returns-then-generation-gt-LAST_GENERATION-clause-exhausted g c = (λ e. omega (arith, c.generation-generation.ensures, c.if-generation-gt-LAST_GENERATION.true), λ lt. refl)

@@ -1,0 +1,5 @@
+use Rattle.std.proofs.Common.{refl}
+use Rattle.lsm_device.proofs.memory.MemDevice.fail.Goals as goal
+
+pub returns-clause-failure : goal.returns-clause-failure
+returns-clause-failure g c = refl
