@@ -50,12 +50,23 @@ pub(crate) fn sector<D: Device>(device: &mut D, at: u32) -> Result<[u8; 512], Fa
     Ok(out)
 }
 
-/// What an opening recovers. It tells the prover nothing, so that it has nothing to carry through a test.
+/// What an opening answers. It tells the prover nothing, so that it has nothing to carry through a test.
+pub(crate) fn opening<D: Device + Drop, A: Allocator + Clone>(
+    alloc: A,
+    device: D,
+) -> Result<Recovered<D, A>, (Refusal, D)> {
+    match recover(alloc, device) {
+        Ok(recovered) => Ok(recovered),
+        Err(refused) => Err(refused),
+    }
+}
+
+/// What an opening recovers.
 pub(crate) fn opened<D: Device + Drop, A: Allocator + Clone>(
     alloc: A,
     device: D,
 ) -> Result<Recovered<D, A>, Fail> {
-    match recover(alloc, device) {
+    match opening(alloc, device) {
         Ok(recovered) => Ok(recovered),
         Err((refusal, _)) => Err(refusal.name().into()),
     }
@@ -66,15 +77,31 @@ pub(crate) fn refused<D: Device + Drop, A: Allocator + Clone>(
     alloc: A,
     device: D,
 ) -> Result<(Refusal, D), Fail> {
-    match recover(alloc, device) {
+    match opening(alloc, device) {
         Ok(_) => Err("a refusal".into()),
         Err(refused) => Ok(refused),
     }
 }
 
-/// What a format made.
-pub(crate) fn made<D: Device + Drop>(answer: Result<D, (Refusal, D)>) -> Result<D, Fail> {
-    match answer {
+/// What a format answers. It tells the prover nothing.
+pub(crate) fn format_of<D: Device + Drop, A: Allocator + Clone>(
+    alloc: A,
+    device: D,
+    log_sectors: u16,
+) -> Result<D, (Refusal, D)> {
+    match format(alloc, device, log_sectors) {
+        Ok(device) => Ok(device),
+        Err(refused) => Err(refused),
+    }
+}
+
+/// A device that a format makes a store.
+pub(crate) fn made<D: Device + Drop>(
+    alloc: Global,
+    device: D,
+    log_sectors: u16,
+) -> Result<D, Fail> {
+    match format_of(alloc, device, log_sectors) {
         Ok(device) => Ok(device),
         Err((refusal, _)) => Err(refusal.name().into()),
     }
@@ -82,7 +109,7 @@ pub(crate) fn made<D: Device + Drop>(answer: Result<D, (Refusal, D)>) -> Result<
 
 /// A formatted device.
 pub(crate) fn formatted(alloc: Global) -> Result<MemDevice, Fail> {
-    made(format(alloc, MemDevice::new(alloc, SECTORS)?, LOG_SECTORS))
+    made(alloc, MemDevice::new(alloc, SECTORS)?, LOG_SECTORS)
 }
 
 /// A device that was formatted and opened once.

@@ -1,11 +1,11 @@
 //! Openings of what a crash left.
 use crate::devices::{
-    LOG_SECTORS, SECTORS, crash, formatted, fresh, log_sector, made, open_log, opened, put,
-    refused, sector, sector_of, value_of, with_one_batch,
+    LOG_SECTORS, SECTORS, crash, formatted, fresh, log_sector, made, open_log, opened, opening,
+    put, refused, sector, sector_of, value_of, with_one_batch,
 };
 use linked_list_allocator::LocalHeap;
 use lsm_device::{Device, FileDevice, MemDevice, Refusal};
-use lsm_open::{Recovered, format, recover};
+use lsm_open::Recovered;
 use std::alloc::{Allocator, Global};
 use std::fs;
 use std::test::Fail;
@@ -195,7 +195,7 @@ fn fill(device: &mut MemDevice, at: u32, sectors: u32, epoch: u8, first: u64) ->
 
 /// A device of a store whose three regions are full: 6,144 batches.
 fn with_full_regions(alloc: Global) -> Result<MemDevice, Fail> {
-    let mut device = made(format(alloc, MemDevice::new(alloc, SECTORS)?, 2_048))?;
+    let mut device = made(alloc, MemDevice::new(alloc, SECTORS)?, 2_048)?;
     for (epoch, at, first) in [(2, 130, 1), (3, 2_178, 2_049), (4, 4_226, 4_097)] {
         device = opened(alloc, device)?.device;
         fill(&mut device, at, 2_048, epoch, first)?;
@@ -223,11 +223,9 @@ fn three_full_regions_open_again(rt: HostRuntime) -> Result<(), Fail> {
     Ok(())
 }
 
-/// Whether an opening on a heap of this size finds the batch. Where it is refused, nothing was written.
-fn is_opened_on(alloc: Global, size: usize) -> Result<bool, Fail> {
-    let device = with_one_batch(alloc)?;
-    let heap = LocalHeap::new(alloc, size)?;
-    match recover(&heap, device) {
+/// Whether an opening on a heap finds the batch. Where it is refused, nothing was written.
+fn is_opened_in(heap: &LocalHeap, device: MemDevice) -> Result<bool, Fail> {
+    match opening(heap, device) {
         Ok(store) => Ok(has_one_batch(&store)),
         Err((refusal, device)) => {
             if refusal == Refusal::NoMemory && device.writes() == 0 {
@@ -236,6 +234,13 @@ fn is_opened_on(alloc: Global, size: usize) -> Result<bool, Fail> {
             Err("NoMemory, and nothing written".into())
         }
     }
+}
+
+/// The same on a new heap of this size.
+fn is_opened_on(alloc: Global, size: usize) -> Result<bool, Fail> {
+    let device = with_one_batch(alloc)?;
+    let heap = LocalHeap::new(alloc, size)?;
+    is_opened_in(&heap, device)
 }
 
 #[test]
@@ -253,7 +258,7 @@ fn memory_that_is_refused(rt: HostRuntime) -> Result<(), Fail> {
 /// A file with a synced batch.
 fn file_with_one_batch(rt: &HostRuntime, path: &str) -> Result<(), Fail> {
     let device = FileDevice::create(rt, path, SECTORS)?;
-    let device = made(format(rt.alloc(), device, LOG_SECTORS))?;
+    let device = made(rt.alloc(), device, LOG_SECTORS)?;
     let mut device = opened(rt.alloc(), device)?.device;
     put(&mut device, 130, &log_sector(2, 1, 0x61, 0x31)?)?;
     device.sync()?;
