@@ -1,5 +1,5 @@
 //! Formats of devices in memory and of a file.
-use crate::devices::{SECTORS, crash, format_of, made, put, sector, sector_of};
+use crate::devices::{SECTORS, crash, format_of, made, put_each, sector, sector_of, sync};
 use linked_list_allocator::LocalHeap;
 use lsm_device::{Device, FileDevice, MemDevice, Refusal};
 use lsm_root::load;
@@ -17,13 +17,9 @@ const MANIFEST: &str = "4c534d4d000000000000000100000000000000000000000000000001
 /// A device with ones in some sectors, of which two pend.
 fn worn(alloc: Global) -> Result<MemDevice, Fail> {
     let mut device = MemDevice::new(alloc, SECTORS)?;
-    for at in [0, 1, 2, 66, 130, 513, 514] {
-        put(&mut device, at, &ONES)?;
-    }
-    device.sync()?;
-    for at in [0, 300] {
-        put(&mut device, at, &ONES)?;
-    }
+    put_each(&mut device, &[0, 1, 2, 66, 130, 513, 514], &ONES)?;
+    sync(&mut device)?;
+    put_each(&mut device, &[0, 300], &ONES)?;
     Ok(device)
 }
 
