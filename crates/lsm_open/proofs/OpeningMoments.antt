@@ -23,7 +23,7 @@ use Rattle.lsm_open.specs.Image.{first_region, all_batches, IsImage, IsImageOfOn
 use Rattle.lsm_open.specs.Layout.{Layout, manifest_for}
 use Rattle.lsm_open.specs.Opening.{root_refusal, opening_refusal, CrashesInOpening, FailsToOpen}
 use Rattle.lsm_open.specs.Recovered.{IsReopened, IsRecovered}
-use Rattle.lsm_open.specs.Reopening.{kept_records, least_free, next_contents, IsNewLog, IsNewIfOpen, IsNextLayout, HasCome, GoesOn}
+use Rattle.lsm_open.specs.Reopening.{kept_records, next_contents, IsNewLog, IsNewIfOpen, IsNextLayout, HasCome, GoesOn}
 use Rattle.lsm_open.specs.declared.regions.OpenRegion.{OpenRegion}
 use Rattle.lsm_open.specs.declared.replayed.Replayed.{Replayed}
 use Rattle.lsm_open.proofs.NextImages.{StandsFor, stands_here, manifest_of_image, least_low}
