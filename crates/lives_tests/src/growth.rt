@@ -1,10 +1,10 @@
 //! Growths that memory refuses.
 
-use crate::setup::{Told, are_of_lives, formatted, get, put};
+use crate::setup::{Told, are_of_lives, formatted, get, led, put};
 use linked_list_allocator::LocalHeap;
-use lsm_device::Refusal;
-use lsm_lives::{Life, Step, lives};
-use std::alloc::Allocator;
+use lsm_device::{MemDevice, Refusal};
+use lsm_lives::{Life, Step};
+use std::alloc::{Allocator, Global};
 use std::test::Fail;
 
 // One life with three steps.
@@ -20,43 +20,72 @@ fn one_life<A: Allocator + Clone>(alloc: A) -> Result<Life<A>, Refusal> {
     })
 }
 
+const AMPLE: [Told; 4] = [
+    Told::Number(0),
+    Told::Number(1),
+    Told::Done,
+    Told::Byte(0x31),
+];
+
+// How far a life comes on a heap.
+#[derive(Clone, Copy, PartialEq, Eq)]
+enum Reach {
+    /// It isn't even made.
+    Unmade,
+    /// There is no place for its replies.
+    Refused,
+    /// It is led, and some steps are refused.
+    Led,
+    /// Each step is served.
+    Served,
+}
+
+// How far a life comes on a heap. Where it is refused, nothing is done.
+fn reach_of<A: Allocator + Clone>(
+    alloc: A,
+    device: MemDevice,
+    life: &[Life<A>],
+) -> Result<Reach, Fail> {
+    let writes = device.writes();
+    match led(alloc, device, life) {
+        Ok((replies, device)) => {
+            if replies.len() != 1 || device.writes() != 0 {
+                return Err(Fail::from("one life, and a crash"));
+            }
+            if are_of_lives(&replies, &[&AMPLE]) {
+                return Ok(Reach::Served);
+            }
+            Ok(Reach::Led)
+        }
+        Err((Refusal::NoMemory, device)) if device.writes() == writes => Ok(Reach::Refused),
+        Err(_) => Err(Fail::from("NoMemory, before anything is done")),
+    }
+}
+
+// How far the life comes on a new heap of this size.
+fn reached_on(alloc: Global, size: usize) -> Result<Reach, Fail> {
+    // The device has a heap of its own, so that its record can grow.
+    let device = formatted(alloc)?;
+    let heap = LocalHeap::new(alloc, size)?;
+    let Ok(life) = one_life(&heap) else {
+        return Ok(Reach::Unmade);
+    };
+    reach_of(&heap, device, &[life])
+}
+
 #[test]
 fn without_a_place_for_the_replies_nothing_is_done(rt: HostRuntime) -> Result<(), Fail> {
-    let ample = [
-        Told::Number(0),
-        Told::Number(1),
-        Told::Done,
-        Told::Byte(0x31),
-    ];
-    let mut refused = 0u32;
-    let mut led = 0u32;
-    let mut served = 0u32;
+    let mut refused = false;
+    let mut led = false;
+    let mut served = false;
     for step in 0..60usize {
-        // The device has a heap of its own, so that its record can grow.
-        let device = formatted(rt.alloc())?;
-        let writes = device.writes();
-        let heap = LocalHeap::new(rt.alloc(), 512 + step * 64)?;
-        let Ok(life) = one_life(&heap) else {
-            continue;
-        };
-        match lives(&heap, device, &[life]) {
-            Ok((replies, device)) => {
-                led = led.wrapping_add(1);
-                assert_eq!(rt; (replies.len(), device.writes()), (1, 0));
-                if are_of_lives(&replies, &[&ample]) {
-                    served = served.wrapping_add(1);
-                }
-            }
-            Err((refusal, device)) => {
-                refused = refused.wrapping_add(1);
-                assert_eq!(rt; refusal, Refusal::NoMemory);
-                assert_eq!(rt; device.writes(), writes);
-            }
+        match reached_on(rt.alloc(), 512 + step * 64)? {
+            Reach::Unmade => {}
+            Reach::Refused => refused = true,
+            Reach::Led => led = true,
+            Reach::Served => served = true,
         }
     }
-    assert!(rt;
-        refused > 0 && led > served && served > 0,
-        "{refused} {led} {served}"
-    );
+    assert!(rt; refused && led && served);
     Ok(())
 }

@@ -1,9 +1,8 @@
 //! Lives on a device.
 
-use crate::lives_from_format;
-use crate::setup::{LOG_SECTORS, SECTORS, Told, are_of_lives, fresh, get, life, put};
+use crate::setup::{Told, fresh, get, left_by, life, put, replies_are};
 use lsm_device::{MemDevice, Refusal};
-use lsm_lives::{Life, Step, lives};
+use lsm_lives::{Life, Step};
 use std::alloc::Global;
 use std::test::Fail;
 
@@ -30,37 +29,52 @@ const FIRST: [Told; 4] = [
     Told::Number(2),
 ];
 
-#[test]
-fn a_crash_drops_what_was_not_synced(rt: HostRuntime) -> Result<(), Fail> {
-    let alloc = rt.alloc();
+// A look that then asks for a sync up to the batch that was dropped.
+fn looking_and_syncing(alloc: Global) -> Result<Life, Fail> {
     let mut second = looking(alloc, &[true; 4])?;
     second.steps.push(Step::SyncTo(2))?;
-    let given = [first_life(alloc)?, second];
-    let (replies, _device) = lives_from_format(alloc, SECTORS, LOG_SECTORS, &given)?;
+    Ok(second)
+}
+
+#[test]
+fn a_crash_drops_what_was_not_synced(rt: HostRuntime) -> Result<(), Fail> {
+    let given = [first_life(rt.alloc())?, looking_and_syncing(rt.alloc())?];
     let wanted = [
         Told::Number(1),
         Told::Byte(0x31),
         Told::Absent,
         Told::Refused(Refusal::NoSuchBatch),
     ];
-    assert!(rt; are_of_lives(&replies, &[&FIRST, &wanted]));
+    assert!(rt; replies_are(rt.alloc(), &given, &[&FIRST, &wanted])?);
     Ok(())
+}
+
+// A look that a device cuts short which faults after so many writes and syncs.
+fn looking_with_fuse(alloc: Global, fuse: u64, mask: &[bool]) -> Result<Life, Fail> {
+    let mut life = looking(alloc, mask)?;
+    life.fuse = Some(fuse);
+    Ok(life)
+}
+
+// What two looks find where the opening failed.
+const STOPPED: [Told; 3] = [
+    Told::Refused(Refusal::Io),
+    Told::Refused(Refusal::Stopped),
+    Told::Refused(Refusal::Stopped),
+];
+
+// A life, one whose opening fails, and another.
+fn around_a_fuse(alloc: Global) -> Result<[Life; 3], Fail> {
+    let first = first_life(alloc)?;
+    let second = looking_with_fuse(alloc, 3, &[true; 64])?;
+    Ok([first, second, looking(alloc, &[])?])
 }
 
 #[test]
 fn the_fuse_of_a_life_burns_in_its_opening(rt: HostRuntime) -> Result<(), Fail> {
-    let alloc = rt.alloc();
-    let mut second = looking(alloc, &[true; 64])?;
-    second.fuse = Some(3);
-    let given = [first_life(alloc)?, second, looking(alloc, &[])?];
-    let (replies, _device) = lives_from_format(alloc, SECTORS, LOG_SECTORS, &given)?;
-    let stopped = [
-        Told::Refused(Refusal::Io),
-        Told::Refused(Refusal::Stopped),
-        Told::Refused(Refusal::Stopped),
-    ];
-    let last = [Told::Number(1), Told::Byte(0x31), Told::Absent];
-    assert!(rt; are_of_lives(&replies, &[&FIRST, &stopped, &last]));
+    let given = around_a_fuse(rt.alloc())?;
+    let last = found(1);
+    assert!(rt; replies_are(rt.alloc(), &given, &[&FIRST, &STOPPED, &last])?);
     Ok(())
 }
 
@@ -73,9 +87,24 @@ fn found(batches: u64) -> [Told; 3] {
     }
 }
 
+// A batch of one sector and one of two, and a crash.
+fn two_puts(alloc: Global, mask: &[bool]) -> Result<Life, Fail> {
+    let steps = vec![in alloc;
+        put(alloc, b"\x61", b"\x31")?,
+        put(alloc, b"\x62", &[5; 600])?,
+    ]?;
+    Ok(life(alloc, steps, mask)?)
+}
+
+// Whether a mask over the pending sectors of two batches leaves so many batches.
+fn keeps(alloc: Global, mask: &[bool], batches: u64) -> Result<bool, Fail> {
+    let given = [two_puts(alloc, mask)?, looking(alloc, &[])?];
+    let first = [Told::Number(0), Told::Number(1), Told::Number(2)];
+    replies_are(alloc, &given, &[&first, &found(batches)])
+}
+
 #[test]
 fn each_mask_keeps_a_beginning(rt: HostRuntime) -> Result<(), Fail> {
-    let alloc = rt.alloc();
     // Each mask over the three pending sectors, and how many batches are left.
     let rows: [([bool; 3], u64); 8] = [
         ([false, false, false], 0),
@@ -87,15 +116,8 @@ fn each_mask_keeps_a_beginning(rt: HostRuntime) -> Result<(), Fail> {
         ([true, true, false], 1),
         ([true, true, true], 2),
     ];
-    for (mask, held) in rows {
-        let steps = vec![in alloc;
-            put(alloc, b"\x61", b"\x31")?,
-            put(alloc, b"\x62", &[5; 600])?,
-        ]?;
-        let given = [life(alloc, steps, &mask)?, looking(alloc, &[])?];
-        let (replies, _device) = lives_from_format(alloc, SECTORS, LOG_SECTORS, &given)?;
-        let first = [Told::Number(0), Told::Number(1), Told::Number(2)];
-        assert!(rt; are_of_lives(&replies, &[&first, &found(held)]));
+    for (mask, batches) in rows {
+        assert!(rt; keeps(rt.alloc(), &mask, batches)?, "{mask:?}");
     }
     Ok(())
 }
@@ -108,55 +130,42 @@ fn taken_back(alloc: Global) -> Result<MemDevice, Fail> {
     Ok(store.into_device())
 }
 
+const BOTH: [Told; 3] = [Told::Number(2), Told::Byte(0x31), Told::Byte(0x32)];
+
+fn counts_of(device: &MemDevice) -> (u64, u64, u64) {
+    (device.reads(), device.writes(), device.syncs())
+}
+
 #[test]
 fn a_device_with_pending_writes_is_opened_as_it_reads(rt: HostRuntime) -> Result<(), Fail> {
-    let alloc = rt.alloc();
-    let given = [looking(alloc, &[])?];
-    let Ok((replies, device)) = lives(alloc, taken_back(alloc)?, &given) else {
-        return Err(Fail::from("refused"));
-    };
-    let both = [Told::Number(2), Told::Byte(0x31), Told::Byte(0x32)];
-    assert!(rt; are_of_lives(&replies, &[&both]));
-    assert_eq!(rt;
-        (device.reads(), device.writes(), device.syncs()),
-        (0, 0, 0)
-    );
-    let Ok((replies, _device)) = lives(alloc, device, &given) else {
-        return Err(Fail::from("refused"));
-    };
-    assert!(rt; are_of_lives(&replies, &[&both]));
+    let given = [looking(rt.alloc(), &[])?];
+    let device = left_by(rt.alloc(), taken_back(rt.alloc())?, &given, &[&BOTH])?;
+    assert!(rt; counts_of(&device) == (0, 0, 0));
+    left_by(rt.alloc(), device, &given, &[&BOTH])?;
     Ok(())
+}
+
+// A life whose opening fails at its first sync, with a crash that keeps what pended or not, and then an opening.
+fn before_the_first_sync(alloc: Global, keeps: bool) -> Result<[Life; 2], Fail> {
+    let first = looking_with_fuse(alloc, 0, &[keeps])?;
+    Ok([first, life(alloc, Vec::new(alloc), &[])?])
 }
 
 #[test]
 fn until_the_first_sync_what_pended_may_be_dropped(rt: HostRuntime) -> Result<(), Fail> {
-    let alloc = rt.alloc();
     for (keeps, batches) in [(false, 1), (true, 2)] {
-        let mut first = looking(alloc, &[keeps])?;
-        first.fuse = Some(0);
-        let given = [first, life(alloc, Vec::new(alloc), &[])?];
-        let Ok((replies, _device)) = lives(alloc, taken_back(alloc)?, &given) else {
-            return Err(Fail::from("refused"));
-        };
-        let stopped = [
-            Told::Refused(Refusal::Io),
-            Told::Refused(Refusal::Stopped),
-            Told::Refused(Refusal::Stopped),
-        ];
-        assert!(rt; are_of_lives(&replies, &[&stopped, &[Told::Number(batches)]]));
+        let given = before_the_first_sync(rt.alloc(), keeps)?;
+        let wanted: [&[Told]; 2] = [&STOPPED, &[Told::Number(batches)]];
+        left_by(rt.alloc(), taken_back(rt.alloc())?, &given, &wanted)?;
     }
     Ok(())
 }
 
 #[test]
 fn without_a_life_the_device_comes_back(rt: HostRuntime) -> Result<(), Fail> {
-    let alloc = rt.alloc();
-    let device = taken_back(alloc)?;
-    let counts = (device.reads(), device.writes(), device.syncs());
-    let Ok((replies, device)) = lives(alloc, device, &[]) else {
-        return Err(Fail::from("refused"));
-    };
-    assert_eq!(rt; replies.len(), 0);
-    assert_eq!(rt; (device.reads(), device.writes(), device.syncs()), counts);
+    let device = taken_back(rt.alloc())?;
+    let counts = counts_of(&device);
+    let device = left_by(rt.alloc(), device, &[], &[])?;
+    assert!(rt; counts_of(&device) == counts);
     Ok(())
 }

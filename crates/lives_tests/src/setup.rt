@@ -1,8 +1,9 @@
 //! What the tests begin with, and how they read replies.
 
+use crate::lives_from_format;
 use lsm_codec::{Batch, Op};
 use lsm_device::{MemDevice, Refusal};
-use lsm_lives::{Life, Reply, Step};
+use lsm_lives::{Life, Reply, Step, lives};
 use lsm_open::format;
 use lsm_store::{At, Store};
 use std::alloc::{AllocError, Allocator, Global};
@@ -15,13 +16,18 @@ pub const LOG_SECTORS: u16 = 128;
 
 /// A formatted device.
 pub fn formatted(alloc: Global) -> Result<MemDevice, Fail> {
-    let device = MemDevice::new(alloc, SECTORS)?;
-    format(alloc, device, LOG_SECTORS).map_err(|(refusal, _)| Fail::from(refusal.name()))
+    match format(alloc, MemDevice::new(alloc, SECTORS)?, LOG_SECTORS) {
+        Ok(device) => Ok(device),
+        Err((refusal, _)) => Err(Fail::from(refusal.name())),
+    }
 }
 
 /// The store on a formatted device.
 pub fn fresh(alloc: Global) -> Result<Store<MemDevice>, Fail> {
-    Store::open(alloc, formatted(alloc)?, 256).map_err(|(refusal, _)| Fail::from(refusal.name()))
+    match Store::open(alloc, formatted(alloc)?, 256) {
+        Ok(store) => Ok(store),
+        Err((refusal, _)) => Err(Fail::from(refusal.name())),
+    }
 }
 
 /// A commit of one put.
@@ -52,6 +58,45 @@ pub fn life(alloc: Global, steps: Vec<Step>, mask: &[bool]) -> Result<Life, Allo
         steps,
         mask: Vec::from_slice(alloc, mask)?,
     })
+}
+
+/// The replies of each life, and the device that the last one left.
+pub type Led<A = Global> = (Vec<Vec<Reply<A>, A>, A>, MemDevice);
+
+/// Leads lives on a device. It tells the prover nothing, so that it has nothing to carry through a test.
+pub fn led<A: Allocator + Clone>(
+    alloc: A,
+    device: MemDevice,
+    given: &[Life<A>],
+) -> Result<Led<A>, (Refusal, MemDevice)> {
+    match lives(alloc, device, given) {
+        Ok(led) => Ok(led),
+        Err(refused) => Err(refused),
+    }
+}
+
+/// The device that lives leave, where just these replies come of them.
+pub fn left_by(
+    alloc: Global,
+    device: MemDevice,
+    given: &[Life],
+    wanted: &[&[Told]],
+) -> Result<MemDevice, Fail> {
+    match led(alloc, device, given) {
+        Ok((replies, device)) => {
+            if are_of_lives(&replies, wanted) {
+                return Ok(device);
+            }
+            Err(Fail::from("other replies"))
+        }
+        Err((refusal, _)) => Err(Fail::from(refusal)),
+    }
+}
+
+/// Whether just these replies come of lives on a device that was just formatted.
+pub fn replies_are(alloc: Global, given: &[Life], wanted: &[&[Told]]) -> Result<bool, Fail> {
+    let (replies, _device) = lives_from_format(alloc, SECTORS, LOG_SECTORS, given)?;
+    Ok(are_of_lives(&replies, wanted))
 }
 
 /// A reply that can be compared. A value is told by its only byte, or else by its length.

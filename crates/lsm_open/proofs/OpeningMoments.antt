@@ -23,7 +23,7 @@ use Rattle.lsm_open.specs.Image.{first_region, all_batches, IsImage, IsImageOfOn
 use Rattle.lsm_open.specs.Layout.{Layout, manifest_for}
 use Rattle.lsm_open.specs.Opening.{root_refusal, opening_refusal, CrashesInOpening, FailsToOpen}
 use Rattle.lsm_open.specs.Recovered.{IsReopened, IsRecovered}
-use Rattle.lsm_open.specs.Reopening.{kept_records, least_free, next_contents, IsNewLog, IsNewIfOpen, IsNextLayout, HasCome, GoesOn}
+use Rattle.lsm_open.specs.Reopening.{kept_records, next_contents, IsNewLog, IsNewIfOpen, IsNextLayout, HasCome, GoesOn}
 use Rattle.lsm_open.specs.declared.regions.OpenRegion.{OpenRegion}
 use Rattle.lsm_open.specs.declared.replayed.Replayed.{Replayed}
 use Rattle.lsm_open.proofs.NextImages.{StandsFor, stands_here, manifest_of_image, least_low}
@@ -40,21 +40,8 @@ Sectors = List (List ℕ)
 
 -- ---- the installed manifest
 
-pub installs : (n count g b t : ℕ) (m manifest : Contents) (closed given : List LogRecord) (o : Option OpenRegion)
-    → manifest ≡ manifest_for (record { log_sectors = n; generation = g + 1; base = b; next_table = t; closed = closed; open_region = o })
-    → g ≡ m.generation → b ≡ m.base → t ≡ m.next_table → given ≡ closed → option_map (λ (o : OpenRegion). o.region) o ≡ least_free given → IsNewIfOpen n (g + 1) count o
-    → manifest ≡ next_contents m closed count
-installs n count g b t m manifest closed given o is generation base table same least new =
-    let l : Layout = record { log_sectors = n; generation = g + 1; base = b; next_table = t; closed = closed; open_region = o } in
-    let next : IsNextLayout n m count l = record {
-      log_size = refl;
-      generation = ap (λ (k : ℕ). k + 1) generation;
-      base = base;
-      next_table = table;
-      least = least ∙ ap least_free same;
-      new_log = subst (λ (e : ℕ). IsNewIfOpen n e count o) (ap (λ (k : ℕ). k + 1) generation) new;
-    } in
-    is ∙ layout_says n m count l next
+pub installs : (n count : ℕ) (m manifest : Contents) (closed : List LogRecord) (l : Layout) → manifest ≡ manifest_for l → IsNextLayout n m count l → l.closed ≡ closed → manifest ≡ next_contents m closed count
+installs n count m manifest closed l is next kept = is ∙ layout_says n m count l next ∙ ap (λ (logs : List LogRecord). next_contents m logs count) kept
 
 -- ---- the regions lie inside each device of a fair size
 

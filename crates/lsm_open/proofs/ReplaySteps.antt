@@ -2,8 +2,9 @@
 use Rattle.std.proofs.Common.{◌≡◌, ◌≢◌, ℕ, ◌+◌, ◌≤◌, ◌&&◌, Bool, false, List, [], ◌∷◌, ◌++◌, length, refl, sym, ◌∙◌, ap, subst, arith, append_assoc}
 use Rattle.std.proofs.lemmas.Bool.{eq-eqb, ne_eqb}
 use Rattle.std.proofs.lemmas.List.{append-nil, length-append}
+use Rattle.std.proofs.lemmas.List.Elements.{All-nil}
 use Rattle.lsm_codec.specs.declared.log_record.LogRecord.{LogRecord}
-use Rattle.lsm_codec.specs.Manifests.{Contents}
+use Rattle.lsm_codec.specs.Manifests.{Contents, IsManifest}
 use Rattle.lsm_codec.specs.Map.{Operation}
 use Rattle.lsm_mem.specs.EntryOrder.{with_batches}
 use Rattle.lsm_mem.proofs.Replays.{with_batches-append}
@@ -73,4 +74,15 @@ goes_started m new n s closed mem count = record {
   counts = ap (λ (k : ℕ). k + length (all_batches n s m.logs)) (sym count);
   versions = ap (λ (k : ℕ). with_batches k (all_batches n s m.logs) []) (sym count) ∙ ap (with_batches new.count (all_batches n s m.logs)) (sym mem);
   follows = ap (λ (k : ℕ). follow_on n s (k + 1) m.logs) (sym count);
+}
+
+-- before the first region
+pub come_started : (m : Contents) (count : ℕ) (closed : List LogRecord) → IsManifest m → closed ≡ [] → count ≡ m.base → HasCome m count closed m.logs
+come_started m count closed fits none base = subst (λ (l : List LogRecord). HasCome m count l m.logs) (sym none) record {
+  count_high = omega (arith, base, fits.numbers.base);
+  each = fits.logs.each;
+  agree = fits.logs.agree;
+  few = omega (arith, fits.numbers.logs);
+  before = All-nil (λ (r : LogRecord). r.first_batch ≤ count);
+  begins = base;
 }

@@ -60,6 +60,31 @@ fn open_least_free(
     Some(OpenRegion { region, log })
 }
 
+// The regions in the generation after a manifest's, behind so many batches: a log is open in the least free one, if one is
+// free.
+fn next_regions<A: Allocator>(
+    loaded: &Loaded<A>,
+    closed: Vec<LogRecord, A>,
+    count: u64,
+) -> Regions<A>
+    requires log_high { loaded.now.log_sectors ≤ 2048 }
+    requires generation_high { loaded.now.manifest.generation ≤ 2 ^ 63 }
+    requires count_high { count ≤ 2 ^ 63 }
+    ensures layout { IsNextLayout loaded.now.log_sectors loaded.now.manifest count (layout_of result) }
+    ensures kept { result.closed.items ≡ closed.items }
+{
+    let generation = loaded.manifest.generation() + 1;
+    let open_region = open_least_free(loaded.log_sectors, &closed, generation, count);
+    Regions {
+        log_sectors: loaded.log_sectors,
+        generation,
+        base: loaded.manifest.base(),
+        next_table: loaded.manifest.next_table(),
+        closed,
+        open_region,
+    }
+}
+
 /// Opens the least free region, if one is free, behind so many batches, and installs the manifest of the next generation,
 /// which says so.
 pub(crate) fn reopen<A: Allocator + Clone, D: Device>(
@@ -92,16 +117,7 @@ pub(crate) fn reopen<A: Allocator + Clone, D: Device>(
     ensures same_size { (D.medium device.new).size ≡ (D.medium device.old).size }
     ensures same_lasting { (D.medium device.new).lasting ≡ (D.medium device.old).lasting }
 {
-    let generation = loaded.manifest.generation() + 1;
-    let open_region = open_least_free(loaded.log_sectors, &closed, generation, count);
-    let regions = Regions {
-        log_sectors: loaded.log_sectors,
-        generation,
-        base: loaded.manifest.base(),
-        next_table: loaded.manifest.next_table(),
-        closed,
-        open_region,
-    };
+    let regions = next_regions(loaded, closed, count);
     let manifest = regions.manifest(alloc.clone()?)?;
     install(alloc, device, loaded.log_sectors, &manifest)?;
     Ok(regions)

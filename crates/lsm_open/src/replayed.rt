@@ -108,6 +108,41 @@ impl<A: Allocator + Clone> Replayed<A> {
         self.take_in(listed, &batches)?;
         Ok(())
     }
+
+    // Replays the regions of a manifest in order, where none is replayed yet.
+    fn add_regions<D: Device>(
+        &mut self,
+        alloc: &A,
+        device: &mut D,
+        log_sectors: u16,
+        manifest: &Manifest<A>,
+    ) -> Result<(), Refusal>
+        requires log_high { log_sectors ≤ 2048 }
+        requires fits { IsManifest manifest.now }
+        requires inside { first_region + 3 * log_sectors ≤ (D.medium device.old).size }
+        requires count { self.old.count ≡ manifest.now.base }
+        requires closed { self.old.closed.items ≡ [] }
+        requires mem { self.old.mem ≡ [] }
+        ensures come { OnOk result (HasCome manifest.now self.new.count self.new.closed.items []) }
+        ensures numbered { OnOk result (NumberedBelow (self.new.count + 1) self.new.mem) }
+        ensures replayed { IsTrue (D.medium device.old).lasting.tells → OnOk result
+            (GoesOn log_sectors (seen (disk (D.medium device.old))) manifest.now self.new []) }
+        ensures refused { IfErr result (λ refusal. ((refusal ≡ Refusal.BadManifest)
+            × (IsTrue (D.medium device.old).lasting.tells → follow_on log_sectors (seen (disk (D.medium device.old))) (manifest.now.base + 1) manifest.now.logs ≡ false))
+            ⊎ ((refusal ≡ Refusal.NoMemory) ⊎ (refusal ≡ Refusal.Io))) }
+        ensures unchanged { IsTrue (D.medium device.old).lasting.tells → (D.medium device.new).history ≡ (D.medium device.old).history }
+        ensures calls { AtMost (3 * log_sectors) 0 0 (D.medium device.old).calls (D.medium device.new).calls }
+        ensures faults { (D.medium device.new).calls.faults ≡ faults_after (faultless result) (D.medium device.old).calls.faults }
+        ensures stops { IfErr result (λ refusal. refusal ≡ Refusal.Io → IsTrue (D.medium device.new).calls.last_faulted) }
+        ensures same_size { (D.medium device.new).size ≡ (D.medium device.old).size }
+        ensures same_lasting { (D.medium device.new).lasting ≡ (D.medium device.old).lasting }
+    {
+        let logs = manifest.logs();
+        for listed in logs {
+            self.add_region(alloc, device, log_sectors, listed)?;
+        }
+        Ok(())
+    }
 }
 
 // The batches of the region of a log record.
@@ -168,9 +203,6 @@ pub(crate) fn replay_regions<A: Allocator + Clone, D: Device>(
     ensures same_lasting { (D.medium device.new).lasting ≡ (D.medium device.old).lasting }
 {
     let mut replayed = Replayed::new(alloc, manifest.base())?;
-    let logs = manifest.logs();
-    for listed in logs {
-        replayed.add_region(alloc, device, log_sectors, listed)?;
-    }
+    replayed.add_regions(alloc, device, log_sectors, manifest)?;
     Ok(replayed)
 }

@@ -13,6 +13,9 @@ pub(crate) const LOG_SECTORS: u16 = 128;
 const BATCH: &str =
     "4c534d4c000000000000000200000000000000010000000100080000000000000001010161000131";
 
+/// Batch 1 of epoch 2 in the first sector of region 0, which puts 61 = 31.
+pub(crate) const FIRST: Logged = (130, 2, 1, 0x61, 0x31);
+
 /// A log sector of a batch of one put.
 pub(crate) fn log_sector(epoch: u8, number: u64, key: u8, value: u8) -> Result<[u8; 512], Fail> {
     let mut sector = sector_of(BATCH)?;
@@ -41,6 +44,42 @@ pub(crate) fn put<D: Device>(device: &mut D, at: u32, bytes: &[u8; 512]) -> Resu
     Ok(())
 }
 
+/// Puts the same into some sectors.
+pub(crate) fn put_each<D: Device>(
+    device: &mut D,
+    places: &[u32],
+    bytes: &[u8; 512],
+) -> Result<(), Fail> {
+    for at in places {
+        put(device, *at, bytes)?;
+    }
+    Ok(())
+}
+
+/// A batch of one put in a log sector: where it stands, its epoch, its number, and its key and value.
+pub(crate) type Logged = (u32, u8, u64, u8, u8);
+
+/// Puts a batch into its log sector.
+pub(crate) fn log<D: Device>(device: &mut D, batch: Logged) -> Result<(), Fail> {
+    let (at, epoch, number, key, value) = batch;
+    let sector = log_sector(epoch, number, key, value)?;
+    put(device, at, &sector)
+}
+
+/// Puts batches into their log sectors.
+pub(crate) fn log_each<D: Device>(device: &mut D, batches: &[Logged]) -> Result<(), Fail> {
+    for batch in batches {
+        log(device, *batch)?;
+    }
+    Ok(())
+}
+
+/// Makes all that pends stand.
+pub(crate) fn sync<D: Device>(device: &mut D) -> Result<(), Fail> {
+    device.sync()?;
+    Ok(())
+}
+
 pub(crate) fn sector<D: Device>(device: &mut D, at: u32) -> Result<[u8; 512], Fail> {
     if at >= device.sectors() {
         return Err("a sector of the device".into());
@@ -50,12 +89,23 @@ pub(crate) fn sector<D: Device>(device: &mut D, at: u32) -> Result<[u8; 512], Fa
     Ok(out)
 }
 
-/// What an opening recovers. It tells the prover nothing, so that it has nothing to carry through a test.
+/// What an opening answers. It tells the prover nothing, so that it has nothing to carry through a test.
+pub(crate) fn opening<D: Device + Drop, A: Allocator + Clone>(
+    alloc: A,
+    device: D,
+) -> Result<Recovered<D, A>, (Refusal, D)> {
+    match recover(alloc, device) {
+        Ok(recovered) => Ok(recovered),
+        Err(refused) => Err(refused),
+    }
+}
+
+/// What an opening recovers.
 pub(crate) fn opened<D: Device + Drop, A: Allocator + Clone>(
     alloc: A,
     device: D,
 ) -> Result<Recovered<D, A>, Fail> {
-    match recover(alloc, device) {
+    match opening(alloc, device) {
         Ok(recovered) => Ok(recovered),
         Err((refusal, _)) => Err(refusal.name().into()),
     }
@@ -66,15 +116,31 @@ pub(crate) fn refused<D: Device + Drop, A: Allocator + Clone>(
     alloc: A,
     device: D,
 ) -> Result<(Refusal, D), Fail> {
-    match recover(alloc, device) {
+    match opening(alloc, device) {
         Ok(_) => Err("a refusal".into()),
         Err(refused) => Ok(refused),
     }
 }
 
-/// What a format made.
-pub(crate) fn made<D: Device + Drop>(answer: Result<D, (Refusal, D)>) -> Result<D, Fail> {
-    match answer {
+/// What a format answers. It tells the prover nothing.
+pub(crate) fn format_of<D: Device + Drop, A: Allocator + Clone>(
+    alloc: A,
+    device: D,
+    log_sectors: u16,
+) -> Result<D, (Refusal, D)> {
+    match format(alloc, device, log_sectors) {
+        Ok(device) => Ok(device),
+        Err(refused) => Err(refused),
+    }
+}
+
+/// A device that a format makes a store.
+pub(crate) fn made<D: Device + Drop>(
+    alloc: Global,
+    device: D,
+    log_sectors: u16,
+) -> Result<D, Fail> {
+    match format_of(alloc, device, log_sectors) {
         Ok(device) => Ok(device),
         Err((refusal, _)) => Err(refusal.name().into()),
     }
@@ -82,7 +148,7 @@ pub(crate) fn made<D: Device + Drop>(answer: Result<D, (Refusal, D)>) -> Result<
 
 /// A formatted device.
 pub(crate) fn formatted(alloc: Global) -> Result<MemDevice, Fail> {
-    made(format(alloc, MemDevice::new(alloc, SECTORS)?, LOG_SECTORS))
+    made(alloc, MemDevice::new(alloc, SECTORS)?, LOG_SECTORS)
 }
 
 /// A device that was formatted and opened once.
@@ -93,10 +159,10 @@ pub(crate) fn fresh(alloc: Global) -> Result<MemDevice, Fail> {
 /// A device with one synced batch, which puts 61 = 31, and another that a crash has dropped.
 pub(crate) fn with_one_batch(alloc: Global) -> Result<MemDevice, Fail> {
     let mut device = fresh(alloc)?;
-    put(&mut device, 130, &log_sector(2, 1, 0x61, 0x31)?)?;
-    device.sync()?;
-    put(&mut device, 131, &log_sector(2, 2, 0x62, 0x41)?)?;
-    Ok(device.crash(&[]))
+    log(&mut device, FIRST)?;
+    sync(&mut device)?;
+    log(&mut device, (131, 2, 2, 0x62, 0x41))?;
+    Ok(crash(device, &[]))
 }
 
 /// A device after a crash that keeps these pending writes.

@@ -1,8 +1,7 @@
 //! Formats of devices in memory and of a file.
-use crate::devices::{SECTORS, crash, made, put, sector, sector_of};
+use crate::devices::{SECTORS, crash, format_of, made, put_each, sector, sector_of, sync};
 use linked_list_allocator::LocalHeap;
 use lsm_device::{Device, FileDevice, MemDevice, Refusal};
-use lsm_open::format;
 use lsm_root::load;
 use std::alloc::Global;
 use std::fs;
@@ -18,20 +17,15 @@ const MANIFEST: &str = "4c534d4d000000000000000100000000000000000000000000000001
 /// A device with ones in some sectors, of which two pend.
 fn worn(alloc: Global) -> Result<MemDevice, Fail> {
     let mut device = MemDevice::new(alloc, SECTORS)?;
-    for at in [0, 1, 2, 66, 130, 513, 514] {
-        put(&mut device, at, &ONES)?;
-    }
-    device.sync()?;
-    for at in [0, 300] {
-        put(&mut device, at, &ONES)?;
-    }
+    put_each(&mut device, &[0, 1, 2, 66, 130, 513, 514], &ONES)?;
+    sync(&mut device)?;
+    put_each(&mut device, &[0, 300], &ONES)?;
     Ok(device)
 }
 
 /// The device after a format, and a crash that drops all that pends.
 fn formatted_worn(alloc: Global) -> Result<MemDevice, Fail> {
-    let device = made(format(alloc, worn(alloc)?, 128))?;
-    Ok(crash(device, &[]))
+    Ok(crash(made(alloc, worn(alloc)?, 128)?, &[]))
 }
 
 /// Whether root and log regions are those of an empty store, and the sector behind them is as it was.
@@ -70,17 +64,20 @@ fn a_formatted_device(rt: HostRuntime) -> Result<(), Fail> {
     Ok(())
 }
 
-/// Whether a format is refused with Io where the device fails after so many calls, and succeeds after a crash.
-fn is_formatted_again(alloc: Global, fuse: u64) -> Result<bool, Fail> {
+/// The device that a format hands back with Io which fails after so many calls.
+fn refused_at(alloc: Global, fuse: u64) -> Result<MemDevice, Fail> {
     let mut device = MemDevice::new(alloc, SECTORS)?;
     device.fuse(fuse);
-    match format(alloc, device, 128) {
-        Ok(_) => Ok(false),
-        Err((refusal, device)) => {
-            let mut device = made(format(alloc, crash(device, &[true; 600]), 128))?;
-            Ok(refusal == Refusal::Io && loads_empty(alloc, &mut device)?)
-        }
+    match format_of(alloc, device, 128) {
+        Err((Refusal::Io, device)) => Ok(device),
+        _ => Err("Io".into()),
     }
+}
+
+/// Whether a format is refused with Io where the device fails after so many calls, and succeeds after a crash.
+fn is_formatted_again(alloc: Global, fuse: u64) -> Result<bool, Fail> {
+    let device = crash(refused_at(alloc, fuse)?, &[true; 600]);
+    loads_empty(alloc, &mut made(alloc, device, 128)?)
 }
 
 #[test]
@@ -91,11 +88,9 @@ fn device_calls_that_fail(rt: HostRuntime) -> Result<(), Fail> {
     Ok(())
 }
 
-/// Whether a format on a heap of this size succeeds. Where it is refused no call of the device was made.
-fn is_formatted_on(alloc: Global, size: usize) -> Result<bool, Fail> {
-    let device = MemDevice::new(alloc, SECTORS)?;
-    let heap = LocalHeap::new(alloc, size)?;
-    match format(&heap, device, 128) {
+/// Whether a format on a heap succeeds. Where it is refused no call of the device was made.
+fn is_formatted_in(heap: &LocalHeap, device: MemDevice) -> Result<bool, Fail> {
+    match format_of(heap, device, 128) {
         Ok(_) => Ok(true),
         Err((refusal, device)) => {
             if refusal == Refusal::NoMemory && device.writes() == 0 && device.syncs() == 0 {
@@ -104,6 +99,13 @@ fn is_formatted_on(alloc: Global, size: usize) -> Result<bool, Fail> {
             Err("NoMemory, before any call".into())
         }
     }
+}
+
+/// The same on a new heap of this size.
+fn is_formatted_on(alloc: Global, size: usize) -> Result<bool, Fail> {
+    let device = MemDevice::new(alloc, SECTORS)?;
+    let heap = LocalHeap::new(alloc, size)?;
+    is_formatted_in(&heap, device)
 }
 
 #[test]
@@ -136,7 +138,7 @@ fn is_formatted_file(rt: &HostRuntime, path: &str) -> Result<bool, Fail> {
 fn a_formatted_file(rt: HostRuntime) -> Result<(), Fail> {
     let path = "a_formatted_file.img";
     let device = FileDevice::create(&rt, path, SECTORS)?;
-    drop(made(format(rt.alloc(), device, 128))?);
+    drop(made(rt.alloc(), device, 128)?);
     assert!(rt; is_formatted_file(&rt, path)?);
     fs::remove_file(&rt, path)?;
     Ok(())

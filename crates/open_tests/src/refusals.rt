@@ -22,14 +22,19 @@ fn zeros_are_no_store(rt: HostRuntime) -> Result<(), Fail> {
     Ok(())
 }
 
-/// A device of a store where one byte of a sector is another.
-fn with_byte(alloc: Global, at: u32, place: usize, byte: u8) -> Result<MemDevice, Fail> {
-    let mut device = fresh(alloc)?;
-    let mut bytes = sector(&mut device, at)?;
+/// Makes a byte of a sector another.
+fn put_byte(device: &mut MemDevice, at: u32, place: usize, byte: u8) -> Result<(), Fail> {
+    let mut bytes = sector(device, at)?;
     if place < 512 {
         bytes[place] = byte;
     }
-    put(&mut device, at, &bytes)?;
+    put(device, at, &bytes)
+}
+
+/// A device of a store where one byte of a sector is another.
+fn with_byte(alloc: Global, at: u32, place: usize, byte: u8) -> Result<MemDevice, Fail> {
+    let mut device = fresh(alloc)?;
+    put_byte(&mut device, at, place, byte)?;
     Ok(device)
 }
 
@@ -50,13 +55,18 @@ fn damaged_roots(rt: HostRuntime) -> Result<(), Fail> {
     Ok(())
 }
 
+/// Copies root and log regions.
+fn copy_front(device: &mut MemDevice, other: &mut MemDevice) -> Result<(), Fail> {
+    for at in 0..514u32 {
+        put(other, at, &sector(device, at)?)?;
+    }
+    Ok(())
+}
+
 /// The sectors of a store on a larger device.
 fn on_a_larger_device(alloc: Global) -> Result<MemDevice, Fail> {
-    let mut device = fresh(alloc)?;
     let mut larger = MemDevice::new(alloc, 8_200)?;
-    for at in 0..514u32 {
-        put(&mut larger, at, &sector(&mut device, at)?)?;
-    }
+    copy_front(&mut fresh(alloc)?, &mut larger)?;
     Ok(larger)
 }
 
@@ -67,11 +77,15 @@ fn a_store_of_another_size(rt: HostRuntime) -> Result<(), Fail> {
     Ok(())
 }
 
+/// A device whose first region lost its batch.
+fn without_batch(mut device: MemDevice) -> Result<MemDevice, Fail> {
+    put(&mut device, 130, &ZEROS)?;
+    Ok(device)
+}
+
 /// Whether a store whose only region lost its batch opens empty.
 fn opens_empty(alloc: Global) -> Result<bool, Fail> {
-    let mut device = with_one_batch(alloc)?;
-    put(&mut device, 130, &ZEROS)?;
-    let recovered = opened(alloc, device)?;
+    let recovered = opened(alloc, without_batch(with_one_batch(alloc)?)?)?;
     Ok(
         recovered.count == 0
             && value_of(&recovered, 0x61).is_none()
@@ -81,9 +95,7 @@ fn opens_empty(alloc: Global) -> Result<bool, Fail> {
 
 /// A store with a region before another that lost its batch, so that the next one's first batch is not the next.
 fn with_a_gap(alloc: Global) -> Result<MemDevice, Fail> {
-    let mut device = opened(alloc, with_one_batch(alloc)?)?.device;
-    put(&mut device, 130, &ZEROS)?;
-    Ok(device)
+    without_batch(opened(alloc, with_one_batch(alloc)?)?.device)
 }
 
 #[test]
@@ -94,18 +106,23 @@ fn a_region_lost_its_batch(rt: HostRuntime) -> Result<(), Fail> {
     Ok(())
 }
 
-/// A device of a store without batches in a generation, with one superblock.
-fn in_generation(alloc: Global, generation: u64) -> Result<MemDevice, Fail> {
-    let mut device = formatted(alloc)?;
+/// Moves the root of generation 1 to another.
+fn put_generation(device: &mut MemDevice, generation: u64) -> Result<(), Fail> {
     let slot = (generation % 2) as u32;
-    let mut superblock = sector(&mut device, 1)?;
-    let mut manifest = sector(&mut device, 66)?;
+    let mut superblock = sector(device, 1)?;
+    let mut manifest = sector(device, 66)?;
     let bytes = generation.to_be_bytes();
     superblock[6..14].copy_from_slice(&bytes);
     manifest[4..12].copy_from_slice(&bytes);
-    put(&mut device, 1, &ZEROS)?;
-    put(&mut device, slot, &superblock)?;
-    put(&mut device, 2 + 64 * slot, &manifest)?;
+    put(device, 1, &ZEROS)?;
+    put(device, slot, &superblock)?;
+    put(device, 2 + 64 * slot, &manifest)
+}
+
+/// A device of a store without batches in a generation, with one superblock.
+fn in_generation(alloc: Global, generation: u64) -> Result<MemDevice, Fail> {
+    let mut device = formatted(alloc)?;
+    put_generation(&mut device, generation)?;
     Ok(device)
 }
 

@@ -1,11 +1,11 @@
 //! Openings of what a crash left.
 use crate::devices::{
-    LOG_SECTORS, SECTORS, crash, formatted, fresh, log_sector, made, open_log, opened, put,
-    refused, sector, sector_of, value_of, with_one_batch,
+    FIRST, LOG_SECTORS, SECTORS, crash, formatted, fresh, log, log_each, made, open_log, opened,
+    opening, put, refused, sector, sector_of, sync, value_of, with_one_batch,
 };
 use linked_list_allocator::LocalHeap;
 use lsm_device::{Device, FileDevice, MemDevice, Refusal};
-use lsm_open::{Recovered, format, recover};
+use lsm_open::Recovered;
 use std::alloc::{Allocator, Global};
 use std::fs;
 use std::test::Fail;
@@ -71,19 +71,28 @@ fn a_synced_batch_is_found_again(rt: HostRuntime) -> Result<(), Fail> {
     Ok(())
 }
 
-/// Whether an opening that fails after so many device calls leaves the same again.
-fn is_left_again(alloc: Global, fuse: u64, mask: &[bool]) -> Result<bool, Fail> {
+/// Whether the one synced batch is there, in one of these generations.
+fn has_first_batch<D: Device, A: Allocator>(store: &Recovered<D, A>, generations: &[u64]) -> bool {
+    store.count == 1
+        && value_of(store, 0x61) == Some(0x31)
+        && value_of(store, 0x62).is_none()
+        && generations.contains(&store.regions.generation)
+}
+
+/// The device that an opening hands back with Io which fails after so many device calls.
+fn refused_at(alloc: Global, fuse: u64) -> Result<MemDevice, Fail> {
     let mut device = with_one_batch(alloc)?;
     device.fuse(fuse);
-    let (refusal, device) = refused(alloc, device)?;
-    let again = opened(alloc, crash(device, mask))?;
-    Ok(
-        refusal == Refusal::Io
-            && again.count == 1
-            && value_of(&again, 0x61) == Some(0x31)
-            && value_of(&again, 0x62).is_none()
-            && [3, 4].contains(&again.regions.generation),
-    )
+    match refused(alloc, device)? {
+        (Refusal::Io, device) => Ok(device),
+        _ => Err("Io".into()),
+    }
+}
+
+/// Whether an opening that fails after so many device calls leaves the same again.
+fn is_left_again(alloc: Global, fuse: u64, mask: &[bool]) -> Result<bool, Fail> {
+    let again = opened(alloc, crash(refused_at(alloc, fuse)?, mask))?;
+    Ok(has_first_batch(&again, &[3, 4]))
 }
 
 #[test]
@@ -96,14 +105,21 @@ fn an_opening_is_stopped_at_each_call(rt: HostRuntime) -> Result<(), Fail> {
     Ok(())
 }
 
+/// A device on which one batch pends.
+fn with_one_pending(alloc: Global) -> Result<MemDevice, Fail> {
+    let mut device = fresh(alloc)?;
+    log(&mut device, FIRST)?;
+    Ok(device)
+}
+
 /// Whether a batch that pended is there after an opening, and a crash that drops all that pends.
 fn stands_once_opened(alloc: Global) -> Result<bool, Fail> {
-    let mut device = fresh(alloc)?;
-    put(&mut device, 130, &log_sector(2, 1, 0x61, 0x31)?)?;
-    let store = opened(alloc, device)?;
-    let count = store.count;
+    let store = opened(alloc, with_one_pending(alloc)?)?;
+    if store.count != 1 {
+        return Ok(false);
+    }
     let again = opened(alloc, crash(store.device, &[]))?;
-    Ok(count == 1 && again.count == 1 && value_of(&again, 0x61) == Some(0x31))
+    Ok(again.count == 1 && value_of(&again, 0x61) == Some(0x31))
 }
 
 #[test]
@@ -112,18 +128,22 @@ fn what_pends_is_opened_as_it_reads(rt: HostRuntime) -> Result<(), Fail> {
     Ok(())
 }
 
-/// A device where batch 1 pends in one sector, and batch 2 in two. This puts 62 with 600 bytes: a text of 607 bytes.
-fn with_two_pending(alloc: Global) -> Result<MemDevice, Fail> {
+/// Puts batch 2 of epoch 2 into two sectors. It puts 62 with 600 bytes: a text of 607 bytes.
+fn log_long(device: &mut MemDevice) -> Result<(), Fail> {
     let mut front = sector_of(
         "4c534d4c000000000000000200000000000000020000000201e00000000000000001010162",
     )?;
     front[37] = 0x02;
     front[38] = 0x58;
     let back = sector_of("4c534d4c0000000000000002000000000000000200010002007f000000000000")?;
-    let mut device = fresh(alloc)?;
-    put(&mut device, 130, &log_sector(2, 1, 0x61, 0x31)?)?;
-    put(&mut device, 131, &front)?;
-    put(&mut device, 132, &back)?;
+    put(device, 131, &front)?;
+    put(device, 132, &back)
+}
+
+/// A device where batch 1 pends in one sector, and batch 2 in two.
+fn with_two_pending(alloc: Global) -> Result<MemDevice, Fail> {
+    let mut device = with_one_pending(alloc)?;
+    log_long(&mut device)?;
     Ok(device)
 }
 
@@ -150,15 +170,19 @@ fn a_batch_is_whole_or_not_there(rt: HostRuntime) -> Result<(), Fail> {
     Ok(())
 }
 
-/// A device where a crash kept batches 1 and 3 of three, and which then was opened and given another batch 2.
-fn with_another_second(alloc: Global) -> Result<MemDevice, Fail> {
+/// A device where a crash kept batches 1 and 3 of three.
+fn with_a_gap(alloc: Global) -> Result<MemDevice, Fail> {
     let mut device = fresh(alloc)?;
-    put(&mut device, 130, &log_sector(2, 1, 0x61, 0x31)?)?;
-    put(&mut device, 131, &log_sector(2, 2, 0x62, 0x41)?)?;
-    put(&mut device, 132, &log_sector(2, 3, 0x63, 0x33)?)?;
-    let mut device = opened(alloc, crash(device, &[true, false, true]))?.device;
-    put(&mut device, 258, &log_sector(3, 2, 0x62, 0x32)?)?;
-    device.sync()?;
+    let batches = [FIRST, (131, 2, 2, 0x62, 0x41), (132, 2, 3, 0x63, 0x33)];
+    log_each(&mut device, &batches)?;
+    Ok(crash(device, &[true, false, true]))
+}
+
+/// The same, which then was opened and given another batch 2.
+fn with_another_second(alloc: Global) -> Result<MemDevice, Fail> {
+    let mut device = opened(alloc, with_a_gap(alloc)?)?.device;
+    log(&mut device, (258, 3, 2, 0x62, 0x32))?;
+    sync(&mut device)?;
     Ok(crash(device, &[]))
 }
 
@@ -182,20 +206,15 @@ fn fill(device: &mut MemDevice, at: u32, sectors: u32, epoch: u8, first: u64) ->
     let mut number = first;
     for place in at..at.saturating_add(sectors) {
         let bytes = number.to_be_bytes();
-        put(
-            device,
-            place,
-            &log_sector(epoch, number, bytes[7], bytes[6])?,
-        )?;
+        log(device, (place, epoch, number, bytes[7], bytes[6]))?;
         number = number.wrapping_add(1);
     }
-    device.sync()?;
-    Ok(())
+    sync(device)
 }
 
 /// A device of a store whose three regions are full: 6,144 batches.
 fn with_full_regions(alloc: Global) -> Result<MemDevice, Fail> {
-    let mut device = made(format(alloc, MemDevice::new(alloc, SECTORS)?, 2_048))?;
+    let mut device = made(alloc, MemDevice::new(alloc, SECTORS)?, 2_048)?;
     for (epoch, at, first) in [(2, 130, 1), (3, 2_178, 2_049), (4, 4_226, 4_097)] {
         device = opened(alloc, device)?.device;
         fill(&mut device, at, 2_048, epoch, first)?;
@@ -223,11 +242,9 @@ fn three_full_regions_open_again(rt: HostRuntime) -> Result<(), Fail> {
     Ok(())
 }
 
-/// Whether an opening on a heap of this size finds the batch. Where it is refused, nothing was written.
-fn is_opened_on(alloc: Global, size: usize) -> Result<bool, Fail> {
-    let device = with_one_batch(alloc)?;
-    let heap = LocalHeap::new(alloc, size)?;
-    match recover(&heap, device) {
+/// Whether an opening on a heap finds the batch. Where it is refused, nothing was written.
+fn is_opened_in(heap: &LocalHeap, device: MemDevice) -> Result<bool, Fail> {
+    match opening(heap, device) {
         Ok(store) => Ok(has_one_batch(&store)),
         Err((refusal, device)) => {
             if refusal == Refusal::NoMemory && device.writes() == 0 {
@@ -236,6 +253,13 @@ fn is_opened_on(alloc: Global, size: usize) -> Result<bool, Fail> {
             Err("NoMemory, and nothing written".into())
         }
     }
+}
+
+/// The same on a new heap of this size.
+fn is_opened_on(alloc: Global, size: usize) -> Result<bool, Fail> {
+    let device = with_one_batch(alloc)?;
+    let heap = LocalHeap::new(alloc, size)?;
+    is_opened_in(&heap, device)
 }
 
 #[test]
@@ -253,11 +277,10 @@ fn memory_that_is_refused(rt: HostRuntime) -> Result<(), Fail> {
 /// A file with a synced batch.
 fn file_with_one_batch(rt: &HostRuntime, path: &str) -> Result<(), Fail> {
     let device = FileDevice::create(rt, path, SECTORS)?;
-    let device = made(format(rt.alloc(), device, LOG_SECTORS))?;
+    let device = made(rt.alloc(), device, LOG_SECTORS)?;
     let mut device = opened(rt.alloc(), device)?.device;
-    put(&mut device, 130, &log_sector(2, 1, 0x61, 0x31)?)?;
-    device.sync()?;
-    Ok(())
+    log(&mut device, FIRST)?;
+    sync(&mut device)
 }
 
 #[test]

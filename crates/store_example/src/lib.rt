@@ -41,17 +41,3 @@ pub fn survive(
         Err(refusal) => Err(refusal),
     }
 }
-
-#[cfg(test)]
-mod tests {
-    use super::*;
-    use std::test::Fail;
-
-    #[test]
-    fn a_value_survives(rt: HostRuntime) -> Result<(), Fail> {
-        let device = MemDevice::new(rt.alloc(), 8_192)?;
-        let found = survive(rt.alloc(), device, b"key", b"value", &[false, true])?;
-        assert_eq!(rt; found.as_deref(), Some(b"value".as_slice()));
-        Ok(())
-    }
-}

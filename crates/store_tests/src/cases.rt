@@ -5,8 +5,8 @@
 use crate::setup::{Subject, fresh, opened, put};
 use lsm_codec::{Batch, Op};
 use lsm_device::{MemDevice, Refusal};
-use lsm_store::{At, Page};
-use std::alloc::Global;
+use lsm_store::{At, Page, Row};
+use std::alloc::{AllocError, Global};
 use std::test::Fail;
 
 /// A call of a store, and what it must answer.
@@ -23,6 +23,7 @@ pub enum Case<'a> {
     /// A page from a key on, up to another where one is given, of so many rows at most. It is told in a line.
     Scan(At, &'a [u8], Option<&'a [u8]>, u64, Result<&'a [u8], Refusal>),
     Snapshot(Result<u64, Refusal>),
+    MaySnapshot(Result<(), Refusal>),
     Release(u64, Result<(), Refusal>),
     Room(Result<u32, Refusal>),
     /// Sets the fuse of the device.
@@ -73,6 +74,7 @@ fn holds(alloc: Global, store: &mut Subject, syncs: u64, case: Case) -> bool {
             is_line(alloc, store.scan(at, from, to, limit), wanted)
         }
         Case::Snapshot(wanted) => store.snapshot() == wanted,
+        Case::MaySnapshot(wanted) => store.may_snapshot() == wanted,
         Case::Release(number, wanted) => store.release(number) == wanted,
         Case::Room(wanted) => store.log_room() == wanted,
         Case::Fuse(n) => {
@@ -117,22 +119,34 @@ fn is_line(alloc: Global, page: Result<Page, Refusal>, wanted: Result<&[u8], Ref
     }
 }
 
-// A page in a line: its rows, and then the next key or that there is none.
-fn line_of(alloc: Global, page: &Page) -> Result<Vec<u8>, Refusal> {
-    let mut line = Vec::new(alloc);
-    for row in page.rows() {
-        line.extend_from_slice(row.key())?;
-        line.extend_from_slice(b"=")?;
-        line.extend_from_slice(row.value())?;
-        line.extend_from_slice(b" ")?;
-    }
-    match page.next_key() {
+// Adds a row to a line.
+fn add_row(line: &mut Vec<u8>, row: &Row) -> Result<(), AllocError> {
+    line.extend_from_slice(row.key())?;
+    line.extend_from_slice(b"=")?;
+    line.extend_from_slice(row.value())?;
+    line.extend_from_slice(b" ")?;
+    Ok(())
+}
+
+// Adds the next key to a line, or that there is none.
+fn add_next(line: &mut Vec<u8>, next: Option<&[u8]>) -> Result<(), AllocError> {
+    match next {
         Some(key) => {
             line.extend_from_slice(b"next ")?;
             line.extend_from_slice(key)?;
         }
         None => line.extend_from_slice(b"end")?,
     }
+    Ok(())
+}
+
+// A page in a line: its rows, and then the next key or that there is none.
+fn line_of(alloc: Global, page: &Page) -> Result<Vec<u8>, Refusal> {
+    let mut line = Vec::new(alloc);
+    for row in page.rows() {
+        add_row(&mut line, row)?;
+    }
+    add_next(&mut line, page.next_key())?;
     Ok(line)
 }
 
@@ -159,14 +173,26 @@ pub fn check_lives(alloc: Global, mut device: MemDevice, lives: &[Life]) -> Resu
     Ok(())
 }
 
-#[test]
-fn a_wrong_answer_is_noticed(rt: HostRuntime) -> Result<(), Fail> {
-    let batch = put(rt.alloc(), b"c", b"3")?;
-    let mut store = fresh(rt.alloc())?;
-    let wrong = [
+/// One batch synced, and another not.
+pub const ONE_OF_TWO_IS_SYNCED: [Case; 3] = [
+    Case::Put(b"a", b"1", Ok(1)),
+    Case::Sync(Ok(())),
+    Case::Put(b"b", b"2", Ok(2)),
+];
+
+/// The device on which one batch is synced and another has been dropped.
+pub fn with_one_batch(alloc: Global) -> Result<MemDevice, Fail> {
+    let mut store = fresh(alloc)?;
+    check(alloc, &mut store, &ONE_OF_TWO_IS_SYNCED)?;
+    Ok(store.crash(&[]))
+}
+
+// Cases that a new store answers otherwise, with a batch that puts c = 3.
+fn wrong_cases(batch: &Batch) -> [Case<'_>; 15] {
+    [
         Case::Put(b"a", b"1", Ok(2)),
         Case::Delete(b"b", Ok(1)),
-        Case::Commit(&batch, Err(Refusal::LogFull)),
+        Case::Commit(batch, Err(Refusal::LogFull)),
         Case::Sync(Err(Refusal::Io)),
         Case::SyncTo(9, Ok(())),
         Case::Get(At::Now, b"a", Ok(Some(b"2"))),
@@ -179,10 +205,24 @@ fn a_wrong_answer_is_noticed(rt: HostRuntime) -> Result<(), Fail> {
         Case::Room(Ok(128)),
         Case::Syncs(1),
         Case::Count(1),
-    ];
-    for case in wrong {
-        assert!(rt; first_wrong(rt.alloc(), &mut store, &[case]).is_some());
+    ]
+}
+
+// Whether a store answers each case otherwise.
+fn are_all_wrong(alloc: Global, store: &mut Subject, cases: &[Case]) -> bool {
+    for case in cases {
+        if first_wrong(alloc, store, &[*case]).is_none() {
+            return false;
+        }
     }
+    true
+}
+
+#[test]
+fn a_wrong_answer_is_noticed(rt: HostRuntime) -> Result<(), Fail> {
+    let batch = put(rt.alloc(), b"c", b"3")?;
+    let mut store = fresh(rt.alloc())?;
+    assert!(rt; are_all_wrong(rt.alloc(), &mut store, &wrong_cases(&batch)));
     check(
         rt.alloc(),
         &mut store,

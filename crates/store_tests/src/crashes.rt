@@ -1,7 +1,7 @@
 //! What crashes leave.
 
-use crate::cases::{Case, Life, check, check_lives};
-use crate::setup::{CACHE, SECTORS, crash, formatted, fresh, open, opened};
+use crate::cases::{Case, Life, ONE_OF_TWO_IS_SYNCED, check, check_lives, with_one_batch};
+use crate::setup::{SECTORS, crash, formatted, open, opened, refused_with_io};
 use lsm_device::{Device, MemDevice, Refusal};
 use lsm_store::At;
 use std::alloc::Global;
@@ -11,13 +11,6 @@ const LONG: [u8; 600] = [5; 600];
 
 // A commit of one sector and one of two, neither synced.
 const THREE_SECTORS_PEND: [Case; 2] = [Case::Put(b"a", b"1", Ok(1)), Case::Put(b"b", &LONG, Ok(2))];
-
-// One batch synced, and another not.
-const ONE_OF_TWO_IS_SYNCED: [Case; 3] = [
-    Case::Put(b"a", b"1", Ok(1)),
-    Case::Sync(Ok(())),
-    Case::Put(b"b", b"2", Ok(2)),
-];
 
 // A life that finds this beginning of two batches, the second of which puts this value.
 fn finds<'a>(batches: u8, second: &'a [u8]) -> [Case<'a>; 2] {
@@ -96,32 +89,38 @@ fn a_sync_to_the_last_batch_keeps_it(rt: HostRuntime) -> Result<(), Fail> {
     check_found(rt.alloc(), &cases, Some(&[]), &finds(2, b"2"))
 }
 
+const THREE_BATCHES: [Case; 3] = [
+    Case::Put(b"a", b"1", Ok(1)),
+    Case::Put(b"b", b"A", Ok(2)),
+    Case::Put(b"c", b"3", Ok(3)),
+];
+
+const ONE_IS_FOUND_AND_ONE_ADDED: [Case; 5] = [
+    Case::Get(At::Now, b"a", Ok(Some(b"1"))),
+    Case::Get(At::Now, b"b", Ok(None)),
+    Case::Get(At::Now, b"c", Ok(None)),
+    Case::Put(b"b", b"2", Ok(2)),
+    Case::Sync(Ok(())),
+];
+
+const TWO_ARE_FOUND: [Case; 3] = [
+    Case::Get(At::Now, b"a", Ok(Some(b"1"))),
+    Case::Get(At::Now, b"b", Ok(Some(b"2"))),
+    Case::Get(At::Now, b"c", Ok(None)),
+];
+
 #[test]
 fn a_region_is_not_continued_under_its_old_epoch(rt: HostRuntime) -> Result<(), Fail> {
     let first = Life {
-        cases: &[
-            Case::Put(b"a", b"1", Ok(1)),
-            Case::Put(b"b", b"A", Ok(2)),
-            Case::Put(b"c", b"3", Ok(3)),
-        ],
+        cases: &THREE_BATCHES,
         keep: Some(&[true, false, true]),
     };
     let second = Life {
-        cases: &[
-            Case::Get(At::Now, b"a", Ok(Some(b"1"))),
-            Case::Get(At::Now, b"b", Ok(None)),
-            Case::Get(At::Now, b"c", Ok(None)),
-            Case::Put(b"b", b"2", Ok(2)),
-            Case::Sync(Ok(())),
-        ],
+        cases: &ONE_IS_FOUND_AND_ONE_ADDED,
         keep: Some(&[]),
     };
     let third = Life {
-        cases: &[
-            Case::Get(At::Now, b"a", Ok(Some(b"1"))),
-            Case::Get(At::Now, b"b", Ok(Some(b"2"))),
-            Case::Get(At::Now, b"c", Ok(None)),
-        ],
+        cases: &TWO_ARE_FOUND,
         keep: Some(&[]),
     };
     check_lives(rt.alloc(), formatted(rt.alloc())?, &[first, second, third])
@@ -164,51 +163,47 @@ fn a_faulting_commit_stops_the_store(rt: HostRuntime) -> Result<(), Fail> {
     Ok(())
 }
 
-// A life that adds this batch, which a crash keeps.
-fn adding<'a>(cases: &'a [Case<'a>; 2]) -> Life<'a> {
-    Life {
-        cases,
-        keep: Some(&[]),
-    }
+// Adds a batch that puts a key, in a life of its own.
+fn with_another(
+    alloc: Global,
+    device: MemDevice,
+    key: &[u8],
+    number: u64,
+) -> Result<MemDevice, Fail> {
+    let mut store = opened(alloc, device)?;
+    let cases = [Case::Put(key, b"1", Ok(number)), Case::Sync(Ok(()))];
+    check(alloc, &mut store, &cases)?;
+    Ok(store.crash(&[]))
+}
+
+// A device of a store whose three regions hold a batch each.
+fn with_three_regions(alloc: Global) -> Result<MemDevice, Fail> {
+    let device = with_another(alloc, formatted(alloc)?, b"a", 1)?;
+    let device = with_another(alloc, device, b"b", 2)?;
+    with_another(alloc, device, b"c", 3)
 }
 
 #[test]
 fn three_lives_fill_the_regions(rt: HostRuntime) -> Result<(), Fail> {
-    let last = Life {
-        cases: &[
+    let mut store = opened(rt.alloc(), with_three_regions(rt.alloc())?)?;
+    check(
+        rt.alloc(),
+        &mut store,
+        &[
             Case::Room(Ok(0)),
             Case::Put(b"d", b"1", Err(Refusal::LogFull)),
             Case::Get(At::Now, b"a", Ok(Some(b"1"))),
             Case::Get(At::Now, b"c", Ok(Some(b"1"))),
             Case::Get(At::Now, b"d", Ok(None)),
         ],
-        keep: None,
-    };
-    let lives = [
-        adding(&[Case::Put(b"a", b"1", Ok(1)), Case::Sync(Ok(()))]),
-        adding(&[Case::Put(b"b", b"1", Ok(2)), Case::Sync(Ok(()))]),
-        adding(&[Case::Put(b"c", b"1", Ok(3)), Case::Sync(Ok(()))]),
-        last,
-    ];
-    check_lives(rt.alloc(), formatted(rt.alloc())?, &lives)
-}
-
-// The device on which one batch is synced and another has been dropped.
-fn with_one_batch(alloc: Global) -> Result<MemDevice, Fail> {
-    let mut store = fresh(alloc)?;
-    check(alloc, &mut store, &ONE_OF_TWO_IS_SYNCED)?;
-    Ok(store.crash(&[]))
+    )
 }
 
 // The device that an opening leaves which faults after so many writes and syncs.
 fn refused_at(alloc: Global, fuse: u64) -> Result<MemDevice, Fail> {
     let mut device = with_one_batch(alloc)?;
     device.fuse(fuse);
-    match open(alloc, device, CACHE) {
-        Err((Refusal::Io, device)) => Ok(device),
-        Err((refusal, _)) => Err(Fail::from(refusal)),
-        Ok(_) => Err(Fail::from("it opened")),
-    }
+    refused_with_io(alloc, device)
 }
 
 #[test]

@@ -1,7 +1,7 @@
 //! Devices of which one call fails.
 
-use crate::cases::{Case, Life, check, check_lives};
-use crate::setup::{CACHE, formatted, fresh, open, opened};
+use crate::cases::{Case, Life, check_lives, with_one_batch};
+use crate::setup::{formatted, opened, refused_with_io};
 use lsm_device::{MemDevice, Refusal};
 use lsm_store::At;
 use std::alloc::Global;
@@ -38,19 +38,7 @@ fn a_commit_stays_whose_failing_write_is_kept(rt: HostRuntime) -> Result<(), Fai
     check_commit(rt.alloc(), true, &found)
 }
 
-// The device on which one batch is synced and another has been dropped.
-fn with_one_batch(alloc: Global) -> Result<MemDevice, Fail> {
-    let mut store = fresh(alloc)?;
-    let cases = [
-        Case::Put(b"a", b"1", Ok(1)),
-        Case::Sync(Ok(())),
-        Case::Put(b"b", b"2", Ok(2)),
-    ];
-    check(alloc, &mut store, &cases)?;
-    Ok(store.crash(&[]))
-}
-
-// The device calls that its opening makes.
+// The device calls that the opening makes of a device with one batch.
 fn calls_of_an_opening(alloc: Global) -> Result<u64, Fail> {
     let store = opened(alloc, with_one_batch(alloc)?)?;
     Ok(
@@ -65,11 +53,7 @@ fn calls_of_an_opening(alloc: Global) -> Result<u64, Fail> {
 fn refused_at(alloc: Global, n: u64) -> Result<MemDevice, Fail> {
     let mut device = with_one_batch(alloc)?;
     device.fail(n, false);
-    match open(alloc, device, CACHE) {
-        Err((Refusal::Io, device)) => Ok(device),
-        Err((refusal, _)) => Err(Fail::from(refusal)),
-        Ok(_) => Err(Fail::from("it opened")),
-    }
+    refused_with_io(alloc, device)
 }
 
 #[test]

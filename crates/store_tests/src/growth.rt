@@ -3,29 +3,43 @@
 use crate::setup::{CACHE, Subject, formatted, formatted_with, open, opened, put};
 use linked_list_allocator::LocalHeap;
 use lsm_codec::Batch;
-use lsm_device::Refusal;
-use std::alloc::Global;
+use lsm_device::{MemDevice, Refusal};
+use std::alloc::{Allocator, Global};
 use std::test::Fail;
 
-// Whether a commit is accepted on a heap of this size, none where that is too small for the store or the batch.
+// Whether a commit is accepted. A refused one has written nothing.
+fn is_accepted<A: Allocator + Clone>(
+    store: &mut Subject<A>,
+    batch: &Batch<A>,
+) -> Result<bool, Fail> {
+    let writes = store.writes();
+    let answer = store.commit(batch);
+    if answer == Ok(1) {
+        return Ok(true);
+    }
+    if answer == Err(Refusal::NoMemory) && store.writes() == writes && store.log_room() == Ok(128) {
+        return Ok(false);
+    }
+    Err(Fail::from("another answer, or a write"))
+}
+
+// Whether a commit is accepted on a heap, none where that is too small for the store or the batch.
+fn is_accepted_in(heap: &LocalHeap, device: MemDevice) -> Result<Option<bool>, Fail> {
+    let Ok(mut store) = open(heap, device, CACHE) else {
+        return Ok(None);
+    };
+    let Ok(batch) = put(heap, b"key", &[3; 300]) else {
+        return Ok(None);
+    };
+    Ok(Some(is_accepted(&mut store, &batch)?))
+}
+
+// The same on a new heap of this size.
 fn is_accepted_on(alloc: Global, size: usize) -> Result<Option<bool>, Fail> {
     // The device has a heap of its own, so that its record can grow.
     let device = formatted(alloc)?;
     let heap = LocalHeap::new(alloc, size)?;
-    let Ok(mut store) = open(&heap, device, CACHE) else {
-        return Ok(None);
-    };
-    let Ok(batch) = put(&heap, b"key", &[3; 300]) else {
-        return Ok(None);
-    };
-    let writes = store.writes();
-    match store.commit(&batch) {
-        Ok(1) => Ok(Some(true)),
-        Err(Refusal::NoMemory) if store.writes() == writes && store.log_room() == Ok(128) => {
-            Ok(Some(false))
-        }
-        _ => Err(Fail::from("another answer, or a write")),
-    }
+    is_accepted_in(&heap, device)
 }
 
 #[test]
@@ -55,17 +69,25 @@ fn fill(store: &mut Subject, batch: &Batch, next: u64, last: u64) -> Result<u64,
     Ok(last.wrapping_add(1))
 }
 
-#[test]
-fn three_regions_hold_five_thousand_batches(rt: HostRuntime) -> Result<(), Fail> {
-    let batch = put(rt.alloc(), b"key", b"value")?;
-    let mut device = formatted_with(rt.alloc(), 2_048)?;
+// A device of a store with 5,000 batches in its three regions.
+fn with_five_thousand(alloc: Global) -> Result<MemDevice, Fail> {
+    let batch = put(alloc, b"key", b"value")?;
+    let mut device = formatted_with(alloc, 2_048)?;
     let mut next = 1;
     for _life in 0..3u32 {
-        let mut store = opened(rt.alloc(), device)?;
+        let mut store = opened(alloc, device)?;
         next = fill(&mut store, &batch, next, 5_000)?;
         device = store.into_device();
     }
-    let store = opened(rt.alloc(), device)?;
-    assert!(rt; next == 5_001 && store.batch_count() == 5_000, "{next}");
+    if next == 5_001 {
+        return Ok(device);
+    }
+    Err(Fail::from("it holds less"))
+}
+
+#[test]
+fn three_regions_hold_five_thousand_batches(rt: HostRuntime) -> Result<(), Fail> {
+    let store = opened(rt.alloc(), with_five_thousand(rt.alloc())?)?;
+    assert!(rt; store.batch_count() == 5_000);
     Ok(())
 }

@@ -8,6 +8,8 @@ mod cases;
 #[cfg(test)]
 mod crashes;
 #[cfg(test)]
+mod example;
+#[cfg(test)]
 mod failures;
 #[cfg(test)]
 mod growth;

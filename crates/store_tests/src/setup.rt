@@ -21,8 +21,10 @@ pub fn formatted(alloc: Global) -> Result<MemDevice, Fail> {
 
 /// A device that was formatted with log regions of so many sectors.
 pub fn formatted_with(alloc: Global, log_sectors: u16) -> Result<MemDevice, Fail> {
-    let device = MemDevice::new(alloc, SECTORS)?;
-    format(alloc, device, log_sectors).map_err(|(refusal, _)| Fail::from(refusal.name()))
+    match format(alloc, MemDevice::new(alloc, SECTORS)?, log_sectors) {
+        Ok(device) => Ok(device),
+        Err((refusal, _)) => Err(Fail::from(refusal.name())),
+    }
 }
 
 /// A store whose calls tell the prover nothing, so that it has nothing to carry from one line of a test to the next.
@@ -128,7 +130,19 @@ pub fn open<A: Allocator + Clone>(
 
 /// The store on a device.
 pub fn opened(alloc: Global, device: MemDevice) -> Result<Subject, Fail> {
-    open(alloc, device, CACHE).map_err(|(refusal, _)| Fail::from(refusal.name()))
+    match open(alloc, device, CACHE) {
+        Ok(store) => Ok(store),
+        Err((refusal, _)) => Err(Fail::from(refusal.name())),
+    }
+}
+
+/// The device that an opening hands back which is refused with Io.
+pub fn refused_with_io(alloc: Global, device: MemDevice) -> Result<MemDevice, Fail> {
+    match open(alloc, device, CACHE) {
+        Err((Refusal::Io, device)) => Ok(device),
+        Err((refusal, _)) => Err(Fail::from(refusal)),
+        Ok(_) => Err(Fail::from("it opened")),
+    }
 }
 
 /// The store on a formatted device.

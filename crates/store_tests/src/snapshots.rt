@@ -4,9 +4,9 @@ use crate::cases::{Case, check, check_fresh};
 use crate::setup::{CACHE, Subject, add, formatted, fresh, open, opened, put};
 use linked_list_allocator::LocalHeap;
 use lsm_codec::Batch;
-use lsm_device::Refusal;
+use lsm_device::{MemDevice, Refusal};
 use lsm_store::At;
-use std::alloc::Global;
+use std::alloc::{Allocator, Global};
 use std::test::Fail;
 
 // A batch that puts three keys.
@@ -100,31 +100,54 @@ fn a_released_snapshot_is_gone(rt: HostRuntime) -> Result<(), Fail> {
     )
 }
 
+// Whether a store gives 32 snapshots, under the numbers from 1 on, and tells before each that it may be taken.
+fn gives_32(store: &mut Subject) -> bool {
+    for number in 1..=32u64 {
+        if store.may_snapshot() != Ok(()) || store.snapshot() != Ok(number) {
+            return false;
+        }
+    }
+    true
+}
+
+// A store with 32 live snapshots.
+fn with_32(alloc: Global) -> Result<Subject, Fail> {
+    let mut store = fresh(alloc)?;
+    if gives_32(&mut store) {
+        return Ok(store);
+    }
+    Err(Fail::from("it gives no 32 snapshots"))
+}
+
 #[test]
 fn at_most_32_snapshots_live(rt: HostRuntime) -> Result<(), Fail> {
-    let mut store = fresh(rt.alloc())?;
-    for number in 1..=32u64 {
-        assert_eq!(rt; store.snapshot(), Ok(number));
-    }
-    assert_eq!(rt; store.snapshot(), Err(Refusal::TooManySnapshots));
-    assert_eq!(rt; store.release(5), Ok(()));
-    assert_eq!(rt; store.snapshot(), Ok(33));
-    assert_eq!(rt; store.snapshot(), Err(Refusal::TooManySnapshots));
-    Ok(())
+    let many = Refusal::TooManySnapshots;
+    let mut store = with_32(rt.alloc())?;
+    check(
+        rt.alloc(),
+        &mut store,
+        &[
+            Case::Snapshot(Err(many)),
+            Case::Release(5, Ok(())),
+            Case::Snapshot(Ok(33)),
+            Case::Snapshot(Err(many)),
+        ],
+    )
 }
 
 #[test]
 fn a_store_tells_whether_it_may_be_snapshotted(rt: HostRuntime) -> Result<(), Fail> {
-    let mut store = fresh(rt.alloc())?;
-    for number in 1..=32u64 {
-        assert_eq!(rt; store.may_snapshot(), Ok(()));
-        assert_eq!(rt; store.snapshot(), Ok(number));
-    }
-    assert_eq!(rt; store.may_snapshot(), Err(Refusal::TooManySnapshots));
-    store.fuse(0);
-    assert_eq!(rt; store.sync(), Err(Refusal::Io));
-    assert_eq!(rt; store.may_snapshot(), Err(Refusal::Stopped));
-    Ok(())
+    let mut store = with_32(rt.alloc())?;
+    check(
+        rt.alloc(),
+        &mut store,
+        &[
+            Case::MaySnapshot(Err(Refusal::TooManySnapshots)),
+            Case::Fuse(0),
+            Case::Sync(Err(Refusal::Io)),
+            Case::MaySnapshot(Err(Refusal::Stopped)),
+        ],
+    )
 }
 
 #[test]
@@ -146,17 +169,25 @@ fn a_snapshot_keeps_its_map(rt: HostRuntime) -> Result<(), Fail> {
     )
 }
 
+// A device of a store on which two snapshots were live.
+fn with_two_snapshots(alloc: Global) -> Result<MemDevice, Fail> {
+    let mut store = two_of_three(alloc)?;
+    check(alloc, &mut store, &[Case::Snapshot(Ok(2))])?;
+    Ok(store.into_device())
+}
+
 #[test]
 fn snapshots_end_with_their_opening(rt: HostRuntime) -> Result<(), Fail> {
-    let mut store = two_of_three(rt.alloc())?;
-    check(rt.alloc(), &mut store, &[Case::Snapshot(Ok(2))])?;
-    let mut store = opened(rt.alloc(), store.into_device())?;
-    let cases = [
-        Case::Get(At::Snap(1), b"a", Err(Refusal::NoSuchSnapshot)),
-        Case::Snapshot(Ok(1)),
-        Case::Scan(At::Snap(1), b"", None, 64, Ok(b"a=1 c=3 end")),
-    ];
-    check(rt.alloc(), &mut store, &cases)
+    let mut store = opened(rt.alloc(), with_two_snapshots(rt.alloc())?)?;
+    check(
+        rt.alloc(),
+        &mut store,
+        &[
+            Case::Get(At::Snap(1), b"a", Err(Refusal::NoSuchSnapshot)),
+            Case::Snapshot(Ok(1)),
+            Case::Scan(At::Snap(1), b"", None, 64, Ok(b"a=1 c=3 end")),
+        ],
+    )
 }
 
 #[test]
@@ -174,26 +205,35 @@ fn a_stopped_store_has_no_snapshots(rt: HostRuntime) -> Result<(), Fail> {
     )
 }
 
-// How many of 32 snapshots are taken where so many bytes of a heap are used by others, none where that is too much.
-fn taken_beside(alloc: Global, others: usize) -> Result<Option<u64>, Fail> {
-    let device = formatted(alloc)?;
-    let heap = LocalHeap::new(alloc, 6_000)?;
-    let Ok(mut store) = open(&heap, device, CACHE) else {
-        return Ok(None);
-    };
-    let Ok(_others) = Vec::<u8, _>::with_capacity(&heap, others) else {
-        return Ok(None);
-    };
+// How many of 32 snapshots a store gives until memory is refused. The number of the refused one is not given.
+fn given<A: Allocator + Clone>(store: &mut Subject<A>) -> Result<u64, Fail> {
     for number in 1..=32u64 {
         if store.snapshot() == Err(Refusal::NoMemory) {
-            // The number was not given.
             if store.release(number) != Err(Refusal::NoSuchSnapshot) {
                 return Err(Fail::from("a refused snapshot lives"));
             }
-            return Ok(Some(number - 1));
+            return Ok(number - 1);
         }
     }
-    Ok(Some(32))
+    Ok(32)
+}
+
+// How many snapshots are given on a heap of which others use so many bytes, none where that is too much.
+fn given_on(heap: &LocalHeap, device: MemDevice, others: usize) -> Result<Option<u64>, Fail> {
+    let Ok(mut store) = open(heap, device, CACHE) else {
+        return Ok(None);
+    };
+    let Ok(_others) = Vec::<u8, _>::with_capacity(heap, others) else {
+        return Ok(None);
+    };
+    Ok(Some(given(&mut store)?))
+}
+
+// The same on a new heap of 6,000 bytes. The device has a heap of its own.
+fn given_beside(alloc: Global, others: usize) -> Result<Option<u64>, Fail> {
+    let device = formatted(alloc)?;
+    let heap = LocalHeap::new(alloc, 6_000)?;
+    given_on(&heap, device, others)
 }
 
 #[test]
@@ -201,7 +241,7 @@ fn each_growth_of_snapshots_is_refused_in_turn(rt: HostRuntime) -> Result<(), Fa
     let mut refused = false;
     let mut whole = false;
     for step in 0..120usize {
-        match taken_beside(rt.alloc(), step * 48)? {
+        match given_beside(rt.alloc(), step * 48)? {
             Some(32) => whole = true,
             Some(_) => refused = true,
             None => {}
@@ -211,21 +251,25 @@ fn each_growth_of_snapshots_is_refused_in_turn(rt: HostRuntime) -> Result<(), Fa
     Ok(())
 }
 
-// How many rows a page has on a heap of this size, none where it is too small for the one row.
+// How many rows a page of one row has.
+fn listed<A: Allocator + Clone>(store: &mut Subject<A>) -> Result<usize, Refusal> {
+    let page = store.scan(At::Now, b"", None, 1)?;
+    Ok(page.rows().len())
+}
+
+// How many rows a page has on a heap, none where it is too small for the one row. The row's batch takes memory too.
+fn listed_in(heap: &LocalHeap, device: MemDevice) -> Option<Result<usize, Refusal>> {
+    let mut store = open(heap, device, CACHE).ok()?;
+    let batch = put(heap, b"key", &[3; 300]).ok()?;
+    store.commit(&batch).ok()?;
+    Some(listed(&mut store))
+}
+
+// The same on a new heap of this size.
 fn listed_on(alloc: Global, size: usize) -> Result<Option<Result<usize, Refusal>>, Fail> {
     let device = formatted(alloc)?;
     let heap = LocalHeap::new(alloc, size)?;
-    let Ok(mut store) = open(&heap, device, CACHE) else {
-        return Ok(None);
-    };
-    let Ok(batch) = put(&heap, b"key", &[3; 300]) else {
-        return Ok(None);
-    };
-    if store.commit(&batch).is_err() {
-        return Ok(None);
-    }
-    let page = store.scan(At::Now, b"", None, 1);
-    Ok(Some(page.map(|page| page.rows().len())))
+    Ok(listed_in(&heap, device))
 }
 
 #[test]

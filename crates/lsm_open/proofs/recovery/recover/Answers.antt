@@ -17,7 +17,7 @@ pub returns-in-Err-clause-fails : goal.returns-in-Err-clause-fails
 returns-in-Err-clause-fails g c = λ n left t is. c.in-Err.ensures.fails n left t is
 
 pub returns-in-Err-clause-faults : goal.returns-in-Err-clause-faults
-returns-in-Err-clause-faults g c = search rules
+returns-in-Err-clause-faults g c = c.in-Err.ensures.faults
 
 pub returns-in-Err-clause-stops : goal.returns-in-Err-clause-stops
-returns-in-Err-clause-stops g c = search rules
+returns-in-Err-clause-stops g c = c.in-Err.ensures.stops

@@ -1,10 +1,10 @@
-use Rattle.std.proofs.Common.{rules, ◌≡◌, ◌+◌, subst}
+use Rattle.std.proofs.Common.{◌+◌, subst}
 use Rattle.lsm_codec.specs.Manifests.{Contents, sector_count}
 use Rattle.lsm_device.specs.History.{EachSince}
 use Rattle.lsm_device.specs.Medium.{disk}
 use Rattle.lsm_device.specs.Outcomes.{Leaves}
 use Rattle.lsm_device.proofs.Moments.{started}
-use Rattle.lsm_open.specs.Reopening.{next_contents}
+use Rattle.lsm_open.specs.Layout.{layout_of}
 use Rattle.lsm_open.proofs.NextManifests.{next_fits}
 use Rattle.lsm_open.proofs.OpeningMoments.{installs}
 use Rattle.lsm_root.specs.Counted.{CallsMade}
@@ -22,31 +22,22 @@ returns-in_err-manifest-clause-any_moment g c = λ t. started _ _ (none_leaves _
 pub install-requires-clause-valid : goal.install-requires-clause-valid
 install-requires-clause-valid g c = λ le.
     let m = c.args.loaded.now.manifest in
-    let says : c.in_ok-manifest.manifest ≡ next_contents m c.args.closed.items c.args.count =
-    installs c.args.loaded.now.log_sectors c.args.count c.generation-generation.result c.base.result c.next_table.result m c.in_ok-manifest.manifest c.args.closed.items c.deref.result.now c.open_least_free-open_region.result
-    c.in_ok-manifest.ensures c.generation-generation.ensures c.base.ensures c.next_table.ensures c.deref.ensures.value c.open_least_free-open_region.ensures.least c.open_least_free-open_region.ensures.new_log in
+    let says = installs c.args.loaded.now.log_sectors c.args.count m c.in_ok-manifest.manifest c.args.closed.items (layout_of c.next_regions-regions.result) c.in_ok-manifest.ensures c.next_regions-regions.ensures.layout c.next_regions-regions.ensures.kept in
     rw says (next_fits m c.args.count c.args.closed.items c.requires.fits c.requires.come c.requires.has_next)
 
 pub returns-clause-any_moment : goal.returns-clause-any_moment
 returns-clause-any_moment g c = λ t.
     let D = g.D.Device in
     let m = c.args.loaded.now.manifest in
-    let says : c.in_ok-manifest.manifest ≡ next_contents m c.args.closed.items c.args.count =
-    installs c.args.loaded.now.log_sectors c.args.count c.generation-generation.result c.base.result c.next_table.result m c.in_ok-manifest.manifest c.args.closed.items c.deref.result.now c.open_least_free-open_region.result
-    c.in_ok-manifest.ensures c.generation-generation.ensures c.base.ensures c.next_table.ensures c.deref.ensures.value c.open_least_free-open_region.ensures.least c.open_least_free-open_region.ensures.new_log in
+    let says = installs c.args.loaded.now.log_sectors c.args.count m c.in_ok-manifest.manifest c.args.closed.items (layout_of c.next_regions-regions.result) c.in_ok-manifest.ensures c.next_regions-regions.ensures.layout c.next_regions-regions.ensures.kept in
     subst (λ (x : Contents). EachSince (Leaves (IsOldOrNew (disk (D.medium c.args.device.now)) (Stands c.args.loaded.now.log_sectors x))) (D.medium c.args.device.now).history (D.medium c.install.new.device).history) says (c.install.ensures.any_moment t)
 
 pub returns-clause-installed : goal.returns-clause-installed
 returns-clause-installed g c = λ t.
     let D = g.D.Device in
     let m = c.args.loaded.now.manifest in
-    let says : c.in_ok-manifest.manifest ≡ next_contents m c.args.closed.items c.args.count =
-    installs c.args.loaded.now.log_sectors c.args.count c.generation-generation.result c.base.result c.next_table.result m c.in_ok-manifest.manifest c.args.closed.items c.deref.result.now c.open_least_free-open_region.result
-    c.in_ok-manifest.ensures c.generation-generation.ensures c.base.ensures c.next_table.ensures c.deref.ensures.value c.open_least_free-open_region.ensures.least c.open_least_free-open_region.ensures.new_log in
+    let says = installs c.args.loaded.now.log_sectors c.args.count m c.in_ok-manifest.manifest c.args.closed.items (layout_of c.next_regions-regions.result) c.in_ok-manifest.ensures c.next_regions-regions.ensures.layout c.next_regions-regions.ensures.kept in
     subst (λ (x : Contents). IsInstalled (disk (D.medium c.args.device.now)) (Stands c.args.loaded.now.log_sectors x) (disk (D.medium c.install.new.device))) says (c.in_ok-install.ensures.installed t)
-
-pub returns-clause-layout : goal.returns-clause-layout
-returns-clause-layout g c = search rules
 
 pub returns-clause-made : goal.returns-clause-made
 returns-clause-made g c =

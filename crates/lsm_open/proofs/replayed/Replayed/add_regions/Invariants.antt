@@ -4,7 +4,7 @@ use Rattle.lsm_device.specs.Disk.{seen}
 use Rattle.lsm_device.specs.Medium.{disk}
 use Rattle.lsm_mem.specs.Versions.{NumberedBelow}
 use Rattle.lsm_open.specs.Reopening.{HasCome, GoesOn}
-use Rattle.lsm_open.proofs.replayed.replay_regions.Given as goal
+use Rattle.lsm_open.proofs.replayed.Replayed.add_regions.Given as goal
 
 abbrev pub invariant-loop-listed : goal.invariant-loop-listed
 invariant-loop-listed g l =
@@ -16,7 +16,7 @@ invariant-loop-listed g l =
       calls : AtMost (l.listed-index * l.log_sectors) 0 0 (D.medium l.fn.device).calls (D.medium l.device).calls;
       unchanged : IsTrue (D.medium l.fn.device).lasting.tells → (D.medium l.device).history ≡ (D.medium l.fn.device).history;
       all : l.logs ≡ l.manifest.logs;
-      come : HasCome l.manifest l.replayed.count l.replayed.closed.items (drop l.listed-index l.logs);
-      numbered : NumberedBelow (l.replayed.count + 1) l.replayed.mem;
-      goes_on : IsTrue (D.medium l.fn.device).lasting.tells → GoesOn l.log_sectors (seen (disk (D.medium l.fn.device))) l.manifest l.replayed (drop l.listed-index l.logs);
+      come : HasCome l.manifest l.self.count l.self.closed.items (drop l.listed-index l.logs);
+      numbered : NumberedBelow (l.self.count + 1) l.self.mem;
+      goes_on : IsTrue (D.medium l.fn.device).lasting.tells → GoesOn l.log_sectors (seen (disk (D.medium l.fn.device))) l.manifest l.self (drop l.listed-index l.logs);
     }

@@ -1,15 +1,33 @@
-use Rattle.std.proofs.Common.{◌≡◌, ◌+◌, ◌*◌, ◌≤◌, ◌∙◌, List, ◌∷◌, length, drop, get_or, arith, ap, subst}
+use Rattle.std.proofs.Common.{◌≡◌, ◌+◌, ◌*◌, ◌≤◌, ◌∙◌, refl, sym, List, ◌∷◌, length, drop, get_or, arith, ap, subst}
 use Rattle.std.proofs.lemmas.List.{drop_more}
 use Rattle.std.proofs.Math.Nat.{mul-le-mul_right}
 use Rattle.lsm_codec.specs.declared.log_record.LogRecord.{LogRecord}
 use Rattle.lsm_device.specs.Disk.{Disk, seen}
 use Rattle.lsm_device.specs.History.{present}
 use Rattle.lsm_device.specs.Medium.{disk}
-use Rattle.lsm_device.proofs.Counting.{AtMost-joined}
+use Rattle.lsm_device.proofs.Counting.{AtMost-joined, none_made}
+use Rattle.lsm_mem.specs.Versions.{NumberedBelow}
 use Rattle.lsm_open.specs.Image.{batches_at}
 use Rattle.lsm_open.specs.Reopening.{GoesOn, HasCome}
-use Rattle.lsm_open.proofs.ReplaySteps.{come_step, goes_on_step}
-use Rattle.lsm_open.proofs.replayed.replay_regions.Goals as goal
+use Rattle.lsm_open.proofs.ReplaySteps.{come_step, come_started, goes_on_step, goes_started}
+use Rattle.lsm_open.proofs.replayed.Replayed.add_regions.Goals as goal
+
+pub loop-listed-init : goal.loop-listed-init
+loop-listed-init g c =
+    let D = g.D.Device in
+    let m = c.args.manifest.now in
+    record {
+      same_size = refl;
+      same_lasting = refl;
+      no_fault = refl;
+      calls = none_made _ 0 0 _;
+      unchanged = λ t. refl;
+      all = c.logs-logs.ensures;
+      come = subst (HasCome m c.args.self.now.count c.args.self.now.closed.items) (sym c.logs-logs.ensures) (come_started m c.args.self.now.count c.args.self.now.closed.items c.requires.fits c.requires.closed c.requires.count);
+      numbered = subst (NumberedBelow (c.args.self.now.count + 1)) (sym c.requires.mem) tt;
+      goes_on = λ t. subst (GoesOn c.args.log_sectors (seen (disk (D.medium c.args.device.now))) m c.args.self.now) (sym c.logs-logs.ensures)
+          (goes_started m c.args.self.now c.args.log_sectors (seen (disk (D.medium c.args.device.now))) c.requires.closed c.requires.mem c.requires.count);
+    }
 
 pub loop-listed-preserved : goal.loop-listed-preserved
 loop-listed-preserved g c =
@@ -28,12 +46,12 @@ loop-listed-preserved g c =
       calls = AtMost-joined (i * n) 0 0 n 0 0 ((i + 1) * n) 0 0 _ _ _ (omega arith) (omega arith) (omega arith) inv.calls c.add_region.ensures.calls;
       unchanged = λ t. c.add_region.ensures.unchanged (rw inv.same_lasting t) ∙ inv.unchanged t;
       all = inv.all;
-      come = come_step c.args.manifest.now c.loop-listed.replayed c.add_region.new.self r (drop (i + 1) logs) step.0 step.1 (subst (HasCome c.args.manifest.now c.loop-listed.replayed.count c.loop-listed.replayed.closed.items) rest inv.come);
+      come = come_step c.args.manifest.now c.loop-listed.self c.add_region.new.self r (drop (i + 1) logs) step.0 step.1 (subst (HasCome c.args.manifest.now c.loop-listed.self.count c.loop-listed.self.closed.items) rest inv.come);
       numbered = step.1.numbered;
       goes_on = λ t.
           let gave : step.0 ≡ batches_at n (seen (disk (D.medium c.args.device.now))) r = subst (λ (h : List Disk). step.0 ≡ batches_at n (seen (present h)) r) (inv.unchanged t) (step.2 (rw inv.same_lasting t)) in
-          goes_on_step c.args.manifest.now c.loop-listed.replayed c.add_region.new.self r (drop (i + 1) logs) step.0 step.1 n (seen (disk (D.medium c.args.device.now))) gave
-          (subst (GoesOn n (seen (disk (D.medium c.args.device.now))) c.args.manifest.now c.loop-listed.replayed) rest (inv.goes_on t));
+          goes_on_step c.args.manifest.now c.loop-listed.self c.add_region.new.self r (drop (i + 1) logs) step.0 step.1 n (seen (disk (D.medium c.args.device.now))) gave
+          (subst (GoesOn n (seen (disk (D.medium c.args.device.now))) c.args.manifest.now c.loop-listed.self) rest (inv.goes_on t));
     }
 
 pub returns-in_err-add_region-clause-calls : goal.returns-in_err-add_region-clause-calls
