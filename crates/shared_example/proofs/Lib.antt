@@ -1,0 +1,3 @@
+pub mod Weaving
+pub mod Outlasting
+pub mod Finding

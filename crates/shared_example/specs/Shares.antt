@@ -1,0 +1,60 @@
+-- What two clients do with a shared store, and what is found of it.
+use Rattle.std.specs.Prelude.{◌≡◌, ℕ, List, [], ◌∷◌, ◌++◌, Some}
+use Rattle.std.specs.FinMap as finite
+use Rattle.lsm_codec.specs.Keys.{Bytes}
+use Rattle.lsm_codec.specs.Map.{Map, Operation}
+use Rattle.lsm_device.specs.Medium.{disk}
+use Rattle.lsm_device.specs.Outcomes.{Leaves}
+use Rattle.lsm_open.specs.CrashState.{CrashState}
+use Rattle.lsm_open.specs.Image.{IsImage}
+use Rattle.lsm_store.specs.Backing.{StoreView}
+use Rattle.lsm_store.specs.Calls.{Call, Reply}
+use Rattle.lsm_store.specs.Calls.{Commit, Sync, Refused}
+use Rattle.lsm_store.specs.Machine.{Called}
+use Rattle.lsm_trail.specs.Begins.{Begin}
+use Rattle.lsm_trail.specs.History.{Event, event, calls_by, TrailView}
+use Rattle.lsm_trail.specs.Knowledge.{Known}
+use Rattle.lsm_shared.specs.Sessions.{IsEnded}
+
+-- a batch that puts one value
+abbrev pub one_put : Bytes → Bytes → List Operation
+one_put key value = record { key = key; value = Some value } ∷ []
+
+-- a reply that is no refusal
+abbrev pub IsAnswer : Reply → Type 0
+IsAnswer (Refused e) = ⊥
+IsAnswer other = Unit {0}
+
+-- one more call of the client was answered
+pub record Makes (old : Known) (call : Call) (new : Known) : Type 0 where
+  pub number : new.number ≡ old.number
+  pub reply : Reply
+  pub answered : IsAnswer reply
+  pub mine : new.mine ≡ old.mine ++ event old.number (Called call) reply ∷ []
+
+-- these are the calls of a client that committed a batch and synced, and both were answered
+pub record IsStored (client : ℕ) (batch : List Operation) (calls : List Event) : Type 0 where
+  pub committed : Reply
+  pub synced : Reply
+  pub answered : IsAnswer committed × IsAnswer synced
+  pub are : calls ≡ event client (Called (Commit batch)) committed ∷ event client (Called Sync) synced ∷ []
+
+-- A session of two clients has ended, and each client's own calls stand in the trail with the replies that it got: it
+-- committed its batch and synced.
+pub record IsShared (b : Begin) (first second : List Operation) (store : StoreView) (trail : TrailView) : Type 0 where
+  pub clients : List Known
+  pub ended : IsEnded b clients store trail
+  pub first_stored : IsStored 0 first (calls_by 0 trail.log)
+  pub second_stored : IsStored 1 second (calls_by 1 trail.log)
+
+-- both values stand under their keys
+abbrev pub HasBoth : (Bytes × Bytes) → (Bytes × Bytes) → Map → Type 0
+HasBoth first second m = (finite.get m first.0 ≡ Some first.1) × (finite.get m second.0 ≡ Some second.1)
+
+-- sectors stand for a map that has both values
+abbrev pub StandsForBoth : (Bytes × Bytes) → (Bytes × Bytes) → List (List ℕ) → Type 0
+StandsForBoth first second sectors = (left : CrashState) × HasBoth first second left.map × IsImage 128 left sectors
+
+-- whatever a crash leaves of this store has both values
+abbrev pub OutlastCrashes : (Bytes × Bytes) → (Bytes × Bytes) → StoreView → Type 0
+OutlastCrashes first second store = Leaves (StandsForBoth first second) (disk store.device)

@@ -1,0 +1,11 @@
+//! A caller of shared stores: what it is told by the contracts alone.
+#![tactic(auto)]
+
+mod client;
+mod session;
+mod sharing;
+#[cfg(test)]
+mod tests;
+
+pub use session::in_two_threads;
+pub use sharing::share;

@@ -1,0 +1,78 @@
+// A session of two clients, each in a thread of its own.
+ghost use Rattle.std.specs.Prelude.{◌≡◌, [], ◌∷◌, IfOk, IfSome};
+ghost use Rattle.lsm_trail.specs.Knowledge.{known};
+ghost use Rattle.lsm_shared.specs.Clients.{newcomers};
+ghost use Rattle.shared_example.specs.Shares.{IsStored, IsShared};
+
+use crate::client::store;
+use lsm_codec::Batch;
+use lsm_device::{MemDevice, Refusal};
+use lsm_shared::{Client, Shared};
+use lsm_store::Store;
+use lsm_trail::{Opened, SessionName, Trail};
+use std::alloc::{AllocError, Global};
+use std::sync::Wait;
+use std::thread::{Threads, join};
+
+// The clients of a session that has two.
+fn two_of<B: SessionName>(
+    clients: Vec<Client<Global, B>>,
+) -> Option<(Client<Global, B>, Client<Global, B>)>
+    requires { clients.items ≡ newcomers B.id.begin 2 }
+    ensures { IfSome result (λ r. (r.0 ≡ known B.id.begin 0 [] []) × (r.1 ≡ known B.id.begin 1 [] [])) }
+{
+    let mut clients = clients;
+    let two = clients.pop()?;
+    let one = clients.pop()?;
+    Some((one, two))
+}
+
+// Both clients in a list.
+fn list_of<B: SessionName>(
+    alloc: Global,
+    one: Client<Global, B>,
+    two: Client<Global, B>,
+) -> Result<Vec<Client<Global, B>>, AllocError>
+    ensures { IfOk result (λ list. list.items ≡ one ∷ two ∷ []) }
+{
+    let mut list = Vec::with_capacity(alloc, 2)?;
+    list.push_reserved(one);
+    list.push_reserved(two);
+    Ok(list)
+}
+
+/// Begins the session, lets each client commit its batch and sync in a thread of its own, and ends the session. Each client's
+/// own calls are then in the trail, with the replies that it got.
+pub fn in_two_threads<B: SessionName + Send + Sync, R: Threads + Wait + Sync>(
+    rt: &R,
+    alloc: Global,
+    opened: Opened<MemDevice>,
+    first: Batch,
+    second: Batch,
+) -> Result<(Store<MemDevice>, Trail), Refusal>
+    requires session { opened ≡ B.id }
+    requires clients { opened.begin.clients ≡ 2 }
+    ensures { IfOk result (λ ended. IsShared opened.begin first second ended.0 ended.1) }
+{
+    let (shared, clients) = match Shared::<MemDevice, Global, B>::begin(alloc, opened) {
+        Ok(begun) => begun,
+        Err((refusal, _)) => return Err(refusal),
+    };
+    let (one, two) = two_of(clients).ok_or(Refusal::NotYours)?;
+    let (one, two) = join(
+        rt,
+        || -> Result<Client<Global, B>, Refusal>
+            requires { one.mine ≡ [] }
+            ensures { IfOk result (λ client. (client.number ≡ one.number) × IsStored one.number first client.mine) }
+        { store(rt, &shared, one, first) },
+        || -> Result<Client<Global, B>, Refusal>
+            requires { two.mine ≡ [] }
+            ensures { IfOk result (λ client. (client.number ≡ two.number) × IsStored two.number second client.mine) }
+        { store(rt, &shared, two, second) },
+    );
+    let clients = list_of(alloc, one?, two?)?;
+    match shared.finish(clients) {
+        Ok(ended) => Ok(ended),
+        Err((refusal, _, _)) => Err(refusal),
+    }
+}
