@@ -1,7 +1,6 @@
 // One client of the session.
 ghost use Rattle.std.specs.Prelude.{◌≡◌, [], IfOk, OnOk};
 ghost use Rattle.lsm_lives.specs.Calls.{call_of};
-ghost use Rattle.lsm_store.specs.Calls.{Commit, Sync};
 ghost use Rattle.shared_example.specs.Shares.{one_put, Makes, IsStored};
 
 use lsm_codec::{Batch, Op};

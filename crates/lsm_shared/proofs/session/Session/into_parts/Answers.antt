@@ -13,3 +13,6 @@ returns-clause-state g c =
 
 pub returns-clause-backed : goal.returns-clause-backed
 returns-clause-backed g c = λ began. c.release.ensures.serves.backed (c.self.invariant.backed began)
+
+pub returns-clause-trail : goal.returns-clause-trail
+returns-clause-trail g c = ap (λ (v : SessionView). v.log) c.self.view_is
