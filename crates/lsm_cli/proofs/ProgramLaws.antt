@@ -1,5 +1,5 @@
 -- The program's words are such as the parser's definitions compute.
-use Rattle.std.proofs.Common.{◌≡◌, ◌||◌, Bool, List, Option, Some, None, option_map, true, false, refl, sym, ap, ap₂, ◌∙◌}
+use Rattle.std.proofs.Common.{◌≡◌, ◌||◌, List, Option, Some, None, option_map, true, refl, sym, ap, ap₂, ◌∙◌}
 use Rattle.clap.specs.Words.{AddsSubcommand, App, Row, Text, is_simple, is_simple_and_free, with_subcommand}
 use Rattle.clap.specs.declared.builder.command.Command.{Command}
 use Rattle.clap.proofs.OnLiterals.{clap_on_literals}
@@ -37,11 +37,6 @@ found_together (Some b) pair_of name rows e h = both (pair_of b) e h
   where
     both : (p : Text × List Row) → Some name ≡ Some p.0 → Some rows ≡ Some p.1 → Some p ≡ Some (name, rows)
     both (n, r) e h = let e' : name ≡ n = cc in let h' : rows ≡ r = cc in ap₂ (λ x y. Some (x, y)) (sym e') (sym h')
-
--- a test that is false adds nothing to another
-pub or-false : (a b : Bool) → b ≡ false → (a || b) ≡ a
-or-false true b e = refl
-or-false false b e = e
 
 -- a command with one more subcommand
 pub IsCommand-subcommand : {old sub new : Command} {app part : App} → AddsSubcommand old sub new → IsCommand app old → IsCommand part sub

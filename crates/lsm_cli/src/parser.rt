@@ -1,8 +1,7 @@
 //! The words after the program's name, as a subcommand with its words.
 
 ghost use Rattle.std.specs.Prelude.{◌≡◌, ◌⊎◌, ◌&&◌, [], map, IfOk, IfErr, MatchResult, is_some, false};
-ghost use Rattle.clap.specs.Words.{App, app_of, fault_of, first_of, found_of, kind_of, new_app, rows_of, rule_of, subcommand_of, subcommand_rows_of, with_rule};
-ghost use Rattle.clap.specs.declared.builder.command.Command.TheViews.{out-Command as fields_of};
+ghost use Rattle.clap.specs.Words.{App, fault_of, first_of, found_of, kind_of, new_app, rows_of, rule_of, subcommand_of, subcommand_rows_of};
 ghost use Rattle.clap.specs.declared.error.kind.ErrorKind.TheVariants.{OutOfMemory};
 ghost use Rattle.lsm_device.specs.declared.refusal.Refusal.TheVariants.{NoMemory};
 ghost use Rattle.lsm_language.specs.Faults.{reason_of, mistake, refusal};
@@ -185,21 +184,9 @@ fn taking<'a>(
 {
     let mut command = Command::new(alloc, name).about(about);
     for place in places {
-        command = with_place(alloc, command, place)?;
+        command = command.arg(word(alloc, place))?;
     }
     Ok(command)
-}
-
-// The command with one word more.
-fn with_place<'a>(
-    alloc: Global,
-    command: Command<'a>,
-    place: &'a str,
-) -> Result<Command<'a>, AllocError>
-    ensures { IfOk result (λ r. (app_of r ≡ with_rule (app_of command.entry) (word_rule place.entry.now))
-        × ((fields_of r).has_globals ≡ (fields_of command.entry).has_globals)) }
-{
-    Ok(command.arg(word(alloc, place))?)
 }
 
 // A word that has to be there.
