@@ -4,8 +4,6 @@
 mod client;
 mod session;
 mod sharing;
-#[cfg(test)]
-mod tests;
 
 pub use session::in_two_threads;
 pub use sharing::share;

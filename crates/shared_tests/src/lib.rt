@@ -8,6 +8,8 @@ mod beginnings;
 #[cfg(test)]
 mod endings;
 #[cfg(test)]
+mod example;
+#[cfg(test)]
 mod growth;
 #[cfg(test)]
 mod replies;

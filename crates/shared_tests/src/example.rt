@@ -1,11 +1,11 @@
-//! With ample memory both values are found.
+//! The whole caller of the library `shared_example`.
 
-use crate::share;
 use lsm_device::MemDevice;
+use shared_example::share;
 use std::test::Fail;
 
 #[test]
-fn both_values_are_found(rt: HostRuntime) -> Result<(), Fail> {
+fn two_clients_find_both_values(rt: HostRuntime) -> Result<(), Fail> {
     let device = MemDevice::new(rt.alloc(), 8_192)?;
     let keep = [false, true];
     let (one, two) = share(&rt, rt.alloc(), device, b"one", b"1", b"two", b"2", &keep)?;
