@@ -39,8 +39,8 @@ pub record IsStored (client : ℕ) (batch : List Operation) (calls : List Event)
   pub answered : IsAnswer committed × IsAnswer synced
   pub are : calls ≡ event client (Called (Commit batch)) committed ∷ event client (Called Sync) synced ∷ []
 
--- A session of two clients has ended, and each client's own calls stand in the trail with the replies that it got: it
--- committed its batch and synced.
+-- A session of two clients has ended, and the trail has just these calls of each: it committed its batch and synced, and
+-- both were answered.
 pub record IsShared (b : Begin) (first second : List Operation) (store : StoreView) (trail : TrailView) : Type 0 where
   pub clients : List Known
   pub ended : IsEnded b clients store trail

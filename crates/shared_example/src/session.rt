@@ -41,8 +41,8 @@ fn list_of<B: SessionName>(
     Ok(list)
 }
 
-/// Begins the session, lets each client commit its batch and sync in a thread of its own, and ends the session. Each client's
-/// own calls are then in the trail, with the replies that it got.
+/// Begins the session, lets each client commit its batch and sync in a thread of its own, and ends the session. The trail then
+/// has just these calls of each client, and both were answered.
 pub fn in_two_threads<B: SessionName + Send + Sync, R: Threads + Wait + Sync>(
     rt: &R,
     alloc: Global,
