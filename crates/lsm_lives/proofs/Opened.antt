@@ -19,7 +19,7 @@ use Rattle.lsm_store.specs.Calls.{Number, Done, Value, Rows, Refused}
 use Rattle.lsm_store.specs.Lives.{all_stopped}
 use Rattle.lsm_store.specs.Machine.{Step}
 use Rattle.lsm_store.specs.RecoveryPoints.{batch_count}
-use Rattle.lsm_store.specs.Serving.{OpensTo}
+use Rattle.lsm_store.specs.Serving.{OpensTo, ReopensTo}
 use Rattle.lsm_lives.specs.Leading.{BeginsOn, FailsOn, IsLed, with_fuse}
 use Rattle.lsm_lives.specs.Replaying.{Replays}
 use Rattle.lsm_lives.proofs.Steps.{go_on}
@@ -63,6 +63,7 @@ module _ {X : Type 0} (medium : X → Medium) (start : X) where
   pub opening : (r : Result StoreView (Refusal × X))
       → ((IsDeviceSize began.size → ⊥) → r ≡ Err (BadGeometry, start))
       → (IsDeviceSize began.size → MatchResult r (λ s. opening_refusal held ≡ None) (λ e. (opening_refusal held ≡ Some e.0) ⊎ ((e.0 ≡ NoMemory) ⊎ (e.0 ≡ Io))))
+      → IfOk r (λ s. ReopensTo began s)
       → ((log_sectors : ℕ) (left : CrashState) → IsImage log_sectors left held → IfOk r (λ s. OpensTo began log_sectors left s))
       → ((log_sectors : ℕ) (left : CrashState) → IsImage log_sectors left held → IfErr r (λ e. FailsToOpen began log_sectors left e.0 (medium e.1)))
       → MatchResult r (λ s. s.device.calls.faults ≡ began.calls.faults) (λ e. (medium e.1).calls.faults ≡ faults_after (is_no_fault e.0) began.calls.faults)
@@ -71,18 +72,19 @@ module _ {X : Type 0} (medium : X → Medium) (start : X) where
       → MatchResult r (λ s. s.device.lasting ≡ began.lasting) (λ e. (medium e.1).lasting ≡ began.lasting)
       → MatchResult r (λ s. BeginsOn began s) (λ e. FailsOn began e.0 (medium e.1))
   unfolding refusal_in
-  opening (Ok s) size refusal opens fails faults calls same_size lasting =
+  opening (Ok s) size refusal reopens opens fails faults calls same_size lasting =
       let fits = sized began.size (λ other. subst (λ (r : Result StoreView (Refusal × X)). MatchResult r (λ _. Unit {0}) (λ _. ⊥)) (size other) tt) in
       record {
         size = fits;
         unrefused = refusal fits;
+        reopens = reopens;
         opens = opens;
         no_fault = faults;
         calls = calls;
         same_size = same_size;
         same_lasting = lasting;
       }
-  opening (Err e) size refusal opens fails faults calls same_size lasting = record {
+  opening (Err e) size refusal reopens opens fails faults calls same_size lasting = record {
     size = λ other. inr (ap refusal_in (size other));
     reason = refusal;
     fault = faults;

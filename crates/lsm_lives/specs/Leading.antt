@@ -16,7 +16,7 @@ use Rattle.lsm_store.specs.Calls.{Number, Refused}
 use Rattle.lsm_store.specs.Lives.{all_stopped}
 use Rattle.lsm_store.specs.Machine.{Step}
 use Rattle.lsm_store.specs.RecoveryPoints.{batch_count}
-use Rattle.lsm_store.specs.Serving.{OpensTo}
+use Rattle.lsm_store.specs.Serving.{OpensTo, ReopensTo}
 use Rattle.lsm_lives.specs.Calls.{step_of}
 use Rattle.lsm_lives.specs.Replaying.{Replays}
 use Rattle.lsm_lives.specs.declared.living.Life.{Life as Given}
@@ -32,9 +32,11 @@ life_of life = record { fuse = life.fuse; steps = map step_of life.steps.items; 
 
 -- An opening of the device answered this store.
 pub record BeginsOn (before : Medium) (s : StoreView) : Type 0 where
-  -- neither the device's size nor what it holds refuses it, and of what a crash left it is the store that was
+  -- neither the device's size nor what it holds refuses it; the store is what it replayed, and of what a crash left the one
+  -- that was
   pub size : IsDeviceSize before.size
   pub unrefused : opening_refusal (seen (disk before)) ≡ None
+  pub reopens : ReopensTo before s
   pub opens : (log_sectors : ℕ) (left : CrashState) → IsImage log_sectors left (seen (disk before)) → OpensTo before log_sectors left s
   -- no call of the device faulted in it
   pub no_fault : s.device.calls.faults ≡ before.calls.faults
