@@ -1,16 +1,17 @@
 -- An opening on a device, and a life from there until its crash.
 use Rattle.std.proofs.lemmas.Bool.{cases_lt}
-use Rattle.std.proofs.Common.{⊎_elim, ◌<◌, ◌≤◌, arith, ◌≡◌, ◌⊎◌, inl, inr, ℕ, Bool, true, false, List, [], ◌∷◌, Option, None, Some, Result, Ok, Err, refl, ap, sym, subst, ◌∙◌}
-use Rattle.std.specs.Prelude.{IsTrue, IfOk, IfErr, MatchResult, if◌then◌else◌}
+use Rattle.std.proofs.Common.{⊎_elim, arith, ◌≡◌, ◌⊎◌, inl, inr, ℕ, List, [], ◌∷◌, Option, None, Some, Result, Ok, Err, refl, ap, sym, subst, ◌∙◌}
+use Rattle.std.specs.Prelude.{IsTrue, IfOk, IfErr, MatchResult}
 use Rattle.lsm_device.specs.declared.refusal.Refusal.{Refusal}
 use Rattle.lsm_device.specs.declared.refusal.Refusal.TheVariants.{NoMemory, Io, BadGeometry}
 use Rattle.lsm_device.specs.Calls.{AtMost, faults_after}
-use Rattle.lsm_device.specs.Disk.{seen}
+use Rattle.lsm_device.specs.Disk.{seen, synced}
+use Rattle.lsm_device.specs.History.{Becomes}
 use Rattle.lsm_device.specs.Medium.{Medium, Lasting, KeepsFuse, disk}
 use Rattle.lsm_device.specs.Refusals.{is_no_fault}
 use Rattle.lsm_open.specs.CrashState.{CrashState}
 use Rattle.lsm_open.specs.Image.{IsImage}
-use Rattle.lsm_open.specs.Opening.{opening_refusal, FailsToOpen}
+use Rattle.lsm_open.specs.Opening.{opening_refusal, BeginsWithSync, FailsToOpen}
 use Rattle.lsm_root.specs.Layout.{IsDeviceSize}
 use Rattle.lsm_open.proofs.Openings.{same_again}
 use Rattle.lsm_store.specs.Backing.{StoreView}
@@ -32,6 +33,7 @@ not_opened before = record {
   size = λ other. inl refl;
   reason = λ size. inr (inl refl);
   fault = refl;
+  called = inl refl;
   fails = λ log_sectors left is. record {
     fair = tt;
     again = (left, same_again left, is);
@@ -41,12 +43,14 @@ not_opened before = record {
   same_lasting = refl;
 }
 
+-- a size is one of a device, or isn't
+sized_or_not : (n : ℕ) → IsDeviceSize n ⊎ (IsDeviceSize n → ⊥)
+sized_or_not n = ⊎_elim (λ small. inr (λ d. omega (arith, small, d.low)))
+    (λ low. ⊎_elim (λ large. inr (λ d. omega (arith, large, d.high))) (λ high. inl (record { low = low; high = high })) (cases_lt 1048576 n)) (cases_lt n 8192)
+
 -- a size that isn't no size of a device is one
 sized : (n : ℕ) → ((IsDeviceSize n → ⊥) → ⊥) → IsDeviceSize n
-sized n not = record {
-  low = ⊎_elim (λ small. absurd (not (λ d. omega (arith, small, d.low)))) (λ le. le) (cases_lt n 8192);
-  high = ⊎_elim (λ large. absurd (not (λ d. omega (arith, large, d.high)))) (λ le. le) (cases_lt 1048576 n);
-}
+sized n not = ⊎_elim (λ fits. fits) (λ other. absurd (not other)) (sized_or_not n)
 
 module _ {X : Type 0} (medium : X → Medium) (start : X) where
   abbrev began : Medium
@@ -55,9 +59,9 @@ module _ {X : Type 0} (medium : X → Medium) (start : X) where
   abbrev held : List (List ℕ)
   held = seen (disk (medium start))
 
-  refusal_in : Result StoreView (Refusal × X) → Refusal
-  refusal_in (Ok s) = BadGeometry
-  refusal_in (Err e) = e.0
+  failed : Result StoreView (Refusal × X) → Refusal × X
+  failed (Ok s) = (BadGeometry, start)
+  failed (Err e) = e
 
   -- what an opening answers
   pub opening : (r : Result StoreView (Refusal × X))
@@ -68,11 +72,14 @@ module _ {X : Type 0} (medium : X → Medium) (start : X) where
       → ((log_sectors : ℕ) (left : CrashState) → IsImage log_sectors left held → IfErr r (λ e. FailsToOpen began log_sectors left e.0 (medium e.1)))
       → MatchResult r (λ s. s.device.calls.faults ≡ began.calls.faults) (λ e. (medium e.1).calls.faults ≡ faults_after (is_no_fault e.0) began.calls.faults)
       → IfOk r (λ s. AtMost 6210 38 3 began.calls s.device.calls)
+      → (IsDeviceSize began.size → MatchResult r (λ s. BeginsWithSync began.calls s.device.calls) (λ e. BeginsWithSync began.calls (medium e.1).calls))
+      → IfErr r (λ e. IsTrue (is_no_fault e.0) → AtMost 6210 0 1 began.calls (medium e.1).calls)
+      → (IsDeviceSize began.size → IfErr r (λ e. IsTrue (is_no_fault e.0) → Becomes (synced (disk began)) began.history (medium e.1).history))
       → MatchResult r (λ s. s.device.size ≡ began.size) (λ e. (medium e.1).size ≡ began.size)
       → MatchResult r (λ s. s.device.lasting ≡ began.lasting) (λ e. (medium e.1).lasting ≡ began.lasting)
       → MatchResult r (λ s. BeginsOn began s) (λ e. FailsOn began e.0 (medium e.1))
-  unfolding refusal_in
-  opening (Ok s) size refusal reopens opens fails faults calls same_size lasting =
+  unfolding failed
+  opening (Ok s) size refusal reopens opens fails faults calls begins unwritten settled same_size lasting =
       let fits = sized began.size (λ other. subst (λ (r : Result StoreView (Refusal × X)). MatchResult r (λ _. Unit {0}) (λ _. ⊥)) (size other) tt) in
       record {
         size = fits;
@@ -84,10 +91,12 @@ module _ {X : Type 0} (medium : X → Medium) (start : X) where
         same_size = same_size;
         same_lasting = lasting;
       }
-  opening (Err e) size refusal reopens opens fails faults calls same_size lasting = record {
-    size = λ other. inr (ap refusal_in (size other));
+  opening (Err e) size refusal reopens opens fails faults calls begins unwritten settled same_size lasting = record {
+    size = λ other. inr (ap (λ (r : Result StoreView (Refusal × X)). (failed r).0) (size other));
     reason = refusal;
     fault = faults;
+    called = ⊎_elim (λ fits. inr (record { size = fits; begins = begins fits; unwritten = unwritten; settled = settled fits }))
+        (λ other. inl (ap (λ (r : Result StoreView (Refusal × X)). medium (failed r).1) (size other))) (sized_or_not began.size);
     fails = fails;
     same_size = same_size;
     same_lasting = lasting;

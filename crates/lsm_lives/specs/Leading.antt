@@ -1,14 +1,15 @@
 -- Lives on a device in memory, whatever it holds.
-use Rattle.std.specs.Prelude.{◌≡◌, ◌⊎◌, ℕ, Bool, List, [], ◌∷◌, Option, None, Some, map}
+use Rattle.std.specs.Prelude.{◌≡◌, ◌⊎◌, ℕ, Bool, List, [], ◌∷◌, Option, None, Some, map, IsTrue}
 use Rattle.lsm_device.specs.Calls.{AtMost, faults_after}
-use Rattle.lsm_device.specs.Disk.{seen}
+use Rattle.lsm_device.specs.Disk.{seen, synced}
+use Rattle.lsm_device.specs.History.{Becomes}
 use Rattle.lsm_device.specs.Medium.{Medium, KeepsFuse, disk, fused, crashed}
 use Rattle.lsm_device.specs.Refusals.{is_no_fault}
 use Rattle.lsm_device.specs.declared.refusal.Refusal.{Refusal}
 use Rattle.lsm_device.specs.declared.refusal.Refusal.TheVariants.{NoMemory, Io, BadGeometry}
 use Rattle.lsm_open.specs.CrashState.{CrashState}
 use Rattle.lsm_open.specs.Image.{IsImage}
-use Rattle.lsm_open.specs.Opening.{opening_refusal, FailsToOpen}
+use Rattle.lsm_open.specs.Opening.{opening_refusal, BeginsWithSync, FailsToOpen}
 use Rattle.lsm_root.specs.Layout.{IsDeviceSize}
 use Rattle.lsm_store.specs.Backing.{StoreView}
 use Rattle.lsm_store.specs.Calls.{Reply}
@@ -44,6 +45,14 @@ pub record BeginsOn (before : Medium) (s : StoreView) : Type 0 where
   pub same_size : s.device.size ≡ before.size
   pub same_lasting : s.device.lasting ≡ before.lasting
 
+-- An opening of a device of a fair size was refused behind its first call, a sync. Where it tells of no fault it has made no
+-- other change: nothing was written, and what pended stands.
+pub record FailsBehindSync (before : Medium) (refusal : Refusal) (after : Medium) : Type 0 where
+  pub size : IsDeviceSize before.size
+  pub begins : BeginsWithSync before.calls after.calls
+  pub unwritten : IsTrue (is_no_fault refusal) → AtMost 6210 0 1 before.calls after.calls
+  pub settled : IsTrue (is_no_fault refusal) → Becomes (synced (disk before)) before.history after.history
+
 -- It was refused.
 pub record FailsOn (before : Medium) (refusal : Refusal) (after : Medium) : Type 0 where
   -- for the device's size, as what it holds calls for, or for want of memory, or with Io, which is told exactly where a call
@@ -51,6 +60,8 @@ pub record FailsOn (before : Medium) (refusal : Refusal) (after : Medium) : Type
   pub size : (IsDeviceSize before.size → ⊥) → (refusal ≡ NoMemory) ⊎ (refusal ≡ BadGeometry)
   pub reason : IsDeviceSize before.size → (opening_refusal (seen (disk before)) ≡ Some refusal) ⊎ ((refusal ≡ NoMemory) ⊎ (refusal ≡ Io))
   pub fault : after.calls.faults ≡ faults_after (is_no_fault refusal) before.calls.faults
+  -- before it called the device, or behind a sync
+  pub called : (after ≡ before) ⊎ FailsBehindSync before refusal after
   -- of what a crash left it leaves the same
   pub fails : (log_sectors : ℕ) (left : CrashState) → IsImage log_sectors left (seen (disk before)) → FailsToOpen before log_sectors left refusal after
   pub same_size : after.size ≡ before.size
