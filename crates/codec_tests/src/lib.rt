@@ -8,4 +8,6 @@ mod manifests;
 #[cfg(test)]
 mod sectors;
 #[cfg(test)]
+mod tables;
+#[cfg(test)]
 mod words;

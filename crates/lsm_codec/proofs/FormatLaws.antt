@@ -5,12 +5,15 @@ use Rattle.lsm_codec.specs.BatchText.{IsBatch, sectors_of}
 use Rattle.lsm_codec.specs.Superblocks.{superblock_sector, superblock_of}
 use Rattle.lsm_codec.specs.LogSectors.{log_sector, part_of}
 use Rattle.lsm_codec.specs.Manifests.{Contents, IsManifest, sector_count}
-use Rattle.lsm_codec.specs.Formats.{blank, SuperblockLaws, PartLaws, BatchTextLaws, ManifestLaws}
+use Rattle.lsm_codec.specs.Formats.{blank, SuperblockLaws, PartLaws, BatchTextLaws, ManifestLaws, DataBlockLaws, IndexLaws, FooterLaws}
 use Rattle.lsm_codec.proofs.Decoding.{no_answer}
 use Rattle.lsm_codec.proofs.Bytes.{of_superblock, of_part, of_batch, of_manifest}
 use Rattle.lsm_codec.proofs.SuperblockLaws.{superblock_of_exact, superblock_format, length-superblock_sector}
 use Rattle.lsm_codec.proofs.LogSectorLaws.{part_of_exact, log_sector_format, length-log_sector}
 use Rattle.lsm_codec.proofs.BatchLaws.{batch_format, text_length_low}
+use Rattle.lsm_codec.proofs.DataBlockLaws.{block_format, length-data_block}
+use Rattle.lsm_codec.proofs.IndexLaws.{index_format, length-index_blocks, index_low, index_high}
+use Rattle.lsm_codec.proofs.FooterLaws.{footer_format, length-footer_block}
 use Rattle.lsm_codec.proofs.ManifestLaws.{manifest_format, length-manifest_text, length-manifest_bytes}
 
 -- a sector of zeros does not begin with the letters
@@ -45,3 +48,12 @@ batch_text_laws_hold = record { format = batch_format; bytes = of_batch; size = 
 
 pub manifest_laws_hold : ManifestLaws
 manifest_laws_hold = record { format = manifest_format; size = length-manifest_bytes; bytes = of_manifest; sectors_low = sector_count_low; sectors_high = sector_count_high }
+
+pub data_block_laws_hold : DataBlockLaws
+data_block_laws_hold = record { format = block_format; size = length-data_block }
+
+pub index_laws_hold : IndexLaws
+index_laws_hold = record { format = index_format; size = length-index_blocks; length_low = index_low; length_high = index_high }
+
+pub footer_laws_hold : FooterLaws
+footer_laws_hold = record { format = footer_format; size = length-footer_block }

@@ -1,3 +1,5 @@
+pub mod Lists
+pub mod KeyOrder
 pub mod Filling
 pub mod Loops
 pub mod Numbers
@@ -10,6 +12,11 @@ pub mod SuperblockLaws
 pub mod LogSectorLaws
 pub mod BatchLaws
 pub mod ManifestLaws
+pub mod Sizes
+pub mod EntryLaws
+pub mod DataBlockLaws
+pub mod IndexLaws
+pub mod FooterLaws
 pub mod WordLaws
 pub mod Bytes
 pub mod FormatLaws

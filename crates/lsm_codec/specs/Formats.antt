@@ -7,6 +7,10 @@ use Rattle.lsm_codec.specs.BatchText.{IsBatch, text_length, sectors_of, batch_te
 use Rattle.lsm_codec.specs.Superblocks.{IsSuperblock, superblock_sector, superblock_of}
 use Rattle.lsm_codec.specs.LogSectors.{Part, IsPart, log_sector, part_of}
 use Rattle.lsm_codec.specs.Manifests.{Contents, IsManifest, sector_count, manifest_bytes, manifest_of}
+use Rattle.lsm_codec.specs.Versions.{Version}
+use Rattle.lsm_codec.specs.Entries.{IsDataBlock, data_block, block_of}
+use Rattle.lsm_codec.specs.Indexes.{Edge, IsIndex, index_length, index_count, index_blocks, index_of}
+use Rattle.lsm_codec.specs.Footers.{Summary, IsSummary, footer_block, footer_of}
 use Rattle.lsm_codec.specs.declared.superblock.Superblock.{Superblock}
 
 -- A spelling is decoded to its value, what is decoded is spelled by the bytes, and a spelling determines its value.
@@ -49,3 +53,17 @@ pub record ManifestLaws : Type 0 where
   pub bytes : (c : Contents) → IsBytes (manifest_bytes c)
   pub sectors_low : (c : Contents) → 1 ≤ sector_count c
   pub sectors_high : (c : Contents) → IsManifest c → sector_count c ≤ 64
+
+pub record DataBlockLaws : Type 0 where
+  pub format : IsFormat IsDataBlock data_block block_of
+  pub size : (entries : List Version) → IsDataBlock entries → length (data_block entries) ≡ 4096
+
+pub record IndexLaws : Type 0 where
+  pub format : (count : ℕ) → IsFormat (IsIndex count) index_blocks (index_of count)
+  pub size : (edges : List Edge) → length (index_blocks edges) ≡ 4096 * index_count edges
+  pub length_low : (count : ℕ) (edges : List Edge) → IsIndex count edges → 10 * count ≤ index_length edges
+  pub length_high : (count : ℕ) (edges : List Edge) → IsIndex count edges → index_length edges ≤ 264 * count
+
+pub record FooterLaws : Type 0 where
+  pub format : IsFormat IsSummary footer_block footer_of
+  pub size : (f : Summary) → IsSummary f → length (footer_block f) ≡ 4096

@@ -7,6 +7,11 @@ pub mod Answers
 pub mod Superblocks
 pub mod LogSectors
 pub mod Manifests
+pub mod Versions
+pub mod References
+pub mod Entries
+pub mod Indexes
+pub mod Footers
 pub mod Words
 pub mod Geometry
 pub mod Formats

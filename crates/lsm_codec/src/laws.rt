@@ -1,6 +1,6 @@
 //! The laws of the formats, for proofs of crates above: the functions do nothing, and their contracts state them.
 
-ghost use Rattle.lsm_codec.specs.Formats.{SuperblockLaws, PartLaws, BatchTextLaws, ManifestLaws};
+ghost use Rattle.lsm_codec.specs.Formats.{SuperblockLaws, PartLaws, BatchTextLaws, ManifestLaws, DataBlockLaws, IndexLaws, FooterLaws};
 
 /// Each superblock within the limits has one spelling, a sector of 512 bytes, and a sector of zeros spells none.
 pub fn superblock_laws()
@@ -20,4 +20,20 @@ pub fn batch_text_laws()
 /// Each manifest within the limits has one spelling, in 1 to 64 whole sectors.
 pub fn manifest_laws()
     ensures { ManifestLaws }
+{}
+
+/// Each data block within the limits has one spelling, a block of 4,096 bytes.
+pub fn data_block_laws()
+    ensures { DataBlockLaws }
+{}
+
+/// Each index of so many data blocks within the limits has one spelling, in the fewest blocks that hold it, and an edge
+/// takes 10 to 264 bytes of it.
+pub fn index_laws()
+    ensures { IndexLaws }
+{}
+
+/// Each footer within the limits has one spelling, a block of 4,096 bytes.
+pub fn footer_laws()
+    ensures { FooterLaws }
 {}

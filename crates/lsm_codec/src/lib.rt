@@ -4,10 +4,18 @@
 mod agree;
 mod batch;
 mod batch_text;
+mod data_block;
+mod edge_text;
+mod entry;
+mod entry_text;
 mod filled;
+mod footer;
 mod geometry;
+mod index;
 mod key;
+mod kind;
 mod laws;
+mod lending;
 mod log_record;
 mod log_sector;
 mod manifest;
@@ -19,17 +27,28 @@ mod reading;
 mod records;
 mod superblock;
 mod value;
+mod version;
+mod whole_blocks;
 mod words;
 mod writing;
 
 pub use batch::Batch;
+pub use data_block::encode_data_block;
+pub use entry::Entry;
+pub use footer::Footer;
 pub use geometry::data_blocks;
+pub use index::{Edge, Index};
 pub use key::Key;
-pub use laws::{batch_text_laws, manifest_laws, part_laws, superblock_laws};
+pub use laws::{
+    batch_text_laws, data_block_laws, footer_laws, index_laws, manifest_laws, part_laws,
+    superblock_laws,
+};
+pub use lending::is_zero;
 pub use log_record::LogRecord;
 pub use log_sector::LogSector;
 pub use manifest::Manifest;
 pub use operation::Op;
 pub use superblock::Superblock;
 pub use value::Value;
+pub use version::VersionRef;
 pub use words::{unword, word, word_says_its_bytes};

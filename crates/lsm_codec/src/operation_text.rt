@@ -1,49 +1,17 @@
 //! The text of an operation.
 
-ghost use Rattle.std.specs.Prelude.{◌≡◌, ◌++◌, ◌≤◌, length, OnOk, IfOk};
-ghost use Rattle.lsm_codec.specs.Keys.{IsKey, IsValue};
+ghost use Rattle.std.specs.Prelude.{◌≡◌, ◌++◌, ◌≤◌, length, OnOk};
 ghost use Rattle.lsm_codec.specs.Reading.{Gives};
-ghost use Rattle.lsm_codec.specs.BatchText.{key_text, value_text, operation_text, key_at, value_at, put_at, delete_at, operation_at};
+ghost use Rattle.lsm_codec.specs.BatchText.{key_text, value_text, operation_text, put_at, delete_at, operation_at};
 
+use crate::kind::{DELETE, PUT};
 use crate::operation::Op;
-use crate::reading::{Unread, bytes_at, u8_at, u16_at};
+use crate::reading::{Unread, key_at, u8_at, value_at};
 use crate::records::Record;
 use crate::writing::{put_u8, put_u16};
 use std::alloc::{AllocError, Allocator};
 
-/// The kind of an operation that puts a value.
-const PUT: u8 = 1;
-
-/// The kind of an operation that deletes its key.
-const DELETE: u8 = 2;
-
-#[tactic(auto, unfolding(crate::specs::BatchText::key_at))]
-fn key_at(bytes: &[u8]) -> Result<(&[u8], &[u8]), Unread>
-    ensures read { Gives (λ x. (x.0.now, x.1.now)) result (key_at bytes.now) }
-    ensures fits { IfOk result (λ x. IsKey x.0.now) }
-{
-    let (length, rest) = u8_at(bytes)?;
-    let (key, rest) = bytes_at(rest, length as usize)?;
-    if key.is_empty() {
-        return Err(Unread::Malformed);
-    }
-    Ok((key, rest))
-}
-
-#[tactic(auto, unfolding(crate::specs::BatchText::value_at))]
-fn value_at(bytes: &[u8]) -> Result<(&[u8], &[u8]), Unread>
-    ensures read { Gives (λ x. (x.0.now, x.1.now)) result (value_at bytes.now) }
-    ensures fits { IfOk result (λ x. IsValue x.0.now) }
-{
-    let (length, rest) = u16_at(bytes)?;
-    let (value, rest) = bytes_at(rest, length as usize)?;
-    if value.len() > 2_048 {
-        return Err(Unread::Malformed);
-    }
-    Ok((value, rest))
-}
-
-fn write_key<A: Allocator>(key: &[u8], out: &mut Vec<u8, A>) -> Result<(), AllocError>
+pub(crate) fn write_key<A: Allocator>(key: &[u8], out: &mut Vec<u8, A>) -> Result<(), AllocError>
     requires { length key.now ≤ 255 }
     ensures { OnOk result (out.new.items ≡ out.old.items ++ key_text key.now) }
 {

@@ -1,10 +1,10 @@
 -- The versions of batches one after another.
-use Rattle.std.proofs.Common.{◌≡◌, ℕ, ◌+◌, List, [], ◌∷◌, ◌++◌, length, refl, sym, ap, ◌∙◌, subst, arith}
-use Rattle.lsm_codec.specs.Map.{Map, Operation, apply, apply_all}
-use Rattle.lsm_mem.specs.Versions.{Version, NumberedBelow, map_of}
+use Rattle.std.proofs.Common.{◌≡◌, ℕ, ◌+◌, List, [], ◌∷◌, ◌++◌, length, ap, ◌∙◌, arith}
+use Rattle.lsm_codec.specs.Map.{Map, Operation, apply_all}
+use Rattle.lsm_codec.specs.Versions.{Version}
+use Rattle.lsm_mem.specs.Versions.{NumberedBelow, map_of}
 use Rattle.lsm_mem.specs.EntryOrder.{with_batch, with_batches}
 use Rattle.lsm_mem.proofs.Batches.{at_most_with_batch, at_most_from_below, below_from_at_most}
-use Rattle.lsm_mem.proofs.Lists.{all_map}
 use Rattle.lsm_mem.proofs.Maps.{map_of-with_batch}
 
 -- some batches, and more behind them

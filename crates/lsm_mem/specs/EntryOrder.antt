@@ -1,15 +1,8 @@
 -- Versions in the order of entries, and those of a batch put among them.
 use Rattle.std.specs.Prelude.{ℕ, ◌+◌, List, [], ◌∷◌}
-use Rattle.std.specs.declared.cmp.Ordering.{Ordering}
-use Rattle.std.specs.Ordering.{nat_cmp, ordering_then}
 use Rattle.std.specs.FinMap.Entries.{by_order}
-use Rattle.lsm_codec.specs.Keys.{byte_order}
 use Rattle.lsm_codec.specs.Map.{Operation}
-use Rattle.lsm_mem.specs.Versions.{Version}
-
--- the order of entries: by key, and then the newer first
-abbrev pub entry_order : Version → Version → Ordering
-entry_order a b = ordering_then (byte_order a.key b.key) (nat_cmp b.number a.number)
+use Rattle.lsm_codec.specs.Versions.{Version, entry_order}
 
 -- with a version in its place, instead of one of its key and number
 abbrev pub placed : Version → List Version → List Version

@@ -16,7 +16,8 @@ use Rattle.lsm_device.proofs.Outcomes.{seen_outcome}
 use Rattle.lsm_codec.specs.Map.{Operation}
 use Rattle.lsm_mem.specs.EntryOrder.{with_batches}
 use Rattle.lsm_mem.proofs.Replays.{map_of-with_batches}
-use Rattle.lsm_mem.specs.Versions.{Version, NumberedBelow, map_of}
+use Rattle.lsm_codec.specs.Versions.{Version}
+use Rattle.lsm_mem.specs.Versions.{NumberedBelow, map_of}
 use Rattle.lsm_open.specs.Answered.{IsInsideIfOpen, IsWithin}
 use Rattle.lsm_open.specs.CrashState.{CrashState, last_number, left_by_opening, MayRefuseOpening}
 use Rattle.lsm_open.specs.Image.{first_region, all_batches, IsImage, IsImageOfOne}

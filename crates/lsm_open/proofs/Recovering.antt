@@ -12,7 +12,8 @@ use Rattle.lsm_device.specs.Disk.{Disk, Write, at_rest, image, seen, written}
 use Rattle.lsm_device.specs.Outcomes.{IsOutcome}
 use Rattle.lsm_log.specs.Opened.{AreNumbers, HasNoneAbove, IsFree, is_above}
 use Rattle.lsm_log.proofs.Logs.{none_read, new_open}
-use Rattle.lsm_mem.specs.Versions.{Version, NumberedBelow, map_of}
+use Rattle.lsm_codec.specs.Versions.{Version}
+use Rattle.lsm_mem.specs.Versions.{NumberedBelow, map_of}
 use Rattle.lsm_open.specs.CrashState.{CrashState, last_number, in_next_generation, left_by_opening}
 use Rattle.lsm_open.specs.Image.{first_region, region_start, batches_at, all_batches, follow_on, IsImage, IsImageOfOne}
 use Rattle.lsm_open.specs.Layout.{Layout, open_records, manifest_for, closed_batches, open_batches, IsOther, IsClosed, IsOpened, IsCarriedBy}

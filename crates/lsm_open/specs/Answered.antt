@@ -6,7 +6,8 @@ use Rattle.lsm_device.specs.declared.calls.Calls.{Calls}
 use Rattle.lsm_device.specs.declared.refusal.Refusal.{Refusal}
 use Rattle.lsm_device.specs.declared.refusal.Refusal.TheVariants.{NoMemory, Io}
 use Rattle.lsm_log.specs.Opened.{AreNumbers}
-use Rattle.lsm_mem.specs.Versions.{Version, NumberedBelow}
+use Rattle.lsm_codec.specs.Versions.{Version}
+use Rattle.lsm_mem.specs.Versions.{NumberedBelow}
 use Rattle.lsm_open.specs.CrashState.{last_number}
 use Rattle.lsm_open.specs.Image.{first_region}
 use Rattle.lsm_open.specs.Layout.{Layout, manifest_for}

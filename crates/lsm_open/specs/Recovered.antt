@@ -4,7 +4,8 @@ use Rattle.std.specs.FinMap as finite
 use Rattle.lsm_codec.specs.Manifests.{Contents}
 use Rattle.lsm_codec.specs.Map.{apply_all}
 use Rattle.lsm_device.specs.Disk.{Disk}
-use Rattle.lsm_mem.specs.Versions.{Version, NumberedBelow, map_of}
+use Rattle.lsm_codec.specs.Versions.{Version}
+use Rattle.lsm_mem.specs.Versions.{NumberedBelow, map_of}
 use Rattle.lsm_mem.specs.EntryOrder.{with_batches}
 use Rattle.lsm_open.specs.CrashState.{CrashState, last_number}
 use Rattle.lsm_open.specs.Image.{all_batches}
