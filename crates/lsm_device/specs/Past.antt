@@ -2,6 +2,7 @@
 use Rattle.std.specs.Prelude.{ℕ, Bool, List, Option, refl}
 use Rattle.std.specs.Coded.{Coded, code_by, coded×, coded_ℕ, coded_bool, coded_list, coded_option}
 use Rattle.lsm_device.specs.declared.calls.Calls.{Calls}
+use Rattle.lsm_device.specs.declared.plan.Failure.{Failure}
 use Rattle.lsm_device.specs.Disk.{Disk, Write}
 use Rattle.lsm_device.specs.Medium.{Ended}
 
@@ -25,9 +26,13 @@ calls_code = code_by CallsParts (coded× coded_ℕ (coded× coded_ℕ (coded× c
     (λ c. (c.reads, (c.writes, (c.syncs, (c.faults, (c.last_faulted, c.passed))))))
     (λ p. record { reads = p.0; writes = p.1.0; syncs = p.1.1.0; faults = p.1.1.1.0; last_faulted = p.1.1.1.1.0; passed = p.1.1.1.1.1 }) (λ _. refl)
 
+abbrev failure_code : Coded Failure
+failure_code = code_by (ℕ × Bool) (coded× coded_ℕ coded_bool) (λ f. (f.after, f.kept)) (λ p. record { after = p.0; kept = p.1 }) (λ _. refl)
+
 abbrev EndedParts : Type 0
-EndedParts = Option ℕ × (ℕ × (Calls × List Disk))
+EndedParts = Option ℕ × (Option Failure × (ℕ × (Calls × List Disk)))
 
 abbrev pub ended_code : Coded (List Ended)
-ended_code = coded_list (code_by EndedParts (coded× (coded_option coded_ℕ) (coded× coded_ℕ (coded× calls_code (coded_list disk_code))))
-    (λ e. (e.fuse_set, (e.times_set, (e.calls, e.history)))) (λ p. record { fuse_set = p.0; times_set = p.1.0; calls = p.1.1.0; history = p.1.1.1 }) (λ _. refl))
+ended_code = coded_list (code_by EndedParts (coded× (coded_option coded_ℕ) (coded× (coded_option failure_code) (coded× coded_ℕ (coded× calls_code (coded_list disk_code)))))
+    (λ e. (e.fuse_set, (e.failure_set, (e.times_set, (e.calls, e.history)))))
+    (λ p. record { fuse_set = p.0; failure_set = p.1.0; times_set = p.1.1.0; calls = p.1.1.1.0; history = p.1.1.1.1 }) (λ _. refl))
