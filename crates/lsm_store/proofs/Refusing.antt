@@ -14,11 +14,12 @@ use Rattle.lsm_store.specs.Calls.{Call}
 use Rattle.lsm_store.specs.Calls.{Commit, Sync, SyncTo, Get, Scan, Snapshot, Release, LogRoom}
 use Rattle.lsm_store.specs.Refusals.{refusals, first_refusal, refusal}
 use Rattle.lsm_store.specs.Calls.{Reply, Refused}
-use Rattle.lsm_store.specs.Effects.{answer, after, takes_memory}
+use Rattle.lsm_store.specs.Effects.{answer, after, takes_memory, use_of}
+use Rattle.lsm_store.specs.Effects.{Changes}
 use Rattle.lsm_store.specs.Backing.{StoreView}
 use Rattle.lsm_store.specs.Serving.{Serves, is_faultless}
 use Rattle.lsm_device.specs.Refusals.{is_no_fault}
-use Rattle.lsm_store.proofs.Serving.{refused, answered, serves_still}
+use Rattle.lsm_store.proofs.Serving.{refused, answered, refused_use, no_memory_use, answer_use, serves_still}
 
 -- a test that doesn't hold
 pub passes_by : (b : Bool) (e : Refusal) (rest x : Option Refusal) → b ≡ false → rest ≡ x → (if b then Some e else rest) ≡ x
@@ -107,17 +108,17 @@ no_fault_is e other = refl
 pub serves_refused : (v : StoreView) (call : Call) (e : Refusal) → refusal v.state call ≡ Some e → Serves v call (Refused e) v
 serves_refused v call e is =
     let both = refused v.state call e is in
-    serves_still v call (Refused e) both.0 both.1 (no_fault_is e (refusal_decided v.state call e is).no_fault)
+    serves_still v call (Refused e) both.0 both.1 (no_fault_is e (refusal_decided v.state call e is).no_fault) (refused_use v.state call (Refused e) e is)
 
 -- a call that wants memory, and has none
 pub serves_no_memory : (v : StoreView) (call : Call) → refusal v.state call ≡ None → takes_memory call ≡ true → Serves v call (Refused NoMemory) v
-serves_no_memory v call none takes = serves_still v call (Refused NoMemory) (ap is_some none, takes) refl refl
+serves_no_memory v call none takes = serves_still v call (Refused NoMemory) (ap is_some none, takes) refl refl (no_memory_use v.state call none)
 
 -- a call that answers, and changes nothing
-pub serves_answer : (v : StoreView) (call : Call) (reply : Reply) → refusal v.state call ≡ None → reply ≡ answer v.state call → after v.state call ≡ v.state → is_faultless (answer v.state call) ≡ true → Serves v call reply v
-serves_answer v call reply none is same faultless =
+pub serves_answer : (v : StoreView) (call : Call) (reply : Reply) → refusal v.state call ≡ None → reply ≡ answer v.state call → after v.state call ≡ v.state → is_faultless (answer v.state call) ≡ true → use_of v.state call ≢ Changes → Serves v call reply v
+serves_answer v call reply none is same faultless other =
     let both = answered v.state call none in
-    subst (λ (r : Reply). Serves v call r v) (sym is) (serves_still v call (answer v.state call) both.0 (both.1 ∙ same) faultless)
+    subst (λ (r : Reply). Serves v call r v) (sym is) (serves_still v call (answer v.state call) both.0 (both.1 ∙ same) faultless (answer_use v.state call (answer v.state call) none other))
 
 -- what is known of a state that doesn't refuse a commit
 pub record MayCommit (s : State) (batch : List Operation) : Type 0 where
