@@ -1,6 +1,6 @@
 //! The text of a script, from the program's input.
 
-ghost use Rattle.std.specs.Prelude.{◌≡◌, ◌⊎◌, IfOk, IfErr, IfSome, IsTrue};
+ghost use Rattle.std.specs.Prelude.{◌≡◌, ◌⊎◌, false, IfOk, IfErr, IfSome, IsTrue};
 ghost use Rattle.lsm_device.specs.declared.refusal.Refusal.TheVariants.{NoMemory};
 ghost use Rattle.lsm_language.specs.Faults.{reason_of, refusal, unread};
 ghost use Rattle.lsm_language.specs.Requests.{wants_script};
@@ -19,6 +19,7 @@ pub fn script_text<I: Read>(
     input: &mut I,
 ) -> Result<Vec<u8>, Fault>
     ensures whole { IfOk result (λ text. IsTrue (wants_script asked.now) → IfSome (I.remaining input.old) (λ all. text.items ≡ all)) }
+    ensures untouched { wants_script asked.now ≡ false → input.new ≡ input.old }
     ensures fails { IfErr result (λ e. (reason_of e ≡ refusal NoMemory) ⊎ ((reason_of e ≡ unread) × IsTrue (wants_script asked.now))) }
 {
     let mut text = Vec::new(alloc);

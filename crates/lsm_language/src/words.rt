@@ -1,8 +1,8 @@
 //! The words of a line, and what they say.
 
-ghost use Rattle.std.specs.Prelude.{◌≡◌, ◌<◌, map, Some, None, IfOk, MatchOption, option_map};
+ghost use Rattle.std.specs.Prelude.{◌≡◌, ◌<◌, map, Some, None, IfErr, IfOk, MatchOption, option_map};
 ghost use Rattle.lsm_codec.specs.Words.{bytes_said};
-ghost use Rattle.lsm_language.specs.declared.words.Unread.TheVariants.{NoMemory};
+ghost use Rattle.lsm_language.specs.declared.words.Unread.TheVariants.{Malformed, NoMemory};
 ghost use Rattle.lsm_language.specs.Numbers.{number_said};
 ghost use Rattle.lsm_language.specs.Words.{Reads, words_in, after, pair_in};
 
@@ -57,9 +57,10 @@ pub fn pair_in(word: &str) -> Option<(&str, &str)>
     word.split_once('=')
 }
 
-/// The number that a word says.
+/// The number that a word says. It takes no memory.
 pub fn number_in(word: &str) -> Result<u64, Unread>
-    ensures { Reads (λ n. n) (number_said word.now) result }
+    ensures says { Reads (λ n. n) (number_said word.now) result }
+    ensures malformed { IfErr result (λ unread. unread ≡ Malformed) }
 {
     parse_number(word).ok_or(Unread::Malformed)
 }
