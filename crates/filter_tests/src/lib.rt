@@ -1,0 +1,7 @@
+//! Tests of the filter.
+#![tactic(auto)]
+
+#[cfg(test)]
+mod bits;
+#[cfg(test)]
+mod growth;
