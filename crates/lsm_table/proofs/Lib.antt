@@ -1,0 +1,17 @@
+pub mod Groups
+pub mod Orders
+pub mod Blocks
+pub mod OneDivision
+pub mod Counts
+pub mod Ends
+pub mod Laying
+pub mod Tables
+pub mod Places
+pub mod Searching
+pub mod Rising
+pub mod LastEdges
+pub mod Outlines
+pub mod Reading
+pub mod Filters
+pub mod Blocked
+pub mod StoredTables

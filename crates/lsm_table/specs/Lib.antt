@@ -1,0 +1,9 @@
+pub mod Division
+pub mod Counting
+pub mod BlockEdges
+pub mod Places
+pub mod Outlines
+pub mod Extents
+pub mod Stored
+pub mod Laws
+pub mod Items

@@ -1,0 +1,34 @@
+-- How a table is read from the blocks of its extent.
+use Rattle.std.specs.Prelude.{◌≡◌, ℕ, ◌+◌, ◌≤◌, ◌^◌, List, [], ◌∷◌, length, map, take, drop, slice_index_or, Option, Some}
+use Rattle.std.specs.List.{AllByRecursion, flat_map}
+use Rattle.lsm_codec.specs.Reading.{◌>>=◌}
+use Rattle.lsm_codec.specs.Entries.{IsDataBlock, data_block, block_of}
+use Rattle.lsm_table.specs.declared.shape.TableShape.{TableShape}
+use Rattle.lsm_table.specs.Division.{TableBlocks, IsTable}
+use Rattle.lsm_table.specs.Outlines.{Outline, shape_in, outline_in, outline_of}
+use Rattle.lsm_table.specs.Extents.{extent_of}
+
+-- the table that data blocks spell, if each of them spells entries
+abbrev pub table_of : List (List ℕ) → Option TableBlocks
+table_of [] = Some []
+table_of (b ∷ blocks) = do
+  entries ← block_of b
+  table ← table_of blocks
+  Some (entries ∷ table)
+
+-- the table that an extent's first blocks spell, so many of them
+abbrev pub table_in : ℕ → List (List ℕ) → Option TableBlocks
+table_in count blocks = table_of (take count blocks)
+
+-- the outline that the blocks after the data blocks tell of the table with this record: the filter, the index, and the
+-- footer
+abbrev pub outline_at : TableShape → List (List ℕ) → Option Outline
+outline_at s blocks =
+    outline_of s (slice_index_or blocks (s.data_blocks + s.index_blocks + 1) []) (flat_map (λ b. b) (take s.index_blocks (drop (s.data_blocks + 1) blocks))) (slice_index_or blocks s.data_blocks [])
+
+-- Data blocks spell just one table, and an extent is read as the table that was laid into it.
+pub record StoredLaws : Type 0 where
+  pub read : (table : TableBlocks) → AllByRecursion IsDataBlock table → table_of (map data_block table) ≡ Some table
+  pub spelled : (blocks : List (List ℕ)) (table : TableBlocks) → table_of blocks ≡ Some table → AllByRecursion IsDataBlock table × (blocks ≡ map data_block table)
+  pub table : (number : ℕ) (filter : List ℕ) (table : TableBlocks) → IsTable table → table_in (length table) (extent_of number filter table) ≡ Some table
+  pub outline : (number : ℕ) (filter : List ℕ) (table : TableBlocks) → number ≤ 2 ^ 63 → IsTable table → outline_at (shape_in (outline_in number filter table)) (extent_of number filter table) ≡ Some (outline_in number filter table)

@@ -1,0 +1,205 @@
+//! Tables that are not yet written.
+
+ghost use Rattle.std.specs.Prelude.{◌≡◌, ◌+◌, ◌*◌, ◌<◌, ◌≤◌, [], length, take, drop, map, slice_index_or, true, IfOk};
+ghost use Rattle.std.specs.List.{All};
+ghost use Rattle.lsm_codec.specs.Entries.{data_block};
+ghost use Rattle.lsm_codec.specs.Indexes.{index_blocks, index_count};
+ghost use Rattle.lsm_filter.specs.Bits.{filter_of, is_perhaps};
+ghost use Rattle.lsm_table.specs.Division.{IsTable, entries_of};
+ghost use Rattle.lsm_table.specs.BlockEdges.{edges_of, first_key_of};
+ghost use Rattle.lsm_table.specs.Outlines.{outline_in, shape_in};
+ghost use Rattle.lsm_table.specs.Extents.{keys_of, footer_in, extent_size, extent_of};
+
+use crate::edges::edges_of;
+use crate::layout::BLOCK;
+use crate::shape::TableShape;
+use lsm_codec::{Entry, Footer, encode_data_block};
+use lsm_filter::Filter;
+use std::alloc::{AllocError, Allocator, Global};
+use std::marker::Model;
+
+/// The filter of the keys of entries.
+pub(crate) fn filter_of<A: Allocator>(
+    alloc: A,
+    entries: &[Entry<A>],
+) -> Result<Filter<A>, AllocError>
+    ensures { IfOk result (λ filter. filter ≡ filter_of (map (λ v. v.key) entries.now)) }
+{
+    let mut filter = Filter::new(alloc)?;
+    for entry in entries {
+        filter.insert(entry.key());
+    }
+    Ok(filter)
+}
+
+/// One of the blocks that the bytes are.
+fn block_at(bytes: &[u8], at: usize) -> [u8; 4_096]
+    requires low { at < 64 }
+    requires inside { 4096 * at + 4096 ≤ length bytes.now }
+    ensures { result ≡ take 4096 (drop (4096 * at) bytes.now) }
+{
+    let mut block = [0; 4_096];
+    block.copy_from_slice(&bytes[BLOCK * at..BLOCK * at + BLOCK]);
+    block
+}
+
+/// The first key of blocks.
+fn first_key<A: Allocator>(blocks: &[Vec<Entry<A>, A>]) -> &[u8]
+    ensures { result.now ≡ first_key_of (map (λ b. b.items) blocks.now) }
+{
+    let [block, ..] = blocks else {
+        return &[];
+    };
+    let [entry, ..] = block.as_slice() else {
+        return &[];
+    };
+    entry.key()
+}
+
+/// A table that is not yet written. Contracts see its data blocks, each a list of versions.
+#[derive(Drop)]
+pub struct Image<A: Allocator = Global> {
+    blocks: Vec<Vec<Entry<A>, A>, A>,
+    entries: u32,
+    filter: Filter<A>,
+    index: Vec<u8, A>,
+    index_len: usize,
+}
+
+impl<A: Allocator> Model for Image<A> {
+    ghost use Rattle.std.specs.Prelude.{map};
+    ghost use Rattle.lsm_table.specs.Division.{TableBlocks};
+    ghost use Rattle.lsm_table.specs.Extents.{IsImageOf};
+
+    ghost Value = { TableBlocks };
+
+    ghost view = { λ i. map (λ b. b.items) i.blocks.items };
+
+    ghost invariant = { λ i. IsImageOf (map (λ b. b.items) i.blocks.items) i.entries i.filter i.index.items i.index_len };
+}
+
+impl<A: Allocator + Clone> Image<A> {
+    pub(crate) fn new(
+        alloc: A,
+        blocks: Vec<Vec<Entry<A>, A>, A>,
+        entries: u32,
+        filter: Filter<A>,
+    ) -> Result<Image<A>, AllocError>
+        requires table { IsTable (map (λ b. b.items) blocks.items) }
+        requires entries { entries ≡ length (entries_of (map (λ b. b.items) blocks.items)) }
+        requires filter { filter ≡ filter_of (keys_of (map (λ b. b.items) blocks.items)) }
+        ensures { IfOk result (λ image. image ≡ map (λ b. b.items) blocks.items) }
+    {
+        let index = edges_of(alloc.clone()?, &blocks)?;
+        Ok(Image {
+            blocks,
+            entries,
+            filter,
+            index_len: index.text_len(),
+            index: index.encode(alloc)?,
+        })
+    }
+}
+
+impl<A: Allocator> Image<A> {
+    /// How many data blocks there are, from 1 to 64.
+    pub fn data_blocks(&self) -> usize
+        ensures count { result ≡ length self.now }
+        ensures low { 1 ≤ result }
+        ensures high { result ≤ 64 }
+        ensures fits { IsTable self.now }
+    {
+        self.blocks.len()
+    }
+
+    /// How many entries there are, from 1 to 3,200.
+    pub fn entries(&self) -> u32
+        ensures { result ≡ length (entries_of self.now) }
+    {
+        self.entries
+    }
+
+    /// How many blocks the index takes, from 1 to 5.
+    pub fn index_blocks(&self) -> usize
+        ensures count { result ≡ index_count (edges_of self.now) }
+        ensures low { 1 ≤ result }
+        ensures high { result ≤ 5 }
+    {
+        self.index_len.div_ceil(BLOCK)
+    }
+
+    /// The bytes of a data block.
+    fn data_block(&self, at: usize) -> [u8; 4_096]
+        requires { at < length self.now }
+        ensures { result ≡ data_block (slice_index_or self.now at []) }
+    {
+        encode_data_block(&self.blocks[at])
+    }
+
+    /// The filter of the table's keys, which says `perhaps` of each of them.
+    pub fn filter(&self) -> &Filter<A>
+        ensures built { result.now ≡ filter_of (keys_of self.now) }
+        ensures members { All (λ v. is_perhaps result.now v.key ≡ true) (entries_of self.now) }
+    {
+        &self.filter
+    }
+
+    /// The bytes of the index blocks.
+    pub fn index(&self) -> &[u8]
+        ensures { result.now ≡ index_blocks (edges_of self.now) }
+    {
+        &self.index
+    }
+
+    /// What the record of the table under this number says of it.
+    pub fn shape(&self, number: u64) -> TableShape
+        ensures { result ≡ shape_in (outline_in number (filter_of (keys_of self.now)) self.now) }
+    {
+        TableShape {
+            number,
+            data_blocks: self.data_blocks() as u8,
+            index_blocks: self.index_blocks() as u8,
+            entries: self.entries as u16,
+        }
+    }
+
+    /// How many blocks the extent takes: data blocks, filter, index and footer.
+    pub fn extent_blocks(&self) -> usize
+        ensures { result ≡ extent_size self.now }
+    {
+        self.data_blocks() + self.index_blocks() + 2
+    }
+
+    /// A block of the extent of the table under this number: the data blocks come first, then filter, index and footer. It
+    /// takes no memory.
+    pub fn block(&self, number: u64, at: usize) -> [u8; 4_096]
+        requires { at < extent_size self.now }
+        ensures { result ≡ slice_index_or (extent_of number (filter_of (keys_of self.now)) self.now) at [] }
+    {
+        let data = self.data_blocks();
+        if at < data {
+            return self.data_block(at);
+        }
+        if at == data {
+            return block_at(self.filter().block(), 0);
+        }
+        if at < data + 1 + self.index_blocks() {
+            return block_at(self.index(), at - data - 1);
+        }
+        self.footer(number)
+    }
+
+    /// The footer, under this number.
+    pub fn footer(&self, number: u64) -> [u8; 4_096]
+        ensures { result ≡ footer_in number self.now }
+    {
+        Footer {
+            number,
+            data_blocks: self.blocks.len() as u16,
+            entries: self.entries,
+            index_len: self.index_len as u32,
+            first: first_key(&self.blocks),
+        }
+        .encode()
+    }
+}

@@ -1,0 +1,173 @@
+//! Tables that stand, as footer, index and filter tell of them.
+
+ghost use Rattle.std.specs.Prelude.{◌≡◌, length};
+ghost use Rattle.lsm_codec.specs.Versions.{newest};
+ghost use Rattle.lsm_codec.specs.Footers.{IsSummary, summary_of};
+ghost use Rattle.lsm_filter.specs.Bits.{is_perhaps};
+ghost use Rattle.lsm_table.specs.Division.{TableBlocks, entries_of};
+ghost use Rattle.lsm_table.specs.BlockEdges.{edges_of, first_key_of, last_key};
+ghost use Rattle.lsm_table.specs.Places.{place_of, at_place, IsSorted};
+ghost use Rattle.lsm_table.specs.Outlines.{outline_with, outline_by, outline_of, Opens};
+
+use crate::edges::{last_key, place_in};
+use crate::outline::{go_together, is_of_shape};
+use crate::shape::TableShape;
+use lsm_codec::{Edge, Footer, Index, Key};
+use lsm_device::Refusal;
+use lsm_filter::Filter;
+use std::alloc::{Allocator, Global};
+use std::marker::Model;
+
+/// A table that stands. Contracts see what its footer, index and filter tell.
+#[derive(Drop)]
+pub struct Table<A: Allocator = Global> {
+    number: u64,
+    entries: u32,
+    first: Key<A>,
+    index: Index<A>,
+    filter: Filter<A>,
+}
+
+impl<A: Allocator> Model for Table<A> {
+    ghost use Rattle.std.specs.Prelude.{◌≡◌, true};
+    ghost use Rattle.lsm_table.specs.BlockEdges.{are_rising};
+    ghost use Rattle.lsm_table.specs.Outlines.{Outline};
+
+    ghost Value = { Outline };
+
+    ghost view = { λ t. record { number = t.number; entries = t.entries; first = t.first; edges = t.index; filter = t.filter } };
+
+    ghost invariant = { λ t. are_rising t.index ≡ true };
+}
+
+impl<A: Allocator + Clone> Table<A> {
+    /// Opens the table that a record is of, with this footer block, these index blocks and this filter block. `BadTable`
+    /// where they are not those of such a table: the footer is outside its limits, or says another number, count of data
+    /// blocks or of entries than the record; the index isn't that of the footer's data blocks, of the footer's length
+    /// and in the record's count of blocks, which are the fewest that hold it; or first key and edges are out of order.
+    /// Want of memory is `NoMemory`.
+    #[tactic(auto, unfolding(crate::specs::Outlines::outline_of))]
+    pub fn open(
+        alloc: A,
+        shape: TableShape,
+        footer: &[u8; 4_096],
+        index: &[u8],
+        filter: &[u8; 4_096],
+    ) -> Result<Table<A>, Refusal>
+        ensures { Opens (outline_of shape footer.now index.now filter.now) result }
+    {
+        match Footer::decode(footer) {
+            Some(footer) => Table::open_by(alloc, shape, &footer, index, filter),
+            None => Err(Refusal::BadTable),
+        }
+    }
+
+    fn open_by(
+        alloc: A,
+        shape: TableShape,
+        footer: &Footer<'_>,
+        index: &[u8],
+        filter: &[u8; 4_096],
+    ) -> Result<Table<A>, Refusal>
+        requires { IsSummary (summary_of footer.now) }
+        ensures { Opens (outline_by shape (summary_of footer.now) index.now filter.now) result }
+    {
+        if !is_of_shape(shape, footer) {
+            return Err(Refusal::BadTable);
+        }
+        match Index::decode(alloc.clone()?, footer.data_blocks as usize, index)? {
+            Some(index) => Table::open_with(alloc, shape, footer, index, filter),
+            None => Err(Refusal::BadTable),
+        }
+    }
+
+    fn open_with(
+        alloc: A,
+        shape: TableShape,
+        footer: &Footer<'_>,
+        index: Index<A>,
+        filter: &[u8; 4_096],
+    ) -> Result<Table<A>, Refusal>
+        requires { IsSummary (summary_of footer.now) }
+        ensures { Opens (outline_with shape (summary_of footer.now) filter.now index) result }
+    {
+        if !go_together(shape, footer, &index) {
+            return Err(Refusal::BadTable);
+        }
+        let first = Key::from_slice(alloc.clone()?, footer.first)?;
+        let filter = Filter::from_block(alloc, filter)?;
+        Ok(Table {
+            number: footer.number,
+            entries: footer.entries,
+            first,
+            index,
+            filter,
+        })
+    }
+}
+
+impl<A: Allocator> Table<A> {
+    /// The number of the table.
+    pub fn number(&self) -> u64
+        ensures { result ≡ self.now.number }
+    {
+        self.number
+    }
+
+    /// How many entries the table has, from 1 to 3,200.
+    pub fn entries(&self) -> u32
+        ensures { result ≡ self.now.entries }
+    {
+        self.entries
+    }
+
+    /// How many data blocks the table has, from 1 to 64.
+    pub fn data_blocks(&self) -> usize
+        ensures { result ≡ length self.now.edges }
+    {
+        self.index.edges().len()
+    }
+
+    /// The first key.
+    pub fn first(&self) -> &[u8]
+        ensures { result.now ≡ self.now.first }
+    {
+        self.first.as_slice()
+    }
+
+    /// The last key.
+    pub fn last(&self) -> &[u8]
+        ensures { result.now ≡ last_key self.now.edges }
+    {
+        last_key(self.index.edges())
+    }
+
+    /// The last key and the number of the last version of each data block.
+    pub fn edges(&self) -> &[Edge<A>]
+        ensures { result.now ≡ self.now.edges }
+    {
+        self.index.edges()
+    }
+
+    /// Whether the table may have a version of the key: where the filter is that of the table's keys, and the answer is
+    /// false, it has none. It takes no memory.
+    pub fn perhaps(&self, key: &[u8]) -> bool
+        ensures { result ≡ is_perhaps self.now.filter key.now }
+    {
+        self.filter.perhaps(key)
+    }
+
+    /// The one data block that can hold the newest version of the key that is numbered at most `at`, found by a binary
+    /// search over the edges. It takes no memory.
+    pub fn place(&self, key: &[u8], at: u64) -> Option<usize>
+        ensures place { result ≡ place_of self.now.first self.now.edges key.now at }
+
+        // Where first key and edges are those of a table, its newest version of the key up to `at` is that of the block.
+        ensures finds { (table : TableBlocks) → IsSorted table → self.now.first ≡ first_key_of table → self.now.edges ≡ edges_of table → newest key.now at (entries_of table) ≡ newest key.now at (at_place table result) }
+    {
+        if at == 0 || self.first.as_slice().cmp(key).is_gt() {
+            return None;
+        }
+        place_in(self.index.edges(), key, at)
+    }
+}

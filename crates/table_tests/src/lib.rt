@@ -1,0 +1,7 @@
+//! Tests of tables.
+#![tactic(auto)]
+
+#[cfg(test)]
+mod input;
+#[cfg(test)]
+mod tables;

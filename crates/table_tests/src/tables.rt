@@ -1,0 +1,293 @@
+//! Division, places, and what is read back.
+
+use crate::input::{entry, images_of, images_of_puts};
+use hex::decode_to_slice;
+use linked_list_allocator::LocalHeap;
+use lsm_codec::Entry;
+use lsm_device::Refusal;
+use lsm_table::{Entries, Image, Table, TableShape};
+use std::alloc::{AllocError, Allocator, Global};
+use std::process::Abort;
+use std::test::Fail;
+
+/// Whether the images have these counts of data blocks and entries.
+fn have_sizes(images: &[Image], wanted: &[(usize, u32)]) -> bool {
+    let mut sizes = images
+        .iter()
+        .map(|image| (image.data_blocks(), image.entries()));
+    images.len() == wanted.len() && wanted.iter().all(|size| sizes.next() == Some(*size))
+}
+
+/// Puts of 2,048 bytes under so many keys of one byte.
+fn puts(alloc: Global, count: u8) -> Result<Vec<Entry>, AllocError> {
+    let mut entries = Vec::new(alloc);
+    for key in 0..count {
+        if let Some(entry) = entry(alloc, &[key], Some(&[7; 2_048]))? {
+            entries.push(entry)?;
+        }
+    }
+    Ok(entries)
+}
+
+/// Deletes of so many keys of two bytes.
+fn deletes(alloc: Global, count: u16) -> Result<Vec<Entry>, AllocError> {
+    let mut entries = Vec::new(alloc);
+    for i in 0..count {
+        if let Some(entry) = entry(alloc, &[(i / 256) as u8, (i % 256) as u8], None)? {
+            entries.push(entry)?;
+        }
+    }
+    Ok(entries)
+}
+
+#[test]
+fn puts_past_the_most_blocks(rt: HostRuntime) -> Result<(), Fail> {
+    let images = images_of(rt.alloc(), puts(rt.alloc(), 65)?)?;
+    assert!(rt; have_sizes(&images, &[(64, 64), (1, 1)]));
+    Ok(())
+}
+
+#[test]
+fn deletes_past_the_most_entries(rt: HostRuntime) -> Result<(), Fail> {
+    let images = images_of(rt.alloc(), deletes(rt.alloc(), 3_201)?)?;
+    assert!(rt; have_sizes(&images, &[(11, 3_200), (1, 1)]));
+    Ok(())
+}
+
+/// Whether the block begins with the bytes of the hex text, and goes on with zeros.
+fn is_block(block: &[u8; 4_096], text: &str) -> bool {
+    let mut wanted = [0; 4_096];
+    let end = text.len() / 2;
+    end <= 4_096 && decode_to_slice(text, &mut wanted[..end]).is_ok() && *block == wanted
+}
+
+/// Whether a block of the image's extent is that one.
+fn has_block<A: Allocator>(image: &Image<A>, at: usize, text: &str) -> bool {
+    at < image.extent_blocks() && is_block(&image.block(1, at), text)
+}
+
+#[test]
+fn the_extent_of_one_put(rt: HostRuntime) -> Result<(), Fail> {
+    let images = images_of_puts(rt.alloc(), &[b"a".as_slice()], b"1")?;
+    let image = images.first().ok_or("an image")?;
+    for (at, text) in [
+        (0, "00010161000000000000000101000131"),
+        (2, "01610000000000000001"),
+        (3, "4c534d5400000000000000010001000000010000000a0161"),
+    ] {
+        assert!(rt; has_block(image, at, text));
+    }
+    assert!(rt;
+        image.extent_blocks() == 4
+            && is_block(
+                &image.footer(1),
+                "4c534d5400000000000000010001000000010000000a0161"
+            )
+    );
+    Ok(())
+}
+
+/// The filter's block.
+fn filter_block<A: Allocator>(image: &Image<A>) -> [u8; 4_096] {
+    let at = image.data_blocks();
+    if at < image.extent_blocks() {
+        image.block(1, at)
+    } else {
+        [0; 4_096]
+    }
+}
+
+/// The table that the image is written as under number 9.
+fn opened<A: Allocator + Clone>(alloc: A, image: &Image<A>) -> Result<Table<A>, Refusal> {
+    let filter = filter_block(image);
+    Table::open(
+        alloc,
+        image.shape(9),
+        &image.footer(9),
+        image.index(),
+        &filter,
+    )
+}
+
+/// Whether it is the table of three puts under number 9.
+fn is_of_three<A: Allocator>(table: &Table<A>) -> bool {
+    table.number() == 9
+        && table.entries() == 3
+        && table.data_blocks() == 3
+        && table.first() == b"a".as_slice()
+        && table.last() == b"c".as_slice()
+        && table.perhaps(b"a")
+        && table.perhaps(b"b")
+        && table.perhaps(b"c")
+}
+
+#[test]
+fn a_table_of_three_blocks(rt: HostRuntime) -> Result<(), Fail> {
+    let keys = [b"a".as_slice(), b"b", b"c"];
+    let images = images_of_puts(rt.alloc(), &keys, &[7; 2_048])?;
+    let table = opened(rt.alloc(), images.first().ok_or("an image")?)?;
+    assert!(rt; is_of_three(&table));
+    for (key, at, place) in [
+        (b"a".as_slice(), 1, Some(0)),
+        (b"b", 1, Some(1)),
+        (b"bb", 9, Some(2)),
+        (b"c", 9, Some(2)),
+        (b"d", 9, None), // Behind the last key.
+        (b"A", 9, None), // Before the first.
+        (b"a", 0, None), // Before the first batch.
+    ] {
+        assert!(rt; table.place(key, at) == place);
+    }
+    Ok(())
+}
+
+/// Whether the image is refused as the table of this record.
+fn is_refused(alloc: Global, image: &Image, shape: TableShape) -> bool {
+    let filter = filter_block(image);
+    let opened = Table::open(alloc, shape, &image.footer(9), image.index(), &filter);
+    opened.err() == Some(Refusal::BadTable)
+}
+
+#[test]
+fn records_of_other_tables(rt: HostRuntime) -> Result<(), Fail> {
+    let images = images_of_puts(rt.alloc(), &[b"a".as_slice(), b"b"], &[7; 2_048])?;
+    let image = images.first().ok_or("an image")?;
+    for (number, data_blocks, index_blocks, entries, refused) in [
+        (9, 2, 1, 2, false),
+        (8, 2, 1, 2, true),
+        (9, 1, 1, 2, true),
+        (9, 2, 2, 2, true),
+        (9, 2, 1, 3, true),
+    ] {
+        let shape = TableShape {
+            number,
+            data_blocks,
+            index_blocks,
+            entries,
+        };
+        assert!(rt; is_refused(rt.alloc(), image, shape) == refused);
+    }
+    Ok(())
+}
+
+/// The block with the lowest bit of a byte changed.
+fn flipped(block: &[u8; 4_096], at: usize) -> [u8; 4_096] {
+    let mut block = *block;
+    if at < 4_096 {
+        block[at] ^= 1;
+    }
+    block
+}
+
+/// How many of the footers that differ in the lowest bit of one byte, and of such indexes, are of the table of the record.
+fn opened_of_damaged(
+    alloc: Global,
+    shape: TableShape,
+    footer: &[u8; 4_096],
+    index: &[u8; 4_096],
+) -> Result<(u32, u32), Refusal> {
+    let filter = [0; 4_096];
+    let mut footers = 0u32;
+    let mut indexes = 0u32;
+    for at in 0..4_096 {
+        match Table::open(alloc, shape, &flipped(footer, at), index, &filter) {
+            Ok(_) => footers = footers.wrapping_add(1),
+            Err(Refusal::BadTable) => {}
+            Err(refusal) => return Err(refusal),
+        }
+        match Table::open(alloc, shape, footer, &flipped(index, at), &filter) {
+            Ok(_) => indexes = indexes.wrapping_add(1),
+            Err(Refusal::BadTable) => {}
+            Err(refusal) => return Err(refusal),
+        }
+    }
+    Ok((footers, indexes))
+}
+
+/// A block that begins with the bytes of the hex text, and goes on with zeros.
+fn block_of(text: &str) -> Option<[u8; 4_096]> {
+    let mut block = [0; 4_096];
+    let end = text.len() / 2;
+    if end > 4_096 || decode_to_slice(text, &mut block[..end]).is_err() {
+        return None;
+    }
+    Some(block)
+}
+
+#[test]
+fn each_byte_of_footer_and_index(rt: HostRuntime) -> Result<(), Fail> {
+    let footer = block_of("4c534d5400000000000000010001000000010000000a0161").ok_or("hex")?;
+    let index = block_of("01610000000000000001").ok_or("hex")?;
+    let shape = TableShape {
+        number: 1,
+        data_blocks: 1,
+        index_blocks: 1,
+        entries: 1,
+    };
+    // A first key below the last is allowed, and seven bytes of the last version's number.
+    assert!(rt; opened_of_damaged(rt.alloc(), shape, &footer, &index)? == (1, 7));
+    Ok(())
+}
+
+/// The entries of a block, none where it isn't one.
+fn count_of(block: &[u8; 4_096]) -> Option<u32> {
+    let mut count = 0u32;
+    for item in Entries::new(block) {
+        match item {
+            Ok(_) => count = count.wrapping_add(1),
+            Err(_) => return None,
+        }
+    }
+    Some(count)
+}
+
+/// How many of the blocks that differ in the lowest bit of one byte are data blocks.
+fn blocks_among(block: &[u8; 4_096]) -> u32 {
+    let mut found = 0u32;
+    for at in 0..4_096 {
+        if count_of(&flipped(block, at)).is_some() {
+            found = found.wrapping_add(1);
+        }
+    }
+    found
+}
+
+#[test]
+fn each_byte_of_a_data_block(rt: HostRuntime) -> Result<(), Fail> {
+    let block = block_of("00010161000000000000000101000131").ok_or("hex")?;
+    assert!(rt; count_of(&block) == Some(1));
+    // The key, seven bytes of the number, the high byte of the value's length, and the value.
+    assert!(rt; blocks_among(&block) == 10);
+    Ok(())
+}
+
+/// The entries of the table that two puts are written as, or what refuses it.
+fn entries_of_two(heap: &LocalHeap) -> Result<u32, Refusal> {
+    let images = images_of_puts(heap, &[b"a".as_slice(), b"b"], &[1; 40])?;
+    let Some(image) = images.first() else {
+        return Ok(0);
+    };
+    let table = opened(heap, image)?;
+    Ok(table.entries())
+}
+
+/// The same in a heap of so many bytes.
+fn in_heap(alloc: Global, size: usize) -> Result<Result<u32, Refusal>, Fail> {
+    let heap = LocalHeap::new(alloc, size)?;
+    Ok(entries_of_two(&heap))
+}
+
+#[test]
+fn each_growth_is_refused_in_turn(rt: HostRuntime) -> Result<(), Fail> {
+    let mut refused = 0u32;
+    let mut whole = 0u32;
+    for step in 1..240usize {
+        match in_heap(rt.alloc(), step * 96)? {
+            Err(Refusal::NoMemory) if whole == 0 => refused = refused.wrapping_add(1),
+            Ok(2) => whole = whole.wrapping_add(1),
+            _ => return Err("want of memory in the smaller heaps, else the whole".into()),
+        }
+    }
+    assert!(rt; refused > 10 && whole > 10, "{refused} {whole}");
+    Ok(())
+}
