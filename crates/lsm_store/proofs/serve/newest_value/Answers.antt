@@ -1,5 +1,4 @@
-use Rattle.std.proofs.Common.{rules}
 use Rattle.lsm_store.proofs.serve.newest_value.Goals as goal
 
 pub returns : goal.returns
-returns g c = search rules
+returns g c = c.in_ok-get.ensures.value
