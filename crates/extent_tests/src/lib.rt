@@ -1,0 +1,7 @@
+//! Tests of extents.
+#![tactic(auto)]
+
+#[cfg(test)]
+mod growth;
+#[cfg(test)]
+mod runs;

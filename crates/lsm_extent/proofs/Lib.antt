@@ -1,0 +1,5 @@
+pub mod Walking
+pub mod Handing
+pub mod Counting
+pub mod Searching
+pub mod ExtentLaws

@@ -1,0 +1,11 @@
+//! The extents of a data area: which of its blocks are handed out, and which are free.
+#![tactic(auto)]
+
+mod extent;
+mod extents;
+mod gaps;
+mod laws;
+
+pub use extent::Extent;
+pub use extents::Extents;
+pub use laws::extent_laws;
