@@ -4,6 +4,8 @@
 #[cfg(test)]
 mod batches;
 #[cfg(test)]
+mod manifest_tables;
+#[cfg(test)]
 mod manifests;
 #[cfg(test)]
 mod sectors;

@@ -24,14 +24,15 @@ fn records(alloc: Global, rows: &[Row]) -> Result<Vec<LogRecord>, Refusal> {
     Ok(logs)
 }
 
-/// A manifest with table number 1 to come.
+/// A manifest without a table, with table number 1 to come.
 fn manifest(alloc: Global, generation: u64, base: u64, logs: &[Row]) -> Result<Manifest, Refusal> {
-    Ok(Manifest::new(generation, base, 1, records(alloc, logs)?))
+    let logs = records(alloc, logs)?;
+    Ok(Manifest::new(generation, base, 1, 0, logs, Vec::new(alloc)))
 }
 
-/// The sectors of a manifest with few log records, or none where they aren't whole.
-fn sectors_of(alloc: Global, manifest: &Manifest) -> Result<Vec<u8>, Refusal> {
-    if manifest.logs().len() > 255 {
+/// The sectors of a manifest with few records, or none where they aren't whole.
+pub fn sectors_of(alloc: Global, manifest: &Manifest) -> Result<Vec<u8>, Refusal> {
+    if manifest.logs().len() > 255 || manifest.tables().len() > 1_024 {
         return Err(Refusal::BadLimit);
     }
     let sectors = manifest.encode(alloc)?;
@@ -65,12 +66,14 @@ fn is_read_as(
     Ok(has(&again, generation, &wanted))
 }
 
-/// Whether the manifest has this generation and these log records, no batch in tables, and table number 1 to come.
+/// Whether the manifest has this generation and these log records, no table, and table number 1 to come.
 fn has(manifest: &Manifest, generation: u64, logs: &[LogRecord]) -> bool {
     manifest.generation() == generation
         && manifest.base() == 0
         && manifest.next_table() == 1
         && manifest.logs() == logs
+        && manifest.runs() == 0
+        && manifest.tables().is_empty()
 }
 
 /// Whether the manifest is spelled so, and read back.
@@ -88,7 +91,7 @@ fn manifests_of_a_format_and_an_open(rt: HostRuntime) -> Result<(), Fail> {
 }
 
 /// Whether the manifest is within the limits, as `fits` says, and just then read back from its sectors.
-fn is_limited(alloc: Global, manifest: &Manifest, fits: bool) -> Result<bool, Refusal> {
+pub fn is_limited(alloc: Global, manifest: &Manifest, fits: bool) -> Result<bool, Refusal> {
     let sectors = sectors_of(alloc, manifest)?;
     Ok(manifest.is_within_limits() == fits && is_read(alloc, &sectors)? == fits)
 }
@@ -136,7 +139,8 @@ fn are_numbers_limited(
     next_table: u64,
     fits: bool,
 ) -> Result<bool, Refusal> {
-    let manifest = Manifest::new(generation, base, next_table, Vec::new(alloc));
+    let logs = Vec::new(alloc);
+    let manifest = Manifest::new(generation, base, next_table, 0, logs, Vec::new(alloc));
     is_limited(alloc, &manifest, fits)
 }
 
@@ -219,7 +223,8 @@ fn sizes_that_hold_no_manifest(rt: HostRuntime) -> Result<(), Fail> {
 
 /// Whether an empty manifest is read from its sectors with the memory of a heap.
 fn is_read_back(heap: &LocalHeap) -> Result<bool, Refusal> {
-    let sectors = Manifest::new(1, 0, 1, Vec::new(heap)).encode(heap)?;
+    let manifest = Manifest::new(1, 0, 1, 0, Vec::new(heap), Vec::new(heap));
+    let sectors = manifest.encode(heap)?;
     Ok(Manifest::decode(heap, &sectors)?.is_some())
 }
 

@@ -12,7 +12,9 @@ use Rattle.lsm_codec.specs.Superblocks.{superblock_text, superblock_sector}
 use Rattle.lsm_codec.specs.LogSectors.{Part, part_text, log_sector}
 use Rattle.lsm_codec.specs.Manifests.{Contents, log_record, manifest_header, manifest_text, manifest_bytes}
 use Rattle.lsm_codec.specs.Formats.{HasBytes}
+use Rattle.lsm_codec.specs.TableRecords.{table_record}
 use Rattle.lsm_codec.specs.declared.log_record.LogRecord.{LogRecord}
+use Rattle.lsm_codec.specs.declared.table_record.TableRecord.{TableRecord}
 use Rattle.lsm_codec.specs.declared.superblock.Superblock.{Superblock}
 use Rattle.lsm_codec.proofs.Numbers.{byte_at-pow}
 
@@ -86,9 +88,17 @@ of_log_records : (logs : List LogRecord) → IsBytes (flat_map log_record logs)
 of_log_records [] = none
 of_log_records (r ∷ rs) = append (log_record r) (flat_map log_record rs) (of_log_record r) (of_log_records rs)
 
+of_table_record : (t : TableRecord) → IsBytes (table_record t)
+of_table_record t =
+    append _ _ (number 8 t.number) (append _ _ (number 1 t.level) (append _ _ (number 1 t.run) (append _ _ (number 4 t.first_block) (append _ _ (number 1 t.data_blocks) (append _ _ (number 1 t.index_blocks) (number 2 t.entries))))))
+
+of_table_records : (tables : List TableRecord) → IsBytes (flat_map table_record tables)
+of_table_records [] = none
+of_table_records (t ∷ ts) = append (table_record t) (flat_map table_record ts) (of_table_record t) (of_table_records ts)
+
 pub of_manifest : (c : Contents) → IsBytes (manifest_bytes c)
 unfolding manifest_bytes manifest_text
 of_manifest c =
-    in_whole_sectors (manifest_text c) (append (manifest_header c) (flat_map log_record c.logs)
-    (append _ _ (number 4 0x4c534d4d) (append _ _ (number 8 c.generation) (append _ _ (number 8 c.base) (append _ _ (number 8 c.next_table) (append _ _ (number 1 (length c.logs)) (append _ _ (number 1 0) (number 2 0)))))))
-    (of_log_records c.logs))
+    in_whole_sectors (manifest_text c) (append (manifest_header c) (flat_map log_record c.logs ++ flat_map table_record c.tables)
+    (append _ _ (number 4 0x4c534d4d) (append _ _ (number 8 c.generation) (append _ _ (number 8 c.base) (append _ _ (number 8 c.next_table) (append _ _ (number 1 (length c.logs)) (append _ _ (number 1 c.runs) (number 2 (length c.tables))))))))
+    (append _ _ (of_log_records c.logs) (of_table_records c.tables)))

@@ -35,7 +35,7 @@ sector_count_low : (c : Contents) → 1 ≤ sector_count c
 sector_count_low c = omega (arith, length-manifest_text c)
 
 sector_count_high : (c : Contents) → IsManifest c → sector_count c ≤ 64
-sector_count_high c fits = omega (arith, length-manifest_text c, fits.numbers.logs)
+sector_count_high c fits = omega (arith, length-manifest_text c, fits.numbers.logs, fits.numbers.tables)
 
 pub superblock_laws_hold : SuperblockLaws
 superblock_laws_hold = record { format = superblock_format; size = length-superblock_sector; bytes = of_superblock; none = superblock_of-blank }

@@ -4,16 +4,19 @@ use Rattle.std.specs.List.{AllByRecursion, flat_map, list_all}
 use Rattle.std.proofs.lemmas.Bool.{eqb-true}
 use Rattle.std.proofs.lemmas.Bool.Decides.{Decides-like, Decides-not, Decides-and, Decides-ltb, Decides-eqb}
 use Rattle.std.proofs.lemmas.List.{length-append}
-use Rattle.std.proofs.lemmas.List.Elements.{recursion_from_All}
+use Rattle.std.proofs.lemmas.List.Elements.{All-nil, recursion_from_All}
 use Rattle.byteorder.specs.Endian.{big_bytes}
 use Rattle.lsm_codec.specs.declared.log_record.LogRecord.{LogRecord}
+use Rattle.lsm_codec.specs.declared.table_record.TableRecord.{TableRecord}
 use Rattle.lsm_codec.specs.Keys.{IsBytes}
 use Rattle.lsm_codec.specs.Spelling.{padding, IsDecoded}
 use Rattle.lsm_codec.specs.Reading.{front_of}
-use Rattle.lsm_codec.specs.Manifests.{Contents, Pairwise, IsLogRecord, LogsAgree, BeginsAfter, NumbersFit, LogsFit, IsManifest, is_each_two, is_log_record, is_agreeing, is_after, is_numbered, is_logged, is_manifest, log_record, manifest_text, sector_count, manifest_bytes, log_record_at, only_number, header_at, manifest_at, manifest_of}
+use Rattle.lsm_codec.specs.TableRecords.{IsTableRecord, TablesAgree, is_table_record, is_agreeing_table, table_record}
+use Rattle.lsm_codec.specs.Manifests.{Contents, Pairwise, IsLogRecord, LogsAgree, BeginsAfter, NumbersFit, LogsFit, TablesFit, IsManifest, is_each_two, is_log_record, is_agreeing, is_after, is_numbered, is_logged, is_tabled, is_manifest, log_record, manifest_text, sector_count, manifest_bytes, log_record_at, only_number, header_at, manifest_at, manifest_of}
 use Rattle.lsm_codec.specs.Formats.{IsFormat}
 use Rattle.lsm_codec.proofs.Limits.{at_most-Decides, is_within-Decides, all-Decides}
 use Rattle.lsm_codec.proofs.Readers.{Reads, number_reads, times_reads, then_reads, made_reads, kept_reads, fits_reads}
+use Rattle.lsm_codec.proofs.TableRecordLaws.{TableFits, table_record_reads, table_fits, tables_long, table_record-Decides, agreeing_table-Decides, runs-Decides}
 use Rattle.lsm_codec.proofs.Decoding.{if_spelled-decodes, decodes-format, one_answer}
 use Rattle.lsm_codec.proofs.Padding.{length-in_sectors, padded_read, padded_refused, padded_unread}
 
@@ -37,8 +40,11 @@ pub record FieldsFit (c : Contents) : Type 0 where
   pub generation : c.generation < 256 ^ 8
   pub base : c.base < 256 ^ 8
   pub next_table : c.next_table < 256 ^ 8
+  pub runs : c.runs < 256 ^ 1
   pub logs : length c.logs < 256 ^ 1
+  pub tables : length c.tables < 256 ^ 2
   pub each_log : AllByRecursion LogFits c.logs
+  pub each_table : AllByRecursion TableFits c.tables
 
 abbrev Numbers : Type 0
 Numbers = ℕ × (ℕ × (ℕ × (ℕ × (ℕ × (ℕ × ℕ)))))
@@ -46,30 +52,30 @@ Numbers = ℕ × (ℕ × (ℕ × (ℕ × (ℕ × (ℕ × ℕ)))))
 abbrev numbers : ℕ → ℕ → ℕ → ℕ → ℕ → ℕ → ℕ → Numbers
 numbers m g b n l r t = (m, (g, (b, (n, (l, (r, t))))))
 
-same_numbers : (m g b n l r t m' l' r' t' : ℕ) → m ≡ m' → l' ≡ l → r ≡ r' → t ≡ t' → numbers m' g b n l' r' t' ≡ numbers m g b n l r t
-same_numbers m g b n l r t m' l' r' t' e f h i = rw (← e, f, ← h, ← i) refl
+same_numbers : (m g b n l r t m' l' t' : ℕ) → m ≡ m' → l' ≡ l → t' ≡ t → numbers m' g b n l' r t' ≡ numbers m g b n l r t
+same_numbers m g b n l r t m' l' t' e f h = rw (← e, f, h) refl
 
 only_reads : (n size : ℕ) → Reads (only_number n size) (λ m. (m < 256 ^ size) × (m ≡ n)) (big_bytes size)
 only_reads n size = kept_reads (λ m. eqb m n) (λ m. m ≡ n) (λ m t. eqb-true m n t) (λ m e. (Decides-eqb m n).1 e) (number_reads size)
 
-abbrev made_contents : Numbers × List LogRecord → Contents
-made_contents t = record { generation = t.0.1.0; base = t.0.1.1.0; next_table = t.0.1.1.1.0; logs = t.1 }
+abbrev made_contents : Numbers × (List LogRecord × List TableRecord) → Contents
+made_contents t = record { generation = t.0.1.0; base = t.0.1.1.0; next_table = t.0.1.1.1.0; runs = t.0.1.1.1.1.1.0; logs = t.1.0; tables = t.1.1 }
 
-abbrev parts : Contents → Numbers × List LogRecord
-parts c = (numbers 0x4c534d4d c.generation c.base c.next_table (length c.logs) 0 0, c.logs)
+abbrev parts : Contents → Numbers × (List LogRecord × List TableRecord)
+parts c = (numbers 0x4c534d4d c.generation c.base c.next_table (length c.logs) c.runs (length c.tables), (c.logs, c.tables))
 
 pub manifest_reads : Reads manifest_at FieldsFit manifest_text
 unfolding manifest_at header_at manifest_text
 manifest_reads =
     fits_reads
-    (λ c f. record { generation = f.0.1.0; base = f.0.1.1.0; next_table = f.0.1.1.1.0; logs = f.0.1.1.1.1.0; each_log = f.1.1 })
-    (λ c f. (((lit< tt, refl), (f.generation, (f.base, (f.next_table, (f.logs, ((lit< tt, refl), (lit< tt, refl))))))), (refl, f.each_log)))
+    (λ c f. record { generation = f.0.1.0; base = f.0.1.1.0; next_table = f.0.1.1.1.0; runs = f.0.1.1.1.1.1.0; logs = f.0.1.1.1.1.0; tables = f.0.1.1.1.1.1.1; each_log = f.1.0.1; each_table = f.1.1.1 })
+    (λ c f. (((lit< tt, refl), (f.generation, (f.base, (f.next_table, (f.logs, (f.runs, f.tables)))))), ((refl, f.each_log), (refl, f.each_table))))
     (made_reads made_contents parts
-    (λ t f. ap (λ (h : Numbers). (h, t.1)) (same_numbers t.0.0 t.0.1.0 t.0.1.1.0 t.0.1.1.1.0 t.0.1.1.1.1.0 t.0.1.1.1.1.1.0 t.0.1.1.1.1.1.1 _ _ _ _ f.0.0.1 f.1.0 f.0.1.1.1.1.1.0.1 f.0.1.1.1.1.1.1.1))
+    (λ t f. ap (λ (h : Numbers). (h, t.1)) (same_numbers t.0.0 t.0.1.0 t.0.1.1.0 t.0.1.1.1.0 t.0.1.1.1.1.0 t.0.1.1.1.1.1.0 t.0.1.1.1.1.1.1 _ _ _ f.0.0.1 f.1.0.0 f.1.1.0))
     (λ c. refl)
     (then_reads
-    (then_reads (only_reads 0x4c534d4d 4) (λ a. then_reads (number_reads 8) (λ b. then_reads (number_reads 8) (λ c. then_reads (number_reads 8) (λ d. then_reads (number_reads 1) (λ e. then_reads (only_reads 0 1) (λ f. only_reads 0 2)))))))
-    (λ h. times_reads h.1.1.1.1.0 log_record_reads)))
+    (then_reads (only_reads 0x4c534d4d 4) (λ a. then_reads (number_reads 8) (λ b. then_reads (number_reads 8) (λ c. then_reads (number_reads 8) (λ d. then_reads (number_reads 1) (λ e. then_reads (number_reads 1) (λ f. number_reads 2)))))))
+    (λ h. then_reads (times_reads h.1.1.1.1.0 log_record_reads) (λ l. times_reads h.1.1.1.1.1.1 table_record_reads))))
 
 log_fits : (g : ℕ) (r : LogRecord) → g ≤ 2 ^ 63 → IsLogRecord g r → LogFits r
 log_fits g r le f = record { region = omega (arith, f.region); epoch = omega (arith, f.epoch_high); first = omega (arith, f.first_high) }
@@ -80,8 +86,11 @@ fields_fit c f = record {
   generation = omega (arith, f.numbers.generation_high);
   base = omega (arith, f.numbers.base);
   next_table = omega (arith, f.numbers.next_high);
+  runs = omega (arith, f.numbers.runs);
   logs = omega (arith, f.numbers.logs);
+  tables = omega (arith, f.numbers.tables);
   each_log = recursion_from_All LogFits c.logs (λ k d lt. log_fits c.generation (get_or c.logs k d) f.numbers.generation_high (f.logs.each k d lt));
+  each_table = recursion_from_All TableFits c.tables (λ k d lt. table_fits c.next_table c.runs (get_or c.tables k d) f.numbers.next_high f.numbers.runs (f.tables.each k d lt));
 }
 
 -- ---- lengths
@@ -90,9 +99,9 @@ logs_long : (logs : List LogRecord) → length (flat_map log_record logs) ≡ 17
 logs_long [] = refl
 logs_long (r ∷ rs) = omega (arith, logs_long rs, length-append (log_record r) (flat_map log_record rs))
 
-pub length-manifest_text : (c : Contents) → length (manifest_text c) ≡ 32 + 17 * length c.logs
+pub length-manifest_text : (c : Contents) → length (manifest_text c) ≡ 32 + 17 * length c.logs + 18 * length c.tables
 unfolding manifest_text
-length-manifest_text c = omega (arith, logs_long c.logs)
+length-manifest_text c = omega (arith, logs_long c.logs, tables_long c.tables, length-append (flat_map log_record c.logs) (flat_map table_record c.tables))
 
 pub length-manifest_bytes : (c : Contents) → length (manifest_bytes c) ≡ 512 * sector_count c
 unfolding manifest_bytes
@@ -122,9 +131,9 @@ after-Decides base (r ∷ rs) = Decides-eqb r.first_batch (base + 1)
 
 numbered-Decides : (c : Contents) → Decides (is_numbered c) (NumbersFit c)
 numbered-Decides c = Decides-like (is_numbered c)
-    (λ h. record { generation_low = h.0.0; generation_high = h.0.1; base = h.1.0; next_low = h.1.1.0.0; next_high = h.1.1.0.1; logs = h.1.1.1 })
-    (λ h. ((h.generation_low, h.generation_high), (h.base, ((h.next_low, h.next_high), h.logs))))
-    (Decides-and _ _ (is_within-Decides _ _ c.generation) (Decides-and _ _ (at_most-Decides c.base (2 ^ 63)) (Decides-and _ _ (is_within-Decides _ _ c.next_table) (at_most-Decides (length c.logs) 3))))
+    (λ h. record { generation_low = h.0.0; generation_high = h.0.1; base = h.1.0; next_low = h.1.1.0.0; next_high = h.1.1.0.1; runs = h.1.1.1.0; logs = h.1.1.1.1.0; tables = h.1.1.1.1.1 })
+    (λ h. ((h.generation_low, h.generation_high), (h.base, ((h.next_low, h.next_high), (h.runs, (h.logs, h.tables))))))
+    (Decides-and _ _ (is_within-Decides _ _ c.generation) (Decides-and _ _ (at_most-Decides c.base (2 ^ 63)) (Decides-and _ _ (is_within-Decides _ _ c.next_table) (Decides-and _ _ (at_most-Decides c.runs 12) (Decides-and _ _ (at_most-Decides (length c.logs) 3) (at_most-Decides (length c.tables) 1024))))))
 
 logged-Decides : (c : Contents) → Decides (is_logged c) (LogsFit c)
 logged-Decides c = Decides-like (is_logged c)
@@ -132,8 +141,18 @@ logged-Decides c = Decides-like (is_logged c)
     (λ h. (h.each, (h.agree, h.begins)))
     (Decides-and _ _ (all-Decides (is_log_record c.generation) (IsLogRecord c.generation) (log_record-Decides c.generation) c.logs) (Decides-and _ _ (each_two-Decides is_agreeing LogsAgree agreeing-Decides c.logs) (after-Decides c.base c.logs)))
 
+tabled-Decides : (c : Contents) → Decides (is_tabled c) (TablesFit c)
+tabled-Decides c = Decides-like (is_tabled c)
+    (λ h. record { each = h.0; agree = h.1.0; runs = h.1.1 })
+    (λ h. (h.each, (h.agree, h.runs)))
+    (Decides-and _ _ (all-Decides (is_table_record c.next_table c.runs) (IsTableRecord c.next_table c.runs) (table_record-Decides c.next_table c.runs) c.tables)
+    (Decides-and _ _ (each_two-Decides is_agreeing_table TablesAgree agreeing_table-Decides c.tables) (runs-Decides c.runs c.tables)))
+
+pub no_tables_fit : (generation base next : ℕ) (logs : List LogRecord) → TablesFit (record { generation = generation; base = base; next_table = next; runs = 0; logs = logs; tables = [] })
+no_tables_fit generation base next logs = record { each = All-nil (IsTableRecord next 0); agree = tt; runs = record { each = λ run lt. absurd (omega (arith, lt)) } }
+
 pub is_manifest-Decides : (c : Contents) → Decides (is_manifest c) (IsManifest c)
-is_manifest-Decides c = Decides-like (is_manifest c) (λ h. record { numbers = h.0; logs = h.1 }) (λ h. (h.numbers, h.logs)) (Decides-and _ _ (numbered-Decides c) (logged-Decides c))
+is_manifest-Decides c = Decides-like (is_manifest c) (λ h. record { numbers = h.0; logs = h.1.0; tables = h.1.1 }) (λ h. (h.numbers, (h.logs, h.tables))) (Decides-and _ _ (numbered-Decides c) (Decides-and _ _ (logged-Decides c) (tabled-Decides c)))
 
 -- reading gives back the manifest that was spelled
 pub reads_back : (c : Contents) → IsManifest c → manifest_at (manifest_bytes c) ≡ Some (c, padding (length (manifest_text c)))
@@ -144,8 +163,8 @@ pub manifest_of_exact : (sectors : List ℕ) → IsDecoded IsManifest manifest_b
 unfolding manifest_of
 manifest_of_exact sectors = if_spelled-decodes is_manifest IsManifest is_manifest-Decides manifest_bytes (λ bytes. front_of (manifest_at bytes)) (λ c fits. ap front_of (reads_back c fits)) sectors
 
-pub manifest_format : IsFormat IsManifest manifest_bytes manifest_of
-manifest_format = decodes-format manifest_of_exact
+pub manifest_format : IsFormat IsManifest manifest_bytes (manifest_of)
+manifest_format = decodes-format (manifest_of_exact)
 
 -- ---- what the reader of whole sectors finds
 

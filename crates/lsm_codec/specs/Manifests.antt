@@ -6,13 +6,17 @@ use Rattle.byteorder.specs.Endian.{big_bytes}
 use Rattle.lsm_codec.specs.Spelling.{in_sectors, is_within, if_spelled}
 use Rattle.lsm_codec.specs.Reading.{number_at, then_with, both, made, kept, times, front_of}
 use Rattle.lsm_codec.specs.declared.log_record.LogRecord.{LogRecord}
+use Rattle.lsm_codec.specs.declared.table_record.TableRecord.{TableRecord}
+use Rattle.lsm_codec.specs.TableRecords.{IsTableRecord, TablesAgree, HasRuns, is_table_record, is_agreeing_table, has_runs, table_record, table_record_at}
 
--- what a manifest says: every batch up to the base is in tables, and those after it are in the regions of the log records
+-- what a manifest says: every batch up to the base is in the tables, and those after it are in the regions of the log records
 pub record Contents : Type 0 where
   pub generation : ℕ
   pub base : ℕ
   pub next_table : ℕ
+  pub runs : ℕ
   pub logs : List LogRecord
+  pub tables : List TableRecord
 
 -- ---- limits
 
@@ -44,16 +48,24 @@ pub record NumbersFit (c : Contents) : Type 0 where
   pub base : c.base ≤ 2 ^ 63
   pub next_low : 1 ≤ c.next_table
   pub next_high : c.next_table ≤ 2 ^ 63 + 1
+  pub runs : c.runs ≤ 12
   pub logs : length c.logs ≤ 3
+  pub tables : length c.tables ≤ 1024
 
 pub record LogsFit (c : Contents) : Type 0 where
   pub each : All (IsLogRecord c.generation) c.logs
   pub agree : Pairwise LogsAgree c.logs
   pub begins : BeginsAfter c.base c.logs
 
+pub record TablesFit (c : Contents) : Type 0 where
+  pub each : All (IsTableRecord c.next_table c.runs) c.tables
+  pub agree : Pairwise TablesAgree c.tables
+  pub runs : HasRuns c.runs c.tables
+
 pub record IsManifest (c : Contents) : Type 0 where
   pub numbers : NumbersFit c
   pub logs : LogsFit c
+  pub tables : TablesFit c
 
 -- the same limits, as tests
 abbrev pub is_each_two : {X : Type 0} → (X → X → Bool) → List X → Bool
@@ -71,13 +83,16 @@ is_after base [] = true
 is_after base (r ∷ rs) = r.first_batch == base + 1
 
 abbrev pub is_numbered : Contents → Bool
-is_numbered c = is_within 1 (2 ^ 63) c.generation && (nat_le c.base (2 ^ 63) && (is_within 1 (2 ^ 63 + 1) c.next_table && nat_le (length c.logs) 3))
+is_numbered c = is_within 1 (2 ^ 63) c.generation && (nat_le c.base (2 ^ 63) && (is_within 1 (2 ^ 63 + 1) c.next_table && (nat_le c.runs 12 && (nat_le (length c.logs) 3 && nat_le (length c.tables) 1024))))
 
 abbrev pub is_logged : Contents → Bool
 is_logged c = list_all (is_log_record c.generation) c.logs && (is_each_two is_agreeing c.logs && is_after c.base c.logs)
 
+abbrev pub is_tabled : Contents → Bool
+is_tabled c = list_all (is_table_record c.next_table c.runs) c.tables && (is_each_two is_agreeing_table c.tables && has_runs c.runs c.tables)
+
 abbrev pub is_manifest : Contents → Bool
-is_manifest c = is_numbered c && is_logged c
+is_manifest c = is_numbered c && (is_logged c && is_tabled c)
 
 -- ---- text
 
@@ -86,10 +101,10 @@ log_record r = big_bytes 1 r.region ++ (big_bytes 8 r.epoch ++ big_bytes 8 r.fir
 
 -- `LSMM`, the numbers, and the counts of log records, level 0 runs and table records
 abbrev pub manifest_header : Contents → List ℕ
-manifest_header c = big_bytes 4 0x4c534d4d ++ (big_bytes 8 c.generation ++ (big_bytes 8 c.base ++ (big_bytes 8 c.next_table ++ (big_bytes 1 (length c.logs) ++ (big_bytes 1 0 ++ big_bytes 2 0)))))
+manifest_header c = big_bytes 4 0x4c534d4d ++ (big_bytes 8 c.generation ++ (big_bytes 8 c.base ++ (big_bytes 8 c.next_table ++ (big_bytes 1 (length c.logs) ++ (big_bytes 1 c.runs ++ big_bytes 2 (length c.tables))))))
 
 unfoldable pub manifest_text : Contents → List ℕ
-manifest_text c = manifest_header c ++ flat_map log_record c.logs
+manifest_text c = manifest_header c ++ (flat_map log_record c.logs ++ flat_map table_record c.tables)
 
 -- the fewest sectors that hold a manifest
 abbrev pub sector_count : Contents → ℕ
@@ -109,12 +124,12 @@ abbrev pub only_number : ℕ → ℕ → List ℕ → Option (ℕ × List ℕ)
 only_number n size = kept (λ m. m == n) (number_at size)
 
 unfoldable pub header_at : List ℕ → Option ((ℕ × (ℕ × (ℕ × (ℕ × (ℕ × (ℕ × ℕ)))))) × List ℕ)
-header_at = both (only_number 0x4c534d4d 4) (both (number_at 8) (both (number_at 8) (both (number_at 8) (both (number_at 1) (both (only_number 0 1) (only_number 0 2))))))
+header_at = both (only_number 0x4c534d4d 4) (both (number_at 8) (both (number_at 8) (both (number_at 8) (both (number_at 1) (both (number_at 1) (number_at 2))))))
 
 unfoldable pub manifest_at : List ℕ → Option (Contents × List ℕ)
 manifest_at =
-    made (λ t. record { generation = t.0.1.0; base = t.0.1.1.0; next_table = t.0.1.1.1.0; logs = t.1 })
-    (then_with header_at (λ h. times h.1.1.1.1.0 log_record_at))
+    made (λ t. record { generation = t.0.1.0; base = t.0.1.1.0; next_table = t.0.1.1.1.0; runs = t.0.1.1.1.1.1.0; logs = t.1.0; tables = t.1.1 })
+    (then_with header_at (λ h. both (times h.1.1.1.1.0 log_record_at) (times h.1.1.1.1.1.1 table_record_at)))
 
 -- the manifest that the bytes of sectors spell, if they spell one
 unfoldable pub manifest_of : List ℕ → Option Contents

@@ -1,11 +1,14 @@
 //! The limits of a manifest.
 
 ghost use Rattle.std.specs.Prelude.{◌≡◌, ◌≤◌, ◌<◌, ◌-◌, ◌^◌, ◌↔◌, IsTrue};
-ghost use Rattle.lsm_codec.specs.Manifests.{BeginsAfter, NumbersFit, LogsFit, IsManifest};
+ghost use Rattle.std.specs.List.{All};
+ghost use Rattle.lsm_codec.specs.TableRecords.{IsTableRecord};
+ghost use Rattle.lsm_codec.specs.Manifests.{BeginsAfter, NumbersFit, LogsFit, TablesFit, IsManifest};
 
 use crate::agree::each_two_agree;
 use crate::log_record::LogRecord;
 use crate::manifest::Manifest;
+use crate::table_record::has_each_run;
 use std::alloc::Allocator;
 
 fn begins_after(base: u64, logs: &[LogRecord]) -> bool
@@ -25,7 +28,9 @@ impl<A: Allocator> Manifest<A> {
         (1..=1 << 63).contains(&self.generation())
             && self.base() <= 1 << 63
             && (1..=(1 << 63) + 1).contains(&self.next_table())
+            && self.runs() <= 12
             && self.logs().len() <= 3
+            && self.tables().len() <= 1_024
     }
 
     fn logs_fit(&self) -> bool
@@ -39,10 +44,24 @@ impl<A: Allocator> Manifest<A> {
             && begins_after(self.base(), self.logs())
     }
 
-    /// Whether the numbers and the log records are within the limits and in order.
+    fn each_table_fits(&self) -> bool
+        ensures { IsTrue result ↔ All (IsTableRecord self.now.next_table self.now.runs) self.now.tables }
+    {
+        self.tables().iter().all(|table| table.is_within_limits(self.next_table(), self.runs()))
+    }
+
+    fn tables_fit(&self) -> bool
+        ensures { IsTrue result ↔ TablesFit self.now }
+    {
+        self.each_table_fits()
+            && each_two_agree(self.tables())
+            && has_each_run(self.tables(), self.runs())
+    }
+
+    /// Whether the numbers and records are within the limits and in order, and the tables lie apart.
     pub fn is_within_limits(&self) -> bool
         ensures { IsTrue result ↔ IsManifest self.now }
     {
-        self.numbers_fit() && self.logs_fit()
+        self.numbers_fit() && self.logs_fit() && self.tables_fit()
     }
 }

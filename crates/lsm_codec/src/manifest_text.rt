@@ -11,6 +11,7 @@ use crate::log_record::LogRecord;
 use crate::manifest::Manifest;
 use crate::reading::{Unread, u8_at, u16_at, u32_at, u64_at};
 use crate::records::{read_all, write_all};
+use crate::table_record::{TABLE_RECORD_BYTES, TableRecord};
 use lsm_device::Refusal;
 use std::alloc::{AllocError, Allocator};
 
@@ -24,11 +25,13 @@ struct Header {
     base: u64,
     next_table: u64,
     logs: u8,
+    runs: u8,
+    tables: u16,
 }
 
 #[tactic(auto, unfolding(crate::specs::Manifests::header_at))]
 fn header_at(bytes: &[u8]) -> Result<(Header, &[u8]), Unread>
-    ensures { Gives (λ x. ((0x4c534d4d, (x.0.generation, (x.0.base, (x.0.next_table, (x.0.logs, (0, 0)))))), x.1.now)) result (header_at bytes.now) }
+    ensures { Gives (λ x. ((0x4c534d4d, (x.0.generation, (x.0.base, (x.0.next_table, (x.0.logs, (x.0.runs, x.0.tables)))))), x.1.now)) result (header_at bytes.now) }
 {
     let (magic, rest) = u32_at(bytes)?;
     if magic != MAGIC {
@@ -39,19 +42,15 @@ fn header_at(bytes: &[u8]) -> Result<(Header, &[u8]), Unread>
     let (next_table, rest) = u64_at(rest)?;
     let (logs, rest) = u8_at(rest)?;
     let (runs, rest) = u8_at(rest)?;
-    if runs != 0 {
-        return Err(Unread::Malformed);
-    }
     let (tables, rest) = u16_at(rest)?;
-    if tables != 0 {
-        return Err(Unread::Malformed);
-    }
     Ok((
         Header {
             generation,
             base,
             next_table,
             logs,
+            runs,
+            tables,
         },
         rest,
     ))
@@ -66,12 +65,23 @@ fn manifest_at<'b, A: Allocator + Clone>(
 {
     let (header, rest) = header_at(bytes)?;
     let (logs, rest) = read_all::<A, LogRecord>(alloc, header.logs as usize, rest)?;
-    let manifest = Manifest::new(header.generation, header.base, header.next_table, logs);
-    Ok((manifest, rest))
+    let (tables, rest) = read_all::<A, TableRecord>(alloc, header.tables as usize, rest)?;
+    Ok((
+        Manifest::new(
+            header.generation,
+            header.base,
+            header.next_table,
+            header.runs,
+            logs,
+            tables,
+        ),
+        rest,
+    ))
 }
 
 fn header_text<A: Allocator>(manifest: &Manifest<A>) -> [u8; 32]
-    requires { length manifest.now.logs < 2 ^ 8 }
+    requires logs { length manifest.now.logs < 2 ^ 8 }
+    requires tables { length manifest.now.tables < 2 ^ 16 }
     ensures { result ≡ manifest_header manifest.now }
 {
     let mut text = Filled::<32>::new();
@@ -80,8 +90,8 @@ fn header_text<A: Allocator>(manifest: &Manifest<A>) -> [u8; 32]
     text.put_u64(manifest.base());
     text.put_u64(manifest.next_table());
     text.put_u8(manifest.logs().len() as u8);
-    text.put_u8(0);
-    text.put_u16(0);
+    text.put_u8(manifest.runs());
+    text.put_u16(manifest.tables().len() as u16);
     text.into_bytes()
 }
 
@@ -105,30 +115,34 @@ fn put_padding<A: Allocator>(out: &mut Vec<u8, A>) -> Result<(), AllocError>
 impl<A: Allocator> Manifest<A> {
     /// The fewest sectors that hold the manifest.
     pub fn sectors(&self) -> u16
-        requires { length self.now.logs < 2 ^ 8 }
+        requires logs { length self.now.logs < 2 ^ 8 }
+        requires tables { length self.now.tables ≤ 1024 }
         ensures fewest { result ≡ sector_count self.now }
         ensures low { 1 ≤ result }
         ensures high { result ≤ 64 }
     {
-        let size = 32 + 17 * self.logs().len();
+        let size = 32 + 17 * self.logs().len() + TABLE_RECORD_BYTES * self.tables().len();
         size.div_ceil(512) as u16
     }
 
     #[tactic(auto, unfolding(crate::specs::Manifests::manifest_text))]
     fn text(&self, alloc: A) -> Result<Vec<u8, A>, AllocError>
-        requires { length self.now.logs < 2 ^ 8 }
+        requires logs { length self.now.logs < 2 ^ 8 }
+        requires tables { length self.now.tables < 2 ^ 16 }
         ensures { IfOk result (λ text. text.items ≡ manifest_text self.now) }
     {
         let mut text = Vec::new(alloc);
         text.extend_from_slice(&header_text(self))?;
         write_all(self.logs(), &mut text)?;
+        write_all(self.tables(), &mut text)?;
         Ok(text)
     }
 
     /// The bytes of the sectors that spell the manifest, 512 for each. Want of memory is `NoMemory`.
     #[tactic(auto, unfolding(crate::specs::Manifests::manifest_bytes))]
     pub fn encode(&self, alloc: A) -> Result<Vec<u8, A>, Refusal>
-        requires { length self.now.logs < 2 ^ 8 }
+        requires logs { length self.now.logs < 2 ^ 8 }
+        requires tables { length self.now.tables < 2 ^ 16 }
         ensures spelled { UnlessNoMemory result (λ sectors. sectors.items ≡ manifest_bytes self.now) }
         ensures whole { IfOk result (λ sectors. length sectors.items ≡ 512 * sector_count self.now) }
     {

@@ -6,6 +6,7 @@ use Rattle.std.proofs.lemmas.List.{append-nil, length-append}
 use Rattle.std.proofs.lemmas.List.Elements.{All-nil, All-cons, All-head, All-tail, All-append, All-push, All-weaker}
 use Rattle.lsm_codec.specs.declared.log_record.LogRecord.{LogRecord}
 use Rattle.lsm_codec.specs.Manifests.{Contents, Pairwise, IsLogRecord, LogsAgree, BeginsAfter, LogsFit, IsManifest}
+use Rattle.lsm_codec.proofs.ManifestLaws.{no_tables_fit}
 use Rattle.lsm_open.specs.CrashState.{last_number}
 use Rattle.lsm_open.specs.Reopening.{is_free, least_free, new_records, next_contents, BeginsAt, HasCome}
 use Rattle.lsm_open.proofs.NextImages.{least_low}
@@ -188,7 +189,7 @@ module _ (m : Contents) (count : ℕ) (closed : Records) (is : IsManifest m) (co
       (record { regions = All-head (IsElsewhere region) x xs other; epochs = omega (arith, fits.epoch_high); firsts = omega (arith, first) })
       (agree_here region xs (All-tail (IsLogRecord m.generation) x xs each) (All-tail (λ (r : LogRecord). r.first_batch ≤ count) x xs before) (All-tail (IsElsewhere region) x xs other))
 
-  logs_fit : (o : Option ℕ) → least_free closed ≡ o → LogsFit (record { generation = m.generation + 1; base = m.base; next_table = m.next_table; logs = closed ++ new_records o (m.generation + 1) (count + 1) })
+  logs_fit : (o : Option ℕ) → least_free closed ≡ o → LogsFit (record { generation = m.generation + 1; base = m.base; next_table = m.next_table; runs = 0; logs = closed ++ new_records o (m.generation + 1) (count + 1); tables = [] })
   logs_fit None none = record {
     each = All-append (IsLogRecord (m.generation + 1)) closed [] closed_later (All-nil (IsLogRecord (m.generation + 1)));
     agree = subst (Pairwise LogsAgree) (sym (append-nil closed)) closed_agree;
@@ -220,9 +221,12 @@ module _ (m : Contents) (count : ℕ) (closed : Records) (is : IsManifest m) (co
       base = is.numbers.base;
       next_low = is.numbers.next_low;
       next_high = is.numbers.next_high;
+      runs = omega arith;
       logs = count_logs (least_free closed) refl;
+      tables = omega arith;
     };
     logs = logs_fit (least_free closed) refl;
+    tables = no_tables_fit (m.generation + 1) m.base m.next_table (closed ++ new_records (least_free closed) (m.generation + 1) (count + 1));
   }
     where
       below : (g : ℕ) → g ≤ last_number → g ≢ last_number → g + 1 ≤ last_number

@@ -52,7 +52,7 @@ layout_says n m count l next =
     (open_is n (m.generation + 1) count l.open_region next.new_log ∙ ap (λ (o : Option ℕ). new_records o (m.generation + 1) (count + 1)) next.least)
   where
     says : ℕ → ℕ → ℕ → List LogRecord → Contents
-    says g b t rs = record { generation = g; base = b; next_table = t; logs = l.closed ++ rs }
+    says g b t rs = record { generation = g; base = b; next_table = t; runs = 0; logs = l.closed ++ rs; tables = [] }
 
 -- ---- at each moment of the installation
 

@@ -4,7 +4,7 @@ use Rattle.std.proofs.lemmas.List.{length-replicate, get_or-replicate, get_or_ap
 use Rattle.std.proofs.lemmas.List.Elements.{All-nil}
 use Rattle.lsm_codec.specs.Formats.{blank}
 use Rattle.lsm_codec.specs.Manifests.{IsManifest, IsLogRecord, sector_count}
-use Rattle.lsm_codec.proofs.ManifestLaws.{length-manifest_text}
+use Rattle.lsm_codec.proofs.ManifestLaws.{length-manifest_text, no_tables_fit}
 use Rattle.lsm_device.specs.Disk.{Disk, Write, IsDisk, seen, synced}
 use Rattle.lsm_device.specs.History.{present, Becomes}
 use Rattle.lsm_device.specs.Memory.{length-written}
@@ -76,8 +76,9 @@ module _ (size n : ℕ) (d : Disk) (on : IsDisk size d) (fits : n ≤ size) wher
 
 pub empty_is_manifest : IsManifest empty_manifest
 empty_is_manifest = record {
-  numbers = record { generation_low = omega arith; generation_high = lit≤ tt; base = omega arith; next_low = omega arith; next_high = lit≤ tt; logs = omega arith };
+  numbers = record { generation_low = omega arith; generation_high = lit≤ tt; base = omega arith; next_low = omega arith; next_high = lit≤ tt; runs = omega arith; logs = omega arith; tables = omega arith };
   logs = record { each = All-nil (IsLogRecord 1); agree = tt; begins = tt };
+  tables = no_tables_fit 1 0 1 [];
 }
 
 pub empty_takes_one : sector_count empty_manifest ≡ 1

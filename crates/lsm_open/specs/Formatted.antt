@@ -9,7 +9,7 @@ use Rattle.lsm_root.specs.Roots.{Stands, root_of}
 
 -- the manifest of an empty store
 abbrev pub empty_manifest : Contents
-empty_manifest = record { generation = 1; base = 0; next_table = 1; logs = [] }
+empty_manifest = record { generation = 1; base = 0; next_table = 1; runs = 0; logs = []; tables = [] }
 
 -- nothing pends, the root of an empty store stands, and the three log regions are zeros
 pub record IsFormatted (log : ℕ) (d : Disk) : Type 0 where

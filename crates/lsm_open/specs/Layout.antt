@@ -34,9 +34,9 @@ abbrev pub open_records : Option OpenRegion → List LogRecord
 open_records (Some o) = record_of o ∷ []
 open_records None = []
 
--- the manifest that says so
+-- the manifest that says so; there are no tables yet
 abbrev pub manifest_for : Layout → Contents
-manifest_for l = record { generation = l.generation; base = l.base; next_table = l.next_table; logs = l.closed ++ open_records l.open_region }
+manifest_for l = record { generation = l.generation; base = l.base; next_table = l.next_table; runs = 0; logs = l.closed ++ open_records l.open_region; tables = [] }
 
 -- the batches in the closed regions
 abbrev pub closed_batches : Layout → Disk → List (List Operation)

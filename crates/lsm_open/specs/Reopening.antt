@@ -37,7 +37,7 @@ new_records None epoch first = []
 
 -- the manifest of the next generation: behind the kept regions a new log, in the least free one
 abbrev pub next_contents : Contents → List LogRecord → ℕ → Contents
-next_contents m closed count = record { generation = m.generation + 1; base = m.base; next_table = m.next_table; logs = closed ++ new_records (least_free closed) (m.generation + 1) (count + 1) }
+next_contents m closed count = record { generation = m.generation + 1; base = m.base; next_table = m.next_table; runs = 0; logs = closed ++ new_records (least_free closed) (m.generation + 1) (count + 1); tables = [] }
 
 -- a log with no batch yet, in its region, of this generation and behind so many batches
 pub record IsNewLog (log_sectors generation count : ℕ) (o : OpenRegion) : Type 0 where

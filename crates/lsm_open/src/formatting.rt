@@ -68,7 +68,9 @@ fn empty_root<A: Allocator + Clone>(
     ensures root { IfOk result (λ root. root ≡ record { size = sectors; log = log_sectors; manifest = empty_manifest }) }
     ensures refused { IfErr result (λ refusal. refusal ≡ Refusal.NoMemory) }
 {
-    let manifest = Manifest::new(1, 0, 1, Vec::new(alloc.clone()?));
+    let logs = Vec::new(alloc.clone()?);
+    let tables = Vec::new(alloc.clone()?);
+    let manifest = Manifest::new(1, 0, 1, 0, logs, tables);
     Ok(NextRoot::prepare(alloc, sectors, log_sectors, &manifest)?)
 }
 

@@ -54,16 +54,17 @@ impl OpenRegion {
     }
 }
 
-impl<A: Allocator> Regions<A> {
-    /// The manifest that says where the batches lie.
+impl<A: Allocator + Clone> Regions<A> {
+    /// The manifest that says where the batches lie. It names no table.
     pub fn manifest(&self, alloc: A) -> Result<Manifest<A>, AllocError>
         ensures { IfOk result (λ m. m ≡ manifest_for (layout_of self.now)) }
     {
-        let mut logs = Vec::new(alloc);
+        let mut logs = Vec::new(alloc.clone()?);
         logs.extend_from_slice(&self.closed)?;
         if let Some(open) = &self.open_region {
             logs.push(open.record())?;
         }
-        Ok(Manifest::new(self.generation, self.base, self.next_table, logs))
+        let tables = Vec::new(alloc);
+        Ok(Manifest::new(self.generation, self.base, self.next_table, 0, logs, tables))
     }
 }

@@ -25,4 +25,4 @@ joined-pieces (suc n) text is = ap (λ (l : List ℕ). take 512 text ++ l) (join
 
 -- a manifest takes at most 37 sectors
 pub few_sectors : (c : Contents) → IsManifest c → sector_count c ≤ 37
-few_sectors c fits = omega (arith, length-manifest_text c, fits.numbers.logs)
+few_sectors c fits = omega (arith, length-manifest_text c, fits.numbers.logs, fits.numbers.tables)

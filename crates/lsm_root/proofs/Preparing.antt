@@ -10,13 +10,13 @@ use Rattle.lsm_root.proofs.Cutting.{few_sectors}
 
 module _ (text : List ℕ) (m : Contents) (fits : IsManifest m) (spells : text ≡ manifest_bytes m) where
   says : contents_in text ≡ m
-  says = ap (λ (r : Option Contents). unwrap_or r (record { generation = 0; base = 0; next_table = 0; logs = [] })) (ap manifest_of spells ∙ manifest_laws_hold.format.decoded m fits)
+  says = ap (λ (r : Option Contents). unwrap_or r (record { generation = 0; base = 0; next_table = 0; runs = 0; logs = []; tables = [] })) (ap manifest_of spells ∙ manifest_laws_hold.format.decoded m fits)
 
   pub plans : (size log : ℕ) → (let p : Planned = record { size = size; log = log; manifest = contents_in text } in p) ≡ record { size = size; log = log; manifest = m }
   plans size log = ap (λ (c : Contents). let p : Planned = record { size = size; log = log; manifest = c } in p) says
 
-  pub prepares : (s : Superblock) → IsGeometry s.sectors s.log_sectors → m.generation ≡ s.generation → s.manifest_sectors ≡ sector_count m → IsPrepared s text
-  prepares s geometry same count =
+  pub prepares : (s : Superblock) → IsGeometry s.sectors s.log_sectors → length m.tables ≡ 0 → m.generation ≡ s.generation → s.manifest_sectors ≡ sector_count m → IsPrepared s text
+  prepares s geometry plain same count =
       let few : sector_count m ≤ 37 = few_sectors m fits in
       record {
         superblock = record {
@@ -30,6 +30,7 @@ module _ (text : List ℕ) (m : Contents) (fits : IsManifest m) (spells : text �
           manifest_high = omega (arith, count, few);
         };
         manifest = subst IsManifest (sym says) fits;
+        plain = ap (λ (c : Contents). length c.tables) says ∙ plain;
         spelled = spells ∙ ap manifest_bytes (sym says);
         generation = ap (λ (c : Contents). c.generation) says ∙ same;
         sectors = count ∙ ap sector_count (sym says);

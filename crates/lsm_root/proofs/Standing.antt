@@ -1,6 +1,6 @@
 -- What a root that stands tells the next installation.
 use Rattle.std.proofs.Common.{◌≡◌, ◌≤◌, ℕ, ◌+◌, Bool, true, false, cond, ◌==◌, nat_lt, List, length, All, Option, Some, None, refl, sym, ◌∙◌, ap, subst}
-use Rattle.std.proofs.lemmas.Bool.{eqb-true}
+use Rattle.std.proofs.lemmas.Bool.{eqb-true, and_parts}
 use Rattle.std.proofs.lemmas.List.Elements.{All-nil}
 use Rattle.lsm_codec.specs.declared.superblock.Superblock.{Superblock}
 use Rattle.lsm_codec.specs.Superblocks.{IsSuperblock}
@@ -10,7 +10,7 @@ use Rattle.lsm_codec.specs.Manifests.{manifest_of}
 use Rattle.lsm_codec.proofs.FormatLaws.{manifest_laws_hold}
 use Rattle.lsm_device.specs.Disk.{Disk, Write, seen}
 use Rattle.lsm_root.specs.Layout.{IsGeometry}
-use Rattle.lsm_root.specs.Roots.{Reading, Blank, Broken, Names, superblock_in, text_in, OtherSize, Unreadable, Stands, root_with, root_by, root_of}
+use Rattle.lsm_root.specs.Roots.{Reading, Blank, Broken, Names, superblock_in, text_in, OtherSize, Unreadable, Stands, is_served, root_with, root_by, root_of}
 use Rattle.lsm_root.specs.Installed.{IsNext, IsReady, IsInstalled}
 use Rattle.lsm_root.proofs.Frames.{counted_fits}
 
@@ -30,7 +30,7 @@ module _ (size log : ℕ) (m : Contents) (s : Superblock) (limits : IsSuperblock
 
   from_read : (bytes : List ℕ) (read : Option Contents) → manifest_of bytes ≡ read → root_with s read ≡ Stands log m → IsStanding size log m (Names s)
   from_read bytes None is same = absurd cc
-  from_read bytes (Some c) is same = by_test (c.generation == s.generation) (λ e. eqb-true c.generation s.generation e) same
+  from_read bytes (Some c) is same = by_test (is_served s c) (λ e. eqb-true c.generation s.generation (and_parts (c.generation == s.generation) (length c.tables == 0) e).0) same
     where
       by_test : (t : Bool) → (t ≡ true → c.generation ≡ s.generation) → cond t (Stands s.log_sectors c) Unreadable ≡ Stands log m → IsStanding size log m (Names s)
       by_test true means same =

@@ -32,6 +32,7 @@ pub record CanInstall (start : Disk) (new : Superblock) (text : List ℕ) (m : C
   pub whole : length text ≡ 512 * new.manifest_sectors
   pub reads : manifest_of text ≡ Some m
   pub generation : m.generation ≡ new.generation
+  pub plain : length m.tables ≡ 0
 
 -- the writes of the manifest, and that of the superblock
 abbrev pub run_of : Superblock → List ℕ → List Write
@@ -73,7 +74,8 @@ module _ {start : Disk} {new : Superblock} {text : List ℕ} {m : Contents} (can
     root = switch_root (written (seen start) (run_of new text)) new can.fits long m
         (subst (IsNext new.sectors new.log_sectors new.generation) (sym (superblock_stays new.generation (seen start) (run_of new text) inside)) can.next)
         (ap manifest_of text_stands ∙ can.reads)
-        can.generation;
+        can.generation
+        can.plain;
     all = switch_behind (written (seen start) (run_of new text)) new can.fits long ∙ behind_stays new.generation (seen start) (run_of new text) inside;
   }
 
@@ -154,6 +156,7 @@ can_install size d s text long same ready is = record {
   whole = fills s text is;
   reads = ap manifest_of is.spelled ∙ manifest_laws_hold.format.decoded (contents_in text) is.manifest;
   generation = is.generation;
+  plain = is.plain;
 }
 
 -- what an installation of what is planned does

@@ -1,5 +1,5 @@
 -- The root that is to be installed.
-use Rattle.std.specs.Prelude.{◌≡◌, ℕ, List, [], unwrap_or}
+use Rattle.std.specs.Prelude.{◌≡◌, ℕ, List, [], length, unwrap_or}
 use Rattle.lsm_codec.specs.declared.superblock.Superblock.{Superblock}
 use Rattle.lsm_codec.specs.Superblocks.{IsSuperblock}
 use Rattle.lsm_codec.specs.Manifests.{Contents, IsManifest, sector_count, manifest_bytes, manifest_of}
@@ -12,16 +12,17 @@ pub record Planned : Type 0 where
 
 -- what the sectors of a manifest say; no other sectors are asked
 abbrev pub contents_in : List ℕ → Contents
-contents_in text = unwrap_or (manifest_of text) (record { generation = 0; base = 0; next_table = 0; logs = [] })
+contents_in text = unwrap_or (manifest_of text) (record { generation = 0; base = 0; next_table = 0; runs = 0; logs = []; tables = [] })
 
 -- what a superblock and the sectors of its manifest plan
 abbrev pub planned : Superblock → List ℕ → Planned
 planned s text = record { size = s.sectors; log = s.log_sectors; manifest = contents_in text }
 
--- the sectors are a manifest's, and the superblock names them
+-- the sectors are a manifest's that names no table, and the superblock names them
 pub record IsPrepared (s : Superblock) (text : List ℕ) : Type 0 where
   pub superblock : IsSuperblock s
   pub manifest : IsManifest (contents_in text)
+  pub plain : length (contents_in text).tables ≡ 0
   pub spelled : text ≡ manifest_bytes (contents_in text)
   pub generation : (contents_in text).generation ≡ s.generation
   pub sectors : s.manifest_sectors ≡ sector_count (contents_in text)

@@ -59,14 +59,18 @@ pub data Root : Type 0 where
   Damaged : Root
   -- the one that counts is of a device of another size, or there is no place for two
   OtherSize : Root
-  -- the sectors that it names spell no manifest of its generation
+  -- the sectors that it names spell no manifest of its generation, or one with tables
   Unreadable : Root
   -- LOG and the manifest
   Stands : (log : ℕ) (manifest : Contents) → Root
 
+-- whether the manifest is of the superblock's generation and names no table, since no store serves tables yet
+abbrev pub is_served : Superblock → Contents → Bool
+is_served s c = (c.generation == s.generation) && (length c.tables == 0)
+
 abbrev pub root_with : Superblock → Option Contents → Root
 root_with s None = Unreadable
-root_with s (Some c) = if c.generation == s.generation then Stands s.log_sectors c else Unreadable
+root_with s (Some c) = if is_served s c then Stands s.log_sectors c else Unreadable
 
 abbrev pub root_by : Reading → List (List ℕ) → Root
 root_by Blank image = Missing

@@ -147,7 +147,7 @@ fn read_text<A: Allocator + Clone, D: Device>(
     Ok(text)
 }
 
-// What a text says that the superblock names.
+// What a text says that the superblock names. A manifest with tables is refused: no store serves them yet.
 fn loaded_from<A: Allocator + Clone>(
     alloc: A,
     superblock: &Superblock,
@@ -161,6 +161,9 @@ fn loaded_from<A: Allocator + Clone>(
         return Err(Refusal::BadManifest);
     };
     if manifest.generation() != superblock.generation {
+        return Err(Refusal::BadManifest);
+    }
+    if !manifest.tables().is_empty() {
         return Err(Refusal::BadManifest);
     }
     Ok(Loaded {

@@ -31,7 +31,7 @@ fn manifest(alloc: Global, generation: u64, rows: &[Row]) -> Result<Manifest, Fa
             first_batch: *first_batch,
         })?;
     }
-    Ok(Manifest::new(generation, 0, 1, logs))
+    Ok(Manifest::new(generation, 0, 1, 0, logs, Vec::new(alloc)))
 }
 
 /// A superblock's sector, of one manifest sector.
@@ -81,6 +81,9 @@ fn try_install(
     }
     if manifest.generation() <= 1 << 63 && !manifest.is_within_limits() {
         return Err("a manifest within the limits".into());
+    }
+    if !manifest.tables().is_empty() {
+        return Err("a manifest without a table".into());
     }
     Ok(install(alloc, device, LOG, &manifest).err())
 }
@@ -340,6 +343,27 @@ fn refused_with(alloc: Global, at: usize, byte: u8) -> Result<Option<Refusal>, F
     Ok(load(alloc, &mut device).err())
 }
 
+/// Whether a device is refused whose third generation has a manifest that names a table.
+fn is_refused_with_a_table(alloc: Global) -> Result<bool, Fail> {
+    let mut device = installed(alloc, 3)?;
+    let mut sector = BLANK;
+    device.read_into(66, &mut sector)?;
+    // Table number 2 comes next, one run and one record; then table 1, with a data block, an index block and an entry.
+    for at in [29usize, 31, 39, 46, 47, 49] {
+        sector[at] = 1;
+    }
+    sector[27] = 2;
+    put(&mut device, 66, &sector)?;
+    let is_manifest = Manifest::decode(alloc, &sector)?.is_some();
+    Ok(is_manifest && load(alloc, &mut device).err() == Some(Refusal::BadManifest))
+}
+
+#[test]
+fn a_manifest_with_a_table_is_refused(rt: HostRuntime) -> Result<(), Fail> {
+    assert!(rt; is_refused_with_a_table(rt.alloc())?);
+    Ok(())
+}
+
 /// The generation of a store of three whose even superblock is blank.
 fn lone_generation(alloc: Global) -> Result<u64, Fail> {
     let mut device = installed(alloc, 3)?;
@@ -441,8 +465,11 @@ fn loads_whose_memory_is_short(rt: HostRuntime) -> Result<(), Fail> {
 fn is_refused_without_memory(alloc: Global) -> Result<bool, Fail> {
     let mut device = installed(alloc, 1)?;
     let heap = LocalHeap::new(alloc, 64)?;
-    let next = Manifest::new(2, 0, 1, Vec::new(&heap));
+    let next = Manifest::new(2, 0, 1, 0, Vec::new(&heap), Vec::new(&heap));
     if !is_geometry(device.sectors(), LOG) || !next.is_within_limits() {
+        return Ok(false);
+    }
+    if !next.tables().is_empty() {
         return Ok(false);
     }
     let changes = device.changes();

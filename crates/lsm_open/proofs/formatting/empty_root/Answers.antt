@@ -1,21 +1,27 @@
-use Rattle.std.proofs.Common.{◌≡◌, ◌∙◌, List, ap, subst, sym}
+use Rattle.std.proofs.Common.{◌≡◌, ◌∙◌, List, [], length, ap, subst, sym}
 use Rattle.lsm_codec.specs.Manifests.{Contents, IsManifest}
 use Rattle.lsm_codec.specs.declared.log_record.LogRecord.{LogRecord}
+use Rattle.lsm_codec.specs.declared.table_record.TableRecord.{TableRecord}
 use Rattle.lsm_open.specs.Formatted.{empty_manifest}
 use Rattle.lsm_open.proofs.Zeroed.{empty_is_manifest}
 use Rattle.lsm_root.specs.Planned.{Planned}
 use Rattle.lsm_open.proofs.formatting.empty_root.Goals as goal
 
-abbrev with_logs : List LogRecord → Contents
-with_logs logs = record { generation = 1; base = 0; next_table = 1; logs = logs }
+abbrev with_records : List LogRecord → List TableRecord → Contents
+with_records logs tables = record { generation = 1; base = 0; next_table = 1; runs = 0; logs = logs; tables = tables }
 
 pub prepare-requires-clause-valid : goal.prepare-requires-clause-valid
 prepare-requires-clause-valid g c = λ low.
-    let manifest : c.new-manifest.result ≡ empty_manifest = c.new-manifest.ensures ∙ ap with_logs c.new.ensures.items in
+    let manifest : c.new-manifest.result ≡ empty_manifest =
+    c.new-manifest.ensures ∙ ap (λ (logs : List LogRecord). with_records logs c.new-tables.result.items) c.new-logs.ensures.items ∙ ap (with_records []) c.new-tables.ensures.items in
     subst IsManifest (sym manifest) empty_is_manifest
+
+pub prepare-requires-clause-plain : goal.prepare-requires-clause-plain
+prepare-requires-clause-plain g c = ap (λ (m : Contents). length m.tables) c.new-manifest.ensures ∙ ap length c.new-tables.ensures.items
 
 pub returns-clause-root : goal.returns-clause-root
 returns-clause-root g c =
-    let manifest : c.new-manifest.result ≡ empty_manifest = c.new-manifest.ensures ∙ ap with_logs c.new.ensures.items in
+    let manifest : c.new-manifest.result ≡ empty_manifest =
+    c.new-manifest.ensures ∙ ap (λ (logs : List LogRecord). with_records logs c.new-tables.result.items) c.new-logs.ensures.items ∙ ap (with_records []) c.new-tables.ensures.items in
     let planned : Contents → Planned = λ m. record { size = c.args.sectors; log = c.args.log_sectors; manifest = m } in
     c.in_ok-prepare.ensures.prepared ∙ ap planned manifest

@@ -1,4 +1,4 @@
-use Rattle.std.proofs.Common.{◌+◌, subst}
+use Rattle.std.proofs.Common.{◌+◌, length, ap, subst}
 use Rattle.lsm_codec.specs.Manifests.{Contents, sector_count}
 use Rattle.lsm_device.specs.History.{EachSince}
 use Rattle.lsm_device.specs.Medium.{disk}
@@ -24,6 +24,9 @@ install-requires-clause-valid g c = λ le.
     let m = c.args.loaded.now.manifest in
     let says = installs c.args.loaded.now.log_sectors c.args.count m c.in_ok-manifest.manifest c.args.closed.items (layout_of c.next_regions-regions.result) c.in_ok-manifest.ensures c.next_regions-regions.ensures.layout c.next_regions-regions.ensures.kept in
     rw says (next_fits m c.args.count c.args.closed.items c.requires.fits c.requires.come c.requires.has_next)
+
+pub install-requires-clause-plain : goal.install-requires-clause-plain
+install-requires-clause-plain g c = ap (λ (m : Contents). length m.tables) c.in_ok-manifest.ensures
 
 pub returns-clause-any_moment : goal.returns-clause-any_moment
 returns-clause-any_moment g c = λ t.

@@ -1,0 +1,185 @@
+//! Manifests with tables.
+
+use crate::manifests::{is_limited, sectors_of};
+use crate::sectors::is_sector;
+use lsm_codec::{LogRecord, Manifest, TableRecord};
+use lsm_device::Refusal;
+use std::alloc::Global;
+use std::process::Abort;
+use std::test::Fail;
+
+/// A table's number, level, run, first block, data blocks, index blocks and entries.
+type Row = (u64, u8, u8, u32, u8, u8, u16);
+
+/// The table record of these numbers.
+fn record(row: &Row) -> TableRecord {
+    TableRecord {
+        number: row.0,
+        level: row.1,
+        run: row.2,
+        first_block: row.3,
+        data_blocks: row.4,
+        index_blocks: row.5,
+        entries: row.6,
+    }
+}
+
+/// A manifest of generation 4, with the first batch in these tables.
+fn manifest(alloc: Global, next_table: u64, runs: u8, rows: &[Row]) -> Result<Manifest, Refusal> {
+    let mut tables = Vec::new(alloc);
+    for row in rows {
+        tables.push(record(row))?;
+    }
+    Ok(Manifest::new(4, 1, next_table, runs, Vec::new(alloc), tables))
+}
+
+const ONE_TABLE: &str = "4c534d4d000000000000000400000000000000010000000000000002\
+00010001000000000000000100000000000001010001";
+
+/// Whether the sectors are read as a manifest of one run with the one table.
+fn is_read_as(alloc: Global, sectors: &[u8], table: &TableRecord) -> Result<bool, Refusal> {
+    let Some(again) = Manifest::decode(alloc, sectors)? else {
+        return Ok(false);
+    };
+    Ok(again.runs() == 1 && again.next_table() == 2 && again.tables() == [*table].as_slice())
+}
+
+/// Whether a manifest with the one table is spelled so, and read back.
+fn is_spelled(alloc: Global, row: &Row, text: &str) -> Result<bool, Refusal> {
+    let manifest = manifest(alloc, 2, 1, &[*row])?;
+    let sectors = sectors_of(alloc, &manifest)?;
+    Ok(is_sector(&sectors, text) && is_read_as(alloc, &sectors, &record(row))?)
+}
+
+#[test]
+fn a_manifest_with_a_table(rt: HostRuntime) -> Result<(), Fail> {
+    assert!(rt; is_spelled(rt.alloc(), &(1, 0, 0, 0, 1, 1, 1), ONE_TABLE)?);
+    Ok(())
+}
+
+/// Whether a manifest of so many runs with these tables, and table number 4 to come, is within the limits, as `fits`
+/// says, and just then read.
+fn are_limited(alloc: Global, runs: u8, rows: &[Row], fits: bool) -> Result<bool, Refusal> {
+    let manifest = manifest(alloc, 4, runs, rows)?;
+    is_limited(alloc, &manifest, fits)
+}
+
+#[test]
+fn table_records_in_order_and_out_of_it(rt: HostRuntime) -> Result<(), Fail> {
+    let a: Row = (1, 0, 0, 0, 1, 1, 1);
+    let b: Row = (2, 0, 1, 4, 1, 1, 1);
+    let c: Row = (3, 1, 0, 8, 1, 1, 1);
+    for (what, runs, rows, fits) in [
+        ("in order", 2, [a, b, c], true),
+        ("the later run first", 2, [b, a, c], false),
+        ("the later level first", 2, [c, a, b], false),
+        ("a number twice", 2, [a, (1, 0, 1, 4, 1, 1, 1), c], false),
+        ("the next number", 2, [a, b, (4, 1, 0, 8, 1, 1, 1)], false),
+        (
+            "the first blocks meet",
+            2,
+            [a, (2, 0, 1, 3, 1, 1, 1), c],
+            false,
+        ),
+        (
+            "the last blocks meet",
+            2,
+            [a, b, (3, 1, 0, 0, 1, 1, 1)],
+            false,
+        ),
+        (
+            "apart, in no order",
+            2,
+            [(1, 0, 0, 8, 1, 1, 1), b, (3, 1, 0, 0, 1, 1, 1)],
+            true,
+        ),
+        ("a run without a record", 3, [a, b, c], false),
+        ("a run that is none", 1, [a, b, c], false),
+        (
+            "two tables of a run",
+            1,
+            [a, (2, 0, 0, 4, 1, 1, 1), c],
+            true,
+        ),
+        (
+            "two tables of a level",
+            0,
+            [(1, 1, 0, 0, 1, 1, 1), (2, 1, 0, 4, 1, 1, 1), c],
+            true,
+        ),
+    ] {
+        assert!(rt; are_limited(rt.alloc(), runs, &rows, fits)?, "{what}");
+    }
+    Ok(())
+}
+
+#[test]
+fn table_records_at_their_limits(rt: HostRuntime) -> Result<(), Fail> {
+    for (row, fits) in [
+        ((3, 1, 0, 0, 1, 1, 1), true),
+        ((3, 4, 0, 0, 64, 5, 3_200), true),
+        ((3, 4, 0, 4_294_967_225, 64, 5, 3_200), true), // The last block is 2^32 - 1.
+        ((3, 4, 0, 4_294_967_226, 64, 5, 3_200), false),
+        ((3, 5, 0, 0, 1, 1, 1), false), // A level above 4.
+        ((3, 1, 1, 0, 1, 1, 1), false), // A run in level 1.
+        ((3, 0, 0, 0, 1, 1, 1), false), // A run in level 0, which has none.
+        ((3, 1, 0, 0, 0, 1, 1), false), // No data block.
+        ((3, 1, 0, 0, 65, 1, 1), false),
+        ((3, 1, 0, 0, 1, 0, 1), false), // No index block.
+        ((3, 1, 0, 0, 1, 6, 1), false),
+        ((3, 1, 0, 0, 1, 1, 0), false), // No entry.
+        ((3, 1, 0, 0, 1, 1, 3_201), false),
+    ] {
+        assert!(rt; are_limited(rt.alloc(), 0, &[row], fits)?);
+    }
+    Ok(())
+}
+
+/// A manifest with so many tables of level 0, each a run of its own, or all in level 1.
+fn many(alloc: Global, count: u16, level: u8) -> Result<Manifest, Refusal> {
+    let mut logs = Vec::new(alloc);
+    for region in 0..3u8 {
+        logs.push(LogRecord {
+            region,
+            epoch: region as u64 + 1,
+            first_batch: region as u64 + 2,
+        })?;
+    }
+    let mut tables = Vec::new(alloc);
+    for at in 0..count {
+        let run = if level == 0 { (at % 256) as u8 } else { 0 };
+        tables.push(record(&(at as u64, level, run, at as u32 * 71, 64, 5, 3_200)))?;
+    }
+    let runs = if level == 0 { (count % 256) as u8 } else { 0 };
+    Ok(Manifest::new(4, 1, 2_000, runs, logs, tables))
+}
+
+/// Whether the sectors of the manifest have so many bytes, and it is within the limits.
+fn takes(alloc: Global, count: u16, level: u8, bytes: usize) -> Result<bool, Refusal> {
+    let manifest = many(alloc, count, level)?;
+    Ok(sectors_of(alloc, &manifest)?.len() == bytes && is_limited(alloc, &manifest, true)?)
+}
+
+#[test]
+fn the_most_runs_and_tables(rt: HostRuntime) -> Result<(), Fail> {
+    assert!(rt; takes(rt.alloc(), 12, 0, 512)? && takes(rt.alloc(), 1_024, 1, 18_944)?);
+    let thirteen = many(rt.alloc(), 13, 0)?;
+    assert!(rt; is_limited(rt.alloc(), &thirteen, false)?);
+    Ok(())
+}
+
+/// Whether the manifest is not within the limits, and not read from its sectors.
+fn is_unread(alloc: Global, manifest: &Manifest) -> Result<bool, Refusal> {
+    if manifest.logs().len() > 255 || manifest.tables().len() > 65_535 {
+        return Err(Refusal::BadLimit);
+    }
+    let sectors = manifest.encode(alloc)?;
+    Ok(!manifest.is_within_limits() && Manifest::decode(alloc, &sectors)?.is_none())
+}
+
+#[test]
+fn a_table_too_many(rt: HostRuntime) -> Result<(), Fail> {
+    let manifest = many(rt.alloc(), 1_025, 1)?;
+    assert!(rt; is_unread(rt.alloc(), &manifest)?);
+    Ok(())
+}

@@ -1,0 +1,178 @@
+//! A manifest's record of a table.
+
+ghost use Rattle.std.specs.Prelude.{◌≡◌, ◌↔◌, IsTrue};
+ghost use Rattle.lsm_codec.specs.Reading.{Gives};
+ghost use Rattle.lsm_codec.specs.TableRecords.{extent_blocks, extent_end, runs_in, HasSizes, IsTableRecord, InOrder, AreApart, TablesAgree, IsOfRun, HasRun, HasRuns, table_record, table_record_at};
+
+use crate::agree::Agree;
+use crate::filled::Filled;
+use crate::reading::{Unread, u8_at, u16_at, u32_at, u64_at};
+use crate::records::Record;
+use std::alloc::{AllocError, Allocator};
+
+/// The bytes of a record's text.
+pub(crate) const TABLE_RECORD_BYTES: usize = 18;
+
+/// A table that stands, and where.
+#[derive(Clone, Copy, Debug, PartialEq, Eq)]
+pub struct TableRecord {
+    /// Below the manifest's next one.
+    pub number: u64,
+    /// From 0 to 4.
+    pub level: u8,
+    /// In level 0 the run, of which 0 is the newest; in other levels 0.
+    pub run: u8,
+    /// The first block of the table's extent, which ends at 2^32 at most.
+    pub first_block: u32,
+    /// From 1 to 64.
+    pub data_blocks: u8,
+    /// From 1 to 5.
+    pub index_blocks: u8,
+    /// From 1 to 3,200.
+    pub entries: u16,
+}
+
+#[tactic(auto, unfolding(crate::specs::TableRecords::table_record_at))]
+fn table_record_at(bytes: &[u8]) -> Result<(TableRecord, &[u8]), Unread>
+    ensures { Gives (λ x. (x.0, x.1.now)) result (table_record_at bytes.now) }
+{
+    let (number, rest) = u64_at(bytes)?;
+    let (level, rest) = u8_at(rest)?;
+    let (run, rest) = u8_at(rest)?;
+    let (first_block, rest) = u32_at(rest)?;
+    let (data_blocks, rest) = u8_at(rest)?;
+    let (index_blocks, rest) = u8_at(rest)?;
+    let (entries, rest) = u16_at(rest)?;
+    Ok((
+        TableRecord {
+            number,
+            level,
+            run,
+            first_block,
+            data_blocks,
+            index_blocks,
+            entries,
+        },
+        rest,
+    ))
+}
+
+impl<A: Allocator> Record<A> for TableRecord {
+    ghost reading = { table_record_at };
+
+    ghost spelling = { table_record };
+
+    fn read<'b>(_alloc: &A, bytes: &'b [u8]) -> Result<(TableRecord, &'b [u8]), Unread> {
+        table_record_at(bytes)
+    }
+
+    fn write(&self, out: &mut Vec<u8, A>) -> Result<(), AllocError> {
+        out.extend_from_slice(&self.text())
+    }
+}
+
+/// How many runs a level has: level 0 so many, every other one.
+fn runs_in(runs: u8, level: u8) -> u8
+    ensures { result ≡ runs_in runs level }
+{
+    if level == 0 { runs } else { 1 }
+}
+
+impl TableRecord {
+    /// The blocks of the table's extent: data blocks, filter, index and footer.
+    pub fn extent_blocks(&self) -> u32
+        ensures { result ≡ extent_blocks self.now }
+    {
+        self.data_blocks as u32 + self.index_blocks as u32 + 2
+    }
+
+    /// The block behind the extent.
+    fn extent_end(&self) -> u64
+        ensures { result ≡ extent_end self.now }
+    {
+        self.first_block as u64 + self.extent_blocks() as u64
+    }
+
+    fn text(&self) -> [u8; TABLE_RECORD_BYTES]
+        ensures { result ≡ table_record self.now }
+    {
+        let mut text = Filled::<TABLE_RECORD_BYTES>::new();
+        text.put_u64(self.number);
+        text.put_u8(self.level);
+        text.put_u8(self.run);
+        text.put_u32(self.first_block);
+        text.put_u8(self.data_blocks);
+        text.put_u8(self.index_blocks);
+        text.put_u16(self.entries);
+        text.into_bytes()
+    }
+
+    fn has_sizes(&self) -> bool
+        ensures { IsTrue result ↔ HasSizes self.now }
+    {
+        (1..=64).contains(&self.data_blocks)
+            && (1..=5).contains(&self.index_blocks)
+            && (1..=3_200).contains(&self.entries)
+    }
+
+    /// Whether the record is within its own limits, where the next table has this number and level 0 so many runs.
+    pub(crate) fn is_within_limits(&self, next_table: u64, runs: u8) -> bool
+        ensures { IsTrue result ↔ IsTableRecord next_table runs self.now }
+    {
+        self.has_sizes()
+            && self.level <= 4
+            && self.run < runs_in(runs, self.level)
+            && self.number < next_table
+            && self.extent_end() <= 1 << 32
+    }
+
+    fn is_before(&self, later: &TableRecord) -> bool
+        ensures { IsTrue result ↔ InOrder self.now later.now }
+    {
+        self.level < later.level || self.level == later.level && self.run <= later.run
+    }
+
+    fn is_apart_from(&self, other: &TableRecord) -> bool
+        ensures { IsTrue result ↔ AreApart self.now other.now }
+    {
+        self.extent_end() <= other.first_block as u64
+            || other.extent_end() <= self.first_block as u64
+    }
+
+    fn is_of_run(&self, run: u8) -> bool
+        ensures { IsTrue result ↔ IsOfRun run self.now }
+    {
+        self.level == 0 && self.run == run
+    }
+}
+
+impl Agree for TableRecord {
+    ghost Agrees = { TablesAgree };
+
+    fn agrees_with(&self, later: &TableRecord) -> bool {
+        self.number != later.number && self.is_before(later) && self.is_apart_from(later)
+    }
+}
+
+fn has_run(tables: &[TableRecord], run: u8) -> bool
+    ensures { IsTrue result ↔ HasRun tables.now run }
+{
+    for table in tables {
+        if table.is_of_run(run) {
+            return true;
+        }
+    }
+    false
+}
+
+/// Whether every run of level 0 below the count has a record.
+pub(crate) fn has_each_run(tables: &[TableRecord], runs: u8) -> bool
+    ensures { IsTrue result ↔ HasRuns runs tables.now }
+{
+    for run in 0..runs {
+        if !has_run(tables, run) {
+            return false;
+        }
+    }
+    true
+}
