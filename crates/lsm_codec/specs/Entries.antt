@@ -41,10 +41,11 @@ pub record IsDataBlock (entries : List Version) : Type 0 where
   pub versions : AllByRecursion IsEntry entries
   pub fits : block_size entries ≤ 4096
 
--- the same limits, as tests
+-- the same limits, as tests: of an entry
 abbrev pub is_entry : Version → Bool
 is_entry v = is_key v.key && (is_within 1 (2 ^ 63) v.number && nat_le (value_length v.value) 2048)
 
+-- and of a data block
 abbrev pub is_data_block : List Version → Bool
 is_data_block entries = nat_le 1 (length entries) && (list_all is_entry entries && nat_le (block_size entries) 4096)
 
@@ -54,6 +55,7 @@ is_data_block entries = nat_le 1 (length entries) && (list_all is_entry entries 
 abbrev pub absent_length_at : List ℕ → Option (ℕ × List ℕ)
 absent_length_at = kept (λ n. n == 0) (number_at 2)
 
+-- a value, or that there is none
 unfoldable pub outcome_at : List ℕ → Option (Option Bytes × List ℕ)
 outcome_at bytes = do
   kind ← number_at 1 bytes
@@ -63,9 +65,11 @@ outcome_at bytes = do
 abbrev pub batch_number_at : List ℕ → Option (ℕ × List ℕ)
 batch_number_at = kept (is_within 1 (2 ^ 63)) (number_at 8)
 
+-- the entry at the front of the bytes
 unfoldable pub entry_at : List ℕ → Option (Version × List ℕ)
 entry_at = made (λ p. record { key = p.0; number = p.1.0; value = p.1.1 }) (both key_at (both batch_number_at outcome_at))
 
+-- whether each byte is zero
 abbrev pub are_zeros : List ℕ → Bool
 are_zeros bytes = list_all (λ b. b == 0) bytes
 

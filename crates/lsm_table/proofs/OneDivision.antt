@@ -9,7 +9,7 @@ use Rattle.lsm_codec.specs.Versions.{Version}
 use Rattle.lsm_table.specs.Division.{TableBlocks, entries_of, blocks, first_group, AllAdjacent, IsBlocks, KeepsLimits, IsTooMuch, ShareNoKey, IsTables}
 use Rattle.lsm_table.specs.Laws.{OneDivision}
 use Rattle.lsm_table.proofs.Blocks.{only_blocks, blocks_grow}
-use Rattle.lsm_table.proofs.Groups.{Lacks, first_group_apart, first_group_split, apart-append, parted}
+use Rattle.lsm_table.proofs.Groups.{first_group_apart, first_group_split, apart-append, parted}
 
 -- what passes a limit passes it with more
 pub more_is_too_much : (some more : List Version) → IsTooMuch some → IsTooMuch (some ++ more)

@@ -12,7 +12,7 @@ use Rattle.lsm_table.specs.Division.{IsInput, TableBlocks, entries_of, blocks, f
 use Rattle.lsm_table.specs.Laws.{OneLayout}
 use Rattle.lsm_table.specs.Counting.{EndsTable}
 use Rattle.lsm_table.proofs.Blocks.{Fits, only_blocks, are_blocks, blocks_some}
-use Rattle.lsm_table.proofs.Groups.{Lacks, first_group_apart}
+use Rattle.lsm_table.proofs.Groups.{first_group_apart}
 use Rattle.lsm_table.proofs.Orders.{Before, later_pairs, front_pairs}
 use Rattle.lsm_table.proofs.OneDivision.{some_entries, apart_from_all}
 

@@ -7,6 +7,9 @@ use Rattle.lsm_table.proofs.Ends.{ends_before, ends_at_end, kept_within, passed}
 use Rattle.lsm_table.proofs.counting.table_len.Goals as goal
 use Rattle.lsm_table.proofs.counting.table_len.Goals.{then-layout-gt-MAX_BLOCKS-via-then-layout-gt-MAX_BLOCKS, then-layout-gt-MAX_BLOCKS-via-else-layout-gt-MAX_BLOCKS+then-i-ge-MAX_ENTRIES}
 
+pub key_start-begun-requires-clause-before : goal.key_start-begun-requires-clause-before
+key_start-begun-requires-clause-before g c = c.loop-i.invariant.start
+
 pub returns-then-layout-gt-MAX_BLOCKS : goal.returns-then-layout-gt-MAX_BLOCKS
 returns-then-layout-gt-MAX_BLOCKS g c =
     let es = c.args.entries.now in
