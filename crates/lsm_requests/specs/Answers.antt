@@ -7,7 +7,7 @@ use Rattle.lsm_codec.specs.Geometry.{data_blocks_of}
 use Rattle.lsm_store.specs.Machine.{Step}
 use Rattle.lsm_store.specs.Paging.{Page}
 use Rattle.lsm_device.specs.Calls.{no_calls}
-use Rattle.lsm_device.specs.Medium.{Medium, disk}
+use Rattle.lsm_device.specs.Medium.{Medium, disk, silent}
 use Rattle.lsm_device.specs.Outcomes.{Leaves}
 use Rattle.lsm_device.specs.declared.file.FileDevice.{FileDevice}
 use Rattle.lsm_root.specs.Counted.{CallsMade}
@@ -16,7 +16,7 @@ use Rattle.lsm_open.specs.Image.{IsImage}
 use Rattle.lsm_store.specs.declared.asked.At.TheVariants.{Now}
 use Rattle.lsm_store.specs.Calls.{Commit, Get, Scan, Sync, Reply, Done, Number, Rows, Value as Found}
 use Rattle.lsm_store.specs.Backing.{StoreView}
-use Rattle.lsm_store.specs.Serving.{Serves}
+use Rattle.lsm_store.specs.Serving.{Serves, ReopensTo}
 use Rattle.lsm_lives.specs.Calls.{step_of}
 use Rattle.lsm_lives.specs.Replaying.{Replays}
 use Rattle.lsm_lives.specs.Leading.{AreLed, LifeView}
@@ -46,10 +46,25 @@ pub record HasFormatted (sectors log : ℕ) (answer : Answer) : Type 0 where
   pub no_fault : file.calls.faults ≡ 0
   pub told : answer ≡ Formatted (data_blocks_of sectors log)
 
+-- what contracts see of a file as a device
+abbrev pub file_medium : FileDevice → Medium
+file_medium file = record { size = file.sectors; lasting = silent; calls = file.calls; history = [] }
+
+-- an opening of a file in which no call was made yet answered this store
+pub record WasOpened (store : StoreView) : Type 0 where
+  pub file : FileDevice
+  pub unused : file.calls ≡ no_calls
+  pub opened : ReopensTo (file_medium file) store
+
+-- a file was opened, and the store answers so
+pub record OfOpened (Answers : StoreView → Answer → Type 0) (answer : Answer) : Type 0 where
+  pub store : StoreView
+  pub opened : WasOpened store
+  pub answers : Answers store answer
+
 -- a batch was committed and synced, and its number is told
-pub record HasCommitted (batch : List Operation) (answer : Answer) : Type 0 where
+pub record HasCommitted (batch : List Operation) (before : StoreView) (answer : Answer) : Type 0 where
   pub number : ℕ
-  pub before : StoreView
   pub between : StoreView
   pub after : StoreView
   pub commits : Serves before (Commit batch) (Number number) between
@@ -63,9 +78,8 @@ TellsValue None Absent = Unit {0}
 TellsValue _ _ = ⊥
 
 -- a key was looked up, and its value is told, or that it has none
-pub record HasFound (key : Bytes) (answer : Answer) : Type 0 where
+pub record HasFound (key : Bytes) (before : StoreView) (answer : Answer) : Type 0 where
   pub value : Option Bytes
-  pub before : StoreView
   pub after : StoreView
   pub serves : Serves before (Get Now key) (Found value) after
   pub told : TellsValue value answer
@@ -76,9 +90,8 @@ HasLines lines (Lines text) = string_bytes text ≡ lines
 HasLines lines _ = ⊥
 
 -- a page of the map was found, and its rows are told
-pub record HasRows (from : Bytes) (limit : ℕ) (answer : Answer) : Type 0 where
+pub record HasRows (from : Bytes) (limit : ℕ) (before : StoreView) (answer : Answer) : Type 0 where
   pub page : Page
-  pub before : StoreView
   pub after : StoreView
   pub serves : Serves before (Scan Now from None limit) (Rows page) after
   pub told : HasLines (page_lines page) answer
@@ -89,9 +102,8 @@ pub record TellsReplies (before : StoreView) (made : List Step) (steps : List To
   pub replays : Replays before made replies after
   pub told : HasLines (replies_text steps replies) answer
 
--- of some store
-pub record HasReplies (made : List Step) (steps : List Told) (answer : Answer) : Type 0 where
-  pub before : StoreView
+-- so that the store went on to another state
+pub record HasReplies (made : List Step) (steps : List Told) (before : StoreView) (answer : Answer) : Type 0 where
   pub after : StoreView
   pub tells : TellsReplies before made steps after answer
 
@@ -110,8 +122,8 @@ pub record HasLives (sectors log_sectors : ℕ) (lives : List LifeView) (steps :
 -- what answers a request
 abbrev pub Gives : Request → Answer → Type 0
 Gives (request.Format file geometry) = HasFormatted geometry.sectors geometry.log_sectors
-Gives (request.Commit file batch) = HasCommitted batch
-Gives (request.Get file key) = HasFound key.items
-Gives (request.Scan file from limit) = HasRows from.items limit
-Gives (request.Replay file script) = HasReplies (map step_of (calls_after [] script.items)) (told_after [] script.items)
+Gives (request.Commit file batch) = OfOpened (HasCommitted batch)
+Gives (request.Get file key) = OfOpened (HasFound key.items)
+Gives (request.Scan file from limit) = OfOpened (HasRows from.items limit)
+Gives (request.Replay file script) = OfOpened (HasReplies (map step_of (calls_after [] script.items)) (told_after [] script.items))
 Gives (request.Lives geometry script) = HasLives geometry.sectors geometry.log_sectors (lives_said script.items) (told_lives script.items)

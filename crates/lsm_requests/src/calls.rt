@@ -3,7 +3,7 @@
 ghost use Rattle.std.specs.Prelude.{[], map, IfOk};
 ghost use Rattle.lsm_lives.specs.Calls.{step_of};
 ghost use Rattle.lsm_requests.specs.Steps.{calls_after, told_after};
-ghost use Rattle.lsm_requests.specs.Answers.{Gives, HasFormatted, HasCommitted, HasFound, HasRows, HasReplies};
+ghost use Rattle.lsm_requests.specs.Answers.{Gives, HasFormatted, HasCommitted, HasFound, HasRows, HasReplies, OfOpened, WasOpened};
 
 use crate::answer::Answer;
 use crate::reply::push_page;
@@ -55,7 +55,9 @@ fn format<R: Files<File = File> + AllocGlobal>(
 fn open<R: Files<File = File> + AllocGlobal>(
     rt: &R,
     file: &str,
-) -> Result<Store<FileDevice>, Refusal> {
+) -> Result<Store<FileDevice>, Refusal>
+    ensures { IfOk result WasOpened }
+{
     let device = FileDevice::open(rt, file)?;
     match Store::open(rt.alloc(), device, CACHE) {
         Ok(store) => Ok(store),
@@ -68,14 +70,14 @@ fn commit<R: Files<File = File> + AllocGlobal>(
     file: &str,
     batch: &Batch,
 ) -> Result<Answer, Refusal>
-    ensures { IfOk result (HasCommitted batch.now) }
+    ensures { IfOk result (OfOpened (HasCommitted batch.now)) }
 {
     let mut store = open(rt, file)?;
     Ok(commit_and_sync(&mut store, batch)?)
 }
 
 fn commit_and_sync<D: Device>(store: &mut Store<D>, batch: &Batch) -> Result<Answer, Refusal>
-    ensures { IfOk result (HasCommitted batch.now) }
+    ensures { IfOk result (HasCommitted batch.now store.old) }
 {
     let number = store.commit(batch)?;
     store.sync()?;
@@ -87,7 +89,7 @@ fn get<R: Files<File = File> + AllocGlobal>(
     file: &str,
     key: &[u8],
 ) -> Result<Answer, Refusal>
-    ensures { IfOk result (HasFound key.now) }
+    ensures { IfOk result (OfOpened (HasFound key.now)) }
 {
     let mut store = open(rt, file)?;
     Ok(find(rt.alloc(), &mut store, key)?)
@@ -95,7 +97,7 @@ fn get<R: Files<File = File> + AllocGlobal>(
 
 // Looks a key up.
 fn find<D: Device>(alloc: Global, store: &mut Store<D>, key: &[u8]) -> Result<Answer, Refusal>
-    ensures { IfOk result (HasFound key.now) }
+    ensures { IfOk result (HasFound key.now store.old) }
 {
     match store.get(At::Now, key)? {
         Some(value) => Ok(Answer::Value(word(alloc, value.as_slice())?)),
@@ -108,7 +110,7 @@ fn replay<R: Files<File = File> + AllocGlobal>(
     file: &str,
     script: Vec<Line>,
 ) -> Result<Answer, Refusal>
-    ensures { IfOk result (HasReplies (map step_of (calls_after [] script.items)) (told_after [] script.items)) }
+    ensures { IfOk result (OfOpened (HasReplies (map step_of (calls_after [] script.items)) (told_after [] script.items))) }
 {
     let steps = steps_of(rt.alloc(), script)?;
     let mut store = open(rt, file)?;
@@ -121,7 +123,7 @@ fn scan<R: Files<File = File> + AllocGlobal>(
     from: &[u8],
     limit: u64,
 ) -> Result<Answer, Refusal>
-    ensures { IfOk result (HasRows from.now limit) }
+    ensures { IfOk result (OfOpened (HasRows from.now limit)) }
 {
     let mut store = open(rt, file)?;
     Ok(list(rt.alloc(), &mut store, from, limit)?)
@@ -134,7 +136,7 @@ fn list<D: Device>(
     from: &[u8],
     limit: u64,
 ) -> Result<Answer, Refusal>
-    ensures { IfOk result (HasRows from.now limit) }
+    ensures { IfOk result (HasRows from.now limit store.old) }
 {
     let page = store.scan(At::Now, from, None, limit)?;
     let mut text = String::new(alloc);

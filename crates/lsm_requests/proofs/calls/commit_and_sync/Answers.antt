@@ -4,7 +4,6 @@ use Rattle.lsm_requests.proofs.calls.commit_and_sync.Goals as goal
 pub returns : goal.returns
 returns g c = record {
   number = c.in_ok-number.number;
-  before = c.args.store.now;
   between = c.commit.new.self;
   after = c.sync.new.self;
   commits = search rules;

@@ -4,7 +4,6 @@ use Rattle.lsm_requests.proofs.calls.find.Goals as goal
 pub returns-in_ok-word-in-Some : goal.returns-in_ok-word-in-Some
 returns-in_ok-word-in-Some g c = record {
   value = Some c.in-Some.value.items;
-  before = c.args.store.now;
   after = c.get.new.self;
   serves = search rules;
   told = search rules;
@@ -13,7 +12,6 @@ returns-in_ok-word-in-Some g c = record {
 pub returns-in-None : goal.returns-in-None
 returns-in-None g c = record {
   value = None;
-  before = c.args.store.now;
   after = c.get.new.self;
   serves = search rules;
   told = search rules;

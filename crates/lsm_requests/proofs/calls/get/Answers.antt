@@ -1,0 +1,9 @@
+use Rattle.std.proofs.Common.{rules}
+use Rattle.lsm_requests.proofs.calls.get.Goals as goal
+
+pub returns : goal.returns
+returns g c = record {
+  store = c.in_ok-store.store;
+  opened = search rules;
+  answers = search rules;
+}
