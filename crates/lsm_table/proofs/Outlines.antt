@@ -16,8 +16,8 @@ use Rattle.lsm_codec.proofs.IndexLaws.{index_of_exact, index_low, index_high}
 use Rattle.lsm_table.specs.Division.{Block, TableBlocks, entries_of, IsTable}
 use Rattle.lsm_table.specs.BlockEdges.{last_edge, edges_of, first_key_of}
 use Rattle.lsm_table.specs.BlockEdges.{follow_first, are_rising}
-use Rattle.lsm_table.specs.declared.shape.TableShape.{TableShape}
-use Rattle.lsm_table.specs.Outlines.{Outline, summary_in, shape_in, outline_in, is_of_shape, go_together, outline_with, outline_by, outline_of, IsOutline, IsSpelled}
+use Rattle.lsm_codec.specs.declared.table_record.TableRecord.{TableRecord}
+use Rattle.lsm_table.specs.Outlines.{Outline, summary_in, IsRecordOf, outline_in, is_of_record, go_together, outline_with, outline_by, outline_of, IsOutline, IsSpelled}
 use Rattle.lsm_table.specs.Extents.{footer_in}
 use Rattle.lsm_table.specs.Laws.{OutlineLaws}
 use Rattle.lsm_table.proofs.Blocks.{only_blocks}
@@ -33,18 +33,15 @@ passed_test : {X : Type 0} (b : Bool) (x : Option X) (z : X) → cond b x None �
 passed_test true x z e = (refl, e)
 passed_test false x z e = absurd (none-some z e)
 
-same_shape : (s : TableShape) (n d i m : ℕ) → n ≡ s.number → d ≡ s.data_blocks → i ≡ s.index_blocks → m ≡ s.entries → record { number = n; data_blocks = d; index_blocks = i; entries = m } ≡ s
-same_shape s n d i m a b c e = rw (a, b, c, e) refl
-
 same_summary : (f : Summary) (n m : ℕ) → n ≡ f.data_blocks → m ≡ f.index_len → record { number = f.number; data_blocks = n; entries = f.entries; index_len = m; first = f.first } ≡ f
 same_summary f n m a b = rw (a, b) refl
 
-told : (s : TableShape) (footer index filter : List ℕ) (o : Outline) → outline_of s footer index filter ≡ Some o → IsOutline o × IsSpelled s footer index filter o
+told : (s : TableRecord) (footer index filter : List ℕ) (o : Outline) → outline_of s footer index filter ≡ Some o → IsOutline o × IsSpelled s footer index filter o
 unfolding outline_of
 told s footer index filter o e =
     let a = bind_some (footer_of footer) (λ (f : Summary). outline_by s f index filter) o e in
     let f : Summary = a.0 in
-    let shaped = passed_test (is_of_shape s f) (index_of f.data_blocks index >>= λ edges. outline_with s f filter edges) o a.2 in
+    let shaped = passed_test (is_of_record s f) (index_of f.data_blocks index >>= λ edges. outline_with s f filter edges) o a.2 in
     let b = bind_some (index_of f.data_blocks index) (λ (edges : List Edge). outline_with s f filter edges) o shaped.1 in
     let edges : List Edge = b.0 in
     let c = cond_some (go_together s f edges) (made f edges filter) o b.2 in
@@ -58,37 +55,39 @@ told s footer index filter o e =
     let len : index_length edges ≡ f.index_len = eqb-true (index_length edges) f.index_len p.0 in
     let count : length edges ≡ f.data_blocks = back.0.all in
     let same : summary_in (made f edges filter) ≡ f = same_summary f (length edges) (index_length edges) count len in
-    let shape : shape_in (made f edges filter) ≡ s =
-    same_shape s f.number (length edges) (index_count edges) f.entries (eqb-true f.number s.number x.0) (count ∙ eqb-true f.data_blocks s.data_blocks y.0) (eqb-true (index_count edges) s.index_blocks t.0) (eqb-true f.entries s.entries y.1) in
+    let recorded : IsRecordOf s (made f edges filter) = record {
+      number = sym (eqb-true f.number s.number x.0);
+      data_blocks = sym (count ∙ eqb-true f.data_blocks s.data_blocks y.0);
+      index_blocks = sym (eqb-true (index_count edges) s.index_blocks t.0);
+      entries = sym (eqb-true f.entries s.entries y.1);
+    } in
     subst (λ (x : Outline). IsOutline x × IsSpelled s footer index filter x) c.1 (
       record { summary = subst IsSummary (sym same) front.0; index = subst (λ (n : ℕ). IsIndex n edges) (sym count) back.0; begins = q.0; rising = q.1 },
-      record { by_record = sym shape; by_footer = front.1 ∙ ap footer_block (sym same); by_index = back.1; by_filter = refl },
+      record { by_record = recorded; by_footer = front.1 ∙ ap footer_block (sym same); by_index = back.1; by_filter = refl },
     )
 
 -- edges that go together rise
-pub rising_in : (s : TableShape) (f : Summary) (edges : List Edge) → go_together s f edges ≡ true → are_rising edges ≡ true
+pub rising_in : (s : TableRecord) (f : Summary) (edges : List Edge) → go_together s f edges ≡ true → are_rising edges ≡ true
 rising_in s f edges t =
     let p = and_parts (index_count edges == s.index_blocks) ((index_length edges == f.index_len) && (follow_first f.first edges && are_rising edges)) t in
     let q = and_parts (index_length edges == f.index_len) (follow_first f.first edges && are_rising edges) p.1 in
     (and_parts (follow_first f.first edges) (are_rising edges) q.1).1
 
-itself : (n : ℕ) → (n == n) ≡ true
-itself n = eq-eqb n n refl
+own_record : (s : TableRecord) (o : Outline) → IsRecordOf s o → is_of_record s (summary_in o) ≡ true
+own_record s o r = and_from _ _ (eq-eqb o.number s.number (sym r.number)) (and_from _ _ (eq-eqb (length o.edges) s.data_blocks (sym r.data_blocks)) (eq-eqb o.entries s.entries (sym r.entries)))
 
-own_shape : (o : Outline) → is_of_shape (shape_in o) (summary_in o) ≡ true
-own_shape o = and_from _ _ (itself o.number) (and_from _ _ (itself (length o.edges)) (itself o.entries))
+own_index : (s : TableRecord) (o : Outline) → IsRecordOf s o → IsOutline o → go_together s (summary_in o) o.edges ≡ true
+own_index s o r is =
+    and_from _ _ (eq-eqb (index_count o.edges) s.index_blocks (sym r.index_blocks)) (and_from _ _ (eq-eqb (index_length o.edges) (index_length o.edges) refl) (and_from _ _ is.begins is.rising))
 
-own_index : (o : Outline) → IsOutline o → go_together (shape_in o) (summary_in o) o.edges ≡ true
-own_index o is = and_from _ _ (itself (index_count o.edges)) (and_from _ _ (itself (index_length o.edges)) (and_from _ _ is.begins is.rising))
-
-pub spelled : (s : TableShape) (footer index filter : List ℕ) (o : Outline) → IsOutline o → IsSpelled s footer index filter o → outline_of s footer index filter ≡ Some o
+pub spelled : (s : TableRecord) (footer index filter : List ℕ) (o : Outline) → IsOutline o → IsSpelled s footer index filter o → outline_of s footer index filter ≡ Some o
 unfolding outline_of
 spelled s footer index filter o is by =
     let f : Summary = summary_in o in
     let front : footer_of footer ≡ Some f = (footer_of_exact footer).only f is.summary by.by_footer in
     let back : index_of (length o.edges) index ≡ Some o.edges = (index_of_exact (length o.edges) index).only o.edges is.index by.by_index in
-    let shaped : is_of_shape s f ≡ true = ap (λ (t : TableShape). is_of_shape t f) by.by_record ∙ own_shape o in
-    let together : go_together s f o.edges ≡ true = ap (λ (t : TableShape). go_together t f o.edges) by.by_record ∙ own_index o is in
+    let shaped : is_of_record s f ≡ true = own_record s o by.by_record in
+    let together : go_together s f o.edges ≡ true = own_index s o by.by_record is in
     ap (λ (r : Option Summary). r >>= λ g. outline_by s g index filter) front
     ∙ ap (λ (b : Bool). cond b (index_of f.data_blocks index >>= λ edges. outline_with s f filter edges) None) shaped
     ∙ ap (λ (r : Option (List Edge)). r >>= λ edges. outline_with s f filter edges) back
@@ -151,15 +150,11 @@ footer_is number blocks entries len first table is a b c d =
     let count : blocks ≡ length (edges_of table) = a ∙ sym (edge_count table is) in
     rw (count, b, c, d) refl
 
-pub shape_is : (number blocks index entries : ℕ) (filter : List ℕ) (table : TableBlocks) → IsTable table → blocks ≡ length table → index ≡ index_count (edges_of table) → entries ≡ length (entries_of table)
-    → record { number = number; data_blocks = blocks; index_blocks = index; entries = entries } ≡ shape_in (outline_in number filter table)
-shape_is number blocks index entries filter table is a b c = same_shape (shape_in (outline_in number filter table)) number blocks index entries refl (a ∙ sym (edge_count table is)) b c
-
 -- what an image of a table is written as is read as the table
-opens : (number : ℕ) (filter : List ℕ) (table : TableBlocks) → number ≤ 2 ^ 63 → IsTable table
-    → outline_of (shape_in (outline_in number filter table)) (footer_in number table) (index_blocks (edges_of table)) filter ≡ Some (outline_in number filter table)
-opens number filter table le is =
-    spelled _ _ _ _ (outline_in number filter table) (outline_fits number filter table le is) (record { by_record = refl; by_footer = refl; by_index = refl; by_filter = refl })
+opens : (t : TableRecord) (number : ℕ) (filter : List ℕ) (table : TableBlocks) → number ≤ 2 ^ 63 → IsTable table → IsRecordOf t (outline_in number filter table)
+    → outline_of t (footer_in number table) (index_blocks (edges_of table)) filter ≡ Some (outline_in number filter table)
+opens t number filter table le is recorded =
+    spelled t _ _ _ (outline_in number filter table) (outline_fits number filter table le is) (record { by_record = recorded; by_footer = refl; by_index = refl; by_filter = refl })
 
 pub outline_laws_hold : OutlineLaws
 outline_laws_hold = record {

@@ -11,9 +11,10 @@ use Rattle.lsm_codec.proofs.Lists.{all_left, all_right}
 use Rattle.lsm_codec.proofs.Readers.{bind_some}
 use Rattle.lsm_codec.proofs.DataBlockLaws.{block_format}
 use Rattle.lsm_codec.proofs.IndexLaws.{length-index_blocks}
+use Rattle.lsm_codec.specs.declared.table_record.TableRecord.{TableRecord}
 use Rattle.lsm_table.specs.Division.{Block, TableBlocks, IsTable, entries_of}
 use Rattle.lsm_table.specs.BlockEdges.{edges_of}
-use Rattle.lsm_table.specs.Outlines.{shape_in, outline_in}
+use Rattle.lsm_table.specs.Outlines.{IsRecordOf, outline_in}
 use Rattle.lsm_table.specs.Extents.{in_pieces, index_in_blocks, footer_in, extent_of}
 use Rattle.lsm_table.specs.Stored.{table_of, table_in, outline_at, StoredLaws}
 use Rattle.lsm_table.proofs.Outlines.{edge_count, outline_fits, spelled}
@@ -62,20 +63,23 @@ behind number filter table =
     ap (λ (bs : List (List ℕ)). drop (length table + 1) bs) (sym (append_assoc (map data_block table) (filter ∷ []) rest))
     ∙ drop_at front rest (length table + 1) (omega (arith, length-append (map data_block table) (filter ∷ []), length-map table data_block))
 
-outline_back : (number : ℕ) (filter : List ℕ) (table : TableBlocks) → number ≤ 2 ^ 63 → IsTable table → outline_at (shape_in (outline_in number filter table)) (extent_of number filter table) ≡ Some (outline_in number filter table)
-outline_back number filter table le is =
+outline_back : (t : TableRecord) (number : ℕ) (filter : List ℕ) (table : TableBlocks) → number ≤ 2 ^ 63 → IsTable table → IsRecordOf t (outline_in number filter table) → outline_at t (extent_of number filter table) ≡ Some (outline_in number filter table)
+outline_back t number filter table le is recorded =
     let x : ℕ = index_count (edges_of table) in
     let whole : List (List ℕ) = extent_of number filter table in
-    let n : length (edges_of table) ≡ length table = edge_count table is in
-    let footer : get_or whole (length (edges_of table) + x + 1) [] ≡ footer_in number table =
-    ap (λ (k : ℕ). get_or whole (k + x + 1) []) n ∙ at_footer number filter table (length table + x + 1) (omega arith) (omega arith) in
-    let index : flat_map (λ b. b) (take x (drop (length (edges_of table) + 1) whole)) ≡ index_blocks (edges_of table) =
-    ap (λ (k : ℕ). flat_map (λ b. b) (take x (drop (k + 1) whole))) n
+    let n : t.data_blocks ≡ length table = recorded.data_blocks ∙ edge_count table is in
+    let m : t.index_blocks ≡ x = recorded.index_blocks in
+    let footer : get_or whole (t.data_blocks + t.index_blocks + 1) [] ≡ footer_in number table =
+    ap (λ (k : ℕ). get_or whole (k + t.index_blocks + 1) []) n ∙ ap (λ (k : ℕ). get_or whole (length table + k + 1) []) m
+    ∙ at_footer number filter table (length table + x + 1) (omega arith) (omega arith) in
+    let index : flat_map (λ b. b) (take t.index_blocks (drop (t.data_blocks + 1) whole)) ≡ index_blocks (edges_of table) =
+    ap (λ (k : ℕ). flat_map (λ b. b) (take t.index_blocks (drop (k + 1) whole))) n
+    ∙ ap (λ (k : ℕ). flat_map (λ b. b) (take k (drop (length table + 1) whole))) m
     ∙ ap (λ (bs : List (List ℕ)). flat_map (λ b. b) (take x bs)) (behind number filter table)
     ∙ ap (flat_map (λ b. b)) (take_at (index_in_blocks table) (footer_in number table ∷ []) x (length-in_pieces x (index_blocks (edges_of table))))
     ∙ pieces_joined x (index_blocks (edges_of table)) (length-index_blocks (edges_of table)) in
-    let kept : get_or whole (length (edges_of table)) [] ≡ filter = ap (λ (k : ℕ). get_or whole k []) n ∙ at_filter number filter table (length table) refl in
-    spelled _ _ _ _ (outline_in number filter table) (outline_fits number filter table le is) (record { by_record = refl; by_footer = footer; by_index = index; by_filter = kept })
+    let kept : get_or whole t.data_blocks [] ≡ filter = ap (λ (k : ℕ). get_or whole k []) n ∙ at_filter number filter table (length table) refl in
+    spelled t _ _ _ (outline_in number filter table) (outline_fits number filter table le is) (record { by_record = recorded; by_footer = footer; by_index = index; by_filter = kept })
 
 pub stored_laws_hold : StoredLaws
 stored_laws_hold = record { read = reads; spelled = spells; table = table_back; outline = outline_back }

@@ -3,11 +3,11 @@ use Rattle.std.specs.Prelude.{◌≡◌, ◌<◌, ◌≤◌, ◌^◌, ◌↔◌,
 use Rattle.std.specs.List.{AllByRecursion}
 use Rattle.lsm_codec.specs.Versions.{Version, IsEntry}
 use Rattle.lsm_codec.specs.Indexes.{index_blocks}
-use Rattle.lsm_table.specs.declared.shape.TableShape.{TableShape}
+use Rattle.lsm_codec.specs.declared.table_record.TableRecord.{TableRecord}
 use Rattle.lsm_table.specs.Division.{TableBlocks, IsTable, IsTables, IsBlocks, blocks}
 use Rattle.lsm_table.specs.BlockEdges.{edges_of}
 use Rattle.lsm_table.specs.Places.{IsSorted}
-use Rattle.lsm_table.specs.Outlines.{Outline, IsOutline, IsSpelled, shape_in, outline_in, outline_of}
+use Rattle.lsm_table.specs.Outlines.{Outline, IsRecordOf, IsOutline, IsSpelled, outline_in, outline_of}
 use Rattle.lsm_table.specs.Extents.{footer_in}
 
 -- There is one division into tables.
@@ -22,7 +22,7 @@ pub record OneLayout : Type 0 where
 -- Record, footer, index and filter tell an outline exactly where it is one and they spell it; a table's outline is one,
 -- and is what its own tell; and a table is sorted.
 pub record OutlineLaws : Type 0 where
-  pub exact : (s : TableShape) (footer index filter : List ℕ) (o : Outline) → (outline_of s footer index filter ≡ Some o) ↔ (IsOutline o × IsSpelled s footer index filter o)
+  pub exact : (t : TableRecord) (footer index filter : List ℕ) (o : Outline) → (outline_of t footer index filter ≡ Some o) ↔ (IsOutline o × IsSpelled t footer index filter o)
   pub table : (number : ℕ) (filter : List ℕ) (table : TableBlocks) → number ≤ 2 ^ 63 → IsTable table → IsOutline (outline_in number filter table)
-  pub opens : (number : ℕ) (filter : List ℕ) (table : TableBlocks) → number ≤ 2 ^ 63 → IsTable table → outline_of (shape_in (outline_in number filter table)) (footer_in number table) (index_blocks (edges_of table)) filter ≡ Some (outline_in number filter table)
+  pub opens : (t : TableRecord) (number : ℕ) (filter : List ℕ) (table : TableBlocks) → number ≤ 2 ^ 63 → IsTable table → IsRecordOf t (outline_in number filter table) → outline_of t (footer_in number table) (index_blocks (edges_of table)) filter ≡ Some (outline_in number filter table)
   pub sorted : (table : TableBlocks) → IsTable table → IsSorted table

@@ -6,7 +6,7 @@ use Rattle.lsm_codec.specs.Keys.{Bytes}
 use Rattle.lsm_codec.specs.Indexes.{Edge, IsIndex, index_length, index_count, index_blocks, index_of}
 use Rattle.lsm_codec.specs.Footers.{Summary, IsSummary, footer_block, footer_of}
 use Rattle.lsm_codec.specs.Reading.{◌>>=◌}
-use Rattle.lsm_table.specs.declared.shape.TableShape.{TableShape}
+use Rattle.lsm_codec.specs.declared.table_record.TableRecord.{TableRecord}
 use Rattle.lsm_table.specs.Division.{TableBlocks, entries_of}
 use Rattle.lsm_table.specs.BlockEdges.{edges_of, first_key_of, are_rising, follow_first}
 
@@ -22,33 +22,36 @@ pub record Outline : Type 0 where
 abbrev pub summary_in : Outline → Summary
 summary_in o = record { number = o.number; data_blocks = length o.edges; entries = o.entries; index_len = index_length o.edges; first = o.first }
 
--- what its record says
-abbrev pub shape_in : Outline → TableShape
-shape_in o = record { number = o.number; data_blocks = length o.edges; index_blocks = index_count o.edges; entries = o.entries }
+-- a manifest's record is that of the outline
+pub record IsRecordOf (t : TableRecord) (o : Outline) : Type 0 where
+  pub number : t.number ≡ o.number
+  pub data_blocks : t.data_blocks ≡ length o.edges
+  pub index_blocks : t.index_blocks ≡ index_count o.edges
+  pub entries : t.entries ≡ o.entries
 
 -- the outline of a table, with this number and filter
 abbrev pub outline_in : ℕ → List ℕ → TableBlocks → Outline
 outline_in number filter table = record { number = number; entries = length (entries_of table); first = first_key_of table; edges = edges_of table; filter = filter }
 
 -- the footer is of the record's number, and has as many data blocks and entries
-abbrev pub is_of_shape : TableShape → Summary → Bool
-is_of_shape s f = (f.number == s.number) && ((f.data_blocks == s.data_blocks) && (f.entries == s.entries))
+abbrev pub is_of_record : TableRecord → Summary → Bool
+is_of_record t f = (f.number == t.number) && ((f.data_blocks == t.data_blocks) && (f.entries == t.entries))
 
 -- the index takes as many blocks as the record says, is as long as the footer says, and is in order
-abbrev pub go_together : TableShape → Summary → List Edge → Bool
-go_together s f edges = (index_count edges == s.index_blocks) && ((index_length edges == f.index_len) && (follow_first f.first edges && are_rising edges))
+abbrev pub go_together : TableRecord → Summary → List Edge → Bool
+go_together t f edges = (index_count edges == t.index_blocks) && ((index_length edges == f.index_len) && (follow_first f.first edges && are_rising edges))
 
 -- what footer and index tell
-abbrev pub outline_with : TableShape → Summary → List ℕ → List Edge → Option Outline
-outline_with s f filter edges = if go_together s f edges then Some (record { number = f.number; entries = f.entries; first = f.first; edges = edges; filter = filter }) else None
+abbrev pub outline_with : TableRecord → Summary → List ℕ → List Edge → Option Outline
+outline_with t f filter edges = if go_together t f edges then Some (record { number = f.number; entries = f.entries; first = f.first; edges = edges; filter = filter }) else None
 
 -- what a footer, and the bytes of index and filter tell
-abbrev pub outline_by : TableShape → Summary → List ℕ → List ℕ → Option Outline
-outline_by s f index filter = if is_of_shape s f then index_of f.data_blocks index >>= (λ edges. outline_with s f filter edges) else None
+abbrev pub outline_by : TableRecord → Summary → List ℕ → List ℕ → Option Outline
+outline_by t f index filter = if is_of_record t f then index_of f.data_blocks index >>= (λ edges. outline_with t f filter edges) else None
 
 -- what footer, index and filter of the table with this record tell, if they are those of such a table
-unfoldable pub outline_of : TableShape → List ℕ → List ℕ → List ℕ → Option Outline
-outline_of s footer index filter = footer_of footer >>= λ f. outline_by s f index filter
+unfoldable pub outline_of : TableRecord → List ℕ → List ℕ → List ℕ → Option Outline
+outline_of t footer index filter = footer_of footer >>= λ f. outline_by t f index filter
 
 -- the outline of a table: footer and index are within their limits, and in order
 pub record IsOutline (o : Outline) : Type 0 where
@@ -58,8 +61,8 @@ pub record IsOutline (o : Outline) : Type 0 where
   pub rising : are_rising o.edges ≡ true
 
 -- the record is that of the outline, and footer, index and filter spell it
-pub record IsSpelled (s : TableShape) (footer index filter : List ℕ) (o : Outline) : Type 0 where
-  pub by_record : s ≡ shape_in o
+pub record IsSpelled (t : TableRecord) (footer index filter : List ℕ) (o : Outline) : Type 0 where
+  pub by_record : IsRecordOf t o
   pub by_footer : footer ≡ footer_block (summary_in o)
   pub by_index : index ≡ index_blocks o.edges
   pub by_filter : filter ≡ o.filter

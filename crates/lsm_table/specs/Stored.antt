@@ -3,9 +3,9 @@ use Rattle.std.specs.Prelude.{◌≡◌, ℕ, ◌+◌, ◌≤◌, ◌^◌, List,
 use Rattle.std.specs.List.{AllByRecursion, flat_map}
 use Rattle.lsm_codec.specs.Reading.{◌>>=◌}
 use Rattle.lsm_codec.specs.Entries.{IsDataBlock, data_block, block_of}
-use Rattle.lsm_table.specs.declared.shape.TableShape.{TableShape}
+use Rattle.lsm_codec.specs.declared.table_record.TableRecord.{TableRecord}
 use Rattle.lsm_table.specs.Division.{TableBlocks, IsTable}
-use Rattle.lsm_table.specs.Outlines.{Outline, shape_in, outline_in, outline_of}
+use Rattle.lsm_table.specs.Outlines.{Outline, IsRecordOf, outline_in, outline_of}
 use Rattle.lsm_table.specs.Extents.{extent_of}
 
 -- the table that data blocks spell, if each of them spells entries
@@ -22,13 +22,13 @@ table_in count blocks = table_of (take count blocks)
 
 -- the outline that the blocks after the data blocks tell of the table with this record: the filter, the index, and the
 -- footer
-abbrev pub outline_at : TableShape → List (List ℕ) → Option Outline
-outline_at s blocks =
-    outline_of s (slice_index_or blocks (s.data_blocks + s.index_blocks + 1) []) (flat_map (λ b. b) (take s.index_blocks (drop (s.data_blocks + 1) blocks))) (slice_index_or blocks s.data_blocks [])
+abbrev pub outline_at : TableRecord → List (List ℕ) → Option Outline
+outline_at t blocks =
+    outline_of t (slice_index_or blocks (t.data_blocks + t.index_blocks + 1) []) (flat_map (λ b. b) (take t.index_blocks (drop (t.data_blocks + 1) blocks))) (slice_index_or blocks t.data_blocks [])
 
 -- Data blocks spell just one table, and an extent is read as the table that was laid into it.
 pub record StoredLaws : Type 0 where
   pub read : (table : TableBlocks) → AllByRecursion IsDataBlock table → table_of (map data_block table) ≡ Some table
   pub spelled : (blocks : List (List ℕ)) (table : TableBlocks) → table_of blocks ≡ Some table → AllByRecursion IsDataBlock table × (blocks ≡ map data_block table)
   pub table : (number : ℕ) (filter : List ℕ) (table : TableBlocks) → IsTable table → table_in (length table) (extent_of number filter table) ≡ Some table
-  pub outline : (number : ℕ) (filter : List ℕ) (table : TableBlocks) → number ≤ 2 ^ 63 → IsTable table → outline_at (shape_in (outline_in number filter table)) (extent_of number filter table) ≡ Some (outline_in number filter table)
+  pub outline : (t : TableRecord) (number : ℕ) (filter : List ℕ) (table : TableBlocks) → number ≤ 2 ^ 63 → IsTable table → IsRecordOf t (outline_in number filter table) → outline_at t (extent_of number filter table) ≡ Some (outline_in number filter table)

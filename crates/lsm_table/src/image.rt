@@ -7,13 +7,12 @@ ghost use Rattle.lsm_codec.specs.Indexes.{index_blocks, index_count};
 ghost use Rattle.lsm_filter.specs.Bits.{filter_of, is_perhaps};
 ghost use Rattle.lsm_table.specs.Division.{IsTable, entries_of};
 ghost use Rattle.lsm_table.specs.BlockEdges.{edges_of, first_key_of};
-ghost use Rattle.lsm_table.specs.Outlines.{outline_in, shape_in};
+ghost use Rattle.lsm_table.specs.Outlines.{outline_in, IsRecordOf};
 ghost use Rattle.lsm_table.specs.Extents.{keys_of, footer_in, extent_size, extent_of};
 
 use crate::edges::edges_of;
 use crate::layout::BLOCK;
-use crate::shape::TableShape;
-use lsm_codec::{Entry, Footer, encode_data_block};
+use lsm_codec::{Entry, Footer, TableRecord, encode_data_block};
 use lsm_filter::Filter;
 use std::alloc::{AllocError, Allocator, Global};
 use std::marker::Model;
@@ -151,12 +150,18 @@ impl<A: Allocator> Image<A> {
         &self.index
     }
 
-    /// What the record of the table under this number says of it.
-    pub fn shape(&self, number: u64) -> TableShape
-        ensures { result ≡ shape_in (outline_in number (filter_of (keys_of self.now)) self.now) }
+    /// The record of the table under this number, in this level and run, whose extent begins at this block.
+    pub fn table_record(&self, number: u64, level: u8, run: u8, first_block: u32) -> TableRecord
+        ensures of { IsRecordOf result (outline_in number (filter_of (keys_of self.now)) self.now) }
+        ensures level { result.level ≡ level }
+        ensures run { result.run ≡ run }
+        ensures first { result.first_block ≡ first_block }
     {
-        TableShape {
+        TableRecord {
             number,
+            level,
+            run,
+            first_block,
             data_blocks: self.data_blocks() as u8,
             index_blocks: self.index_blocks() as u8,
             entries: self.entries as u16,

@@ -9,12 +9,10 @@ mod image;
 mod laws;
 mod layout;
 mod outline;
-mod shape;
 mod table;
 
 pub use division::images;
 pub use entries::Entries;
 pub use image::Image;
 pub use laws::{one_division_law, one_layout_law, outline_law, stored_law};
-pub use shape::TableShape;
 pub use table::Table;

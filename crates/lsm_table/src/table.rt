@@ -10,9 +10,8 @@ ghost use Rattle.lsm_table.specs.Places.{place_of, at_place, IsSorted};
 ghost use Rattle.lsm_table.specs.Outlines.{outline_with, outline_by, outline_of, Opens};
 
 use crate::edges::{last_key, place_in};
-use crate::outline::{go_together, is_of_shape};
-use crate::shape::TableShape;
-use lsm_codec::{Edge, Footer, Index, Key};
+use crate::outline::{go_together, is_of_record};
+use lsm_codec::{Edge, Footer, Index, Key, TableRecord};
 use lsm_device::Refusal;
 use lsm_filter::Filter;
 use std::alloc::{Allocator, Global};
@@ -41,7 +40,7 @@ impl<A: Allocator> Model for Table<A> {
 }
 
 impl<A: Allocator + Clone> Table<A> {
-    /// Opens the table that a record is of, with this footer block, these index blocks and this filter block. `BadTable`
+    /// Opens the table of a manifest's record, with this footer block, these index blocks and this filter block. `BadTable`
     /// where they are not those of such a table: the footer is outside its limits, or says another number, count of data
     /// blocks or of entries than the record; the index isn't that of the footer's data blocks, of the footer's length
     /// and in the record's count of blocks, which are the fewest that hold it; or first key and edges are out of order.
@@ -49,49 +48,49 @@ impl<A: Allocator + Clone> Table<A> {
     #[tactic(auto, unfolding(crate::specs::Outlines::outline_of))]
     pub fn open(
         alloc: A,
-        shape: TableShape,
+        table: TableRecord,
         footer: &[u8; 4_096],
         index: &[u8],
         filter: &[u8; 4_096],
     ) -> Result<Table<A>, Refusal>
-        ensures { Opens (outline_of shape footer.now index.now filter.now) result }
+        ensures { Opens (outline_of table footer.now index.now filter.now) result }
     {
         match Footer::decode(footer) {
-            Some(footer) => Table::open_by(alloc, shape, &footer, index, filter),
+            Some(footer) => Table::open_by(alloc, table, &footer, index, filter),
             None => Err(Refusal::BadTable),
         }
     }
 
     fn open_by(
         alloc: A,
-        shape: TableShape,
+        table: TableRecord,
         footer: &Footer<'_>,
         index: &[u8],
         filter: &[u8; 4_096],
     ) -> Result<Table<A>, Refusal>
         requires { IsSummary (summary_of footer.now) }
-        ensures { Opens (outline_by shape (summary_of footer.now) index.now filter.now) result }
+        ensures { Opens (outline_by table (summary_of footer.now) index.now filter.now) result }
     {
-        if !is_of_shape(shape, footer) {
+        if !is_of_record(table, footer) {
             return Err(Refusal::BadTable);
         }
         match Index::decode(alloc.clone()?, footer.data_blocks as usize, index)? {
-            Some(index) => Table::open_with(alloc, shape, footer, index, filter),
+            Some(index) => Table::open_with(alloc, table, footer, index, filter),
             None => Err(Refusal::BadTable),
         }
     }
 
     fn open_with(
         alloc: A,
-        shape: TableShape,
+        table: TableRecord,
         footer: &Footer<'_>,
         index: Index<A>,
         filter: &[u8; 4_096],
     ) -> Result<Table<A>, Refusal>
         requires { IsSummary (summary_of footer.now) }
-        ensures { Opens (outline_with shape (summary_of footer.now) filter.now index) result }
+        ensures { Opens (outline_with table (summary_of footer.now) filter.now index) result }
     {
-        if !go_together(shape, footer, &index) {
+        if !go_together(table, footer, &index) {
             return Err(Refusal::BadTable);
         }
         let first = Key::from_slice(alloc.clone()?, footer.first)?;

@@ -3,9 +3,9 @@
 use crate::input::{entry, images_of, images_of_puts};
 use hex::decode_to_slice;
 use linked_list_allocator::LocalHeap;
-use lsm_codec::Entry;
+use lsm_codec::{Entry, TableRecord};
 use lsm_device::Refusal;
-use lsm_table::{Entries, Image, Table, TableShape};
+use lsm_table::{Entries, Image, Table};
 use std::alloc::{AllocError, Allocator, Global};
 use std::process::Abort;
 use std::test::Fail;
@@ -54,11 +54,19 @@ fn deletes_past_the_most_entries(rt: HostRuntime) -> Result<(), Fail> {
     Ok(())
 }
 
-/// Whether the block begins with the bytes of the hex text, and goes on with zeros.
-fn is_block(block: &[u8; 4_096], text: &str) -> bool {
-    let mut wanted = [0; 4_096];
+/// A block that begins with the bytes of the hex text, and goes on with zeros.
+fn block_of(text: &str) -> Option<[u8; 4_096]> {
+    let mut block = [0; 4_096];
     let end = text.len() / 2;
-    end <= 4_096 && decode_to_slice(text, &mut wanted[..end]).is_ok() && *block == wanted
+    if end > 4_096 || decode_to_slice(text, &mut block[..end]).is_err() {
+        return None;
+    }
+    Some(block)
+}
+
+/// Whether the block is that one.
+fn is_block(block: &[u8; 4_096], text: &str) -> bool {
+    block_of(text).is_some_and(|wanted| wanted == *block)
 }
 
 /// Whether a block of the image's extent is that one.
@@ -102,7 +110,7 @@ fn opened<A: Allocator + Clone>(alloc: A, image: &Image<A>) -> Result<Table<A>, 
     let filter = filter_block(image);
     Table::open(
         alloc,
-        image.shape(9),
+        image.table_record(9, 0, 0, 0),
         &image.footer(9),
         image.index(),
         &filter,
@@ -141,31 +149,42 @@ fn a_table_of_three_blocks(rt: HostRuntime) -> Result<(), Fail> {
     Ok(())
 }
 
-/// Whether the image is refused as the table of this record.
-fn is_refused(alloc: Global, image: &Image, shape: TableShape) -> bool {
-    let filter = filter_block(image);
-    let opened = Table::open(alloc, shape, &image.footer(9), image.index(), &filter);
-    opened.err() == Some(Refusal::BadTable)
+/// Whether the blocks are those of the table of the record.
+fn is_table(
+    alloc: Global,
+    table: TableRecord,
+    footer: &[u8; 4_096],
+    index: &[u8],
+) -> Result<bool, Refusal> {
+    match Table::open(alloc, table, footer, index, &[0; 4_096]) {
+        Ok(_) => Ok(true),
+        Err(Refusal::BadTable) => Ok(false),
+        Err(refusal) => Err(refusal),
+    }
 }
 
 #[test]
 fn records_of_other_tables(rt: HostRuntime) -> Result<(), Fail> {
     let images = images_of_puts(rt.alloc(), &[b"a".as_slice(), b"b"], &[7; 2_048])?;
     let image = images.first().ok_or("an image")?;
-    for (number, data_blocks, index_blocks, entries, refused) in [
-        (9, 2, 1, 2, false),
-        (8, 2, 1, 2, true),
-        (9, 1, 1, 2, true),
-        (9, 2, 2, 2, true),
-        (9, 2, 1, 3, true),
+    let footer = image.footer(9);
+    for (number, data_blocks, index_blocks, entries, fits) in [
+        (9, 2, 1, 2, true),
+        (8, 2, 1, 2, false),
+        (9, 1, 1, 2, false),
+        (9, 2, 2, 2, false),
+        (9, 2, 1, 3, false),
     ] {
-        let shape = TableShape {
+        let table = TableRecord {
             number,
+            level: 1,
+            run: 0,
+            first_block: 7,
             data_blocks,
             index_blocks,
             entries,
         };
-        assert!(rt; is_refused(rt.alloc(), image, shape) == refused);
+        assert!(rt; is_table(rt.alloc(), table, &footer, image.index())? == fits);
     }
     Ok(())
 }
@@ -179,53 +198,55 @@ fn flipped(block: &[u8; 4_096], at: usize) -> [u8; 4_096] {
     block
 }
 
-/// How many of the footers that differ in the lowest bit of one byte, and of such indexes, are of the table of the record.
-fn opened_of_damaged(
+/// How many of the footers that differ from this one in the lowest bit of one byte are those of the table of the record.
+fn footers_among(
     alloc: Global,
-    shape: TableShape,
+    table: TableRecord,
     footer: &[u8; 4_096],
     index: &[u8; 4_096],
-) -> Result<(u32, u32), Refusal> {
-    let filter = [0; 4_096];
-    let mut footers = 0u32;
-    let mut indexes = 0u32;
+) -> Result<u32, Refusal> {
+    let mut found = 0u32;
     for at in 0..4_096 {
-        match Table::open(alloc, shape, &flipped(footer, at), index, &filter) {
-            Ok(_) => footers = footers.wrapping_add(1),
-            Err(Refusal::BadTable) => {}
-            Err(refusal) => return Err(refusal),
-        }
-        match Table::open(alloc, shape, footer, &flipped(index, at), &filter) {
-            Ok(_) => indexes = indexes.wrapping_add(1),
-            Err(Refusal::BadTable) => {}
-            Err(refusal) => return Err(refusal),
+        if is_table(alloc, table, &flipped(footer, at), index)? {
+            found = found.wrapping_add(1);
         }
     }
-    Ok((footers, indexes))
+    Ok(found)
 }
 
-/// A block that begins with the bytes of the hex text, and goes on with zeros.
-fn block_of(text: &str) -> Option<[u8; 4_096]> {
-    let mut block = [0; 4_096];
-    let end = text.len() / 2;
-    if end > 4_096 || decode_to_slice(text, &mut block[..end]).is_err() {
-        return None;
+/// How many of such indexes are.
+fn indexes_among(
+    alloc: Global,
+    table: TableRecord,
+    footer: &[u8; 4_096],
+    index: &[u8; 4_096],
+) -> Result<u32, Refusal> {
+    let mut found = 0u32;
+    for at in 0..4_096 {
+        if is_table(alloc, table, footer, &flipped(index, at))? {
+            found = found.wrapping_add(1);
+        }
     }
-    Some(block)
+    Ok(found)
 }
 
 #[test]
 fn each_byte_of_footer_and_index(rt: HostRuntime) -> Result<(), Fail> {
     let footer = block_of("4c534d5400000000000000010001000000010000000a0161").ok_or("hex")?;
     let index = block_of("01610000000000000001").ok_or("hex")?;
-    let shape = TableShape {
+    let table = TableRecord {
         number: 1,
+        level: 1,
+        run: 0,
+        first_block: 7,
         data_blocks: 1,
         index_blocks: 1,
         entries: 1,
     };
-    // A first key below the last is allowed, and seven bytes of the last version's number.
-    assert!(rt; opened_of_damaged(rt.alloc(), shape, &footer, &index)? == (1, 7));
+    // A first key below the last is allowed.
+    assert!(rt; footers_among(rt.alloc(), table, &footer, &index)? == 1);
+    // Seven bytes of the last version's number.
+    assert!(rt; indexes_among(rt.alloc(), table, &footer, &index)? == 7);
     Ok(())
 }
 
