@@ -39,7 +39,8 @@ impl<A: Allocator> Model for NextRoot<A> {
 
 impl<A: Allocator> NextRoot<A> {
     /// Takes all memory that the installation of the manifest's root needs, for a device of so many sectors. The manifest
-    /// names no table, since no store serves tables yet. No device is called. `Exhausted` just where the generation is above 2^63; else only want of memory refuses, with `NoMemory`.
+    /// names no table, since no store serves tables yet. No device is called. `Exhausted` just where the generation is
+    /// above 2^63; else only want of memory refuses, with `NoMemory`.
     pub fn prepare(
         alloc: A,
         sectors: u32,
