@@ -12,7 +12,8 @@ use Rattle.lsm_codec.specs.Keys.{IsBytes}
 use Rattle.lsm_codec.specs.Spelling.{padding, IsDecoded}
 use Rattle.lsm_codec.specs.Reading.{front_of}
 use Rattle.lsm_codec.specs.TableRecords.{IsTableRecord, TablesAgree, is_table_record, is_agreeing_table, table_record}
-use Rattle.lsm_codec.specs.Manifests.{Contents, Pairwise, IsLogRecord, LogsAgree, BeginsAfter, NumbersFit, LogsFit, TablesFit, IsManifest, is_each_two, is_log_record, is_agreeing, is_after, is_numbered, is_logged, is_tabled, is_manifest, log_record, manifest_text, sector_count, manifest_bytes, log_record_at, only_number, header_at, manifest_at, manifest_of}
+use Rattle.lsm_codec.specs.Pairs.{Pairwise}
+use Rattle.lsm_codec.specs.Manifests.{Contents, IsLogRecord, LogsAgree, BeginsAfter, NumbersFit, LogsFit, TablesFit, IsManifest, is_each_two, is_log_record, is_agreeing, is_after, is_numbered, is_logged, is_tabled, is_manifest, log_record, manifest_text, sector_count, manifest_bytes, log_record_at, only_number, header_at, manifest_at, manifest_of}
 use Rattle.lsm_codec.specs.Formats.{IsFormat}
 use Rattle.lsm_codec.proofs.Limits.{at_most-Decides, is_within-Decides, all-Decides}
 use Rattle.lsm_codec.proofs.Readers.{Reads, number_reads, times_reads, then_reads, made_reads, kept_reads, fits_reads}

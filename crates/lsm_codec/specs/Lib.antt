@@ -6,6 +6,7 @@ pub mod BatchText
 pub mod Answers
 pub mod Superblocks
 pub mod LogSectors
+pub mod Pairs
 pub mod TableRecords
 pub mod Manifests
 pub mod Versions

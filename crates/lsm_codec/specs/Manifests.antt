@@ -4,6 +4,7 @@ use Rattle.std.specs.List.{All, flat_map, list_all}
 use Rattle.std.specs.Int.{div_ceil}
 use Rattle.byteorder.specs.Endian.{big_bytes}
 use Rattle.lsm_codec.specs.Spelling.{in_sectors, is_within, if_spelled}
+use Rattle.lsm_codec.specs.Pairs.{Pairwise}
 use Rattle.lsm_codec.specs.Reading.{number_at, then_with, both, made, kept, times, front_of}
 use Rattle.lsm_codec.specs.declared.log_record.LogRecord.{LogRecord}
 use Rattle.lsm_codec.specs.declared.table_record.TableRecord.{TableRecord}
@@ -19,11 +20,6 @@ pub record Contents : Type 0 where
   pub tables : List TableRecord
 
 -- ---- limits
-
--- each two, the earlier and the later, stand in the relation
-abbrev pub Pairwise : {X : Type 0} → (X → X → Type 0) → List X → Type 0
-Pairwise R [] = Unit {0}
-Pairwise R (x ∷ xs) = All (R x) xs × Pairwise R xs
 
 pub record IsLogRecord (generation : ℕ) (r : LogRecord) : Type 0 where
   pub region : r.region ≤ 2

@@ -1,8 +1,10 @@
 -- Versions of keys, and their order.
-use Rattle.std.specs.Prelude.{ℕ, ◌≤◌, ◌^◌, Bool, ◌&&◌, nat_lt, nat_le, List, [], ◌∷◌, length, Option, Some, None, if◌then◌else◌}
+use Rattle.std.specs.Prelude.{◌≡◌, ℕ, ◌≤◌, ◌^◌, Bool, ◌&&◌, nat_lt, nat_le, List, [], ◌∷◌, length, Option, Some, None, if◌then◌else◌}
 use Rattle.std.specs.declared.cmp.Ordering.{Ordering}
+use Rattle.std.specs.declared.cmp.Ordering.TheVariants.{Less}
 use Rattle.std.specs.Ordering.{is_eq, nat_cmp, ordering_then}
 use Rattle.lsm_codec.specs.Keys.{Bytes, IsKey, byte_order}
+use Rattle.lsm_codec.specs.Pairs.{Pairwise}
 
 -- what the batch of this number made of a key: a value, or none where it deleted the key
 pub record Version : Type 0 where
@@ -17,6 +19,10 @@ is_same_key a b = is_eq (byte_order a b)
 -- the order of entries: by key, and then the newer first
 abbrev pub entry_order : Version → Version → Ordering
 entry_order a b = ordering_then (byte_order a.key b.key) (nat_cmp b.number a.number)
+
+-- versions in the order of entries, no key and number twice
+abbrev pub AreOrdered : List Version → Type 0
+AreOrdered versions = Pairwise (λ v w. entry_order v w ≡ Less) versions
 
 -- whether it is a version of a key, numbered at most n
 abbrev pub is_version_of : Bytes → ℕ → Version → Bool

@@ -5,7 +5,8 @@ use Rattle.std.proofs.lemmas.Bool.{and_parts, and_cases, eqb-true, eqb-false, no
 use Rattle.std.proofs.lemmas.List.{append-nil, length-append}
 use Rattle.std.proofs.lemmas.List.Elements.{All-nil, All-cons, All-head, All-tail, All-append, All-push, All-weaker}
 use Rattle.lsm_codec.specs.declared.log_record.LogRecord.{LogRecord}
-use Rattle.lsm_codec.specs.Manifests.{Contents, Pairwise, IsLogRecord, LogsAgree, BeginsAfter, LogsFit, IsManifest}
+use Rattle.lsm_codec.specs.Pairs.{Pairwise}
+use Rattle.lsm_codec.specs.Manifests.{Contents, IsLogRecord, LogsAgree, BeginsAfter, LogsFit, IsManifest}
 use Rattle.lsm_codec.proofs.ManifestLaws.{no_tables_fit}
 use Rattle.lsm_open.specs.CrashState.{last_number}
 use Rattle.lsm_open.specs.Reopening.{is_free, least_free, new_records, next_contents, BeginsAt, HasCome}

@@ -2,7 +2,8 @@
 use Rattle.std.specs.Prelude.{◌≡◌, ℕ, ◌+◌, ◌≤◌, ◌==◌, not, Bool, List, [], ◌∷◌, ◌++◌, length, Option, Some, None, option_map, if◌then◌else◌}
 use Rattle.std.specs.List.{All, list_all}
 use Rattle.lsm_codec.specs.declared.log_record.LogRecord.{LogRecord}
-use Rattle.lsm_codec.specs.Manifests.{Contents, IsLogRecord, LogsAgree, Pairwise}
+use Rattle.lsm_codec.specs.Pairs.{Pairwise}
+use Rattle.lsm_codec.specs.Manifests.{Contents, IsLogRecord, LogsAgree}
 use Rattle.lsm_codec.specs.Map.{Operation}
 use Rattle.lsm_mem.specs.EntryOrder.{with_batches}
 use Rattle.lsm_mem.specs.Versions.{NumberedBelow}

@@ -9,7 +9,7 @@ use Rattle.std.proofs.lemmas.List.Folds.{length-prefix_len}
 use Rattle.std.proofs.Math.Seq.{take-append-add}
 use Rattle.lsm_codec.specs.Keys.{Bytes}
 use Rattle.lsm_codec.specs.Versions.{Version, is_same_key}
-use Rattle.lsm_codec.specs.Manifests.{Pairwise}
+use Rattle.lsm_codec.specs.Pairs.{Pairwise}
 use Rattle.lsm_table.specs.Division.{IsInput, blocks, first_group, KeepsLimits, IsTooMuch, ShareNoKey}
 use Rattle.lsm_table.specs.Counting.{EndsTable, IsOneGroup, IsKeyStart}
 use Rattle.lsm_table.proofs.Blocks.{blocks_grow, blocks_few}

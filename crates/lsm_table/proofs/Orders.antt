@@ -12,7 +12,7 @@ use Rattle.std.proofs.lemmas.List.Elements.{All-from_recursion, recursion_from_A
 use Rattle.lsm_codec.proofs.Lists.{all_left, all_right}
 use Rattle.lsm_codec.specs.Keys.{Bytes, byte_order}
 use Rattle.lsm_codec.specs.Versions.{Version, entry_order}
-use Rattle.lsm_codec.specs.Manifests.{Pairwise}
+use Rattle.lsm_codec.specs.Pairs.{Pairwise}
 use Rattle.lsm_table.specs.Division.{ShareNoKey}
 use Rattle.lsm_table.proofs.Groups.{Lacks}
 

@@ -10,7 +10,7 @@ use Rattle.std.proofs.lemmas.Map.Lookups.{exact_bytes}
 use Rattle.std.proofs.lemmas.Option.{same_Some}
 use Rattle.lsm_codec.specs.Keys.{Bytes, byte_order}
 use Rattle.lsm_codec.specs.Versions.{Version, IsEntry, entry_order, is_same_key, newer_of, newest}
-use Rattle.lsm_codec.specs.Manifests.{Pairwise}
+use Rattle.lsm_codec.specs.Pairs.{Pairwise}
 use Rattle.lsm_table.specs.Division.{Block, TableBlocks, entries_of}
 use Rattle.lsm_codec.specs.Indexes.{Edge}
 use Rattle.lsm_table.specs.BlockEdges.{last_edge, edges_of, first_key_of}

@@ -7,7 +7,7 @@ use Rattle.std.proofs.lemmas.List.{drop_more, length-drop}
 use Rattle.lsm_codec.specs.Keys.{Bytes, byte_order}
 use Rattle.lsm_codec.specs.Versions.{Version, entry_order}
 use Rattle.lsm_codec.specs.Indexes.{Edge}
-use Rattle.lsm_codec.specs.Manifests.{Pairwise}
+use Rattle.lsm_codec.specs.Pairs.{Pairwise}
 use Rattle.lsm_table.specs.Division.{Block, TableBlocks, entries_of}
 use Rattle.lsm_table.specs.BlockEdges.{last_edge, edges_of, first_key_of}
 use Rattle.lsm_table.specs.BlockEdges.{is_edge_before, are_rising, follow_first}

@@ -7,7 +7,7 @@ use Rattle.std.proofs.lemmas.List.{take-append-drop, length-append, length-take-
 use Rattle.std.proofs.lemmas.List.Sums.{sum_by-append}
 use Rattle.lsm_codec.proofs.Lists.{all_left, all_right}
 use Rattle.lsm_codec.specs.Versions.{Version, IsEntry, is_same_key}
-use Rattle.lsm_codec.specs.Manifests.{Pairwise}
+use Rattle.lsm_codec.specs.Pairs.{Pairwise}
 use Rattle.lsm_table.specs.Division.{IsInput, TableBlocks, entries_of, blocks, first_group, AllAdjacent, IsBlocks, KeepsLimits, IsTooMuch, ShareNoKey, IsTables, IsTable}
 use Rattle.lsm_table.specs.Laws.{OneLayout}
 use Rattle.lsm_table.specs.Counting.{EndsTable}

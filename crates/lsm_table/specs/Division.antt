@@ -1,10 +1,9 @@
 -- How entries are divided into tables and blocks.
 use Rattle.std.specs.Prelude.{◌+◌, ◌<◌, ◌≤◌, ◌≡◌, ◌≢◌, ◌⊎◌, cond, leb, List, [], ◌∷◌, ◌++◌, length, take_while, count_by}
 use Rattle.std.specs.List.{AllByRecursion, flat_map}
-use Rattle.std.specs.declared.cmp.Ordering.TheVariants.{Less}
 use Rattle.lsm_codec.specs.Keys.{Bytes}
-use Rattle.lsm_codec.specs.Manifests.{Pairwise}
-use Rattle.lsm_codec.specs.Versions.{Version, IsEntry, is_same_key, entry_order}
+use Rattle.lsm_codec.specs.Pairs.{Pairwise}
+use Rattle.lsm_codec.specs.Versions.{Version, IsEntry, is_same_key, AreOrdered}
 use Rattle.lsm_codec.specs.Entries.{entry_size, block_size}
 
 -- the entries of a data block
@@ -18,10 +17,6 @@ TableBlocks = List Block
 -- the entries of a table
 abbrev pub entries_of : TableBlocks → List Version
 entries_of table = flat_map (λ block. block) table
-
--- entries in order: by key, and of a key the newer first
-abbrev pub AreOrdered : List Version → Type 0
-AreOrdered entries = Pairwise (λ v w. entry_order v w ≡ Less) entries
 
 -- what is divided into tables: entries in order, at most 33 of a key
 pub record IsInput (entries : List Version) : Type 0 where

@@ -3,9 +3,9 @@ use Rattle.std.specs.Prelude.{ℕ, ◌+◌, ◌<◌, Bool, cond, ◌||◌, ◌==
 use Rattle.std.specs.List.{AllByRecursion}
 use Rattle.std.specs.Ordering.{nat_cmp, is_lt, is_gt, ordering_then}
 use Rattle.lsm_codec.specs.Keys.{Bytes, byte_order}
-use Rattle.lsm_codec.specs.Versions.{Version, IsEntry}
+use Rattle.lsm_codec.specs.Versions.{Version, IsEntry, AreOrdered}
 use Rattle.lsm_codec.specs.Indexes.{Edge}
-use Rattle.lsm_table.specs.Division.{TableBlocks, entries_of, AreOrdered}
+use Rattle.lsm_table.specs.Division.{TableBlocks, entries_of}
 
 -- whether an edge stands before the place of a key's version of this number
 abbrev pub stands_before : Bytes → ℕ → Edge → Bool

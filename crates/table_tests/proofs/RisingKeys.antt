@@ -11,7 +11,7 @@ use Rattle.std.proofs.lemmas.List.{get_or_default}
 use Rattle.std.proofs.lemmas.List.Sums.{sum_by-cons}
 use Rattle.lsm_codec.specs.Keys.{Bytes, byte_order}
 use Rattle.lsm_codec.specs.Versions.{Version, is_same_key, entry_order}
-use Rattle.lsm_codec.specs.Manifests.{Pairwise}
+use Rattle.lsm_codec.specs.Pairs.{Pairwise}
 use Rattle.lsm_table.specs.Division.{IsInput}
 use Rattle.lsm_codec.proofs.KeyOrder.{same_key, is_lt_Less}
 use Rattle.lsm_table.proofs.Orders.{Before}
