@@ -1,0 +1,287 @@
+#!/usr/bin/env bash
+# Runs `lsmctl` on words and scripts, and looks how it ends, what it prints and what its files hold.
+#
+#     tests/runs.sh PROGRAM
+#
+# PROGRAM is a built `lsmctl`. The runs stand in the folder `runs`, and each file there says at its head how to read it.
+# In all of them 61{256} is 61 written 256 times, and PUTS are 29 puts of 2,048 bytes, of the keys 01 to 1d.
+set -u
+
+program=$(realpath "${1:?the path of a built lsmctl}")
+runs=$(realpath "$(dirname "$0")/runs")
+folder=$(mktemp -d)
+trap 'rm -rf "$folder"' EXIT
+cd "$folder" || exit 1
+count=0
+
+fail() {
+    echo "runs.sh: $*" >&2
+    exit 1
+}
+
+# Leaves in `repeated` a text so many times.
+repeat() {
+    local spaces
+    printf -v spaces '%*s' "$2" ''
+    repeated=${spaces// /$1}
+}
+
+puts=
+for ((key = 1; key <= 29; key++)); do
+    printf -v puts '%s+%02x=09{2048} ' "$puts" "$key"
+done
+
+# Leaves in `text` a text with what its short forms stand for.
+expand() {
+    text=${1//PUTS /$puts}
+    while [[ $text =~ ([0-9a-f][0-9a-f])\{([0-9]+)\} ]]; do
+        repeat "${BASH_REMATCH[1]}" "${BASH_REMATCH[2]}"
+        text=${text//"${BASH_REMATCH[0]}"/$repeated}
+    done
+}
+
+# Runs the program on words, each parted from the next by one space, and on the file `input`. It ends with the status and
+# prints the text, an answer or a fault, and nothing else. Where no text is given, a mistake may be told in any words.
+run() {
+    local wanted=$1 rest=$2 status=0 told=errors silent=output words=()
+    expand "$rest"
+    rest=$text
+    while [[ $rest == *' '* ]]; do
+        words+=("${rest%% *}")
+        rest=${rest#* }
+    done
+    words+=("$rest")
+    "$program" "${words[@]}" <input >output 2>errors || status=$?
+    [ "$status" -eq "$wanted" ] || fail "'$2' ended with $status: $(head -c 300 errors)"
+    if [ "$status" -eq 0 ]; then told=output silent=errors; fi
+    [ ! -s "$silent" ] || fail "'$2' ended with $status, and its $silent hold $(head -c 300 "$silent")"
+    if [ "$status" -eq 2 ] && [ -z "$3" ]; then
+        [ "$(stat -c %s errors)" -gt 10 ] || fail "'$2' tells no mistake"
+    else
+        expand "$3"
+        printf %b "$text" >wanted
+        cmp -s wanted "$told" || fail "'$2' prints $(head -c 2000 "$told")"
+    fi
+    count=$((count + 1))
+}
+
+# Runs that have an input: the words, the input and the status, and the text, with \n for each end of a line.
+run_on() {
+    expand "$2"
+    printf %b "$text" >input
+    run "$3" "$1" "$4"
+    : >input
+}
+
+# ---- single runs
+
+single_runs() {
+    local line wanted words told path lengths
+    for path in cut short; do run 0 "format $path 8193 128" 'formatted blocks 959\n'; done
+    for path in long store; do run 0 "format $path 8192 128" 'formatted blocks 959\n'; done
+    truncate -s $((8193 * 512 - 1)) cut
+    truncate -s $((8192 * 512)) short zeros
+    truncate -s $((8193 * 512)) long
+    : >nothing
+    cp store fresh
+    while IFS= read -r line; do
+        case $line in '' | '#'*) continue ;; esac
+        wanted=${line%% *}
+        words=${line#*| }
+        told=${words#* |}
+        told=${told# }
+        run "$wanted" "${words%% |*}" "${told:+$told\\n}"
+    done
+    [ ! -e missing ] || fail "a run that is refused makes its file"
+    lengths=$(stat -c '%n %s' cut short long zeros nothing store | tr '\n' ' ')
+    [ "$lengths" = "cut 4194815 short 4194304 long 4194816 zeros 4194304 nothing 0 store 4194304 " ] ||
+        fail "the files have other lengths: $lengths"
+}
+
+# ---- scripts
+
+# Runs the scripts of the standard input, in the form of scripts.txt.
+scripts() {
+    local line words= left right script= told=
+    while IFS= read -r line; do
+        case $line in
+        '#'*) ;;
+        '')
+            if [ -n "$words" ]; then run_on "$words" "$script" 0 "$told"; fi
+            words= script= told=
+            ;;
+        *)
+            left=${line%%|*}
+            left=${left%"${left##*[! ]}"}
+            right=${line#*|}
+            right=${right# }
+            if [ -z "$words" ]; then words=$left; elif [ -n "$left" ]; then script+="$left\n"; fi
+            if [ -n "$right" ]; then told+="$right\n"; fi
+            ;;
+        esac
+    done < <(cat; echo)
+}
+
+# A line of a store that has a beginning of two batches: what get 61 and get 62 reply after none, one and two of them.
+first=(absent 'value 31' 'value 31')
+second=(absent absent 'value 05{600}')
+
+# The first batch takes one sector of the log, and the second two: each mask over the three, and how many batches it keeps.
+masks() {
+    local mask kept
+    while read -r mask kept; do
+        scripts <<END
+lives 8192 128 | open 0
+commit +61=31 | batch 1
+commit +62=05{600} | batch 2
+crash $mask | open $kept
+get 61 | ${first[$kept]}
+get 62 | ${second[$kept]}
+room | room 128
+END
+    done
+}
+
+# A commit of two sectors whose first or second write faults, the eighth or the ninth write or sync. The one that faults pends,
+# so that the whole batch may be there where it was the last.
+faulting_commits() {
+    local fuse mask kept
+    while read -r fuse mask kept; do
+        scripts <<END
+lives 8192 128 |
+fuse $fuse | open 0
+commit +61=31 | batch 1
+sync | ok
+commit +62=05{600} | refused 02 Io
+commit +63=33 | refused 03 Stopped
+crash $mask | open $kept
+get 61 | ${first[$kept]}
+get 62 | ${second[$kept]}
+END
+    done
+}
+
+# An opening that faults at each of its writes and syncs: whatever a crash then keeps, the next one finds the batch.
+faulting_openings() {
+    local fuse mask
+    for fuse in 0 1 2 3 4; do
+        for mask in 00 10 01 11; do
+            scripts <<END
+lives 8192 128 | open 0
+commit +61=31 | batch 1
+sync | ok
+commit +62=32 | batch 2
+crash none |
+fuse $fuse | refused 02 Io
+crash $mask | open 1
+get 61 | value 31
+get 62 | absent
+END
+        done
+    done
+}
+
+# At most 32 snapshots live.
+snapshots() {
+    local number
+    {
+        echo 'lives 8192 128 | open 0'
+        for ((number = 1; number <= 32; number++)); do echo "snapshot | snapshot $number"; done
+        echo 'snapshot | refused 08 TooManySnapshots'
+        echo 'release 5 | ok'
+        echo 'snapshot | snapshot 33'
+        echo 'snapshot | refused 08 TooManySnapshots'
+    } >many
+    scripts <many
+}
+
+# Three full regions open again: each key has the value of its last batch. In each life more writes pend than one call makes,
+# and all are kept.
+full_regions() {
+    local number
+    {
+        echo 'lives 8192 2048 | open 0'
+        for ((number = 1; number <= 6144; number++)); do
+            printf 'commit +%02x=%02x | batch %d\n' $((number % 256)) $((number / 256)) "$number"
+            if ((number % 2048 == 0)); then echo "crash all | open $number"; fi
+        done
+        echo 'room | room 0'
+        echo 'get 00 | value 18'
+        for ((number = 1; number < 256; number++)); do printf 'get %02x | value 17\n' "$number"; done
+    } >full
+    scripts <full
+}
+
+# ---- mistakes in scripts
+
+mistakes() {
+    local line told
+    while IFS= read -r line; do
+        case $line in '#'*) continue ;; esac
+        told=${line#\"}
+        told=${told%\"}
+        for words in 'lives 8192 128' 'replay missing'; do
+            run_on "$words" "sync\n$told\nroom\n" 2 "error: line 2 of the script can't be read: \"${told//\\/\\\\}\"\n"
+        done
+    done
+}
+
+runs_on_inputs() {
+    local line wanted words input told
+    while IFS= read -r line; do
+        case $line in '' | '#'*) continue ;; esac
+        wanted=${line%% *}
+        line=${line#*| }
+        words=${line%% | *}
+        line=${line#* | }
+        input=${line%% | *}
+        run_on "$words" "$input" "$wanted" "${line#* | }\n"
+    done
+}
+
+# A script of 10,000 lines, and one whose last line is a mistake, which leaves the file as it was.
+long_scripts() {
+    local lines answers
+    repeat 'get 61\n' 9999
+    lines=$repeated
+    repeat 'absent\n' 9999
+    answers=$repeated
+    cp fresh long
+    run_on 'replay long' "${lines}room" 0 "${answers}room 128\n"
+    cp long kept
+    run_on 'replay long' "${lines}rooms\n" 2 'error: line 10000 of the script can'"'"'t be read: "rooms"\n'
+    run_on 'replay long' 'commit +61=31\nsync\nsyncs\n' 2 'error: line 3 of the script can'"'"'t be read: "syncs"\n'
+    cmp -s long kept || fail "a mistake in a script changes the file"
+}
+
+: >input
+single_runs <"$runs/words.txt"
+scripts <"$runs/scripts.txt"
+masks <<'END'
+000 0
+001 0
+010 0
+011 0
+100 1
+101 1
+110 1
+111 2
+1 1
+11100 2
+none 0
+all 2
+END
+faulting_commits <<'END'
+7 00 1
+7 11 1
+8 00 1
+8 11 2
+END
+faulting_openings
+snapshots
+full_regions
+mistakes <"$runs/lines.txt"
+runs_on_inputs <"$runs/inputs.txt"
+long_scripts
+[ "$count" -ge 300 ] || fail "only $count runs"
+echo "runs.sh: $count runs end as they must, and print what they must"
