@@ -1,12 +1,6 @@
-//! Tests of the store.
+//! Tests of the store, of what scripts can't say. What calls answer and crashes leave is told by scripts (`tests/runs`).
 #![tactic(auto)]
 
-#[cfg(test)]
-mod calls;
-#[cfg(test)]
-mod cases;
-#[cfg(test)]
-mod crashes;
 #[cfg(test)]
 mod example;
 #[cfg(test)]
@@ -15,5 +9,3 @@ mod failures;
 mod growth;
 #[cfg(test)]
 mod setup;
-#[cfg(test)]
-mod snapshots;
