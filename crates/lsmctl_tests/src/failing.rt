@@ -1,6 +1,6 @@
 //! Readers and writers that fail.
 
-use crate::setup::status_of;
+use lsm_cli::run;
 use std::fs::{File, Files};
 use std::io::{ErrorKind, Read, Write, empty, sink};
 use std::test::Fail;
@@ -25,41 +25,37 @@ impl Write for Short {
     }
 }
 
-// The status of a run whose answer goes to a writer of four bytes, and whose faults to one of so many.
-fn with_short_output<R: Files<File = File> + AllocGlobal>(
+// Whether a run ends with 1 whose answer goes to a writer of four bytes, and whose faults go to another.
+fn ends_short<R: Files<File = File> + AllocGlobal, E: Write>(
     rt: &R,
     words: &[&str],
-    room: usize,
-) -> u8 {
-    let mut output = Short { room: 4 };
-    let mut errors = Short { room };
-    status_of(rt, words, &mut empty(), &mut output, &mut errors)
-}
-
-// What a run tells whose answer goes to such a writer.
-fn told_of_short_output<R: Files<File = File> + AllocGlobal>(rt: &R, words: &[&str]) -> Vec<u8> {
-    let mut output = Short { room: 4 };
-    let mut errors = Vec::new(rt.alloc());
-    let _ = status_of(rt, words, &mut empty(), &mut output, &mut errors);
-    errors
+    errors: &mut E,
+) -> bool {
+    run(rt, words, &mut empty(), &mut Short { room: 4 }, errors) == 1
 }
 
 #[test]
 fn a_write_that_fails_ends_with_one(rt: HostRuntime) -> Result<(), Fail> {
-    let answered = with_short_output(&rt, &["lives", "8192", "128"], 100);
-    let untold = with_short_output(&rt, &["lives", "8192", "128"], 4);
-    assert!(&rt; answered == 1 && untold == 1);
-    let refused = with_short_output(&rt, &["lives", "8191", "128"], 4);
-    let mistaken = with_short_output(&rt, &["lives", "8192"], 4);
-    assert!(&rt; refused == 1 && mistaken == 1);
+    for (words, room) in [
+        (["lives", "8192", "128"].as_slice(), 100),
+        (&["lives", "8192", "128"], 4),
+        (&["lives", "8191", "128"], 4),
+        (&["lives", "8192"], 4),
+    ] {
+        assert!(&rt;
+            ends_short(&rt, words, &mut Short { room }),
+            "{words:?} {room}"
+        );
+    }
     Ok(())
 }
 
 #[test]
 fn a_write_that_fails_is_told(rt: HostRuntime) -> Result<(), Fail> {
-    let told = told_of_short_output(&rt, &["lives", "8192", "128"]);
+    let mut errors = Vec::new(rt.alloc());
+    assert!(&rt; ends_short(&rt, &["lives", "8192", "128"], &mut errors));
     let text = "error: the answer could not be written: broken pipe\n";
-    assert!(&rt; told.as_slice() == text.as_bytes());
+    assert!(&rt; errors.as_slice() == text.as_bytes());
     Ok(())
 }
 
@@ -84,14 +80,17 @@ impl Read for Torn {
 fn ends_torn<R: Files<File = File> + AllocGlobal>(rt: &R, words: &[&str], status: u8) -> bool {
     let mut input = Torn { done: false };
     let mut output = Vec::new(rt.alloc());
-    let ended = status_of(rt, words, &mut input, &mut output, &mut sink());
+    let ended = run(rt, words, &mut input, &mut output, &mut sink());
     ended == status && output.is_empty()
 }
 
 #[test]
 fn an_input_that_fails_ends_with_one(rt: HostRuntime) -> Result<(), Fail> {
-    assert!(&rt; ends_torn(&rt, &["lives", "8192", "128"], 1));
-    assert!(&rt; ends_torn(&rt, &["lives", "8191", "128"], 1));
-    assert!(&rt; ends_torn(&rt, &["lives", "8192", "x"], 2));
+    for (sectors, log, status) in [("8192", "128", 1), ("8191", "128", 1), ("8192", "x", 2)] {
+        assert!(&rt;
+            ends_torn(&rt, &["lives", sectors, log], status),
+            "{sectors} {log}"
+        );
+    }
     Ok(())
 }

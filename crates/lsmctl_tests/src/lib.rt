@@ -1,19 +1,5 @@
-//! Tests of `lsmctl`: what a run prints, and how it ends.
+//! Tests of `lsmctl` on readers and writers that fail. What it prints on words and scripts is told in `tests/runs`.
 #![tactic(auto)]
 
 #[cfg(test)]
 mod failing;
-#[cfg(test)]
-mod lives;
-#[cfg(test)]
-mod mistakes;
-#[cfg(test)]
-mod replays;
-#[cfg(test)]
-mod setup;
-#[cfg(test)]
-mod stored;
-#[cfg(test)]
-mod table;
-#[cfg(test)]
-mod texts;
