@@ -75,6 +75,11 @@ run_on() {
 
 # ---- single runs
 
+# The first bytes of a sector of a file, in hex.
+bytes_of() {
+    od -An -v -tx1 -j $(($2 * 512)) -N "$3" "$1" | tr -d ' \n'
+}
+
 single_runs() {
     local line wanted words told path lengths
     for path in cut short; do run 0 "format $path 8193 128" 'formatted blocks 959\n'; done
@@ -84,6 +89,9 @@ single_runs() {
     truncate -s $((8193 * 512)) long
     : >nothing
     cp store fresh
+    # The superblock of generation 1, and its manifest (docs/formats.md).
+    [ "$(bytes_of store 1 22)" = 4c534d53000100000000000000010000200000800001 ] || fail "another superblock"
+    [ "$(bytes_of store 66 32)" = 4c534d4d00000000000000010000000000000000000000000000000100000000 ] || fail "another manifest"
     while IFS= read -r line; do
         case $line in '' | '#'*) continue ;; esac
         wanted=${line%% *}
