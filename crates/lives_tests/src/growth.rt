@@ -28,7 +28,7 @@ const AMPLE: [Told; 4] = [
 ];
 
 // How far a life comes on a heap.
-#[derive(Clone, Copy, PartialEq, Eq)]
+#[derive(Clone, Copy)]
 enum Reach {
     /// It isn't even made.
     Unmade,

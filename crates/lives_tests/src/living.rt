@@ -29,31 +29,12 @@ const FIRST: [Told; 4] = [
     Told::Number(2),
 ];
 
-// A look that then asks for a sync up to the batch that was dropped.
-fn looking_and_syncing(alloc: Global) -> Result<Life, Fail> {
-    let mut second = looking(alloc, &[true; 4])?;
-    second.steps.push(Step::SyncTo(2))?;
-    Ok(second)
-}
-
 #[test]
 fn a_crash_drops_what_was_not_synced(rt: HostRuntime) -> Result<(), Fail> {
-    let given = [first_life(rt.alloc())?, looking_and_syncing(rt.alloc())?];
-    let wanted = [
-        Told::Number(1),
-        Told::Byte(0x31),
-        Told::Absent,
-        Told::Refused(Refusal::NoSuchBatch),
-    ];
+    let given = [first_life(rt.alloc())?, looking(rt.alloc(), &[true; 4])?];
+    let wanted = [Told::Number(1), Told::Byte(0x31), Told::Absent];
     assert!(rt; replies_are(rt.alloc(), &given, &[&FIRST, &wanted])?);
     Ok(())
-}
-
-// A look that a device cuts short which faults after so many writes and syncs.
-fn looking_with_fuse(alloc: Global, fuse: u64, mask: &[bool]) -> Result<Life, Fail> {
-    let mut life = looking(alloc, mask)?;
-    life.fuse = Some(fuse);
-    Ok(life)
 }
 
 // What two looks find where the opening failed.
@@ -62,65 +43,6 @@ const STOPPED: [Told; 3] = [
     Told::Refused(Refusal::Stopped),
     Told::Refused(Refusal::Stopped),
 ];
-
-// A life, one whose opening fails, and another.
-fn around_a_fuse(alloc: Global) -> Result<[Life; 3], Fail> {
-    let first = first_life(alloc)?;
-    let second = looking_with_fuse(alloc, 3, &[true; 64])?;
-    Ok([first, second, looking(alloc, &[])?])
-}
-
-#[test]
-fn the_fuse_of_a_life_burns_in_its_opening(rt: HostRuntime) -> Result<(), Fail> {
-    let given = around_a_fuse(rt.alloc())?;
-    let last = found(1);
-    assert!(rt; replies_are(rt.alloc(), &given, &[&FIRST, &STOPPED, &last])?);
-    Ok(())
-}
-
-// What two looks find where one batch is kept, or both, or none.
-fn found(batches: u64) -> [Told; 3] {
-    match batches {
-        0 => [Told::Number(0), Told::Absent, Told::Absent],
-        1 => [Told::Number(1), Told::Byte(0x31), Told::Absent],
-        _ => [Told::Number(2), Told::Byte(0x31), Told::Long(600)],
-    }
-}
-
-// A batch of one sector and one of two, and a crash.
-fn two_puts(alloc: Global, mask: &[bool]) -> Result<Life, Fail> {
-    let steps = vec![in alloc;
-        put(alloc, b"\x61", b"\x31")?,
-        put(alloc, b"\x62", &[5; 600])?,
-    ]?;
-    Ok(life(alloc, steps, mask)?)
-}
-
-// Whether a mask over the pending sectors of two batches leaves so many batches.
-fn keeps(alloc: Global, mask: &[bool], batches: u64) -> Result<bool, Fail> {
-    let given = [two_puts(alloc, mask)?, looking(alloc, &[])?];
-    let first = [Told::Number(0), Told::Number(1), Told::Number(2)];
-    replies_are(alloc, &given, &[&first, &found(batches)])
-}
-
-#[test]
-fn each_mask_keeps_a_beginning(rt: HostRuntime) -> Result<(), Fail> {
-    // Each mask over the three pending sectors, and how many batches are left.
-    let rows: [([bool; 3], u64); 8] = [
-        ([false, false, false], 0),
-        ([false, false, true], 0),
-        ([false, true, false], 0),
-        ([false, true, true], 0),
-        ([true, false, false], 1),
-        ([true, false, true], 1),
-        ([true, true, false], 1),
-        ([true, true, true], 2),
-    ];
-    for (mask, batches) in rows {
-        assert!(rt; keeps(rt.alloc(), &mask, batches)?, "{mask:?}");
-    }
-    Ok(())
-}
 
 // A device that is taken back of a store with a batch that is synced and one that is not.
 fn taken_back(alloc: Global) -> Result<MemDevice, Fail> {
@@ -147,7 +69,8 @@ fn a_device_with_pending_writes_is_opened_as_it_reads(rt: HostRuntime) -> Result
 
 // A life whose opening fails at its first sync, with a crash that keeps what pended or not, and then an opening.
 fn before_the_first_sync(alloc: Global, keeps: bool) -> Result<[Life; 2], Fail> {
-    let first = looking_with_fuse(alloc, 0, &[keeps])?;
+    let mut first = looking(alloc, &[keeps])?;
+    first.fuse = Some(0);
     Ok([first, life(alloc, Vec::new(alloc), &[])?])
 }
 

@@ -1,11 +1,11 @@
 //! Steps on a store.
 
-use crate::setup::{Told, are, formatted, fresh, get, page, put};
+use crate::setup::{Told, are, formatted, put};
 use linked_list_allocator::LocalHeap;
 use lsm_device::{MemDevice, Refusal};
 use lsm_lives::{Step, replay};
 use lsm_store::Store;
-use std::alloc::{Allocator, Global};
+use std::alloc::Allocator;
 use std::test::Fail;
 
 // Whether a store gives just these replies to steps.
@@ -17,113 +17,6 @@ fn replies_are<A: Allocator + Clone>(
 ) -> Result<bool, Refusal> {
     let replies = replay(alloc, store, steps)?;
     Ok(are(&replies, wanted))
-}
-
-// Whether a fresh store gives just these replies to steps, one table after another, where its device has this fuse.
-fn fresh_replies_are(
-    alloc: Global,
-    fuse: Option<u64>,
-    tables: &[(&[Step], &[Told])],
-) -> Result<bool, Fail> {
-    let mut store = fresh(alloc)?;
-    if let Some(n) = fuse {
-        store.fuse(n);
-    }
-    for (steps, wanted) in tables {
-        if !replies_are(alloc, &mut store, steps, wanted)? {
-            return Ok(false);
-        }
-    }
-    Ok(true)
-}
-
-fn each_step(alloc: Global) -> Result<Vec<Step>, Refusal> {
-    let steps = vec![in alloc;
-        Step::Room,
-        put(alloc, b"\x61", b"\x31")?,
-        get(alloc, b"\x61")?,
-        get(alloc, b"\x62")?,
-        get(alloc, b"")?,
-        Step::SyncTo(2),
-        Step::Sync,
-        Step::SyncTo(1),
-        Step::Room,
-    ]?;
-    Ok(steps)
-}
-
-#[test]
-fn each_step_is_answered(rt: HostRuntime) -> Result<(), Fail> {
-    let steps = each_step(rt.alloc())?;
-    let wanted = [
-        Told::Number(128),
-        Told::Number(1),
-        Told::Byte(0x31),
-        Told::Absent,
-        Told::Refused(Refusal::BadKey),
-        Told::Refused(Refusal::NoSuchBatch),
-        Told::Done,
-        Told::Done,
-        Told::Number(127),
-    ];
-    let tables: [(&[Step], &[Told]); 2] = [
-        (&steps, &wanted),
-        (&[Step::Room], &[Told::Number(127)]),
-    ];
-    assert!(rt; fresh_replies_are(rt.alloc(), None, &tables)?);
-    Ok(())
-}
-
-// A snapshot after a put, and pages.
-fn with_pages(alloc: Global) -> Result<Vec<Step>, Refusal> {
-    let steps = vec![in alloc;
-        put(alloc, b"\x61", b"\x31")?,
-        Step::Snapshot,
-        page(alloc, 64),
-        page(alloc, 65),
-        Step::Release(1),
-        Step::Release(1),
-    ]?;
-    Ok(steps)
-}
-
-#[test]
-fn pages_and_snapshots_are_answered(rt: HostRuntime) -> Result<(), Fail> {
-    let steps = with_pages(rt.alloc())?;
-    let wanted = [
-        Told::Number(1),
-        Told::Number(1),
-        Told::Rows(1),
-        Told::Refused(Refusal::BadLimit),
-        Told::Done,
-        Told::Refused(Refusal::NoSuchSnapshot),
-    ];
-    assert!(rt; fresh_replies_are(rt.alloc(), None, &[(&steps, &wanted)])?);
-    Ok(())
-}
-
-// Calls before and after a sync.
-fn around_a_sync(alloc: Global) -> Result<Vec<Step>, Refusal> {
-    let steps = vec![in alloc;
-        put(alloc, b"\x61", b"\x31")?,
-        Step::Sync,
-        get(alloc, b"\x61")?,
-        put(alloc, b"\x61", b"\x32")?,
-    ]?;
-    Ok(steps)
-}
-
-#[test]
-fn steps_go_on_after_the_fuse_burnt(rt: HostRuntime) -> Result<(), Fail> {
-    let steps = around_a_sync(rt.alloc())?;
-    let wanted = [
-        Told::Number(1),
-        Told::Refused(Refusal::Io),
-        Told::Refused(Refusal::Stopped),
-        Told::Refused(Refusal::Stopped),
-    ];
-    assert!(rt; fresh_replies_are(rt.alloc(), Some(1), &[(&steps, &wanted)])?);
-    Ok(())
 }
 
 // A put and a sync.

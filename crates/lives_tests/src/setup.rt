@@ -41,16 +41,6 @@ pub fn get<A: Allocator + Clone>(alloc: A, key: &[u8]) -> Result<Step<A>, AllocE
     Ok(Step::Get(At::Now, Vec::from_slice(alloc, key)?))
 }
 
-/// A page of the present map, from the first key on.
-pub fn page(alloc: Global, limit: u64) -> Step {
-    Step::Scan {
-        at: At::Now,
-        from: Vec::new(alloc),
-        to: None,
-        limit,
-    }
-}
-
 /// A life without a fuse.
 pub fn life(alloc: Global, steps: Vec<Step>, mask: &[bool]) -> Result<Life, AllocError> {
     Ok(Life {
@@ -99,17 +89,16 @@ pub fn replies_are(alloc: Global, given: &[Life], wanted: &[&[Told]]) -> Result<
     Ok(are_of_lives(&replies, wanted))
 }
 
-/// A reply that can be compared. A value is told by its only byte, or else by its length.
-#[derive(Clone, Copy, Debug, PartialEq, Eq)]
+/// A reply that can be compared. A value is told by its only byte.
+#[derive(Clone, Copy, PartialEq, Eq)]
 pub enum Told {
     Number(u64),
     Done,
     Absent,
     Byte(u8),
-    Long(usize),
-    /// The rows of a page.
-    Rows(usize),
     Refused(Refusal),
+    /// A longer value, or a page.
+    Long,
 }
 
 fn reading_of<A: Allocator>(reply: &Reply<A>) -> Told {
@@ -119,9 +108,9 @@ fn reading_of<A: Allocator>(reply: &Reply<A>) -> Told {
         Reply::Value(None) => Told::Absent,
         Reply::Value(Some(value)) => match value.as_slice() {
             [byte] => Told::Byte(*byte),
-            bytes => Told::Long(bytes.len()),
+            _ => Told::Long,
         },
-        Reply::Page(page) => Told::Rows(page.rows().len()),
+        Reply::Page(_) => Told::Long,
         Reply::Refused(refusal) => Told::Refused(*refusal),
     }
 }
