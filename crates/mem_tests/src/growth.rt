@@ -8,7 +8,7 @@ use lsm_mem::Mem;
 use std::alloc::Global;
 use std::test::Fail;
 
-const HEAP: usize = 16_384;
+pub const HEAP: usize = 16_384;
 
 /// A batch of eleven keys, so that a twelfth splits the tree's node.
 fn eleven_keys(heap: &LocalHeap) -> Result<Batch<&LocalHeap>, Refusal> {
@@ -47,7 +47,7 @@ fn has_both<'h>(heap: &'h LocalHeap, mem: &Mem<&'h LocalHeap>) -> Result<bool, R
 }
 
 /// All memory of the heap but so many bytes, where it can be taken.
-fn all_but(heap: &LocalHeap, left: usize) -> Option<Vec<u8, &LocalHeap>> {
+pub fn all_but(heap: &LocalHeap, left: usize) -> Option<Vec<u8, &LocalHeap>> {
     let size = HEAP.saturating_sub(heap.used()).saturating_sub(left);
     Vec::with_capacity(heap, size).ok()
 }

@@ -1,5 +1,8 @@
 //! Batches that tests insert, and what they look at in a memory table.
 
+ghost use Rattle.std.specs.List.{AllByRecursion};
+ghost use Rattle.lsm_codec.specs.Versions.{IsEntry};
+
 use lsm_codec::{Batch, Op};
 use lsm_device::Refusal;
 use lsm_mem::Mem;
@@ -15,14 +18,16 @@ pub struct Table<A: Allocator = Global> {
 }
 
 impl<A: Allocator> Model for Table<A> {
-    ghost use Rattle.std.specs.Prelude.{ℕ};
+    ghost use Rattle.std.specs.Prelude.{ℕ, ◌≤◌};
+    ghost use Rattle.std.specs.List.{AllByRecursion};
+    ghost use Rattle.lsm_codec.specs.Versions.{IsEntry};
     ghost use Rattle.lsm_mem.specs.Versions.{NumberedBelow};
 
     ghost Value = { ℕ };
 
     ghost view = { λ t. t.next };
 
-    ghost invariant = { λ t. NumberedBelow t.next t.mem };
+    ghost invariant = { λ t. NumberedBelow t.next t.mem × (1 ≤ t.next) × AllByRecursion IsEntry t.mem };
 }
 
 impl<A: Allocator + Clone> Table<A> {
@@ -35,7 +40,7 @@ impl<A: Allocator + Clone> Table<A> {
 
     /// Inserts a batch. One that is refused leaves its number to the next.
     pub fn insert(&mut self, batch: &Batch<A>) -> Result<(), AllocError> {
-        if self.next == u64::MAX {
+        if self.next > 1 << 62 {
             return Err(AllocError);
         }
         self.mem.insert(batch, self.next)?;
@@ -45,6 +50,12 @@ impl<A: Allocator + Clone> Table<A> {
 
     pub fn mem(&self) -> &Mem<A> {
         &self.mem
+    }
+
+    pub fn into_mem(self) -> Mem<A>
+        ensures { AllByRecursion IsEntry result }
+    {
+        self.mem
     }
 }
 

@@ -88,7 +88,7 @@ fn three_keys(alloc: Global) -> Result<Batch, Refusal> {
 }
 
 /// A table with three batches over several keys.
-fn several_keys(alloc: Global) -> Result<Table, Refusal> {
+pub fn several_keys(alloc: Global) -> Result<Table, Refusal> {
     let mut table = Table::new(alloc)?;
     table.insert(&three_keys(alloc)?)?;
     table.insert(&delete(alloc, b"b")?)?;
