@@ -1,5 +1,5 @@
 -- Counting blocks without making them, and where a table ends.
-use Rattle.std.specs.Prelude.{ℕ, ◌+◌, ◌<◌, ◌≤◌, cond, leb, List, ◌++◌, length, take, drop}
+use Rattle.std.specs.Prelude.{◌≡◌, ℕ, ◌+◌, ◌<◌, ◌≤◌, cond, leb, List, [], ◌∷◌, ◌++◌, length, take, drop}
 use Rattle.lsm_table.specs.declared.layout.Layout.{Layout}
 use Rattle.lsm_codec.specs.Versions.{Version}
 use Rattle.lsm_table.specs.Division.{KeepsLimits, IsTooMuch, ShareNoKey, first_group}
@@ -15,6 +15,11 @@ pub record EndsTable (entries : List Version) (n : ℕ) : Type 0 where
   pub within : KeepsLimits (take n entries)
   pub whole_keys : ShareNoKey (take n entries) (drop n entries)
   pub greedy : 0 < length (drop n entries) → IsTooMuch (take n entries ++ first_group (drop n entries))
+
+-- the tables of the entries have so many of them, one after the other
+abbrev pub EndTables : List Version → List ℕ → Type 0
+EndTables entries [] = entries ≡ []
+EndTables entries (n ∷ lens) = EndsTable entries n × EndTables (drop n entries) lens
 
 -- the entries from begun up to i are of the first key that begins there
 abbrev pub IsOneGroup : List Version → ℕ → ℕ → Type 0

@@ -1,5 +1,6 @@
 pub mod Division
 pub mod Counting
+pub mod Filled
 pub mod BlockEdges
 pub mod Places
 pub mod Outlines

@@ -1,10 +1,10 @@
 //! Tables that are not yet written.
 
-ghost use Rattle.std.specs.Prelude.{◌≡◌, ◌+◌, ◌*◌, ◌<◌, ◌≤◌, [], length, take, drop, map, slice_index_or, true, IfOk};
+ghost use Rattle.std.specs.Prelude.{◌≡◌, ◌+◌, ◌*◌, ◌<◌, ◌≤◌, [], length, take, drop, map, fold, slice_index_or, true, IfOk};
 ghost use Rattle.std.specs.List.{All};
 ghost use Rattle.lsm_codec.specs.Entries.{data_block};
 ghost use Rattle.lsm_codec.specs.Indexes.{index_blocks, index_count};
-ghost use Rattle.lsm_filter.specs.Bits.{filter_of, is_perhaps};
+ghost use Rattle.lsm_filter.specs.Bits.{filter_of, with_key, is_perhaps};
 ghost use Rattle.lsm_table.specs.Division.{IsTable, entries_of};
 ghost use Rattle.lsm_table.specs.BlockEdges.{edges_of, first_key_of};
 ghost use Rattle.lsm_table.specs.Outlines.{outline_in, IsRecordOf};
@@ -17,16 +17,22 @@ use lsm_filter::Filter;
 use std::alloc::{AllocError, Allocator, Global};
 use std::marker::Model;
 
-/// The filter of the keys of entries.
-pub(crate) fn filter_of<A: Allocator>(
-    alloc: A,
-    entries: &[Entry<A>],
-) -> Result<Filter<A>, AllocError>
-    ensures { IfOk result (λ filter. filter ≡ filter_of (map (λ v. v.key) entries.now)) }
+/// Puts the keys of a block into a filter.
+fn insert_keys<A: Allocator>(filter: &mut Filter<A>, block: &[Entry<A>])
+    ensures { filter.new ≡ fold with_key filter.old (map (λ v. v.key) block.now) }
+{
+    for entry in block {
+        filter.insert(entry.key());
+    }
+}
+
+/// The filter of the keys of blocks.
+fn filter_of<A: Allocator>(alloc: A, blocks: &[Vec<Entry<A>, A>]) -> Result<Filter<A>, AllocError>
+    ensures { IfOk result (λ filter. filter ≡ filter_of (keys_of (map (λ b. b.items) blocks.now))) }
 {
     let mut filter = Filter::new(alloc)?;
-    for entry in entries {
-        filter.insert(entry.key());
+    for block in blocks {
+        insert_keys(&mut filter, block);
     }
     Ok(filter)
 }
@@ -82,13 +88,12 @@ impl<A: Allocator + Clone> Image<A> {
         alloc: A,
         blocks: Vec<Vec<Entry<A>, A>, A>,
         entries: u32,
-        filter: Filter<A>,
     ) -> Result<Image<A>, AllocError>
         requires table { IsTable (map (λ b. b.items) blocks.items) }
         requires entries { entries ≡ length (entries_of (map (λ b. b.items) blocks.items)) }
-        requires filter { filter ≡ filter_of (keys_of (map (λ b. b.items) blocks.items)) }
         ensures { IfOk result (λ image. image ≡ map (λ b. b.items) blocks.items) }
     {
+        let filter = filter_of(alloc.clone()?, &blocks)?;
         let index = edges_of(alloc.clone()?, &blocks)?;
         Ok(Image {
             blocks,

@@ -5,6 +5,7 @@ mod counting;
 mod division;
 mod edges;
 mod entries;
+mod filling;
 mod image;
 mod laws;
 mod layout;

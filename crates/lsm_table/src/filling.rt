@@ -1,0 +1,68 @@
+//! Blocks that are being filled.
+
+ghost use Rattle.std.specs.Prelude.{◌≡◌, ◌+◌, ◌<◌, ◌≤◌, ◌^◌, map, IfOk, OnOk};
+ghost use Rattle.lsm_codec.specs.Versions.{IsEntry};
+ghost use Rattle.lsm_table.specs.Filled.{none_filled, with_next, blocks_in};
+
+use crate::layout::Layout;
+use lsm_codec::Entry;
+use std::alloc::{AllocError, Allocator};
+use std::marker::Model;
+
+/// Blocks that are being filled: those that are full, and the one that is begun. Contracts see their entries.
+#[derive(Drop)]
+pub(crate) struct Filling<A: Allocator> {
+    full: Vec<Vec<Entry<A>, A>, A>,
+    begun: Vec<Entry<A>, A>,
+    layout: Layout,
+}
+
+impl<A: Allocator> Model for Filling<A> {
+    ghost use Rattle.std.specs.Prelude.{map};
+    ghost use Rattle.lsm_table.specs.Filled.{Filled};
+
+    ghost Value = { Filled };
+
+    ghost view = { λ f. record { full = map (λ b. b.items) f.full.items; begun = f.begun.items; layout = f.layout } };
+}
+
+impl<A: Allocator + Clone> Filling<A> {
+    pub(crate) fn new(alloc: A) -> Result<Filling<A>, AllocError>
+        ensures { IfOk result (λ filling. filling ≡ none_filled) }
+    {
+        Ok(Filling {
+            full: Vec::new(alloc.clone()?),
+            begun: Vec::new(alloc),
+            layout: Layout::new(),
+        })
+    }
+}
+
+impl<A: Allocator> Filling<A> {
+    /// Moves an entry behind the others: into the block that is begun, or where it has no room into the next.
+    pub(crate) fn add(&mut self, alloc: A, entry: Entry<A>) -> Result<(), AllocError>
+        requires blocks { self.old.layout.blocks < 2 ^ 32 }
+        requires used { self.old.layout.used ≤ 4096 }
+        ensures added { OnOk result (self.new ≡ with_next self.old entry) }
+        ensures version { OnOk result (IsEntry entry) }
+        ensures used { OnOk result (self.new.layout.used ≤ 4096) }
+        ensures blocks { OnOk result (self.new.layout.blocks ≤ self.old.layout.blocks + 1) }
+    {
+        if self.layout.add(entry.size()) {
+            let full = std::mem::replace(&mut self.begun, Vec::new(alloc));
+            self.full.push(full)?;
+        }
+        self.begun.push(entry)?;
+        Ok(())
+    }
+
+    /// The blocks, of which there is one at least.
+    pub(crate) fn finish(self) -> Result<Vec<Vec<Entry<A>, A>, A>, AllocError>
+        ensures { IfOk result (λ made. map (λ b. b.items) made.items ≡ blocks_in self) }
+    {
+        let Filling { full, begun, .. } = self;
+        let mut blocks = full;
+        blocks.push(begun)?;
+        Ok(blocks)
+    }
+}
