@@ -1,0 +1,15 @@
+pub mod OrderTests
+pub mod Orders
+pub mod Placing
+pub mod NewestLaws
+pub mod KeptLaws
+pub mod SettledLaws
+pub mod RangeLaws
+pub mod JoinLaws
+pub mod BorderLaws
+pub mod PartLaws
+pub mod Runs
+pub mod FewLaws
+pub mod Steps
+pub mod Sameness
+pub mod MapLaws

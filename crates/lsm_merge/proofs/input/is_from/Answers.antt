@@ -1,0 +1,7 @@
+use Rattle.std.proofs.Common.{◌∙◌, ap, sym}
+use Rattle.std.specs.Ordering.{is_le}
+use Rattle.lsm_merge.specs.Ranges.{shown_key, is_from}
+use Rattle.lsm_merge.proofs.input.is_from.Goals as goal
+
+pub returns-in-Equal : goal.returns-in-Equal
+returns-in-Equal c = ap is_le (sym c.in-Equal.is ∙ c.cmp.ensures) ∙ ap (λ o. is_from (shown_key o) c.args.key.now) (sym c.in-Some.is)

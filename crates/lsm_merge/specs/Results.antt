@@ -1,0 +1,9 @@
+-- The result of a merge.
+use Rattle.std.specs.Prelude.{List}
+use Rattle.lsm_table.specs.Division.{TableBlocks}
+use Rattle.lsm_merge.specs.Inputs.{MergeInput}
+
+-- the input, and the tables made of it
+pub record MergeResult : Type 0 where
+  pub input : MergeInput
+  pub images : List TableBlocks
