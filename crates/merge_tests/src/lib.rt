@@ -1,0 +1,12 @@
+//! Tests of merges, and inputs for them.
+#![tactic(auto)]
+
+#[cfg(test)]
+mod cases;
+#[cfg(test)]
+mod growth;
+pub mod input;
+#[cfg(test)]
+mod merges;
+#[cfg(test)]
+mod threads;

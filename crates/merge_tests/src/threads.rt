@@ -1,0 +1,145 @@
+//! Merges on threads.
+
+use crate::cases::input;
+use crate::input::{entry, input_of};
+use crate::merges::{EIGHT, deleted};
+use lsm_codec::Entry;
+use lsm_device::Refusal;
+use lsm_merge::{Built, Gate, Input, borders, build, build_gated};
+use lsm_table::Image;
+use std::alloc::{AllocError, Global};
+use std::sync::Arc;
+use std::sync::atomic::{AtomicU64, Ordering};
+use std::test::Fail;
+use std::thread::Threads;
+
+/// How many keys a large run has.
+const KEYS: u8 = 70;
+
+/// Puts of 2,048 bytes under keys of one byte.
+fn large_run(alloc: Global, number: u64) -> Result<Vec<Entry>, AllocError> {
+    let mut run = Vec::new(alloc);
+    for key in 0..KEYS {
+        if let Some(entry) = entry(alloc, &[key], number, Some(&[key; 2_048]))? {
+            run.push(entry)?;
+        }
+    }
+    Ok(run)
+}
+
+/// Two such runs, of which two tables are kept.
+fn large(alloc: Global) -> Result<Input, Refusal> {
+    let mut runs = Vec::new(alloc);
+    runs.push(large_run(alloc, 2)?)?;
+    runs.push(large_run(alloc, 1)?)?;
+    let cuts = Vec::from_slice(alloc, &[2])?;
+    input_of(runs, cuts, false).ok_or(Refusal::BadTable)
+}
+
+/// Whether both images have the same blocks under number 1.
+fn is_same_image(image: &Image, other: &Image) -> bool {
+    let blocks = image.extent_blocks();
+    if other.extent_blocks() != blocks {
+        return false;
+    }
+    for at in 0..blocks {
+        if image.block(1, at) != other.block(1, at) {
+            return false;
+        }
+    }
+    true
+}
+
+/// Whether both merges gave the same images, this many.
+fn have_same_images(built: &Built, other: &Built, count: usize) -> bool {
+    let mut others = other.images().iter();
+    built.images().len() == count
+        && other.images().len() == count
+        && built.images().iter().all(|image| {
+            others
+                .next()
+                .is_some_and(|other| is_same_image(image, other))
+        })
+}
+
+/// Whether 1 to 8 parts give the same images of an input, this many.
+fn gives_the_same<R: Threads + Sync>(
+    rt: &R,
+    alloc: Global,
+    input: Input,
+    count: usize,
+) -> Result<bool, Refusal> {
+    let input = Arc::new(alloc, input)?;
+    let whole = build(rt, alloc, input.clone()?, 1)?;
+    for parts in 2..=8 {
+        let other = build(rt, alloc, input.clone()?, parts)?;
+        if !have_same_images(&whole, &other, count) {
+            return Ok(false);
+        }
+    }
+    Ok(whole.input().is_same(&input))
+}
+
+#[test]
+fn any_number_of_parts_gives_the_same_bytes(rt: HostRuntime) -> Result<(), Fail> {
+    let alloc = rt.alloc();
+    for (cuts, count) in [([4, 9].as_slice(), 1), (&[9], 0)] {
+        assert!(rt; gives_the_same(&rt, alloc, deleted(alloc, cuts, true)?, count)?);
+    }
+    assert!(rt; gives_the_same(&rt, alloc, large(alloc)?, 2)?);
+    Ok(())
+}
+
+/// Whether so many parts are refused with BadLimit.
+fn is_refused<R: Threads + Sync>(rt: &R, alloc: Global, parts: u8) -> Result<bool, Refusal> {
+    let input = Arc::new(alloc, deleted(alloc, &[9], false)?)?;
+    let cut = borders(&alloc, &input, parts);
+    let built = build(rt, alloc, input, parts);
+    Ok(matches!(cut, Err(Refusal::BadLimit)) && matches!(built, Err(Refusal::BadLimit)))
+}
+
+#[test]
+fn other_numbers_of_parts_are_refused(rt: HostRuntime) -> Result<(), Fail> {
+    for (parts, refused) in [(0, true), (1, false), (8, false), (9, true)] {
+        assert!(rt; is_refused(&rt, rt.alloc(), parts)? == refused);
+    }
+    Ok(())
+}
+
+/// Lets a range on once the other was seen to come, or after a hundred million turns.
+#[derive(Drop)]
+struct Meeting {
+    first: AtomicU64,
+    second: AtomicU64,
+    met: AtomicU64,
+}
+
+impl Gate for Meeting {
+    fn enter(&self, range: u32) {
+        let (own, other) = if range == 0 {
+            (&self.first, &self.second)
+        } else {
+            (&self.second, &self.first)
+        };
+        own.store(1, Ordering::SeqCst);
+        for _ in 0..100_000_000 {
+            if other.load(Ordering::SeqCst) == 1 {
+                self.met.fetch_add(1, Ordering::SeqCst);
+                return;
+            }
+        }
+    }
+}
+
+#[test]
+fn parts_are_merged_at_the_same_time(rt: HostRuntime) -> Result<(), Fail> {
+    let meeting = Meeting {
+        first: AtomicU64::new(0),
+        second: AtomicU64::new(0),
+        met: AtomicU64::new(0),
+    };
+    let eight = input(rt.alloc(), &[EIGHT.as_slice()], &[1], false)?;
+    let built = build_gated(&rt, rt.alloc(), Arc::new(rt.alloc(), eight)?, 2, &meeting)?;
+    assert!(rt; built.images().len() == 1 && meeting.met.load(Ordering::SeqCst) == 2);
+    Ok(())
+}
