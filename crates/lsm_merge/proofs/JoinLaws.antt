@@ -8,9 +8,8 @@ use Rattle.std.specs.declared.cmp.Ordering.TheVariants.{Less, Equal, Greater}
 use Rattle.std.specs.Ordering.{is_lt}
 use Rattle.std.specs.FinMap.Entries.{by_order}
 use denote.Ref.{Bor}
-use Rattle.lsm_table.specs.Division.{AreOrdered}
+use Rattle.lsm_codec.specs.Versions.{AreOrdered, Version, entry_order}
 use Rattle.lsm_codec.specs.Keys.{Bytes}
-use Rattle.lsm_codec.specs.Versions.{Version, entry_order}
 use Rattle.lsm_mem.specs.EntryOrder.{placed}
 use Rattle.lsm_merge.specs.Keeping.{all_placed, in_order, is_newest_at_a_cut, settled, keep}
 use Rattle.lsm_merge.specs.Loops.{shown, KeepsOf}

@@ -8,8 +8,7 @@ use Rattle.std.specs.Prelude.{All}
 use Rattle.std.specs.declared.cmp.Ordering.{Ordering}
 use Rattle.std.specs.declared.cmp.Ordering.TheVariants.{Less, Equal, Greater}
 use Rattle.std.specs.Ordering.{is_lt}
-use Rattle.lsm_codec.specs.Versions.{Version, entry_order}
-use Rattle.lsm_table.specs.Division.{AreOrdered}
+use Rattle.lsm_codec.specs.Versions.{Version, entry_order, AreOrdered}
 use Rattle.lsm_codec.proofs.KeyOrder.{is_lt_Less}
 
 -- whether a version stands before the first of these

@@ -6,8 +6,7 @@ use Rattle.std.specs.declared.cmp.Ordering.TheVariants.{Less, Equal, Greater}
 use Rattle.std.specs.Ordering.{is_lt, ordering_reverse}
 use Rattle.std.specs.FinMap.Entries.{by_order}
 use denote.Ref.{Bor}
-use Rattle.lsm_table.specs.Division.{AreOrdered}
-use Rattle.lsm_codec.specs.Versions.{Version, entry_order}
+use Rattle.lsm_codec.specs.Versions.{AreOrdered, Version, entry_order}
 use Rattle.lsm_mem.specs.EntryOrder.{placed}
 use Rattle.lsm_codec.proofs.KeyOrder.{is_lt_Less}
 use Rattle.lsm_merge.specs.Keeping.{all_placed}

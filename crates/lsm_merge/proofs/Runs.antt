@@ -5,9 +5,7 @@ use Rattle.std.specs.List.{AllByRecursion}
 use Rattle.std.specs.declared.cmp.Ordering.TheVariants.{Less}
 use Rattle.std.specs.declared.vec.Vec.{Vec}
 use Rattle.std.specs.Ordering.{is_lt}
-use Rattle.lsm_table.specs.Division.{AreOrdered}
-use Rattle.lsm_table.specs.Division.{AreOrdered}
-use Rattle.lsm_codec.specs.Versions.{Version, entry_order}
+use Rattle.lsm_codec.specs.Versions.{Version, AreOrdered, entry_order}
 use Rattle.lsm_codec.proofs.KeyOrder.{is_lt_Less}
 use Rattle.lsm_merge.proofs.OrderTests.{is_before, is_in_order, in_order_cons, before_both}
 use Rattle.lsm_merge.specs.Inputs.{AreRuns, items_of}

@@ -6,8 +6,7 @@ use Rattle.std.proofs.lemmas.Bool.{cond-true}
 use Rattle.std.proofs.lemmas.List.{length-map, map-append, get_or-map, take_all, reverse-append}
 use Rattle.std.proofs.lemmas.List.Elements.{filter_more}
 use denote.Ref.{Bor}
-use Rattle.lsm_table.specs.Division.{AreOrdered}
-use Rattle.lsm_codec.specs.Versions.{Version, is_same_key}
+use Rattle.lsm_codec.specs.Versions.{AreOrdered, Version, is_same_key}
 use Rattle.lsm_merge.specs.Keeping.{is_newest_at_a_cut, settled}
 use Rattle.lsm_merge.specs.Loops.{shows_at, number_before, previous, settled_onto, all_settled_onto, starts_with_key, shown}
 use Rattle.lsm_merge.proofs.OrderTests.{tested}

@@ -2,8 +2,7 @@
 use Rattle.std.specs.Prelude.{◌≡◌, ℕ, ◌≤◌, Bool, true, ◌&&◌, ltb, map, List, [], ◌∷◌, ◌++◌, length}
 use Rattle.std.specs.List.{AllByRecursion}
 use Rattle.std.specs.declared.vec.Vec.{Vec}
-use Rattle.lsm_codec.specs.Versions.{Version}
-use Rattle.lsm_table.specs.Division.{AreOrdered}
+use Rattle.lsm_codec.specs.Versions.{Version, AreOrdered}
 use Rattle.lsm_merge.specs.Keeping.{keep}
 
 -- runs, the newer first; the counts at which the map is kept; and whether nothing older lies below

@@ -1,9 +1,8 @@
 -- What a merge keeps, in terms of the maps that versions stand for.
 use Rattle.std.specs.Prelude.{◌≡◌, ◌⊎◌, ℕ, Bool, true, false, List, All, Contains}
 use Rattle.lsm_codec.specs.Keys.{Bytes}
-use Rattle.lsm_codec.specs.Versions.{Version, newest}
+use Rattle.lsm_codec.specs.Versions.{Version, newest, AreOrdered}
 use Rattle.lsm_mem.specs.Versions.{value_at, map_of, NumberedAtMost}
-use Rattle.lsm_table.specs.Division.{AreOrdered}
 use Rattle.lsm_merge.specs.Keeping.{keep, is_newest_at_a_cut, deletes_nothing}
 
 -- A count at which a merge keeps the map: a cut, or one that no version is above, where none is above some cut either.

@@ -2,8 +2,7 @@
 use Rattle.std.specs.Prelude.{◌≡◌, ℕ, zero, suc, ◌+◌, ◌≤◌, Bool, false, cond, not, ◌&&◌, leb, ltb, is_none, List, [], ◌∷◌, map, length, drop, slice_index_or, Option, Some, None}
 use denote.Ref.{Bor}
 use Rattle.lsm_codec.specs.Keys.{Bytes}
-use Rattle.lsm_codec.specs.Versions.{Version, is_same_key}
-use Rattle.lsm_table.specs.Division.{AreOrdered}
+use Rattle.lsm_codec.specs.Versions.{Version, is_same_key, AreOrdered}
 use Rattle.lsm_merge.specs.Keeping.{all_placed, in_order, keep}
 
 -- the versions that references show

@@ -3,7 +3,7 @@
 ghost use Rattle.std.specs.Prelude.{◌≡◌, ◌≤◌, ◌<◌, ◌+◌, length, IfOk, OnOk, IfErr, ◌-◌, ◌*◌, ◌/◌, ◌⊎◌, Err, reverse};
 ghost use Rattle.lsm_codec.specs.Keys.{IsKey};
 ghost use Rattle.lsm_merge.specs.Inputs.{AreRuns, items_of};
-ghost use Rattle.lsm_table.specs.Division.{AreOrdered};
+ghost use Rattle.lsm_codec.specs.Versions.{AreOrdered};
 ghost use Rattle.lsm_merge.specs.Parts.{longest, is_above_first, with_border, first_borders, borders_of, Ascending};
 ghost use Rattle.lsm_device.specs.declared.refusal.Refusal.TheVariants.{BadLimit, NoMemory};
 

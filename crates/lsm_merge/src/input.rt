@@ -3,7 +3,7 @@
 ghost use Rattle.std.specs.Prelude.{◌≡◌, ◌↔◌, IsTrue, filter};
 ghost use Rattle.lsm_merge.specs.Inputs.{MergeInput, IsCuts, AreRuns, items_of};
 ghost use Rattle.lsm_merge.specs.Ranges.{shown_key, is_from, is_until, within};
-ghost use Rattle.lsm_table.specs.Division.{AreOrdered};
+ghost use Rattle.lsm_codec.specs.Versions.{AreOrdered};
 
 use crate::comparing::{are_same_counts, are_same_flags, are_same_runs};
 use lsm_codec::Entry;

@@ -2,8 +2,7 @@
 
 ghost use Rattle.std.specs.Prelude.{◌≡◌, ◌<◌, IfOk, OnOk, Option, length, filter, slice_index_or, reverse, is_none, not, ◌&&◌};
 ghost use Rattle.std.specs.List.{list_any};
-ghost use Rattle.lsm_table.specs.Division.{AreOrdered};
-ghost use Rattle.lsm_codec.specs.Versions.{Version};
+ghost use Rattle.lsm_codec.specs.Versions.{Version, AreOrdered};
 ghost use Rattle.lsm_merge.specs.Keeping.{is_newest_at_a_cut, settled};
 ghost use Rattle.lsm_merge.specs.Loops.{starts_with_key, settled_onto, number_before, previous, shows_at as is_shown_at, shown, KeepsOf};
 

@@ -1,7 +1,7 @@
 //! Runs brought together in order.
 
 ghost use Rattle.std.specs.Prelude.{◌≡◌, ◌<◌, IfOk, length};
-ghost use Rattle.lsm_table.specs.Division.{AreOrdered};
+ghost use Rattle.lsm_codec.specs.Versions.{AreOrdered};
 ghost use Rattle.lsm_merge.specs.Keeping.{all_placed};
 ghost use Rattle.lsm_merge.specs.Loops.{shown, TakesFirst};
 

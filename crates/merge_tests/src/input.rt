@@ -1,8 +1,7 @@
 //! Inputs of merges, made of any entries that can be one.
 
 ghost use Rattle.std.specs.Prelude.{◌≡◌, IsTrue};
-ghost use Rattle.lsm_codec.specs.Versions.{entry_order};
-ghost use Rattle.lsm_table.specs.Division.{AreOrdered};
+ghost use Rattle.lsm_codec.specs.Versions.{entry_order, AreOrdered};
 ghost use Rattle.lsm_merge.specs.Inputs.{AreRuns, IsCuts, items_of, is_below_first, is_ascending};
 ghost use Rattle.lsm_merge.proofs.OrderTests.{is_before, is_in_order};
 

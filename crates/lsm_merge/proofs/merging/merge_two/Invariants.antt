@@ -1,5 +1,5 @@
 use Rattle.std.proofs.Common.{◌≡◌, ◌+◌, ◌-◌, ◌≤◌, ◌++◌, length, drop}
-use Rattle.lsm_table.specs.Division.{AreOrdered}
+use Rattle.lsm_codec.specs.Versions.{AreOrdered}
 use Rattle.lsm_merge.specs.Keeping.{all_placed}
 use Rattle.lsm_merge.specs.Loops.{shown}
 use Rattle.lsm_merge.proofs.merging.merge_two.Given as goal
