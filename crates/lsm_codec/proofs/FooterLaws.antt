@@ -1,12 +1,15 @@
 -- The footer of a table is read and decoded exactly.
-use Rattle.std.proofs.Common.{◌≡◌, ℕ, ◌-◌, ◌^◌, ◌<◌, ◌≤◌, ◌==◌, true, List, length, replicate, Some, None, Decides, refl, sym, ap, ◌∙◌, arith}
-use Rattle.std.proofs.lemmas.Bool.{eqb-true}
+use Rattle.std.proofs.Common.{◌≡◌, ℕ, ◌-◌, ◌^◌, ◌<◌, ◌≤◌, ◌==◌, true, List, length, drop, replicate, Some, None, Decides, refl, sym, ap, ◌∙◌, arith}
+use Rattle.std.proofs.lemmas.Bool.{eqb-true, ne_eqb}
 use Rattle.std.proofs.lemmas.Bool.Decides.{Decides-like, Decides-and}
 use Rattle.std.proofs.lemmas.List.{length-append, length-replicate}
 use Rattle.byteorder.specs.Endian.{big_bytes}
 use Rattle.lsm_codec.specs.Keys.{IsBytes, IsKey}
-use Rattle.lsm_codec.specs.Spelling.{IsDecoded}
+use Rattle.lsm_codec.specs.Spelling.{field, IsDecoded}
 use Rattle.lsm_codec.specs.Reading.{number_at, kept, front_of}
+use Rattle.lsm_codec.specs.BatchText.{key_at}
+use Rattle.lsm_codec.proofs.Fields.{there, from_place}
+use borrow.Rule.Slice.PartMut.{mid_of}
 use Rattle.lsm_codec.specs.Entries.{are_zeros}
 use Rattle.lsm_codec.specs.Footers.{Summary, IsSummary, is_summary, footer_text, footer_block, footer_at, footer_of}
 use Rattle.lsm_codec.specs.Formats.{IsFormat}
@@ -38,6 +41,26 @@ footer_reads =
     (made_reads (λ t. record { number = t.1.0; data_blocks = t.1.1.0; entries = t.1.1.1.0; index_len = t.1.1.1.1.0; first = t.1.1.1.1.1 }) (λ f. (0x4c534d54, (f.number, (f.data_blocks, (f.entries, (f.index_len, f.first))))))
     (λ p f. ap (λ (m : ℕ). (m, p.1)) (sym f.0)) (λ f. refl)
     (then_reads magic_reads (λ m. then_reads (number_reads 8) (λ n. then_reads (number_reads 2) (λ d. then_reads (number_reads 4) (λ e. then_reads (number_reads 4) (λ i. key_reads)))))))
+
+-- ---- the numbers of a block at their places
+
+module _ (block : List ℕ) (size : length block ≡ 4096) where
+  pub footer_some : (first rest : List ℕ) → field 0 4 block ≡ 0x4c534d54 → key_at (mid_of 22 4074 block) ≡ Some (first, rest)
+      → footer_at block ≡ Some (record { number = field 4 8 block; data_blocks = field 12 2 block; entries = field 14 4 block; index_len = field 18 4 block; first = first }, rest)
+  unfolding footer_at
+  footer_some first rest magic key =
+      let behind : key_at (drop 22 block) ≡ Some (first, rest) = ap key_at (sym (from_place 22 block) ∙ ap (λ (n : ℕ). mid_of 22 (n - 22) block) size) ∙ key in
+      rw (there 0 4 block (omega (arith, size)), magic, there 4 8 block (omega (arith, size)), there 12 2 block (omega (arith, size)), there 14 4 block (omega (arith, size)), there 18 4 block (omega (arith, size)), behind) refl
+
+  pub footer_none : field 0 4 block ≡ 0x4c534d54 → key_at (mid_of 22 4074 block) ≡ None → footer_at block ≡ None
+  unfolding footer_at
+  footer_none magic key =
+      let behind : key_at (drop 22 block) ≡ None = ap key_at (sym (from_place 22 block) ∙ ap (λ (n : ℕ). mid_of 22 (n - 22) block) size) ∙ key in
+      rw (there 0 4 block (omega (arith, size)), magic, there 4 8 block (omega (arith, size)), there 12 2 block (omega (arith, size)), there 14 4 block (omega (arith, size)), there 18 4 block (omega (arith, size)), behind) refl
+
+  pub footer_other : (field 0 4 block ≡ 0x4c534d54 → ⊥) → footer_at block ≡ None
+  unfolding footer_at
+  footer_other other = rw (there 0 4 block (omega (arith, size)), ne_eqb (field 0 4 block) 0x4c534d54 other) refl
 
 fields_fit : (f : Summary) → IsSummary f → FieldsFit f
 fields_fit f is = record { number = omega (arith, is.number); data_blocks = omega (arith, is.blocks_high); entries = omega (arith, is.entries_high); index_len = omega (arith, is.index_high); first = is.first }

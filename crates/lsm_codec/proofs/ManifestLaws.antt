@@ -1,7 +1,7 @@
 -- A manifest's sectors are read and decoded exactly.
-use Rattle.std.proofs.Common.{◌≡◌, ℕ, ◌+◌, ◌-◌, ◌*◌, ◌^◌, ◌<◌, ◌≤◌, Bool, eqb, List, [], ◌∷◌, length, Some, None, Decides, refl, ap, arith, lit<, get_or}
+use Rattle.std.proofs.Common.{◌≡◌, ℕ, ◌+◌, ◌-◌, ◌*◌, ◌^◌, ◌<◌, ◌≤◌, Bool, eqb, List, [], ◌∷◌, ◌++◌, length, Some, None, Decides, refl, ap, arith, lit<, get_or}
 use Rattle.std.specs.List.{AllByRecursion, flat_map, list_all}
-use Rattle.std.proofs.lemmas.Bool.{eqb-true}
+use Rattle.std.proofs.lemmas.Bool.{eqb-true, ne_eqb}
 use Rattle.std.proofs.lemmas.Bool.Decides.{Decides-like, Decides-not, Decides-and, Decides-ltb, Decides-eqb}
 use Rattle.std.proofs.lemmas.List.{length-append}
 use Rattle.std.proofs.lemmas.List.Elements.{All-nil, recursion_from_All}
@@ -9,14 +9,16 @@ use Rattle.byteorder.specs.Endian.{big_bytes}
 use Rattle.lsm_codec.specs.declared.log_record.LogRecord.{LogRecord}
 use Rattle.lsm_codec.specs.declared.table_record.TableRecord.{TableRecord}
 use Rattle.lsm_codec.specs.Keys.{IsBytes}
-use Rattle.lsm_codec.specs.Spelling.{padding, IsDecoded}
+use Rattle.lsm_codec.specs.Spelling.{field, padding, IsDecoded}
 use Rattle.lsm_codec.specs.Reading.{front_of}
 use Rattle.lsm_codec.specs.TableRecords.{IsTableRecord, TablesAgree, is_table_record, is_agreeing_table, table_record}
 use Rattle.lsm_codec.specs.Pairs.{Pairwise}
 use Rattle.lsm_codec.specs.Manifests.{Contents, IsLogRecord, LogsAgree, BeginsAfter, NumbersFit, LogsFit, TablesFit, IsManifest, is_each_two, is_log_record, is_agreeing, is_after, is_numbered, is_logged, is_tabled, is_manifest, log_record, manifest_text, sector_count, manifest_bytes, log_record_at, only_number, header_at, manifest_at, manifest_of}
 use Rattle.lsm_codec.specs.Formats.{IsFormat}
 use Rattle.lsm_codec.proofs.Limits.{at_most-Decides, is_within-Decides, all-Decides}
-use Rattle.lsm_codec.proofs.Readers.{Reads, number_reads, times_reads, then_reads, made_reads, kept_reads, fits_reads}
+use Rattle.lsm_codec.proofs.Readers.{Reads, number_reads, times_reads, then_reads, made_reads, kept_reads, fits_reads, too_short}
+use Rattle.lsm_codec.proofs.Fields.{there, byte_there, from_place}
+use borrow.Rule.Slice.PartMut.{mid_of}
 use Rattle.lsm_codec.proofs.TableRecordLaws.{TableFits, table_record_reads, table_fits, tables_long, table_record-Decides, agreeing_table-Decides, runs-Decides}
 use Rattle.lsm_codec.proofs.Decoding.{if_spelled-decodes, decodes-format, one_answer}
 use Rattle.lsm_codec.proofs.Padding.{length-in_sectors, padded_read, padded_refused, padded_unread}
@@ -35,6 +37,14 @@ log_record_reads =
     fits_reads (λ r f. record { region = f.0; epoch = f.1.0; first = f.1.1 }) (λ r f. (f.region, (f.epoch, f.first)))
     (made_reads (λ t. record { region = t.0; epoch = t.1.0; first_batch = t.1.1 }) (λ r. (r.region, (r.epoch, r.first_batch))) (λ t f. refl) (λ r. refl)
     (then_reads (number_reads 1) (λ a. then_reads (number_reads 8) (λ b. number_reads 8))))
+
+-- a record in full is read, its numbers at their places
+pub log_at : (bytes : List ℕ) → 17 ≤ length bytes → log_record_at bytes ≡ Some (record { region = get_or bytes 0 0; epoch = field 1 8 bytes; first_batch = field 9 8 bytes }, mid_of 17 (length bytes - 17) bytes)
+unfolding log_record_at
+log_at bytes le = rw (byte_there 0 bytes (omega (arith, le)), there 1 8 bytes (omega (arith, le)), there 9 8 bytes (omega (arith, le)), from_place 17 bytes) refl
+
+pub no_log : (bytes : List ℕ) → IsBytes bytes → length bytes < 17 → log_record_at bytes ≡ None
+no_log bytes fits short = too_short log_record_reads 17 (λ r. omega arith) bytes fits short
 
 -- what the fields of a manifest can hold
 pub record FieldsFit (c : Contents) : Type 0 where
@@ -65,8 +75,28 @@ made_contents t = record { generation = t.0.1.0; base = t.0.1.1.0; next_table = 
 abbrev parts : Contents → Numbers × (List LogRecord × List TableRecord)
 parts c = (numbers 0x4c534d4d c.generation c.base c.next_table (length c.logs) c.runs (length c.tables), (c.logs, c.tables))
 
+-- a header in full is read, its numbers at their places
+pub header_there : (bytes : List ℕ) → 32 ≤ length bytes → field 0 4 bytes ≡ 0x4c534d4d
+    → header_at bytes ≡ Some (numbers 0x4c534d4d (field 4 8 bytes) (field 12 8 bytes) (field 20 8 bytes) (get_or bytes 28 0) (get_or bytes 29 0) (field 30 2 bytes), mid_of 32 (length bytes - 32) bytes)
+unfolding header_at
+header_there bytes le magic =
+    rw (there 0 4 bytes (omega (arith, le)), magic, there 4 8 bytes (omega (arith, le)), there 12 8 bytes (omega (arith, le)), there 20 8 bytes (omega (arith, le)), byte_there 28 bytes (omega (arith, le)), byte_there 29 bytes (omega (arith, le)), there 30 2 bytes (omega (arith, le)), from_place 32 bytes) refl
+
+pub header_other : (bytes : List ℕ) → 32 ≤ length bytes → (field 0 4 bytes ≡ 0x4c534d4d → ⊥) → header_at bytes ≡ None
+unfolding header_at
+header_other bytes le other = rw (there 0 4 bytes (omega (arith, le)), ne_eqb (field 0 4 bytes) 0x4c534d4d other) refl
+
+header_reads : Reads header_at (λ h. ((h.0 < 256 ^ 4) × (h.0 ≡ 0x4c534d4d)) × ((h.1.0 < 256 ^ 8) × ((h.1.1.0 < 256 ^ 8) × ((h.1.1.1.0 < 256 ^ 8) × ((h.1.1.1.1.0 < 256 ^ 1) × ((h.1.1.1.1.1.0 < 256 ^ 1) × (h.1.1.1.1.1.1 < 256 ^ 2)))))))
+    (λ h. big_bytes 4 h.0 ++ (big_bytes 8 h.1.0 ++ (big_bytes 8 h.1.1.0 ++ (big_bytes 8 h.1.1.1.0 ++ (big_bytes 1 h.1.1.1.1.0 ++ (big_bytes 1 h.1.1.1.1.1.0 ++ big_bytes 2 h.1.1.1.1.1.1))))))
+unfolding header_at
+header_reads =
+    then_reads (only_reads 0x4c534d4d 4) (λ a. then_reads (number_reads 8) (λ b. then_reads (number_reads 8) (λ c. then_reads (number_reads 8) (λ d. then_reads (number_reads 1) (λ e. then_reads (number_reads 1) (λ f. number_reads 2))))))
+
+pub no_header : (bytes : List ℕ) → IsBytes bytes → length bytes < 32 → header_at bytes ≡ None
+no_header bytes fits short = too_short header_reads 32 (λ h. omega arith) bytes fits short
+
 pub manifest_reads : Reads manifest_at FieldsFit manifest_text
-unfolding manifest_at header_at manifest_text
+unfolding manifest_at manifest_text
 manifest_reads =
     fits_reads
     (λ c f. record { generation = f.0.1.0; base = f.0.1.1.0; next_table = f.0.1.1.1.0; runs = f.0.1.1.1.1.1.0; logs = f.0.1.1.1.1.0; tables = f.0.1.1.1.1.1.1; each_log = f.1.0.1; each_table = f.1.1.1 })
@@ -75,7 +105,7 @@ manifest_reads =
     (λ t f. ap (λ (h : Numbers). (h, t.1)) (same_numbers t.0.0 t.0.1.0 t.0.1.1.0 t.0.1.1.1.0 t.0.1.1.1.1.0 t.0.1.1.1.1.1.0 t.0.1.1.1.1.1.1 _ _ _ f.0.0.1 f.1.0.0 f.1.1.0))
     (λ c. refl)
     (then_reads
-    (then_reads (only_reads 0x4c534d4d 4) (λ a. then_reads (number_reads 8) (λ b. then_reads (number_reads 8) (λ c. then_reads (number_reads 8) (λ d. then_reads (number_reads 1) (λ e. then_reads (number_reads 1) (λ f. number_reads 2)))))))
+    header_reads
     (λ h. then_reads (times_reads h.1.1.1.1.0 log_record_reads) (λ l. times_reads h.1.1.1.1.1.1 table_record_reads))))
 
 log_fits : (g : ℕ) (r : LogRecord) → g ≤ 2 ^ 63 → IsLogRecord g r → LogFits r

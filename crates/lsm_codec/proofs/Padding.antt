@@ -1,21 +1,11 @@
 -- A text that zeros fill up to whole sectors.
-use Rattle.std.proofs.Common.{◌≡◌, ℕ, ◌-◌, ◌*◌, ◌%◌, List, [], ◌∷◌, ◌++◌, length, replicate, Some, None, refl, sym, ap, subst, ◌∙◌, arith, All}
-use Rattle.std.specs.List.{AllByRecursion}
+use Rattle.std.proofs.Common.{◌≡◌, ℕ, ◌-◌, ◌*◌, ◌%◌, List, ◌++◌, length, Some, None, sym, ap, subst, ◌∙◌, arith}
 use Rattle.std.specs.Int.{div_ceil}
 use Rattle.std.proofs.lemmas.List.{length-append, length-replicate}
-use Rattle.std.proofs.lemmas.List.Elements.{recursion_from_All}
 use Rattle.std.proofs.lemmas.Option.{some_pair_parts}
 use Rattle.lsm_codec.specs.Keys.{IsBytes}
 use Rattle.lsm_codec.specs.Spelling.{padding, in_sectors, IsDecoded}
 use Rattle.lsm_codec.proofs.Readers.{Reads, Reader}
-
-zeros_by : (xs : List ℕ) → AllByRecursion (λ b. b ≡ 0) xs → xs ≡ replicate (length xs) 0
-zeros_by [] h = refl
-zeros_by (x ∷ xs) h = rw (h.0, ← zeros_by xs h.1) refl
-
--- bytes that are all zero
-pub all_zero : (xs : List ℕ) (n : ℕ) → length xs ≡ n → All (λ b. b ≡ 0) xs → xs ≡ replicate n 0
-all_zero xs n e h = zeros_by xs (recursion_from_All (λ b. b ≡ 0) xs h) ∙ ap (λ (k : ℕ). replicate k 0) e
 
 -- the bytes of whole sectors
 pub length-in_sectors : (text : List ℕ) → length (in_sectors text) ≡ 512 * div_ceil (length text) 512

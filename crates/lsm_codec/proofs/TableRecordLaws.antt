@@ -1,5 +1,5 @@
 -- A manifest's records of tables are read exactly, and their limits are decided.
-use Rattle.std.proofs.Common.{◌≡◌, ℕ, zero, suc, ◌+◌, ◌*◌, ◌^◌, ◌<◌, ◌≤◌, Bool, true, false, cond, ◌==◌, List, [], ◌∷◌, length, Decides, refl, subst, arith, inl, inr}
+use Rattle.std.proofs.Common.{◌≡◌, ℕ, zero, suc, ◌+◌, ◌-◌, ◌*◌, ◌^◌, ◌<◌, ◌≤◌, Bool, true, false, cond, ◌==◌, List, [], ◌∷◌, length, get_or, Some, None, Decides, refl, subst, arith, inl, inr}
 use Rattle.std.specs.List.{flat_map}
 use Rattle.std.proofs.lemmas.Bool.{cases_lt}
 use Rattle.std.proofs.lemmas.Bool.Decides.{Decides-like, Decides-not, Decides-and, Decides-or, Decides-by_or, Decides-ltb, Decides-eqb}
@@ -7,7 +7,11 @@ use Rattle.std.proofs.lemmas.List.{length-append}
 use Rattle.lsm_codec.specs.declared.table_record.TableRecord.{TableRecord}
 use Rattle.lsm_codec.specs.TableRecords.{extent_end, runs_in, HasSizes, IsTableRecord, InOrder, AreApart, TablesAgree, IsOfRun, HasRun, HasRuns, has_sizes, is_table_record, is_in_order, is_apart, is_agreeing_table, is_of_run, has_run, has_runs, table_record, table_record_at}
 use Rattle.lsm_codec.proofs.Limits.{at_most-Decides, is_within-Decides}
-use Rattle.lsm_codec.proofs.Readers.{Reads, number_reads, then_reads, made_reads, fits_reads}
+use Rattle.lsm_codec.proofs.Readers.{Reads, number_reads, then_reads, made_reads, fits_reads, too_short}
+use Rattle.lsm_codec.proofs.Fields.{there, byte_there, from_place}
+use borrow.Rule.Slice.PartMut.{mid_of}
+use Rattle.lsm_codec.specs.Keys.{IsBytes}
+use Rattle.lsm_codec.specs.Spelling.{field}
 
 -- the numbers of a record fit their fields
 pub record TableFits (t : TableRecord) : Type 0 where
@@ -28,6 +32,16 @@ table_record_reads =
     (λ t. record { number = t.0; level = t.1.0; run = t.1.1.0; first_block = t.1.1.1.0; data_blocks = t.1.1.1.1.0; index_blocks = t.1.1.1.1.1.0; entries = t.1.1.1.1.1.1 })
     (λ r. (r.number, (r.level, (r.run, (r.first_block, (r.data_blocks, (r.index_blocks, r.entries))))))) (λ t f. refl) (λ r. refl)
     (then_reads (number_reads 8) (λ a. then_reads (number_reads 1) (λ b. then_reads (number_reads 1) (λ c. then_reads (number_reads 4) (λ d. then_reads (number_reads 1) (λ e. then_reads (number_reads 1) (λ f. number_reads 2))))))))
+
+-- a record in full is read, its numbers at their places
+pub table_at : (bytes : List ℕ) → 18 ≤ length bytes
+    → table_record_at bytes ≡ Some (record { number = field 0 8 bytes; level = get_or bytes 8 0; run = get_or bytes 9 0; first_block = field 10 4 bytes; data_blocks = get_or bytes 14 0; index_blocks = get_or bytes 15 0; entries = field 16 2 bytes }, mid_of 18 (length bytes - 18) bytes)
+unfolding table_record_at
+table_at bytes le =
+    rw (there 0 8 bytes (omega (arith, le)), byte_there 8 bytes (omega (arith, le)), byte_there 9 bytes (omega (arith, le)), there 10 4 bytes (omega (arith, le)), byte_there 14 bytes (omega (arith, le)), byte_there 15 bytes (omega (arith, le)), there 16 2 bytes (omega (arith, le)), from_place 18 bytes) refl
+
+pub no_table : (bytes : List ℕ) → IsBytes bytes → length bytes < 18 → table_record_at bytes ≡ None
+no_table bytes fits short = too_short table_record_reads 18 (λ t. omega arith) bytes fits short
 
 run_fits : (runs level run : ℕ) → runs ≤ 12 → run < runs_in runs level → run < 256
 run_fits runs level run le lt = by (level == 0) lt

@@ -76,9 +76,7 @@ impl<A: Allocator> Entry<A> {
         requires { length out.old + entry_size self.now ≤ 4096 }
         ensures { out.new ≡ out.old ++ entry_text self.now }
     {
-        let key = self.key();
-        out.put_u8(key.len() as u8);
-        out.put(key);
+        out.put_key(self.key());
         out.put_u64(self.number);
         match &self.value {
             Some(value) => {

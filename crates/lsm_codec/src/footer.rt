@@ -6,7 +6,8 @@ ghost use Rattle.lsm_codec.specs.Reading.{Lends};
 ghost use Rattle.lsm_codec.specs.Footers.{summary_of, IsSummary, footer_at, footer_block, footer_of};
 
 use crate::filled::Filled;
-use crate::lending::{is_zero, key_at, u16_at, u32_at, u64_at};
+use crate::lending::{is_zero, key_at};
+use byteorder::{BigEndian, ByteOrder};
 
 /// `LSMT`.
 const MAGIC: u32 = 0x4c53_4d54;
@@ -26,29 +27,21 @@ pub struct Footer<'a> {
     pub first: &'a [u8],
 }
 
-#[tactic(auto, unfolding(crate::specs::Footers::footer_at))]
-fn footer_at(bytes: &[u8]) -> Option<(Footer<'_>, &[u8])>
-    ensures { Lends (λ x. (summary_of x.0, x.1.now)) result (footer_at bytes.now) }
+fn footer_at(block: &[u8; 4_096]) -> Option<(Footer<'_>, &[u8])>
+    ensures { Lends (λ x. (summary_of x.0, x.1.now)) result (footer_at block.now) }
 {
-    let (magic, rest) = u32_at(bytes)?;
-    if magic != MAGIC {
+    if BigEndian::read_u32(&block[..]) != MAGIC {
         return None;
     }
-    let (number, rest) = u64_at(rest)?;
-    let (data_blocks, rest) = u16_at(rest)?;
-    let (entries, rest) = u32_at(rest)?;
-    let (index_len, rest) = u32_at(rest)?;
-    let (first, rest) = key_at(rest)?;
-    Some((
-        Footer {
-            number,
-            data_blocks,
-            entries,
-            index_len,
-            first,
-        },
-        rest,
-    ))
+    let (first, rest) = key_at(&block[22..])?;
+    let footer = Footer {
+        number: BigEndian::read_u64(&block[4..]),
+        data_blocks: BigEndian::read_u16(&block[12..]),
+        entries: BigEndian::read_u32(&block[14..]),
+        index_len: BigEndian::read_u32(&block[18..]),
+        first,
+    };
+    Some((footer, rest))
 }
 
 impl<'a> Footer<'a> {
@@ -75,8 +68,7 @@ impl<'a> Footer<'a> {
         block.put_u16(self.data_blocks);
         block.put_u32(self.entries);
         block.put_u32(self.index_len);
-        block.put_u8(self.first.len() as u8);
-        block.put(self.first);
+        block.put_key(self.first);
         block.into_bytes()
     }
 

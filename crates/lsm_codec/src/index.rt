@@ -6,9 +6,8 @@ ghost use Rattle.lsm_codec.specs.Answers.{UnlessNoMemory};
 ghost use Rattle.lsm_codec.specs.Indexes.{IsEdge, IsIndex, index_length, index_blocks, index_of};
 
 use crate::key::Key;
-use crate::reading::Unread;
 use crate::records::{read_all, write_all};
-use crate::whole_blocks::{is_block_padding, put_block_padding};
+use crate::whole_units::{is_padding, put_padding};
 use lsm_device::Refusal;
 use std::alloc::{AllocError, Allocator, Global};
 use std::marker::Model;
@@ -122,7 +121,7 @@ impl<A: Allocator + Clone> Index<A> {
     {
         let mut blocks = Vec::new(alloc);
         write_all(&self.edges, &mut blocks)?;
-        put_block_padding(&mut blocks)?;
+        put_padding(&mut blocks, 4_096)?;
         Ok(blocks)
     }
 
@@ -131,17 +130,16 @@ impl<A: Allocator + Clone> Index<A> {
         ensures answer { UnlessNoMemory result (λ index. index ≡ index_of count blocks.now) }
         ensures exact { IsDecoded (IsIndex count) index_blocks blocks.now (index_of count blocks.now) }
     {
-        match read_all::<A, Edge<A>>(&alloc, count, blocks) {
-            Ok((edges, rest)) => {
+        match read_all::<A, Edge<A>>(&alloc, count, blocks)? {
+            Some((edges, rest)) => {
                 let text_len = blocks.len() - rest.len();
-                if is_block_padding(rest, text_len) {
+                if is_padding(rest, text_len, 4_096) {
                     Ok(Some(Index { edges, text_len }))
                 } else {
                     Ok(None)
                 }
             }
-            Err(Unread::Malformed) => Ok(None),
-            Err(Unread::NoMemory) => Err(Refusal::NoMemory),
+            None => Ok(None),
         }
     }
 }

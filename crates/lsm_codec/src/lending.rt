@@ -26,24 +26,6 @@ pub(crate) fn u16_at(bytes: &[u8]) -> Option<(u16, &[u8])>
     Some((BigEndian::read_u16(bytes), &bytes[2..]))
 }
 
-pub(crate) fn u32_at(bytes: &[u8]) -> Option<(u32, &[u8])>
-    ensures { Lends (λ x. (x.0, x.1.now)) result (number_at 4 bytes.now) }
-{
-    if bytes.len() < 4 {
-        return None;
-    }
-    Some((BigEndian::read_u32(bytes), &bytes[4..]))
-}
-
-pub(crate) fn u64_at(bytes: &[u8]) -> Option<(u64, &[u8])>
-    ensures { Lends (λ x. (x.0, x.1.now)) result (number_at 8 bytes.now) }
-{
-    if bytes.len() < 8 {
-        return None;
-    }
-    Some((BigEndian::read_u64(bytes), &bytes[8..]))
-}
-
 pub(crate) fn bytes_at(bytes: &[u8], size: usize) -> Option<(&[u8], &[u8])>
     ensures read { Lends (λ x. (x.0.now, x.1.now)) result (bytes_at size bytes.now) }
     ensures len { IfSome result (λ x. length x.0.now ≡ size) }
@@ -86,11 +68,14 @@ pub(crate) fn batch_number_at(bytes: &[u8]) -> Option<(u64, &[u8])>
     ensures low { IfSome result (λ x. 1 ≤ x.0) }
     ensures high { IfSome result (λ x. x.0 ≤ 2 ^ 63) }
 {
-    let (number, rest) = u64_at(bytes)?;
+    if bytes.len() < 8 {
+        return None;
+    }
+    let number = BigEndian::read_u64(bytes);
     if !(1..=1 << 63).contains(&number) {
         return None;
     }
-    Some((number, rest))
+    Some((number, &bytes[8..]))
 }
 
 /// Whether each byte is zero.

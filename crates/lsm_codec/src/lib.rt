@@ -23,15 +23,13 @@ mod manifest_limits;
 mod manifest_text;
 mod operation;
 mod operation_text;
-mod reading;
 mod records;
 mod superblock;
 mod table_record;
 mod value;
 mod version;
-mod whole_blocks;
+mod whole_units;
 mod words;
-mod writing;
 
 pub use batch::Batch;
 pub use data_block::encode_data_block;

@@ -1,13 +1,12 @@
 //! A manifest's record of a table.
 
 ghost use Rattle.std.specs.Prelude.{◌≡◌, ◌↔◌, IsTrue};
-ghost use Rattle.lsm_codec.specs.Reading.{Gives};
 ghost use Rattle.lsm_codec.specs.TableRecords.{extent_blocks, extent_end, runs_in, HasSizes, IsTableRecord, InOrder, AreApart, TablesAgree, IsOfRun, HasRun, HasRuns, table_record, table_record_at};
 
 use crate::agree::Agree;
 use crate::filled::Filled;
-use crate::reading::{Unread, u8_at, u16_at, u32_at, u64_at};
 use crate::records::Record;
+use byteorder::{BigEndian, ByteOrder};
 use std::alloc::{AllocError, Allocator};
 
 /// The bytes of a record's text.
@@ -32,42 +31,41 @@ pub struct TableRecord {
     pub entries: u16,
 }
 
-#[tactic(auto, unfolding(crate::specs::TableRecords::table_record_at))]
-fn table_record_at(bytes: &[u8]) -> Result<(TableRecord, &[u8]), Unread>
-    ensures { Gives (λ x. (x.0, x.1.now)) result (table_record_at bytes.now) }
-{
-    let (number, rest) = u64_at(bytes)?;
-    let (level, rest) = u8_at(rest)?;
-    let (run, rest) = u8_at(rest)?;
-    let (first_block, rest) = u32_at(rest)?;
-    let (data_blocks, rest) = u8_at(rest)?;
-    let (index_blocks, rest) = u8_at(rest)?;
-    let (entries, rest) = u16_at(rest)?;
-    Ok((
-        TableRecord {
-            number,
-            level,
-            run,
-            first_block,
-            data_blocks,
-            index_blocks,
-            entries,
-        },
-        rest,
-    ))
-}
-
 impl<A: Allocator> Record<A> for TableRecord {
     ghost reading = { table_record_at };
 
     ghost spelling = { table_record };
 
-    fn read<'b>(_alloc: &A, bytes: &'b [u8]) -> Result<(TableRecord, &'b [u8]), Unread> {
-        table_record_at(bytes)
+    fn read<'b>(
+        _alloc: &A,
+        bytes: &'b [u8],
+    ) -> Result<Option<(TableRecord, &'b [u8])>, AllocError> {
+        if bytes.len() < TABLE_RECORD_BYTES {
+            return Ok(None);
+        }
+        let record = TableRecord {
+            number: BigEndian::read_u64(bytes),
+            level: bytes[8],
+            run: bytes[9],
+            first_block: BigEndian::read_u32(&bytes[10..]),
+            data_blocks: bytes[14],
+            index_blocks: bytes[15],
+            entries: BigEndian::read_u16(&bytes[16..]),
+        };
+        Ok(Some((record, &bytes[TABLE_RECORD_BYTES..])))
     }
 
     fn write(&self, out: &mut Vec<u8, A>) -> Result<(), AllocError> {
-        out.extend_from_slice(&self.text())
+        let mut text = Filled::<TABLE_RECORD_BYTES>::new();
+        text.put_u64(self.number);
+        text.put_u8(self.level);
+        text.put_u8(self.run);
+        text.put_u32(self.first_block);
+        text.put_u8(self.data_blocks);
+        text.put_u8(self.index_blocks);
+        text.put_u16(self.entries);
+        out.extend_from_slice(text.text())?;
+        Ok(())
     }
 }
 
@@ -91,20 +89,6 @@ impl TableRecord {
         ensures { result ≡ extent_end self.now }
     {
         self.first_block as u64 + self.extent_blocks() as u64
-    }
-
-    fn text(&self) -> [u8; TABLE_RECORD_BYTES]
-        ensures { result ≡ table_record self.now }
-    {
-        let mut text = Filled::<TABLE_RECORD_BYTES>::new();
-        text.put_u64(self.number);
-        text.put_u8(self.level);
-        text.put_u8(self.run);
-        text.put_u32(self.first_block);
-        text.put_u8(self.data_blocks);
-        text.put_u8(self.index_blocks);
-        text.put_u16(self.entries);
-        text.into_bytes()
     }
 
     fn has_sizes(&self) -> bool
