@@ -36,7 +36,7 @@ pub(crate) fn sector_of(text: &str) -> Result<[u8; 512], Fail> {
     Ok(sector)
 }
 
-pub(crate) fn put<D: Device>(device: &mut D, at: u32, bytes: &[u8; 512]) -> Result<(), Fail> {
+pub(crate) fn put(device: &mut MemDevice, at: u32, bytes: &[u8; 512]) -> Result<(), Fail> {
     if at >= device.sectors() {
         return Err("a sector of the device".into());
     }
@@ -45,8 +45,8 @@ pub(crate) fn put<D: Device>(device: &mut D, at: u32, bytes: &[u8; 512]) -> Resu
 }
 
 /// Puts the same into some sectors.
-pub(crate) fn put_each<D: Device>(
-    device: &mut D,
+pub(crate) fn put_each(
+    device: &mut MemDevice,
     places: &[u32],
     bytes: &[u8; 512],
 ) -> Result<(), Fail> {
@@ -60,27 +60,19 @@ pub(crate) fn put_each<D: Device>(
 pub(crate) type Logged = (u32, u8, u64, u8, u8);
 
 /// Puts a batch into its log sector.
-pub(crate) fn log<D: Device>(device: &mut D, batch: Logged) -> Result<(), Fail> {
+pub(crate) fn log(device: &mut MemDevice, batch: Logged) -> Result<(), Fail> {
     let (at, epoch, number, key, value) = batch;
     let sector = log_sector(epoch, number, key, value)?;
     put(device, at, &sector)
 }
 
-/// Puts batches into their log sectors.
-pub(crate) fn log_each<D: Device>(device: &mut D, batches: &[Logged]) -> Result<(), Fail> {
-    for batch in batches {
-        log(device, *batch)?;
-    }
-    Ok(())
-}
-
 /// Makes all that pends stand.
-pub(crate) fn sync<D: Device>(device: &mut D) -> Result<(), Fail> {
+pub(crate) fn sync(device: &mut MemDevice) -> Result<(), Fail> {
     device.sync()?;
     Ok(())
 }
 
-pub(crate) fn sector<D: Device>(device: &mut D, at: u32) -> Result<[u8; 512], Fail> {
+pub(crate) fn sector(device: &mut MemDevice, at: u32) -> Result<[u8; 512], Fail> {
     if at >= device.sectors() {
         return Err("a sector of the device".into());
     }
@@ -90,10 +82,10 @@ pub(crate) fn sector<D: Device>(device: &mut D, at: u32) -> Result<[u8; 512], Fa
 }
 
 /// What an opening answers. It tells the prover nothing, so that it has nothing to carry through a test.
-pub(crate) fn opening<D: Device + Drop, A: Allocator + Clone>(
+pub(crate) fn opening<A: Allocator + Clone>(
     alloc: A,
-    device: D,
-) -> Result<Recovered<D, A>, (Refusal, D)> {
+    device: MemDevice,
+) -> Result<Recovered<MemDevice, A>, (Refusal, MemDevice)> {
     match recover(alloc, device) {
         Ok(recovered) => Ok(recovered),
         Err(refused) => Err(refused),
@@ -101,10 +93,7 @@ pub(crate) fn opening<D: Device + Drop, A: Allocator + Clone>(
 }
 
 /// What an opening recovers.
-pub(crate) fn opened<D: Device + Drop, A: Allocator + Clone>(
-    alloc: A,
-    device: D,
-) -> Result<Recovered<D, A>, Fail> {
+pub(crate) fn opened(alloc: Global, device: MemDevice) -> Result<Recovered<MemDevice>, Fail> {
     match opening(alloc, device) {
         Ok(recovered) => Ok(recovered),
         Err((refusal, _)) => Err(refusal.name().into()),
@@ -112,10 +101,7 @@ pub(crate) fn opened<D: Device + Drop, A: Allocator + Clone>(
 }
 
 /// How an opening is refused.
-pub(crate) fn refused<D: Device + Drop, A: Allocator + Clone>(
-    alloc: A,
-    device: D,
-) -> Result<(Refusal, D), Fail> {
+pub(crate) fn refused(alloc: Global, device: MemDevice) -> Result<(Refusal, MemDevice), Fail> {
     match opening(alloc, device) {
         Ok(_) => Err("a refusal".into()),
         Err(refused) => Ok(refused),
@@ -123,11 +109,11 @@ pub(crate) fn refused<D: Device + Drop, A: Allocator + Clone>(
 }
 
 /// What a format answers. It tells the prover nothing.
-pub(crate) fn format_of<D: Device + Drop, A: Allocator + Clone>(
+pub(crate) fn format_of<A: Allocator + Clone>(
     alloc: A,
-    device: D,
+    device: MemDevice,
     log_sectors: u16,
-) -> Result<D, (Refusal, D)> {
+) -> Result<MemDevice, (Refusal, MemDevice)> {
     match format(alloc, device, log_sectors) {
         Ok(device) => Ok(device),
         Err(refused) => Err(refused),
@@ -135,11 +121,7 @@ pub(crate) fn format_of<D: Device + Drop, A: Allocator + Clone>(
 }
 
 /// A device that a format makes a store.
-pub(crate) fn made<D: Device + Drop>(
-    alloc: Global,
-    device: D,
-    log_sectors: u16,
-) -> Result<D, Fail> {
+pub(crate) fn made(alloc: Global, device: MemDevice, log_sectors: u16) -> Result<MemDevice, Fail> {
     match format_of(alloc, device, log_sectors) {
         Ok(device) => Ok(device),
         Err((refusal, _)) => Err(refusal.name().into()),
@@ -171,17 +153,14 @@ pub(crate) fn crash(device: MemDevice, keep: &[bool]) -> MemDevice {
 }
 
 /// The value of a key of one byte, where it is one byte.
-pub(crate) fn value_of<D: Device, A: Allocator>(
-    recovered: &Recovered<D, A>,
-    key: u8,
-) -> Option<u8> {
+pub(crate) fn value_of<A: Allocator>(recovered: &Recovered<MemDevice, A>, key: u8) -> Option<u8> {
     let version = recovered.mem.get(&[key], recovered.count)?;
     version.value?.first().copied()
 }
 
 /// Region, first sector, epoch and first batch of the open log, if one is open and has no batch.
-pub(crate) fn open_log<D: Device, A: Allocator>(
-    recovered: &Recovered<D, A>,
+pub(crate) fn open_log<A: Allocator>(
+    recovered: &Recovered<MemDevice, A>,
 ) -> Option<(u8, u32, u64, u64)> {
     let open = recovered.regions.open_region.as_ref()?;
     if open.log.used() > 0 || open.log.next() != open.log.first() {

@@ -1,10 +1,9 @@
-//! Formats of devices in memory and of a file.
+//! Formats of devices in memory.
 use crate::devices::{SECTORS, crash, format_of, made, put_each, sector, sector_of, sync};
 use linked_list_allocator::LocalHeap;
-use lsm_device::{Device, FileDevice, MemDevice, Refusal};
+use lsm_device::{MemDevice, Refusal};
 use lsm_root::load;
 use std::alloc::Global;
-use std::fs;
 use std::test::Fail;
 
 const ONES: [u8; 512] = [0xff; 512];
@@ -44,7 +43,7 @@ fn is_empty_store(device: &mut MemDevice) -> Result<bool, Fail> {
 }
 
 /// Whether the root that is loaded is that of an empty store.
-fn loads_empty<D: Device>(alloc: Global, device: &mut D) -> Result<bool, Fail> {
+fn loads_empty(alloc: Global, device: &mut MemDevice) -> Result<bool, Fail> {
     let loaded = load(alloc, device)?;
     let manifest = &loaded.manifest;
     Ok(
@@ -117,29 +116,5 @@ fn memory_that_is_refused(rt: HostRuntime) -> Result<(), Fail> {
         }
     }
     assert!(rt; refused > 0 && refused < 31, "{refused}");
-    Ok(())
-}
-
-/// Whether the file loads as an empty store, its superblock is the one above, and a shorter copy is refused.
-fn is_formatted_file(rt: &HostRuntime, path: &str) -> Result<bool, Fail> {
-    let mut device = FileDevice::open(rt, path)?;
-    if sector(&mut device, 1)? != sector_of(SUPERBLOCK)? || !loads_empty(rt.alloc(), &mut device)? {
-        return Ok(false);
-    }
-    drop(device);
-    let bytes = fs::read(rt, path)?;
-    let shorter = bytes.get(..8_191 * 512).ok_or("a whole file")?;
-    fs::write(rt, path, shorter)?;
-    let mut device = FileDevice::open(rt, path)?;
-    Ok(load(rt.alloc(), &mut device).err() == Some(Refusal::BadGeometry))
-}
-
-#[test]
-fn a_formatted_file(rt: HostRuntime) -> Result<(), Fail> {
-    let path = "a_formatted_file.img";
-    let device = FileDevice::create(&rt, path, SECTORS)?;
-    drop(made(rt.alloc(), device, 128)?);
-    assert!(rt; is_formatted_file(&rt, path)?);
-    fs::remove_file(&rt, path)?;
     Ok(())
 }

@@ -1,4 +1,4 @@
-//! Tests of openings on devices in memory and on a file.
+//! Tests of openings on devices in memory. Those of files are runs of the program (`tests/runs.sh`).
 #![tactic(auto)]
 
 #[cfg(test)]
