@@ -29,11 +29,20 @@ fn puts(alloc: Global, count: u8) -> Result<Vec<Entry>, AllocError> {
     Ok(entries)
 }
 
-/// Deletes of so many keys of two bytes.
-fn deletes(alloc: Global, count: u16) -> Result<Vec<Entry>, AllocError> {
+/// The number as a key of three bytes, the highest first.
+fn key_of(number: u32) -> [u8; 3] {
+    [
+        (number / 65_536 % 256) as u8,
+        (number / 256 % 256) as u8,
+        (number % 256) as u8,
+    ]
+}
+
+/// Deletes of so many keys of three bytes.
+fn deletes(alloc: Global, count: u32) -> Result<Vec<Entry>, AllocError> {
     let mut entries = Vec::new(alloc);
     for i in 0..count {
-        if let Some(entry) = entry(alloc, &[(i / 256) as u8, (i % 256) as u8], None)? {
+        if let Some(entry) = entry(alloc, &key_of(i), None)? {
             entries.push(entry)?;
         }
     }
@@ -50,7 +59,49 @@ fn puts_past_the_most_blocks(rt: HostRuntime) -> Result<(), Fail> {
 #[test]
 fn deletes_past_the_most_entries(rt: HostRuntime) -> Result<(), Fail> {
     let images = images_of(rt.alloc(), deletes(rt.alloc(), 3_201)?)?;
-    assert!(rt; have_sizes(&images, &[(11, 3_200), (1, 1)]));
+    assert!(rt; have_sizes(&images, &[(12, 3_200), (1, 1)]));
+    Ok(())
+}
+
+/// The number behind those of the keys in a block, which are deletes and go up from this one; none where they aren't.
+fn next_after_block(block: &[u8; 4_096], from: u32) -> Option<u32> {
+    let mut next = from;
+    for item in Entries::new(block) {
+        match item {
+            Ok(entry) if entry.key == key_of(next).as_slice() && entry.value.is_none() => {
+                next = next.wrapping_add(1);
+            }
+            _ => return None,
+        }
+    }
+    Some(next)
+}
+
+/// The same of a table's data blocks.
+fn next_after_table(image: &Image, from: u32) -> Option<u32> {
+    let mut next = from;
+    for at in 0..image.data_blocks() {
+        if at < image.extent_blocks() {
+            next = next_after_block(&image.block(1, at), next)?;
+        }
+    }
+    Some(next)
+}
+
+/// The same of all tables, from 0 on.
+fn next_after_all(images: &[Image]) -> Option<u32> {
+    let mut next = 0;
+    for image in images {
+        next = next_after_table(image, next)?;
+    }
+    Some(next)
+}
+
+#[test]
+fn many_entries_in_many_tables(rt: HostRuntime) -> Result<(), Fail> {
+    let images = images_of(rt.alloc(), deletes(rt.alloc(), 200_000)?)?;
+    // 62 tables of 3,200 entries, and one of 1,600.
+    assert!(rt; images.len() == 63 && next_after_all(&images) == Some(200_000));
     Ok(())
 }
 
