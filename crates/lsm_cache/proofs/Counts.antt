@@ -1,0 +1,38 @@
+-- How the reads of a block are counted.
+use Rattle.std.proofs.Common.{◌≡◌, ℕ, zero, suc, ap, refl, ◌∙◌, arith}
+use Rattle.lsm_device.specs.declared.calls.Calls.{Calls}
+use Rattle.lsm_device.specs.Calls.{one_more, more, AtMost}
+use Rattle.lsm_cache.specs.Reads.{after_reads, FaultsAmong}
+
+reads_made : (n : ℕ) (c : Calls) → (after_reads n c).reads ≡ more n c.reads
+reads_made zero c = refl
+reads_made (suc n) c = ap one_more (reads_made n c)
+
+writes_made : (n : ℕ) (c : Calls) → (after_reads n c).writes ≡ c.writes
+writes_made zero c = refl
+writes_made (suc n) c = writes_made n c
+
+syncs_made : (n : ℕ) (c : Calls) → (after_reads n c).syncs ≡ c.syncs
+syncs_made zero c = refl
+syncs_made (suc n) c = syncs_made n c
+
+pub faults_made : (n : ℕ) (c : Calls) → (after_reads n c).faults ≡ c.faults
+faults_made zero c = refl
+faults_made (suc n) c = faults_made n c
+
+pub reads_are : (n : ℕ) (old new : Calls) → new ≡ after_reads n old → AtMost n 0 0 old new
+reads_are n old new is = record {
+  read = (n, omega arith, ap (λ (c : Calls). c.reads) is ∙ reads_made n old);
+  written = (0, omega arith, ap (λ (c : Calls). c.writes) is ∙ writes_made n old);
+  synced = (0, omega arith, ap (λ (c : Calls). c.syncs) is ∙ syncs_made n old);
+}
+
+pub fault_is : (n : ℕ) (old new : Calls) → FaultsAmong n old new → AtMost n 0 0 old new
+fault_is n old new f = record {
+  read = (suc f.before, omega (arith, f.fewer), ap (λ (c : Calls). c.reads) f.counted ∙ ap one_more (reads_made f.before old));
+  written = (0, omega arith, ap (λ (c : Calls). c.writes) f.counted ∙ writes_made f.before old);
+  synced = (0, omega arith, ap (λ (c : Calls). c.syncs) f.counted ∙ syncs_made f.before old);
+}
+
+pub one_fault : (n : ℕ) (old new : Calls) → FaultsAmong n old new → new.faults ≡ one_more old.faults
+one_fault n old new f = ap (λ (c : Calls). c.faults) f.counted ∙ ap one_more (faults_made f.before old)

@@ -1,0 +1,4 @@
+pub mod Recent
+pub mod Kept
+pub mod Blocks
+pub mod Counts

@@ -1,0 +1,28 @@
+use Rattle.std.proofs.Common.{◌≡◌, ◌∙◌, length, ap, arith}
+use Rattle.lsm_device.specs.Disk.{seen}
+use Rattle.lsm_device.specs.Medium.{disk}
+use Rattle.lsm_cache.proofs.Blocks.{one_more_read, one_more_sector, all_sectors, length-put_mid_within}
+use Rattle.lsm_cache.proofs.read.read_block.Goals as goal
+
+pub loop-i-preserved : goal.loop-i-preserved
+loop-i-preserved g c =
+    let D = g.D.Device in
+    let inv = c.loop-i.invariant in
+    let e = c.in_ok-read.ensures in
+    let got = c.copy_from_slice.ensures.after in
+    let size : length c.copy_from_slice.new.self ≡ 512 = ap length got ∙ c.read.array_long in
+    record {
+      same_size = e.same_size ∙ inv.same_size;
+      same_lasting = e.same_lasting ∙ inv.same_lasting;
+      unchanged = λ t. e.unchanged (rw inv.same_lasting t) ∙ inv.unchanged t;
+      counted = e.counted ∙ rw inv.counted (one_more_read c.loop-i.i _);
+      whole = length-put_mid_within c.loop-i.i c.loop-i.out c.copy_from_slice.new.self _ (omega arith) c.loop-i-test.true inv.whole size;
+      given = λ t. one_more_sector (seen (disk (D.medium c.args.device.now))) c.args.sector c.loop-i.i c.loop-i.out c.copy_from_slice.new.self _
+          c.loop-i-test.true inv.whole size (rw (got, ← inv.unchanged t) (e.bytes (rw inv.same_lasting t))) (inv.given t);
+    }
+
+pub returns-clause-given : goal.returns-clause-given
+returns-clause-given g c = λ t.
+    let D = g.D.Device in
+    let inv = c.loop-i.invariant in
+    all_sectors (seen (disk (D.medium c.args.device.now))) c.args.sector c.loop-i.i c.loop-i.out c.loop-i-test.false c.loop-i.auto.i-end inv.whole (inv.given t)

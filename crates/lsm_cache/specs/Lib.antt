@@ -1,0 +1,3 @@
+pub mod Recency
+pub mod Reads
+pub mod Fresh

@@ -1,0 +1,43 @@
+-- Which blocks a cache keeps, the last one asked for first.
+use Rattle.std.specs.Prelude.{◌≡◌, ◌⊎◌, ℕ, ◌+◌, ◌%◌, ◌^◌, Bool, not, is_some, ◌&&◌, ◌==◌, List, ◌∷◌, filter, take, Option, None, if◌then◌else◌}
+use Rattle.std.specs.Map.{lookup}
+use Rattle.std.specs.declared.boxed.Box.{Box}
+use Rattle.lsm_cache.specs.declared.name.BlockName.{BlockName}
+
+-- The blocks with their bytes, how many there may be, and how often memory for one was refused.
+pub record Cached : Type 0 where
+  pub blocks : List (BlockName × List ℕ)
+  pub capacity : ℕ
+  pub refusals : ℕ
+
+-- the block at a place in a table
+abbrev pub named_block : ℕ → ℕ → BlockName
+named_block table block = record { table = table; block = block }
+
+-- whether two names are those of one block
+abbrev pub is_same_block : BlockName → BlockName → Bool
+is_same_block a b = (a.table == b.table) && (a.block == b.block)
+
+-- the bytes of a block, if it is kept
+abbrev pub bytes_of : BlockName → Cached → Option (List ℕ)
+bytes_of name c = lookup (is_same_block name) c.blocks
+
+-- how many sectors are read for a block
+abbrev pub sectors_read : BlockName → Cached → ℕ
+sectors_read name c = if is_some (bytes_of name c) then 0 else 8
+
+-- the block goes to the front, and the last one falls off where there are too many
+abbrev pub asked : BlockName → List ℕ → Cached → Cached
+asked name bytes c = record c { blocks = take c.capacity ((name, bytes) ∷ filter (λ b. not (is_same_block name b.0)) c.blocks) }
+
+-- memory for a block was refused. The number wraps
+abbrev pub refused : Cached → Cached
+refused c = record c { refusals = (c.refusals + 1) % 2 ^ 64 }
+
+-- a block was asked for: it is the first of those kept, or it was not kept, and memory for it was refused
+abbrev pub IsAsked : BlockName → List ℕ → Cached → Cached → Type 0
+IsAsked name bytes old new = (new ≡ asked name bytes old) ⊎ ((bytes_of name old ≡ None) × (new ≡ refused old))
+
+-- a block as a clause sees it, without the box round its bytes
+abbrev pub named_bytes : {A : Type 0} → BlockName × Box (List ℕ) A → BlockName × List ℕ
+named_bytes e = (e.0, e.1.value)

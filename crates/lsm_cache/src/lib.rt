@@ -1,0 +1,9 @@
+//! A cache of the blocks of tables: those that were asked for last, with their bytes.
+#![tactic(auto)]
+
+mod cache;
+mod name;
+mod read;
+
+pub use cache::Cache;
+pub use name::BlockName;
