@@ -1,17 +1,12 @@
 -- A block that is read sector by sector.
-use Rattle.std.proofs.Common.{◌≡◌, ℕ, ◌+◌, ◌-◌, ◌*◌, ◌<◌, ◌≤◌, true, List, [], ◌∷◌, ◌++◌, take, drop, length, length-append, get_or, Some, sym, ap, ◌∙◌, arith, add-one, append-nil}
+use Rattle.std.proofs.Common.{◌≡◌, ℕ, ◌+◌, ◌-◌, ◌*◌, ◌<◌, ◌≤◌, List, [], ◌∷◌, ◌++◌, take, drop, length, length-append, get_or, Some, sym, ap, ◌∙◌, arith, append-nil}
 use Rattle.std.specs.List.{concat, slice_get}
 use Rattle.std.proofs.lemmas.List.Folds.{concat-append}
 use Rattle.std.proofs.lemmas.Slice.{take-put_mid}
 use Rattle.std.proofs.lemmas.Option.{slice_get_within, get_or_from_slice_get}
 use Rattle.std.proofs.lemmas.List.{take_all, take_more, length-take-le, get_or-drop, length-drop}
 use borrow.Rule.Slice.PartMut.{put_mid}
-use Rattle.lsm_device.specs.declared.calls.Calls.{Calls}
-use Rattle.lsm_device.specs.Calls.{after_read}
-use Rattle.lsm_cache.specs.Reads.{block_at, after_reads}
-
-pub one_more_read : (n : ℕ) (c : Calls) → after_read true (after_reads n c) ≡ after_reads (n + 1) c
-one_more_read n c = ap (λ (k : ℕ). after_reads k c) (sym (add-one n))
+use Rattle.lsm_cache.specs.Reads.{block_at}
 
 take_one_more : (sectors : List (List ℕ)) (at i : ℕ) (bytes : List ℕ) → slice_get sectors (at + i) ≡ Some bytes → take (i + 1) (drop at sectors) ≡ take i (drop at sectors) ++ bytes ∷ []
 take_one_more sectors at i bytes is =

@@ -1,8 +1,18 @@
 -- How the reads of a block are counted.
-use Rattle.std.proofs.Common.{◌≡◌, ℕ, zero, suc, ap, refl, ◌∙◌, arith}
+use Rattle.std.proofs.Common.{◌≡◌, ◌+◌, ◌≤◌, ℕ, zero, suc, true, ap, refl, sym, ◌∙◌, arith, add-one}
 use Rattle.lsm_device.specs.declared.calls.Calls.{Calls}
-use Rattle.lsm_device.specs.Calls.{one_more, more, AtMost}
+use Rattle.lsm_device.specs.Calls.{one_more, more, after_read, AtMost}
 use Rattle.lsm_cache.specs.Reads.{after_reads, FaultsAmong}
+
+-- one more read that answered Ok
+pub one_more_read : (n : ℕ) (old mid new : Calls) → new ≡ after_read true mid → mid ≡ after_reads n old → new ≡ after_reads (n + 1) old
+one_more_read n old mid new next so_far = next ∙ ap (after_read true) so_far ∙ ap (λ (k : ℕ). after_reads k old) (sym (add-one n))
+
+-- all reads of a block
+pub all_reads : (i : ℕ) (old new : Calls) → 8 ≤ i → i ≤ 8 → new ≡ after_reads i old → new ≡ after_reads 8 old
+all_reads i old new low high so_far =
+    let eight : i ≡ 8 = omega arith in
+    so_far ∙ ap (λ (k : ℕ). after_reads k old) eight
 
 reads_made : (n : ℕ) (c : Calls) → (after_reads n c).reads ≡ more n c.reads
 reads_made zero c = refl

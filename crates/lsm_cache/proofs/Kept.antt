@@ -1,5 +1,5 @@
 -- What holds of each block that is kept goes on to hold when one is asked for.
-use Rattle.std.proofs.Common.{◌≡◌, ◌<◌, ◌⊎◌, inl, inr, ⊎_elim, ℕ, true, false, not, List, [], ◌∷◌, ap, Option, Some, None, IfSome, All, refl, sym, subst}
+use Rattle.std.proofs.Common.{◌≡◌, ◌<◌, ◌⊎◌, inl, inr, ⊎_elim, ℕ, true, false, not, List, [], ◌∷◌, ap, Option, Some, None, IfSome, All, refl, sym, ◌∙◌, subst}
 use Rattle.std.specs.Map.{lookup}
 use Rattle.std.proofs.lemmas.List.Elements.{All-take, All-cons, All-head, All-tail, All-filter}
 use Rattle.lsm_cache.specs.declared.name.BlockName.{BlockName}
@@ -59,3 +59,7 @@ asked_capacity name out c new after = ⊎_elim
     (λ (is : new ≡ asked name out c). ap (λ (k : Cached). k.capacity) is)
     (λ (is : (bytes_of name c ≡ None) × (new ≡ refused c)). ap (λ (k : Cached). k.capacity) is.1)
     after
+
+-- a block that is kept is not absent
+pub kept_not_absent : {P : Type 0} (o : Option (List ℕ)) (bytes : List ℕ) → o ≡ Some bytes → o ≡ None → P
+kept_not_absent o bytes is none = let no : Some bytes ≡ None = sym is ∙ none in cc

@@ -13,6 +13,12 @@ returns-in-Some-clause-keeps g c =
     rw (c.get-2.follows.holds-at-none, ← c.self.view_is)
     (found_asked _ (λ a b. refl) c.args.name kept.blocks kept.refusals c.in-Some.bytes.now c.deref.result.now c.deref.ensures c.len.ensures.valid c.in-Some.ensures.value)
 
+pub returns-in-Some-clause-absent : goal.returns-in-Some-clause-absent
+returns-in-Some-clause-absent g c = tt
+
+pub returns-in-Some-clause-stays : goal.returns-in-Some-clause-stays
+returns-in-Some-clause-stays g c = tt
+
 pub returns-clause-absent : goal.returns-clause-absent
 returns-clause-absent g c =
     let kept = c.self.inside in
