@@ -1,0 +1,13 @@
+//! Tests of the cache.
+#![tactic(auto)]
+
+#[cfg(test)]
+mod blocks;
+#[cfg(test)]
+mod faults;
+#[cfg(test)]
+mod growth;
+#[cfg(test)]
+mod reads;
+#[cfg(test)]
+mod runs;
