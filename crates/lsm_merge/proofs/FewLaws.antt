@@ -1,15 +1,14 @@
 -- Of a key no more versions are kept than there are cuts.
-use Rattle.std.proofs.Common.{◌≡◌, ℕ, zero, suc, ◌+◌, ◌<◌, ◌≤◌, Bool, true, false, cond, not, ◌&&◌, ◌||◌, ◌==◌, List, [], ◌∷◌, length, filter, Option, Some, None, refl, ap, sym, subst, ◌∙◌, arith}
+use Rattle.std.proofs.Common.{◌≡◌, ℕ, ◌+◌, ◌<◌, ◌≤◌, Bool, true, false, cond, not, ◌||◌, ◌==◌, List, [], ◌∷◌, length, filter, Option, Some, None, refl, ap, sym, ◌∙◌, arith}
 use Rattle.std.specs.Prelude.{count_by}
-use Rattle.std.specs.List.{list_any}
 use Rattle.std.proofs.lemmas.Bool.{eqb-true, ne_eqb}
 use Rattle.std.proofs.lemmas.List.Sums.{sum_by-cons}
 use Rattle.lsm_table.specs.Division.{IsInput}
 use Rattle.lsm_codec.specs.Keys.{Bytes}
-use Rattle.lsm_codec.specs.Versions.{Version, is_same_key, entry_order, newest}
+use Rattle.lsm_codec.specs.Versions.{Version, is_same_key, newest}
 use Rattle.lsm_mem.specs.Ranges.{is_version}
 use Rattle.lsm_codec.proofs.KeyOrder.{same_key}
-use Rattle.lsm_merge.specs.Keeping.{in_order, is_newest_at_a_cut, deletes_nothing, kept_at, settled, keep}
+use Rattle.lsm_merge.specs.Keeping.{in_order, is_newest_at_a_cut, deletes_nothing, kept_at, keep}
 use Rattle.lsm_merge.proofs.OrderTests.{is_in_order, in_order_cons}
 use Rattle.lsm_merge.specs.Inputs.{MergeInput, IsCuts, joined, kept_of}
 use Rattle.lsm_merge.proofs.Orders.{older_number}

@@ -111,3 +111,7 @@ pub joined_more : (borders : List Bytes) (versions : List Version) (i n : ℕ) (
 joined_more borders versions i n before part after h k l next so is all =
     all ∙ ap (λ (xs : List Version). xs ++ part) so ∙ ap (λ (xs : List Version). covered borders versions i ++ xs) is
     ∙ covered_more borders versions i h k l ∙ ap (covered borders versions) (sym (add-one i) ∙ sym next)
+
+-- all parts
+pub joined_all : (borders : List Bytes) (versions : List Version) (n : ℕ) (all : List Version) → n ≡ length borders + 1 → all ≡ covered borders versions n → all ≡ versions
+joined_all borders versions n all whole so = so ∙ ap (covered borders versions) (whole ∙ add-one (length borders)) ∙ covered_all borders versions

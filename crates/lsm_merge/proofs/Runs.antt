@@ -1,13 +1,7 @@
 -- Runs, one or many.
-use Rattle.std.proofs.Common.{◌≡◌, ℕ, zero, suc, ◌<◌, ◌≤◌, Bool, true, ◌&&◌, List, [], ◌∷◌, length, get_or, take, drop, map, refl, ap, sym, subst, ◌∙◌, arith}
-use Rattle.std.proofs.lemmas.Bool.{and_from}
-use Rattle.std.specs.List.{AllByRecursion}
-use Rattle.std.specs.declared.cmp.Ordering.TheVariants.{Less}
+use Rattle.std.proofs.Common.{◌≡◌, ℕ, zero, suc, ◌<◌, ◌≤◌, List, [], ◌∷◌, length, get_or, take, drop, refl, ap, sym, arith}
 use Rattle.std.specs.declared.vec.Vec.{Vec}
-use Rattle.std.specs.Ordering.{is_lt}
-use Rattle.lsm_codec.specs.Versions.{Version, AreOrdered, entry_order}
-use Rattle.lsm_codec.proofs.KeyOrder.{is_lt_Less}
-use Rattle.lsm_merge.proofs.OrderTests.{is_before, is_in_order, in_order_cons, before_both}
+use Rattle.lsm_codec.specs.Versions.{Version, AreOrdered}
 use Rattle.lsm_merge.specs.Inputs.{AreRuns, items_of}
 
 front_of : (n : ℕ) (runs : List (List Version)) → AreRuns runs → AreRuns (take n runs)

@@ -1,10 +1,10 @@
-use Rattle.std.proofs.Common.{◌≡◌, ◌<◌, List, [], ◌∷◌, ◌++◌, length, get_or, length-append, append_assoc, append-nil, add-one, Ok, IfOk, refl, ap, sym, subst, ◌∙◌, arith}
+use Rattle.std.proofs.Common.{◌≡◌, ◌<◌, List, [], ◌∷◌, ◌++◌, length, get_or, length-append, append_assoc, append-nil, Ok, IfOk, refl, ap, sym, subst, ◌∙◌, arith}
 use Rattle.std.specs.Vec.Iter.{into_iter_items}
 use Rattle.std.proofs.lemmas.List.{nil_from_length}
 use Rattle.lsm_merge.specs.Inputs.{kept_of}
 use Rattle.lsm_merge.specs.Parts.{part_of}
 use Rattle.lsm_merge.proofs.RangeLaws.{is_in_order-keep}
-use Rattle.lsm_merge.proofs.PartLaws.{covered, joined_more, covered_all}
+use Rattle.lsm_merge.proofs.PartLaws.{joined_more, joined_all}
 use Rattle.lsm_merge.specs.Inputs.{joined}
 use Rattle.lsm_merge.proofs.building.joined.Goals as goal
 
@@ -41,6 +41,4 @@ returns g c =
     let none = c.in-None.ensures.steps in
     let empty : into_iter_items at.part-iterator ≡ [] = nil_from_length _ (sym at.invariant.len ∙ none.0) in
     let all : at.yielded ≡ c.args.parts.items = sym (append-nil at.yielded) ∙ rw empty at at.invariant.split in
-    at.invariant.so_far
-    ∙ ap (covered c.args.borders.now (kept_of c.args.input.now)) (ap length all ∙ c.requires.len ∙ add-one (length c.args.borders.now))
-    ∙ covered_all c.args.borders.now (kept_of c.args.input.now)
+    joined_all c.args.borders.now (kept_of c.args.input.now) (length at.yielded) at.all.items (ap length all ∙ c.requires.len) at.invariant.so_far

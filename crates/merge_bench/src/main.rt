@@ -1,0 +1,73 @@
+//! How many entries a second a merge takes.
+#![tactic(auto)]
+
+use lsm_codec::Entry;
+use lsm_device::Refusal;
+use lsm_merge::{Input, build};
+use merge_tests::input::{entry, input_of};
+use std::alloc::Global;
+use std::sync::Arc;
+use std::thread::Threads;
+use std::time::Instant;
+
+/// How many entries a run has.
+const ENTRIES: u32 = 50_000;
+
+/// The key of a number.
+fn key_of(n: u32) -> [u8; 8] {
+    let [a, b, c, d] = n.to_be_bytes();
+    [b'k', b'e', b'y', b':', a, b, c, d]
+}
+
+/// A run of puts of 100 bytes: every second key, from the first or the second on.
+fn run_of(alloc: Global, number: u64, first: u32) -> Result<Vec<Entry>, Refusal> {
+    let mut run = Vec::new(alloc);
+    for n in 0..ENTRIES {
+        let key = key_of(n.wrapping_mul(2).wrapping_add(first));
+        if let Some(entry) = entry(alloc, &key, number, Some(&[7; 100]))? {
+            run.push(entry)?;
+        }
+    }
+    Ok(run)
+}
+
+/// Four runs, in two of which every second key stands.
+fn input(alloc: Global) -> Result<Input, Refusal> {
+    let mut runs = Vec::new(alloc);
+    for (number, first) in [(4, 0), (3, 1), (2, 0), (1, 1)] {
+        runs.push(run_of(alloc, number, first)?)?;
+    }
+    let cuts = Vec::from_slice(alloc, &[4])?;
+    input_of(runs, cuts, true).ok_or(Refusal::BadTable)
+}
+
+/// The number of images of a merge in so many parts.
+fn merged<R: Threads + Sync>(
+    rt: &R,
+    alloc: Global,
+    input: &Arc<Input, Global>,
+    parts: u8,
+) -> Result<usize, Refusal> {
+    let built = build(rt, alloc, input.clone()?, parts)?;
+    Ok(built.images().len())
+}
+
+fn main(rt: HostRuntime) -> anyhow::Result<()> {
+    let Ok(input) = input(rt.alloc()) else {
+        println!(rt; "refused")?;
+        return Ok(());
+    };
+    let input = Arc::new(rt.alloc(), input)?;
+    for parts in [1, 2, 4] {
+        let start = Instant::now(&rt)?;
+        let Ok(images) = merged(&rt, rt.alloc(), &input, parts) else {
+            println!(rt; "refused")?;
+            return Ok(());
+        };
+        let time = start.elapsed(&rt)?.as_millis().max(1);
+        let rate = 200_000_000 / time;
+        eprintln!(rt; "parts {parts}: {rate} entries a second, {images} images")?;
+    }
+    println!(rt; "ok")?;
+    Ok(())
+}
