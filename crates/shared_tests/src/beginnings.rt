@@ -2,92 +2,63 @@
 
 use crate::setup::{prepared, small};
 use crate::turns::{Ask, Told, Turn, play};
-use lsm_device::{MemDevice, Refusal};
+use lsm_device::Refusal;
 use lsm_shared::prepare;
-use lsm_store::Store;
 use std::alloc::Global;
 use std::test::Fail;
 
-// Why no session of a store begins, and the store as it comes back.
-fn refusal_of(
-    alloc: Global,
-    store: Store<MemDevice>,
-    clients: u32,
-    trail: u32,
-) -> Option<(Refusal, Store<MemDevice>)> {
-    match prepare(alloc, store, clients, trail) {
-        Ok(_) => None,
-        Err(refused) => Some(refused),
+// How no session of a small store begins, if none does. The store comes back as it was, also of an opened session.
+fn refusal_of(alloc: Global, clients: u32, trail: u32) -> Result<Option<Refusal>, Fail> {
+    let (store, refusal) = match prepare(alloc, small(alloc)?, clients, trail) {
+        Ok(opened) if opened.clients() != clients || opened.limit() != trail => {
+            return Err(Fail::from("another session"));
+        }
+        Ok(opened) => (opened.into_store(), None),
+        Err((refusal, store)) => (store, Some(refusal)),
+    };
+    if store.log_room() == Ok(128) {
+        return Ok(refusal);
     }
-}
-
-// Whether no session of a small store begins for this reason, and the store comes back as it was.
-fn is_refused(alloc: Global, clients: u32, trail: u32, wanted: Refusal) -> Result<bool, Fail> {
-    Ok(match refusal_of(alloc, small(alloc)?, clients, trail) {
-        Some((refusal, store)) => refusal == wanted && store.log_room() == Ok(128),
-        None => false,
-    })
-}
-
-// Whether a session of a small store begins with so many clients and places.
-fn is_begun(alloc: Global, clients: u32, trail: u32) -> Result<bool, Fail> {
-    let opened = prepared(alloc, small(alloc)?, clients, trail)?;
-    Ok(opened.clients() == clients && opened.limit() == trail)
+    Err(Fail::from("another store"))
 }
 
 #[test]
-fn a_session_has_1_to_64_clients(rt: HostRuntime) -> Result<(), Fail> {
-    for clients in [0, 65] {
-        assert!(rt; is_refused(rt.alloc(), clients, 1, Refusal::TooManyClients)?);
-    }
-    for clients in [1, 64] {
-        assert!(rt; is_begun(rt.alloc(), clients, 1)?);
+fn a_session_has_1_to_64_clients_and_1_to_65536_places(rt: HostRuntime) -> Result<(), Fail> {
+    let clients = Some(Refusal::TooManyClients);
+    for (count, trail, wanted) in [
+        (0, 1, clients),
+        (65, 1, clients),
+        (0, 0, clients),
+        (1, 0, Some(Refusal::BadLimit)),
+        (1, 65_537, Some(Refusal::BadLimit)),
+        (1, 1, None),
+        (64, 1, None),
+        (1, 65_536, None),
+    ] {
+        assert!(rt;
+            refusal_of(rt.alloc(), count, trail)? == wanted,
+            "{count} {trail}"
+        );
     }
     Ok(())
 }
 
-#[test]
-fn a_trail_has_1_to_65536_places(rt: HostRuntime) -> Result<(), Fail> {
-    for trail in [0, 65_537] {
-        assert!(rt; is_refused(rt.alloc(), 1, trail, Refusal::BadLimit)?);
-    }
-    for trail in [1, 65_536] {
-        assert!(rt; is_begun(rt.alloc(), 1, trail)?);
-    }
-    Ok(())
-}
-
-// A small store whose sync failed.
-fn stopped(alloc: Global) -> Result<Store<MemDevice>, Fail> {
+// Whether no session of a store begins whose sync fails, and the store comes back stopped.
+fn is_refused_by_a_stopped_store(alloc: Global) -> Result<bool, Fail> {
     let mut store = small(alloc)?;
     store.fuse(0);
-    match store.sync() {
-        Err(Refusal::Io) => Ok(store),
-        _ => Err(Fail::from("the sync is no fault")),
-    }
-}
-
-// Whether no session of a stopped store begins, and the store comes back stopped.
-fn is_refused_by_a_stopped_store(alloc: Global) -> Result<bool, Fail> {
-    Ok(match refusal_of(alloc, stopped(alloc)?, 0, 0) {
-        Some((refusal, store)) => {
-            refusal == Refusal::Stopped && store.log_room() == Err(Refusal::Stopped)
+    let synced = store.sync();
+    Ok(match prepare(alloc, store, 0, 0) {
+        Err((Refusal::Stopped, store)) => {
+            synced == Err(Refusal::Io) && store.log_room() == Err(Refusal::Stopped)
         }
-        None => false,
+        _ => false,
     })
 }
 
 #[test]
-fn refusals_come_in_order(rt: HostRuntime) -> Result<(), Fail> {
-    assert!(rt; is_refused(rt.alloc(), 0, 0, Refusal::TooManyClients)?);
+fn a_stopped_store_refuses_before_all_else(rt: HostRuntime) -> Result<(), Fail> {
     assert!(rt; is_refused_by_a_stopped_store(rt.alloc())?);
-    Ok(())
-}
-
-#[test]
-fn an_opened_session_gives_its_store_back(rt: HostRuntime) -> Result<(), Fail> {
-    let store = prepared(rt.alloc(), small(rt.alloc())?, 1, 1)?.into_store();
-    assert!(rt; store.log_room() == Ok(128));
     Ok(())
 }
 

@@ -35,8 +35,9 @@ const BY_TURNS: &[Turn<'static>] = &[
 
 // Whether the entries of a trail are of these clients.
 fn is_of(trail: &Trail, callers: &[u32]) -> bool {
-    let mut all = trail.len() == callers.len();
-    for (entry, caller) in trail.entries().iter().zip(callers) {
+    let entries = trail.entries();
+    let mut all = trail.len() == callers.len() && entries.len() == callers.len();
+    for (entry, caller) in entries.iter().zip(callers) {
         all = all && entry.client() == *caller;
     }
     all
