@@ -1,5 +1,7 @@
 //! Division, places, and what is read back.
 
+ghost use Rattle.std.specs.Prelude.{◌≤◌};
+
 use crate::input::{entry, images_of, images_of_puts};
 use hex::decode_to_slice;
 use linked_list_allocator::LocalHeap;
@@ -38,11 +40,13 @@ fn key_of(number: u32) -> [u8; 3] {
     ]
 }
 
-/// Deletes of so many keys of three bytes.
-fn deletes(alloc: Global, count: u32) -> Result<Vec<Entry>, AllocError> {
+/// Deletes of so many keys of three bytes, or of two where the first of each is left out.
+fn deletes(alloc: Global, left_out: usize, count: u32) -> Result<Vec<Entry>, AllocError>
+    requires { left_out ≤ 1 }
+{
     let mut entries = Vec::new(alloc);
     for i in 0..count {
-        if let Some(entry) = entry(alloc, &key_of(i), None)? {
+        if let Some(entry) = entry(alloc, &key_of(i)[left_out..], None)? {
             entries.push(entry)?;
         }
     }
@@ -58,8 +62,8 @@ fn puts_past_the_most_blocks(rt: HostRuntime) -> Result<(), Fail> {
 
 #[test]
 fn deletes_past_the_most_entries(rt: HostRuntime) -> Result<(), Fail> {
-    let images = images_of(rt.alloc(), deletes(rt.alloc(), 3_201)?)?;
-    assert!(rt; have_sizes(&images, &[(12, 3_200), (1, 1)]));
+    let images = images_of(rt.alloc(), deletes(rt.alloc(), 1, 3_201)?)?;
+    assert!(rt; have_sizes(&images, &[(11, 3_200), (1, 1)]));
     Ok(())
 }
 
@@ -99,7 +103,7 @@ fn next_after_all(images: &[Image]) -> Option<u32> {
 
 #[test]
 fn many_entries_in_many_tables(rt: HostRuntime) -> Result<(), Fail> {
-    let images = images_of(rt.alloc(), deletes(rt.alloc(), 200_000)?)?;
+    let images = images_of(rt.alloc(), deletes(rt.alloc(), 0, 200_000)?)?;
     // 62 tables of 3,200 entries, and one of 1,600.
     assert!(rt; images.len() == 63 && next_after_all(&images) == Some(200_000));
     Ok(())
