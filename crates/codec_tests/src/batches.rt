@@ -13,23 +13,11 @@ fn are(operations: &[Op], wanted: &[(&[u8], Option<&[u8]>)]) -> bool {
         return false;
     }
     for (operation, (key, value)) in operations.iter().zip(wanted) {
-        if !is_change(operation, key, *value) {
+        if operation.key() != *key || operation.value() != *value {
             return false;
         }
     }
     true
-}
-
-/// Whether the operation puts this value under the key, or deletes the key where there is none.
-fn is_change(operation: &Op, key: &[u8], value: Option<&[u8]>) -> bool {
-    if operation.key() != key {
-        return false;
-    }
-    match (operation.value(), value) {
-        (Some(found), Some(wanted)) => found == wanted,
-        (None, None) => true,
-        _ => false,
-    }
 }
 
 /// Whether a batch has this text, and reads back from it with these operations.
@@ -310,19 +298,13 @@ fn values_of_2_048_bytes_and_of_2_049(rt: HostRuntime) -> Result<(), Fail> {
     Ok(())
 }
 
-/// Puts until there are seven operations, or the refusal that comes before. A put that is refused has to leave the batch,
-/// or this is refused otherwise.
-fn fill(batch: &mut Batch<&LocalHeap>) -> Result<(), Refusal> {
-    for _ in 0..6 {
-        let before = batch.operations().len();
-        if let Err(refusal) = batch.put(b"b", &[2; 40]) {
-            if batch.operations().len() != before {
-                return Err(Refusal::WrongState);
-            }
-            return Err(refusal);
-        }
+/// Puts an operation more. A put that is refused has to leave the batch, or this is refused otherwise.
+fn put_one(batch: &mut Batch<&LocalHeap>) -> Result<(), Refusal> {
+    let before = batch.operations().len();
+    match batch.put(b"b", &[2; 40]) {
+        Err(_) if batch.operations().len() != before => Err(Refusal::WrongState),
+        answer => answer,
     }
-    Ok(())
 }
 
 /// Spells a batch and reads it back, with the memory of a heap.
@@ -337,7 +319,9 @@ fn read_back<'h>(heap: &'h LocalHeap, batch: &Batch<&'h LocalHeap>) -> Result<us
 /// A batch of seven puts, or what refuses it.
 fn seven_puts<'h>(heap: &'h LocalHeap) -> Result<Batch<&'h LocalHeap>, Refusal> {
     let mut batch = Batch::new(heap, Op::put(heap, b"a", &[1; 40])?)?;
-    fill(&mut batch)?;
+    for _ in 0..6 {
+        put_one(&mut batch)?;
+    }
     Ok(batch)
 }
 

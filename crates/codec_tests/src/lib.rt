@@ -12,4 +12,6 @@ mod sectors;
 #[cfg(test)]
 mod tables;
 #[cfg(test)]
+mod texts;
+#[cfg(test)]
 mod words;

@@ -1,7 +1,6 @@
 //! Manifests with tables.
 
-use crate::manifests::{is_limited, sectors_of};
-use crate::sectors::is_sector;
+use crate::manifests::{is_limited, is_spelled, sectors_of};
 use lsm_codec::{LogRecord, Manifest, TableRecord};
 use lsm_device::Refusal;
 use std::alloc::Global;
@@ -36,24 +35,10 @@ fn manifest(alloc: Global, next_table: u64, runs: u8, rows: &[Row]) -> Result<Ma
 const ONE_TABLE: &str = "4c534d4d000000000000000400000000000000010000000000000002\
 00010001000000000000000100000000000001010001";
 
-/// Whether the sectors are read as a manifest of one run with the one table.
-fn is_read_as(alloc: Global, sectors: &[u8], table: &TableRecord) -> Result<bool, Refusal> {
-    let Some(again) = Manifest::decode(alloc, sectors)? else {
-        return Ok(false);
-    };
-    Ok(again.runs() == 1 && again.next_table() == 2 && again.tables() == [*table].as_slice())
-}
-
-/// Whether a manifest with the one table is spelled so, and read back.
-fn is_spelled(alloc: Global, row: &Row, text: &str) -> Result<bool, Refusal> {
-    let manifest = manifest(alloc, 2, 1, &[*row])?;
-    let sectors = sectors_of(alloc, &manifest)?;
-    Ok(is_sector(&sectors, text) && is_read_as(alloc, &sectors, &record(row))?)
-}
-
 #[test]
 fn a_manifest_with_a_table(rt: HostRuntime) -> Result<(), Fail> {
-    assert!(rt; is_spelled(rt.alloc(), &(1, 0, 0, 0, 1, 1, 1), ONE_TABLE)?);
+    let manifest = manifest(rt.alloc(), 2, 1, &[(1, 0, 0, 0, 1, 1, 1)])?;
+    assert!(rt; is_spelled(rt.alloc(), &manifest, ONE_TABLE)?);
     Ok(())
 }
 
@@ -168,18 +153,9 @@ fn the_most_runs_and_tables(rt: HostRuntime) -> Result<(), Fail> {
     Ok(())
 }
 
-/// Whether the manifest is not within the limits, and not read from its sectors.
-fn is_unread(alloc: Global, manifest: &Manifest) -> Result<bool, Refusal> {
-    if manifest.logs().len() > 255 || manifest.tables().len() > 65_535 {
-        return Err(Refusal::BadLimit);
-    }
-    let sectors = manifest.encode(alloc)?;
-    Ok(!manifest.is_within_limits() && Manifest::decode(alloc, &sectors)?.is_none())
-}
-
 #[test]
 fn a_table_too_many(rt: HostRuntime) -> Result<(), Fail> {
     let manifest = many(rt.alloc(), 1_025, 1)?;
-    assert!(rt; is_unread(rt.alloc(), &manifest)?);
+    assert!(rt; is_limited(rt.alloc(), &manifest, false)?);
     Ok(())
 }

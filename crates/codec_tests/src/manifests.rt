@@ -1,6 +1,6 @@
 //! Manifests.
 
-use crate::sectors::is_sector;
+use crate::texts::are;
 use linked_list_allocator::LocalHeap;
 use lsm_codec::{LogRecord, Manifest};
 use lsm_device::Refusal;
@@ -30,13 +30,13 @@ fn manifest(alloc: Global, generation: u64, base: u64, logs: &[Row]) -> Result<M
     Ok(Manifest::new(generation, base, 1, 0, logs, Vec::new(alloc)))
 }
 
-/// The sectors of a manifest with few records, or none where they aren't whole.
+/// The sectors of a manifest, or a refusal where it has too many records, or they aren't whole.
 pub fn sectors_of(alloc: Global, manifest: &Manifest) -> Result<Vec<u8>, Refusal> {
-    if manifest.logs().len() > 255 || manifest.tables().len() > 1_024 {
+    if manifest.logs().len() > 255 || manifest.tables().len() > 65_535 {
         return Err(Refusal::BadLimit);
     }
     let sectors = manifest.encode(alloc)?;
-    if sectors.len() != 512 * manifest.sectors() as usize {
+    if manifest.tables().len() <= 1_024 && sectors.len() != 512 * manifest.sectors() as usize {
         return Err(Refusal::BadLimit);
     }
     Ok(sectors)
@@ -52,51 +52,45 @@ const FORMATTED: &str = "4c534d4d00000000000000010000000000000000000000000000000
 const OPENED: &str = "4c534d4d000000000000000200000000000000000000000000000001\
 010000000000000000000000020000000000000001";
 
-/// Whether the sectors are read as the manifest with these numbers and log records.
-fn is_read_as(
-    alloc: Global,
-    sectors: &[u8],
-    generation: u64,
-    logs: &[Row],
-) -> Result<bool, Refusal> {
-    let wanted = records(alloc, logs)?;
-    let Some(again) = Manifest::decode(alloc, sectors)? else {
-        return Ok(false);
-    };
-    Ok(has(&again, generation, &wanted))
-}
-
-/// Whether the manifest has this generation and these log records, no table, and table number 1 to come.
-fn has(manifest: &Manifest, generation: u64, logs: &[LogRecord]) -> bool {
-    manifest.generation() == generation
-        && manifest.base() == 0
-        && manifest.next_table() == 1
-        && manifest.logs() == logs
-        && manifest.runs() == 0
-        && manifest.tables().is_empty()
-}
-
-/// Whether the manifest is spelled so, and read back.
-fn is_spelled(alloc: Global, generation: u64, logs: &[Row], text: &str) -> Result<bool, Refusal> {
-    let manifest = manifest(alloc, generation, 0, logs)?;
-    let sectors = sectors_of(alloc, &manifest)?;
-    Ok(is_sector(&sectors, text) && is_read_as(alloc, &sectors, generation, logs)?)
-}
-
-#[test]
-fn manifests_of_a_format_and_an_open(rt: HostRuntime) -> Result<(), Fail> {
-    assert!(rt; is_spelled(rt.alloc(), 1, &[], FORMATTED)?);
-    assert!(rt; is_spelled(rt.alloc(), 2, &[(0, 2, 1)], OPENED)?);
-    Ok(())
+/// Whether two manifests are the same.
+fn is_same(a: &Manifest, b: &Manifest) -> bool {
+    a.generation() == b.generation()
+        && a.base() == b.base()
+        && a.next_table() == b.next_table()
+        && a.runs() == b.runs()
+        && a.logs() == b.logs()
+        && a.tables() == b.tables()
 }
 
 /// Whether the manifest is within the limits, as `fits` says, and just then read back from its sectors.
 pub fn is_limited(alloc: Global, manifest: &Manifest, fits: bool) -> Result<bool, Refusal> {
     let sectors = sectors_of(alloc, manifest)?;
-    Ok(manifest.is_within_limits() == fits && is_read(alloc, &sectors)? == fits)
+    match Manifest::decode(alloc, &sectors)? {
+        Some(again) => Ok(fits && manifest.is_within_limits() && is_same(&again, manifest)),
+        None => Ok(!fits && !manifest.is_within_limits()),
+    }
 }
 
-/// The same of the manifest with these log records, of generation 5 and with 7 batches in tables.
+/// Whether the manifest is spelled so, and read back.
+pub fn is_spelled(alloc: Global, manifest: &Manifest, text: &str) -> Result<bool, Refusal> {
+    let sectors = sectors_of(alloc, manifest)?;
+    Ok(are(&sectors, text) && is_limited(alloc, manifest, true)?)
+}
+
+/// The same of the manifest of a generation with these log records, and nothing in tables.
+fn is_first(alloc: Global, generation: u64, logs: &[Row], text: &str) -> Result<bool, Refusal> {
+    let manifest = manifest(alloc, generation, 0, logs)?;
+    is_spelled(alloc, &manifest, text)
+}
+
+#[test]
+fn manifests_of_a_format_and_an_open(rt: HostRuntime) -> Result<(), Fail> {
+    assert!(rt; is_first(rt.alloc(), 1, &[], FORMATTED)?);
+    assert!(rt; is_first(rt.alloc(), 2, &[(0, 2, 1)], OPENED)?);
+    Ok(())
+}
+
+/// Whether the manifest is within the limits and read back, as `fits` says, with these log records, of generation 5 and with 7 batches in tables.
 fn are_limited(alloc: Global, logs: &[Row], fits: bool) -> Result<bool, Refusal> {
     let manifest = manifest(alloc, 5, 7, logs)?;
     is_limited(alloc, &manifest, fits)

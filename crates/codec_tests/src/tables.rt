@@ -1,6 +1,6 @@
 //! Entries, data blocks, indexes and footers.
 
-use hex::decode_to_slice;
+use crate::texts::{are, bytes_of, flipped};
 use linked_list_allocator::LocalHeap;
 use lsm_codec::{Edge, Entry, Footer, Index, VersionRef, encode_data_block, is_zero};
 use lsm_device::Refusal;
@@ -14,33 +14,6 @@ const INDEX: &str = "01610000000000000001";
 
 const FOOTER: &str = "4c534d5400000000000000010001000000010000000a0161";
 
-/// A block that begins with the bytes of the hex text, and goes on with zeros.
-fn block_of(text: &str) -> Option<[u8; 4_096]> {
-    let mut block = [0; 4_096];
-    let end = text.len() / 2;
-    if end > 4_096 || decode_to_slice(text, &mut block[..end]).is_err() {
-        return None;
-    }
-    Some(block)
-}
-
-/// Whether the bytes are that block.
-fn is_block(bytes: &[u8], text: &str) -> bool {
-    match block_of(text) {
-        Some(wanted) => bytes == wanted.as_slice(),
-        None => false,
-    }
-}
-
-/// The block with the lowest bit of a byte changed.
-fn flipped(block: &[u8; 4_096], at: usize) -> [u8; 4_096] {
-    let mut block = *block;
-    if at < 4_096 {
-        block[at] ^= 1;
-    }
-    block
-}
-
 /// The entry of a version, or none where it is outside the limits.
 fn entry<A: Allocator + Clone>(
     alloc: A,
@@ -48,10 +21,11 @@ fn entry<A: Allocator + Clone>(
     number: u64,
     value: Option<&[u8]>,
 ) -> Result<Option<Entry<A>>, AllocError> {
-    let is_fitting = (1..=255).contains(&key.len())
-        && (1..=1 << 63).contains(&number)
-        && value.is_none_or(|value| value.len() <= 2_048);
-    if !is_fitting {
+    let value_len = match value {
+        Some(value) => value.len(),
+        None => 0,
+    };
+    if !(1..=255).contains(&key.len()) || !(1..=1 << 63).contains(&number) || value_len > 2_048 {
         return Ok(None);
     }
     let version = VersionRef { key, number, value };
@@ -80,7 +54,10 @@ fn block_of_one(entry: Entry) -> [u8; 4_096] {
 /// Whether the entry is spelled in a block as it should be, and read back.
 fn is_spelled(entry: Entry) -> bool {
     let block = block_of_one(entry);
-    is_block(&block, DATA_BLOCK) && one_entry(&block).is_some_and(|version| is_first_put(&version))
+    match one_entry(&block) {
+        Some(version) => are(&block, DATA_BLOCK) && is_first_put(&version),
+        None => false,
+    }
 }
 
 #[test]
@@ -91,24 +68,22 @@ fn the_data_block_of_one_put(rt: HostRuntime) -> Result<(), Fail> {
     Ok(())
 }
 
-/// The bytes that an entry of a key of so many bytes, and a value of so many or none, takes.
-fn size_of(alloc: Global, key: usize, value: Option<usize>) -> Result<usize, Fail> {
-    let bytes = [7; 2_048];
-    if key > 255 || value.is_some_and(|value| value > 2_048) {
-        return Err("sizes within the limits".into());
+/// The bytes that the entry of this key and value takes, or 0 where it is outside the limits.
+fn size_of(alloc: Global, key: &[u8], value: Option<&[u8]>) -> Result<usize, AllocError> {
+    match entry(alloc, key, 1, value)? {
+        Some(entry) => Ok(entry.size()),
+        None => Ok(0),
     }
-    let value = value.map(|value| &bytes[..value]);
-    let entry = entry(alloc, &bytes[..key], 1, value)?.ok_or("an entry")?;
-    Ok(entry.size())
 }
 
 #[test]
 fn sizes_of_entries(rt: HostRuntime) -> Result<(), Fail> {
+    let bytes = [7; 2_048];
     for (key, value, size) in [
-        (1, Some(2_048), 2_061),
-        (255, Some(2_048), 2_315),
-        (1, Some(0), 13),
-        (2, None, 14),
+        (&bytes[..1], Some(&bytes[..]), 2_061),
+        (&bytes[..255], Some(&bytes[..]), 2_315),
+        (&bytes[..1], Some(&bytes[..0]), 13),
+        (&bytes[..2], None, 14),
     ] {
         assert!(rt; size_of(rt.alloc(), key, value)? == size);
     }
@@ -117,7 +92,7 @@ fn sizes_of_entries(rt: HostRuntime) -> Result<(), Fail> {
 
 /// Whether an entry is read at the front of the bytes of the text.
 fn is_entry(text: &str) -> bool {
-    match block_of(text) {
+    match bytes_of::<4_096>(text) {
         Some(block) => {
             let end = text.len() / 2;
             end <= 4_096 && VersionRef::read(&block[..end]).is_some()
@@ -169,11 +144,13 @@ fn is_first_index(index: &Index) -> bool {
 fn the_first_index_is_spelled(alloc: Global) -> Result<bool, Refusal> {
     let index = index_of(alloc, b"a", 1)?;
     let blocks = index.encode(alloc)?;
-    if !is_first_index(&index) || !is_block(&blocks, INDEX) {
+    if !is_first_index(&index) || !are(&blocks, INDEX) {
         return Ok(false);
     }
-    let again = Index::decode(alloc, 1, &blocks)?;
-    Ok(again.is_some_and(|again| is_first_index(&again)))
+    match Index::decode(alloc, 1, &blocks)? {
+        Some(again) => Ok(is_first_index(&again)),
+        None => Ok(false),
+    }
 }
 
 /// Whether the bytes spell the index of so many data blocks.
@@ -184,7 +161,7 @@ fn is_index(alloc: Global, count: usize, blocks: &[u8]) -> Result<bool, Refusal>
 #[test]
 fn the_index_of_one_block(rt: HostRuntime) -> Result<(), Fail> {
     assert!(rt; the_first_index_is_spelled(rt.alloc())?);
-    let block = block_of(INDEX).ok_or("a block")?;
+    let block = bytes_of::<4_096>(INDEX).ok_or("a block")?;
     for (count, end, fits) in [
         (1, 4_096, true),
         (2, 4_096, false),
@@ -214,7 +191,10 @@ fn the_first_footer_is_spelled() -> bool {
         first: b"a",
     };
     let block = footer.encode();
-    is_block(&block, FOOTER) && Footer::decode(&block).is_some_and(|again| is_first_footer(&again))
+    match Footer::decode(&block) {
+        Some(again) => are(&block, FOOTER) && is_first_footer(&again),
+        None => false,
+    }
 }
 
 #[test]
@@ -257,9 +237,9 @@ fn footers_among(block: &[u8; 4_096]) -> u32 {
 
 #[test]
 fn each_byte_is_changed_in_turn(rt: HostRuntime) -> Result<(), Fail> {
-    let data = block_of(DATA_BLOCK).ok_or("a data block")?;
-    let index = block_of(INDEX).ok_or("an index")?;
-    let footer = block_of(FOOTER).ok_or("a footer")?;
+    let data = bytes_of::<4_096>(DATA_BLOCK).ok_or("a data block")?;
+    let index = bytes_of::<4_096>(INDEX).ok_or("an index")?;
+    let footer = bytes_of::<4_096>(FOOTER).ok_or("a footer")?;
     // The key, seven bytes of the number, the high byte of the value's length, and the value.
     assert!(rt; entries_among(&data) == 10);
     // The key, and seven bytes of the number. Then eight bytes of the number, one of the entries, two of the index's
