@@ -31,20 +31,20 @@ use Rattle.lsm_requests.specs.declared.answer.Answer.TheVariants.{Formatted, Bat
 
 -- the lines that are printed
 abbrev pub lines_of : Answer → List ℕ
-lines_of (Formatted blocks) = codes "formatted blocks " ++ decimal blocks ++ 10 ∷ []
+lines_of (Formatted file blocks) = codes "formatted blocks " ++ decimal blocks ++ 10 ∷ []
 lines_of (Batch number) = codes "batch " ++ decimal number ++ 10 ∷ []
 lines_of (Value word) = codes "value " ++ string_bytes word ++ 10 ∷ []
 lines_of Absent = codes "absent" ++ 10 ∷ []
 lines_of (Lines text) = string_bytes text
 
--- A file of so many sectors was made a store: since it was made, just the writes and syncs of a format were made in it, and
--- none of them failed. Its data blocks are told.
+-- The file that is handed out has so many sectors and was made a store: since it was made, just the writes and syncs of a
+-- format were made in it, and none of them failed. Its data blocks are told.
 pub record HasFormatted (sectors log : ℕ) (answer : Answer) : Type 0 where
   pub file : FileDevice
   pub size : file.sectors ≡ sectors
   pub made : CallsMade (132 + 3 * log) 3 no_calls file.calls
   pub no_fault : file.calls.faults ≡ 0
-  pub told : answer ≡ Formatted (data_blocks_of sectors log)
+  pub told : answer ≡ Formatted file (data_blocks_of sectors log)
 
 -- what contracts see of a file as a device
 abbrev pub file_medium : FileDevice → Medium

@@ -1,12 +1,13 @@
 //! What the program prints.
 
+use lsm_device::FileDevice;
 use std::fmt;
 
 /// What a subcommand answers, as lines.
 #[derive(Drop)]
 pub enum Answer {
-    /// A store was made, with so many data blocks.
-    Formatted(u32),
+    /// A store was made in this file, with so many data blocks.
+    Formatted(FileDevice, u32),
     /// A batch of this number was committed and synced.
     Batch(u64),
     /// The key has the value that this word says.
@@ -25,7 +26,7 @@ impl fmt::Display for Answer {
 
     fn fmt<W: fmt::Write>(&self, f: &mut fmt::Formatter<W>) -> fmt::Result {
         match self {
-            Answer::Formatted(blocks) => writeln!(f, "formatted blocks {blocks}"),
+            Answer::Formatted(_, blocks) => writeln!(f, "formatted blocks {blocks}"),
             Answer::Batch(number) => writeln!(f, "batch {number}"),
             Answer::Value(word) => writeln!(f, "value {word}"),
             Answer::Absent => writeln!(f, "absent"),

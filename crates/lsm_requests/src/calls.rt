@@ -47,7 +47,7 @@ fn format<R: Files<File = File> + AllocGlobal>(
 {
     let device = FileDevice::create(rt, file, geometry.sectors())?;
     match lsm_open::format(rt.alloc(), device, geometry.log_sectors()) {
-        Ok(_) => Ok(Answer::Formatted(geometry.data_blocks())),
+        Ok(device) => Ok(Answer::Formatted(device, geometry.data_blocks())),
         Err((refusal, _)) => Err(refusal),
     }
 }

@@ -3,7 +3,7 @@ use Rattle.lsm_requests.proofs.calls.format.Goals as goal
 
 pub returns-in-Ok : goal.returns-in-Ok
 returns-in-Ok g c = record {
-  file = c.in-Ok.field-0;
+  file = c.in-Ok.device;
   size = search rules;
   made = search rules;
   no_fault = search rules;
