@@ -1,5 +1,6 @@
 //! Merges on threads.
 
+use crate::budget::Budget;
 use crate::cases::input;
 use crate::input::{entry, input_of};
 use crate::merges::{EIGHT, deleted};
@@ -7,7 +8,7 @@ use lsm_codec::Entry;
 use lsm_device::Refusal;
 use lsm_merge::{Built, Gate, Input, borders, build, build_gated};
 use lsm_table::Image;
-use std::alloc::{AllocError, Global};
+use std::alloc::{AllocError, Allocator, Global};
 use std::sync::Arc;
 use std::sync::atomic::{AtomicU64, Ordering};
 use std::test::Fail;
@@ -37,7 +38,7 @@ fn large(alloc: Global) -> Result<Input, Refusal> {
 }
 
 /// Whether both images have the same blocks under number 1.
-fn is_same_image(image: &Image, other: &Image) -> bool {
+fn is_same_image<A: Allocator>(image: &Image<A>, other: &Image<A>) -> bool {
     let blocks = image.extent_blocks();
     if other.extent_blocks() != blocks {
         return false;
@@ -51,7 +52,7 @@ fn is_same_image(image: &Image, other: &Image) -> bool {
 }
 
 /// Whether both merges gave the same images, this many.
-fn have_same_images(built: &Built, other: &Built, count: usize) -> bool {
+fn have_same_images<A: Allocator>(built: &Built<A>, other: &Built<A>, count: usize) -> bool {
     let mut others = other.images().iter();
     built.images().len() == count
         && other.images().len() == count
@@ -141,5 +142,59 @@ fn parts_are_merged_at_the_same_time(rt: HostRuntime) -> Result<(), Fail> {
     let eight = input(rt.alloc(), &[EIGHT.as_slice()], &[1], false)?;
     let built = build_gated(&rt, rt.alloc(), Arc::new(rt.alloc(), eight)?, 2, &meeting)?;
     assert!(rt; built.images().len() == 1 && meeting.met.load(Ordering::SeqCst) == 2);
+    Ok(())
+}
+
+/// An allocator that each thread may use, which may refuse.
+type Lent<'h> = &'h Budget<Global>;
+
+/// Whether a merge in so many parts for which so many blocks are allowed gives the images of the whole, or else is refused
+/// for want of memory.
+fn is_built<'h, R: Threads + Sync>(
+    rt: &R,
+    heap: Lent<'h>,
+    input: Arc<Input<Lent<'h>>, Lent<'h>>,
+    whole: &Built<Lent<'h>>,
+    (parts, blocks): (u8, u64),
+) -> Result<bool, Refusal> {
+    heap.allow(blocks);
+    let built = build(rt, heap, input, parts);
+    heap.allow(1_000_000);
+    match built {
+        Ok(built) if have_same_images(whole, &built, 1) => Ok(true),
+        Ok(_) => Err(Refusal::BadTable),
+        Err(Refusal::NoMemory) => Ok(false),
+        Err(refusal) => Err(refusal),
+    }
+}
+
+/// How many of the merges in so many parts, each with one block more, were refused, and how many not.
+fn refused_and_built<R: Threads + Sync>(
+    rt: &R,
+    heap: Lent<'_>,
+    parts: u8,
+) -> Result<(u32, u32), Refusal> {
+    let runs = input(heap, &[&EIGHT[..4], &EIGHT[4..]], &[1], true)?;
+    let input = Arc::new(heap, runs)?;
+    let whole = build(rt, heap, input.clone()?, 1)?;
+    let mut refused = 0u32;
+    let mut built = 0u32;
+    for blocks in 0..150 {
+        if is_built(rt, heap, input.clone()?, &whole, (parts, blocks))? {
+            built = built.wrapping_add(1);
+        } else {
+            refused = refused.wrapping_add(1);
+        }
+    }
+    Ok((refused, built))
+}
+
+#[test]
+fn each_growth_of_a_merge_on_threads_is_refused_in_turn(rt: HostRuntime) -> Result<(), Fail> {
+    let heap = Budget::new(rt.alloc(), 1_000_000);
+    for parts in [1, 2, 4] {
+        let (refused, built) = refused_and_built(&rt, &heap, parts)?;
+        assert!(rt; refused > 20 && built > 10, "{refused} {built}");
+    }
     Ok(())
 }
