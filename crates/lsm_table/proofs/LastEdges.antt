@@ -1,6 +1,6 @@
 -- The edge of a block is that of its last entry.
 use Rattle.std.proofs.Common.{◌≡◌, ℕ, suc, ◌+◌, ◌-◌, ◌<◌, ◌≤◌, List, [], ◌∷◌, ◌++◌, length, map, take, get_or, refl, sym, ap, ◌∙◌, arith}
-use Rattle.std.proofs.lemmas.List.{take_more, map-append, append-nil}
+use Rattle.std.proofs.lemmas.List.{take_more, map-append, append-nil, length-map, length-take-le}
 use Rattle.std.proofs.lemmas.Grind.{flat_map-append}
 use Rattle.lsm_codec.specs.Versions.{Version}
 use Rattle.lsm_codec.specs.Indexes.{Edge}
@@ -50,3 +50,8 @@ pub edges_few : (table : TableBlocks) → length (edges_of table) ≤ length tab
 edges_few [] = omega arith
 edges_few ([] ∷ table) = omega (arith, edges_few table)
 edges_few ((v ∷ block) ∷ table) = omega (arith, edges_few table)
+
+-- a block more has room for its edge
+pub room_left : {X : Type 0} (items : X → Block) (blocks : List X) (i : ℕ) (index : List Edge) → i < length blocks → length blocks ≤ 64 → index ≡ edges_of (map items (take i blocks)) → length index < 64
+room_left items blocks i index lt few is =
+    omega (arith, ap (λ (es : List Edge). length es) is, edges_few (map items (take i blocks)), length-map (take i blocks) items, length-take-le i blocks (omega arith), lt, few)

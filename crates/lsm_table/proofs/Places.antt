@@ -219,3 +219,10 @@ finds key at table is =
 pub finds_by : (first : Bytes) (edges : List Edge) (key : Bytes) (at : ℕ) (r : Option ℕ) → r ≡ place_of first edges key at → (table : TableBlocks) → IsSorted table → first ≡ first_key_of table → edges ≡ edges_of table → newest key at (entries_of table) ≡ newest key at (at_place table r)
 finds_by first edges key at r e table is same_first same_edges =
     finds key at table is ∙ ap (λ (p : Option ℕ). newest key at (at_place table p)) (ap (λ (f : Bytes). place_of f (edges_of table) key at) (sym same_first) ∙ ap (λ (es : List Edge). place_of first es key at) (sym same_edges) ∙ sym e)
+
+-- above 0 and not below the first key, where the search finds it
+pub place_after : (first found : Bytes) (key : Bytes) (at : ℕ) (edges index : List Edge) (r : Option ℕ) (gt : Bool) → (at ≡ 0 → ⊥) → found ≡ first → gt ≡ is_gt (byte_order found key) → gt ≡ false → index ≡ edges → r ≡ place_from 0 key at index → r ≡ place_of first edges key at
+place_after first found key at edges index r gt above same_first compared not_gt same_edges searched =
+    let low : eqb at 0 ≡ false = elim (eqb at 0) as (λ b. eqb at 0 ≡ b → eqb at 0 ≡ false) [ true ↦ λ e. absurd (above (eqb-true at 0 e)) | false ↦ λ e. e ] refl in
+    let below : is_gt (byte_order first key) ≡ false = ap (λ (f : Bytes). is_gt (byte_order f key)) (sym same_first) ∙ sym compared ∙ not_gt in
+    searched ∙ ap (place_from 0 key at) same_edges ∙ sym (ap (λ (b : Bool). cond (b || is_gt (byte_order first key)) None (place_from 0 key at edges)) low ∙ ap (λ (b : Bool). cond b None (place_from 0 key at edges)) below)
