@@ -1,6 +1,5 @@
-use Rattle.std.proofs.Common.{◌≡◌, ◌∙◌, Option, None, ℕ, sym, ap, arith, rules}
+use Rattle.std.proofs.Common.{◌≡◌, ◌∙◌, Option, None, ℕ, ap, arith, rules}
 use Rattle.std.specs.Ordering.{is_gt}
-use Rattle.lsm_codec.specs.Keys.{Bytes, byte_order}
 use Rattle.lsm_table.specs.Places.{place_of}
 use Rattle.lsm_table.proofs.Places.{finds_by, place_after}
 use Rattle.lsm_table.proofs.table.Table.place.Goals as goal
