@@ -4,7 +4,7 @@ use Rattle.std.specs.List.{list_any}
 use Rattle.std.proofs.lemmas.List.{take_all}
 use Rattle.std.proofs.lemmas.List.Folds.{list_any_at, list_any_more}
 use Rattle.lsm_cache.specs.Reads.{block_at}
-use Rattle.cache_tests.specs.declared.runs.Placed.{Placed}
+use Rattle.cache_tests.specs.declared.places.Placed.{Placed}
 use Rattle.cache_tests.specs.Runs.{begins_with, begins}
 
 module _ (sectors : List (List ℕ)) (first : ℕ) (runs : List Placed) (i : ℕ) where

@@ -1,7 +1,7 @@
 -- What a caller looks for in the blocks of runs.
 use Rattle.std.specs.Prelude.{ℕ, Bool, ◌==◌, List, slice_index_or}
 use Rattle.lsm_cache.specs.Reads.{block_at}
-use Rattle.cache_tests.specs.declared.runs.Placed.{Placed}
+use Rattle.cache_tests.specs.declared.places.Placed.{Placed}
 
 -- whether a block begins with this byte
 abbrev pub begins_with : ℕ → List ℕ → Bool

@@ -7,6 +7,7 @@ mod blocks;
 mod faults;
 #[cfg(test)]
 mod growth;
+pub mod places;
 #[cfg(test)]
 mod reads;
 #[cfg(test)]

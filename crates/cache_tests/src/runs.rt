@@ -11,18 +11,12 @@ ghost use Rattle.lsm_cache.specs.declared.name.BlockName.{BlockName as Name};
 ghost use Rattle.cache_tests.specs.Runs.{begins_with, begins};
 
 use crate::blocks::{TABLE, device, sector_of};
+use crate::places::Placed;
 use lsm_cache::{BlockName, Cache};
 use lsm_device::{Device, Refusal};
 use std::alloc::{Allocator, Global};
 use std::process::Abort;
 use std::test::Fail;
-
-/// A block of a run, and the first of its sectors.
-#[derive(Clone, Copy)]
-pub struct Placed {
-    pub name: BlockName,
-    pub sector: u32,
-}
 
 /// Whether a block begins with this byte.
 fn begins_with(block: &[u8; 4_096], first: u8) -> bool

@@ -5,7 +5,7 @@ use Rattle.lsm_device.specs.History.{present}
 use Rattle.lsm_device.specs.Medium.{disk}
 use Rattle.lsm_device.proofs.Counting.{AtMost-joined}
 use Rattle.lsm_cache.specs.Reads.{block_at}
-use Rattle.cache_tests.specs.declared.runs.Placed.{Placed}
+use Rattle.cache_tests.specs.declared.places.Placed.{Placed}
 use Rattle.cache_tests.proofs.Looking.{found_at, none_more, none_at_all}
 use Rattle.cache_tests.proofs.runs.has_first.Goals as goal
 

@@ -1,6 +1,6 @@
 use Rattle.std.proofs.Common.{◌≤◌, ◌+◌, arith, [], ◌∷◌, length}
 use Rattle.std.proofs.lemmas.List.Elements.{All-nil, All-cons}
-use Rattle.cache_tests.specs.declared.runs.Placed.{Placed}
+use Rattle.cache_tests.specs.declared.places.Placed.{Placed}
 use Rattle.cache_tests.proofs.runs.has_one.Goals as goal
 
 pub has_first-requires : goal.has_first-requires
