@@ -1,8 +1,7 @@
 //! Tests of merges, and inputs for them.
 #![tactic(auto)]
 
-#[cfg(test)]
-mod budget;
+pub mod budget;
 #[cfg(test)]
 mod cases;
 #[cfg(test)]
