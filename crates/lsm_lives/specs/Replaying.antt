@@ -18,7 +18,7 @@ Replays old [] (reply ∷ replies) new = ⊥
 Replays old (step ∷ steps) [] new = ⊥
 
 -- Behind these replies there are more, those of the steps.
-pub record Answers (old : StoreView) (steps : List Step) (before after : List Reply) (new : StoreView) : Type 0 where
+pub record AddsReplies (old : StoreView) (steps : List Step) (before after : List Reply) (new : StoreView) : Type 0 where
   pub more : List Reply
   pub added : after ≡ before ++ more
   pub replays : Replays old steps more new

@@ -2,7 +2,7 @@
 ghost use Rattle.std.specs.Prelude.{◌≡◌, ◌≤◌, ◌+◌, ◌++◌, [], length, map, IfErr, OnErr, IfOk, vec_capacity, vec_len};
 ghost use Rattle.lsm_device.specs.declared.refusal.Refusal.TheVariants.{NoMemory};
 ghost use Rattle.lsm_lives.specs.Calls.{step_of, reply_of};
-ghost use Rattle.lsm_lives.specs.Replaying.{Answers, Replays};
+ghost use Rattle.lsm_lives.specs.Replaying.{AddsReplies, Replays};
 
 use crate::calls::{Call, Reply};
 use crate::serving::serve;
@@ -38,7 +38,7 @@ pub(crate) fn serve_each<D: Device, A: Allocator + Clone>(
     replies: &mut Vec<Reply<A>, A>,
 )
     requires room { vec_len replies.old + length steps.now ≤ vec_capacity replies.old }
-    ensures { Answers store.old (map step_of steps.now) (map reply_of replies.old.items) (map reply_of replies.new.items) store.new }
+    ensures { AddsReplies store.old (map step_of steps.now) (map reply_of replies.old.items) (map reply_of replies.new.items) store.new }
 {
     for step in steps {
         let reply = serve(store, step);

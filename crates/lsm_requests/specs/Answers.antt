@@ -27,15 +27,19 @@ use Rattle.lsm_requests.specs.declared.steps.Told.{Told}
 use Rattle.lsm_language.specs.declared.request.Request.{Request}
 use Rattle.lsm_language.specs.declared.request.Request.TheVariants as request
 use Rattle.lsm_requests.specs.declared.answer.Answer.{Answer}
-use Rattle.lsm_requests.specs.declared.answer.Answer.TheVariants.{Formatted, Batch, Value, Absent, Lines}
+use Rattle.lsm_requests.specs.declared.answer.Output.{Output}
+use Rattle.lsm_requests.specs.declared.answer.Output.TheVariants.{Formatted, Batch, Value, Absent, Lines}
 
 -- the lines that are printed
+abbrev pub output_lines : Output → List ℕ
+output_lines (Formatted blocks) = codes "formatted blocks " ++ decimal blocks ++ 10 ∷ []
+output_lines (Batch number) = codes "batch " ++ decimal number ++ 10 ∷ []
+output_lines (Value word) = codes "value " ++ string_bytes word ++ 10 ∷ []
+output_lines Absent = codes "absent" ++ 10 ∷ []
+output_lines (Lines text) = string_bytes text
+
 abbrev pub lines_of : Answer → List ℕ
-lines_of (Formatted file blocks) = codes "formatted blocks " ++ decimal blocks ++ 10 ∷ []
-lines_of (Batch number) = codes "batch " ++ decimal number ++ 10 ∷ []
-lines_of (Value word) = codes "value " ++ string_bytes word ++ 10 ∷ []
-lines_of Absent = codes "absent" ++ 10 ∷ []
-lines_of (Lines text) = string_bytes text
+lines_of answer = output_lines answer.output
 
 -- The file that is handed out has so many sectors and was made a store: since it was made, just the writes and syncs of a
 -- format were made in it, and none of them failed. Its data blocks are told.
@@ -44,11 +48,17 @@ pub record HasFormatted (sectors log : ℕ) (answer : Answer) : Type 0 where
   pub size : file.sectors ≡ sectors
   pub made : CallsMade (132 + 3 * log) 3 no_calls file.calls
   pub no_fault : file.calls.faults ≡ 0
-  pub told : answer ≡ Formatted file (data_blocks_of sectors log)
+  pub hands : answer.file ≡ Some file
+  pub told : answer.output ≡ Formatted (data_blocks_of sectors log)
 
 -- what contracts see of a file as a device
 abbrev pub file_medium : FileDevice → Medium
 file_medium file = record { size = file.sectors; lasting = silent; calls = file.calls; history = [] }
+
+-- the file that is handed out is a device that stands so
+abbrev pub Hands : Option FileDevice → Medium → Type 0
+Hands (Some file) device = file_medium file ≡ device
+Hands None device = ⊥
 
 -- an opening of a file in which no call was made yet answered this store
 pub record WasOpened (store : StoreView) : Type 0 where
@@ -56,60 +66,54 @@ pub record WasOpened (store : StoreView) : Type 0 where
   pub unused : file.calls ≡ no_calls
   pub opened : ReopensTo (file_medium file) store
 
--- a file was opened, and the store answers so
-pub record OfOpened (Answers : StoreView → Answer → Type 0) (answer : Answer) : Type 0 where
+-- A file was opened, and the store, which went on to another state, answers so. The file is handed out as the calls left it.
+pub record OfOpened (Tells : StoreView → StoreView → Output → Type 0) (answer : Answer) : Type 0 where
   pub store : StoreView
+  pub after : StoreView
   pub opened : WasOpened store
-  pub answers : Answers store answer
+  pub tells : Tells store after answer.output
+  pub hands : Hands answer.file after.device
 
 -- a batch was committed and synced, and its number is told
-pub record HasCommitted (batch : List Operation) (before : StoreView) (answer : Answer) : Type 0 where
+pub record HasCommitted (batch : List Operation) (before after : StoreView) (output : Output) : Type 0 where
   pub number : ℕ
   pub between : StoreView
-  pub after : StoreView
   pub commits : Serves before (Commit batch) (Number number) between
   pub syncs : Serves between Sync Done after
-  pub told : answer ≡ Batch number
+  pub told : output ≡ Batch number
 
 -- a value is told by its word
-abbrev pub TellsValue : Option Bytes → Answer → Type 0
+abbrev pub TellsValue : Option Bytes → Output → Type 0
 TellsValue (Some bytes) (Value word) = string_bytes word ≡ word_of bytes
 TellsValue None Absent = Unit {0}
 TellsValue _ _ = ⊥
 
 -- a key was looked up, and its value is told, or that it has none
-pub record HasFound (key : Bytes) (before : StoreView) (answer : Answer) : Type 0 where
+pub record HasFound (key : Bytes) (before after : StoreView) (output : Output) : Type 0 where
   pub value : Option Bytes
-  pub after : StoreView
   pub serves : Serves before (Get Now key) (Found value) after
-  pub told : TellsValue value answer
+  pub told : TellsValue value output
 
--- lines of this text answer
-abbrev pub HasLines : List ℕ → Answer → Type 0
+-- lines of this text are printed
+abbrev pub HasLines : List ℕ → Output → Type 0
 HasLines lines (Lines text) = string_bytes text ≡ lines
 HasLines lines _ = ⊥
 
 -- a page of the map was found, and its rows are told
-pub record HasRows (from : Bytes) (limit : ℕ) (before : StoreView) (answer : Answer) : Type 0 where
+pub record HasRows (from : Bytes) (limit : ℕ) (before after : StoreView) (output : Output) : Type 0 where
   pub page : Page
-  pub after : StoreView
   pub serves : Serves before (Scan Now from None limit) (Rows page) after
-  pub told : HasLines (page_lines page) answer
+  pub told : HasLines (page_lines page) output
 
--- steps were made of this store, and the replies to them are told, each as its line asks for
-pub record TellsReplies (before : StoreView) (made : List Step) (steps : List Told) (after : StoreView) (answer : Answer) : Type 0 where
+-- steps were made of the store, and the replies to them are told, each as its line asks for
+pub record HasReplies (made : List Step) (steps : List Told) (before after : StoreView) (output : Output) : Type 0 where
   pub replies : List Reply
   pub replays : Replays before made replies after
-  pub told : HasLines (replies_text steps replies) answer
-
--- so that the store went on to another state
-pub record HasReplies (made : List Step) (steps : List Told) (before : StoreView) (answer : Answer) : Type 0 where
-  pub after : StoreView
-  pub tells : TellsReplies before made steps after answer
+  pub told : HasLines (replies_text steps replies) output
 
 -- Lives were led on a device in memory of so many sectors with an empty store, and the replies to them are told. They keep
 -- the promise over crashes.
-pub record HasLives (sectors log_sectors : ℕ) (lives : List LifeView) (steps : List (List Told)) (answer : Answer) : Type 0 where
+pub record HasLives (sectors log_sectors : ℕ) (lives : List LifeView) (steps : List (List Told)) (output : Output) : Type 0 where
   pub device : Medium
   pub left : Medium
   pub replies : List (List Reply)
@@ -117,7 +121,7 @@ pub record HasLives (sectors log_sectors : ℕ) (lives : List LifeView) (steps :
   pub begins : Leaves (IsImage log_sectors empty_store) (disk device)
   pub led : AreLed lives device replies left
   pub promise : KeepPromise log_sectors [] empty_store (steps_in lives) replies (disk left)
-  pub told : HasLines (lives_text steps replies) answer
+  pub told : HasLines (lives_text steps replies) output
 
 -- what answers a request
 abbrev pub Gives : Request → Answer → Type 0
@@ -126,4 +130,4 @@ Gives (request.Commit file batch) = OfOpened (HasCommitted batch)
 Gives (request.Get file key) = OfOpened (HasFound key.items)
 Gives (request.Scan file from limit) = OfOpened (HasRows from.items limit)
 Gives (request.Replay file script) = OfOpened (HasReplies (map step_of (calls_after [] script.items)) (told_after [] script.items))
-Gives (request.Lives geometry script) = HasLives geometry.sectors geometry.log_sectors (lives_said script.items) (told_lives script.items)
+Gives (request.Lives geometry script) = λ answer. HasLives geometry.sectors geometry.log_sectors (lives_said script.items) (told_lives script.items) answer.output

@@ -1,13 +1,17 @@
-//! What the program prints.
+//! What the program answers.
+
+ghost use Rattle.std.specs.Prelude.{◌≡◌};
+ghost use Rattle.lsm_requests.specs.Answers.{Hands};
 
 use lsm_device::FileDevice;
+use lsm_store::Store;
 use std::fmt;
 
-/// What a subcommand answers, as lines.
+/// What a subcommand prints, as lines.
 #[derive(Drop)]
-pub enum Answer {
-    /// A store was made in this file, with so many data blocks.
-    Formatted(FileDevice, u32),
+pub enum Output {
+    /// A store was made with so many data blocks.
+    Formatted(u32),
     /// A batch of this number was committed and synced.
     Batch(u64),
     /// The key has the value that this word says.
@@ -18,6 +22,43 @@ pub enum Answer {
     Lines(String),
 }
 
+/// What a subcommand answers: what is printed, and the file that the calls were made on, if there is one.
+#[derive(Drop)]
+pub struct Answer {
+    pub output: Output,
+    pub file: Option<FileDevice>,
+}
+
+impl Answer {
+    // The answer of a store in a file, which is closed by it.
+    pub(crate) fn of_store(output: Output, store: Store<FileDevice>) -> Answer
+        ensures output { result.output ≡ output }
+        ensures hands { Hands result.file store.device }
+    {
+        Answer {
+            output,
+            file: Some(store.into_device()),
+        }
+    }
+}
+
+impl fmt::Display for Output {
+    ghost use Rattle.std.specs.Prelude.{Some};
+    ghost use Rattle.lsm_requests.specs.Answers.{output_lines};
+
+    ghost output = { λ output. Some (output_lines output) };
+
+    fn fmt<W: fmt::Write>(&self, f: &mut fmt::Formatter<W>) -> fmt::Result {
+        match self {
+            Output::Formatted(blocks) => writeln!(f, "formatted blocks {blocks}"),
+            Output::Batch(number) => writeln!(f, "batch {number}"),
+            Output::Value(word) => writeln!(f, "value {word}"),
+            Output::Absent => writeln!(f, "absent"),
+            Output::Lines(text) => write!(f, "{text}"),
+        }
+    }
+}
+
 impl fmt::Display for Answer {
     ghost use Rattle.std.specs.Prelude.{Some};
     ghost use Rattle.lsm_requests.specs.Answers.{lines_of};
@@ -25,12 +66,6 @@ impl fmt::Display for Answer {
     ghost output = { λ answer. Some (lines_of answer) };
 
     fn fmt<W: fmt::Write>(&self, f: &mut fmt::Formatter<W>) -> fmt::Result {
-        match self {
-            Answer::Formatted(_, blocks) => writeln!(f, "formatted blocks {blocks}"),
-            Answer::Batch(number) => writeln!(f, "batch {number}"),
-            Answer::Value(word) => writeln!(f, "value {word}"),
-            Answer::Absent => writeln!(f, "absent"),
-            Answer::Lines(text) => write!(f, "{text}"),
-        }
+        write!(f, "{}", self.output)
     }
 }

@@ -2,10 +2,10 @@
 
 ghost use Rattle.std.specs.Prelude.{[], map, IfOk};
 ghost use Rattle.lsm_lives.specs.Calls.{step_of};
-ghost use Rattle.lsm_requests.specs.Steps.{calls_after, told_after};
-ghost use Rattle.lsm_requests.specs.Answers.{Gives, HasFormatted, HasCommitted, HasFound, HasRows, HasReplies, OfOpened, WasOpened};
+ghost use Rattle.lsm_requests.specs.Steps.{calls_after, lives_said, told_after, told_lives};
+ghost use Rattle.lsm_requests.specs.Answers.{Gives, HasFormatted, HasCommitted, HasFound, HasLives, HasRows, HasReplies, OfOpened, WasOpened};
 
-use crate::answer::Answer;
+use crate::answer::{Answer, Output};
 use crate::reply::push_page;
 use crate::runs;
 use crate::steps::steps_of;
@@ -34,7 +34,7 @@ pub fn answer<R: Files<File = File> + AllocGlobal>(
         Request::Get { file, key } => get(rt, file, &key),
         Request::Scan { file, from, limit } => scan(rt, file, &from, limit),
         Request::Replay { file, script } => replay(rt, file, script),
-        Request::Lives { geometry, script } => runs::lives(rt.alloc(), geometry, script),
+        Request::Lives { geometry, script } => lives(rt.alloc(), geometry, script),
     }
 }
 
@@ -47,7 +47,10 @@ fn format<R: Files<File = File> + AllocGlobal>(
 {
     let device = FileDevice::create(rt, file, geometry.sectors())?;
     match lsm_open::format(rt.alloc(), device, geometry.log_sectors()) {
-        Ok(device) => Ok(Answer::Formatted(device, geometry.data_blocks())),
+        Ok(device) => Ok(Answer {
+            output: Output::Formatted(geometry.data_blocks()),
+            file: Some(device),
+        }),
         Err((refusal, _)) => Err(refusal),
     }
 }
@@ -73,15 +76,16 @@ fn commit<R: Files<File = File> + AllocGlobal>(
     ensures { IfOk result (OfOpened (HasCommitted batch.now)) }
 {
     let mut store = open(rt, file)?;
-    Ok(commit_and_sync(&mut store, batch)?)
+    let output = commit_and_sync(&mut store, batch)?;
+    Ok(Answer::of_store(output, store))
 }
 
-fn commit_and_sync<D: Device>(store: &mut Store<D>, batch: &Batch) -> Result<Answer, Refusal>
-    ensures { IfOk result (HasCommitted batch.now store.old) }
+fn commit_and_sync<D: Device>(store: &mut Store<D>, batch: &Batch) -> Result<Output, Refusal>
+    ensures { IfOk result (HasCommitted batch.now store.old store.new) }
 {
     let number = store.commit(batch)?;
     store.sync()?;
-    Ok(Answer::Batch(number))
+    Ok(Output::Batch(number))
 }
 
 fn get<R: Files<File = File> + AllocGlobal>(
@@ -92,16 +96,17 @@ fn get<R: Files<File = File> + AllocGlobal>(
     ensures { IfOk result (OfOpened (HasFound key.now)) }
 {
     let mut store = open(rt, file)?;
-    Ok(find(rt.alloc(), &mut store, key)?)
+    let output = find(rt.alloc(), &mut store, key)?;
+    Ok(Answer::of_store(output, store))
 }
 
 // Looks a key up.
-fn find<D: Device>(alloc: Global, store: &mut Store<D>, key: &[u8]) -> Result<Answer, Refusal>
-    ensures { IfOk result (HasFound key.now store.old) }
+fn find<D: Device>(alloc: Global, store: &mut Store<D>, key: &[u8]) -> Result<Output, Refusal>
+    ensures { IfOk result (HasFound key.now store.old store.new) }
 {
     match store.get(At::Now, key)? {
-        Some(value) => Ok(Answer::Value(word(alloc, value.as_slice())?)),
-        None => Ok(Answer::Absent),
+        Some(value) => Ok(Output::Value(word(alloc, value.as_slice())?)),
+        None => Ok(Output::Absent),
     }
 }
 
@@ -114,7 +119,8 @@ fn replay<R: Files<File = File> + AllocGlobal>(
 {
     let steps = steps_of(rt.alloc(), script)?;
     let mut store = open(rt, file)?;
-    Ok(runs::replay(rt.alloc(), &mut store, &steps)?)
+    let output = runs::replay(rt.alloc(), &mut store, &steps)?;
+    Ok(Answer::of_store(output, store))
 }
 
 fn scan<R: Files<File = File> + AllocGlobal>(
@@ -126,7 +132,8 @@ fn scan<R: Files<File = File> + AllocGlobal>(
     ensures { IfOk result (OfOpened (HasRows from.now limit)) }
 {
     let mut store = open(rt, file)?;
-    Ok(list(rt.alloc(), &mut store, from, limit)?)
+    let output = list(rt.alloc(), &mut store, from, limit)?;
+    Ok(Answer::of_store(output, store))
 }
 
 // Lists a page.
@@ -135,11 +142,18 @@ fn list<D: Device>(
     store: &mut Store<D>,
     from: &[u8],
     limit: u64,
-) -> Result<Answer, Refusal>
-    ensures { IfOk result (HasRows from.now limit store.old) }
+) -> Result<Output, Refusal>
+    ensures { IfOk result (HasRows from.now limit store.old store.new) }
 {
     let page = store.scan(At::Now, from, None, limit)?;
     let mut text = String::new(alloc);
     push_page(alloc, &mut text, &page)?;
-    Ok(Answer::Lines(text))
+    Ok(Output::Lines(text))
+}
+
+fn lives(alloc: Global, geometry: Geometry, script: Vec<Line>) -> Result<Answer, Refusal>
+    ensures { IfOk result (λ answer. HasLives geometry.sectors geometry.log_sectors (lives_said script.items) (told_lives script.items) answer.output) }
+{
+    let output = runs::lives(alloc, geometry, script)?;
+    Ok(Answer { output, file: None })
 }

@@ -9,9 +9,9 @@ ghost use Rattle.lsm_open.specs.CrashState.{formatted as empty_store};
 ghost use Rattle.lsm_open.specs.Image.{IsImage};
 ghost use Rattle.lsm_lives.specs.Calls.{step_of};
 ghost use Rattle.lsm_requests.specs.Steps.{lives_said, told_lives};
-ghost use Rattle.lsm_requests.specs.Answers.{TellsReplies, HasLives};
+ghost use Rattle.lsm_requests.specs.Answers.{HasLives, HasReplies};
 
-use crate::answer::Answer;
+use crate::answer::Output;
 use crate::reply::{push_lives, push_replies};
 use crate::steps::{Lives, Steps, lives_of};
 use lsm_device::{Device, MemDevice, Refusal};
@@ -25,19 +25,19 @@ pub fn replay<D: Device>(
     alloc: Global,
     store: &mut Store<D>,
     steps: &Steps,
-) -> Result<Answer, Refusal>
-    ensures tells { IfOk result (TellsReplies store.old (map step_of steps.now.calls.items) steps.now.told.items store.new) }
+) -> Result<Output, Refusal>
+    ensures tells { IfOk result (HasReplies (map step_of steps.now.calls.items) steps.now.told.items store.old store.new) }
     ensures refused { IfErr result (λ e. e ≡ NoMemory) }
 {
     let replies = lsm_lives::replay(alloc, store, &steps.calls)?;
     let mut text = String::new(alloc);
     push_replies(alloc, &mut text, &steps.told, &replies)?;
-    Ok(Answer::Lines(text))
+    Ok(Output::Lines(text))
 }
 
 /// Makes the lives of a script on an empty store in memory. A line answers each opening and each step. It is refused
 /// for want of memory alone.
-pub fn lives(alloc: Global, geometry: Geometry, script: Vec<Line>) -> Result<Answer, Refusal>
+pub fn lives(alloc: Global, geometry: Geometry, script: Vec<Line>) -> Result<Output, Refusal>
     ensures tells { IfOk result (HasLives geometry.sectors geometry.log_sectors (lives_said script.items) (told_lives script.items)) }
     ensures refused { IfErr result (λ e. e ≡ NoMemory) }
 {
@@ -49,7 +49,7 @@ pub fn lives(alloc: Global, geometry: Geometry, script: Vec<Line>) -> Result<Ans
     };
     let mut text = String::new(alloc);
     push_lives(alloc, &mut text, &told, &replies)?;
-    Ok(Answer::Lines(text))
+    Ok(Output::Lines(text))
 }
 
 // A device in memory with an empty store. Without a fuse it fails only where memory for its writes is refused.

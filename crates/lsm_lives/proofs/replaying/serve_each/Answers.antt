@@ -4,7 +4,7 @@ use Rattle.lsm_store.specs.Calls.{Reply}
 use Rattle.lsm_store.specs.Machine.{Step}
 use Rattle.lsm_lives.specs.declared.calls.Call.{Call as Asked}
 use Rattle.lsm_lives.specs.Calls.{step_of, reply_of}
-use Rattle.lsm_lives.specs.Replaying.{Answers, Replays}
+use Rattle.lsm_lives.specs.Replaying.{AddsReplies, Replays}
 use Rattle.lsm_lives.proofs.Steps.{next_step, reply_added}
 use Rattle.lsm_lives.proofs.replaying.serve_each.Goals as goal
 
@@ -24,7 +24,7 @@ loop-step-preserved g c =
           let all = inv.goes_on (reply_of reply ∷ more) last
           (subst (λ (all : List Step). Replays c.loop-step.store all (reply_of reply ∷ more) last) (sym (next_step steps i step c.loop-step-test.true c.step-item.is))
           (c.serve-reply.new.store, c.serve-reply.ensures, replays)) in
-          subst (λ (after : List Reply). Answers c.args.store.now (map step_of steps) (map reply_of c.args.replies.now.items) after last)
+          subst (λ (after : List Reply). AddsReplies c.args.store.now (map step_of steps) (map reply_of c.args.replies.now.items) after last)
           (sym (append_assoc (map reply_of done) (reply_of reply ∷ []) more)
           ∙ ap (λ (l : List Reply). l ++ more) (sym (reply_added done c.push_reserved.new.self.items reply c.push_reserved.ensures.items))) all;
     }
@@ -33,5 +33,5 @@ pub returns : goal.returns
 returns g c =
     let steps = c.args.steps.now in
     let s = c.loop-step.store in
-    subst (λ (after : List Reply). Answers c.args.store.now (map step_of steps) (map reply_of c.args.replies.now.items) after s) (append-nil (map reply_of c.loop-step.replies.items))
+    subst (λ (after : List Reply). AddsReplies c.args.store.now (map step_of steps) (map reply_of c.args.replies.now.items) after s) (append-nil (map reply_of c.loop-step.replies.items))
     (c.loop-step.invariant.goes_on [] s (subst (λ (left : List (Asked g.row.A.Denot)). Replays s (map step_of left) [] s) (sym (drop_all c.loop-step.step-index steps (omega arith))) refl))

@@ -5,7 +5,6 @@ pub returns : goal.returns
 returns g c = record {
   number = c.in_ok-number.number;
   between = c.commit.new.self;
-  after = c.sync.new.self;
   commits = search rules;
   syncs = search rules;
   told = search rules;

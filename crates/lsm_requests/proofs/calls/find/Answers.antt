@@ -4,7 +4,6 @@ use Rattle.lsm_requests.proofs.calls.find.Goals as goal
 pub returns-in_ok-word-in-Some : goal.returns-in_ok-word-in-Some
 returns-in_ok-word-in-Some g c = record {
   value = Some c.in-Some.value.items;
-  after = c.get.new.self;
   serves = search rules;
   told = search rules;
 }
@@ -12,7 +11,6 @@ returns-in_ok-word-in-Some g c = record {
 pub returns-in-None : goal.returns-in-None
 returns-in-None g c = record {
   value = None;
-  after = c.get.new.self;
   serves = search rules;
   told = search rules;
 }

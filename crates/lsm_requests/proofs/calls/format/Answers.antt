@@ -7,5 +7,6 @@ returns-in-Ok g c = record {
   size = search rules;
   made = search rules;
   no_fault = search rules;
+  hands = search rules;
   told = search rules;
 }

@@ -4,6 +4,8 @@ use Rattle.lsm_requests.proofs.calls.get.Goals as goal
 pub returns : goal.returns
 returns g c = record {
   store = c.in_ok-store.store;
+  after = c.find.new.store;
   opened = search rules;
-  answers = search rules;
+  tells = search rules;
+  hands = search rules;
 }

@@ -4,7 +4,6 @@ use Rattle.lsm_requests.proofs.calls.list.Goals as goal
 pub returns : goal.returns
 returns g c = record {
   page = c.in_ok-page.page;
-  after = c.scan.new.self;
   serves = search rules;
   told = search rules;
 }
