@@ -15,7 +15,7 @@ use std::vec::IntoIter;
 
 /// The first so many of the entries that are left, in blocks.
 fn next_blocks<A: Allocator>(
-    alloc: A,
+    alloc: &A,
     left: &mut IntoIter<Entry<A>, A>,
     len: usize,
 ) -> Result<Vec<Vec<Entry<A>, A>, A>, AllocError>
@@ -27,11 +27,10 @@ where
 {
     let mut filling = Filling::new(alloc.clone()?)?;
     for _place in 0..len {
-        let next = alloc.clone()?;
         let Some(entry) = left.next() else {
             break;
         };
-        filling.add(next, entry)?;
+        filling.add(alloc, entry)?;
     }
     Ok(filling.finish()?)
 }
@@ -48,13 +47,13 @@ where
     requires ends { EndsTable (into_iter_items left.old) len }
     ensures { IfOk result (λ image. AreNextBlocks image len (into_iter_items left.old) (into_iter_items left.new)) }
 {
-    let blocks = next_blocks(alloc.clone()?, left, len)?;
+    let blocks = next_blocks(&alloc, left, len)?;
     Ok(Image::new(alloc, blocks, len as u32)?)
 }
 
 /// The tables of the entries that are left, which have so many of them each.
 fn next_images<A: Allocator>(
-    alloc: A,
+    alloc: &A,
     left: &mut IntoIter<Entry<A>, A>,
     lens: &[usize],
 ) -> Result<Vec<Image<A>, A>, AllocError>
@@ -86,5 +85,5 @@ where
 {
     let lens = table_lens(alloc.clone()?, &entries)?;
     let mut left = entries.into_iter();
-    Ok(next_images(alloc, &mut left, &lens)?)
+    Ok(next_images(&alloc, &mut left, &lens)?)
 }

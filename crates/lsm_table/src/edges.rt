@@ -10,7 +10,7 @@ use std::cmp::Ordering;
 
 /// Adds the edge of a block, which is that of its last entry.
 fn push_edge<A: Allocator + Clone>(
-    alloc: A,
+    alloc: &A,
     block: &[Entry<A>],
     index: &mut Index<A>,
 ) -> Result<(), AllocError>
@@ -21,13 +21,13 @@ fn push_edge<A: Allocator + Clone>(
         return Ok(());
     }
     let last = &block[block.len() - 1];
-    index.push(Edge::new(alloc, last.key(), last.number())?)?;
+    index.push(Edge::new(alloc.clone()?, last.key(), last.number())?)?;
     Ok(())
 }
 
 /// The edges of the blocks, in order.
 pub(crate) fn edges_of<A: Allocator + Clone>(
-    alloc: A,
+    alloc: &A,
     blocks: &[Vec<Entry<A>, A>],
 ) -> Result<Index<A>, AllocError>
     requires { length blocks.now ≤ 64 }
@@ -35,7 +35,7 @@ pub(crate) fn edges_of<A: Allocator + Clone>(
 {
     let mut index = Index::new(alloc.clone()?);
     for block in blocks {
-        push_edge(alloc.clone()?, block, &mut index)?;
+        push_edge(alloc, block, &mut index)?;
     }
     Ok(index)
 }

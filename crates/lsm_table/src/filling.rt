@@ -1,6 +1,6 @@
 //! Blocks that are being filled.
 
-ghost use Rattle.std.specs.Prelude.{◌≡◌, ◌+◌, ◌<◌, ◌≤◌, ◌^◌, map, IfOk, OnOk};
+ghost use Rattle.std.specs.Prelude.{◌≡◌, ◌+◌, ◌<◌, ◌≤◌, ◌^◌, ◌++◌, ◌∷◌, [], map, IfOk, OnOk};
 ghost use Rattle.lsm_codec.specs.Versions.{IsEntry};
 ghost use Rattle.lsm_table.specs.Filled.{none_filled, with_next, blocks_in};
 
@@ -26,6 +26,18 @@ impl<A: Allocator> Model for Filling<A> {
     ghost view = { λ f. record { full = map (λ b. b.items) f.full.items; begun = f.begun.items; layout = f.layout } };
 }
 
+/// A block of one entry.
+fn block_of<A: Allocator + Clone>(
+    alloc: &A,
+    entry: Entry<A>,
+) -> Result<Vec<Entry<A>, A>, AllocError>
+    ensures { IfOk result (λ block. block.items ≡ entry ∷ []) }
+{
+    let mut block = Vec::new(alloc.clone()?);
+    block.push(entry)?;
+    Ok(block)
+}
+
 impl<A: Allocator + Clone> Filling<A> {
     pub(crate) fn new(alloc: A) -> Result<Filling<A>, AllocError>
         ensures { IfOk result (λ filling. filling ≡ none_filled) }
@@ -36,11 +48,9 @@ impl<A: Allocator + Clone> Filling<A> {
             layout: Layout::new(),
         })
     }
-}
 
-impl<A: Allocator> Filling<A> {
     /// Moves an entry behind the others: into the block that is begun, or where it has no room into the next.
-    pub(crate) fn add(&mut self, alloc: A, entry: Entry<A>) -> Result<(), AllocError>
+    pub(crate) fn add(&mut self, alloc: &A, entry: Entry<A>) -> Result<(), AllocError>
         requires blocks { self.old.layout.blocks < 2 ^ 32 }
         requires used { self.old.layout.used ≤ 4096 }
         ensures added { OnOk result (self.new ≡ with_next self.old entry) }
@@ -49,10 +59,24 @@ impl<A: Allocator> Filling<A> {
         ensures blocks { OnOk result (self.new.layout.blocks ≤ self.old.layout.blocks + 1) }
     {
         if self.layout.add(entry.size()) {
-            let full = std::mem::replace(&mut self.begun, Vec::new(alloc));
-            self.full.push(full)?;
+            let next = block_of(alloc, entry)?;
+            self.begin(next)?;
+            return Ok(());
         }
         self.begun.push(entry)?;
+        Ok(())
+    }
+}
+
+impl<A: Allocator> Filling<A> {
+    /// Begins the next block: the one before it is full.
+    fn begin(&mut self, next: Vec<Entry<A>, A>) -> Result<(), AllocError>
+        ensures full { OnOk result (self.new.full ≡ self.old.full ++ self.old.begun ∷ []) }
+        ensures begun { self.new.begun ≡ next.items }
+        ensures layout { self.new.layout ≡ self.old.layout }
+    {
+        let full = std::mem::replace(&mut self.begun, next);
+        self.full.push(full)?;
         Ok(())
     }
 

@@ -3,7 +3,7 @@
 ghost use Rattle.std.specs.Prelude.{◌≡◌, ◌+◌, ◌*◌, ◌<◌, ◌≤◌, [], length, take, drop, map, fold, slice_index_or, true, IfOk};
 ghost use Rattle.std.specs.List.{All};
 ghost use Rattle.lsm_codec.specs.Entries.{data_block};
-ghost use Rattle.lsm_codec.specs.Indexes.{index_blocks, index_count};
+ghost use Rattle.lsm_codec.specs.Indexes.{index_blocks, index_count, index_length};
 ghost use Rattle.lsm_filter.specs.Bits.{filter_of, with_key, is_perhaps};
 ghost use Rattle.lsm_table.specs.Division.{IsTable, entries_of};
 ghost use Rattle.lsm_table.specs.BlockEdges.{edges_of, first_key_of};
@@ -35,6 +35,20 @@ fn filter_of<A: Allocator>(alloc: A, blocks: &[Vec<Entry<A>, A>]) -> Result<Filt
         insert_keys(&mut filter, block);
     }
     Ok(filter)
+}
+
+/// The bytes of the index of blocks, and the length of its text.
+fn index_of<A: Allocator + Clone>(
+    alloc: &A,
+    blocks: &[Vec<Entry<A>, A>],
+) -> Result<(Vec<u8, A>, usize), AllocError>
+    requires { length blocks.now ≤ 64 }
+    ensures bytes { IfOk result (λ index. index.0.items ≡ index_blocks (edges_of (map (λ b. b.items) blocks.now))) }
+    ensures len { IfOk result (λ index. index.1 ≡ index_length (edges_of (map (λ b. b.items) blocks.now))) }
+{
+    let edges = edges_of(alloc, blocks)?;
+    let index = edges.encode(alloc.clone()?)?;
+    Ok((index, edges.text_len()))
 }
 
 /// One of the blocks that the bytes are.
@@ -93,14 +107,14 @@ impl<A: Allocator + Clone> Image<A> {
         requires entries { entries ≡ length (entries_of (map (λ b. b.items) blocks.items)) }
         ensures { IfOk result (λ image. image ≡ map (λ b. b.items) blocks.items) }
     {
-        let filter = filter_of(alloc.clone()?, &blocks)?;
-        let index = edges_of(alloc.clone()?, &blocks)?;
+        let (index, index_len) = index_of(&alloc, &blocks)?;
+        let filter = filter_of(alloc, &blocks)?;
         Ok(Image {
             blocks,
             entries,
             filter,
-            index_len: index.text_len(),
-            index: index.encode(alloc)?,
+            index,
+            index_len,
         })
     }
 }
