@@ -36,6 +36,20 @@ passed_test false x z e = absurd (none-some z e)
 same_summary : (f : Summary) (n m : ℕ) → n ≡ f.data_blocks → m ≡ f.index_len → record { number = f.number; data_blocks = n; entries = f.entries; index_len = m; first = f.first } ≡ f
 same_summary f n m a b = rw (a, b) refl
 
+-- footer and index that go together tell an outline
+outlined : (s : TableRecord) (f : Summary) (edges : List Edge) (filter : List ℕ) → IsSummary f → IsIndex f.data_blocks edges → go_together s f edges ≡ true → IsOutline (made f edges filter)
+outlined s f edges filter summary index together =
+    let t = and_parts (index_count edges == s.index_blocks) ((index_length edges == f.index_len) && (follow_first f.first edges && are_rising edges)) together in
+    let p = and_parts (index_length edges == f.index_len) (follow_first f.first edges && are_rising edges) t.1 in
+    let q = and_parts (follow_first f.first edges) (are_rising edges) p.1 in
+    let same : summary_in (made f edges filter) ≡ f = same_summary f (length edges) (index_length edges) index.all (eqb-true (index_length edges) f.index_len p.0) in
+    record { summary = subst IsSummary (sym same) summary; index = subst (λ (n : ℕ). IsIndex n edges) (sym index.all) index; begins = q.0; rising = q.1 }
+
+pub is_outline : (s : TableRecord) (f : Summary) (first : Bytes) (edges : List Edge) (filter : List ℕ) → IsSummary f → IsIndex f.data_blocks edges → first ≡ f.first → go_together s f edges ≡ true
+    → IsOutline (record { number = f.number; entries = f.entries; first = first; edges = edges; filter = filter })
+is_outline s f first edges filter summary index same together =
+    subst (λ (b : Bytes). IsOutline (record { number = f.number; entries = f.entries; first = b; edges = edges; filter = filter })) (sym same) (outlined s f edges filter summary index together)
+
 told : (s : TableRecord) (footer index filter : List ℕ) (o : Outline) → outline_of s footer index filter ≡ Some o → IsOutline o × IsSpelled s footer index filter o
 unfolding outline_of
 told s footer index filter o e =
@@ -51,7 +65,6 @@ told s footer index filter o e =
     let y = and_parts (f.data_blocks == s.data_blocks) (f.entries == s.entries) x.1 in
     let t = and_parts (index_count edges == s.index_blocks) ((index_length edges == f.index_len) && (follow_first f.first edges && are_rising edges)) c.0 in
     let p = and_parts (index_length edges == f.index_len) (follow_first f.first edges && are_rising edges) t.1 in
-    let q = and_parts (follow_first f.first edges) (are_rising edges) p.1 in
     let len : index_length edges ≡ f.index_len = eqb-true (index_length edges) f.index_len p.0 in
     let count : length edges ≡ f.data_blocks = back.0.all in
     let same : summary_in (made f edges filter) ≡ f = same_summary f (length edges) (index_length edges) count len in
@@ -62,16 +75,9 @@ told s footer index filter o e =
       entries = sym (eqb-true f.entries s.entries y.1);
     } in
     subst (λ (x : Outline). IsOutline x × IsSpelled s footer index filter x) c.1 (
-      record { summary = subst IsSummary (sym same) front.0; index = subst (λ (n : ℕ). IsIndex n edges) (sym count) back.0; begins = q.0; rising = q.1 },
+      outlined s f edges filter front.0 back.0 c.0,
       record { by_record = recorded; by_footer = front.1 ∙ ap footer_block (sym same); by_index = back.1; by_filter = refl },
     )
-
--- edges that go together rise
-pub rising_in : (s : TableRecord) (f : Summary) (edges : List Edge) → go_together s f edges ≡ true → are_rising edges ≡ true
-rising_in s f edges t =
-    let p = and_parts (index_count edges == s.index_blocks) ((index_length edges == f.index_len) && (follow_first f.first edges && are_rising edges)) t in
-    let q = and_parts (index_length edges == f.index_len) (follow_first f.first edges && are_rising edges) p.1 in
-    (and_parts (follow_first f.first edges) (are_rising edges) q.1).1
 
 own_record : (s : TableRecord) (o : Outline) → IsRecordOf s o → is_of_record s (summary_in o) ≡ true
 own_record s o r = and_from _ _ (eq-eqb o.number s.number (sym r.number)) (and_from _ _ (eq-eqb (length o.edges) s.data_blocks (sym r.data_blocks)) (eq-eqb o.entries s.entries (sym r.entries)))

@@ -1,6 +1,6 @@
 //! The edges of blocks, and places among them.
 
-ghost use Rattle.std.specs.Prelude.{◌≡◌, ◌++◌, ◌<◌, ◌≤◌, length, map, true, IfOk, OnOk};
+ghost use Rattle.std.specs.Prelude.{◌≡◌, ◌++◌, ◌<◌, ◌≤◌, length, map, true, IfOk, IfSome, OnOk};
 ghost use Rattle.lsm_table.specs.BlockEdges.{edge_of, edges_of, last_key, is_edge_before, are_rising};
 ghost use Rattle.lsm_table.specs.Places.{stands_before, place_from};
 
@@ -64,7 +64,8 @@ fn stands_before<A: Allocator>(edge: &Edge<A>, key: &[u8], at: u64) -> bool
 /// The first block whose edge doesn't stand before the place.
 pub(crate) fn place_in<A: Allocator>(edges: &[Edge<A>], key: &[u8], at: u64) -> Option<usize>
     requires { are_rising edges.now ≡ true }
-    ensures { result ≡ place_from 0 key.now at edges.now }
+    ensures place { result ≡ place_from 0 key.now at edges.now }
+    ensures inside { IfSome result (λ block. block < length edges.now) }
 {
     let block = edges.partition_point(|edge: &Edge<A>| stands_before(edge, key, at));
     if block < edges.len() {

@@ -1,13 +1,14 @@
 //! Tables that stand, as footer, index and filter tell of them.
 
-ghost use Rattle.std.specs.Prelude.{◌≡◌, length};
+ghost use Rattle.std.specs.Prelude.{◌≡◌, ◌<◌, ◌≤◌, length, IfSome};
 ghost use Rattle.lsm_codec.specs.Versions.{newest};
+ghost use Rattle.lsm_codec.specs.Indexes.{IsIndex};
 ghost use Rattle.lsm_codec.specs.Footers.{IsSummary, summary_of};
 ghost use Rattle.lsm_filter.specs.Bits.{is_perhaps};
 ghost use Rattle.lsm_table.specs.Division.{TableBlocks, entries_of};
 ghost use Rattle.lsm_table.specs.BlockEdges.{edges_of, first_key_of, last_key};
 ghost use Rattle.lsm_table.specs.Places.{place_of, at_place, IsSorted};
-ghost use Rattle.lsm_table.specs.Outlines.{outline_with, outline_by, outline_of, Opens};
+ghost use Rattle.lsm_table.specs.Outlines.{IsOutline, outline_with, outline_by, outline_of, Opens};
 
 use crate::edges::{last_key, place_in};
 use crate::outline::{go_together, is_of_record};
@@ -28,15 +29,13 @@ pub struct Table<A: Allocator = Global> {
 }
 
 impl<A: Allocator> Model for Table<A> {
-    ghost use Rattle.std.specs.Prelude.{◌≡◌, true};
-    ghost use Rattle.lsm_table.specs.BlockEdges.{are_rising};
-    ghost use Rattle.lsm_table.specs.Outlines.{Outline};
+    ghost use Rattle.lsm_table.specs.Outlines.{Outline, IsOutline};
 
     ghost Value = { Outline };
 
     ghost view = { λ t. record { number = t.number; entries = t.entries; first = t.first; edges = t.index; filter = t.filter } };
 
-    ghost invariant = { λ t. are_rising t.index ≡ true };
+    ghost invariant = { λ t. IsOutline (record { number = t.number; entries = t.entries; first = t.first; edges = t.index; filter = t.filter }) };
 }
 
 impl<A: Allocator + Clone> Table<A> {
@@ -87,7 +86,8 @@ impl<A: Allocator + Clone> Table<A> {
         index: Index<A>,
         filter: &[u8; 4_096],
     ) -> Result<Table<A>, Refusal>
-        requires { IsSummary (summary_of footer.now) }
+        requires footer { IsSummary (summary_of footer.now) }
+        requires index { IsIndex footer.now.data_blocks index }
         ensures { Opens (outline_with table (summary_of footer.now) filter.now index) result }
     {
         if !go_together(table, footer, &index) {
@@ -115,14 +115,19 @@ impl<A: Allocator> Table<A> {
 
     /// How many entries the table has, from 1 to 3,200.
     pub fn entries(&self) -> u32
-        ensures { result ≡ self.now.entries }
+        ensures count { result ≡ self.now.entries }
+        ensures low { 1 ≤ result }
+        ensures high { result ≤ 3200 }
     {
         self.entries
     }
 
     /// How many data blocks the table has, from 1 to 64.
     pub fn data_blocks(&self) -> usize
-        ensures { result ≡ length self.now.edges }
+        ensures count { result ≡ length self.now.edges }
+        ensures low { 1 ≤ result }
+        ensures high { result ≤ 64 }
+        ensures fits { IsOutline self.now }
     {
         self.index.edges().len()
     }
@@ -160,6 +165,7 @@ impl<A: Allocator> Table<A> {
     /// search over the edges. It takes no memory.
     pub fn place(&self, key: &[u8], at: u64) -> Option<usize>
         ensures place { result ≡ place_of self.now.first self.now.edges key.now at }
+        ensures inside { IfSome result (λ block. block < length self.now.edges) }
 
         // Where first key and edges are those of a table, its newest version of the key up to `at` is that of the block.
         ensures finds { (table : TableBlocks) → IsSorted table → self.now.first ≡ first_key_of table → self.now.edges ≡ edges_of table → newest key.now at (entries_of table) ≡ newest key.now at (at_place table result) }

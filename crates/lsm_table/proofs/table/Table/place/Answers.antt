@@ -8,7 +8,7 @@ pub returns-clause-place : goal.returns-clause-place
 returns-clause-place g c =
     let first : c.as_slice.result.now ≡ c.args.self.now.first = c.as_slice.ensures.same ∙ ap (λ o. o.first) c.self.view_is in
     place_after c.args.self.now.first c.as_slice.result.now c.args.key.now c.args.at c.args.self.now.edges c.edges.result.now c.place_in.result c.is_gt.result
-    (λ none. omega (arith, none, c.if-at-eq0.false)) first (c.is_gt.ensures ∙ ap is_gt c.cmp.ensures) c.if-is_gt.false (c.edges.ensures ∙ ap (λ o. o.edges) c.self.view_is) c.place_in.ensures
+    (λ none. omega (arith, none, c.if-at-eq0.false)) first (c.is_gt.ensures ∙ ap is_gt c.cmp.ensures) c.if-is_gt.false (c.edges.ensures ∙ ap (λ o. o.edges) c.self.view_is) c.place_in.ensures.place
 
 pub returns-clause-finds : goal.returns-clause-finds
 returns-clause-finds g c = finds_by c.args.self.now.first c.args.self.now.edges c.args.key.now c.args.at c.place_in.result (returns-clause-place g c)
