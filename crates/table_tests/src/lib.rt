@@ -1,7 +1,6 @@
 //! Tests of tables.
 #![tactic(auto)]
 
-#[cfg(test)]
-mod input;
+pub mod input;
 #[cfg(test)]
 mod tables;

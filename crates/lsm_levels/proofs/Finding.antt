@@ -1,0 +1,135 @@
+-- What a look-up finds where tables stand.
+use Rattle.std.proofs.Common.{◌≡◌, ◌⊎◌, inl, inr, ⊎_elim, ℕ, true, is_some, List, [], ◌∷◌, map, Option, Some, None, Result, Ok, Err, refl, ap, sym, subst, ◌∙◌}
+use Rattle.std.specs.Option.{option_or}
+use Rattle.std.specs.List.{AllByRecursion}
+use Rattle.std.specs.FinMap as finite
+use Rattle.lsm_device.specs.declared.refusal.Refusal.{Refusal}
+use Rattle.lsm_device.specs.declared.refusal.Refusal.TheVariants.{Io, NoMemory}
+use Rattle.lsm_device.specs.Disk.{seen}
+use Rattle.lsm_device.specs.Medium.{disk}
+use Rattle.lsm_codec.specs.Keys.{Bytes}
+use Rattle.lsm_codec.specs.Versions.{Version, newest}
+use Rattle.lsm_mem.specs.Versions.{map_of}
+use Rattle.lsm_mem.proofs.Maps.{value-from_newest}
+use Rattle.lsm_merge.specs.Inputs.{joined}
+use Rattle.lsm_cache.specs.declared.name.BlockName.{BlockName}
+use Rattle.lsm_levels.specs.Tables.{Table, IsRun, versions_of}
+use Rattle.lsm_levels.specs.Orders.{IsVersionOrder}
+use Rattle.lsm_levels.specs.Asking.{Source, Says, SaysOnce, IsDenied, said_in, asked_of_run}
+use Rattle.lsm_levels.specs.Lookups.{EndsOr, LooksUp, LooksUpUnless, CopiesFound, IsLookUp, value_of, versions_at}
+use Rattle.lsm_levels.specs.Stored.{IsStored, IsPlaced, AreStored, ArePlaced, IsReadable}
+use Rattle.lsm_levels.specs.declared.placed.PlacedBlock.{PlacedBlock}
+use Rattle.lsm_levels.proofs.LookingUp.{Outcome, same_refusal, given_bytes, Stays, says_fresh, placed_stands}
+use Rattle.lsm_levels.proofs.StoredLaws.{run_says}
+use Rattle.lsm_levels.proofs.NewestOf.{newest_place}
+
+-- the first of runs that has a version decides
+abbrev pub first_found : Bytes → ℕ → List (List Table) → Option Version
+first_found key n [] = None
+first_found key n (run ∷ older) = option_or (newest key n (versions_of run)) (first_found key n older)
+
+pub first_newest : (key : Bytes) (n : ℕ) (runs : List (List Table)) → IsVersionOrder (map versions_of runs) → first_found key n runs ≡ newest key n (joined (map versions_of runs))
+first_newest key n [] order = refl
+first_newest key n (run ∷ older) order =
+    ap (option_or (newest key n (versions_of run))) (first_newest key n older order.1) ∙ sym (newest_place key n (versions_of run) (map versions_of older) order)
+
+abbrev Finds : Outcome → Option Version → Type 0
+Finds found version = (found ≡ Err Io) ⊎ (found ≡ Ok version)
+
+module _ (place : BlockName → Option ℕ) (sectors : List (List ℕ)) (area : ℕ) (key : Bytes) (n : ℕ) where
+  run_finds : (run : List Table) → IsRun run → AllByRecursion (IsStored sectors area) run → AllByRecursion (IsPlaced place area) run → (found : Outcome) (old new : Source)
+      → Stays place sectors old → Says key n (asked_of_run area key n run) found old new → Finds found (newest key n (versions_of run))
+  run_finds run r stored placed found old new st says =
+      run_says sectors area key n
+      (λ o. ((b : PlacedBlock) → o ≡ Some b → place b.name ≡ Some b.sector) → Says key n o found old new → Finds found (newest key n (versions_of run)))
+      run r stored
+      (λ none stands h. inr (h.0 ∙ ap (λ (o : Option Version). Ok o) (sym none)))
+      (λ b says stands h. ⊎_elim
+      (λ (s : SaysOnce key n b found old new). inr (s.is ∙ ap (said_in key n) (given_bytes place sectors b s.bytes old new (stands b refl) st.0 st.1 st.2 s.given) ∙ says))
+      (λ (d : (found ≡ Err Io) × IsDenied b old new). inl d.0)
+      h)
+      (placed_stands place sectors area key n run placed)
+      says
+
+  goes_first : (newer : Option Version) (first found : Outcome) (old mid new : Source) (older : List (List Table)) → Finds first newer → EndsOr first ((found ≡ first) × (new ≡ mid)) (LooksUp area key n older found mid new)
+      → (LooksUp area key n older found mid new → Finds found (first_found key n older)) → Finds found (option_or newer (first_found key n older))
+  goes_first newer first found old mid new older (inl io) ends later =
+      let e : (found ≡ Err Io) × (new ≡ mid) = subst (λ (f : Outcome). EndsOr f ((found ≡ f) × (new ≡ mid)) (LooksUp area key n older found mid new)) io ends in
+      inl e.0
+  goes_first None first found old mid new older (inr is) ends later =
+      later (subst (λ (f : Outcome). EndsOr f ((found ≡ f) × (new ≡ mid)) (LooksUp area key n older found mid new)) is ends)
+  goes_first (Some v) first found old mid new older (inr is) ends later =
+      let e : (found ≡ Ok (Some v)) × (new ≡ mid) = subst (λ (f : Outcome). EndsOr f ((found ≡ f) × (new ≡ mid)) (LooksUp area key n older found mid new)) is ends in
+      inr e.0
+
+  looks_find : (runs : List (List Table)) → AllByRecursion IsRun runs → AreStored sectors area runs → ArePlaced place area runs → (found : Outcome) (old new : Source)
+      → Stays place sectors old → LooksUp area key n runs found old new → Finds found (first_found key n runs)
+  looks_find [] r stored placed found old new st h = inr h.0
+  looks_find (run ∷ older) r stored placed found old new st h =
+      let mid = says_fresh place sectors key n (asked_of_run area key n run) (placed_stands place sectors area key n run placed.0) h.0 old h.1 h.2 st in
+      goes_first (newest key n (versions_of run)) h.0 found old h.1 new older (run_finds run r.0 stored.0 placed.0 h.0 old h.1 st h.2) h.3
+      (λ goes. looks_find older r.1 stored.1 placed.1 found h.1 new mid goes)
+
+  unless_finds : (newer : Option Version) (runs : List (List Table)) → AllByRecursion IsRun runs → AreStored sectors area runs → ArePlaced place area runs → (found : Outcome) (old new : Source)
+      → Stays place sectors old → LooksUpUnless newer area key n runs found old new → Finds found (option_or newer (first_found key n runs))
+  unless_finds None runs r stored placed found old new st h = looks_find runs r stored placed found old new st h
+  unless_finds (Some v) runs r stored placed found old new st h = inr h.0
+
+abbrev no_answer : Refusal → Result (Option Bytes) Refusal
+no_answer e = Err e
+
+or_both : (a b c : Option Version) → option_or (option_or a b) c ≡ option_or a (option_or b c)
+or_both None b c = refl
+or_both (Some v) b c = refl
+
+module _ (place : BlockName → Option ℕ) (memory sealed : List Version) (runs : List (List Table)) (area : ℕ) (key : Bytes) (n : ℕ) (r : AllByRecursion IsRun runs) where
+  found_is : (answer : Result (Option Bytes) Refusal) (old new : Source) → (look : IsLookUp memory sealed runs area key n answer old new) → IsReadable place area runs old
+      → Finds look.found (option_or (option_or (newest key n memory) (newest key n sealed)) (first_found key n runs))
+  found_is answer old new look s =
+      unless_finds place (seen (disk old.medium)) area key n (option_or (newest key n memory) (newest key n sealed)) runs r s.stored s.placed look.found old new (s.tells, refl, s.fresh) look.looks
+
+  -- the value of the map
+  pub value_found : (value : Option Bytes) (old new : Source) → IsLookUp memory sealed runs area key n (Ok value) old new → IsReadable place area runs old → IsVersionOrder (versions_at memory sealed runs)
+      → value ≡ finite.get (map_of (joined (versions_at memory sealed runs)) n) key
+  value_found value old new look s order =
+      let all : option_or (option_or (newest key n memory) (newest key n sealed)) (first_found key n runs) ≡ newest key n (joined (versions_at memory sealed runs)) =
+      or_both (newest key n memory) (newest key n sealed) (first_found key n runs)
+      ∙ ap (λ (o : Option Version). option_or (newest key n memory) (option_or (newest key n sealed) o)) (first_newest key n runs order.1.1)
+      ∙ ap (option_or (newest key n memory)) (sym (newest_place key n sealed (map versions_of runs) order.1))
+      ∙ sym (newest_place key n memory (sealed ∷ map versions_of runs) order) in
+      ⊎_elim
+      (λ (io : look.found ≡ Err Io). absurd (let no : Ok value ≡ Err Io = subst (λ (f : Outcome). CopiesFound f (Ok value)) io look.answers in cc))
+      (λ (is : look.found ≡ Ok (option_or (option_or (newest key n memory) (newest key n sealed)) (first_found key n runs))).
+      let told = subst (λ (f : Outcome). CopiesFound f (Ok value)) (is ∙ ap (λ (o : Option Version). Ok o) all) look.answers in
+      ⊎_elim
+      (λ (e : Ok value ≡ Ok (value_of (newest key n (joined (versions_at memory sealed runs))))).
+      let same : value ≡ value_of (newest key n (joined (versions_at memory sealed runs))) = cc in
+      same ∙ value-from_newest (joined (versions_at memory sealed runs)) n key (newest key n (joined (versions_at memory sealed runs))) refl)
+      (λ (e : (Ok value ≡ Err NoMemory) × (is_some (value_of (newest key n (joined (versions_at memory sealed runs)))) ≡ true)). absurd (let no : Ok value ≡ Err NoMemory = e.0 in cc))
+      told)
+      (found_is (Ok value) old new look s)
+
+  -- or a read faulted, or memory was refused
+  pub refusal_found : (e : Refusal) (old new : Source) → IsLookUp memory sealed runs area key n (Err e) old new → IsReadable place area runs old → (e ≡ Io) ⊎ (e ≡ NoMemory)
+  refusal_found e old new look s =
+      ⊎_elim
+      (λ (io : look.found ≡ Err Io).
+      inl (same_refusal e Io (no_answer e) refl (subst (λ (f : Outcome). CopiesFound f (Err e)) io look.answers)))
+      (λ (is : look.found ≡ Ok (option_or (option_or (newest key n memory) (newest key n sealed)) (first_found key n runs))).
+      ⊎_elim
+      (λ (k : Err e ≡ Ok (value_of (option_or (option_or (newest key n memory) (newest key n sealed)) (first_found key n runs)))). absurd cc)
+      (λ (k : (Err e ≡ Err NoMemory) × (is_some (value_of (option_or (option_or (newest key n memory) (newest key n sealed)) (first_found key n runs))) ≡ true)).
+      inr (same_refusal e NoMemory (no_answer e) refl k.0))
+      (subst (λ (f : Outcome). CopiesFound f (Err e)) is look.answers))
+      (found_is (Err e) old new look s)
+
+-- ---- where a look-up ends
+
+module _ (memory sealed : List Version) (runs : List (List Table)) (area : ℕ) (key : Bytes) (n : ℕ) where
+  -- in memory
+  pub ends_in_memory : (v : Version) (answer : Result (Option Bytes) Refusal) (s : Source) → Some v ≡ option_or (newest key n memory) (newest key n sealed) → CopiesFound (Ok (Some v)) answer → IsLookUp memory sealed runs area key n answer s s
+  ends_in_memory v answer s e a = record { found = Ok (Some v); looks = subst (λ (o : Option Version). LooksUpUnless o area key n runs (Ok (Some v)) s s) e (refl, refl); answers = a }
+
+  -- in runs
+  pub ends_in_runs : (found : Outcome) (answer : Result (Option Bytes) Refusal) (old new : Source) → None ≡ option_or (newest key n memory) (newest key n sealed) → LooksUp area key n runs found old new → CopiesFound found answer → IsLookUp memory sealed runs area key n answer old new
+  ends_in_runs found answer old new e looks a = record { found = found; looks = subst (λ (o : Option Version). LooksUpUnless o area key n runs found old new) e looks; answers = a }

@@ -1,0 +1,27 @@
+pub mod Members
+pub mod KeyOrder
+pub mod Ranges
+pub mod HullLaws
+pub mod Replacing
+pub mod Runs
+pub mod Surviving
+pub mod PickLaws
+pub mod Taking
+pub mod Parts
+pub mod Searching
+pub mod RunHulls
+pub mod Turning
+pub mod Placing
+pub mod Merging
+pub mod Least
+pub mod RunTests
+pub mod BottomLaws
+mod Walks
+pub mod CoveringLaws
+pub mod NewestOf
+pub mod AskedLaws
+pub mod LookingUp
+pub mod ToldLaws
+pub mod StoredLaws
+pub mod Finding
+pub mod WithinLaws

@@ -1,0 +1,224 @@
+-- A job that is picked has its tables, and no other job has them as input.
+use Rattle.std.proofs.Common.{◌≡◌, ◌≢◌, inl, inr, ⊎_elim, ℕ, zero, suc, ◌<◌, ◌≤◌, Bool, true, false, cond, not, ◌&&◌, ◌==◌, leb, ltb, List, [], ◌∷◌, ◌++◌, length, get_or, filter, sum_by, Option, Some, None, option_map, refl, sym, ap, ◌∙◌, subst, arith}
+use Rattle.std.proofs.lemmas.Bool.{leb-true, eq-eqb}
+use Rattle.std.specs.List.{AllByRecursion, list_any, list_all}
+use Rattle.lsm_levels.specs.Among.{IsAmong}
+use Rattle.lsm_levels.proofs.Members.{among_left, among_right, among_either, among_passed, passed_among, any_of}
+use Rattle.lsm_levels.specs.Tables.{Table, KeyRange, range_of, spanned, hull, meets, meeting}
+use Rattle.lsm_levels.specs.Levels.{Levels, level, last_run}
+use Rattle.lsm_levels.specs.Pick.{Job, Flush, inputs, is_flush, is_of_level_0, is_input, is_free, lower_of, can_merge, merge_of, least_numbered, lesser, flush_job, level_0_job, level_job, or_next, pick, below_output, meets_none, is_bottom}
+use Rattle.lsm_levels.specs.Held.{AreRuns, IsUpper, HasItsTables, AreApart, IsPicked, PickLaw}
+use Rattle.lsm_levels.proofs.Ranges.{no}
+use Rattle.lsm_levels.proofs.Replacing.{last_cons}
+
+in_both : (a b : Bool) → (a && b) ≡ true → (a ≡ true) × (b ≡ true)
+in_both true b h = (refl, h)
+in_both false b h = absurd cc
+
+not_true : (b : Bool) → not b ≡ true → b ≡ false
+not_true true h = absurd cc
+not_true false h = refl
+
+some_job : (a b : Job) → Some a ≡ Some b → a ≡ b
+some_job a b e = cc
+
+some_range : (a b : KeyRange) → Some a ≡ Some b → a ≡ b
+some_range a b e = cc
+
+some_table : (a b : Table) → Some a ≡ Some b → a ≡ b
+some_table a b e = cc
+
+none_job : (a : Job) → None ≡ Some a → ⊥
+none_job a e = cc
+
+none_table : (a : Table) → None ≡ Some a → ⊥
+none_table a e = cc
+
+-- what a test that holds gives
+taken : (b : Bool) (job : Job) (o : Option Job) → cond b o None ≡ Some job → (b ≡ true) × (o ≡ Some job)
+taken true job o e = (refl, e)
+taken false job o e = absurd (none_job job e)
+
+module _ {X : Type 0} where
+  all_pass : (p : X → Bool) (xs : List X) → list_all p xs ≡ true → (x : X) → IsAmong x xs → p x ≡ true
+  all_pass p [] h x a = absurd a
+  all_pass p (y ∷ xs) h x (inl e) = ap p e ∙ (in_both (p y) (list_all p xs) h).0
+  all_pass p (y ∷ xs) h x (inr a) = all_pass p xs (in_both (p y) (list_all p xs) h).1 x a
+
+-- ---- free tables
+
+free_apart : (jobs : List Job) (t : Table) → is_free jobs t ≡ true → (other : Job) → IsAmong other jobs → (u : Table) → IsAmong u (inputs other) → t.number ≢ u.number
+free_apart jobs t free other a u b same =
+    absurd (no (sym (any_of (λ job. list_any (λ x. x.number == t.number) (inputs job)) other jobs a (any_of (λ x. x.number == t.number) u (inputs other) b (eq-eqb u.number t.number (sym same))))
+    ∙ not_true (is_input jobs t.number) free))
+
+free_merge : (jobs : List Job) (i : ℕ) (upper below : List Table) → can_merge jobs upper below ≡ true → (other : Job) → IsAmong other jobs → AreApart (merge_of i upper below) other
+free_merge jobs i upper below can other a =
+    let parts = in_both (list_all (is_free jobs) upper) (list_all (is_free jobs) (lower_of upper below)) can in
+    record {
+      tables = λ t u b c. ⊎_elim
+          (λ up. free_apart jobs t (all_pass (is_free jobs) upper parts.0 t up) other a u c)
+          (λ low. free_apart jobs t (all_pass (is_free jobs) (lower_of upper below) parts.1 t low) other a u c)
+          (among_either t upper (lower_of upper below) b);
+      one_flush = λ e f. absurd (no (sym e));
+    }
+
+-- ---- the tables below its output
+
+deeper_none : (xs : List (List Table)) (m : ℕ) → length xs ≤ m → get_or xs m [] ≡ []
+deeper_none [] m le = refl
+deeper_none (x ∷ xs) zero le = absurd (omega (arith, le))
+deeper_none (x ∷ xs) (suc m) le = deeper_none xs m (omega (arith, le))
+
+module _ (levels : Levels) (four : length levels.deeper ≡ 4) where
+  too_deep : (m : ℕ) (t : Table) → 4 ≤ m → IsAmong t (level levels (suc m)) → ⊥
+  too_deep m t le a = subst (IsAmong t) (deeper_none levels.deeper m (omega (arith, four, le))) a
+
+  below_is : (i k : ℕ) (t : Table) → i ≤ 3 → suc i < k → IsAmong t (level levels k) → IsAmong t (below_output levels i)
+  below_is zero zero t small deep a = absurd (omega (arith, deep))
+  below_is zero (suc zero) t small deep a = absurd (omega (arith, deep))
+  below_is zero (suc (suc zero)) t small deep a = among_left t (level levels 2) _ a
+  below_is zero (suc (suc (suc zero))) t small deep a = among_right t (level levels 2) _ (among_left t (level levels 3) (level levels 4) a)
+  below_is zero (suc (suc (suc (suc zero)))) t small deep a = among_right t (level levels 2) _ (among_right t (level levels 3) (level levels 4) a)
+  below_is zero (suc (suc (suc (suc (suc m))))) t small deep a = absurd (too_deep (suc (suc (suc (suc m)))) t (omega arith) a)
+  below_is (suc zero) zero t small deep a = absurd (omega (arith, deep))
+  below_is (suc zero) (suc zero) t small deep a = absurd (omega (arith, deep))
+  below_is (suc zero) (suc (suc zero)) t small deep a = absurd (omega (arith, deep))
+  below_is (suc zero) (suc (suc (suc zero))) t small deep a = among_left t (level levels 3) (level levels 4) a
+  below_is (suc zero) (suc (suc (suc (suc zero)))) t small deep a = among_right t (level levels 3) (level levels 4) a
+  below_is (suc zero) (suc (suc (suc (suc (suc m))))) t small deep a = absurd (too_deep (suc (suc (suc (suc m)))) t (omega arith) a)
+  below_is (suc (suc zero)) zero t small deep a = absurd (omega (arith, deep))
+  below_is (suc (suc zero)) (suc zero) t small deep a = absurd (omega (arith, deep))
+  below_is (suc (suc zero)) (suc (suc zero)) t small deep a = absurd (omega (arith, deep))
+  below_is (suc (suc zero)) (suc (suc (suc zero))) t small deep a = absurd (omega (arith, deep))
+  below_is (suc (suc zero)) (suc (suc (suc (suc zero)))) t small deep a = a
+  below_is (suc (suc zero)) (suc (suc (suc (suc (suc m))))) t small deep a = absurd (too_deep (suc (suc (suc (suc m)))) t (omega arith) a)
+  below_is (suc (suc (suc i))) zero t small deep a = absurd (omega (arith, deep))
+  below_is (suc (suc (suc i))) (suc m) t small deep a = absurd (too_deep m t (omega (arith, deep)) a)
+
+  lowest_met : (o : Option KeyRange) (whole : KeyRange) (tables : List Table) (t : Table) → o ≡ Some whole → meets_none o tables ≡ true → IsAmong t tables → meets whole t ≡ false
+  lowest_met None whole tables t e h a = cc
+  lowest_met (Some w) whole tables t e h a = by (meets whole t) refl
+    where
+      by : (b : Bool) → meets whole t ≡ b → b ≡ false
+      by false f = refl
+      by true f = absurd (no (sym (any_of (meets w) t tables a (ap (λ (r : KeyRange). meets r t) (some_range w whole e) ∙ f)) ∙ not_true (list_any (meets w) tables) h))
+
+  -- a merge of upper tables whose hull there is
+  held_merge : (i : ℕ) (upper : List Table) (range : KeyRange) → i ≤ 3 → hull upper ≡ Some range → IsUpper levels i upper
+      → HasItsTables levels (is_bottom levels (merge_of i upper (level levels (suc i)))) i upper (lower_of upper (level levels (suc i)))
+  held_merge i upper range small is uppers =
+      let lower_is : lower_of upper (level levels (suc i)) ≡ filter (meets range) (level levels (suc i)) = ap (λ (o : Option KeyRange). meeting o (level levels (suc i))) is in
+      record {
+        known = small;
+        range = range;
+        hull_is = is;
+        uppers = uppers;
+        lowers = λ t a. (passed_among (meets range) t (level levels (suc i)) (subst (IsAmong t) lower_is a)).0;
+        meet = λ t a. (passed_among (meets range) t (level levels (suc i)) (subst (IsAmong t) lower_is a)).1;
+        all = λ t a met. subst (IsAmong t) (sym lower_is) (among_passed (meets range) t (level levels (suc i)) a met);
+        lowest = λ bottom k t whole deep a whole_is.
+            lowest_met (hull (upper ++ lower_of upper (level levels (suc i)))) whole (below_output levels i) t whole_is bottom (below_is i k t small deep a);
+      }
+
+-- ---- the rules
+
+flush_rule : (waiting : Bool) (levels : Levels) (jobs : List Job) (job : Job) → flush_job waiting jobs ≡ Some job → IsPicked levels jobs job
+flush_rule waiting levels jobs job e =
+    let test = taken (waiting && not (list_any is_flush jobs)) job (Some Flush) e in
+    let none = not_true (list_any is_flush jobs) (in_both waiting (not (list_any is_flush jobs)) test.0).1 in
+    subst (IsPicked levels jobs) (some_job Flush job test.1) (record {
+      held = refl;
+      apart = λ other a. record {
+        tables = λ t u b c. absurd b;
+        one_flush = λ mine theirs. no (sym (any_of is_flush other jobs a theirs) ∙ none);
+      };
+    })
+
+hull_there : (upper : List Table) → 0 < length upper → (range : KeyRange) × (hull upper ≡ Some range)
+hull_there [] some = absurd (omega (arith, some))
+hull_there (t ∷ rest) some = (spanned t (hull rest), refl)
+
+last_in : (P : List Table → Type 0) (runs : List (List Table)) → 1 ≤ length runs → AllByRecursion P runs → P (last_run runs)
+last_in P [] le h = absurd (omega (arith, le))
+last_in P (x ∷ []) le h = h.0
+last_in P (x ∷ y ∷ rest) le h = subst P (sym (last_cons x y rest)) (last_in P (y ∷ rest) (omega arith) h.1)
+
+level_0_rule : (levels : Levels) (jobs : List Job) (job : Job) → AreRuns levels → level_0_job levels.runs (level levels 1) jobs ≡ Some job → IsPicked levels jobs job
+level_0_rule levels jobs job runs e =
+    let oldest = last_run levels.runs in
+    let can : Bool = can_merge jobs oldest (level levels 1) in
+    let test = taken (leb 4 (length levels.runs) && (not (list_any is_of_level_0 jobs) && can)) job (Some (merge_of 0 oldest (level levels 1))) e in
+    let first = in_both (leb 4 (length levels.runs)) (not (list_any is_of_level_0 jobs) && can) test.0 in
+    let then = in_both (not (list_any is_of_level_0 jobs)) can first.1 in
+    let many = leb-true 4 (length levels.runs) first.0 in
+    let there = hull_there oldest (last_in (λ run. 0 < length run) levels.runs (omega (arith, many)) runs.some) in
+    subst (IsPicked levels jobs) (some_job (merge_of 0 oldest (level levels 1)) job test.1) (record {
+      held = held_merge levels runs.four 0 oldest there.0 (omega arith) there.1 (omega (arith, many), refl);
+      apart = free_merge jobs 0 oldest (level levels 1) then.1;
+    })
+
+least_among : (tables : List Table) (t : Table) → least_numbered tables ≡ Some t → IsAmong t tables
+least_among [] t e = absurd (none_table t e)
+least_among (u ∷ rest) t e = by (least_numbered rest) (least_among rest) (some_table (lesser u (least_numbered rest)) t e)
+  where
+    by : (o : Option Table) → ((x : Table) → o ≡ Some x → IsAmong x rest) → lesser u o ≡ t → IsAmong t (u ∷ rest)
+    by None more e = inl (sym e)
+    by (Some x) more e = choose (leb u.number x.number) e
+      where
+        choose : (b : Bool) → cond b u x ≡ t → IsAmong t (u ∷ rest)
+        choose true e = inl (sym e)
+        choose false e = inr (subst (λ (y : Table). IsAmong y rest) e (more x refl))
+
+mapped : (f : Table → Job) (o : Option Table) (job : Job) → option_map f o ≡ Some job → (t : Table) × (o ≡ Some t) × (f t ≡ job)
+mapped f (Some t) job e = (t, refl, some_job (f t) job e)
+mapped f None job e = absurd (none_job job e)
+
+level_rule : (i limit : ℕ) (levels : Levels) (jobs : List Job) (job : Job) → suc i ≤ 3 → AreRuns levels → level_job (level levels (suc i)) (level levels (suc (suc i))) jobs (suc i) limit ≡ Some job → IsPicked levels jobs job
+level_rule i limit levels jobs job small runs e =
+    let tables = level levels (suc i) in
+    let below = level levels (suc (suc i)) in
+    let test = taken (ltb limit (sum_by (λ t. t.blocks) tables)) job (option_map (λ t. merge_of (suc i) (t ∷ []) below) (least_numbered (filter (λ t. can_merge jobs (t ∷ []) below) tables))) e in
+    let found = mapped (λ t. merge_of (suc i) (t ∷ []) below) (least_numbered (filter (λ t. can_merge jobs (t ∷ []) below) tables)) job test.1 in
+    let t = found.0 in
+    let passed = passed_among (λ u. can_merge jobs (u ∷ []) below) t tables (least_among (filter (λ u. can_merge jobs (u ∷ []) below) tables) t found.1) in
+    subst (IsPicked levels jobs) found.2 (record {
+      held = held_merge levels runs.four (suc i) (t ∷ []) (range_of t) small refl (t, refl, passed.0);
+      apart = free_merge jobs (suc i) (t ∷ []) below passed.1;
+    })
+
+-- the first of two that there is
+of_next : (P : Job → Type 0) (a b : Option Job) (job : Job) → ((x : Job) → a ≡ Some x → P x) → ((x : Job) → b ≡ Some x → P x) → or_next a b ≡ Some job → P job
+of_next P (Some x) b job f g e = f job e
+of_next P None b job f g e = g job e
+
+-- a flush is picked only where sealed versions wait
+pub flush_waits : (waiting : Bool) (levels : Levels) (jobs : List Job) (job : Job) → pick waiting levels jobs ≡ Some job → is_flush job ≡ true → waiting ≡ true
+flush_waits waiting levels jobs job e =
+    let P : Job → Type 0 = λ j. is_flush j ≡ true → waiting ≡ true in
+    of_next P _ _ job (λ x f flush. (in_both waiting (not (list_any is_flush jobs)) (taken (waiting && not (list_any is_flush jobs)) x (Some Flush) f).0).0)
+    (λ x. of_next P _ _ x (λ y f flush. absurd (not_flush y (level_0_merge y f) flush))
+    (λ x. of_next P _ _ x (λ y f flush. absurd (not_flush y (level_merge 1 256 (level levels 1) (level levels 2) y f) flush))
+    (λ x. of_next P _ _ x (λ y f flush. absurd (not_flush y (level_merge 2 2048 (level levels 2) (level levels 3) y f) flush)) (λ y f flush. absurd (not_flush y (level_merge 3 16384 (level levels 3) (level levels 4) y f) flush))))) e
+  where
+    not_flush : (j : Job) → is_flush j ≡ false → is_flush j ≡ true → ⊥
+    not_flush j a b = no (sym b ∙ a)
+
+    level_0_merge : (j : Job) → level_0_job levels.runs (level levels 1) jobs ≡ Some j → is_flush j ≡ false
+    level_0_merge j f =
+        let test = taken (leb 4 (length levels.runs) && (not (list_any is_of_level_0 jobs) && can_merge jobs (last_run levels.runs) (level levels 1))) j (Some (merge_of 0 (last_run levels.runs) (level levels 1))) f in
+        sym (ap is_flush (some_job (merge_of 0 (last_run levels.runs) (level levels 1)) j test.1))
+
+    level_merge : (i limit : ℕ) (tables below : List Table) (j : Job) → level_job tables below jobs i limit ≡ Some j → is_flush j ≡ false
+    level_merge i limit tables below j f =
+        let test = taken (ltb limit (sum_by (λ t. t.blocks) tables)) j (option_map (λ t. merge_of i (t ∷ []) below) (least_numbered (filter (λ t. can_merge jobs (t ∷ []) below) tables))) f in
+        let found = mapped (λ t. merge_of i (t ∷ []) below) (least_numbered (filter (λ t. can_merge jobs (t ∷ []) below) tables)) j test.1 in
+        sym (ap is_flush found.2)
+
+pub pick_law : PickLaw
+pick_law waiting levels jobs job runs e =
+    let P : Job → Type 0 = IsPicked levels jobs in
+    of_next P _ _ job (flush_rule waiting levels jobs)
+    (λ x. of_next P _ _ x (λ y. level_0_rule levels jobs y runs)
+    (λ x. of_next P _ _ x (λ y. level_rule 0 256 levels jobs y (omega arith) runs)
+    (λ x. of_next P _ _ x (λ y. level_rule 1 2048 levels jobs y (omega arith) runs) (λ y. level_rule 2 16384 levels jobs y (omega arith) runs)))) e

@@ -1,0 +1,253 @@
+-- A job keeps its tables while others install.
+use Rattle.std.proofs.Common.{◌≡◌, ◌⊎◌, inl, inr, ⊎_elim, ℕ, zero, suc, ◌-◌, ◌<◌, ◌≤◌, Bool, true, false, List, [], ◌∷◌, ◌++◌, length, Option, Some, None, refl, sym, ap, ◌∙◌, subst, arith}
+use Rattle.std.specs.List.{AllByRecursion}
+use Rattle.std.proofs.lemmas.Bool.{cases_lt}
+use Rattle.lsm_levels.specs.Among.{IsAmong}
+use Rattle.lsm_levels.proofs.Members.{among_left, among_right, among_either}
+use Rattle.lsm_levels.specs.Tables.{Table, KeyRange, range_of, at_most, is_below, hull, meets, IsRun}
+use Rattle.lsm_levels.specs.Levels.{Levels, level, last_run, flushed, merged_at, replaced}
+use Rattle.lsm_levels.specs.Pick.{Flush, Merge}
+use Rattle.lsm_levels.specs.Held.{AreRuns, IsUpper, HasItsTables, AreApart, IsWithin, SurvivalLaw}
+use Rattle.lsm_levels.proofs.Ranges.{no, of_all, sides, run_order, other_apart}
+use Rattle.lsm_levels.proofs.HullLaws.{hull_order, beside_output, beside_hull}
+use Rattle.lsm_levels.proofs.Replacing.{last_cons, after_cases, stays_after}
+use Rattle.lsm_levels.proofs.Runs.{all_or, run_at}
+
+some_same : (a b : KeyRange) → Some a ≡ Some b → a ≡ b
+some_same a b e = cc
+
+none_some : (a : KeyRange) → None ≡ Some a → ⊥
+none_some a e = cc
+
+-- where a test would be met there is a contradiction
+not_met : (b : Bool) → (b ≡ true → ⊥) → b ≡ false
+not_met true h = absurd (h refl)
+not_met false h = refl
+
+-- a table whose range a hull is of
+pub single_range : (t : Table) (upper : List Table) (r : KeyRange) → upper ≡ t ∷ [] → hull upper ≡ Some r → r ≡ range_of t
+single_range t upper r single is = sym (some_same (range_of t) r (sym (ap hull single) ∙ is))
+
+module _ (levels : Levels) (runs : AreRuns levels) (bottom flag : Bool) (i j : ℕ) (upper lower other_upper other_lower : List Table)
+    (h : HasItsTables levels bottom i upper lower) (c : HasItsTables levels flag j other_upper other_lower) (apart : AreApart (Merge i upper lower) (Merge j other_upper other_lower)) where
+  -- no input of the one is an input of the other
+  abbrev Mine : Table → Type 0
+  Mine t = IsAmong t (upper ++ lower)
+
+  abbrev Others : Table → Type 0
+  Others t = IsAmong t (other_upper ++ other_lower)
+
+  distinct : (t u : Table) → Mine t → Others u → t ≡ u → ⊥
+  distinct t u a b e = apart.tables t u a b (ap (λ (x : Table). x.number) e)
+
+  shared : (t : Table) → Mine t → Others t → ⊥
+  shared t a b = distinct t t a b refl
+
+  -- not both are of level 0
+  not_both : i ≡ 0 → j ≡ 0 → ⊥
+  not_both e f = by upper refl
+    where
+      mine : (n : ℕ) → n ≡ 0 → IsUpper levels n upper → last_run levels.runs ≡ upper
+      mine zero e u = u.1
+      mine (suc n) e u = absurd (omega (arith, e))
+
+      others : (n : ℕ) → n ≡ 0 → IsUpper levels n other_upper → last_run levels.runs ≡ other_upper
+      others zero e u = u.1
+      others (suc n) e u = absurd (omega (arith, e))
+
+      by : (us : List Table) → upper ≡ us → ⊥
+      by [] is = none_some h.range (sym (ap hull is) ∙ h.hull_is)
+      by (t ∷ rest) is =
+          let a : IsAmong t upper = subst (λ (l : List Table). IsAmong t l) (sym is) (inl refl) in
+          shared t (among_left t upper lower a) (among_left t other_upper other_lower (subst (IsAmong t) (sym (mine i e h.uppers) ∙ others j f c.uppers) a))
+
+  -- the one table of a level that a merge takes
+  abbrev IsOne : ℕ → Table → List Table → Type 0
+  IsOne n t tables = (tables ≡ t ∷ []) × IsAmong t (level levels n)
+
+  one_table : (n : ℕ) → 1 ≤ n → (tables : List Table) → IsUpper levels n tables → (t : Table) × IsOne n t tables
+  one_table zero le tables u = absurd (omega (arith, le))
+  one_table (suc n) le tables u = (u.0, (u.1, u.2))
+
+  run_of : (n : ℕ) → 1 ≤ n → IsRun (level levels n)
+  run_of zero le = absurd (omega (arith, le))
+  run_of (suc n) le = run_at levels runs n
+
+  in_one : (t : Table) (tables : List Table) → tables ≡ t ∷ [] → IsAmong t tables
+  in_one t tables e = subst (λ (l : List Table). IsAmong t l) (sym e) (inl refl)
+
+  -- ---- the other's upper table, at a level of 1 to 3
+
+  module _ (deep : 1 ≤ j) where
+    theirs : (t : Table) × IsOne j t other_upper
+    theirs = one_table j deep other_upper c.uppers
+
+    abbrev it : Table
+    it = theirs.0
+
+    its_range : c.range ≡ range_of it
+    its_range = single_range it other_upper c.range theirs.1.0 c.hull_is
+
+    it_in : Others it
+    it_in = among_left it other_upper other_lower (in_one it other_upper theirs.1.0)
+
+    -- a table of mine in that level isn't met
+    beside_it : (t : Table) → Mine t → IsAmong t (level levels j) → meets c.range t ≡ false
+    beside_it t a at =
+        subst (λ (r : KeyRange). meets r t ≡ false) (sym its_range)
+        (other_apart (level levels j) (run_of j deep) it t theirs.1.1 at (λ e. distinct t it a it_in (sym e)))
+
+  -- a table of mine in the other's output level isn't met
+  not_taken : (t : Table) → Mine t → IsAmong t (level levels (suc j)) → meets c.range t ≡ false
+  not_taken t a at = not_met (meets c.range t) (λ met. shared t a (among_right t other_upper other_lower (c.all t at met)))
+
+  -- ---- what survives
+
+  stays : (k : ℕ) (t : Table) → Mine t → IsAmong t (level levels k) → (new : List Table) → (k ≡ 0 → j ≡ 0 → ⊥) → IsAmong t (level (replaced j c.range new levels) k)
+  stays k t a at new fine =
+      stays_after c.range new levels runs.four j c.known k t at
+      (λ e. not_taken t a (subst (λ n. IsAmong t (level levels n)) e at))
+      (λ e deep. beside_it deep t a (subst (λ n. IsAmong t (level levels n)) e at))
+      (λ e f last. fine e f)
+
+  module _ (new : List Table) (within : AllByRecursion (IsWithin (other_upper ++ other_lower)) new) where
+    abbrev after : Levels
+    after = replaced j c.range new levels
+
+    runs_same : (n : ℕ) → 1 ≤ n → (r : KeyRange) → (replaced n r new levels).runs ≡ levels.runs
+    runs_same zero le r = absurd (omega (arith, le))
+    runs_same (suc n) le r = refl
+
+    uppers_after : (n : ℕ) → n ≡ i → IsUpper levels n upper → IsUpper after n upper
+    uppers_after zero e u = ⊎_elim
+        (λ (none : j ≡ 0). absurd (not_both (sym e) none))
+        (λ (deep : 1 ≤ j). let same = runs_same j deep c.range in
+        (subst (λ (rs : List (List Table)). 1 ≤ length rs) (sym same) u.0, ap last_run same ∙ u.1))
+        (zero_or_more j)
+      where
+        zero_or_more : (n : ℕ) → (n ≡ 0) ⊎ (1 ≤ n)
+        zero_or_more zero = inl refl
+        zero_or_more (suc n) = inr (omega arith)
+    uppers_after (suc n) e u = (u.0, u.1, stays (suc n) u.0 (among_left u.0 upper lower (in_one u.0 upper u.1)) u.2 new (λ f g. omega (arith, f)))
+
+    -- an output lies beside a range that lies beside the other's inputs
+    outputs_beside : (q : KeyRange) → at_most q.first q.last ≡ true → (is_below q.last c.range.first ≡ true) ⊎ (is_below c.range.last q.first ≡ true) → ((l : Table) → IsAmong l other_lower → meets q l ≡ false)
+        → (n : Table) → IsAmong n new → meets q n ≡ false
+    outputs_beside q order side lone n a =
+        beside_output other_upper other_lower c.range q c.hull_is c.meet order lone side n (of_all (IsWithin (other_upper ++ other_lower)) new within n a)
+
+    -- an output in my output level: my upper table lies in the other's upper level, beside its own
+    beside_mine : i ≡ j → (n : Table) → IsAmong n new → meets h.range n ≡ false
+    beside_mine e n a =
+        let deep : 1 ≤ j = nonzero j (λ f. not_both (e ∙ f) f) in
+        let mine = one_table i (subst (λ m. 1 ≤ m) (sym e) deep) upper h.uppers in
+        let t = mine.0 in
+        let range : h.range ≡ range_of t = single_range t upper h.range mine.1.0 h.hull_is in
+        let at : IsAmong t (level levels j) = subst (λ m. IsAmong t (level levels m)) e mine.1.1 in
+        let own : Mine t = among_left t upper lower (in_one t upper mine.1.0) in
+        subst (λ (r : KeyRange). meets r n ≡ false) (sym range)
+        (outputs_beside (range_of t) (run_order (level levels j) (run_of j deep) t at)
+        (⊎_elim (λ s. inl s) (λ s. inr s) (sides c.range t (beside_it deep t own at)))
+        (λ l b. not_met (meets (range_of t) l) (λ met.
+        shared l
+        (among_right l upper lower (h.all l (subst (λ m. IsAmong l (level levels (suc m))) (sym e) (c.lowers l b)) (subst (λ (r : KeyRange). meets r l ≡ true) (sym range) met)))
+        (among_right l other_upper other_lower b)))
+        n a)
+      where
+        nonzero : (m : ℕ) → (m ≡ 0 → ⊥) → 1 ≤ m
+        nonzero zero f = absurd (f refl)
+        nonzero (suc m) f = omega arith
+
+    -- an output below my output level
+    below_mine : bottom ≡ true → suc i < suc j → (whole : KeyRange) → hull (upper ++ lower) ≡ Some whole → at_most whole.first whole.last ≡ true → (n : Table) → IsAmong n new → meets whole n ≡ false
+    below_mine lowest deeper whole is order n a =
+        let deep : 1 ≤ j = omega (arith, deeper) in
+        outputs_beside whole order
+        (subst (λ (r : KeyRange). (is_below whole.last r.first ≡ true) ⊎ (is_below r.last whole.first ≡ true)) (sym (its_range deep)) (beside deep))
+        (λ l b. h.lowest lowest (suc j) l whole (omega (arith, deeper)) (c.lowers l b) is)
+        n a
+      where
+        turn : (deep : 1 ≤ j) → (is_below (range_of (it deep)).last whole.first ≡ true) ⊎ (is_below whole.last (range_of (it deep)).first ≡ true)
+            → (is_below whole.last (range_of (it deep)).first ≡ true) ⊎ (is_below (range_of (it deep)).last whole.first ≡ true)
+        turn deep s = ⊎_elim (λ a. inr a) (λ b. inl b) s
+
+        beside : (deep : 1 ≤ j) → (is_below whole.last (range_of (it deep)).first ≡ true) ⊎ (is_below (range_of (it deep)).last whole.first ≡ true)
+        beside deep = ⊎_elim
+            -- it lies in my output level, and is no input of mine
+            (λ (e : j ≡ suc i).
+            let t = it deep in
+            let at : IsAmong t (level levels (suc i)) = subst (λ m. IsAmong t (level levels m)) e (theirs deep).1.1 in
+            let run = run_at levels runs i in
+            let lone : meets h.range t ≡ false = not_met (meets h.range t) (λ met. shared t (among_right t upper lower (h.all t at met)) (it_in deep)) in
+            turn deep (beside_hull upper lower h.range (range_of t) h.hull_is h.meet (run_order (level levels (suc i)) run t at)
+            (λ l b. other_apart (level levels (suc i)) run t l at (h.lowers l b) (λ s. distinct l t (among_right l upper lower b) (it_in deep) (sym s)))
+            (sides h.range t lone) whole is))
+            -- or below it
+            (λ (further : suc i < j).
+            let t = it deep in
+            ⊎_elim (λ s. inr s) (λ s. inl s) (sides whole t (h.lowest lowest j t whole further (theirs deep).1.1 is)))
+            (one_or_more (omega (arith, deeper)))
+          where
+            one_or_more : suc i ≤ j → (j ≡ suc i) ⊎ (suc i < j)
+            one_or_more le = ⊎_elim (λ s. inr s) (λ (ge : j ≤ suc i). inl (let e : j ≡ suc i = omega (arith, le, ge) in e)) (cases_lt (suc i) j)
+
+    whole_order : (whole : KeyRange) → hull (upper ++ lower) ≡ Some whole → at_most whole.first whole.last ≡ true
+    whole_order whole is = hull_order (upper ++ lower) whole is (λ x a. ⊎_elim (λ b. of_upper i h.uppers x b) (λ b. run_order (level levels (suc i)) (run_at levels runs i) x (h.lowers x b)) (either x a))
+      where
+        either : (x : Table) → IsAmong x (upper ++ lower) → IsAmong x upper ⊎ IsAmong x lower
+        either x a = among_either x upper lower a
+
+        of_upper : (n : ℕ) → IsUpper levels n upper → (x : Table) → IsAmong x upper → at_most x.first x.last ≡ true
+        of_upper zero u x a = run_order (last_run levels.runs) (all_or IsRun levels.runs (length levels.runs - 1) [] runs.runs tt) x (subst (λ (l : List Table). IsAmong x l) (sym u.1) a)
+        of_upper (suc n) u x a =
+            ⊎_elim (λ e. subst (λ (y : Table). at_most y.first y.last ≡ true) (sym e) (run_order (level levels (suc n)) (run_at levels runs n) u.0 u.2)) (λ none. absurd none) (subst (IsAmong x) u.1 a)
+
+    pub merge_survives : HasItsTables after bottom i upper lower
+    merge_survives = record {
+      known = h.known;
+      range = h.range;
+      hull_is = h.hull_is;
+      uppers = uppers_after i refl h.uppers;
+      lowers = λ t a. stays (suc i) t (among_right t upper lower a) (h.lowers t a) new (λ e f. omega (arith, e));
+      meet = h.meet;
+      all = λ t a met. ⊎_elim
+          (λ old. h.all t old met)
+          (λ made. absurd (no (sym met ∙ beside_mine (let e : i ≡ j = omega (arith, made.0) in e) t made.1)))
+          (after_cases c.range new levels runs.four j c.known (suc i) t a);
+      lowest = λ lowest k t whole deeper a is. ⊎_elim
+          (λ old. h.lowest lowest k t whole deeper old is)
+          (λ made. below_mine lowest (omega (arith, deeper, made.0)) whole is (whole_order whole is) t made.1)
+          (after_cases c.range new levels runs.four j c.known k t a);
+    }
+
+-- a flush is taken from no level
+flush_survives : (levels : Levels) (bottom : Bool) (i : ℕ) (upper lower new : List Table) → HasItsTables levels bottom i upper lower → HasItsTables (flushed new levels) bottom i upper lower
+flush_survives levels bottom i upper lower new h = record {
+  known = h.known;
+  range = h.range;
+  hull_is = h.hull_is;
+  uppers = by i h.uppers;
+  lowers = h.lowers;
+  meet = h.meet;
+  all = h.all;
+  lowest = λ lowest k t whole deeper a is. below k t whole deeper a lowest is;
+}
+  where
+    more_runs : (runs : List (List Table)) → (1 ≤ length runs) × (last_run runs ≡ upper) → (1 ≤ length (new ∷ runs)) × (last_run (new ∷ runs) ≡ upper)
+    more_runs [] u = absurd (omega (arith, u.0))
+    more_runs (x ∷ rest) u = (omega arith, last_cons new x rest ∙ u.1)
+
+    by : (n : ℕ) → IsUpper levels n upper → IsUpper (flushed new levels) n upper
+    by zero u = more_runs levels.runs u
+    by (suc n) u = u
+
+    below : (k : ℕ) (t : Table) (whole : KeyRange) → suc i < k → IsAmong t (level (flushed new levels) k) → bottom ≡ true → hull (upper ++ lower) ≡ Some whole → meets whole t ≡ false
+    below zero t whole deeper a lowest is = absurd (omega (arith, deeper))
+    below (suc m) t whole deeper a lowest is = h.lowest lowest (suc m) t whole deeper a is
+
+pub survival_law : SurvivalLaw
+survival_law levels bottom flag Flush other new runs held other_held apart outputs = held
+survival_law levels bottom flag (Merge i upper lower) Flush new runs held other_held apart outputs = flush_survives levels bottom i upper lower new held
+survival_law levels bottom flag (Merge i upper lower) (Merge j other_upper other_lower) new runs held other_held apart outputs =
+    subst (λ (o : Option KeyRange). HasItsTables (merged_at j o new levels) bottom i upper lower) (sym other_held.hull_is)
+    (merge_survives levels runs bottom flag i j upper lower other_upper other_lower held other_held apart new outputs.1)

@@ -1,0 +1,525 @@
+-- Which versions the levels have after a merge.
+use Rattle.std.proofs.Common.{◌≡◌, ◌≢◌, ◌⊎◌, inl, inr, ⊎_elim, ℕ, zero, suc, ◌-◌, ◌<◌, ◌≤◌, Bool, true, false, ◌&&◌, List, [], ◌∷◌, ◌++◌, length, take, map, get_or, set, Option, Some, refl, sym, ap, ◌∙◌, subst, arith}
+use Rattle.std.specs.List.{AllByRecursion}
+use Rattle.std.proofs.lemmas.Bool.{cases_lt}
+use Rattle.std.proofs.lemmas.List.{get_or-set_same, get_or-set_other}
+use Rattle.lsm_codec.specs.Keys.{Bytes}
+use Rattle.lsm_codec.specs.Versions.{Version}
+use Rattle.lsm_levels.specs.Among.{IsAmong}
+use Rattle.lsm_levels.proofs.Members.{among_left, among_right, among_either}
+use Rattle.lsm_levels.specs.Tables.{Table, KeyRange, range_of, at_most, spanned, hull, meets, put_at, versions_of}
+use Rattle.lsm_levels.specs.Levels.{Levels, all_tables, level, places, newer_runs, last_run, flushed, replaced, merged_at}
+use Rattle.lsm_levels.specs.Orders.{IsNewerPlace, IsVersionOrder}
+use Rattle.lsm_levels.specs.Held.{AreRuns, IsUpper, HasItsTables, IsRanged, HasVersion, AreOrdered, MergesVersions, MergingLaw, OrderLaw, FlushLaw}
+use Rattle.lsm_levels.proofs.KeyOrder.{at_most_trans}
+use Rattle.lsm_levels.proofs.Ranges.{no, all_of, of_all, in_run, apart_left, apart_right}
+use Rattle.lsm_levels.proofs.HullLaws.{hull_covers}
+use Rattle.lsm_levels.proofs.Replacing.{put_cases, put_new, newer_among, newer_or_last, newer_cons, last_cons, deeper_after, at_upper, at_lower, at_other, same_or_not, stays_after}
+use Rattle.lsm_levels.proofs.Runs.{run_at}
+use Rattle.lsm_levels.proofs.Surviving.{single_range}
+
+-- ---- versions of tables
+
+pub in_tables : (v : Version) (tables : List Table) → IsAmong v (versions_of tables) → (t : Table) × IsAmong t tables × IsAmong v t.versions
+in_tables v [] a = absurd a
+in_tables v (t ∷ rest) a = ⊎_elim
+    (λ b. (t, inl refl, b))
+    (λ b. let more = in_tables v rest b in (more.0, inr more.1, more.2))
+    (among_either v t.versions (versions_of rest) a)
+
+pub of_table : (v : Version) (t : Table) (tables : List Table) → IsAmong t tables → IsAmong v t.versions → IsAmong v (versions_of tables)
+of_table v t [] a b = absurd a
+of_table v t (u ∷ rest) (inl e) b = among_left v u.versions (versions_of rest) (subst (λ (x : Table). IsAmong v x.versions) e b)
+of_table v t (u ∷ rest) (inr a) b = among_right v u.versions (versions_of rest) (of_table v t rest a b)
+
+-- ---- places and levels
+
+pub level_of_place : (levels : Levels) (t : Table) → IsAmong t (all_tables (places levels)) → (k : ℕ) × IsAmong t (level levels k)
+level_of_place levels t a = ⊎_elim (λ b. (0, b)) (λ b. let d = deep levels.deeper b in (suc d.0, d.1)) (split levels.runs a)
+  where
+    split : (runs : List (List Table)) → IsAmong t (all_tables (runs ++ levels.deeper)) → IsAmong t (all_tables runs) ⊎ IsAmong t (all_tables levels.deeper)
+    split [] b = inr b
+    split (x ∷ rest) b = ⊎_elim
+        (λ c. inl (among_left t x (all_tables rest) c))
+        (λ c. ⊎_elim (λ d. inl (among_right t x (all_tables rest) d)) (λ d. inr d) (split rest c))
+        (among_either t x (all_tables (rest ++ levels.deeper)) b)
+
+    deep : (xs : List (List Table)) → IsAmong t (all_tables xs) → (i : ℕ) × IsAmong t (get_or xs i [])
+    deep [] b = absurd b
+    deep (x ∷ xs) b = ⊎_elim (λ c. (0, c)) (λ c. let d = deep xs c in (suc d.0, d.1)) (among_either t x (all_tables xs) b)
+
+pub place_of_level : (levels : Levels) (k : ℕ) (t : Table) → IsAmong t (level levels k) → IsAmong t (all_tables (places levels))
+place_of_level levels zero t a = front levels.runs a
+  where
+    front : (runs : List (List Table)) → IsAmong t (all_tables runs) → IsAmong t (all_tables (runs ++ levels.deeper))
+    front [] b = absurd b
+    front (x ∷ rest) b = ⊎_elim
+        (λ c. among_left t x (all_tables (rest ++ levels.deeper)) c)
+        (λ c. among_right t x (all_tables (rest ++ levels.deeper)) (front rest c))
+        (among_either t x (all_tables rest) b)
+place_of_level levels (suc i) t a = back levels.runs (deep levels.deeper i a)
+  where
+    deep : (xs : List (List Table)) (j : ℕ) → IsAmong t (get_or xs j []) → IsAmong t (all_tables xs)
+    deep [] j b = absurd b
+    deep (x ∷ xs) zero b = among_left t x (all_tables xs) b
+    deep (x ∷ xs) (suc j) b = among_right t x (all_tables xs) (deep xs j b)
+
+    back : (runs : List (List Table)) → IsAmong t (all_tables levels.deeper) → IsAmong t (all_tables (runs ++ levels.deeper))
+    back [] b = b
+    back (x ∷ rest) b = among_right t x (all_tables (rest ++ levels.deeper)) (back rest b)
+
+-- ---- a key in a range
+
+pub covers_meets : (range : KeyRange) (t : Table) (key : Bytes) → at_most range.first key ≡ true → at_most key range.last ≡ true → at_most t.first key ≡ true → at_most key t.last ≡ true → meets range t ≡ true
+covers_meets range t key a b c d =
+    ap (λ x. x && at_most t.first range.last) (at_most_trans range.first key t.last a d) ∙ at_most_trans t.first key range.last c b
+
+-- ---- older levels have older versions
+
+all_among : {X : Type 0} (P : X → Type 0) (xs : List X) (x : X) → AllByRecursion P xs → IsAmong x xs → P x
+all_among P xs x h a = of_all P xs h x a
+
+pub newer_than : (newer older : List Version) (v w : Version) → IsNewerPlace newer older → IsAmong v newer → IsAmong w older → v.key ≡ w.key → w.number < v.number
+newer_than newer older v w h a b = all_among (λ u. v.key ≡ u.key → u.number < v.number) older w (all_among (λ x. AllByRecursion (λ u. x.key ≡ u.key → u.number < x.number) older) newer v h a) b
+
+-- of two runs the earlier has the newer versions
+in_runs : (xs ys : List (List Table)) (t u : Table) (v w : Version) → IsVersionOrder (map versions_of (xs ++ ys)) → IsAmong t (all_tables xs) → IsAmong u (all_tables ys) → IsAmong v t.versions → IsAmong w u.versions → v.key ≡ w.key → w.number < v.number
+in_runs [] ys t u v w order a b c d same = absurd a
+in_runs (x ∷ xs) ys t u v w order a b c d same = ⊎_elim
+    (λ here. first xs order.0 b here)
+    (λ later. in_runs xs ys t u v w order.1 later b c d same)
+    (among_either t x (all_tables xs) a)
+  where
+    into : (ps : List (List Table)) → AllByRecursion (IsNewerPlace (versions_of x)) (map versions_of ps) → IsAmong u (all_tables ps) → IsAmong t x → w.number < v.number
+    into [] h e f = absurd e
+    into (p ∷ ps) h e f = ⊎_elim
+        (λ g. newer_than (versions_of x) (versions_of p) v w h.0 (of_table v t x f c) (of_table w u p g d) same)
+        (λ g. into ps h.1 g f)
+        (among_either u p (all_tables ps) e)
+
+    first : (rest : List (List Table)) → AllByRecursion (IsNewerPlace (versions_of x)) (map versions_of (rest ++ ys)) → IsAmong u (all_tables ys) → IsAmong t x → w.number < v.number
+    first [] h e f = into ys h e f
+    first (p ∷ rest) h e f = first rest h.1 e f
+
+-- levels that follow one another
+in_deeper : (xs : List (List Table)) (k l : ℕ) (t u : Table) (v w : Version) → k < l → IsVersionOrder (map versions_of xs) → IsAmong t (get_or xs k []) → IsAmong u (get_or xs l []) → IsAmong v t.versions → IsAmong w u.versions → v.key ≡ w.key → w.number < v.number
+in_deeper [] k l t u v w lt order a b c d same = absurd a
+in_deeper (x ∷ xs) k zero t u v w lt order a b c d same = absurd (omega (arith, lt))
+in_deeper (x ∷ xs) (suc k) (suc l) t u v w lt order a b c d same = in_deeper xs k l t u v w (omega (arith, lt)) order.1 a b c d same
+in_deeper (x ∷ xs) zero (suc l) t u v w lt order a b c d same = go xs l order.0 b
+  where
+    go : (ps : List (List Table)) (i : ℕ) → AllByRecursion (IsNewerPlace (versions_of x)) (map versions_of ps) → IsAmong u (get_or ps i []) → w.number < v.number
+    go [] i h e = absurd e
+    go (p ∷ ps) zero h e = newer_than (versions_of x) (versions_of p) v w h.0 (of_table v t x a c) (of_table w u p e d) same
+    go (p ∷ ps) (suc i) h e = go ps i h.1 e
+
+deeper_order : (runs deeper : List (List Table)) → IsVersionOrder (map versions_of (runs ++ deeper)) → IsVersionOrder (map versions_of deeper)
+deeper_order [] deeper h = h
+deeper_order (x ∷ rest) deeper h = deeper_order rest deeper h.1
+
+deep_in : (xs : List (List Table)) (j : ℕ) (t : Table) → IsAmong t (get_or xs j []) → IsAmong t (all_tables xs)
+deep_in [] j t b = absurd b
+deep_in (x ∷ xs) zero t b = among_left t x (all_tables xs) b
+deep_in (x ∷ xs) (suc j) t b = among_right t x (all_tables xs) (deep_in xs j t b)
+
+pub older_level : (levels : Levels) (k l : ℕ) (t u : Table) (v w : Version) → k < l → IsVersionOrder (map versions_of (places levels)) → IsAmong t (level levels k) → IsAmong u (level levels l) → IsAmong v t.versions → IsAmong w u.versions → v.key ≡ w.key → w.number < v.number
+older_level levels k zero t u v w lt order a b c d same = absurd (omega (arith, lt))
+older_level levels zero (suc l) t u v w lt order a b c d same = in_runs levels.runs levels.deeper t u v w order a (deep_in levels.deeper l u b) c d same
+older_level levels (suc k) (suc l) t u v w lt order a b c d same = in_deeper levels.deeper k l t u v w (omega (arith, lt)) (deeper_order levels.runs levels.deeper order) a b c d same
+
+-- the newer runs of level 0 have newer versions than the last
+newer_runs_order : (runs deeper : List (List Table)) (t u : Table) (v w : Version) → IsVersionOrder (map versions_of (runs ++ deeper)) → IsAmong t (all_tables (newer_runs runs)) → IsAmong u (last_run runs) → IsAmong v t.versions → IsAmong w u.versions → v.key ≡ w.key → w.number < v.number
+newer_runs_order [] deeper t u v w order a b c d same = absurd b
+newer_runs_order (x ∷ []) deeper t u v w order a b c d same = absurd a
+newer_runs_order (x ∷ y ∷ rest) deeper t u v w order a b c d same = ⊎_elim
+    (λ here. in_runs (x ∷ []) (y ∷ rest ++ deeper) t u v w order (among_left t x [] here) (front (y ∷ rest) (last_among (y ∷ rest) (subst (λ (run : List Table). IsAmong u run) (last_cons x y rest) b))) c d same)
+    (λ later. newer_runs_order (y ∷ rest) deeper t u v w order.1 later (subst (λ (run : List Table). IsAmong u run) (last_cons x y rest) b) c d same)
+    (among_either t x (all_tables (newer_runs (y ∷ rest))) (subst (λ (rs : List (List Table)). IsAmong t (all_tables rs)) (newer_cons x y rest) a))
+  where
+    last_among : (rs : List (List Table)) → IsAmong u (last_run rs) → IsAmong u (all_tables rs)
+    last_among rs e = deep_in rs (length rs - 1) u e
+
+    front : (rs : List (List Table)) → IsAmong u (all_tables rs) → IsAmong u (all_tables (rs ++ deeper))
+    front [] e = absurd e
+    front (p ∷ ps) e = ⊎_elim
+        (λ f. among_left u p (all_tables (ps ++ deeper)) f)
+        (λ f. among_right u p (all_tables (ps ++ deeper)) (front ps f))
+        (among_either u p (all_tables ps) e)
+
+-- ---- a merge
+
+module _ (levels : Levels) (runs : AreRuns levels) (flag : Bool) (i : ℕ) (upper lower new : List Table) (h : HasItsTables levels flag i upper lower) where
+  abbrev after : Levels
+  after = replaced i h.range new levels
+
+  -- a table is an input, or stays
+  taken_or_stays : (k : ℕ) (t : Table) → IsAmong t (level levels k) → IsAmong t (upper ++ lower) ⊎ IsAmong t (level after k)
+  taken_or_stays k t a = ⊎_elim
+      (λ (e : k ≡ suc i). low e (meets h.range t) refl)
+      (λ (other : k ≢ suc i). ⊎_elim (λ (e : k ≡ i). up i refl e h.uppers) (λ (also : k ≢ i). inr (stay (λ e. absurd (other e)) (λ e f. absurd (also e)) (λ e f g. also (e ∙ sym f)))) (same_or_not k i))
+      (same_or_not k (suc i))
+    where
+      stay : (k ≡ suc i → meets h.range t ≡ false) → (k ≡ i → 1 ≤ i → meets h.range t ≡ false) → (k ≡ 0 → i ≡ 0 → IsAmong t (last_run levels.runs) → ⊥) → IsAmong t (level after k)
+      stay x y z = stays_after h.range new levels runs.four i h.known k t a x y z
+
+      low : k ≡ suc i → (b : Bool) → meets h.range t ≡ b → IsAmong t (upper ++ lower) ⊎ IsAmong t (level after k)
+      low e true met = inl (among_right t upper lower (h.all t (subst (λ n. IsAmong t (level levels n)) e a) met))
+      low e false apart = inr (stay (λ f. apart) (λ f g. apart) (λ f g l. absurd (omega (arith, e, f, g))))
+
+      up : (n : ℕ) → n ≡ i → k ≡ i → IsUpper levels n upper → IsAmong t (upper ++ lower) ⊎ IsAmong t (level after k)
+      up zero e f u = ⊎_elim
+          (λ newer. inr (subst (λ n. IsAmong t (level after n)) (sym f) (subst (λ n. IsAmong t (level (replaced n h.range new levels) n)) e newer)))
+          (λ last. inl (among_left t upper lower (subst (IsAmong t) u.1 last)))
+          (newer_or_last levels.runs t (subst (λ n. IsAmong t (level levels n)) (f ∙ sym e) a))
+      up (suc m) e f u =
+          let it = u.0 in
+          let at : IsAmong t (level levels (suc m)) = subst (λ n. IsAmong t (level levels n)) (f ∙ sym e) a in
+          let range : h.range ≡ range_of it = single_range it upper h.range u.1 h.hull_is in
+          let apart : meets (range_of it) t ≡ false → IsAmong t (upper ++ lower) ⊎ IsAmong t (level after k) =
+          λ no_meet. inr (stay (λ g. absurd (omega (arith, f, g))) (λ g deep. subst (λ (r : KeyRange). meets r t ≡ false) (sym range) no_meet) (λ g z last. absurd (omega (arith, e, z)))) in
+          ⊎_elim
+          (λ same. inl (among_left t upper lower (subst (IsAmong t) (sym u.1) (inl same))))
+          (λ beside. ⊎_elim (λ s. apart (apart_left (range_of it) t s)) (λ s. apart (apart_right (range_of it) t s)) beside)
+          (in_run (level levels (suc m)) (run_at levels runs m) t it at u.2)
+
+  -- an output stands in the output level
+  new_stands : (t : Table) → IsAmong t new → IsAmong t (level after (suc i))
+  new_stands t a = by i h.known refl
+    where
+      four : length levels.deeper ≡ 4
+      four = runs.four
+
+      by : (n : ℕ) → n ≤ 3 → n ≡ i → IsAmong t (level after (suc i))
+      by zero le e = subst (λ n. IsAmong t (level (replaced n h.range new levels) (suc n))) e
+          (subst (IsAmong t) (sym (get_or-set_same levels.deeper 0 (put_at h.range new (get_or levels.deeper 0 [])) [] (omega (arith, four)))) (put_new h.range new (get_or levels.deeper 0 []) t a))
+      by (suc m) le e = subst (λ n. IsAmong t (level (replaced n h.range new levels) (suc n))) e
+          (subst (IsAmong t) (sym (at_lower h.range new levels.deeper m (omega (arith, four, le)))) (put_new h.range new (get_or levels.deeper (suc m) []) t a))
+
+  -- a table that stands in the upper or the output level doesn't meet the hull of the upper ones, or is an output
+  record Stood (k : ℕ) (t : Table) : Type 0 where
+    pub old : IsAmong t (level levels k)
+    pub lower_apart : k ≡ suc i → meets h.range t ≡ false
+    pub upper_apart : k ≡ i → 1 ≤ i → meets h.range t ≡ false
+    pub newer : k ≡ 0 → i ≡ 0 → IsAmong t (all_tables (newer_runs levels.runs))
+
+  stood : (k : ℕ) (t : Table) → IsAmong t (level after k) → Stood k t ⊎ ((k ≡ suc i) × IsAmong t new)
+  stood k t a = by i refl h.known k refl
+    where
+      four : length levels.deeper ≡ 4
+      four = runs.four
+
+      here : (n : ℕ) → n ≡ i → (m : ℕ) → m ≡ k → IsAmong t (level (replaced n h.range new levels) m)
+      here n e m f = subst (λ x. IsAmong t (level (replaced x h.range new levels) m)) (sym e) (subst (λ x. IsAmong t (level after x)) (sym f) a)
+
+      made : (m : ℕ) → m ≡ k → IsAmong t (level levels m) → (k ≡ suc i → meets h.range t ≡ false) → (k ≡ i → 1 ≤ i → meets h.range t ≡ false) → (k ≡ 0 → i ≡ 0 → IsAmong t (all_tables (newer_runs levels.runs))) → Stood k t ⊎ ((k ≡ suc i) × IsAmong t new)
+      made m f old x y z = inl (record { old = subst (λ n. IsAmong t (level levels n)) f old; lower_apart = x; upper_apart = y; newer = z })
+
+      by : (n : ℕ) → n ≡ i → n ≤ 3 → (m : ℕ) → m ≡ k → Stood k t ⊎ ((k ≡ suc i) × IsAmong t new)
+      by zero e le zero f =
+          let b = here zero e zero f in
+          made zero f (newer_among levels.runs t b) (λ g. absurd (omega (arith, f, g))) (λ g deep. absurd (omega (arith, e, deep))) (λ g z. b)
+      by zero e le (suc zero) f = ⊎_elim
+          (λ old. made (suc zero) f old.0 (λ g. old.1) (λ g deep. absurd (omega (arith, e, deep))) (λ g z. absurd (omega (arith, f, g))))
+          (λ n. inr (let g : k ≡ suc i = omega (arith, e, f) in g, n))
+          (put_cases h.range new (get_or levels.deeper 0 []) t (subst (IsAmong t) (get_or-set_same levels.deeper 0 (put_at h.range new (get_or levels.deeper 0 [])) [] (omega (arith, four))) (here zero e (suc zero) f)))
+      by zero e le (suc (suc m)) f =
+          made (suc (suc m)) f (subst (IsAmong t) (get_or-set_other levels.deeper 0 (suc m) (put_at h.range new (get_or levels.deeper 0 [])) [] (λ g. omega (arith, g))) (here zero e (suc (suc m)) f))
+          (λ g. absurd (omega (arith, e, f, g))) (λ g deep. absurd (omega (arith, e, deep))) (λ g z. absurd (omega (arith, f, g)))
+      by (suc j) e le zero f =
+          made zero f (here (suc j) e zero f) (λ g. absurd (omega (arith, f, g))) (λ g deep. absurd (omega (arith, f, g, deep))) (λ g z. absurd (omega (arith, e, z)))
+      by (suc j) e le (suc m) f = ⊎_elim
+          (λ (q : m ≡ j). ⊎_elim
+          (λ old. made (suc m) f (subst (λ n. IsAmong t (get_or levels.deeper n [])) (sym q) old.0) (λ g. absurd (omega (arith, e, f, g, q))) (λ g deep. old.1) (λ g z. absurd (omega (arith, f, g))))
+          (λ none. absurd none)
+          (put_cases h.range [] (get_or levels.deeper j []) t
+          (subst (IsAmong t) (at_upper h.range new levels.deeper j (omega (arith, four, le)) (length_lower j le)) (subst (λ n. IsAmong t (get_or (deeper_after h.range new levels.deeper j) n [])) q (here (suc j) e (suc m) f)))))
+          (λ (other : m ≢ j). ⊎_elim
+          (λ (q : m ≡ suc j). ⊎_elim
+          (λ old. made (suc m) f (subst (λ n. IsAmong t (get_or levels.deeper n [])) (sym q) old.0) (λ g. old.1) (λ g deep. absurd (omega (arith, e, f, g, q))) (λ g z. absurd (omega (arith, f, g))))
+          (λ n. inr (let g : k ≡ suc i = omega (arith, e, f, q) in g, n))
+          (put_cases h.range new (get_or levels.deeper (suc j) []) t
+          (subst (IsAmong t) (at_lower h.range new levels.deeper j (omega (arith, four, le))) (subst (λ n. IsAmong t (get_or (deeper_after h.range new levels.deeper j) n [])) q (here (suc j) e (suc m) f)))))
+          (λ (also : m ≢ suc j).
+          made (suc m) f (subst (IsAmong t) (at_other h.range new levels.deeper j (omega (arith, four, le)) m other also) (here (suc j) e (suc m) f))
+          (λ g. absurd (also (let q : m ≡ suc j = omega (arith, e, f, g) in q))) (λ g deep. absurd (other (let q : m ≡ j = omega (arith, e, f, g) in q))) (λ g z. absurd (omega (arith, f, g))))
+          (same_or_not m (suc j)))
+          (same_or_not m j)
+        where
+          length_set : (xs : List (List Table)) (x : ℕ) (y : List Table) → length (set xs x y) ≡ length xs
+          length_set [] x y = refl
+          length_set (z ∷ xs) zero y = refl
+          length_set (z ∷ xs) (suc x) y = ap suc (length_set xs x y)
+
+          length_lower : (n : ℕ) → suc n ≤ 3 → n < length (set levels.deeper (suc n) (put_at h.range new (get_or levels.deeper (suc n) [])))
+          length_lower n small = omega (arith, four, small, length_set levels.deeper (suc n) (put_at h.range new (get_or levels.deeper (suc n) [])))
+
+  -- ---- its versions
+
+  pub version_stays : (v : Version) → HasVersion levels v → IsAmong v (versions_of (upper ++ lower)) ⊎ HasVersion after v
+  version_stays v a = ⊎_elim
+      (λ b. inl (of_table v a.table (upper ++ lower) b a.has))
+      (λ b. inr (record { place = a.place; table = a.table; there = b; has = a.has }))
+      (taken_or_stays a.place a.table a.there)
+
+  pub version_new : (v : Version) → IsAmong v (versions_of new) → HasVersion after v
+  version_new v a = let t = in_tables v new a in record { place = suc i; table = t.0; there = new_stands t.0 t.1; has = t.2 }
+
+  pub version_else : (v : Version) → HasVersion after v → HasVersion levels v ⊎ IsAmong v (versions_of new)
+  version_else v a = ⊎_elim
+      (λ s. inl (record { place = a.place; table = a.table; there = s.old; has = a.has }))
+      (λ n. inr (of_table v a.table new n.1 a.has))
+      (stood a.place a.table a.there)
+
+  -- the input tables stand in the upper level and the next
+  pub input_there : (t : Table) → IsAmong t (upper ++ lower) → (k : ℕ) × IsAmong t (level levels k)
+  input_there t a = ⊎_elim (λ b. up i h.uppers b) (λ b. (suc i, h.lowers t b)) (among_either t upper lower a)
+    where
+      up : (n : ℕ) → IsUpper levels n upper → IsAmong t upper → (k : ℕ) × IsAmong t (level levels k)
+      up zero u b = (0, deep_in levels.runs (length levels.runs - 1) t (subst (λ (run : List Table). IsAmong t run) (sym u.1) b))
+      up (suc n) u b = (suc n, ⊎_elim (λ e. subst (λ (x : Table). IsAmong x (level levels (suc n))) (sym e) u.2) (λ none. absurd none) (subst (IsAmong t) u.1 b))
+
+  module _ (order : IsVersionOrder (map versions_of (places levels))) (ranged : (k : ℕ) (t : Table) → IsAmong t (level levels k) → IsRanged t) (bottom : flag ≡ true) (whole : KeyRange) (whole_is : hull (upper ++ lower) ≡ Some whole)
+      (t u : Table) (v w : Version) (v_in : IsAmong v t.versions) (w_in : IsAmong w u.versions) (same : w.key ≡ v.key) (older : w.number < v.number) (k : ℕ) (at : Stood k u) where
+    -- the version's key is in a range that covers its table
+    meets_by : (range : KeyRange) → at_most range.first t.first ≡ true → at_most t.last range.last ≡ true → IsRanged t → meets range u ≡ true
+    meets_by range a b r =
+        let mine = r.within v v_in in
+        let others = (ranged k u at.old).within w w_in in
+        covers_meets range u v.key (at_most_trans range.first t.first v.key a mine.0) (at_most_trans v.key t.last range.last mine.1 b)
+        (subst (λ key. at_most u.first key ≡ true) same others.0) (subst (λ key. at_most key u.last ≡ true) same others.1)
+
+    not_older : (v.number < w.number) → ⊥
+    not_older newer = omega (arith, older, newer)
+
+    below_all : suc i < k → IsAmong t (upper ++ lower) → IsRanged t → ⊥
+    below_all deep a r =
+        let c = hull_covers (upper ++ lower) whole whole_is t a in
+        no (sym (meets_by whole c.0 c.1 r) ∙ h.lowest bottom k u whole deep at.old whole_is)
+
+    -- beside an upper table
+    upper_case : (n : ℕ) → n ≡ i → IsUpper levels n upper → IsAmong t upper → ⊥
+    upper_case zero e q a =
+        let last : IsAmong t (last_run levels.runs) = subst (λ (run : List Table). IsAmong t run) (sym q.1) a in
+        let there : IsAmong t (level levels 0) = deep_in levels.runs (length levels.runs - 1) t last in
+        let c = hull_covers upper h.range h.hull_is t a in
+        by k refl there last c
+      where
+        by : (m : ℕ) → m ≡ k → IsAmong t (level levels 0) → IsAmong t (last_run levels.runs) → (at_most h.range.first t.first ≡ true) × (at_most t.last h.range.last ≡ true) → ⊥
+        by zero f there last c = not_older (newer_runs_order levels.runs levels.deeper u t w v order (at.newer (sym f) (sym e)) last w_in v_in same)
+        by (suc zero) f there last c = no (sym (meets_by h.range c.0 c.1 (ranged 0 t there)) ∙ at.lower_apart (let g : k ≡ suc i = omega (arith, e, f) in g))
+        by (suc (suc m)) f there last c = below_all (omega (arith, e, f)) (among_left t upper lower a) (ranged 0 t there)
+    upper_case (suc n) e q a =
+        let there : IsAmong t (level levels (suc n)) = ⊎_elim (λ s. subst (λ (x : Table). IsAmong x (level levels (suc n))) (sym s) q.2) (λ none. absurd none) (subst (IsAmong t) q.1 a) in
+        let c = hull_covers upper h.range h.hull_is t a in
+        by there c (cases_lt k (suc n)) (cases_lt (suc (suc n)) k)
+      where
+        by : IsAmong t (level levels (suc n)) → (at_most h.range.first t.first ≡ true) × (at_most t.last h.range.last ≡ true) → (k < suc n) ⊎ (suc n ≤ k) → (suc (suc n) < k) ⊎ (k ≤ suc (suc n)) → ⊥
+        by there c (inl lt) y = not_older (older_level levels k (suc n) u t w v lt order at.old there w_in v_in same)
+        by there c (inr ge) (inl gt) = below_all (omega (arith, e, gt)) (among_left t upper lower a) (ranged (suc n) t there)
+        by there c (inr ge) (inr le) = ⊎_elim
+            (λ (f : k ≡ suc n). no (sym (meets_by h.range c.0 c.1 (ranged (suc n) t there)) ∙ at.upper_apart (f ∙ e) (omega (arith, e))))
+            (λ (other : k ≢ suc n). no (sym (meets_by h.range c.0 c.1 (ranged (suc n) t there)) ∙ at.lower_apart (let g : k ≡ suc i = omega (arith, e, ge, le, other) in g)))
+            (same_or_not k (suc n))
+
+    -- beside a lower one
+    lower_case : IsAmong t lower → ⊥
+    lower_case a = by (h.lowers t a) (cases_lt k (suc i)) (cases_lt (suc i) k)
+      where
+        by : IsAmong t (level levels (suc i)) → (k < suc i) ⊎ (suc i ≤ k) → (suc i < k) ⊎ (k ≤ suc i) → ⊥
+        by there (inl lt) y = not_older (older_level levels k (suc i) u t w v lt order at.old there w_in v_in same)
+        by there (inr ge) (inl gt) = below_all gt (among_right t upper lower a) (ranged (suc i) t there)
+        by there (inr ge) (inr le) =
+            let f : k ≡ suc i = omega (arith, ge, le) in
+            let apart = at.lower_apart f in
+            let at_one : IsAmong u (level levels (suc i)) = subst (λ n. IsAmong u (level levels n)) f at.old in
+            let mine = (ranged (suc i) t there).within v v_in in
+            let others = (ranged (suc i) u at_one).within w w_in in
+            let met : meets (range_of t) u ≡ true = covers_meets (range_of t) u v.key mine.0 mine.1 (subst (λ key. at_most u.first key ≡ true) same others.0) (subst (λ key. at_most key u.last ≡ true) same others.1) in
+            ⊎_elim
+            (λ s. no (sym (h.meet t a) ∙ ap (meets h.range) s ∙ apart))
+            (λ beside. ⊎_elim
+            (λ b. no (sym met ∙ apart_right (range_of t) u b))
+            (λ b. no (sym met ∙ apart_left (range_of t) u b))
+            beside)
+            (in_run (level levels (suc i)) (run_at levels runs i) t u there at_one)
+
+    none_older : IsAmong t (upper ++ lower) → ⊥
+    none_older a = ⊎_elim (λ b. upper_case i refl h.uppers b) (λ b. lower_case b) (among_either t upper lower a)
+
+  -- at the bottom, an older version of an input's key that stands after the merge is an output's
+  pub version_lowest : IsVersionOrder (map versions_of (places levels)) → ((k : ℕ) (t : Table) → IsAmong t (level levels k) → IsRanged t) → flag ≡ true → (whole : KeyRange) → hull (upper ++ lower) ≡ Some whole
+      → (v w : Version) → IsAmong v (versions_of (upper ++ lower)) → HasVersion after w → w.key ≡ v.key → w.number < v.number → IsAmong w (versions_of new)
+  version_lowest order ranged bottom whole is v w a b same older =
+      let t = in_tables v (upper ++ lower) a in
+      ⊎_elim
+      (λ s. absurd (none_older order ranged bottom whole is t.0 b.table v w t.2 b.has same older b.place s t.1))
+      (λ n. of_table w b.table new n.1 b.has)
+      (stood b.place b.table b.there)
+
+-- ---- the order of versions
+
+pub newer_from : (newer older : List Version) → ((v w : Version) → IsAmong v newer → IsAmong w older → v.key ≡ w.key → w.number < v.number) → IsNewerPlace newer older
+newer_from newer older f = all_of (λ v. AllByRecursion (λ w. v.key ≡ w.key → w.number < v.number) older) newer (λ v a. all_of (λ w. v.key ≡ w.key → w.number < v.number) older (λ w b. f v w a b))
+
+-- the tables of the one are newer than those of the other
+abbrev AreNewer : List Table → List Table → Type 0
+AreNewer ts us = (t u : Table) (v w : Version) → IsAmong t ts → IsAmong u us → IsAmong v t.versions → IsAmong w u.versions → v.key ≡ w.key → w.number < v.number
+
+newer_tables : (ts us : List Table) → AreNewer ts us → IsNewerPlace (versions_of ts) (versions_of us)
+newer_tables ts us f = newer_from (versions_of ts) (versions_of us) (λ v w a b same. let t = in_tables v ts a in let u = in_tables w us b in f t.0 u.0 v w t.1 u.1 t.2 u.2 same)
+
+-- runs of which each is newer than those behind it
+order_from : (xs : List (List Table)) → ((k l : ℕ) → k < l → AreNewer (get_or xs k []) (get_or xs l [])) → IsVersionOrder (map versions_of xs)
+order_from [] f = tt
+order_from (x ∷ xs) f = (behind xs (λ l. f 0 (suc l) (omega arith)), order_from xs (λ k l lt. f (suc k) (suc l) (omega (arith, lt))))
+  where
+    behind : (ps : List (List Table)) → ((l : ℕ) → AreNewer x (get_or ps l [])) → AllByRecursion (IsNewerPlace (versions_of x)) (map versions_of ps)
+    behind [] g = tt
+    behind (p ∷ ps) g = (newer_tables x p (g 0), behind ps (λ l. g (suc l)))
+
+order_front : (xs ys : List (List Table)) → IsVersionOrder (map versions_of (xs ++ ys)) → IsVersionOrder (map versions_of xs)
+order_front [] ys h = tt
+order_front (x ∷ xs) ys h = (front xs h.0, order_front xs ys h.1)
+  where
+    front : (ps : List (List Table)) → AllByRecursion (IsNewerPlace (versions_of x)) (map versions_of (ps ++ ys)) → AllByRecursion (IsNewerPlace (versions_of x)) (map versions_of ps)
+    front [] k = tt
+    front (p ∷ ps) k = (k.0, front ps k.1)
+
+order_take : (n : ℕ) (xs : List (List Table)) → IsVersionOrder (map versions_of xs) → IsVersionOrder (map versions_of (take n xs))
+order_take zero xs h = tt
+order_take (suc n) [] h = tt
+order_take (suc n) (x ∷ xs) h = (front n xs h.0, order_take n xs h.1)
+  where
+    front : (m : ℕ) (ps : List (List Table)) → AllByRecursion (IsNewerPlace (versions_of x)) (map versions_of ps) → AllByRecursion (IsNewerPlace (versions_of x)) (map versions_of (take m ps))
+    front zero ps k = tt
+    front (suc m) [] k = tt
+    front (suc m) (p ∷ ps) k = (k.0, front m ps k.1)
+
+order_join : (xs ys : List (List Table)) → IsVersionOrder (map versions_of xs) → IsVersionOrder (map versions_of ys) → ((l : ℕ) → AreNewer (all_tables xs) (get_or ys l [])) → IsVersionOrder (map versions_of (xs ++ ys))
+order_join [] ys h k f = k
+order_join (x ∷ xs) ys h k f = (join xs h.0, order_join xs ys h.1 k (λ l t u v w a. f l t u v w (among_right t x (all_tables xs) a)))
+  where
+    behind : (ps : List (List Table)) → ((l : ℕ) → AreNewer x (get_or ps l [])) → AllByRecursion (IsNewerPlace (versions_of x)) (map versions_of ps)
+    behind [] g = tt
+    behind (p ∷ ps) g = (newer_tables x p (g 0), behind ps (λ l. g (suc l)))
+
+    join : (ps : List (List Table)) → AllByRecursion (IsNewerPlace (versions_of x)) (map versions_of ps) → AllByRecursion (IsNewerPlace (versions_of x)) (map versions_of (ps ++ ys))
+    join [] k2 = behind ys (λ l t u v w a. f l t u v w (among_left t x (all_tables xs) a))
+    join (p ∷ ps) k2 = (k2.0, join ps k2.1)
+
+module _ (levels : Levels) (runs : AreRuns levels) (flag : Bool) (i : ℕ) (upper lower new : List Table) (h : HasItsTables levels flag i upper lower)
+    (order : IsVersionOrder (map versions_of (places levels))) (ranged : (k : ℕ) (t : Table) → IsAmong t (level levels k) → IsRanged t) (from_inputs : (v : Version) → IsAmong v (versions_of new) → IsAmong v (versions_of (upper ++ lower))) where
+  abbrev merged_levels : Levels
+  merged_levels = replaced i h.range new levels
+
+  -- an output's version stood in an upper table or a lower one
+  record From (v : Version) : Type 0 where
+    pub source : Table
+    pub has : IsAmong v source.versions
+    pub place : ℕ
+    pub there : IsAmong source (level levels place)
+    pub upper_or_lower : ((place ≡ i) × IsAmong source upper) ⊎ ((place ≡ suc i) × IsAmong source lower)
+
+  from : (t : Table) (v : Version) → IsAmong t new → IsAmong v t.versions → From v
+  from t v a b =
+      let s = in_tables v (upper ++ lower) (from_inputs v (of_table v t new a b)) in
+      ⊎_elim
+      (λ c. record { source = s.0; has = s.2; place = i; there = up i h.uppers s.0 c; upper_or_lower = inl (refl, c) })
+      (λ c. record { source = s.0; has = s.2; place = suc i; there = h.lowers s.0 c; upper_or_lower = inr (refl, c) })
+      (among_either s.0 upper lower s.1)
+    where
+      up : (n : ℕ) → IsUpper levels n upper → (x : Table) → IsAmong x upper → IsAmong x (level levels n)
+      up zero u x c = deep_in levels.runs (length levels.runs - 1) x (subst (λ (run : List Table). IsAmong x run) (sym u.1) c)
+      up (suc n) u x c = ⊎_elim (λ e. subst (λ (y : Table). IsAmong y (level levels (suc n))) (sym e) u.2) (λ none. absurd none) (subst (IsAmong x) u.1 c)
+
+  -- what stood above the output level, or in the upper one, is newer than the outputs
+  newer_than_output : (k : ℕ) (t u : Table) (v w : Version) → Stood levels runs flag i upper lower new h k t → k < suc i → IsAmong u new → IsAmong v t.versions → IsAmong w u.versions → v.key ≡ w.key → w.number < v.number
+  newer_than_output k t u v w s lt b c d same = by (from u w b d)
+    where
+      same_level : (f : From w) → IsAmong f.source upper → k ≡ i → w.number < v.number
+      same_level f a e = upper_at i refl h.uppers
+        where
+          upper_at : (n : ℕ) → n ≡ i → IsUpper levels n upper → w.number < v.number
+          upper_at zero g q =
+              newer_runs_order levels.runs levels.deeper t f.source v w order (s.newer (let z : k ≡ 0 = omega (arith, e, g) in z) (sym g)) (subst (λ (run : List Table). IsAmong f.source run) (sym q.1) a) c f.has same
+          upper_at (suc n) g q =
+              let cover = hull_covers upper h.range h.hull_is f.source a in
+              let theirs = (ranged f.place f.source f.there).within w f.has in
+              let mine = (ranged k t s.old).within v c in
+              let met = covers_meets h.range t w.key (at_most_trans h.range.first f.source.first w.key cover.0 theirs.0) (at_most_trans w.key f.source.last h.range.last theirs.1 cover.1)
+              (subst (λ key. at_most t.first key ≡ true) same mine.0) (subst (λ key. at_most key t.last ≡ true) same mine.1) in
+              absurd (no (sym met ∙ s.upper_apart e (omega (arith, g))))
+
+      by : From w → w.number < v.number
+      by f = ⊎_elim
+          (λ up. ⊎_elim
+          (λ (below : k < i). older_level levels k f.place t f.source v w (omega (arith, below, up.0)) order s.old f.there c f.has same)
+          (λ (reached : i ≤ k). same_level f up.1 (let e : k ≡ i = omega (arith, reached, lt) in e))
+          (cases_lt k i))
+          (λ low. older_level levels k f.place t f.source v w (omega (arith, lt, low.0)) order s.old f.there c f.has same)
+          f.upper_or_lower
+
+  -- and the outputs than what stood below
+  output_newer : (l : ℕ) (t u : Table) (v w : Version) → IsAmong t new → Stood levels runs flag i upper lower new h l u → suc i < l → IsAmong v t.versions → IsAmong w u.versions → v.key ≡ w.key → w.number < v.number
+  output_newer l t u v w a s lt c d same = by (from t v a c)
+    where
+      by : From v → w.number < v.number
+      by f = older_level levels f.place l f.source u v w (⊎_elim (λ up. omega (arith, lt, up.0)) (λ low. omega (arith, lt, low.0)) f.upper_or_lower) order f.there s.old f.has d same
+
+  newer_level : (k l : ℕ) → k < l → AreNewer (level merged_levels k) (level merged_levels l)
+  newer_level k l lt t u v w a b c d same = ⊎_elim
+      (λ s. ⊎_elim
+      (λ z. older_level levels k l t u v w lt order s.old z.old c d same)
+      (λ made. newer_than_output k t u v w s (omega (arith, lt, made.0)) made.1 c d same)
+      (stood levels runs flag i upper lower new h l u b))
+      (λ made. ⊎_elim
+      (λ z. output_newer l t u v w made.1 z (omega (arith, lt, made.0)) c d same)
+      (λ also. absurd (omega (arith, lt, made.0, also.0)))
+      (stood levels runs flag i upper lower new h l u b))
+      (stood levels runs flag i upper lower new h k t a)
+
+  runs_order : (n : ℕ) → n ≡ i → IsVersionOrder (map versions_of (replaced n h.range new levels).runs)
+  runs_order zero e = order_take (length levels.runs - 1) levels.runs (order_front levels.runs levels.deeper order)
+  runs_order (suc n) e = order_front levels.runs levels.deeper order
+
+  pub merged_order : IsVersionOrder (map versions_of (places merged_levels))
+  merged_order =
+      order_join merged_levels.runs merged_levels.deeper (runs_order i refl)
+      (order_from merged_levels.deeper (λ k l lt. newer_level (suc k) (suc l) (omega (arith, lt))))
+      (λ l. newer_level 0 (suc l) (omega arith))
+
+  pub merged_ranges : ((t : Table) → IsAmong t new → IsRanged t) → (k : ℕ) (t : Table) → IsAmong t (level merged_levels k) → IsRanged t
+  merged_ranges made k t a = ⊎_elim (λ s. ranged k t s.old) (λ n. made t n.1) (stood levels runs flag i upper lower new h k t a)
+
+-- ---- the law
+
+hull_some : (xs : List Table) (t : Table) → IsAmong t xs → (w : KeyRange) × (hull xs ≡ Some w)
+hull_some [] t a = absurd a
+hull_some (x ∷ rest) t a = (spanned x (hull rest), refl)
+
+pub order_law : OrderLaw
+order_law levels flag i upper lower new runs h ordered from_inputs made =
+    subst (λ (o : Option KeyRange). AreOrdered (merged_at i o new levels)) (sym h.hull_is) (record {
+      order = merged_order levels runs flag i upper lower new h ordered.order ordered.ranges from_inputs;
+      ranges = merged_ranges levels runs flag i upper lower new h ordered.order ordered.ranges from_inputs made;
+    })
+
+pub flush_law : FlushLaw
+flush_law levels new ordered newer made = record { order = (newer, ordered.order); ranges = ranges }
+  where
+    ranges : (k : ℕ) (t : Table) → IsAmong t (level (flushed new levels) k) → IsRanged t
+    ranges zero t a = ⊎_elim (λ b. made t b) (λ b. ordered.ranges 0 t b) (among_either t new (all_tables levels.runs) a)
+    ranges (suc i) t a = ordered.ranges (suc i) t a
+
+pub merging_law : MergingLaw
+merging_law levels flag i upper lower new runs h =
+    subst (λ (o : Option KeyRange). MergesVersions levels (merged_at i o new levels) flag (upper ++ lower) new) (sym h.hull_is) (record {
+      stays = version_stays levels runs flag i upper lower new h;
+      made = version_new levels runs flag i upper lower new h;
+      nothing_else = version_else levels runs flag i upper lower new h;
+      inputs_there = input_there levels runs flag i upper lower new h;
+      lowest = λ ordered bottom v w a b same older.
+          let t = in_tables v (upper ++ lower) a in
+          let whole = hull_some (upper ++ lower) t.0 t.1 in
+          version_lowest levels runs flag i upper lower new h ordered.order ordered.ranges bottom whole.0 whole.1 v w a b same older;
+    })

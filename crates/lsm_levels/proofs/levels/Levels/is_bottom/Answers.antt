@@ -1,0 +1,16 @@
+use Rattle.std.proofs.Common.{[], ◌∷◌, Some, option_map, ap, sym, ◌∙◌}
+use Rattle.lsm_levels.specs.Hulls.{range_shown}
+use Rattle.lsm_levels.specs.Pick.{is_bottom}
+use Rattle.lsm_levels.specs.Picks.{job_of}
+use Rattle.lsm_levels.proofs.BottomLaws.{flag_is}
+use Rattle.lsm_levels.proofs.levels.Levels.is_bottom.Goals as goal
+
+pub returns-in-OldestRun : goal.returns-in-OldestRun
+returns-in-OldestRun g c =
+    flag_is c.args.self.now 0 c.in-OldestRun.upper.now c.in-OldestRun.lower.now (option_map range_shown c.hull_onto.result) (option_map range_shown c.hull_onto-in-OldestRun.result) c.meets_none_below.result c.hull_onto.ensures c.hull_onto-in-OldestRun.ensures c.meets_none_below.ensures
+    ∙ sym (ap (λ job. is_bottom c.args.self.now (job_of job)) c.in-OldestRun.is)
+
+pub returns-in-OneTable : goal.returns-in-OneTable
+returns-in-OneTable g c =
+    flag_is c.args.self.now c.in-OneTable.level (c.in-OneTable.upper.now ∷ []) c.in-OneTable.lower.now (option_map range_shown c.hull_onto-in-OneTable.result) (Some (range_shown c.spanned.result)) c.meets_none_below-in-OneTable.result c.hull_onto-in-OneTable.ensures (ap Some c.spanned.ensures) c.meets_none_below-in-OneTable.ensures
+    ∙ sym (ap (λ job. is_bottom c.args.self.now (job_of job)) c.in-OneTable.is)

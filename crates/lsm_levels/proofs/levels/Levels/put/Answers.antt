@@ -1,0 +1,32 @@
+use Rattle.std.proofs.Common.{◌<◌, length, sym, ◌∙◌, subst}
+use Rattle.std.proofs.lemmas.List.{length-set}
+use Rattle.std.specs.List.{AllByRecursion}
+use Rattle.lsm_levels.specs.Tables.{IsRun}
+use Rattle.lsm_levels.proofs.RunHulls.{run_hull_order, run_hull_some}
+use Rattle.lsm_levels.proofs.Runs.{all_set, all_take}
+use Rattle.lsm_levels.proofs.levels.Levels.put.Goals as goal
+
+pub returns-in_default-clause-moved : goal.returns-in_default-clause-moved
+returns-in_default-clause-moved g c = absurd (run_hull_some c.args.upper.now c.in_default.ensures c.requires.some)
+
+pub replace-requires-clause-range : goal.replace-requires-clause-range
+replace-requires-clause-range g c = run_hull_order c.args.upper.now (record { first = c.in-Some.first.now; last = c.in-Some.last.now }) c.requires.run c.in-Some.ensures
+
+pub remove-requires : goal.remove-requires
+remove-requires g c = run_hull_order c.args.upper.now (record { first = c.in-Some.first.now; last = c.in-Some.last.now }) c.requires.run c.in-Some.ensures
+
+pub invariant_of-self-then-level-eq0 : goal.invariant_of-self-then-level-eq0
+invariant_of-self-then-level-eq0 g c = record {
+  four = length-set c.self.inside.deeper.items c.args.level c.replace.new.self ∙ c.self.invariant.four;
+  runs = subst (AllByRecursion IsRun) (sym c.truncate.ensures.items) (all_take IsRun c.saturating_sub-kept.result c.self.inside.runs.items c.self.invariant.runs);
+  deeper = all_set IsRun c.self.inside.deeper.items c.args.level c.replace.new.self c.self.invariant.deeper c.in_ok-replace.ensures.stays;
+  some = subst (AllByRecursion (λ run. 0 < length run)) (sym c.truncate.ensures.items) (all_take (λ run. 0 < length run) c.saturating_sub-kept.result c.self.inside.runs.items c.self.invariant.some);
+}
+
+pub invariant_of-self-else-level-eq0 : goal.invariant_of-self-else-level-eq0
+invariant_of-self-else-level-eq0 g c = record {
+  four = length-set _ _ c.remove.new.self ∙ length-set c.self.inside.deeper.items c.args.level c.replace.new.self ∙ c.self.invariant.four;
+  runs = c.self.invariant.runs;
+  deeper = all_set IsRun _ _ c.remove.new.self (all_set IsRun c.self.inside.deeper.items c.args.level c.replace.new.self c.self.invariant.deeper c.in_ok-replace.ensures.stays) c.remove.ensures.stays;
+  some = c.self.invariant.some;
+}

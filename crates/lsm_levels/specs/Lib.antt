@@ -1,0 +1,13 @@
+pub mod Among
+pub mod Contents
+pub mod Tables
+pub mod Hulls
+pub mod Levels
+pub mod Pick
+pub mod Picks
+pub mod Orders
+pub mod Held
+pub mod Asking
+pub mod Lookups
+pub mod Stored
+pub mod Founds

@@ -1,0 +1,26 @@
+//! Laws of the definitions.
+
+ghost use Rattle.lsm_levels.specs.Held.{PickLaw, SurvivalLaw, RunsLaw, MergingLaw, OrderLaw, FlushLaw};
+
+/// A job that is picked takes tables that no other job has as input, and all that it needs.
+pub fn picked_jobs_have_free_tables()
+    ensures { PickLaw }
+{}
+
+/// Another job's install leaves a job its tables, and the levels stay runs.
+pub fn jobs_keep_their_tables()
+    ensures survives { SurvivalLaw }
+    ensures runs { RunsLaw }
+{}
+
+/// A merge puts versions in the place of its inputs', and leaves the others; and of one key the newer place keeps the
+/// greater number.
+pub fn merges_leave_other_versions()
+    ensures merging { MergingLaw }
+    ensures order { OrderLaw }
+{}
+
+/// A flush of versions that are newer than those of their keys in all levels keeps the order of versions.
+pub fn flushes_keep_the_order()
+    ensures { FlushLaw }
+{}

@@ -1,0 +1,200 @@
+//! The levels of tables.
+
+ghost use Rattle.std.specs.Prelude.{◌≡◌, ◌≤◌, ◌<◌, ◌-◌, [], slice_set, suc, Bool, List, length, is_ok, if◌then◌else◌, IfOk, IfErr, IfSome, OnOk, OnErr, option_map};
+ghost use Rattle.lsm_levels.specs.Tables.{IsRun, hull, put_at};
+ghost use Rattle.lsm_levels.specs.Levels.{level as level_of, no_tables, flushed, merged};
+ghost use Rattle.lsm_levels.specs.Pick.{Merge, below_output, is_bottom, meets_none, pick};
+ghost use Rattle.lsm_levels.specs.Picks.{job_of};
+ghost use Rattle.lsm_levels.specs.Hulls.{range_shown};
+ghost use Rattle.lsm_levels.specs.Held.{AreRuns, HasItsTables, AreOutputs};
+
+use crate::hulls::{KeyRange, hull_onto, is_met, spanned};
+use crate::picking::{HeldJobs, Pick, level_0_job, level_job};
+use crate::run::Run;
+use crate::slices::ends;
+use crate::table::PlacedTable;
+use std::alloc::{AllocError, AllocFailed, Allocator, Global};
+use std::marker::Model;
+
+/// The runs of level 0, the newest first, and levels 1 to 4, each one run. Contracts see the tables of each run.
+#[derive(Drop)]
+pub struct Levels<A: Allocator = Global> {
+    runs: Vec<Run<A>, A>,
+    deeper: Vec<Run<A>, A>,
+}
+
+impl<A: Allocator> Model for Levels<A> {
+    ghost use Rattle.lsm_levels.specs.Levels.{Levels};
+    ghost use Rattle.lsm_levels.specs.Held.{AreRuns};
+
+    ghost Value = { Levels };
+
+    ghost view = { λ l. record { runs = l.runs.items; deeper = l.deeper.items } };
+
+    ghost invariant = { λ l. AreRuns (record { runs = l.runs.items; deeper = l.deeper.items }) };
+}
+
+impl<A: Allocator> Levels<A> {
+    /// Levels without a table.
+    pub fn new(alloc: A) -> Result<Self, AllocError>
+    where
+        A: Clone,
+        ensures { IfOk result (λ l. l ≡ no_tables) }
+    {
+        let mut deeper = Vec::with_capacity(alloc.clone()?, 4)?;
+        for _level in 0..4_usize {
+            deeper.push(Run::new(alloc.clone()?))?;
+        }
+        Ok(Levels {
+            runs: Vec::new(alloc),
+            deeper,
+        })
+    }
+
+    /// The runs of level 0, the newest first. Each has a table at least.
+    pub fn runs(&self) -> &[Run<A>]
+        ensures same { result.now ≡ self.now.runs }
+        ensures runs { AreRuns self.now }
+    {
+        &self.runs
+    }
+
+    /// Levels 1 to 4.
+    pub fn deeper(&self) -> &[Run<A>]
+        ensures same { result.now ≡ self.now.deeper }
+        ensures four { length result.now ≡ 4 }
+    {
+        &self.deeper
+    }
+
+    /// Puts a run in the place of a level from 1 to 4. It takes no memory.
+    pub fn set_level(&mut self, level: usize, run: Run<A>)
+        requires low { 1 ≤ level }
+        requires high { level ≤ 4 }
+        ensures { self.new ≡ record { runs = self.old.runs; deeper = slice_set self.old.deeper (level - 1) run } }
+    {
+        let _tables = run.tables();
+        self.deeper[level - 1] = run;
+    }
+
+    /// Adds a run of a flush's tables as the newest of level 0. Where memory is refused, it is handed back and nothing has
+    /// changed.
+    pub fn add_run(&mut self, run: Run<A>) -> Result<(), AllocFailed<Run<A>>>
+        requires some { 0 < length run }
+        ensures added { OnOk result (self.new ≡ flushed run self.old) }
+        ensures unchanged { OnErr result (self.new ≡ self.old) }
+        ensures handed_back { IfErr result (λ refused. refused.value ≡ run) }
+    {
+        let _tables = run.tables();
+        self.runs.insert(0, run)
+    }
+
+    /// Puts a merge's outputs in the place of its inputs, one level below its upper tables. Where memory is refused, levels
+    /// and outputs are as they were.
+    fn put(
+        &mut self,
+        level: usize,
+        upper: &[PlacedTable<A>],
+        outputs: &mut Vec<PlacedTable<A>, A>,
+    ) -> Result<(), AllocError>
+        requires level { level ≤ 3 }
+        requires run { IsRun upper.now }
+        requires some { 0 < length upper.now }
+        requires fits { IfSome (hull upper.now) (λ range. IsRun (put_at range outputs.old.items (level_of self.old (suc level)))) }
+        ensures replaced { self.new ≡ (if is_ok result then merged level upper.now outputs.old.items self.old else self.old) }
+        ensures moved { outputs.new.items ≡ (if is_ok result then [] else outputs.old.items) }
+    {
+        let Some((first, last)) = ends(upper) else {
+            return Ok(());
+        };
+        self.deeper[level].replace(first, last, outputs)?;
+        if level == 0 {
+            let kept = self.runs.len().saturating_sub(1);
+            self.runs.truncate(kept);
+        } else {
+            self.deeper[level - 1].remove(first, last);
+        }
+        Ok(())
+    }
+
+    /// Replaces the inputs of a merge by its outputs: the upper tables of the level, from 0 to 3, and those of the next level
+    /// that they meet go, and the outputs come into the next level in their place. Where memory is refused, levels and
+    /// outputs are as they were.
+    pub fn replace(
+        &mut self,
+        level: usize,
+        upper: &[PlacedTable<A>],
+        outputs: &mut Vec<PlacedTable<A>, A>,
+    ) -> Result<(), AllocError>
+        // Levels have the inputs of the merge, and its outputs lie within them.
+        requires merge { (bottom : Bool) × (lower : List _) × HasItsTables self.old bottom level upper.now lower × AreOutputs (Merge level upper.now lower) outputs.old.items }
+        ensures replaced { self.new ≡ (if is_ok result then merged level upper.now outputs.old.items self.old else self.old) }
+        ensures moved { outputs.new.items ≡ (if is_ok result then [] else outputs.old.items) }
+    {
+        let _runs = self.runs();
+        let put = self.put(level, upper, outputs);
+        put
+    }
+
+    /// The job that comes next, where sealed versions wait or not, and slots are held by these jobs: the first of these that
+    /// there is.
+    ///
+    /// 1. A flush, where sealed versions wait and no flush holds a slot.
+    /// 2. With 4 or more runs of level 0 and no job of it: the oldest run with the tables of level 1 that meet its hull, if
+    ///    all of them are free. A table is free where no job has it as input.
+    /// 3. Of the least level from 1 to 3 that has more blocks than its limit, 256, 2,048 and 16,384, and such a table: the
+    ///    least-numbered table that is free, as are all tables of the next level that meet it, with these.
+    ///
+    /// It takes no memory.
+    pub fn pick<H: HeldJobs>(&self, waiting: bool, held: &H) -> Option<Pick<'_, A>>
+        ensures { option_map job_of result ≡ pick waiting self.now (H.jobs held.now) }
+    {
+        if waiting && !held.has_flush() {
+            return Some(Pick::Flush);
+        }
+        let [level_1, level_2, level_3, level_4] = self.deeper() else {
+            return None;
+        };
+        if let Some(job) = level_0_job(&self.runs, level_1, held) {
+            return Some(job);
+        }
+        if let Some(job) = level_job(1, 256, level_1, level_2, held) {
+            return Some(job);
+        }
+        if let Some(job) = level_job(2, 2_048, level_2, level_3, held) {
+            return Some(job);
+        }
+        level_job(3, 16_384, level_3, level_4, held)
+    }
+
+    /// Whether no table below the level of a merge's outputs meets the hull of its inputs.
+    fn meets_none_below(&self, level: usize, inputs: Option<KeyRange<'_>>) -> bool
+        ensures { result ≡ meets_none (option_map range_shown inputs.entry) (below_output self.now level) }
+    {
+        let Some(range) = inputs else {
+            return true;
+        };
+        if level >= 3 {
+            return true;
+        }
+        !is_met(&self.deeper()[level + 1..], range)
+    }
+
+    /// The bottom flag of a job: whether it is a merge, and no table below the level of its outputs meets the hull of its
+    /// inputs. It takes no memory.
+    pub fn is_bottom(&self, job: &Pick<'_, A>) -> bool
+        ensures { result ≡ is_bottom self.now (job_of job.now) }
+    {
+        match job {
+            Pick::Flush => false,
+            Pick::OldestRun { upper, lower } => {
+                self.meets_none_below(0, hull_onto(upper, hull_onto(lower, None)))
+            }
+            Pick::OneTable {
+                level,
+                upper,
+                lower,
+            } => self.meets_none_below(*level, Some(spanned(upper, hull_onto(lower, None)))),
+        }
+    }
+}

@@ -1,0 +1,29 @@
+//! The levels of tables: which job comes next, what installs make of them, and how keys are looked up.
+#![tactic(auto)]
+
+mod asking;
+mod contents;
+mod covered;
+mod found;
+mod hulls;
+mod law;
+mod levels;
+mod lookup;
+mod picking;
+mod placed;
+mod reading;
+mod run;
+mod slices;
+mod table;
+mod view;
+mod within;
+
+pub use law::{
+    flushes_keep_the_order, jobs_keep_their_tables, merges_leave_other_versions,
+    picked_jobs_have_free_tables,
+};
+pub use levels::Levels;
+pub use picking::{HeldJobs, Pick};
+pub use run::{Run, is_run};
+pub use table::PlacedTable;
+pub use view::ReadView;

@@ -1,0 +1,162 @@
+//! Which job comes next.
+
+ghost use Rattle.std.specs.Prelude.{◌≡◌, ◌∷◌, [], ltb, ℕ, List, sum_by, filter, option_map};
+ghost use Rattle.std.specs.List.{list_any, list_all};
+ghost use Rattle.std.specs.Option.{option_copied};
+ghost use Rattle.lsm_levels.specs.Tables.{IsRun};
+ghost use Rattle.lsm_levels.specs.Pick.{Job, is_flush, is_of_level_0, is_input, is_free, can_merge, lower_of, least_numbered, level_0_job, level_job};
+ghost use Rattle.lsm_levels.specs.Picks.{job_of, is_less};
+
+use crate::run::Run;
+use crate::slices::ends;
+use crate::table::PlacedTable;
+use std::alloc::{Allocator, Global};
+
+/// The jobs that hold slots.
+pub trait HeldJobs {
+    // the jobs
+    ghost jobs: { Self → List Job };
+
+    /// Whether a flush is among them.
+    fn has_flush(&self) -> bool
+        ensures { result ≡ list_any is_flush (jobs self.now) };
+
+    /// Whether a job of level 0 is among them.
+    fn has_level_0(&self) -> bool
+        ensures { result ≡ list_any is_of_level_0 (jobs self.now) };
+
+    /// Whether one of them takes in the table of this number. It is to find the number without a walk over all inputs, as in
+    /// a sorted list: a choice asks of each table, and of each that meets it.
+    fn takes_in(&self, number: u64) -> bool
+        ensures { result ≡ is_input (jobs self.now) number };
+}
+
+/// The job that comes next, with the tables that it takes in.
+#[derive(Drop)]
+pub enum Pick<'a, A: Allocator = Global> {
+    /// A flush of the sealed versions.
+    Flush,
+    /// The oldest run of level 0, with the tables of level 1 that meet its hull.
+    OldestRun {
+        upper: &'a [PlacedTable<A>],
+        lower: &'a [PlacedTable<A>],
+    },
+    /// A table of a level from 1 to 3, with the tables of the next level that meet it.
+    OneTable {
+        level: usize,
+        upper: &'a PlacedTable<A>,
+        lower: &'a [PlacedTable<A>],
+    },
+}
+
+fn are_free<H: HeldJobs, A: Allocator>(held: &H, tables: &[PlacedTable<A>]) -> bool
+    ensures { result ≡ list_all (is_free (H.jobs held.now)) tables.now }
+{
+    tables.iter().all(|table| !held.takes_in(table.number()))
+}
+
+/// The tables of a run that meet the hull of these.
+fn lower_of<'a, A: Allocator>(upper: &[PlacedTable<A>], below: &'a Run<A>) -> &'a [PlacedTable<A>]
+    requires { IsRun upper.now }
+    ensures { result.now ≡ lower_of upper.now below.now }
+{
+    match ends(upper) {
+        Some((first, last)) => below.meeting(first, last),
+        None => &[],
+    }
+}
+
+/// Whether a table, and those of the next level that meet it, are all free.
+fn can_merge<H: HeldJobs, A: Allocator>(held: &H, table: &PlacedTable<A>, below: &Run<A>) -> bool
+    ensures { result ≡ can_merge (H.jobs held.now) (table.now ∷ []) below.now }
+{
+    !held.takes_in(table.number()) && are_free(held, below.meeting(table.first(), table.last()))
+}
+
+/// Whether tables have more blocks than the limit.
+fn is_over<A: Allocator>(tables: &[PlacedTable<A>], limit: u32) -> bool
+    ensures { result ≡ ltb limit (sum_by (λ t. t.blocks) tables.now) }
+{
+    let mut left = limit;
+    for table in tables {
+        match left.checked_sub(table.blocks()) {
+            Some(rest) => left = rest,
+            None => return true,
+        }
+    }
+    false
+}
+
+/// The least-numbered table that is free, as are all those of the next level that meet it.
+fn least_to_merge<'a, H: HeldJobs, A: Allocator>(
+    held: &H,
+    tables: &'a [PlacedTable<A>],
+    below: &Run<A>,
+) -> Option<&'a PlacedTable<A>>
+    ensures { option_copied result ≡ least_numbered (filter (λ t. can_merge (H.jobs held.now) (t ∷ []) below.now) tables.now) }
+{
+    let mut least: Option<&PlacedTable<A>> = None;
+    for table in tables {
+        if is_less(table, least) && can_merge(held, table, below) {
+            least = Some(table);
+        }
+    }
+    least
+}
+
+/// Whether a table is numbered below another, if there is one.
+fn is_less<A: Allocator>(table: &PlacedTable<A>, other: Option<&PlacedTable<A>>) -> bool
+    ensures { result ≡ is_less table.now (option_copied other.entry) }
+{
+    match other {
+        Some(other) => table.number() < other.number(),
+        None => true,
+    }
+}
+
+/// The oldest run of level 0 with the tables of level 1 that meet its hull, where there are 4 or more runs and no job of
+/// level 0, and all of them are free.
+pub(crate) fn level_0_job<'a, H: HeldJobs, A: Allocator>(
+    runs: &'a [Run<A>],
+    below: &'a Run<A>,
+    held: &H,
+) -> Option<Pick<'a, A>>
+    ensures { option_map job_of result ≡ level_0_job runs.now below.now (H.jobs held.now) }
+{
+    if runs.len() < 4 || held.has_level_0() {
+        return None;
+    }
+    let upper = runs[runs.len() - 1].tables();
+    let lower = lower_of(upper, below);
+    if are_free(held, upper) && are_free(held, lower) {
+        return Some(Pick::OldestRun { upper, lower });
+    }
+    None
+}
+
+/// Of a level that is over its limit in blocks the least-numbered table that is free, as are all tables of the next level
+/// that meet it, with these.
+pub(crate) fn level_job<'a, H: HeldJobs, A: Allocator>(
+    level: usize,
+    limit: u32,
+    tables: &'a Run<A>,
+    below: &'a Run<A>,
+    held: &H,
+) -> Option<Pick<'a, A>>
+    ensures { option_map job_of result ≡ level_job tables.now below.now (H.jobs held.now) level limit }
+{
+    if !is_over(tables.tables(), limit) {
+        return None;
+    }
+    match least_to_merge(held, tables.tables(), below) {
+        Some(upper) => {
+            let lower = below.meeting(upper.first(), upper.last());
+            Some(Pick::OneTable {
+                level,
+                upper,
+                lower,
+            })
+        }
+        None => None,
+    }
+}

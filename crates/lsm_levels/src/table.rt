@@ -1,0 +1,243 @@
+//! Tables as the levels hold them.
+
+ghost use Rattle.std.specs.Prelude.{◌≡◌, ◌≤◌, ◌^◌, List, IfOk, IfErr};
+ghost use Rattle.lsm_codec.specs.Versions.{Version};
+ghost use Rattle.lsm_device.specs.declared.refusal.Refusal.TheVariants.{NoMemory};
+ghost use Rattle.lsm_filter.specs.Bits.{filter_of};
+ghost use Rattle.lsm_table.specs.Outlines.{IsRecordOf, Opens, outline_in, outline_of};
+ghost use Rattle.lsm_table.specs.Extents.{keys_of};
+ghost use Rattle.lsm_levels.specs.Tables.{at_most, is_below, meets, table_at, table_of, record_of, outline_opened};
+
+use crate::contents::Contents;
+use lsm_codec::TableRecord;
+use lsm_device::Refusal;
+use lsm_table::{Image, Table, outline_law};
+use std::alloc::{AllocError, Allocator, Global};
+use std::marker::Model;
+use std::sync::Arc;
+
+/// What all handles of a table share.
+#[derive(Drop)]
+struct Placed<A: Allocator> {
+    table: Table<A>,
+    listed: TableRecord,
+    contents: Contents,
+}
+
+impl<A: Allocator> Model for Placed<A> {
+    ghost use Rattle.lsm_table.specs.Outlines.{IsRecordOf};
+    ghost use Rattle.lsm_levels.specs.Tables.{Table, table_at};
+
+    ghost Value = { Table };
+
+    ghost view = { λ t. table_at t.table t.listed.first_block t.contents.versions };
+
+    ghost invariant = { λ t. IsRecordOf t.listed t.table };
+}
+
+/// A table that stands in an extent of the device. Levels and jobs share it: each has a handle of its own. Contracts see
+/// what its blocks tell, where its extent begins, and its versions, which no code holds.
+#[derive(Drop)]
+pub struct PlacedTable<A: Allocator = Global> {
+    shared: Arc<Placed<A>, A>,
+}
+
+impl<A: Allocator> Model for PlacedTable<A> {
+    ghost use Rattle.std.specs.Arc.{arc_value};
+    ghost use Rattle.lsm_levels.specs.Tables.{Table};
+
+    ghost Value = { Table };
+
+    ghost view = { λ t. arc_value t.shared };
+}
+
+impl<A: Allocator> Placed<A> {
+    fn table(&self) -> &Table<A>
+        ensures same { result.now ≡ self.now.outline }
+        ensures whole { self.now ≡ table_at self.now.outline self.now.start self.now.versions }
+    {
+        &self.table
+    }
+
+    fn table_record(&self, level: u8, run: u8) -> TableRecord
+        ensures { result ≡ record_of level run self.now }
+    {
+        TableRecord {
+            number: self.listed.number,
+            level,
+            run,
+            first_block: self.listed.first_block,
+            data_blocks: self.listed.data_blocks,
+            index_blocks: self.listed.index_blocks,
+            entries: self.listed.entries,
+        }
+    }
+
+    fn blocks(&self) -> u32
+        ensures { result ≡ self.now.blocks }
+    {
+        self.listed.extent_blocks()
+    }
+
+    fn first_block(&self) -> u32
+        ensures { result ≡ self.now.start }
+    {
+        self.listed.first_block
+    }
+}
+
+impl<A: Allocator> PlacedTable<A> {
+    /// A table with these versions, in the extent that its record lists.
+    fn new(alloc: A, table: Table<A>, listed: TableRecord) -> Result<PlacedTable<A>, AllocError>
+        ghost versions: { List Version }
+        requires { IsRecordOf listed table }
+        ensures { IfOk result (λ t. t ≡ table_at table listed.first_block versions) }
+    {
+        let contents = Contents::of();
+        let placed = Placed {
+            table,
+            listed,
+            contents,
+        };
+        let shared = Arc::new(alloc, placed)?;
+        Ok(PlacedTable { shared })
+    }
+
+    /// Opens the table that a manifest lists, with this footer block, these index blocks and this filter block, as a table
+    /// with these versions. `BadTable` where they are not those of such a table; want of memory is `NoMemory`.
+    pub fn open(
+        alloc: A,
+        listed: TableRecord,
+        footer: &[u8; 4_096],
+        index: &[u8],
+        filter: &[u8; 4_096],
+    ) -> Result<PlacedTable<A>, Refusal>
+    where
+        A: Clone,
+        ghost versions: { List Version }
+        ensures opened { IfOk result (λ t. t ≡ table_at t.outline listed.first_block versions) }
+        ensures told { Opens (outline_of listed footer.now index.now filter.now) (outline_opened result) }
+    {
+        outline_law();
+        let table = Table::open(alloc.clone()?, listed, footer, index, filter)?;
+        Ok(PlacedTable::new(alloc, table, listed)?)
+    }
+
+    /// Opens an image as a table with these versions.
+    fn open_image(
+        alloc: A,
+        image: &Image<A>,
+        number: u64,
+        first_block: u32,
+    ) -> Result<PlacedTable<A>, Refusal>
+    where
+        A: Clone,
+        ghost versions: { List Version }
+        requires { number ≤ 2 ^ 63 }
+        ensures placed { IfOk result (λ t. t ≡ table_at (outline_in number (filter_of (keys_of image.now)) image.now) first_block versions) }
+        ensures memory { IfErr result (λ refusal. refusal ≡ NoMemory) }
+    {
+        outline_law();
+        let listed = image.table_record(number, 0, 0, first_block);
+        let _blocks = image.data_blocks();
+        let mut filter = [0; 4_096];
+        filter.copy_from_slice(image.filter().block());
+        PlacedTable::open(alloc, listed, &image.footer(number), image.index(), &filter)
+    }
+
+    /// The table of an image under a number up to 2^63, in the extent from this block on. It is refused for want of memory
+    /// alone.
+    pub fn of_image(
+        alloc: A,
+        image: &Image<A>,
+        number: u64,
+        first_block: u32,
+    ) -> Result<PlacedTable<A>, Refusal>
+    where
+        A: Clone,
+        requires { number ≤ 2 ^ 63 }
+        ensures placed { IfOk result (λ t. t ≡ table_of number first_block image.now) }
+        ensures memory { IfErr result (λ refusal. refusal ≡ NoMemory) }
+    {
+        PlacedTable::open_image(alloc, image, number, first_block)
+    }
+
+    /// Another handle of the table. It copies nothing; `AllocError` only where there are 2^63 handles.
+    pub fn share(&self) -> Result<PlacedTable<A>, AllocError>
+        ensures { IfOk result (λ t. t ≡ self.now) }
+    {
+        let shared = Arc::try_clone(&self.shared)?;
+        Ok(PlacedTable { shared })
+    }
+
+    /// What footer, index and filter tell of it.
+    pub fn table(&self) -> &Table<A>
+        ensures same { result.now ≡ self.now.outline }
+        ensures whole { self.now ≡ table_at self.now.outline self.now.start self.now.versions }
+    {
+        self.shared.table()
+    }
+
+    /// Its record in a manifest that has it in this level, from 0 to 4, and run.
+    pub fn table_record(&self, level: u8, run: u8) -> TableRecord
+        ensures { result ≡ record_of level run self.now }
+    {
+        self.shared.table_record(level, run)
+    }
+
+    /// Its number.
+    pub fn number(&self) -> u64
+        ensures { result ≡ self.now.number }
+    {
+        self.table().number()
+    }
+
+    /// The least key.
+    pub fn first(&self) -> &[u8]
+        ensures { result.now ≡ self.now.first }
+    {
+        self.table().first()
+    }
+
+    /// The greatest key.
+    pub fn last(&self) -> &[u8]
+        ensures { result.now ≡ self.now.last }
+    {
+        self.table().last()
+    }
+
+    /// The blocks of its whole extent: data blocks, filter, index and footer.
+    pub fn blocks(&self) -> u32
+        ensures { result ≡ self.now.blocks }
+    {
+        self.shared.blocks()
+    }
+
+    /// The first block of its extent, counted in the data area.
+    pub fn first_block(&self) -> u32
+        ensures { result ≡ self.now.start }
+    {
+        self.shared.first_block()
+    }
+
+    /// Whether it begins at a key or before it.
+    pub(crate) fn begins_by(&self, key: &[u8]) -> bool
+        ensures { result ≡ at_most self.now.first key.now }
+    {
+        self.first().cmp(key).is_le()
+    }
+
+    /// Whether it ends before a key.
+    pub(crate) fn ends_before(&self, key: &[u8]) -> bool
+        ensures { result ≡ is_below self.now.last key.now }
+    {
+        self.last().cmp(key).is_lt()
+    }
+
+    /// Whether it has keys of a range, from the first up to the last.
+    pub(crate) fn meets(&self, first: &[u8], last: &[u8]) -> bool
+        ensures { result ≡ meets (record { first = first.now; last = last.now }) self.now }
+    {
+        first.cmp(self.last()).is_le() && self.begins_by(last)
+    }
+}
