@@ -1,5 +1,5 @@
 -- What one hold of the lock does to a session.
-use Rattle.std.proofs.Common.{◌≡◌, ◌≢◌, ℕ, ◌+◌, ◌<◌, ◌≤◌, ◌==◌, Bool, false, List, [], ◌∷◌, ◌++◌, length, Result, Ok, Err, refl, ap, sym, ◌∙◌, subst, arith, length-append}
+use Rattle.std.proofs.Common.{◌≡◌, ◌≢◌, ℕ, ◌+◌, ◌<◌, ◌≤◌, ◌==◌, Bool, false, List, [], ◌∷◌, ◌++◌, length, Some, None, Result, Ok, Err, refl, ap, sym, ◌∙◌, subst, arith, length-append}
 use Rattle.std.specs.Prelude.{IsTrue, IfOk, IfErr, IsErrAnd}
 use Rattle.std.proofs.lemmas.Bool.Decides.{nat_tests}
 use Rattle.atomic_table.specs.Table.{Me}
@@ -15,6 +15,7 @@ use Rattle.lsm_store.specs.RecoveryPoints.{batch_count}
 use Rattle.lsm_store.specs.Run.{Allows, Admits, asks_value, asks_page, next}
 use Rattle.lsm_store.specs.Serving.{Serves}
 use Rattle.lsm_store.specs.State.{State}
+use Rattle.lsm_store.proofs.Running.{value_wanted, page_wanted}
 use Rattle.lsm_trail.specs.History.{Event, event, IsLegal, state_after, calls_by, numbers, numbers_at, TrailView}
 use Rattle.lsm_trail.specs.Knowledge.{SessionId, Known, View, known, keeper_or, keeper_of, IsKeeperPass}
 use Rattle.lsm_trail.specs.declared.numbers.Numbers.{Numbers}
@@ -49,13 +50,23 @@ page_kept s (Release number) is = absurd (cc is)
 page_kept s LogRoom is = absurd (cc is)
 
 -- a reply for which memory was short has changed nothing
-pub lost : (s : State) (call : Call) (reply : Reply) → Admits s call reply → IsLost reply → (next s call reply ≡ s) × Allows s call (Refused NoMemory)
+pub lost : (s : State) (call : Call) (reply : Reply) → Admits s call reply → IsLost reply → (next s call reply ≡ s) × Admits s call (Refused NoMemory)
 lost s call (Refused NoMemory) admitted short = (refl, admitted)
 lost s call (Refused e) admitted short = absurd short
 lost s call (Number n) admitted short = absurd short
 lost s call Done admitted short = absurd short
 lost s call (Value v) admitted short = let k = value_kept s call admitted.1 in (k.0, (admitted.0, k.1))
 lost s call (Rows page) admitted short = let k = page_kept s call admitted.1 in (k.0, (admitted.0, k.1))
+
+-- where the state allows the reply, it allows that memory was short
+lost_allowed : (s : State) (call : Call) (reply : Reply) → Allows s call reply → IsLost reply → Allows s call (Refused NoMemory)
+lost_allowed s call (Refused NoMemory) allowed short = allowed
+lost_allowed s call (Refused e) allowed short = absurd short
+lost_allowed s call (Number n) allowed short = absurd short
+lost_allowed s call Done allowed short = absurd short
+lost_allowed s call (Value (Some v)) allowed short = value_wanted s call v allowed
+lost_allowed s call (Value None) allowed short = absurd short
+lost_allowed s call (Rows page) allowed short = page_wanted s call page allowed
 
 abbrev call_in : Step → Call
 call_in (Called call) = call
@@ -170,7 +181,8 @@ module _ (id : SessionId) (base : ℕ) (store new : StoreView) (trail : TrailVie
         (λ found shown. record {
           finds = found;
           room = omega (arith, session.limit);
-          allowed = (lost store.state call reply serves.admitted short).1;
+          admitted = (lost store.state call reply serves.admitted short).1;
+          allowed = λ began. lost_allowed store.state call reply (serves.allowed (session.backed began)) short;
           reply = reply;
           lost = short;
           serves = serves;
@@ -214,7 +226,7 @@ module _ (id : SessionId) (old : SessionView) (c d : Known) (finds : Finds id ol
 no_call : (id : SessionId) (old new : SessionView) (c d : Known) (call : Call) (e : Refusal) → IsRefused id old c call e new d → IsNoCall c call e d
 no_call id old new c d call TrailFull r = denied id old c d r.finds r.client call TrailFull r.full
 no_call id old new c d call NotYours r = denied id old c d r.finds r.client call NotYours (r.room, r.releases)
-no_call id old new c d call NoMemory r = denied id old c d r.finds r.client call NoMemory (r.room, subst (λ (s : State). Allows s call (Refused NoMemory)) r.finds.state r.allowed)
+no_call id old new c d call NoMemory r = denied id old c d r.finds r.client call NoMemory (r.room, subst (λ (s : State). Admits s call (Refused NoMemory)) r.finds.state r.admitted, λ began. subst (λ (s : State). Allows s call (Refused NoMemory)) r.finds.state (r.allowed began))
 no_call id old new c d call e r = absurd r
 
 pub tells_made : {T : Type 0} (res : Result T Refusal) (f : T → Reply) (id : SessionId) (old new : SessionView) (c d : Known) (call : Call) → IfOk res (λ r. IsMade id old c call (f r) new d) → IfOk res (λ r. Extends c call (f r) d)

@@ -3,10 +3,11 @@ use Rattle.std.specs.Prelude.{◌≡◌, ℕ, zero, suc, ◌+◌, ◌<◌, ◌�
 use mathlib.Core.List.{IsPrefix}
 use Rattle.lsm_device.specs.declared.refusal.Refusal.{Refusal}
 use Rattle.lsm_device.specs.declared.refusal.Refusal.TheVariants.{NoMemory, TrailFull, NotYours}
+use Rattle.lsm_store.specs.Backing.{IsBacked}
 use Rattle.lsm_store.specs.Calls.{Call, Reply}
 use Rattle.lsm_store.specs.Calls.{Release, Refused}
 use Rattle.lsm_store.specs.Machine.{Called}
-use Rattle.lsm_store.specs.Run.{Allows}
+use Rattle.lsm_store.specs.Run.{Allows, Admits}
 use Rattle.lsm_trail.specs.Begins.{Begin, base_of}
 use Rattle.lsm_trail.specs.History.{Event, event, IsLegal, state_after, calls_by}
 use Rattle.lsm_trail.specs.Knowledge.{Known, known}
@@ -34,11 +35,12 @@ pub record Sees (c d : Known) : Type 0 where
   pub own : calls_by d.number d.seen ≡ d.mine
 
 -- Why a call is no entry behind a history: the trail is full; or it has a place, and the call is to release the base, or
--- there was no memory for a call that takes some, and that the state doesn't refuse.
+-- there was no memory for a call that takes some, and that the state doesn't refuse: a look-up takes some where the state
+-- has a value, if the device backs it.
 abbrev pub Denies : Begin → List Event → Call → Refusal → Type 0
 Denies b log call TrailFull = length log ≡ b.limit
 Denies b log call NotYours = (length log < b.limit) × (call ≡ Release (base_of b))
-Denies b log call NoMemory = (length log < b.limit) × Allows (state_after b log) call (Refused NoMemory)
+Denies b log call NoMemory = (length log < b.limit) × Admits (state_after b log) call (Refused NoMemory) × (IsBacked b.store → Allows (state_after b log) call (Refused NoMemory))
 Denies b log call other = ⊥
 
 -- A call that is no entry, and the client has seen the history behind which it is none.

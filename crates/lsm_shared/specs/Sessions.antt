@@ -1,5 +1,5 @@
 -- Sessions: the value behind the lock, how it begins and how it ends.
-use Rattle.std.specs.Prelude.{◌≡◌, ℕ, ◌<◌, ◌≤◌, nat_lt, ◌||◌, ◌==◌, Bool, is_some, if◌then◌else◌, List, [], ◌∷◌, ◌++◌, length, Option}
+use Rattle.std.specs.Prelude.{◌≡◌, ℕ, ◌<◌, ◌≤◌, nat_lt, ◌||◌, ◌==◌, Bool, is_some, if◌then◌else◌, List, [], ◌∷◌, ◌++◌, length, Option, Some}
 use mathlib.Core.List.{IsPrefix}
 use Rattle.atomic_table.specs.declared.shared.Seat.{Seat}
 use Rattle.lsm_device.specs.declared.refusal.Refusal.{Refusal}
@@ -10,7 +10,7 @@ use Rattle.lsm_store.specs.Calls.{Snapshot, Release, Refused, Value, Rows}
 use Rattle.lsm_store.specs.Effects.{after}
 use Rattle.lsm_store.specs.Refusals.{refusals, first_refusal}
 use Rattle.lsm_store.specs.Machine.{Called}
-use Rattle.lsm_store.specs.Run.{Allows}
+use Rattle.lsm_store.specs.Run.{Allows, Admits}
 use Rattle.lsm_store.specs.Serving.{Serves}
 use Rattle.lsm_store.specs.State.{State}
 use Rattle.lsm_trail.specs.Begins.{Begin, base_of, first_state, CanPin}
@@ -73,7 +73,7 @@ pub record Finds (id : SessionId) (old : SessionView) (c : Known) : Type 0 where
 -- a reply for which memory was short: the store's, or a value or a page of which there is no second copy
 abbrev pub IsLost : Reply → Type 0
 IsLost (Refused NoMemory) = Unit {0}
-IsLost (Value value) = Unit {0}
+IsLost (Value (Some value)) = Unit {0}
 IsLost (Rows page) = Unit {0}
 IsLost other = ⊥
 
@@ -108,7 +108,8 @@ pub record IsReserved (id : SessionId) (old : SessionView) (c : Known) (call : C
 pub record IsShort (id : SessionId) (old : SessionView) (c : Known) (call : Call) (new : SessionView) (d : Known) : Type 0 where
   pub finds : Finds id old c
   pub room : length old.log < id.begin.limit
-  pub allowed : Allows old.store.state call (Refused NoMemory)
+  pub admitted : Admits old.store.state call (Refused NoMemory)
+  pub allowed : IsBacked id.begin.store → Allows old.store.state call (Refused NoMemory)
   pub reply : Reply
   pub lost : IsLost reply
   pub serves : Serves old.store call reply new.store

@@ -14,7 +14,7 @@ use Rattle.lsm_store.specs.Calls.{Call}
 use Rattle.lsm_store.specs.Calls.{Commit, Sync, SyncTo, Get, Scan, Snapshot, Release, LogRoom}
 use Rattle.lsm_store.specs.Refusals.{refusals, first_refusal, refusal}
 use Rattle.lsm_store.specs.Calls.{Reply, Refused}
-use Rattle.lsm_store.specs.Effects.{answer, after, takes_memory, use_of}
+use Rattle.lsm_store.specs.Effects.{answer, after, wants_memory, use_of}
 use Rattle.lsm_store.specs.Effects.{Changes}
 use Rattle.lsm_store.specs.Backing.{StoreView}
 use Rattle.lsm_store.specs.Serving.{Serves, is_faultless}
@@ -111,8 +111,8 @@ serves_refused v call e is =
     serves_still v call (Refused e) both.0 both.1 (no_fault_is e (refusal_decided v.state call e is).no_fault) (refused_use v.state call (Refused e) e is)
 
 -- a call that wants memory, and has none
-pub serves_no_memory : (v : StoreView) (call : Call) → refusal v.state call ≡ None → takes_memory call ≡ true → Serves v call (Refused NoMemory) v
-serves_no_memory v call none takes = serves_still v call (Refused NoMemory) (ap is_some none, takes) refl refl (no_memory_use v.state call none)
+pub serves_no_memory : (v : StoreView) (call : Call) → refusal v.state call ≡ None → wants_memory v.state call ≡ true → Serves v call (Refused NoMemory) v
+serves_no_memory v call none wants = serves_still v call (Refused NoMemory) (ap is_some none, wants) refl refl (no_memory_use v.state call none)
 
 -- a call that answers, and changes nothing
 pub serves_answer : (v : StoreView) (call : Call) (reply : Reply) → refusal v.state call ≡ None → reply ≡ answer v.state call → after v.state call ≡ v.state → is_faultless (answer v.state call) ≡ true → use_of v.state call ≢ Changes → Serves v call reply v

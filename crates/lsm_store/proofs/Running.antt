@@ -3,16 +3,17 @@ use Rattle.std.proofs.Common.{◌≡◌, ⊎_elim, Bool, true, false, cond, List
 use Rattle.std.specs.Prelude.{Contains, IsNone, IsSome, IsTrue}
 use Rattle.std.proofs.lemmas.List.Elements.{Contains-append_left, Contains-append_right, Contains-append_cases}
 use Rattle.std.specs.List.{AllByRecursion}
+use Rattle.std.specs.FinMap as finite
 use Rattle.lsm_device.specs.declared.refusal.Refusal.{Refusal}
 use Rattle.lsm_device.specs.declared.refusal.Refusal.TheVariants.{NoMemory, Io, Stopped, BadTable}
 use Rattle.lsm_open.specs.CrashState.{CrashState}
 use Rattle.lsm_codec.specs.Keys.{Bytes}
-use Rattle.lsm_store.specs.State.{State}
+use Rattle.lsm_store.specs.State.{State, map_at}
 use Rattle.lsm_store.specs.Paging.{Page}
 use Rattle.lsm_store.specs.Calls.{Call, Reply}
 use Rattle.lsm_store.specs.Calls.{Commit, Sync, SyncTo, Get, Scan, Snapshot, Release, LogRoom, Number, Done, Value, Rows, Refused}
 use Rattle.lsm_store.specs.Refusals.{refusals, first_refusal, refusal}
-use Rattle.lsm_store.specs.Effects.{answer, after, decided, completed, reply_by, state_by}
+use Rattle.lsm_store.specs.Effects.{answer, after, decided, completed, reply_by, state_by, takes_memory, wants_memory}
 use Rattle.lsm_store.specs.Crash.{may_leave}
 use Rattle.lsm_store.specs.Machine.{Machine, Step, Called}
 use Rattle.lsm_store.specs.Run.{Allows, Admits, asks_value, asks_page, next, AllowsStep, AdmitsStep, next_machine, left_in_step, RunBy, Run, Course, last_machine, left_in_run, decided_step, completed_step, ample_replies, ample_machine}
@@ -169,6 +170,41 @@ page_asked s call page is = by (refusal s call) is
     by None e = (refl, at call e)
     by (Some refused) e = cc
 
+-- and it takes memory: a value that was found is copied
+pub value_wanted : (s : State) (call : Call) (value : Bytes) → Value (Some value) ≡ decided s call → IsNone (refusal s call) × IsTrue (wants_memory s call)
+value_wanted s call value is = by (refusal s call) is
+  where
+    at : (c : Call) → Value (Some value) ≡ answer s c → IsTrue (wants_memory s c)
+    at (Commit batch) e = cc
+    at Sync e = cc
+    at (SyncTo number) e = cc
+    at (Get a key) e = let same : Some value ≡ finite.get (map_at s a) key = cc in sym (ap is_some same)
+    at (Scan a from to limit) e = refl
+    at Snapshot e = cc
+    at (Release number) e = cc
+    at LogRoom e = cc
+
+    by : (o : Option Refusal) → Value (Some value) ≡ reply_by s call o → IsNone o × IsTrue (wants_memory s call)
+    by None e = (refl, at call e)
+    by (Some refused) e = cc
+
+pub page_wanted : (s : State) (call : Call) (page : Page) → Rows page ≡ decided s call → IsNone (refusal s call) × IsTrue (wants_memory s call)
+page_wanted s call page is = by (refusal s call) is
+  where
+    at : (c : Call) → Rows page ≡ answer s c → IsTrue (wants_memory s c)
+    at (Commit batch) e = cc
+    at Sync e = cc
+    at (SyncTo number) e = cc
+    at (Get a key) e = cc
+    at (Scan a from to limit) e = refl
+    at Snapshot e = cc
+    at (Release number) e = cc
+    at LogRoom e = cc
+
+    by : (o : Option Refusal) → Rows page ≡ reply_by s call o → IsNone o × IsTrue (wants_memory s call)
+    by None e = (refl, at call e)
+    by (Some refused) e = cc
+
 -- a state decides no bad table
 pub no_bad_table : (s : State) (call : Call) → Allows s call (Refused BadTable) → ⊥
 no_bad_table s call allows = by (refusal s call) (refusal_decided s call) allows
@@ -190,9 +226,20 @@ no_bad_table s call allows = by (refusal s call) (refusal_decided s call) allows
 pub no_bad_table_in : (m : Machine) (step : Step) → AllowsStep m step (Refused BadTable) → ⊥
 no_bad_table_in m (Called call) allows = no_bad_table m.state call allows
 
+-- a call that takes memory in a state takes some in each
+wanting : (s : State) (call : Call) → IsTrue (wants_memory s call) → IsTrue (takes_memory call)
+wanting s (Commit batch) wants = refl
+wanting s Sync wants = wants
+wanting s (SyncTo number) wants = wants
+wanting s (Get at key) wants = refl
+wanting s (Scan at from to limit) wants = refl
+wanting s Snapshot wants = refl
+wanting s (Release number) wants = wants
+wanting s LogRoom wants = wants
+
 -- what a state allows, memory admits
 pub admits : (s : State) (call : Call) (reply : Reply) → Allows s call reply → Admits s call reply
-admits s call (Refused NoMemory) allows = allows
+admits s call (Refused NoMemory) allows = (allows.0, wanting s call allows.1)
 admits s call (Refused Io) allows = allows
 admits s call (Refused BadTable) allows = absurd (no_bad_table s call allows)
 admits s call (Refused e) allows = allows

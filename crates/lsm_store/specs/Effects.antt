@@ -1,5 +1,5 @@
 -- What a call answers that nothing refuses, and the state after it.
-use Rattle.std.specs.Prelude.{ℕ, ◌+◌, ◌==◌, nat_le, Bool, true, false, not, List, [], ◌∷◌, ◌++◌, filter, Option, Some, None, option_map, if◌then◌else◌}
+use Rattle.std.specs.Prelude.{ℕ, ◌+◌, ◌==◌, nat_le, Bool, true, false, not, is_some, List, [], ◌∷◌, ◌++◌, filter, Option, Some, None, option_map, if◌then◌else◌}
 use Rattle.std.specs.FinMap as finite
 use Rattle.lsm_codec.specs.Map.{Operation}
 use Rattle.lsm_codec.specs.BatchText.{sectors_of}
@@ -70,6 +70,17 @@ takes_memory (Scan at from to limit) = true
 takes_memory Snapshot = true
 takes_memory (Release number) = false
 takes_memory LogRoom = false
+
+-- whether it takes memory in this state: a look-up takes some for the copy of a value alone
+abbrev pub wants_memory : State → Call → Bool
+wants_memory s (Commit batch) = true
+wants_memory s Sync = false
+wants_memory s (SyncTo number) = false
+wants_memory s (Get at key) = is_some (finite.get (map_at s at) key)
+wants_memory s (Scan at from to limit) = true
+wants_memory s Snapshot = true
+wants_memory s (Release number) = false
+wants_memory s LogRoom = false
 
 -- what a call that nothing refuses may do with the device
 pub data Use : Type 0 where
