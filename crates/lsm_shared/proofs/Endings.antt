@@ -23,8 +23,9 @@ pub ended : (b : Begin) (clients left : List Known) (session : SessionView) (sto
     → (length left < length clients → (x : ℕ) → b.clients ≤ x → calls_by x session.log ≡ [])
     → IsLegal b session.log → store.state ≡ ended_state b session.log
     → (IsBacked b.store → IsBacked store) → length session.log ≤ b.limit
-    → trail.log ≡ session.log → IsEnded b clients store trail
-ended b clients left session store trail none some all told strangers legal state backed room is_log =
+    → trail ≡ record { log = session.log; limit = b.limit } → IsEnded b clients store trail
+ended b clients left session store trail none some all told strangers legal state backed room is =
+    let is_log : trail.log ≡ session.log = ap (λ (t : TrailView). t.log) is in
     let told' : Told session.log clients = told (subst (Told session.log) (sym none) tt) in
     let strangers' : (x : ℕ) → b.clients ≤ x → calls_by x session.log ≡ [] = strangers (omega (arith, ap length none, all.0)) in
     record {
@@ -35,4 +36,5 @@ ended b clients left session store trail none some all told strangers legal stat
       count = ap length is_log ∙ sym (counted b.clients clients session.log all told' strangers');
       strangers = λ x far. ap (calls_by x) is_log ∙ strangers' x far;
       room = omega (arith, ap length is_log, room);
+      limit = ap (λ (t : TrailView). t.limit) is;
     }

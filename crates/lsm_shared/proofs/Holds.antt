@@ -55,7 +55,8 @@ lost s call (Refused NoMemory) admitted short = (refl, admitted)
 lost s call (Refused e) admitted short = absurd short
 lost s call (Number n) admitted short = absurd short
 lost s call Done admitted short = absurd short
-lost s call (Value v) admitted short = let k = value_kept s call admitted.1 in (k.0, (admitted.0, k.1))
+lost s call (Value None) admitted short = absurd short
+lost s call (Value (Some v)) admitted short = let k = value_kept s call admitted.1 in (k.0, (admitted.0, k.1))
 lost s call (Rows page) admitted short = let k = page_kept s call admitted.1 in (k.0, (admitted.0, k.1))
 
 -- where the state allows the reply, it allows that memory was short

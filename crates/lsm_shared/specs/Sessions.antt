@@ -132,8 +132,8 @@ abbrev pub ended_state : Begin → List Event → State
 ended_state b log = released (base_of b) (state_after b log)
 
 -- A session has ended: the trail is a legal history from its begin, which begins with what each client had seen and has just
--- the calls that it made, and the store is in the state after it with the base released, which the device backs where it
--- did at the begin.
+-- the calls that it made, with the places that it began with, and the store is in the state after it with the base released,
+-- which the device backs where it did at the begin.
 pub record IsEnded (b : Begin) (clients : List Known) (store : StoreView) (trail : TrailView) : Type 0 where
   pub legal : IsLegal b trail.log
   pub state : store.state ≡ ended_state b trail.log
@@ -142,3 +142,4 @@ pub record IsEnded (b : Begin) (clients : List Known) (store : StoreView) (trail
   pub count : length trail.log ≡ calls_made clients
   pub strangers : (client : ℕ) → b.clients ≤ client → calls_by client trail.log ≡ []
   pub room : length trail.log ≤ b.limit
+  pub limit : trail.limit ≡ b.limit

@@ -86,7 +86,7 @@ impl<D: Device, A: Allocator, B: SessionName> Session<D, A, B> {
 
     // The store, which lets the base go unless it is stopped, and the trail.
     pub(crate) fn into_parts(self) -> (Store<D, A>, Trail<A>)
-        ensures trail { result.1.log ≡ self.log }
+        ensures trail { result.1 ≡ record { log = self.log; limit = B.id.begin.limit } }
         ensures legal { IsLegal B.id.begin self.log }
         ensures state { result.0.state ≡ ended_state B.id.begin self.log }
         ensures backed { IsBacked B.id.begin.store → IsBacked result.0 }

@@ -15,4 +15,4 @@ pub returns-clause-backed : goal.returns-clause-backed
 returns-clause-backed g c = λ began. c.release.ensures.serves.backed (c.self.invariant.backed began)
 
 pub returns-clause-trail : goal.returns-clause-trail
-returns-clause-trail g c = ap (λ (v : SessionView). v.log) c.self.view_is
+returns-clause-trail g c = λ i. record { log = (c.self.view_is i).log; limit = c.self.invariant.limit i }
