@@ -48,10 +48,10 @@ fn refused_with_one<B: SessionName>(session: Session<B>) -> Result<Session<B>, F
     }
 }
 
-// Whether client 1 asked for the room, and nobody for anything else.
+// Whether client 1 asked for the room, and nobody for anything else, also in the trail that is made of these entries.
 fn has_one_call(trail: Trail) -> bool {
-    let entries = trail.into_entries();
-    match entries.as_slice() {
+    let trail = Trail::from_entries(trail.into_entries());
+    match trail.entries() {
         [entry] => {
             entry.client() == 1
                 && matches!(entry.call(), Call::Room)

@@ -21,6 +21,7 @@ const BY_TURNS: &[Turn<'static>] = &[
         Ok(Told::Value(Some(b"\x32"))),
     ),
     (0, Ask::Get(At::Now, b"\x62"), Ok(Told::Value(None))),
+    (1, Ask::Scan(At::Now), Ok(Told::Row(b"\x61", b"\x32"))),
     (0, Ask::SyncTo(2), Ok(Told::Done)),
     (1, Ask::Sync, Ok(Told::Done)),
     (1, Ask::Room, Ok(Told::Number(126))),
@@ -48,6 +49,6 @@ fn two_clients_see_one_store(rt: HostRuntime) -> Result<(), Fail> {
     let opened = prepared(rt.alloc(), small(rt.alloc())?, 2, 16)?;
     let left = play(&rt, rt.alloc(), opened, BY_TURNS)?;
     assert!(rt; left.store.batch_count() == 2 && left.store.synced_count() == 2);
-    assert!(rt; is_of(&left.trail, &[0, 1, 1, 0, 0, 0, 1, 1, 1, 1]));
+    assert!(rt; is_of(&left.trail, &[0, 1, 1, 0, 0, 1, 0, 1, 1, 1, 1]));
     Ok(())
 }

@@ -7,7 +7,7 @@ use linked_list_allocator::LocalHeap;
 use lsm_codec::{Batch, Op};
 use lsm_device::{MemDevice, Refusal};
 use lsm_lives::{Call, Reply};
-use lsm_store::At;
+use lsm_store::{At, Page};
 use lsm_trail::{Opened, SessionName};
 use std::alloc::Global;
 use std::marker::Brand;
@@ -20,6 +20,8 @@ pub enum Ask<'a> {
     /// A commit of one put.
     Put(&'a [u8], &'a [u8]),
     Get(At, &'a [u8]),
+    /// All pairs, 64 at most.
+    Scan(At),
     Sync,
     SyncTo(u64),
     Snapshot,
@@ -33,6 +35,8 @@ pub enum Told<'a> {
     Number(u64),
     Done,
     Value(Option<&'a [u8]>),
+    /// A page with this row alone, and none behind it.
+    Row(&'a [u8], &'a [u8]),
     Refused(Refusal),
 }
 
@@ -88,12 +92,23 @@ fn call_of(alloc: Global, ask: Ask) -> Result<Call, Refusal> {
     Ok(match ask {
         Ask::Put(key, value) => Call::Commit(put(alloc, key, value)?),
         Ask::Get(at, key) => Call::Get(at, Vec::from_slice(alloc, key)?),
+        Ask::Scan(at) => scan_of(alloc, at),
         Ask::Sync => Call::Sync,
         Ask::SyncTo(number) => Call::SyncTo(number),
         Ask::Snapshot => Call::Snapshot,
         Ask::Release(number) => Call::Release(number),
         Ask::Room => Call::Room,
     })
+}
+
+// A scan of all pairs.
+fn scan_of(alloc: Global, at: At) -> Call {
+    Call::Scan {
+        at,
+        from: Vec::new(alloc),
+        to: None,
+        limit: 64,
+    }
 }
 
 /// A batch of one put.
@@ -124,7 +139,16 @@ fn is_reply(reply: &Reply, wanted: Told) -> bool {
         (Reply::Done, Told::Done) => true,
         (Reply::Value(Some(value)), Told::Value(Some(wanted))) => value.as_slice() == wanted,
         (Reply::Value(None), Told::Value(None)) => true,
+        (Reply::Page(page), Told::Row(key, value)) => is_row(page, key, value),
         (Reply::Refused(refusal), Told::Refused(wanted)) => *refusal == wanted,
+        _ => false,
+    }
+}
+
+// Whether a page has this row alone, and none stands behind it.
+fn is_row(page: &Page, key: &[u8], value: &[u8]) -> bool {
+    match page.rows() {
+        [row] => row.key() == key && row.value() == value && page.next_key().is_none(),
         _ => false,
     }
 }
