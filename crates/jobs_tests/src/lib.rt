@@ -1,0 +1,5 @@
+//! Tests of jobs in slots.
+#![tactic(auto)]
+
+#[cfg(test)]
+mod taking;

@@ -1,0 +1,3 @@
+pub mod KeptJobs
+pub mod Numbers
+pub mod Holding

@@ -1,0 +1,14 @@
+use Rattle.lsm_jobs.proofs.KeptJobs.{taking_law, installing_law, staging_law, freeing_law}
+use Rattle.lsm_jobs.proofs.law.slots_stay_apart.Goals as goal
+
+pub returns-clause-taking : goal.returns-clause-taking
+returns-clause-taking c = taking_law
+
+pub returns-clause-installing : goal.returns-clause-installing
+returns-clause-installing c = installing_law
+
+pub returns-clause-staging : goal.returns-clause-staging
+returns-clause-staging c = staging_law
+
+pub returns-clause-freeing : goal.returns-clause-freeing
+returns-clause-freeing c = freeing_law

@@ -1,0 +1,32 @@
+-- Jobs in slots have what they were taken with, and share no table.
+use Rattle.std.specs.Prelude.{◌≡◌, ◌≢◌, ℕ, suc, ◌<◌, Bool, List, Some, None}
+use Rattle.lsm_levels.specs.Among.{IsAmong}
+use Rattle.lsm_levels.specs.Tables.{Table}
+use Rattle.lsm_levels.specs.Levels.{Levels}
+use Rattle.lsm_levels.specs.Pick.{pick, is_bottom, installed}
+use Rattle.lsm_levels.specs.Held.{AreRuns, IsHeld, AreApart, AreOutputs}
+use Rattle.lsm_jobs.specs.Slots.{Stage, Slot, Slots, held_jobs, with_slot, with_held, at_stage}
+
+-- Each job has its tables in the levels, no two of them share one, and their numbers differ and were given out.
+pub record AreKept (levels : Levels) (next : ℕ) (slots : Slots) : Type 0 where
+  pub held : (s : Slot) → IsAmong (Some s) slots → IsHeld levels s.input.bottom s.job
+  pub apart : (a b : Slot) → IsAmong (Some a) slots → IsAmong (Some b) slots → a.number ≢ b.number → AreApart a.job b.job
+  pub given : (s : Slot) → IsAmong (Some s) slots → s.number < next
+
+-- a taking of the job that is picked, with its bottom flag
+abbrev pub TakingLaw : Type 0
+TakingLaw = (waiting : Bool) (levels : Levels) (next : ℕ) (slots : Slots) (new : Slot) → AreRuns levels → AreKept levels next slots
+    → pick waiting levels (held_jobs slots) ≡ Some new.job → new.number ≡ next → new.input.bottom ≡ is_bottom levels new.job → AreKept levels (suc next) (with_slot new slots)
+
+-- an install of one job's outputs, whose slot is free then
+abbrev pub InstallingLaw : Type 0
+InstallingLaw = (levels : Levels) (next : ℕ) (slots : Slots) (one : Slot) (new : List Table) → AreRuns levels → AreKept levels next slots → IsAmong (Some one) slots → AreOutputs one.job new
+    → AreKept (installed levels one.job new) next (with_held one.number None slots)
+
+-- another stage of one job
+abbrev pub StagingLaw : Type 0
+StagingLaw = (levels : Levels) (next : ℕ) (slots : Slots) (one : Slot) (stage : Stage) → AreKept levels next slots → IsAmong (Some one) slots → AreKept levels next (at_stage one stage slots)
+
+-- one slot is free again
+abbrev pub FreeingLaw : Type 0
+FreeingLaw = (levels : Levels) (next number : ℕ) (slots : Slots) → AreKept levels next slots → AreKept levels next (with_held number None slots)

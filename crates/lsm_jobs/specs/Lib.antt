@@ -1,0 +1,6 @@
+pub mod Slots
+pub mod Keeping
+pub mod Taking
+pub mod Numbers
+pub mod Shown
+pub mod Holding

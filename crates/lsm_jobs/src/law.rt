@@ -1,0 +1,11 @@
+//! Laws of the definitions.
+
+ghost use Rattle.lsm_jobs.specs.Keeping.{TakingLaw, InstallingLaw, StagingLaw, FreeingLaw};
+
+/// Jobs in slots have their tables and share none, whatever is taken, read, written, installed or dropped.
+pub fn slots_stay_apart()
+    ensures taking { TakingLaw }
+    ensures installing { InstallingLaw }
+    ensures staging { StagingLaw }
+    ensures freeing { FreeingLaw }
+{}

@@ -1,0 +1,97 @@
+//! A merge that holds a slot.
+
+ghost use Rattle.std.specs.Prelude.{◌≡◌, ◌==◌, ◌++◌, List, IfOk, OnOk};
+ghost use Rattle.std.specs.List.{list_any};
+ghost use Rattle.lsm_levels.specs.Tables.{Table};
+ghost use Rattle.lsm_levels.specs.Pick.{inputs, is_of_level_0};
+ghost use Rattle.lsm_jobs.specs.Numbers.{AreNumbersOf, merge_of};
+
+use lsm_levels::PlacedTable;
+use std::alloc::{AllocError, Allocator};
+use std::collections::BTreeSet;
+use std::marker::Model;
+
+/// The tables that a merge takes in, by handles of its own, and the set of their numbers.
+#[derive(Drop)]
+pub(crate) struct MergeTables<A: Allocator> {
+    level: usize,
+    upper: Vec<PlacedTable<A>, A>,
+    lower: Vec<PlacedTable<A>, A>,
+    numbers: BTreeSet<u64, A>,
+}
+
+impl<A: Allocator> Model for MergeTables<A> {
+    ghost use Rattle.std.specs.Prelude.{◌++◌};
+    ghost use Rattle.lsm_jobs.specs.Numbers.{AreNumbersOf, Inputs};
+
+    ghost Value = { Inputs };
+
+    ghost view = { λ m. record { level = m.level; upper = m.upper.items; lower = m.lower.items } };
+
+    ghost invariant = { λ m. AreNumbersOf m.numbers (m.upper.items ++ m.lower.items) };
+}
+
+/// Handles of tables.
+pub(crate) fn shared<A: Allocator>(
+    alloc: A,
+    tables: &[PlacedTable<A>],
+) -> Result<Vec<PlacedTable<A>, A>, AllocError>
+    ensures { IfOk result (λ v. v.items ≡ tables.now) }
+{
+    let mut handles = Vec::new(alloc);
+    for table in tables {
+        handles.push(table.share()?)?;
+    }
+    Ok(handles)
+}
+
+/// Adds the numbers of tables to a set.
+fn add_numbers<A: Allocator + Clone>(
+    numbers: &mut BTreeSet<u64, A>,
+    tables: &[PlacedTable<A>],
+) -> Result<(), AllocError>
+    ensures { OnOk result ((others : List Table) → AreNumbersOf numbers.old others → AreNumbersOf numbers.new (others ++ tables.now)) }
+{
+    for table in tables {
+        numbers.insert(table.number())?;
+    }
+    Ok(())
+}
+
+impl<A: Allocator + Clone> MergeTables<A> {
+    /// The merge of these tables of a level with those of the next one.
+    pub(crate) fn new(
+        alloc: &A,
+        level: usize,
+        upper: Vec<PlacedTable<A>, A>,
+        lower: Vec<PlacedTable<A>, A>,
+    ) -> Result<MergeTables<A>, AllocError>
+        ensures { IfOk result (λ m. m ≡ record { level = level; upper = upper.items; lower = lower.items }) }
+    {
+        let mut numbers = BTreeSet::new(alloc.clone()?);
+        add_numbers(&mut numbers, &upper)?;
+        add_numbers(&mut numbers, &lower)?;
+        Ok(MergeTables {
+            level,
+            upper,
+            lower,
+            numbers,
+        })
+    }
+}
+
+impl<A: Allocator> MergeTables<A> {
+    /// Whether it is of level 0.
+    pub(crate) fn is_of_level_0(&self) -> bool
+        ensures { result ≡ is_of_level_0 (merge_of self.now) }
+    {
+        self.level == 0
+    }
+
+    /// Whether it takes in the table of this number.
+    pub(crate) fn takes_in(&self, number: u64) -> bool
+        ensures { result ≡ list_any (λ t. t.number == number) (inputs (merge_of self.now)) }
+    {
+        self.numbers.contains(&number)
+    }
+}
