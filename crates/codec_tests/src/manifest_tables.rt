@@ -2,10 +2,8 @@
 
 use crate::manifests::{is_limited, is_spelled, sectors_of};
 use lsm_codec::{LogRecord, Manifest, TableRecord};
-use lsm_device::Refusal;
 use std::alloc::Global;
 use std::process::Abort;
-use std::test::Fail;
 
 /// A table's number, level, run, first block, data blocks, index blocks and entries.
 type Row = (u64, u8, u8, u32, u8, u8, u16);
@@ -24,33 +22,31 @@ fn record(row: &Row) -> TableRecord {
 }
 
 /// A manifest of generation 4, with the first batch in these tables.
-fn manifest(alloc: Global, next_table: u64, runs: u8, rows: &[Row]) -> Result<Manifest, Refusal> {
+fn manifest<R: Abort>(rt: &R, alloc: Global, next_table: u64, runs: u8, rows: &[Row]) -> Manifest {
     let mut tables = Vec::new(alloc);
     for row in rows {
-        tables.push(record(row))?;
+        tables.push(record(row)).expect(rt, "memory");
     }
-    Ok(Manifest::new(4, 1, next_table, runs, Vec::new(alloc), tables))
+    Manifest::new(4, 1, next_table, runs, Vec::new(alloc), tables)
 }
 
 const ONE_TABLE: &str = "4c534d4d000000000000000400000000000000010000000000000002\
 00010001000000000000000100000000000001010001";
 
 #[test]
-fn a_manifest_with_a_table(rt: HostRuntime) -> Result<(), Fail> {
-    let manifest = manifest(rt.alloc(), 2, 1, &[(1, 0, 0, 0, 1, 1, 1)])?;
-    assert!(rt; is_spelled(rt.alloc(), &manifest, ONE_TABLE)?);
-    Ok(())
+fn a_manifest_with_a_table(rt: HostRuntime) {
+    let manifest = manifest(&rt, rt.alloc(), 2, 1, &[(1, 0, 0, 0, 1, 1, 1)]);
+    assert!(rt; is_spelled(&rt, rt.alloc(), &manifest, ONE_TABLE));
 }
 
 /// Whether a manifest of so many runs with these tables, and table number 4 to come, is within the limits, as `fits`
 /// says, and just then read.
-fn are_limited(alloc: Global, runs: u8, rows: &[Row], fits: bool) -> Result<bool, Refusal> {
-    let manifest = manifest(alloc, 4, runs, rows)?;
-    is_limited(alloc, &manifest, fits)
+fn are_limited<R: Abort>(rt: &R, alloc: Global, runs: u8, rows: &[Row], fits: bool) -> bool {
+    is_limited(rt, alloc, &manifest(rt, alloc, 4, runs, rows), fits)
 }
 
 #[test]
-fn table_records_in_order_and_out_of_it(rt: HostRuntime) -> Result<(), Fail> {
+fn table_records_in_order_and_out_of_it(rt: HostRuntime) {
     let a: Row = (1, 0, 0, 0, 1, 1, 1);
     let b: Row = (2, 0, 1, 4, 1, 1, 1);
     let c: Row = (3, 1, 0, 8, 1, 1, 1);
@@ -93,13 +89,12 @@ fn table_records_in_order_and_out_of_it(rt: HostRuntime) -> Result<(), Fail> {
             true,
         ),
     ] {
-        assert!(rt; are_limited(rt.alloc(), runs, &rows, fits)?, "{what}");
+        assert!(rt; are_limited(&rt, rt.alloc(), runs, &rows, fits), "{what}");
     }
-    Ok(())
 }
 
 #[test]
-fn table_records_at_their_limits(rt: HostRuntime) -> Result<(), Fail> {
+fn table_records_at_their_limits(rt: HostRuntime) {
     for (row, fits) in [
         ((3, 1, 0, 0, 1, 1, 1), true),
         ((3, 4, 0, 0, 64, 5, 3_200), true),
@@ -115,47 +110,52 @@ fn table_records_at_their_limits(rt: HostRuntime) -> Result<(), Fail> {
         ((3, 1, 0, 0, 1, 1, 0), false), // No entry.
         ((3, 1, 0, 0, 1, 1, 3_201), false),
     ] {
-        assert!(rt; are_limited(rt.alloc(), 0, &[row], fits)?);
+        assert!(rt; are_limited(&rt, rt.alloc(), 0, &[row], fits));
     }
-    Ok(())
 }
 
-/// A manifest with so many tables of level 0, each a run of its own, or all in level 1.
-fn many(alloc: Global, count: u16, level: u8) -> Result<Manifest, Refusal> {
+/// The log records of three regions.
+fn three_logs<R: Abort>(rt: &R, alloc: Global) -> Vec<LogRecord> {
     let mut logs = Vec::new(alloc);
     for region in 0..3u8 {
-        logs.push(LogRecord {
+        let record = LogRecord {
             region,
             epoch: region as u64 + 1,
             first_batch: region as u64 + 2,
-        })?;
+        };
+        logs.push(record).expect(rt, "memory");
     }
+    logs
+}
+
+/// A manifest with so many tables of level 0, each a run of its own, or all in level 1.
+fn many<R: Abort>(rt: &R, alloc: Global, count: u16, level: u8) -> Manifest {
     let mut tables = Vec::new(alloc);
     for at in 0..count {
         let run = if level == 0 { (at % 256) as u8 } else { 0 };
-        tables.push(record(&(at as u64, level, run, at as u32 * 71, 64, 5, 3_200)))?;
+        let record = record(&(at as u64, level, run, at as u32 * 71, 64, 5, 3_200));
+        tables.push(record).expect(rt, "memory");
     }
     let runs = if level == 0 { (count % 256) as u8 } else { 0 };
-    Ok(Manifest::new(4, 1, 2_000, runs, logs, tables))
+    Manifest::new(4, 1, 2_000, runs, three_logs(rt, alloc), tables)
 }
 
 /// Whether the sectors of the manifest have so many bytes, and it is within the limits.
-fn takes(alloc: Global, count: u16, level: u8, bytes: usize) -> Result<bool, Refusal> {
-    let manifest = many(alloc, count, level)?;
-    Ok(sectors_of(alloc, &manifest)?.len() == bytes && is_limited(alloc, &manifest, true)?)
+fn takes<R: Abort>(rt: &R, alloc: Global, count: u16, level: u8, bytes: usize) -> bool {
+    let manifest = many(rt, alloc, count, level);
+    sectors_of(rt, alloc, &manifest).len() == bytes && is_limited(rt, alloc, &manifest, true)
 }
 
 #[test]
-fn the_most_runs_and_tables(rt: HostRuntime) -> Result<(), Fail> {
-    assert!(rt; takes(rt.alloc(), 12, 0, 512)? && takes(rt.alloc(), 1_024, 1, 18_944)?);
-    let thirteen = many(rt.alloc(), 13, 0)?;
-    assert!(rt; is_limited(rt.alloc(), &thirteen, false)?);
-    Ok(())
+fn the_most_runs_and_tables(rt: HostRuntime) {
+    assert!(rt; takes(&rt, rt.alloc(), 12, 0, 512));
+    assert!(rt; takes(&rt, rt.alloc(), 1_024, 1, 18_944));
 }
 
 #[test]
-fn a_table_too_many(rt: HostRuntime) -> Result<(), Fail> {
-    let manifest = many(rt.alloc(), 1_025, 1)?;
-    assert!(rt; is_limited(rt.alloc(), &manifest, false)?);
-    Ok(())
+fn a_run_too_many_and_a_table_too_many(rt: HostRuntime) {
+    for (count, level) in [(13, 0), (1_025, 1)] {
+        let manifest = many(&rt, rt.alloc(), count, level);
+        assert!(rt; is_limited(&rt, rt.alloc(), &manifest, false));
+    }
 }

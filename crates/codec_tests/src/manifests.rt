@@ -6,45 +6,43 @@ use lsm_codec::{LogRecord, Manifest};
 use lsm_device::Refusal;
 use std::alloc::Global;
 use std::process::Abort;
-use std::test::Fail;
 
 /// The region, the epoch and the first batch of a log record.
 type Row = (u8, u64, u64);
 
 /// The log records of these numbers.
-fn records(alloc: Global, rows: &[Row]) -> Result<Vec<LogRecord>, Refusal> {
+fn records<R: Abort>(rt: &R, alloc: Global, rows: &[Row]) -> Vec<LogRecord> {
     let mut logs = Vec::new(alloc);
     for (region, epoch, first_batch) in rows {
-        logs.push(LogRecord {
+        let record = LogRecord {
             region: *region,
             epoch: *epoch,
             first_batch: *first_batch,
-        })?;
+        };
+        logs.push(record).expect(rt, "memory");
     }
-    Ok(logs)
+    logs
 }
 
 /// A manifest without a table, with table number 1 to come.
-fn manifest(alloc: Global, generation: u64, base: u64, logs: &[Row]) -> Result<Manifest, Refusal> {
-    let logs = records(alloc, logs)?;
-    Ok(Manifest::new(generation, base, 1, 0, logs, Vec::new(alloc)))
+fn manifest<R: Abort>(rt: &R, alloc: Global, generation: u64, base: u64, logs: &[Row]) -> Manifest {
+    let logs = records(rt, alloc, logs);
+    Manifest::new(generation, base, 1, 0, logs, Vec::new(alloc))
 }
 
-/// The sectors of a manifest, or a refusal where it has too many records, or they aren't whole.
-pub fn sectors_of(alloc: Global, manifest: &Manifest) -> Result<Vec<u8>, Refusal> {
-    if manifest.logs().len() > 255 || manifest.tables().len() > 65_535 {
-        return Err(Refusal::BadLimit);
+/// The sectors of a manifest, which are whole.
+pub fn sectors_of<R: Abort>(rt: &R, alloc: Global, manifest: &Manifest) -> Vec<u8> {
+    assert!(rt; manifest.logs().len() <= 255 && manifest.tables().len() <= 65_535);
+    let sectors = manifest.encode(alloc).expect(rt, "memory");
+    if manifest.tables().len() <= 1_024 {
+        assert!(rt; sectors.len() == 512 * manifest.sectors() as usize);
     }
-    let sectors = manifest.encode(alloc)?;
-    if manifest.tables().len() <= 1_024 && sectors.len() != 512 * manifest.sectors() as usize {
-        return Err(Refusal::BadLimit);
-    }
-    Ok(sectors)
+    sectors
 }
 
-/// Whether the bytes spell a manifest.
-fn is_read(alloc: Global, bytes: &[u8]) -> Result<bool, Refusal> {
-    Ok(Manifest::decode(alloc, bytes)?.is_some())
+/// The manifest that the bytes spell, if they spell one.
+fn read<R: Abort>(rt: &R, alloc: Global, bytes: &[u8]) -> Option<Manifest> {
+    Manifest::decode(alloc, bytes).expect(rt, "memory")
 }
 
 const FORMATTED: &str = "4c534d4d00000000000000010000000000000000000000000000000100000000";
@@ -63,41 +61,34 @@ fn is_same(a: &Manifest, b: &Manifest) -> bool {
 }
 
 /// Whether the manifest is within the limits, as `fits` says, and just then read back from its sectors.
-pub fn is_limited(alloc: Global, manifest: &Manifest, fits: bool) -> Result<bool, Refusal> {
-    let sectors = sectors_of(alloc, manifest)?;
-    match Manifest::decode(alloc, &sectors)? {
-        Some(again) => Ok(fits && manifest.is_within_limits() && is_same(&again, manifest)),
-        None => Ok(!fits && !manifest.is_within_limits()),
+pub fn is_limited<R: Abort>(rt: &R, alloc: Global, manifest: &Manifest, fits: bool) -> bool {
+    let sectors = sectors_of(rt, alloc, manifest);
+    match read(rt, alloc, &sectors) {
+        Some(again) => fits && manifest.is_within_limits() && is_same(&again, manifest),
+        None => !fits && !manifest.is_within_limits(),
     }
 }
 
 /// Whether the manifest is spelled so, and read back.
-pub fn is_spelled(alloc: Global, manifest: &Manifest, text: &str) -> Result<bool, Refusal> {
-    let sectors = sectors_of(alloc, manifest)?;
-    Ok(are(&sectors, text) && is_limited(alloc, manifest, true)?)
-}
-
-/// The same of the manifest of a generation with these log records, and nothing in tables.
-fn is_first(alloc: Global, generation: u64, logs: &[Row], text: &str) -> Result<bool, Refusal> {
-    let manifest = manifest(alloc, generation, 0, logs)?;
-    is_spelled(alloc, &manifest, text)
+pub fn is_spelled<R: Abort>(rt: &R, alloc: Global, manifest: &Manifest, text: &str) -> bool {
+    are(&sectors_of(rt, alloc, manifest), text) && is_limited(rt, alloc, manifest, true)
 }
 
 #[test]
-fn manifests_of_a_format_and_an_open(rt: HostRuntime) -> Result<(), Fail> {
-    assert!(rt; is_first(rt.alloc(), 1, &[], FORMATTED)?);
-    assert!(rt; is_first(rt.alloc(), 2, &[(0, 2, 1)], OPENED)?);
-    Ok(())
+fn manifests_of_a_format_and_an_open(rt: HostRuntime) {
+    let first = manifest(&rt, rt.alloc(), 1, 0, &[]);
+    assert!(rt; is_spelled(&rt, rt.alloc(), &first, FORMATTED));
+    let second = manifest(&rt, rt.alloc(), 2, 0, &[(0, 2, 1)]);
+    assert!(rt; is_spelled(&rt, rt.alloc(), &second, OPENED));
 }
 
 /// Whether the manifest is within the limits and read back, as `fits` says, with these log records, of generation 5 and with 7 batches in tables.
-fn are_limited(alloc: Global, logs: &[Row], fits: bool) -> Result<bool, Refusal> {
-    let manifest = manifest(alloc, 5, 7, logs)?;
-    is_limited(alloc, &manifest, fits)
+fn are_limited<R: Abort>(rt: &R, alloc: Global, logs: &[Row], fits: bool) -> bool {
+    is_limited(rt, alloc, &manifest(rt, alloc, 5, 7, logs), fits)
 }
 
 #[test]
-fn log_records_in_order_and_out_of_it(rt: HostRuntime) -> Result<(), Fail> {
+fn log_records_in_order_and_out_of_it(rt: HostRuntime) {
     let last = (1 << 63) + 1;
     for (first, second, third, fits) in [
         ((2, 3, 8), (0, 4, 9), (1, 5, 20), true), // Three regions.
@@ -113,33 +104,30 @@ fn log_records_in_order_and_out_of_it(rt: HostRuntime) -> Result<(), Fail> {
         ((2, 3, 8), (0, 4, 9), (1, 5, last), true), // No batch left.
         ((2, 3, 8), (0, 4, 9), (1, 5, last + 1), false), // A batch above the last.
     ] {
-        assert!(rt; are_limited(rt.alloc(), &[first, second, third], fits)?);
+        assert!(rt; are_limited(&rt, rt.alloc(), &[first, second, third], fits));
     }
-    Ok(())
 }
 
 #[test]
-fn four_log_records_are_too_many(rt: HostRuntime) -> Result<(), Fail> {
+fn four_log_records_are_too_many(rt: HostRuntime) {
     let four = [(0, 1, 8), (1, 2, 9), (2, 3, 10), (0, 4, 11)];
-    assert!(rt; are_limited(rt.alloc(), &four, false)?);
-    Ok(())
+    assert!(rt; are_limited(&rt, rt.alloc(), &four, false));
 }
 
-/// The same of the manifest with these numbers and no log record.
-fn are_numbers_limited(
-    alloc: Global,
-    generation: u64,
-    base: u64,
-    next_table: u64,
-    fits: bool,
-) -> Result<bool, Refusal> {
-    let logs = Vec::new(alloc);
-    let manifest = Manifest::new(generation, base, next_table, 0, logs, Vec::new(alloc));
-    is_limited(alloc, &manifest, fits)
+/// A manifest with these numbers and no record.
+fn numbered(alloc: Global, generation: u64, base: u64, next_table: u64) -> Manifest {
+    Manifest::new(
+        generation,
+        base,
+        next_table,
+        0,
+        Vec::new(alloc),
+        Vec::new(alloc),
+    )
 }
 
 #[test]
-fn numbers_at_their_limits(rt: HostRuntime) -> Result<(), Fail> {
+fn numbers_at_their_limits(rt: HostRuntime) {
     let last = 1 << 63;
     for (generation, base, next_table, fits) in [
         (1, 0, 1, true),
@@ -150,38 +138,33 @@ fn numbers_at_their_limits(rt: HostRuntime) -> Result<(), Fail> {
         (1, 0, 0, false),
         (1, 0, last + 2, false),
     ] {
-        assert!(rt; are_numbers_limited(rt.alloc(), generation, base, next_table, fits)?);
+        let manifest = numbered(rt.alloc(), generation, base, next_table);
+        assert!(rt; is_limited(&rt, rt.alloc(), &manifest, fits));
     }
-    Ok(())
 }
 
 /// The sectors of the manifest of an open.
-fn opened(alloc: Global) -> Result<Vec<u8>, Refusal> {
-    let manifest = manifest(alloc, 2, 0, &[(0, 2, 1)])?;
-    sectors_of(alloc, &manifest)
+fn opened<R: Abort>(rt: &R, alloc: Global) -> Vec<u8> {
+    sectors_of(rt, alloc, &manifest(rt, alloc, 2, 0, &[(0, 2, 1)]))
 }
 
 /// Whether those sectors are read no longer with the lowest bit of a byte changed.
-fn is_lost_without(alloc: Global, at: usize) -> Result<bool, Refusal> {
-    let mut sectors = opened(alloc)?;
-    if let Some(byte) = sectors.get_mut(at) {
-        *byte ^= 1;
-    }
-    Ok(!is_read(alloc, &sectors)?)
+fn is_lost_without<R: Abort>(rt: &R, alloc: Global, at: usize) -> bool {
+    let mut sectors = opened(rt, alloc);
+    let byte = sectors.get_mut(at).expect(rt, "a byte");
+    *byte ^= 1;
+    read(rt, alloc, &sectors).is_none()
 }
 
 /// Whether those sectors are read, cut down or filled up with zeros to a size.
-fn is_read_at_size(alloc: Global, size: usize) -> Result<bool, Refusal> {
-    let mut sectors = opened(alloc)?;
-    sectors.truncate(size);
-    for _ in sectors.len()..size {
-        sectors.push(0)?;
-    }
-    is_read(alloc, &sectors)
+fn is_read_at_size<R: Abort>(rt: &R, alloc: Global, size: usize) -> bool {
+    let mut sectors = opened(rt, alloc);
+    sectors.resize(size, 0).expect(rt, "memory");
+    read(rt, alloc, &sectors).is_some()
 }
 
 #[test]
-fn bytes_that_spell_no_manifest(rt: HostRuntime) -> Result<(), Fail> {
+fn bytes_that_spell_no_manifest(rt: HostRuntime) {
     for at in [
         0, // Another first byte.
         28, // Another count of log records.
@@ -190,13 +173,12 @@ fn bytes_that_spell_no_manifest(rt: HostRuntime) -> Result<(), Fail> {
         49, // A byte behind the text.
         511, // A byte at the end.
     ] {
-        assert!(rt; is_lost_without(rt.alloc(), at)?, "{at}");
+        assert!(rt; is_lost_without(&rt, rt.alloc(), at), "{at}");
     }
-    Ok(())
 }
 
 #[test]
-fn sizes_that_hold_no_manifest(rt: HostRuntime) -> Result<(), Fail> {
+fn sizes_that_hold_no_manifest(rt: HostRuntime) {
     for (size, is_whole) in [
         (512, true),
         (513, false),
@@ -207,12 +189,9 @@ fn sizes_that_hold_no_manifest(rt: HostRuntime) -> Result<(), Fail> {
         (31, false),
         (0, false),
     ] {
-        assert!(rt;
-            is_read_at_size(rt.alloc(), size)? == is_whole,
-            "{size} bytes"
-        );
+        let is_read = is_read_at_size(&rt, rt.alloc(), size);
+        assert!(rt; is_read == is_whole, "{size} bytes");
     }
-    Ok(())
 }
 
 /// Whether an empty manifest is read from its sectors with the memory of a heap.
@@ -223,22 +202,27 @@ fn is_read_back(heap: &LocalHeap) -> Result<bool, Refusal> {
 }
 
 /// The same in a heap of so many bytes.
-fn in_heap(alloc: Global, size: usize) -> Result<Result<bool, Refusal>, Fail> {
-    let heap = LocalHeap::new(alloc, size)?;
-    Ok(is_read_back(&heap))
+fn in_heap<R: Abort>(rt: &R, alloc: Global, size: usize) -> Result<bool, Refusal> {
+    let heap = LocalHeap::new(alloc, size).expect(rt, "a heap");
+    is_read_back(&heap)
 }
 
 #[test]
-fn a_manifest_in_small_heaps(rt: HostRuntime) -> Result<(), Fail> {
+fn a_manifest_in_small_heaps(rt: HostRuntime) {
     let mut refused = 0u32;
     let mut whole = 0u32;
     for step in 1..64usize {
-        match in_heap(rt.alloc(), step * 32)? {
-            Err(Refusal::NoMemory) if whole == 0 => refused = refused.wrapping_add(1),
-            Ok(true) => whole = whole.wrapping_add(1),
-            _ => return Err("want of memory in the smaller heaps, else the manifest".into()),
+        match in_heap(&rt, rt.alloc(), step * 32) {
+            // Want of memory in the smaller heaps, else the manifest.
+            Err(refusal) => {
+                assert!(rt; refusal == Refusal::NoMemory && whole == 0);
+                refused = refused.wrapping_add(1);
+            }
+            Ok(is_read) => {
+                assert!(rt; is_read);
+                whole = whole.wrapping_add(1);
+            }
         }
     }
     assert!(rt; refused > 10 && whole > 10, "{refused} {whole}");
-    Ok(())
 }

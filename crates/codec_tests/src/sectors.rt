@@ -3,7 +3,6 @@
 use crate::texts::{are, bytes_of, flipped};
 use lsm_codec::{LogSector, Superblock, data_blocks};
 use std::process::Abort;
-use std::test::Fail;
 
 const FIRST_BATCH: &str = "4c534d4c00000000000000020000000000000001000000010008000000000000\
 0001010161000131";
@@ -140,21 +139,19 @@ fn zeros_are_no_superblock_and_no_part(rt: HostRuntime) {
 }
 
 #[test]
-fn each_byte_of_a_superblock_is_read(rt: HostRuntime) -> Result<(), Fail> {
-    let superblock = bytes_of::<512>(FORMATTED).ok_or("the text is hex")?;
+fn each_byte_of_a_superblock_is_read(rt: HostRuntime) {
+    let superblock = bytes_of::<512>(FORMATTED).expect(&rt, "hex");
     for at in (0..6).chain(22..512) {
         assert!(rt; spells_nothing(&flipped(&superblock, at)), "byte {at}");
     }
-    Ok(())
 }
 
 #[test]
-fn each_byte_of_a_log_sector_is_read(rt: HostRuntime) -> Result<(), Fail> {
-    let part = bytes_of::<512>(FIRST_BATCH).ok_or("the text is hex")?;
+fn each_byte_of_a_log_sector_is_read(rt: HostRuntime) {
+    let part = bytes_of::<512>(FIRST_BATCH).expect(&rt, "hex");
     for at in (0..4).chain(26..32).chain(40..512) {
         assert!(rt; spells_nothing(&flipped(&part, at)), "byte {at}");
     }
-    Ok(())
 }
 
 #[test]

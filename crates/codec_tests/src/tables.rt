@@ -6,7 +6,6 @@ use lsm_codec::{Edge, Entry, Footer, Index, VersionRef, encode_data_block, is_ze
 use lsm_device::Refusal;
 use std::alloc::{AllocError, Allocator, Global};
 use std::process::Abort;
-use std::test::Fail;
 
 const DATA_BLOCK: &str = "00010161000000000000000101000131";
 
@@ -30,6 +29,12 @@ fn entry<A: Allocator + Clone>(
     }
     let version = VersionRef { key, number, value };
     Ok(Some(Entry::from_ref(alloc, version)?))
+}
+
+/// The entry of this key and value under number 1.
+fn entry_of<R: Abort>(rt: &R, alloc: Global, key: &[u8], value: Option<&[u8]>) -> Entry {
+    let made = entry(alloc, key, 1, value).expect(rt, "memory");
+    made.expect(rt, "an entry")
 }
 
 /// Whether it is the version of `a` that batch 1 put as `1`.
@@ -61,23 +66,14 @@ fn is_spelled(entry: Entry) -> bool {
 }
 
 #[test]
-fn the_data_block_of_one_put(rt: HostRuntime) -> Result<(), Fail> {
-    let entry = entry(rt.alloc(), b"a", 1, Some(b"1"))?.ok_or("an entry")?;
+fn the_data_block_of_one_put(rt: HostRuntime) {
+    let entry = entry_of(&rt, rt.alloc(), b"a", Some(b"1"));
     assert!(rt; entry.size() == 14);
     assert!(rt; is_spelled(entry));
-    Ok(())
-}
-
-/// The bytes that the entry of this key and value takes, or 0 where it is outside the limits.
-fn size_of(alloc: Global, key: &[u8], value: Option<&[u8]>) -> Result<usize, AllocError> {
-    match entry(alloc, key, 1, value)? {
-        Some(entry) => Ok(entry.size()),
-        None => Ok(0),
-    }
 }
 
 #[test]
-fn sizes_of_entries(rt: HostRuntime) -> Result<(), Fail> {
+fn sizes_of_entries(rt: HostRuntime) {
     let bytes = [7; 2_048];
     for (key, value, size) in [
         (&bytes[..1], Some(&bytes[..]), 2_061),
@@ -85,9 +81,8 @@ fn sizes_of_entries(rt: HostRuntime) -> Result<(), Fail> {
         (&bytes[..1], Some(&bytes[..0]), 13),
         (&bytes[..2], None, 14),
     ] {
-        assert!(rt; size_of(rt.alloc(), key, value)? == size);
+        assert!(rt; entry_of(&rt, rt.alloc(), key, value).size() == size);
     }
-    Ok(())
 }
 
 /// Whether an entry is read at the front of the bytes of the text.
@@ -141,36 +136,30 @@ fn is_first_index(index: &Index) -> bool {
     index.text_len() == 10 && edge.key() == b"a".as_slice() && edge.number() == 1
 }
 
-fn the_first_index_is_spelled(alloc: Global) -> Result<bool, Refusal> {
-    let index = index_of(alloc, b"a", 1)?;
-    let blocks = index.encode(alloc)?;
-    if !is_first_index(&index) || !are(&blocks, INDEX) {
-        return Ok(false);
-    }
-    match Index::decode(alloc, 1, &blocks)? {
-        Some(again) => Ok(is_first_index(&again)),
-        None => Ok(false),
-    }
+/// The index of so many data blocks that the bytes spell, if they spell one.
+fn read<R: Abort>(rt: &R, alloc: Global, count: usize, blocks: &[u8]) -> Option<Index> {
+    Index::decode(alloc, count, blocks).expect(rt, "memory")
 }
 
-/// Whether the bytes spell the index of so many data blocks.
-fn is_index(alloc: Global, count: usize, blocks: &[u8]) -> Result<bool, Refusal> {
-    Ok(Index::decode(alloc, count, blocks)?.is_some())
+fn the_first_index_is_spelled<R: Abort>(rt: &R, alloc: Global) -> bool {
+    let index = index_of(alloc, b"a", 1).expect(rt, "an index");
+    let blocks = index.encode(alloc).expect(rt, "blocks");
+    let again = read(rt, alloc, 1, &blocks).expect(rt, "an index");
+    are(&blocks, INDEX) && is_first_index(&index) && is_first_index(&again)
 }
 
 #[test]
-fn the_index_of_one_block(rt: HostRuntime) -> Result<(), Fail> {
-    assert!(rt; the_first_index_is_spelled(rt.alloc())?);
-    let block = bytes_of::<4_096>(INDEX).ok_or("a block")?;
+fn the_index_of_one_block(rt: HostRuntime) {
+    assert!(rt; the_first_index_is_spelled(&rt, rt.alloc()));
+    let block = bytes_of::<4_096>(INDEX).expect(&rt, "a block");
     for (count, end, fits) in [
         (1, 4_096, true),
         (2, 4_096, false),
         (1, 4_095, false),
         (0, 0, true),
     ] {
-        assert!(rt; is_index(rt.alloc(), count, &block[..end])? == fits);
+        assert!(rt; read(&rt, rt.alloc(), count, &block[..end]).is_some() == fits);
     }
-    Ok(())
 }
 
 /// Whether the block is the footer of table 1.
@@ -214,14 +203,14 @@ fn entries_among(block: &[u8; 4_096]) -> u32 {
 }
 
 /// How many of them spell the index of one data block.
-fn indexes_among(alloc: Global, block: &[u8; 4_096]) -> Result<u32, Refusal> {
+fn indexes_among<R: Abort>(rt: &R, alloc: Global, block: &[u8; 4_096]) -> u32 {
     let mut found = 0u32;
     for at in 0..4_096 {
-        if is_index(alloc, 1, &flipped(block, at))? {
+        if read(rt, alloc, 1, &flipped(block, at)).is_some() {
             found = found.wrapping_add(1);
         }
     }
-    Ok(found)
+    found
 }
 
 /// How many of them spell a footer.
@@ -236,48 +225,58 @@ fn footers_among(block: &[u8; 4_096]) -> u32 {
 }
 
 #[test]
-fn each_byte_is_changed_in_turn(rt: HostRuntime) -> Result<(), Fail> {
-    let data = bytes_of::<4_096>(DATA_BLOCK).ok_or("a data block")?;
-    let index = bytes_of::<4_096>(INDEX).ok_or("an index")?;
-    let footer = bytes_of::<4_096>(FOOTER).ok_or("a footer")?;
+fn each_byte_is_changed_in_turn(rt: HostRuntime) {
+    let data = bytes_of::<4_096>(DATA_BLOCK).expect(&rt, "a data block");
+    let index = bytes_of::<4_096>(INDEX).expect(&rt, "an index");
+    let footer = bytes_of::<4_096>(FOOTER).expect(&rt, "a footer");
     // The key, seven bytes of the number, the high byte of the value's length, and the value.
     assert!(rt; entries_among(&data) == 10);
     // The key, and seven bytes of the number. Then eight bytes of the number, one of the entries, two of the index's
     // length, and the key.
-    assert!(rt; indexes_among(rt.alloc(), &index)? == 8 && footers_among(&footer) == 12);
-    Ok(())
+    assert!(rt; indexes_among(&rt, rt.alloc(), &index) == 8 && footers_among(&footer) == 12);
 }
 
-/// The bytes of an entry, of an index that is spelled and read back, and of its edge; or what refuses them.
-fn sizes_of(heap: &LocalHeap) -> Result<(usize, usize), Refusal> {
-    let Some(entry) = entry(heap, &[1; 100], 1, Some(&[2; 200]))? else {
-        return Ok((0, 0));
-    };
-    let index = index_of(heap, entry.key(), 1)?;
+/// The bytes of the index of one key that is spelled and read back, or what refuses it.
+fn index_size(heap: &LocalHeap, key: &[u8]) -> Result<Option<usize>, Refusal> {
+    let index = index_of(heap, key, 1)?;
     let blocks = index.encode(heap)?;
-    let Some(again) = Index::decode(heap, 1, &blocks)? else {
-        return Ok((0, 0));
-    };
-    Ok((entry.size(), again.text_len()))
+    Ok(Index::decode(heap, 1, &blocks)?.map(|again| again.text_len()))
+}
+
+/// The bytes of an entry, and those of the index of its key.
+fn sizes_of(heap: &LocalHeap) -> Result<(usize, Option<usize>), Refusal> {
+    match entry(heap, &[1; 100], 1, Some(&[2; 200]))? {
+        Some(entry) => Ok((entry.size(), index_size(heap, entry.key())?)),
+        None => Ok((0, None)),
+    }
 }
 
 /// The same in a heap of so many bytes.
-fn in_heap(alloc: Global, size: usize) -> Result<Result<(usize, usize), Refusal>, Fail> {
-    let heap = LocalHeap::new(alloc, size)?;
-    Ok(sizes_of(&heap))
+fn in_heap<R: Abort>(
+    rt: &R,
+    alloc: Global,
+    size: usize,
+) -> Result<(usize, Option<usize>), Refusal> {
+    let heap = LocalHeap::new(alloc, size).expect(rt, "a heap");
+    sizes_of(&heap)
 }
 
 #[test]
-fn each_growth_is_refused_in_turn(rt: HostRuntime) -> Result<(), Fail> {
+fn each_growth_is_refused_in_turn(rt: HostRuntime) {
     let mut refused = 0u32;
     let mut whole = 0u32;
     for step in 1..240usize {
-        match in_heap(rt.alloc(), step * 64)? {
-            Err(Refusal::NoMemory) if whole == 0 => refused = refused.wrapping_add(1),
-            Ok((312, 109)) => whole = whole.wrapping_add(1), // 12 + 100 + 200, and 9 + 100.
-            _ => return Err("want of memory in the smaller heaps, else the whole".into()),
+        match in_heap(&rt, rt.alloc(), step * 64) {
+            // Want of memory in the smaller heaps, else the whole.
+            Err(refusal) => {
+                assert!(rt; refusal == Refusal::NoMemory && whole == 0);
+                refused = refused.wrapping_add(1);
+            }
+            Ok((entry, index)) => {
+                assert!(rt; entry == 312 && index == Some(109)); // 12 + 100 + 200, and 9 + 100.
+                whole = whole.wrapping_add(1);
+            }
         }
     }
     assert!(rt; refused > 10 && whole > 10, "{refused} {whole}");
-    Ok(())
 }
