@@ -1,20 +1,20 @@
 //! The snapshot that a session pins as its base.
 
-use crate::setup::{prepared, small};
+use crate::setup::{failing, refused, small};
 use crate::turns::{Ask, Told, Turn, play, put};
 use lsm_device::{MemDevice, Refusal};
 use lsm_shared::prepare;
 use lsm_store::{At, Store};
 use std::alloc::Global;
-use std::test::Fail;
+use std::process::Abort;
 
 // A small store with so many snapshots.
-fn with_snapshots(alloc: Global, count: u64) -> Result<Store<MemDevice>, Fail> {
-    let mut store = small(alloc)?;
+fn with_snapshots<R: Abort>(rt: &R, alloc: Global, count: u64) -> Store<MemDevice> {
+    let mut store = small(rt, alloc);
     for _ in 0..count {
-        store.snapshot()?;
+        assert!(rt; store.snapshot().is_ok());
     }
-    Ok(store)
+    store
 }
 
 // Releases the snapshots of numbers up to this, and tells how many were live.
@@ -26,15 +26,6 @@ fn release_all(store: &mut Store<MemDevice>, last: u64) -> u64 {
     live
 }
 
-// A store on which no session began, since all snapshots are taken.
-fn refused(alloc: Global, store: Store<MemDevice>) -> Result<Store<MemDevice>, Fail> {
-    match prepare(alloc, store, 1, 1) {
-        Err((Refusal::TooManySnapshots, store)) => Ok(store),
-        Err((refusal, _)) => Err(Fail::from(refusal.name())),
-        Ok(_) => Err(Fail::from("it begins")),
-    }
-}
-
 // Whether a session had this base, and the store has given it back: of the snapshots before it so many are live, and the
 // next one has the number after it.
 fn is_given_back(store: &mut Store<MemDevice>, base: u64, live: u64) -> bool {
@@ -44,21 +35,21 @@ fn is_given_back(store: &mut Store<MemDevice>, base: u64, live: u64) -> bool {
 }
 
 #[test]
-fn a_session_takes_the_place_of_a_snapshot(rt: HostRuntime) -> Result<(), Fail> {
-    let mut store = refused(rt.alloc(), with_snapshots(rt.alloc(), 32)?)?;
-    store.release(5)?;
-    let opened = prepared(rt.alloc(), store, 1, 1)?;
-    let mut left = play(&rt, rt.alloc(), opened, &[])?;
+fn a_session_takes_the_place_of_a_snapshot(rt: HostRuntime) {
+    let store = with_snapshots(&rt, rt.alloc(), 32);
+    let (refusal, mut store) = refused(&rt, prepare(rt.alloc(), store, 1, 1));
+    assert!(rt; refusal == Refusal::TooManySnapshots && store.release(5).is_ok());
+    let mut left = play(&rt, rt.alloc(), store, (1, 1), &[]);
     assert!(rt; left.base == 33 && left.trail.is_empty());
     assert!(rt; is_given_back(&mut left.store, 33, 31));
-    Ok(())
 }
 
 // A small store with one pair.
-fn with_a_pair(alloc: Global) -> Result<Store<MemDevice>, Fail> {
-    let mut store = small(alloc)?;
-    store.commit(&put(alloc, b"\x61", b"\x31")?)?;
-    Ok(store)
+fn with_a_pair<R: Abort>(rt: &R, alloc: Global) -> Store<MemDevice> {
+    let mut store = small(rt, alloc);
+    let batch = put(alloc, b"\x61", b"\x31").expect(rt, "a batch");
+    assert!(rt; store.commit(&batch).is_ok());
+    store
 }
 
 const BESIDE_THE_BASE: &[Turn<'static>] = &[
@@ -86,32 +77,22 @@ const BESIDE_THE_BASE: &[Turn<'static>] = &[
 ];
 
 #[test]
-fn the_base_keeps_the_map_of_the_begin(rt: HostRuntime) -> Result<(), Fail> {
-    let opened = prepared(rt.alloc(), with_a_pair(rt.alloc())?, 1, 16)?;
-    let mut left = play(&rt, rt.alloc(), opened, BESIDE_THE_BASE)?;
+fn the_base_keeps_the_map_of_the_begin(rt: HostRuntime) {
+    let store = with_a_pair(&rt, rt.alloc());
+    let mut left = play(&rt, rt.alloc(), store, (1, 16), BESIDE_THE_BASE);
     assert!(rt; left.base == 1 && left.trail.len() == 7 && left.store.batch_count() == 2);
     assert!(rt;
         left.store.release(1) == Err(Refusal::NoSuchSnapshot) && left.store.release(3) == Ok(())
     );
-    Ok(())
-}
-
-// A small store whose device fails at the next write or sync.
-fn failing(alloc: Global) -> Result<Store<MemDevice>, Fail> {
-    let mut store = small(alloc)?;
-    store.fuse(0);
-    Ok(store)
 }
 
 #[test]
-fn a_session_of_a_stopped_store_ends(rt: HostRuntime) -> Result<(), Fail> {
-    let opened = prepared(rt.alloc(), failing(rt.alloc())?, 1, 2)?;
+fn a_session_of_a_stopped_store_ends(rt: HostRuntime) {
     let turns = [
         (0, Ask::Sync, Ok(Told::Refused(Refusal::Io))),
         (0, Ask::Release(1), Err(Refusal::NotYours)),
     ];
-    let mut left = play(&rt, rt.alloc(), opened, &turns)?;
+    let mut left = play(&rt, rt.alloc(), failing(&rt, rt.alloc()), (1, 2), &turns);
     assert!(rt; left.base == 1 && left.trail.len() == 1);
     assert!(rt; left.store.release(1) == Err(Refusal::Stopped));
-    Ok(())
 }

@@ -1,11 +1,10 @@
 //! What calls reply, and what the trail keeps of them.
 
-use crate::setup::{prepared, small};
+use crate::setup::small;
 use crate::turns::{Ask, Told, Turn, play};
 use lsm_device::Refusal;
 use lsm_store::At;
 use lsm_trail::Trail;
-use std::test::Fail;
 
 const BY_TURNS: &[Turn<'static>] = &[
     (0, Ask::Put(b"\x61", b"\x31"), Ok(Told::Number(1))),
@@ -45,10 +44,8 @@ fn is_of(trail: &Trail, callers: &[u32]) -> bool {
 }
 
 #[test]
-fn two_clients_see_one_store(rt: HostRuntime) -> Result<(), Fail> {
-    let opened = prepared(rt.alloc(), small(rt.alloc())?, 2, 16)?;
-    let left = play(&rt, rt.alloc(), opened, BY_TURNS)?;
+fn two_clients_see_one_store(rt: HostRuntime) {
+    let left = play(&rt, rt.alloc(), small(&rt, rt.alloc()), (2, 16), BY_TURNS);
     assert!(rt; left.store.batch_count() == 2 && left.store.synced_count() == 2);
     assert!(rt; is_of(&left.trail, &[0, 1, 1, 0, 0, 1, 0, 1, 1, 1, 1]));
-    Ok(())
 }

@@ -2,18 +2,18 @@
 
 ghost use Rattle.std.specs.Prelude.{◌≡◌};
 
-use crate::setup::{fresh, opened as open_store, prepared};
+use crate::setup::{CACHE, Left, Session, formatted, given};
 use crate::turns::put;
 use lsm_device::{MemDevice, Refusal};
 use lsm_lives::{Call, Reply};
-use lsm_shared::{Client, Shared};
+use lsm_shared::{Client, Shared, prepare};
 use lsm_store::{At, Store};
 use lsm_trail::{Entry, Opened, SessionName, Trail};
 use std::alloc::Global;
 use std::marker::Brand;
+use std::process::Abort;
 use std::sync::Wait;
-use std::test::Fail;
-use std::thread::{Threads, join};
+use std::thread::{Threads, for_each_mut};
 
 const CLIENTS: u32 = 4;
 
@@ -27,95 +27,47 @@ fn key_of(client: u32, commit: u32) -> [u8; 4] {
 }
 
 // A commit of one put, which has its key for its value.
-fn commit_of(alloc: Global, key: &[u8; 4]) -> Result<Call, Refusal> {
-    Ok(Call::Commit(put(alloc, key, key)?))
+fn commit_of<R: Abort>(rt: &R, alloc: Global, key: &[u8; 4]) -> Call {
+    Call::Commit(put(alloc, key, key).expect(rt, "a batch"))
 }
 
-// Makes a commit, and tells whether it was accepted.
-fn commit<B: SessionName, R: Wait>(
+fn is_number(reply: &Result<Reply, Refusal>) -> bool {
+    matches!(reply, Ok(Reply::Number(_)))
+}
+
+// Makes a client's commits, all of which must be accepted.
+fn commit_all<B: SessionName, R: Wait + Abort>(
     rt: &R,
     alloc: Global,
     shared: &Shared<MemDevice, Global, B>,
     me: &mut Client<Global, B>,
-    key: &[u8; 4],
-) -> bool {
-    match commit_of(alloc, key) {
-        Ok(call) => matches!(&me.call(rt, shared, call), Ok(Reply::Number(_))),
-        Err(_) => false,
-    }
-}
-
-// Makes its commits, and tells whether all were accepted.
-fn commit_all<B: SessionName, R: Wait>(
-    rt: &R,
-    alloc: Global,
-    shared: &Shared<MemDevice, Global, B>,
-    mut me: Client<Global, B>,
-) -> (Client<Global, B>, bool) {
-    let mut accepted = true;
+) {
     for number in 0..COMMITS {
-        let key = key_of(me.number(), number);
-        accepted = commit(rt, alloc, shared, &mut me, &key) && accepted;
+        let call = commit_of(rt, alloc, &key_of(me.number(), number));
+        assert!(rt; is_number(&me.call(rt, shared, call)));
     }
-    (me, accepted)
 }
 
-// Two clients make their commits at a time.
-fn commit_both<B: SessionName + Send + Sync, R: Threads + Wait + Sync>(
+// The clients make their commits at the same time, each in a thread of its own.
+fn commit_in_threads<B: SessionName + Send + Sync, R: Threads + Wait + Abort + Sync>(
     rt: &R,
     alloc: Global,
     shared: &Shared<MemDevice, Global, B>,
-    one: Client<Global, B>,
-    two: Client<Global, B>,
-) -> (Client<Global, B>, Client<Global, B>, bool) {
-    let ((one, first), (two, second)) = join(
-        rt,
-        || commit_all(rt, alloc, shared, one),
-        || commit_all(rt, alloc, shared, two),
-    );
-    (one, two, first && second)
+    clients: &mut [Client<Global, B>],
+) {
+    for_each_mut(rt, clients, 4, &|_, me| commit_all(rt, alloc, shared, me));
 }
 
-fn in_four_threads<B: SessionName + Send + Sync, R: Threads + Wait + Sync>(
+fn in_four_threads<B: SessionName + Send + Sync, R: Threads + Wait + Abort + Sync>(
     rt: &R,
     alloc: Global,
     opened: Opened<MemDevice>,
-) -> Result<(Store<MemDevice>, Trail), Fail>
+) -> Left
     requires { opened ≡ B.id }
 {
-    let Ok((shared, clients)) = Shared::<MemDevice, Global, B>::begin(alloc, opened) else {
-        return Err(Fail::from("begin"));
-    };
-    let clients = commit_by_four(rt, alloc, &shared, clients)?;
-    match shared.finish(clients) {
-        Ok(ended) => Ok(ended),
-        Err((refusal, _, _)) => Err(Fail::from(refusal.name())),
-    }
-}
-
-// Four clients make their commits at a time.
-fn commit_by_four<B: SessionName + Send + Sync, R: Threads + Wait + Sync>(
-    rt: &R,
-    alloc: Global,
-    shared: &Shared<MemDevice, Global, B>,
-    mut clients: Vec<Client<Global, B>>,
-) -> Result<Vec<Client<Global, B>>, Fail> {
-    let one = clients.pop().ok_or("a client")?;
-    let two = clients.pop().ok_or("a client")?;
-    let three = clients.pop().ok_or("a client")?;
-    let four = clients.pop().ok_or("a client")?;
-    let ((one, two, front), (three, four, back)) = join(
-        rt,
-        || commit_both(rt, alloc, shared, one, two),
-        || commit_both(rt, alloc, shared, three, four),
-    );
-    if !(front && back) {
-        return Err(Fail::from("a commit is refused"));
-    }
-    for client in [one, two, three, four] {
-        clients.push(client)?;
-    }
-    Ok(clients)
+    let mut session = Session::<B>::begin(alloc, opened).expect(rt, "a session");
+    commit_in_threads(rt, alloc, &session.shared, &mut session.clients);
+    session.end(rt)
 }
 
 // Whether an entry is a commit of this number.
@@ -160,19 +112,22 @@ fn has(store: &mut Store<MemDevice>, key: &[u8; 4]) -> Option<bool> {
 }
 
 // The store after a crash that keeps the first hundred sectors, loses one, and keeps the others.
-fn crashed(alloc: Global, store: Store<MemDevice>) -> Result<Store<MemDevice>, Fail> {
-    let mut keep = Vec::from_elem(alloc, true, 200)?;
+fn crashed<R: Abort>(rt: &R, alloc: Global, store: Store<MemDevice>) -> Store<MemDevice> {
+    let mut keep = [true; 200];
     keep[100] = false;
-    open_store(alloc, store.into_device().crash(&keep))
+    given(
+        rt,
+        Store::open(alloc, store.into_device().crash(&keep), CACHE),
+    )
 }
 
 #[test]
-fn four_threads_make_one_history(rt: HostRuntime) -> Result<(), Fail> {
-    let store = fresh(rt.alloc(), 65_536, 2_048)?;
-    let opened = prepared(rt.alloc(), store, CLIENTS, 65_536)?;
-    let (store, trail) = in_four_threads::<Brand, _>(&rt, rt.alloc(), opened)?;
+fn four_threads_make_one_history(rt: HostRuntime) {
+    let device = formatted(&rt, rt.alloc(), 65_536, 2_048);
+    let store = given(&rt, Store::open(rt.alloc(), device, CACHE));
+    let opened = given(&rt, prepare(rt.alloc(), store, CLIENTS, 65_536));
+    let Left { store, trail, .. } = in_four_threads::<Brand, _>(&rt, rt.alloc(), opened);
     assert!(rt; is_of_commits(&trail));
-    let mut store = crashed(rt.alloc(), store)?;
+    let mut store = crashed(&rt, rt.alloc(), store);
     assert!(rt; held(&mut store, &trail) == Some(100));
-    Ok(())
 }

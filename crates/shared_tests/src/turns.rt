@@ -2,17 +2,17 @@
 
 ghost use Rattle.std.specs.Prelude.{◌≡◌};
 
-use crate::setup::{Left, Session};
-use linked_list_allocator::LocalHeap;
+use crate::setup::{Left, Session, given};
 use lsm_codec::{Batch, Op};
 use lsm_device::{MemDevice, Refusal};
 use lsm_lives::{Call, Reply};
-use lsm_store::{At, Page};
+use lsm_shared::prepare;
+use lsm_store::{At, Page, Store};
 use lsm_trail::{Opened, SessionName};
-use std::alloc::Global;
+use std::alloc::{Allocator, Global};
 use std::marker::Brand;
+use std::process::Abort;
 use std::sync::Wait;
-use std::test::Fail;
 
 /// What a client asks.
 #[derive(Clone, Copy)]
@@ -43,62 +43,56 @@ pub enum Told<'a> {
 /// The number of a client, what it asks, and what it must be told, or why the call must be none.
 pub type Turn<'a> = (usize, Ask<'a>, Result<Told<'a>, Refusal>);
 
-/// Begins the session that was prepared, has its clients make the calls of a table, and ends it.
-pub fn play<R: Wait>(
+/// Begins a session of a store with so many clients and places, has its clients make the calls of a table, and ends it.
+pub fn play<R: Wait + Abort>(
     rt: &R,
     alloc: Global,
-    opened: Opened<MemDevice>,
+    store: Store<MemDevice>,
+    (clients, places): (u32, u32),
     turns: &[Turn],
-) -> Result<Left, Fail> {
+) -> Left {
+    let opened = given(rt, prepare(alloc, store, clients, places));
     play_named::<Brand, _>(rt, alloc, opened, turns)
 }
 
-fn play_named<B: SessionName, R: Wait>(
+fn play_named<B: SessionName, R: Wait + Abort>(
     rt: &R,
     alloc: Global,
     opened: Opened<MemDevice>,
     turns: &[Turn],
-) -> Result<Left, Fail>
+) -> Left
     requires { opened ≡ B.id }
 {
-    let mut session = Session::<B>::begin(alloc, opened)?;
-    match first_wrong(rt, alloc, &mut session, turns) {
-        Some(place) => Err(Fail::new(format_args!("turn {place} is answered otherwise"))),
-        None => session.end(),
-    }
+    let mut session = Session::<B>::begin(alloc, opened).expect(rt, "a session");
+    make_all(rt, alloc, &mut session, turns);
+    session.end(rt)
 }
 
-// The place of the first turn that is answered otherwise.
-fn first_wrong<B: SessionName, R: Wait>(
+// Makes the calls, each of which must be answered as its turn says.
+fn make_all<B: SessionName, R: Wait + Abort>(
     rt: &R,
     alloc: Global,
     session: &mut Session<B>,
     turns: &[Turn],
-) -> Option<usize> {
-    for (place, turn) in turns.iter().enumerate() {
-        let (client, ask, wanted) = *turn;
-        let Ok(call) = call_of(alloc, ask) else {
-            return Some(place);
-        };
-        if !is_told(&session.call(rt, client, call), wanted) {
-            return Some(place);
-        }
+) {
+    for (place, (client, ask, wanted)) in turns.iter().enumerate() {
+        let reply = session.call(rt, *client, call_of(rt, alloc, *ask));
+        assert!(rt; is_told(&reply, *wanted), "turn {place}");
     }
-    None
 }
 
 // The call that a client asks for.
-fn call_of(alloc: Global, ask: Ask) -> Result<Call, Refusal> {
-    Ok(match ask {
-        Ask::Put(key, value) => Call::Commit(put(alloc, key, value)?),
-        Ask::Get(at, key) => Call::Get(at, Vec::from_slice(alloc, key)?),
+fn call_of<R: Abort>(rt: &R, alloc: Global, ask: Ask) -> Call {
+    match ask {
+        Ask::Put(key, value) => Call::Commit(put(alloc, key, value).expect(rt, "a batch")),
+        Ask::Get(at, key) => Call::Get(at, Vec::from_slice(alloc, key).expect(rt, "a key")),
         Ask::Scan(at) => scan_of(alloc, at),
         Ask::Sync => Call::Sync,
         Ask::SyncTo(number) => Call::SyncTo(number),
         Ask::Snapshot => Call::Snapshot,
         Ask::Release(number) => Call::Release(number),
         Ask::Room => Call::Room,
-    })
+    }
 }
 
 // A scan of all pairs.
@@ -112,17 +106,8 @@ fn scan_of(alloc: Global, at: At) -> Call {
 }
 
 /// A batch of one put.
-pub fn put(alloc: Global, key: &[u8], value: &[u8]) -> Result<Batch, Refusal> {
+pub fn put<A: Allocator + Copy>(alloc: A, key: &[u8], value: &[u8]) -> Result<Batch<A>, Refusal> {
     Batch::new(alloc, Op::put(alloc, key, value)?)
-}
-
-/// A batch of one put, in the memory of a heap.
-pub fn put_in<'a>(
-    heap: &'a LocalHeap,
-    key: &[u8],
-    value: &[u8],
-) -> Result<Batch<&'a LocalHeap>, Refusal> {
-    Batch::new(heap, Op::put(heap, key, value)?)
 }
 
 fn is_told(reply: &Result<Reply, Refusal>, wanted: Result<Told, Refusal>) -> bool {
