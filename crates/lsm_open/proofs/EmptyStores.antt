@@ -8,14 +8,15 @@ use Rattle.lsm_device.specs.Outcomes.{Leaves}
 use Rattle.lsm_log.specs.Opened.{has_epoch_above, is_above, HasNoneAbove}
 use Rattle.lsm_open.specs.CrashState.{formatted}
 use Rattle.lsm_open.specs.Formatted.{IsFormatted}
-use Rattle.lsm_open.specs.Image.{image_by, image_of, IsImage}
+use Rattle.lsm_open.specs.Image.{served, image_by, image_of, IsImage}
+use Rattle.lsm_root.specs.Roots.{Root}
 
 blank_is_old : is_above 1 blank ≡ false
 blank_is_old = ap (has_epoch_above 1) part_laws_hold.none
 
 empty_image : (log : ℕ) (d : Disk) → IsFormatted log d → image_of d.stands ≡ Some (log, formatted)
 unfolding image_of
-empty_image log d is = ap (image_by d.stands) is.root
+empty_image log d is = ap (λ (r : Root). image_by d.stands (served r)) is.root
 
 pub formatted_leaves : (log : ℕ) (d : Disk) → IsFormatted log d → Leaves (IsImage log formatted) d
 formatted_leaves log d is mask =

@@ -1,5 +1,6 @@
 pub mod Openings
 pub mod KeptRecords
+pub mod Served
 pub mod NextImages
 pub mod NextManifests
 pub mod ReplaySteps

@@ -15,7 +15,7 @@ use Rattle.lsm_log.specs.Replay.{replay}
 use Rattle.lsm_log.proofs.Epochs.{later_is_free, none_above_more}
 use Rattle.lsm_log.proofs.Logs.{none_read}
 use Rattle.lsm_open.specs.CrashState.{CrashState, in_next_generation}
-use Rattle.lsm_open.specs.Image.{first_region, region_start, batches_at, all_batches, follow_on, one_if_some, regions_with_batches, left_in, image_by, image_of, IsImage}
+use Rattle.lsm_open.specs.Image.{first_region, region_start, batches_at, all_batches, follow_on, one_if_some, regions_with_batches, served, left_in, image_by, image_of, IsImage}
 use Rattle.lsm_open.specs.Reopening.{kept_records, is_free, least_free, new_records, next_contents}
 use Rattle.lsm_open.proofs.KeptRecords.{all_batches-append, regions-append, follow_on-append, same_batches, same_regions, same_follow, batches_agree, regions_agree, follow_agree}
 use Rattle.lsm_root.specs.Roots.{Root, Missing, Damaged, OtherSize, Unreadable, Stands, root_of}
@@ -67,7 +67,7 @@ module _ (c e : Sectors) (same : drop 130 c ≡ drop 130 e) where
   pub same_image : (n : ℕ) (left : CrashState) → root_of c ≡ root_of e → IsImage n left e → IsImage n left c
   unfolding image_of
   same_image n left root is = record {
-    means = ap (image_by c) root ∙ image_behind (root_of e) ∙ is.means;
+    means = ap (λ (r : Root). image_by c (served r)) root ∙ image_behind (served (root_of e)) ∙ is.means;
     fresh = fresh_behind left.generation (3 * n) is.fresh;
   }
 
@@ -75,7 +75,7 @@ module _ (c e : Sectors) (same : drop 130 c ≡ drop 130 e) where
 
 -- the manifest stands, its regions follow on, and the crash state is what it says
 pub record StandsFor (n : ℕ) (left : CrashState) (sectors : Sectors) (m : Contents) : Type 0 where
-  pub root : root_of sectors ≡ Stands n m
+  pub root : served (root_of sectors) ≡ Stands n m
   pub follows : follow_on n sectors (m.base + 1) m.logs ≡ true
   pub left_is : left ≡ left_in n sectors m
 
@@ -85,7 +85,7 @@ an_image = (0, record { count = 0; map = finite.empty; closed = 0; generation = 
 abbrev said : ℕ → CrashState → ℕ × CrashState
 said n left = (n, left)
 
-stands_if : (n k : ℕ) (left : CrashState) (sectors : Sectors) (m : Contents) (b : Bool) → follow_on k sectors (m.base + 1) m.logs ≡ b → root_of sectors ≡ Stands k m
+stands_if : (n k : ℕ) (left : CrashState) (sectors : Sectors) (m : Contents) (b : Bool) → follow_on k sectors (m.base + 1) m.logs ≡ b → served (root_of sectors) ≡ Stands k m
     → cond b (Some (said k (left_in k sectors m))) None ≡ Some (said n left) → StandsFor n left sectors m
 stands_if n k left sectors m true follows root is =
     let size : k ≡ n = ap (λ (o : Option (ℕ × CrashState)). (unwrap_or o an_image).0) is in
@@ -93,7 +93,7 @@ stands_if n k left sectors m true follows root is =
     subst (λ (j : ℕ). StandsFor j left sectors m) size (record { root = root; follows = follows; left_is = sym state })
 stands_if n k left sectors m false follows root is = absurd (cc)
 
-stands_by : (n : ℕ) (left : CrashState) (sectors : Sectors) (root : Root) → root_of sectors ≡ root → image_by sectors root ≡ Some (said n left) → (m : Contents) × StandsFor n left sectors m
+stands_by : (n : ℕ) (left : CrashState) (sectors : Sectors) (root : Root) → served (root_of sectors) ≡ root → image_by sectors root ≡ Some (said n left) → (m : Contents) × StandsFor n left sectors m
 stands_by n left sectors Missing root is = absurd (cc)
 stands_by n left sectors Damaged root is = absurd (cc)
 stands_by n left sectors OtherSize root is = absurd (cc)
@@ -102,10 +102,10 @@ stands_by n left sectors (Stands k m) root is = (m, stands_if n k left sectors m
 
 pub manifest_of_image : (n : ℕ) (left : CrashState) (sectors : Sectors) → IsImage n left sectors → (m : Contents) × StandsFor n left sectors m
 unfolding image_of
-manifest_of_image n left sectors is = stands_by n left sectors (root_of sectors) refl is.means
+manifest_of_image n left sectors is = stands_by n left sectors (served (root_of sectors)) refl is.means
 
 -- the manifest that stands in an image is the one that it is read by
-pub stands_here : (n k : ℕ) (left : CrashState) (sectors : Sectors) (m : Contents) → IsImage n left sectors → root_of sectors ≡ Stands k m → (k ≡ n) × StandsFor n left sectors m
+pub stands_here : (n k : ℕ) (left : CrashState) (sectors : Sectors) (m : Contents) → IsImage n left sectors → served (root_of sectors) ≡ Stands k m → (k ≡ n) × StandsFor n left sectors m
 unfolding image_of
 stands_here n k left sectors m is root =
     let says : image_by sectors (Stands k m) ≡ Some (said n left) = ap (image_by sectors) (sym root) ∙ is.means in
@@ -209,7 +209,7 @@ module _ (n : ℕ) (left : CrashState) (s i : Sectors) (m : Contents) (closed : 
   pub next_image : root_of i ≡ Stands n next → IsImage n (in_next_generation left) i
   unfolding image_of
   next_image root = record {
-    means = ap (image_by i) root
+    means = ap (λ (r : Root). image_by i (served r)) root
         ∙ ap (λ (b : Bool). cond b (Some (said n (left_in n i next))) None) follows_here
         ∙ ap (λ (x : CrashState). Some (said n x)) next_left;
     fresh = subst (λ (g : ℕ). HasNoneAbove g (area first_region (3 * n) i)) (ap (λ (g : ℕ). g + 1) (sym at_generation)) fresh_next;

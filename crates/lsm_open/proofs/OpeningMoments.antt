@@ -20,7 +20,7 @@ use Rattle.lsm_codec.specs.Versions.{Version}
 use Rattle.lsm_mem.specs.Versions.{NumberedBelow, map_of}
 use Rattle.lsm_open.specs.Answered.{IsInsideIfOpen, IsWithin}
 use Rattle.lsm_open.specs.CrashState.{CrashState, last_number, left_by_opening, MayRefuseOpening}
-use Rattle.lsm_open.specs.Image.{first_region, all_batches, IsImage, IsImageOfOne}
+use Rattle.lsm_open.specs.Image.{first_region, all_batches, served, IsImage, IsImageOfOne}
 use Rattle.lsm_open.specs.Layout.{Layout, manifest_for}
 use Rattle.lsm_open.specs.Opening.{root_refusal, opening_refusal, CrashesInOpening, FailsToOpen}
 use Rattle.lsm_open.specs.Recovered.{IsReopened, IsRecovered}
@@ -30,6 +30,7 @@ use Rattle.lsm_open.specs.declared.replayed.Replayed.{Replayed}
 use Rattle.lsm_open.proofs.NextImages.{StandsFor, stands_here, manifest_of_image, least_low}
 use Rattle.lsm_open.proofs.NextManifests.{closed_few, next_fits}
 use Rattle.lsm_open.proofs.Openings.{same_again}
+use Rattle.lsm_open.proofs.Served.{served_stands}
 use Rattle.lsm_open.proofs.Recovering.{layout_says, left_at, recovered}
 use Rattle.lsm_root.specs.Installed.{IsOldOrNew, IsInstalled}
 use Rattle.lsm_root.specs.Layout.{IsDeviceSize, IsGeometry}
@@ -63,7 +64,7 @@ rests_stay n left old new same rests is = unchanged (Leaves (IsImageOfOne n (lef
 
 -- ---- from the installation on
 
-module _ {A : Type 0} (n k : ℕ) (left : CrashState) (m : Contents) (replayed : Replayed A) (old new : List Disk) (is : IsImage n left (seen (present old))) (root : root_of (seen (present old)) ≡ Stands k m)
+module _ {A : Type 0} (n k : ℕ) (left : CrashState) (m : Contents) (replayed : Replayed A) (old new : List Disk) (is : IsImage n left (seen (present old))) (root : served (root_of (seen (present old))) ≡ Stands k m)
     (geometry : IsGeometry (length (seen (present old))) k) (has_next : m.generation ≢ last_number) (rests : (present old).pending ≡ []) (goes : GoesOn k (seen (present old)) m replayed []) where
   here : (k ≡ n) × StandsFor n left (seen (present old)) m
   here = stands_here n k left (seen (present old)) m is root
@@ -127,7 +128,7 @@ module _ {A : Type 0} (n k : ℕ) (left : CrashState) (m : Contents) (replayed :
 
 -- ---- what is reopened, whatever the device holds
 
-module _ {A : Type 0} (k : ℕ) (m : Contents) (replayed : Replayed A) (s : Sectors) (start d : Disk) (l : Layout) (root : root_of s ≡ Stands k m) (goes : GoesOn k s m replayed []) (next : IsNextLayout k m replayed.count l)
+module _ {A : Type 0} (k : ℕ) (m : Contents) (replayed : Replayed A) (s : Sectors) (start d : Disk) (l : Layout) (root : served (root_of s) ≡ Stands k m) (goes : GoesOn k s m replayed []) (next : IsNextLayout k m replayed.count l)
     (same : l.closed ≡ replayed.closed.items) (is : seen start ≡ s) (installed : IsInstalled start (Stands k (next_contents m replayed.closed.items replayed.count)) d) where
   size_is : k ≡ l.log_sectors
   size_is = sym next.log_size
@@ -221,7 +222,7 @@ fair_refusal n left s refusal is (inr (inr e)) = subst (MayRefuseOpening left) (
 pub image_has_size : (n : ℕ) (left : CrashState) (s : Sectors) (size : ℕ) → IsImage n left s → length s ≡ size → ((i : Sectors) (log : ℕ) (m : Contents) → root_of i ≡ Stands log m → IsGeometry (length i) log × IsManifest m) → IsDeviceSize size
 image_has_size n left s size is long laws =
     let there = manifest_of_image n left s is in
-    subst IsDeviceSize long (laws s n there.0 there.1.root).0.device
+    subst IsDeviceSize long (laws s n there.0 (served_stands (root_of s) n there.0 there.1.root)).0.device
 
 module _ (before mid after : Medium) (n : ℕ) (left : CrashState) (is : IsImage n left (seen (disk before))) (begins : Becomes (synced (disk before)) before.history mid.history) where
   -- after its first sync the device rests

@@ -41,6 +41,14 @@ abbrev pub regions_with_batches : ℕ → List (List ℕ) → List LogRecord →
 regions_with_batches log_sectors sectors [] = 0
 regions_with_batches log_sectors sectors (r ∷ rest) = one_if_some (batches_at log_sectors sectors r) + regions_with_batches log_sectors sectors rest
 
+-- The root that an opening goes by. One whose manifest names a table is as good as unreadable: no store serves tables yet.
+abbrev pub served : Root → Root
+served Missing = Missing
+served Damaged = Damaged
+served OtherSize = OtherSize
+served Unreadable = Unreadable
+served (Stands log_sectors manifest) = if length manifest.tables == 0 then Stands log_sectors manifest else Unreadable
+
 -- what a crash left, by the manifest that stands
 abbrev pub left_in : ℕ → List (List ℕ) → Contents → CrashState
 left_in log_sectors sectors manifest = record {
@@ -61,7 +69,7 @@ image_by sectors (Stands log_sectors manifest) = if follow_on log_sectors sector
 
 -- what sectors stand for: the sectors of a log region, and what a crash left
 unfoldable pub image_of : List (List ℕ) → Option (ℕ × CrashState)
-image_of sectors = image_by sectors (root_of sectors)
+image_of sectors = image_by sectors (served (root_of sectors))
 
 -- Sectors stand for what a crash left, in a format with log regions of so many sectors. No log sector is of an epoch
 -- above the generation: a region that is opened later takes no old sector for its own.

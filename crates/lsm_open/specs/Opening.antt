@@ -10,7 +10,7 @@ use Rattle.lsm_device.specs.Outcomes.{Leaves}
 use Rattle.lsm_device.specs.declared.refusal.Refusal.{Refusal}
 use Rattle.lsm_device.specs.declared.refusal.Refusal.TheVariants.{NoMemory, Io, Exhausted, NotAStore, BadSuper, BadManifest, BadGeometry}
 use Rattle.lsm_open.specs.CrashState.{CrashState, last_number, left_by_opening, MayRefuseOpening}
-use Rattle.lsm_open.specs.Image.{IsImageOfOne, follow_on}
+use Rattle.lsm_open.specs.Image.{IsImageOfOne, follow_on, served}
 use Rattle.lsm_root.specs.Roots.{Root, Missing, Damaged, OtherSize, Unreadable, Stands, root_of}
 
 abbrev pub manifest_refusal : ℕ → List (List ℕ) → Contents → Option Refusal
@@ -27,7 +27,7 @@ root_refusal sectors (Stands log_sectors manifest) = manifest_refusal log_sector
 
 -- the refusal of an opening of a device that reads give these sectors of, if it is refused for what it holds
 abbrev pub opening_refusal : List (List ℕ) → Option Refusal
-opening_refusal sectors = root_refusal sectors (root_of sectors)
+opening_refusal sectors = root_refusal sectors (served (root_of sectors))
 
 -- the refusals that an opening may answer, whatever the device holds
 abbrev pub IsOpeningRefusal : Refusal → Type 0

@@ -8,7 +8,7 @@ use Rattle.lsm_codec.specs.Versions.{Version}
 use Rattle.lsm_mem.specs.Versions.{NumberedBelow, map_of}
 use Rattle.lsm_mem.specs.EntryOrder.{with_batches}
 use Rattle.lsm_open.specs.CrashState.{CrashState, last_number}
-use Rattle.lsm_open.specs.Image.{all_batches}
+use Rattle.lsm_open.specs.Image.{all_batches, served}
 use Rattle.lsm_open.specs.Layout.{Layout, manifest_for, closed_batches, open_batches, IsCarriedBy}
 use Rattle.lsm_open.specs.Reopening.{kept_records, IsNextLayout}
 use Rattle.lsm_root.specs.Layout.{behind}
@@ -19,7 +19,7 @@ use Rattle.lsm_root.specs.Roots.{Stands, root_of}
 -- versions of these batches, each under its number. The manifest of the new layout stands, nothing pends, and behind the root the sectors are the same.
 pub record IsReopened (sectors : List (List ℕ)) (l : Layout) (count : ℕ) (versions : List Version) (d : Disk) : Type 0 where
   pub manifest : Contents
-  pub root : root_of sectors ≡ Stands l.log_sectors manifest
+  pub root : served (root_of sectors) ≡ Stands l.log_sectors manifest
   pub layout : IsNextLayout l.log_sectors manifest count l
   pub closed : l.closed ≡ kept_records l.log_sectors sectors manifest.logs
   pub counts : count ≡ manifest.base + length (all_batches l.log_sectors sectors manifest.logs)

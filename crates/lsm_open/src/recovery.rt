@@ -1,5 +1,6 @@
 // A store is recovered from its device.
-ghost use Rattle.std.specs.Prelude.{◌≡◌, ◌≢◌, ◌⊎◌, ◌<◌, ◌≤◌, ◌^◌, ◌+◌, ◌*◌, ℕ, [], true, false, IsTrue, IfOk, OnOk, OnErr, IfErr, Err, is_ok, MatchResult};
+ghost use Rattle.std.specs.Prelude.{◌≡◌, ◌≢◌, ◌⊎◌, ◌<◌, ◌≤◌, ◌^◌, ◌+◌, ◌*◌, ℕ, [], true, false, Some, IsTrue, IfOk, OnOk, OnErr, IfErr, Err, is_ok, MatchResult};
+ghost use Rattle.lsm_codec.specs.Manifests.{IsManifest};
 ghost use Rattle.lsm_device.specs.Calls.{after_sync, faults_after, AtMost};
 ghost use Rattle.lsm_device.specs.Disk.{seen, synced};
 ghost use Rattle.lsm_device.specs.History.{Becomes, EachSince};
@@ -8,11 +9,14 @@ ghost use Rattle.lsm_device.specs.Outcomes.{Leaves};
 ghost use Rattle.lsm_device.specs.Refusals.{is_no_fault, faultless};
 ghost use Rattle.lsm_open.specs.Answered.{OpensUnless, HasInstalled, IsWithin};
 ghost use Rattle.lsm_open.specs.CrashState.{CrashState, left_by_opening};
-ghost use Rattle.lsm_open.specs.Image.{IsImage, IsImageOfOne};
+ghost use Rattle.lsm_open.specs.Image.{served, IsImage, IsImageOfOne};
 ghost use Rattle.lsm_open.specs.Layout.{layout_of};
 ghost use Rattle.lsm_open.specs.Opening.{opening_refusal, IsOpeningRefusal, BeginsWithSync, CrashesInOpening, FailsToOpen};
 ghost use Rattle.lsm_open.specs.Recovered.{IsReopened, IsRecovered};
-ghost use Rattle.lsm_root.specs.Layout.{IsDeviceSize};
+ghost use Rattle.lsm_root.specs.Installed.{IsNext};
+ghost use Rattle.lsm_root.specs.Layout.{IsDeviceSize, IsGeometry};
+ghost use Rattle.lsm_root.specs.Loaded.{Tells, refusal_of};
+ghost use Rattle.lsm_root.specs.Roots.{Root, superblock_in, root_of};
 
 use crate::formatting::is_device_size;
 use crate::regions::Regions;
@@ -20,7 +24,7 @@ use crate::reopened::reopen;
 use crate::replayed::replay_regions;
 use lsm_device::{Device, Refusal};
 use lsm_mem::Mem;
-use lsm_root::{load, root_laws};
+use lsm_root::{Loaded, load, root_laws};
 use std::alloc::{Allocator, Global};
 
 const LAST_GENERATION: u64 = 1 << 63;
@@ -43,6 +47,30 @@ struct Parts<A: Allocator> {
     regions: Regions<A>,
     mem: Mem<A>,
     count: u64,
+}
+
+// Loads the root that an opening goes by. A manifest that names a table is refused: no store serves tables yet.
+fn load_served<A: Allocator + Clone, D: Device>(
+    alloc: A,
+    device: &mut D,
+) -> Result<Loaded<A>, Refusal>
+    ensures loaded { IsTrue (D.medium device.old).lasting.tells → Tells (served (root_of (seen (disk (D.medium device.old))))) result }
+    ensures fits { IfOk result (λ l. IsGeometry (D.medium device.old).size l.log_sectors × IsManifest l.manifest) }
+    ensures refused { IfErr result (λ refusal. ((root : Root) × (refusal_of root ≡ Some refusal)) ⊎ ((refusal ≡ Refusal.NoMemory) ⊎ (refusal ≡ Refusal.Io))) }
+    ensures next { IsTrue (D.medium device.old).lasting.tells → IfOk result (λ l.
+        IsNext (D.medium device.old).size l.log_sectors (l.manifest.generation + 1) (superblock_in (seen (disk (D.medium device.old))))) }
+    ensures unchanged { IsTrue (D.medium device.old).lasting.tells → (D.medium device.new).history ≡ (D.medium device.old).history }
+    ensures counts { AtMost 66 0 0 (D.medium device.old).calls (D.medium device.new).calls }
+    ensures faults { (D.medium device.new).calls.faults ≡ faults_after (faultless result) (D.medium device.old).calls.faults }
+    ensures stops { IfErr result (λ refusal. refusal ≡ Refusal.Io → IsTrue (D.medium device.new).calls.last_faulted) }
+    ensures same_size { (D.medium device.new).size ≡ (D.medium device.old).size }
+    ensures same_lasting { (D.medium device.new).lasting ≡ (D.medium device.old).lasting }
+{
+    let loaded = load(alloc, device)?;
+    if !loaded.manifest.tables().is_empty() {
+        return Err(Refusal::BadManifest);
+    }
+    Ok(loaded)
 }
 
 // Recovers the parts from a device where nothing pends.
@@ -70,7 +98,7 @@ fn recover_settled<A: Allocator + Clone, D: Device>(
     ensures same_lasting { (D.medium device.new).lasting ≡ (D.medium device.old).lasting }
 {
     root_laws();
-    let loaded = load(alloc.clone()?, device)?;
+    let loaded = load_served(alloc.clone()?, device)?;
     let replayed = replay_regions(&alloc, device, loaded.log_sectors, &loaded.manifest)?;
     if loaded.manifest.generation() == LAST_GENERATION {
         return Err(Refusal::Exhausted);
@@ -145,8 +173,8 @@ fn recover_parts<A: Allocator + Clone, D: Device>(
 /// none free no log is open. It installs that generation, and a refusal hands the device back.
 ///
 /// It is refused with `BadGeometry` before any device call where the device has fewer than 8,192 sectors or more than
-/// 1,048,576; with `NotAStore`, `BadSuper`, `BadGeometry` or `BadManifest` as the root says; with `BadManifest` where a
-/// region's first batch is not the next one; with `Exhausted` in the last generation; with `NoMemory`; and with `Io` where
+/// 1,048,576; with `NotAStore`, `BadSuper`, `BadGeometry` or `BadManifest` as the root says; with `BadManifest` where its
+/// manifest names a table, since no store serves tables yet, or a region's first batch is not the next one; with `Exhausted` in the last generation; with `NoMemory`; and with `Io` where
 /// a device call failed, which was its last.
 pub fn recover<A: Allocator + Clone, D: Device>(
     alloc: A,

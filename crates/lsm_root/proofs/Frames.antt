@@ -2,7 +2,7 @@
 use Rattle.std.proofs.Common.{◌≡◌, ◌⊎◌, inl, inr, ⊎_elim, ℕ, ◌+◌, ◌-◌, ◌%◌, ◌<◌, ◌≤◌, Bool, cond, ◌==◌, nat_lt, List, [], ◌∷◌, ◌++◌, length, take, drop, get_or, set, All, Some, refl, sym, ◌∙◌, ap, subst, arith}
 use Rattle.std.proofs.lemmas.List.{get_or-take, take-take, drop-take, drop-drop, get_or-set_same, get_or-set_other, length-set, take-set-le, drop-set-lt, drop_at, take_at, length-take-le}
 use Rattle.std.proofs.lemmas.List.Elements.{All-nil, All-head, All-tail, All-append, All-weaker}
-use Rattle.std.proofs.lemmas.Bool.{eq-eqb, and_from, cond-true, cond-false, le-ltb, cases_lt}
+use Rattle.std.proofs.lemmas.Bool.{eq-eqb, cond-true, cond-false, le-ltb, cases_lt}
 use Rattle.lsm_codec.specs.declared.superblock.Superblock.{Superblock}
 use Rattle.lsm_codec.specs.Superblocks.{IsSuperblock, superblock_sector}
 use Rattle.lsm_codec.specs.Manifests.{Contents}
@@ -14,11 +14,12 @@ use Rattle.lsm_device.proofs.Outcomes.{Within, All-kept_of, seen-grown}
 use Rattle.lsm_device.proofs.Runs.{written-run_at}
 use Rattle.lsm_codec.specs.Manifests.{manifest_of}
 use Rattle.lsm_root.specs.Pieces.{joined}
-use Rattle.lsm_root.specs.Layout.{place, behind}
-use Rattle.lsm_root.specs.Roots.{Reading, Blank, Broken, Names, reading_of, in_slot, newer, sector_at, superblock_in, text_in, Root, Stands, OtherSize, Unreadable, is_served, root_with, root_by, root_of}
+use Rattle.lsm_root.specs.Layout.{LieInside, place, behind}
+use Rattle.lsm_root.specs.Roots.{Reading, Blank, Broken, Names, reading_of, in_slot, newer, sector_at, superblock_in, text_in, Root, Stands, OtherSize, Unreadable, may_name, root_with, root_by, root_of}
 use Rattle.lsm_root.specs.Installed.{IsNext, IsSettled, IsReady}
 use Rattle.lsm_root.proofs.Readings.{FitsLimits, placed, spelled_in_slot}
 use Rattle.lsm_root.proofs.Newer.{newer_fits, even_switch, odd_switch}
+use Rattle.lsm_root.proofs.Naming.{may_name-Decides}
 
 abbrev pub Image : Type 0
 Image = List (List ℕ)
@@ -202,10 +203,9 @@ module _ (c : Image) (new : Superblock) (fits : IsSuperblock new) (sized : lengt
       ∙ cond-true (new.sectors == length (set c (new.generation % 2) (superblock_sector new))) _ OtherSize (eq-eqb _ _ (sym (length-set c (new.generation % 2) (superblock_sector new) ∙ sized)))
       ∙ ap (λ (l : Image). root_with new (manifest_of (joined (take new.manifest_sectors l)))) (drop-set-lt (place new.generation) c (new.generation % 2) (superblock_sector new) (omega arith))
 
-  pub switch_root : (m : Contents) → IsNext new.sectors new.log_sectors new.generation (superblock_in c) → manifest_of (text_in new c) ≡ Some m → m.generation ≡ new.generation → length m.tables ≡ 0
+  pub switch_root : (m : Contents) → IsNext new.sectors new.log_sectors new.generation (superblock_in c) → manifest_of (text_in new c) ≡ Some m → m.generation ≡ new.generation → LieInside new.sectors new.log_sectors m.tables
       → root_of (set c (new.generation % 2) (superblock_sector new)) ≡ Stands new.log_sectors m
-  switch_root m next reads same plain =
+  switch_root m next reads same inside =
       switch_names next
       ∙ ap (root_with new) reads
-      ∙ cond-true (is_served new m) (Stands new.log_sectors m) Unreadable
-      (and_from (m.generation == new.generation) (length m.tables == 0) (eq-eqb m.generation new.generation same) (eq-eqb (length m.tables) 0 plain))
+      ∙ cond-true (may_name new m) (Stands new.log_sectors m) Unreadable ((may_name-Decides new m).1 (same, inside))

@@ -2,7 +2,8 @@
 use Rattle.std.proofs.Common.{◌≡◌, ◌⊎◌, inl, inr, ℕ, ◌+◌, ◌<◌, ◌≤◌, ◌==◌, nat_lt, List, [], ◌∷◌, ◌++◌, length, drop, get_or, slice_get, Option, Some, sym, ◌∙◌, ap, subst, arith, append_assoc}
 use Rattle.std.proofs.lemmas.List.{append-nil, take_more, get_or-drop, length-drop}
 use Rattle.std.proofs.lemmas.Option.{slice_get-get_or, same_Some}
-use Rattle.std.proofs.lemmas.Bool.{eq-eqb, ne_eqb, and_from, and_left, and_right, cond-true, cond-false, lt-ltb}
+use Rattle.std.proofs.lemmas.Bool.{eq-eqb, ne_eqb, not-true, cond-true, cond-false, lt-ltb}
+use Rattle.std.proofs.lemmas.Bool.Decides.{Decides-not}
 use Rattle.lsm_codec.specs.declared.superblock.Superblock.{Superblock}
 use Rattle.lsm_codec.specs.Superblocks.{IsSuperblock}
 use Rattle.lsm_codec.specs.Manifests.{Contents}
@@ -11,10 +12,12 @@ use Rattle.lsm_device.specs.declared.refusal.Refusal.{Refusal}
 use Rattle.lsm_device.specs.declared.refusal.Refusal.TheVariants.{NoMemory, Io, BadManifest, NotAStore, BadSuper}
 use Rattle.lsm_root.specs.Loaded.{refusal_of}
 use Rattle.lsm_codec.specs.Manifests.{manifest_of}
+use Rattle.lsm_root.specs.Layout.{LieInside}
 use Rattle.lsm_root.specs.Pieces.{joined}
-use Rattle.lsm_root.specs.Roots.{Reading, Blank, Broken, Names, reading_of, in_slot, newer, sector_at, superblock_in, text_in, Root, OtherSize, Unreadable, Stands, is_served, root_with, root_by, root_of}
+use Rattle.lsm_root.specs.Roots.{Reading, Blank, Broken, Names, reading_of, in_slot, newer, sector_at, superblock_in, text_in, Root, OtherSize, Unreadable, Stands, may_name, root_with, root_by, root_of}
 use Rattle.lsm_root.proofs.Readings.{FitsLimits, placed}
 use Rattle.lsm_root.proofs.Frames.{root_whole}
+use Rattle.lsm_root.proofs.Naming.{may_name-Decides}
 use Rattle.lsm_root.proofs.Newer.{newer_fits}
 
 joined-push : (xs : List (List ℕ)) (s : List ℕ) → joined (xs ++ s ∷ []) ≡ joined xs ++ s
@@ -56,23 +59,13 @@ module _ (image : List (List ℕ)) (s : Superblock) (large : 2 ≤ length image)
       ∙ ap (λ (l : List ℕ). root_with s (manifest_of l)) (sym reads)
 
 -- what the text says
-pub root_with-some : (s : Superblock) (m : Contents) (read : Option Contents) → read ≡ Some m → m.generation ≡ s.generation → length m.tables ≡ 0 → root_with s read ≡ Stands s.log_sectors m
-root_with-some s m read is same plain =
-    ap (root_with s) is
-    ∙ cond-true (is_served s m) (Stands s.log_sectors m) Unreadable
-    (and_from (m.generation == s.generation) (length m.tables == 0) (eq-eqb m.generation s.generation same) (eq-eqb (length m.tables) 0 plain))
+pub root_with-some : (s : Superblock) (m : Contents) (read : Option Contents) → read ≡ Some m → m.generation ≡ s.generation → LieInside s.sectors s.log_sectors m.tables → root_with s read ≡ Stands s.log_sectors m
+root_with-some s m read is same inside = ap (root_with s) is ∙ cond-true (may_name s m) (Stands s.log_sectors m) Unreadable ((may_name-Decides s m).1 (same, inside))
 
-pub root_with-other : (s : Superblock) (m : Contents) (read : Option Contents) → read ≡ Some m → (m.generation ≡ s.generation → ⊥) → root_with s read ≡ Unreadable
+pub root_with-other : (s : Superblock) (m : Contents) (read : Option Contents) → read ≡ Some m → ((m.generation ≡ s.generation) × LieInside s.sectors s.log_sectors m.tables → ⊥) → root_with s read ≡ Unreadable
 root_with-other s m read is other =
     ap (root_with s) is
-    ∙ cond-false (is_served s m) (Stands s.log_sectors m) Unreadable
-    (and_left (m.generation == s.generation) (length m.tables == 0) (ne_eqb m.generation s.generation other))
-
-pub root_with-tables : (s : Superblock) (m : Contents) (read : Option Contents) → read ≡ Some m → (length m.tables ≡ 0 → ⊥) → root_with s read ≡ Unreadable
-root_with-tables s m read is some =
-    ap (root_with s) is
-    ∙ cond-false (is_served s m) (Stands s.log_sectors m) Unreadable
-    (and_right (m.generation == s.generation) (length m.tables == 0) (ne_eqb (length m.tables) 0 some))
+    ∙ cond-false (may_name s m) (Stands s.log_sectors m) Unreadable (not-true (may_name s m) ((Decides-not (may_name s m) (may_name-Decides s m)).1 other))
 
 -- what a load answers where it is refused
 abbrev pub IsTold : Root → Refusal → Type 0

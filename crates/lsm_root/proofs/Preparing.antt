@@ -4,7 +4,7 @@ use Rattle.std.specs.Prelude.{unwrap_or}
 use Rattle.lsm_codec.specs.declared.superblock.Superblock.{Superblock}
 use Rattle.lsm_codec.specs.Manifests.{Contents, IsManifest, sector_count, manifest_bytes, manifest_of}
 use Rattle.lsm_codec.proofs.FormatLaws.{manifest_laws_hold}
-use Rattle.lsm_root.specs.Layout.{IsGeometry}
+use Rattle.lsm_root.specs.Layout.{IsGeometry, LieInside}
 use Rattle.lsm_root.specs.Planned.{Planned, contents_in, IsPrepared}
 use Rattle.lsm_root.proofs.Cutting.{few_sectors}
 
@@ -15,8 +15,8 @@ module _ (text : List ℕ) (m : Contents) (fits : IsManifest m) (spells : text �
   pub plans : (size log : ℕ) → (let p : Planned = record { size = size; log = log; manifest = contents_in text } in p) ≡ record { size = size; log = log; manifest = m }
   plans size log = ap (λ (c : Contents). let p : Planned = record { size = size; log = log; manifest = c } in p) says
 
-  pub prepares : (s : Superblock) → IsGeometry s.sectors s.log_sectors → length m.tables ≡ 0 → m.generation ≡ s.generation → s.manifest_sectors ≡ sector_count m → IsPrepared s text
-  prepares s geometry plain same count =
+  pub prepares : (s : Superblock) → IsGeometry s.sectors s.log_sectors → LieInside s.sectors s.log_sectors m.tables → m.generation ≡ s.generation → s.manifest_sectors ≡ sector_count m → IsPrepared s text
+  prepares s geometry inside same count =
       let few : sector_count m ≤ 37 = few_sectors m fits in
       record {
         superblock = record {
@@ -30,7 +30,7 @@ module _ (text : List ℕ) (m : Contents) (fits : IsManifest m) (spells : text �
           manifest_high = omega (arith, count, few);
         };
         manifest = subst IsManifest (sym says) fits;
-        plain = ap (λ (c : Contents). length c.tables) says ∙ plain;
+        inside = subst (λ (c : Contents). LieInside s.sectors s.log_sectors c.tables) (sym says) inside;
         spelled = spells ∙ ap manifest_bytes (sym says);
         generation = ap (λ (c : Contents). c.generation) says ∙ same;
         sectors = count ∙ ap sector_count (sym says);

@@ -1,6 +1,5 @@
 -- Wrong bodies of an installation, and why no proof can take them: a disk that they make is not as promised.
-use Rattle.std.proofs.Common.{◌≡◌, ⊎_elim, ℕ, ◌+◌, ◌%◌, Bool, true, false, cond, ◌==◌, List, [], ◌∷◌, ◌++◌, length, set, replicate, Option, Some, None, refl, sym, ◌∙◌, ap, subst, arith}
-use Rattle.std.proofs.lemmas.Bool.{eqb-true, and_parts}
+use Rattle.std.proofs.Common.{◌≡◌, ⊎_elim, ℕ, ◌+◌, ◌%◌, Bool, true, false, cond, List, [], ◌∷◌, ◌++◌, length, set, replicate, Option, Some, None, refl, sym, ◌∙◌, ap, subst, arith}
 use Rattle.std.proofs.lemmas.List.{drop_at, length-replicate}
 use Rattle.lsm_codec.specs.declared.superblock.Superblock.{Superblock}
 use Rattle.lsm_codec.specs.Manifests.{Contents, manifest_of}
@@ -9,16 +8,17 @@ use Rattle.lsm_device.specs.Disk.{Disk, Write, written, kept, image, seen, appen
 use Rattle.lsm_device.specs.Outcomes.{Leaves}
 use Rattle.lsm_device.specs.Runs.{grown}
 use Rattle.lsm_device.proofs.Outcomes.{image-grown, kept_longer, kept_all}
-use Rattle.lsm_root.specs.Roots.{Reading, Blank, Broken, Names, superblock_in, text_in, Root, Unreadable, Stands, is_served, root_with, root_of}
+use Rattle.lsm_root.specs.Roots.{Reading, Blank, Broken, Names, superblock_in, text_in, Root, Unreadable, Stands, may_name, root_with, root_of}
 use Rattle.lsm_root.specs.Installed.{IsNext, IsOld, IsNew, IsOldOrNew, IsInstalled}
 use Rattle.lsm_root.proofs.Frames.{same_length, switch_names}
+use Rattle.lsm_root.proofs.Naming.{may_name-Decides}
 use Rattle.lsm_root.proofs.Standing.{standing}
 use Rattle.lsm_root.proofs.Switched.{CanInstall, run_of, last_of}
 
 -- a superblock names only manifests of its generation
 with_found : (s : Superblock) (log : ℕ) (m : Contents) (read : Option Contents) → root_with s read ≡ Stands log m → (read ≡ Some m) × (m.generation ≡ s.generation)
 with_found s log m None is = absurd cc
-with_found s log m (Some c) is = by_test (is_served s c) (λ e. eqb-true c.generation s.generation (and_parts (c.generation == s.generation) (length c.tables == 0) e).0) is
+with_found s log m (Some c) is = by_test (may_name s c) (λ e. ((may_name-Decides s c).0 e).0) is
   where
     by_test : (t : Bool) → (t ≡ true → c.generation ≡ s.generation) → cond t (Stands s.log_sectors c) Unreadable ≡ Stands log m → (Some c ≡ Some m) × (m.generation ≡ s.generation)
     by_test true means same =

@@ -1,6 +1,6 @@
 -- What a root that stands tells the next installation.
 use Rattle.std.proofs.Common.{◌≡◌, ◌≤◌, ℕ, ◌+◌, Bool, true, false, cond, ◌==◌, nat_lt, List, length, All, Option, Some, None, refl, sym, ◌∙◌, ap, subst}
-use Rattle.std.proofs.lemmas.Bool.{eqb-true, and_parts}
+use Rattle.std.proofs.lemmas.Bool.{eqb-true}
 use Rattle.std.proofs.lemmas.List.Elements.{All-nil}
 use Rattle.lsm_codec.specs.declared.superblock.Superblock.{Superblock}
 use Rattle.lsm_codec.specs.Superblocks.{IsSuperblock}
@@ -9,34 +9,39 @@ use Rattle.lsm_codec.specs.Manifests.{IsManifest}
 use Rattle.lsm_codec.specs.Manifests.{manifest_of}
 use Rattle.lsm_codec.proofs.FormatLaws.{manifest_laws_hold}
 use Rattle.lsm_device.specs.Disk.{Disk, Write, seen}
-use Rattle.lsm_root.specs.Layout.{IsGeometry}
-use Rattle.lsm_root.specs.Roots.{Reading, Blank, Broken, Names, superblock_in, text_in, OtherSize, Unreadable, Stands, is_served, root_with, root_by, root_of}
+use Rattle.lsm_root.specs.Layout.{IsGeometry, LieInside}
+use Rattle.lsm_root.specs.Roots.{Reading, Blank, Broken, Names, superblock_in, text_in, OtherSize, Unreadable, Stands, may_name, root_with, root_by, root_of}
 use Rattle.lsm_root.specs.Installed.{IsNext, IsReady, IsInstalled}
 use Rattle.lsm_root.proofs.Frames.{counted_fits}
+use Rattle.lsm_root.proofs.Naming.{has_geometry, may_name-Decides}
 
 -- the root that stands is a manifest of the device, and the next generation may be installed after it
 pub record IsStanding (size log : ℕ) (m : Contents) (r : Reading) : Type 0 where
   pub next : IsNext size log (m.generation + 1) r
   pub geometry : IsGeometry size log
   pub fits : IsManifest m
+  pub inside : LieInside size log m.tables
 
 module _ (size log : ℕ) (m : Contents) (s : Superblock) (limits : IsSuperblock s) (sized : s.sectors ≡ size) where
-  from_found : m.generation ≡ s.generation → s.log_sectors ≡ log → IsManifest m → IsStanding size log m (Names s)
-  from_found same logs fits = record {
+  from_found : m.generation ≡ s.generation → s.log_sectors ≡ log → IsManifest m → LieInside s.sectors s.log_sectors m.tables → IsStanding size log m (Names s)
+  from_found same logs fits inside = record {
     next = record { next = ap (λ (n : ℕ). n + 1) same; same_size = sized; same_log = logs };
-    geometry = subst (λ (n : ℕ). IsGeometry n log) sized (subst (λ (n : ℕ). IsGeometry s.sectors n) logs (record { device = record { low = limits.sectors_low; high = limits.sectors_high }; log_low = limits.log_low; log_high = limits.log_high }));
+    geometry = subst (λ (n : ℕ). IsGeometry n log) sized (subst (λ (n : ℕ). IsGeometry s.sectors n) logs (has_geometry s limits));
     fits = fits;
+    inside = subst (λ (n : ℕ). LieInside n log m.tables) sized (subst (λ (n : ℕ). LieInside s.sectors n m.tables) logs inside);
   }
 
   from_read : (bytes : List ℕ) (read : Option Contents) → manifest_of bytes ≡ read → root_with s read ≡ Stands log m → IsStanding size log m (Names s)
   from_read bytes None is same = absurd cc
-  from_read bytes (Some c) is same = by_test (is_served s c) (λ e. eqb-true c.generation s.generation (and_parts (c.generation == s.generation) (length c.tables == 0) e).0) same
+  from_read bytes (Some c) is same = by_test (may_name s c) (may_name-Decides s c).0 same
     where
-      by_test : (t : Bool) → (t ≡ true → c.generation ≡ s.generation) → cond t (Stands s.log_sectors c) Unreadable ≡ Stands log m → IsStanding size log m (Names s)
+      by_test : (t : Bool) → (t ≡ true → (c.generation ≡ s.generation) × LieInside s.sectors s.log_sectors c.tables) → cond t (Stands s.log_sectors c) Unreadable ≡ Stands log m → IsStanding size log m (Names s)
       by_test true means same =
           let is_m : c ≡ m = cc in
           let logs : s.log_sectors ≡ log = cc in
-          from_found (sym (ap (λ (x : Contents). x.generation) is_m) ∙ means refl) logs (subst IsManifest is_m (manifest_laws_hold.format.spelled bytes c is).0)
+          let named = means refl in
+          from_found (sym (ap (λ (x : Contents). x.generation) is_m) ∙ named.0) logs (subst IsManifest is_m (manifest_laws_hold.format.spelled bytes c is).0)
+          (subst (λ (x : Contents). LieInside s.sectors s.log_sectors x.tables) is_m named.1)
       by_test false means same = absurd cc
 
 pub standing : (image : List (List ℕ)) (log : ℕ) (m : Contents) → root_of image ≡ Stands log m → IsStanding (length image) log m (superblock_in image)

@@ -14,7 +14,7 @@ use Rattle.lsm_device.proofs.Outcomes.{Within, All-kept_of, image-grown, seen-gr
 use Rattle.lsm_device.proofs.Runs.{All-run_at, grown-nil}
 use Rattle.lsm_codec.proofs.FormatLaws.{manifest_laws_hold}
 use Rattle.lsm_root.specs.Pieces.{pieces, joined}
-use Rattle.lsm_root.specs.Layout.{place}
+use Rattle.lsm_root.specs.Layout.{LieInside, place}
 use Rattle.lsm_root.specs.Planned.{Planned, contents_in, planned, IsPrepared}
 use Rattle.lsm_root.specs.Roots.{superblock_in, Root, Stands}
 use Rattle.lsm_root.specs.Installed.{IsNext, IsSettled, IsReady, IsOld, IsNew, IsOldOrNew, IsInstalled, KeepsBehind, IsStage}
@@ -32,7 +32,7 @@ pub record CanInstall (start : Disk) (new : Superblock) (text : List ℕ) (m : C
   pub whole : length text ≡ 512 * new.manifest_sectors
   pub reads : manifest_of text ≡ Some m
   pub generation : m.generation ≡ new.generation
-  pub plain : length m.tables ≡ 0
+  pub inside : LieInside new.sectors new.log_sectors m.tables
 
 -- the writes of the manifest, and that of the superblock
 abbrev pub run_of : Superblock → List ℕ → List Write
@@ -75,7 +75,7 @@ module _ {start : Disk} {new : Superblock} {text : List ℕ} {m : Contents} (can
         (subst (IsNext new.sectors new.log_sectors new.generation) (sym (superblock_stays new.generation (seen start) (run_of new text) inside)) can.next)
         (ap manifest_of text_stands ∙ can.reads)
         can.generation
-        can.plain;
+        can.inside;
     all = switch_behind (written (seen start) (run_of new text)) new can.fits long ∙ behind_stays new.generation (seen start) (run_of new text) inside;
   }
 
@@ -156,7 +156,7 @@ can_install size d s text long same ready is = record {
   whole = fills s text is;
   reads = ap manifest_of is.spelled ∙ manifest_laws_hold.format.decoded (contents_in text) is.manifest;
   generation = is.generation;
-  plain = is.plain;
+  inside = is.inside;
 }
 
 -- what an installation of what is planned does

@@ -1,8 +1,9 @@
 -- The root that is to be installed.
-use Rattle.std.specs.Prelude.{◌≡◌, ℕ, List, [], length, unwrap_or}
+use Rattle.std.specs.Prelude.{◌≡◌, ℕ, List, [], unwrap_or}
 use Rattle.lsm_codec.specs.declared.superblock.Superblock.{Superblock}
 use Rattle.lsm_codec.specs.Superblocks.{IsSuperblock}
 use Rattle.lsm_codec.specs.Manifests.{Contents, IsManifest, sector_count, manifest_bytes, manifest_of}
+use Rattle.lsm_root.specs.Layout.{LieInside}
 
 -- the size of the device and LOG, in sectors, and what the manifest says
 pub record Planned : Type 0 where
@@ -18,11 +19,11 @@ contents_in text = unwrap_or (manifest_of text) (record { generation = 0; base =
 abbrev pub planned : Superblock → List ℕ → Planned
 planned s text = record { size = s.sectors; log = s.log_sectors; manifest = contents_in text }
 
--- the sectors are a manifest's that names no table, and the superblock names them
+-- the sectors are a manifest's that the superblock may name, and the superblock names them
 pub record IsPrepared (s : Superblock) (text : List ℕ) : Type 0 where
   pub superblock : IsSuperblock s
   pub manifest : IsManifest (contents_in text)
-  pub plain : length (contents_in text).tables ≡ 0
+  pub inside : LieInside s.sectors s.log_sectors (contents_in text).tables
   pub spelled : text ≡ manifest_bytes (contents_in text)
   pub generation : (contents_in text).generation ≡ s.generation
   pub sectors : s.manifest_sectors ≡ sector_count (contents_in text)

@@ -1,9 +1,13 @@
 -- The root of a store: what its superblocks and the manifest that they name say.
-use Rattle.std.specs.Prelude.{ℕ, ◌+◌, ◌%◌, Bool, ◌&&◌, ◌==◌, nat_lt, List, [], length, slice_index_or, Option, Some, None, if◌then◌else◌}
+use Rattle.std.specs.Prelude.{ℕ, ◌+◌, ◌%◌, Bool, ◌&&◌, ◌==◌, nat_le, nat_lt, List, [], length, slice_index_or, Option, Some, None, if◌then◌else◌}
+use Rattle.std.specs.List.{list_all}
 use Rattle.std.specs.Str.{bytes_eq}
 use Rattle.lsm_codec.specs.declared.superblock.Superblock.{Superblock}
+use Rattle.lsm_codec.specs.declared.table_record.TableRecord.{TableRecord}
+use Rattle.lsm_codec.specs.Geometry.{data_blocks_of}
 use Rattle.lsm_codec.specs.Superblocks.{superblock_of}
 use Rattle.lsm_codec.specs.Manifests.{Contents, manifest_of}
+use Rattle.lsm_codec.specs.TableRecords.{extent_end}
 use Rattle.lsm_codec.specs.Formats.{blank}
 use Rattle.lsm_device.specs.Areas.{area}
 use Rattle.lsm_root.specs.Layout.{place}
@@ -59,18 +63,22 @@ pub data Root : Type 0 where
   Damaged : Root
   -- the one that counts is of a device of another size, or there is no place for two
   OtherSize : Root
-  -- the sectors that it names spell no manifest of its generation, or one with tables
+  -- the sectors that it names spell no manifest, or one that it may not name
   Unreadable : Root
   -- LOG and the manifest
   Stands : (log : ℕ) (manifest : Contents) → Root
 
--- whether the manifest is of the superblock's generation and names no table, since no store serves tables yet
-abbrev pub is_served : Superblock → Contents → Bool
-is_served s c = (c.generation == s.generation) && (length c.tables == 0)
+-- whether a table's extent lies in a data area of so many blocks
+abbrev pub lies_inside : ℕ → TableRecord → Bool
+lies_inside blocks t = nat_le (extent_end t) blocks
+
+-- whether a superblock may name a manifest: it is of the superblock's generation, and its tables lie in the data area
+abbrev pub may_name : Superblock → Contents → Bool
+may_name s c = (c.generation == s.generation) && list_all (lies_inside (data_blocks_of s.sectors s.log_sectors)) c.tables
 
 abbrev pub root_with : Superblock → Option Contents → Root
 root_with s None = Unreadable
-root_with s (Some c) = if is_served s c then Stands s.log_sectors c else Unreadable
+root_with s (Some c) = if may_name s c then Stands s.log_sectors c else Unreadable
 
 abbrev pub root_by : Reading → List (List ℕ) → Root
 root_by Blank image = Missing

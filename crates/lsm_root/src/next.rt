@@ -1,5 +1,5 @@
 // The next root is prepared, and then written.
-ghost use Rattle.std.specs.Prelude.{◌≡◌, ◌⊎◌, ◌↔◌, ◌<◌, ◌≤◌, ◌^◌, ◌+◌, length, IsTrue, IfOk, OnOk, OnErr, IfErr, Err, is_ok};
+ghost use Rattle.std.specs.Prelude.{◌≡◌, ◌⊎◌, ◌↔◌, ◌<◌, ◌≤◌, ◌^◌, ◌+◌, IsTrue, IfOk, OnOk, OnErr, IfErr, Err, is_ok};
 ghost use Rattle.lsm_codec.specs.Manifests.{IsManifest, sector_count};
 ghost use Rattle.lsm_device.specs.Calls.{faults_after, AtMost};
 ghost use Rattle.lsm_device.specs.History.{EachSince};
@@ -8,7 +8,7 @@ ghost use Rattle.lsm_device.specs.Outcomes.{Leaves};
 ghost use Rattle.lsm_device.specs.Refusals.{faultless, is_no_fault};
 ghost use Rattle.lsm_root.specs.Counted.{CallsMade};
 ghost use Rattle.lsm_root.specs.Installed.{IsReady, IsOldOrNew, IsInstalled, KeepsBehind};
-ghost use Rattle.lsm_root.specs.Layout.{IsGeometry};
+ghost use Rattle.lsm_root.specs.Layout.{IsGeometry, LieInside};
 ghost use Rattle.lsm_root.specs.Roots.{Stands};
 
 use crate::writer::switch;
@@ -38,9 +38,9 @@ impl<A: Allocator> Model for NextRoot<A> {
 }
 
 impl<A: Allocator> NextRoot<A> {
-    /// Takes all memory that the installation of the manifest's root needs, for a device of so many sectors. The manifest
-    /// names no table, since no store serves tables yet. No device is called. `Exhausted` just where the generation is
-    /// above 2^63; else only want of memory refuses, with `NoMemory`.
+    /// Takes all memory that the installation of the manifest's root needs, for a device of so many sectors. Up to generation
+    /// 2^63 the manifest is within its limits, and its tables lie in the data area. No device is called. `Exhausted` just
+    /// where the generation is above 2^63; else only want of memory refuses, with `NoMemory`.
     pub fn prepare(
         alloc: A,
         sectors: u32,
@@ -49,7 +49,7 @@ impl<A: Allocator> NextRoot<A> {
     ) -> Result<NextRoot<A>, Refusal>
         requires geometry { IsGeometry sectors log_sectors }
         requires valid { manifest.now.generation ≤ 2 ^ 63 → IsManifest manifest.now }
-        requires plain { length manifest.now.tables ≡ 0 }
+        requires inside { manifest.now.generation ≤ 2 ^ 63 → LieInside sectors log_sectors manifest.now.tables }
         ensures prepared { IfOk result (λ next. next ≡ record { size = sectors; log = log_sectors; manifest = manifest.now }) }
         ensures exhausted { (result ≡ Err Refusal.Exhausted) ↔ (2 ^ 63 < manifest.now.generation) }
         ensures refused { IfErr result (λ refusal. (refusal ≡ Refusal.Exhausted) ⊎ (refusal ≡ Refusal.NoMemory)) }
@@ -68,8 +68,8 @@ impl<A: Allocator> NextRoot<A> {
         Ok(NextRoot { superblock, text })
     }
 
-    /// Replaces the device's root by this one: the manifest's sectors, a sync, the superblock, a sync. A crash at any
-    /// moment leaves the old root or this one. It takes no memory.
+    /// Replaces the device's root by this one: the manifest's sectors, which are at most 37, a sync, the superblock, a sync.
+    /// A crash at any moment leaves the old root or this one. It takes no memory.
     pub fn install<D: Device>(&self, device: &mut D) -> Result<(), Fault>
         requires same_device { (D.medium device.old).size ≡ self.now.size }
         requires ready { IsTrue (D.medium device.old).lasting.tells → IsReady (D.medium device.old).size self.now.log self.now.manifest.generation (disk (D.medium device.old)) }
@@ -119,7 +119,7 @@ pub fn install<A: Allocator, D: Device>(
     requires geometry { IsGeometry (D.medium device.old).size log_sectors }
     requires ready { IsTrue (D.medium device.old).lasting.tells → IsReady (D.medium device.old).size log_sectors manifest.now.generation (disk (D.medium device.old)) }
     requires valid { manifest.now.generation ≤ 2 ^ 63 → IsManifest manifest.now }
-    requires plain { length manifest.now.tables ≡ 0 }
+    requires inside { manifest.now.generation ≤ 2 ^ 63 → LieInside (D.medium device.old).size log_sectors manifest.now.tables }
 
     // A crash at any moment leaves the old root, and behind it what a crash may have left when the call began, or the
     // new root, and then all that pended stands.

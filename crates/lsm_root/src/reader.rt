@@ -7,12 +7,13 @@ ghost use Rattle.lsm_device.specs.Calls.{faults_after, AtMost};
 ghost use Rattle.lsm_device.specs.Disk.{seen};
 ghost use Rattle.lsm_device.specs.Medium.{disk};
 ghost use Rattle.lsm_device.specs.Refusals.{faultless};
-ghost use Rattle.lsm_root.specs.Layout.{IsGeometry};
+ghost use Rattle.lsm_root.specs.Layout.{IsGeometry, LieInside};
 ghost use Rattle.lsm_root.specs.Loaded.{Tells, TellsSuperblock, TellsCounted, TellsManifest, Reads, refusal_of};
 ghost use Rattle.lsm_root.specs.Installed.{IsNext};
 ghost use Rattle.lsm_root.specs.Pieces.{joined};
 ghost use Rattle.lsm_root.specs.Roots.{Root, Names, reading_of, in_slot, follows, newer, superblock_in, root_with, root_of};
 
+use crate::inside::lie_inside;
 use crate::writer::{AREA_SECTORS, SUPERBLOCKS};
 use lsm_codec::{Manifest, Superblock};
 use lsm_device::{Device, Refusal};
@@ -147,7 +148,7 @@ fn read_text<A: Allocator + Clone, D: Device>(
     Ok(text)
 }
 
-// What a text says that the superblock names. A manifest with tables is refused: no store serves them yet.
+// What a text says that the superblock names.
 fn loaded_from<A: Allocator + Clone>(
     alloc: A,
     superblock: &Superblock,
@@ -156,6 +157,7 @@ fn loaded_from<A: Allocator + Clone>(
     requires fits { IsSuperblock superblock.now }
     ensures told { TellsManifest (root_with superblock.now (manifest_of text.now)) result }
     ensures fits { IfOk result (λ l. IsGeometry superblock.now.sectors l.log_sectors × IsManifest l.manifest) }
+    ensures inside { IfOk result (λ l. LieInside superblock.now.sectors l.log_sectors l.manifest.tables) }
 {
     let Some(manifest) = Manifest::decode(alloc, text)? else {
         return Err(Refusal::BadManifest);
@@ -163,7 +165,11 @@ fn loaded_from<A: Allocator + Clone>(
     if manifest.generation() != superblock.generation {
         return Err(Refusal::BadManifest);
     }
-    if !manifest.tables().is_empty() {
+    if !lie_inside(
+        manifest.tables(),
+        superblock.sectors,
+        superblock.log_sectors,
+    ) {
         return Err(Refusal::BadManifest);
     }
     Ok(Loaded {
@@ -173,12 +179,17 @@ fn loaded_from<A: Allocator + Clone>(
 }
 
 /// Reads the root, by at most 66 reads. It answers what the root of the device's sectors is: LOG and the manifest of the
-/// greater generation, or why there is none; or `NoMemory`, or `Io` where a read failed.
+/// greater generation, with the tables that it names, or why there is none; or `NoMemory`, or `Io` where a read failed.
+///
+/// `NotAStore` where both superblocks are blank, `BadSuper` where else none of them counts, `BadGeometry` where the one that
+/// counts is another device's, and `BadManifest` where its sectors spell no manifest, one of another generation, or one
+/// with a table that doesn't lie in the data area.
 pub fn load<A: Allocator + Clone, D: Device>(alloc: A, device: &mut D) -> Result<Loaded<A>, Refusal>
     ensures loaded { IsTrue (D.medium device.old).lasting.tells → Tells (root_of (seen (disk (D.medium device.old)))) result }
 
     // So it is of any device, whether it tells what it holds or not.
     ensures fits { IfOk result (λ l. IsGeometry (D.medium device.old).size l.log_sectors × IsManifest l.manifest) }
+    ensures inside { IfOk result (λ l. LieInside (D.medium device.old).size l.log_sectors l.manifest.tables) }
     ensures refused { IfErr result (λ refusal. ((root : Root) × (refusal_of root ≡ Some refusal)) ⊎ ((refusal ≡ Refusal.NoMemory) ⊎ (refusal ≡ Refusal.Io))) }
 
     // The next generation may be installed.

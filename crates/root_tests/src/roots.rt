@@ -6,7 +6,7 @@ use crate::quiet::Quiet;
 use linked_list_allocator::LocalHeap;
 use lsm_codec::{LogRecord, Manifest, Superblock};
 use lsm_device::{Device, MemDevice, Refusal};
-use lsm_root::{install, load};
+use lsm_root::{install, lie_inside, load};
 use std::alloc::Global;
 use std::test::Fail;
 
@@ -82,8 +82,8 @@ fn try_install(
     if manifest.generation() <= 1 << 63 && !manifest.is_within_limits() {
         return Err("a manifest within the limits".into());
     }
-    if !manifest.tables().is_empty() {
-        return Err("a manifest without a table".into());
+    if !lie_inside(manifest.tables(), device.sectors(), LOG) {
+        return Err("tables in the data area".into());
     }
     Ok(install(alloc, device, LOG, &manifest).err())
 }
@@ -343,27 +343,6 @@ fn refused_with(alloc: Global, at: usize, byte: u8) -> Result<Option<Refusal>, F
     Ok(load(alloc, &mut device).err())
 }
 
-/// Whether a device is refused whose third generation has a manifest that names a table.
-fn is_refused_with_a_table(alloc: Global) -> Result<bool, Fail> {
-    let mut device = installed(alloc, 3)?;
-    let mut sector = BLANK;
-    device.read_into(66, &mut sector)?;
-    // Table number 2 comes next, one run and one record; then table 1, with a data block, an index block and an entry.
-    for at in [29usize, 31, 39, 46, 47, 49] {
-        sector[at] = 1;
-    }
-    sector[27] = 2;
-    put(&mut device, 66, &sector)?;
-    let is_manifest = Manifest::decode(alloc, &sector)?.is_some();
-    Ok(is_manifest && load(alloc, &mut device).err() == Some(Refusal::BadManifest))
-}
-
-#[test]
-fn a_manifest_with_a_table_is_refused(rt: HostRuntime) -> Result<(), Fail> {
-    assert!(rt; is_refused_with_a_table(rt.alloc())?);
-    Ok(())
-}
-
 /// The generation of a store of three whose even superblock is blank.
 fn lone_generation(alloc: Global) -> Result<u64, Fail> {
     let mut device = installed(alloc, 3)?;
@@ -469,7 +448,7 @@ fn is_refused_without_memory(alloc: Global) -> Result<bool, Fail> {
     if !is_geometry(device.sectors(), LOG) || !next.is_within_limits() {
         return Ok(false);
     }
-    if !next.tables().is_empty() {
+    if !lie_inside(next.tables(), device.sectors(), LOG) {
         return Ok(false);
     }
     let changes = device.changes();

@@ -1,10 +1,11 @@
-use Rattle.std.proofs.Common.{◌≡◌, ◌∙◌, List, [], length, ap, subst, sym}
+use Rattle.std.proofs.Common.{◌≡◌, ◌∙◌, List, [], ap, subst, sym}
 use Rattle.lsm_codec.specs.Manifests.{Contents, IsManifest}
 use Rattle.lsm_codec.specs.declared.log_record.LogRecord.{LogRecord}
 use Rattle.lsm_codec.specs.declared.table_record.TableRecord.{TableRecord}
 use Rattle.lsm_open.specs.Formatted.{empty_manifest}
 use Rattle.lsm_open.proofs.Zeroed.{empty_is_manifest}
 use Rattle.lsm_root.specs.Planned.{Planned}
+use Rattle.lsm_root.proofs.Naming.{none_elsewhere}
 use Rattle.lsm_open.proofs.formatting.empty_root.Goals as goal
 
 abbrev with_records : List LogRecord → List TableRecord → Contents
@@ -16,8 +17,8 @@ prepare-requires-clause-valid g c = λ low.
     c.new-manifest.ensures ∙ ap (λ (logs : List LogRecord). with_records logs c.new-tables.result.items) c.new-logs.ensures.items ∙ ap (with_records []) c.new-tables.ensures.items in
     subst IsManifest (sym manifest) empty_is_manifest
 
-pub prepare-requires-clause-plain : goal.prepare-requires-clause-plain
-prepare-requires-clause-plain g c = ap (λ (m : Contents). length m.tables) c.new-manifest.ensures ∙ ap length c.new-tables.ensures.items
+pub prepare-requires-clause-inside : goal.prepare-requires-clause-inside
+prepare-requires-clause-inside g c = λ low. none_elsewhere c.args.sectors c.args.log_sectors _ (ap (λ (m : Contents). m.tables) c.new-manifest.ensures ∙ c.new-tables.ensures.items)
 
 pub returns-clause-root : goal.returns-clause-root
 returns-clause-root g c =

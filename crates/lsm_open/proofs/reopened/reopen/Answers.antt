@@ -1,4 +1,4 @@
-use Rattle.std.proofs.Common.{◌+◌, length, ap, subst}
+use Rattle.std.proofs.Common.{◌+◌, ap, subst}
 use Rattle.lsm_codec.specs.Manifests.{Contents, sector_count}
 use Rattle.lsm_device.specs.History.{EachSince}
 use Rattle.lsm_device.specs.Medium.{disk}
@@ -10,6 +10,7 @@ use Rattle.lsm_open.proofs.OpeningMoments.{installs}
 use Rattle.lsm_root.specs.Counted.{CallsMade}
 use Rattle.lsm_root.specs.Installed.{IsOldOrNew, IsInstalled}
 use Rattle.lsm_root.specs.Roots.{Stands}
+use Rattle.lsm_root.proofs.Naming.{none_elsewhere}
 use Rattle.lsm_root.proofs.Switched.{none_leaves}
 use Rattle.lsm_open.proofs.reopened.reopen.Goals as goal
 
@@ -25,8 +26,8 @@ install-requires-clause-valid g c = λ le.
     let says = installs c.args.loaded.now.log_sectors c.args.count m c.in_ok-manifest.manifest c.args.closed.items (layout_of c.next_regions-regions.result) c.in_ok-manifest.ensures c.next_regions-regions.ensures.layout c.next_regions-regions.ensures.kept in
     rw says (next_fits m c.args.count c.args.closed.items c.requires.fits c.requires.come c.requires.has_next)
 
-pub install-requires-clause-plain : goal.install-requires-clause-plain
-install-requires-clause-plain g c = ap (λ (m : Contents). length m.tables) c.in_ok-manifest.ensures
+pub install-requires-clause-inside : goal.install-requires-clause-inside
+install-requires-clause-inside g c = λ le. none_elsewhere _ c.args.loaded.now.log_sectors _ (ap (λ (m : Contents). m.tables) c.in_ok-manifest.ensures)
 
 pub returns-clause-any_moment : goal.returns-clause-any_moment
 returns-clause-any_moment g c = λ t.

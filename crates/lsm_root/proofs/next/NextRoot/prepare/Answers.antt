@@ -1,4 +1,4 @@
-use Rattle.std.proofs.Common.{arith, sym, refl}
+use Rattle.std.proofs.Common.{◌≤◌, ◌^◌, arith, sym, refl}
 use Rattle.lsm_root.proofs.Preparing.{plans, prepares}
 use Rattle.lsm_root.proofs.next.NextRoot.prepare.Goals as goal
 
@@ -25,7 +25,8 @@ sectors-requires-clause-tables g c =
 pub invariant_of-result : goal.invariant_of-result
 invariant_of-result g c =
     let fits = c.requires.valid (omega (arith, c.generation-generation.ensures, c.if-generation-gt-LAST_GENERATION.false)) in
-    prepares _ c.args.manifest.now fits c.in_ok-text.ensures.spelled _ c.requires.geometry c.requires.plain (sym c.generation-generation.ensures) c.sectors.ensures.fewest
+    let low : c.args.manifest.now.generation ≤ 2 ^ 63 = omega (arith, c.generation-generation.ensures, c.if-generation-gt-LAST_GENERATION.false) in
+    prepares _ c.args.manifest.now fits c.in_ok-text.ensures.spelled _ c.requires.geometry (c.requires.inside low) (sym c.generation-generation.ensures) c.sectors.ensures.fewest
 
 pub returns-clause-prepared : goal.returns-clause-prepared
 returns-clause-prepared g c =

@@ -1,0 +1,22 @@
+// Where tables lie.
+ghost use Rattle.std.specs.Prelude.{◌≤◌, ◌↔◌, IsTrue};
+ghost use Rattle.lsm_codec.specs.TableRecords.{extent_end};
+ghost use Rattle.lsm_root.specs.Layout.{IsGeometry, LieInside};
+
+use lsm_codec::{TableRecord, data_blocks};
+
+// Whether a table's extent lies in a data area of so many blocks.
+fn lies_inside(table: &TableRecord, blocks: u32) -> bool
+    ensures { IsTrue result ↔ extent_end table.now ≤ blocks }
+{
+    table.first_block as u64 + table.extent_blocks() as u64 <= blocks as u64
+}
+
+/// Whether the extents of tables lie in the data area of a device of so many sectors, with so many in each log region.
+pub fn lie_inside(tables: &[TableRecord], sectors: u32, log_sectors: u16) -> bool
+    requires { IsGeometry sectors log_sectors }
+    ensures { IsTrue result ↔ LieInside sectors log_sectors tables.now }
+{
+    let blocks = data_blocks(sectors, log_sectors);
+    tables.iter().all(|table| lies_inside(table, blocks))
+}
