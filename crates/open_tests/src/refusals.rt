@@ -3,6 +3,7 @@ use crate::devices::{
     SECTORS, formatted, fresh, open_log, opened, put, refused, sector, value_of, with_one_batch,
 };
 use lsm_device::{MemDevice, Refusal};
+use lsm_root::load;
 use std::alloc::Global;
 use std::test::Fail;
 
@@ -52,6 +53,34 @@ fn damaged_roots(rt: HostRuntime) -> Result<(), Fail> {
             "{at} {place}"
         );
     }
+    Ok(())
+}
+
+/// Names a table in the manifest of a store, behind its log record: table 1 in level 1, with a data block, an index block
+/// and an entry; table 2 comes next.
+fn name_table(device: &mut MemDevice) -> Result<(), Fail> {
+    let mut bytes = sector(device, 2)?;
+    for at in [31usize, 56, 57, 63, 64, 66] {
+        bytes[at] = 1;
+    }
+    bytes[27] = 2;
+    put(device, 2, &bytes)
+}
+
+/// A device whose root names a table.
+fn with_table(alloc: Global) -> Result<MemDevice, Fail> {
+    let mut device = fresh(alloc)?;
+    name_table(&mut device)?;
+    if load(alloc, &mut device)?.manifest.tables().len() != 1 {
+        return Err("a root with a table".into());
+    }
+    Ok(device)
+}
+
+#[test]
+fn a_root_with_a_table_is_not_served_yet(rt: HostRuntime) -> Result<(), Fail> {
+    let device = with_table(rt.alloc())?;
+    assert!(rt; is_refused_with(rt.alloc(), device, Refusal::BadManifest)?);
     Ok(())
 }
 

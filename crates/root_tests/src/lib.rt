@@ -5,3 +5,5 @@
 mod quiet;
 #[cfg(test)]
 mod roots;
+#[cfg(test)]
+mod tables;

@@ -12,9 +12,9 @@ use std::test::Fail;
 
 const SECTORS: u32 = 8_192;
 
-const LOG: u16 = 128;
+pub const LOG: u16 = 128;
 
-const BLANK: [u8; 512] = [0; 512];
+pub const BLANK: [u8; 512] = [0; 512];
 
 const ONES: [u8; 512] = [0xff; 512];
 
@@ -62,7 +62,7 @@ fn first_byte<D: Device>(device: &mut D, at: u32) -> Result<u8, Fail> {
     Ok(out[0])
 }
 
-fn is_geometry(sectors: u32, log_sectors: u16) -> bool
+pub fn is_geometry(sectors: u32, log_sectors: u16) -> bool
     ensures { IsTrue result ↔ IsGeometry sectors log_sectors }
 {
     (8_192..=1_048_576).contains(&sectors) && (128..=2_048).contains(&log_sectors)
