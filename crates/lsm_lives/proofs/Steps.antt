@@ -11,6 +11,7 @@ use Rattle.lsm_device.specs.Outcomes.{Leaves}
 use Rattle.lsm_device.proofs.Moments.{started, joined, weaker, ended}
 use Rattle.lsm_open.specs.CrashState.{CrashState}
 use Rattle.lsm_open.specs.Image.{IsImageOfOne}
+use Rattle.lsm_open.proofs.OneMeaning.{one_meaning}
 use Rattle.lsm_store.specs.Backing.{StoreView, IsBacked, machine_of}
 use Rattle.lsm_store.specs.Calls.{Reply}
 use Rattle.lsm_store.specs.Crash.{may_leave}
@@ -23,14 +24,9 @@ use Rattle.lsm_lives.specs.declared.calls.Call.{Call as Asked}
 use Rattle.lsm_lives.specs.declared.calls.Reply.{Reply as Told}
 use Rattle.lsm_lives.specs.Replaying.{Replays, GoOn, faults_told}
 
-first_or : ℕ → Option (ℕ × CrashState) → ℕ
-first_or n (Some both) = both.0
-first_or n None = n
-
 -- sectors are an image in one format alone
 same_format : (a b : ℕ) (xs ys : List CrashState) (sectors : List (List ℕ)) → IsImageOfOne a xs sectors → IsImageOfOne b ys sectors → a ≡ b
-unfolding first_or
-same_format a b xs ys sectors (left, in_xs, p) (other, in_ys, q) = ap (first_or a) (sym p.means ∙ q.means)
+same_format a b xs ys sectors (left, in_xs, p) (other, in_ys, q) = (one_meaning a b left other sectors p.stands q.stands).0
 
 -- so it is of a disk of which each crash leaves some of one format, and some of another
 pub one_format : (a b : ℕ) (xs ys : List CrashState) (d : Disk) → Leaves (IsImageOfOne a xs) d → Leaves (IsImageOfOne b ys) d → a ≡ b

@@ -7,24 +7,19 @@ use Rattle.lsm_device.specs.Disk.{Disk, Write, written, kept, image}
 use Rattle.lsm_device.specs.Outcomes.{Leaves}
 use Rattle.lsm_log.specs.Opened.{has_epoch_above, is_above, HasNoneAbove}
 use Rattle.lsm_open.specs.CrashState.{formatted}
-use Rattle.lsm_open.specs.Formatted.{IsFormatted}
-use Rattle.lsm_open.specs.Image.{served, image_by, image_of, IsImage}
-use Rattle.lsm_root.specs.Roots.{Root}
+use Rattle.lsm_open.specs.Formatted.{empty_manifest, IsFormatted}
+use Rattle.lsm_open.specs.Image.{served, IsImage}
+use Rattle.lsm_open.proofs.PlainImages.{image_from}
 
 blank_is_old : is_above 1 blank ≡ false
 blank_is_old = ap (has_epoch_above 1) part_laws_hold.none
 
-empty_image : (log : ℕ) (d : Disk) → IsFormatted log d → image_of d.stands ≡ Some (log, formatted)
-unfolding image_of
-empty_image log d is = ap (λ (r : Root). image_by d.stands (served r)) is.root
-
 pub formatted_leaves : (log : ℕ) (d : Disk) → IsFormatted log d → Leaves (IsImage log formatted) d
 formatted_leaves log d is mask =
     let same : image mask d ≡ d.stands = ap (λ (ws : List Write). written d.stands (kept mask ws)) is.settled ∙ ap (written d.stands) (kept_none mask) in
-    subst (IsImage log formatted) (sym same) (record {
-      means = empty_image log d is;
-      fresh = subst (HasNoneAbove 1) (sym is.regions) (All-replicate (λ (s : List ℕ). is_above 1 s ≡ false) (3 * log) blank blank_is_old);
-    })
+    subst (IsImage log formatted) (sym same) (image_from log formatted d.stands empty_manifest
+    (record { root = ap served is.root; follows = refl; left_is = refl })
+    (subst (HasNoneAbove 1) (sym is.regions) (All-replicate (λ (s : List ℕ). is_above 1 s ≡ false) (3 * log) blank blank_is_old)))
   where
     kept_none : (mask : List Bool) → kept mask [] ≡ []
     kept_none mask = refl

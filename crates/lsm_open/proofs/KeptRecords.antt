@@ -5,7 +5,7 @@ use Rattle.std.proofs.lemmas.List.{length-append}
 use Rattle.std.proofs.lemmas.List.Elements.{All-nil, All-cons}
 use Rattle.lsm_codec.specs.declared.log_record.LogRecord.{LogRecord}
 use Rattle.lsm_codec.specs.Map.{Operation}
-use Rattle.lsm_open.specs.Image.{batches_at, all_batches, follow_on, one_if_some, regions_with_batches}
+use Rattle.lsm_open.specs.LogRegions.{batches_at, all_batches, follow_on, one_if_some, regions_with_batches}
 use Rattle.lsm_open.specs.Reopening.{kept_before, kept_records}
 
 abbrev Sectors : Type 0

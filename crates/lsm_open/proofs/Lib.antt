@@ -1,6 +1,7 @@
 pub mod Openings
 pub mod KeptRecords
 pub mod Served
+pub mod PlainImages
 pub mod NextImages
 pub mod NextManifests
 pub mod ReplaySteps
@@ -10,3 +11,18 @@ pub mod Zeroed
 pub mod EmptyStores
 pub mod OpeningRefusals
 pub mod CountedCalls
+pub mod HeldRegions
+pub mod ListPairs
+pub mod NewestFound
+pub mod InPlace
+pub mod VersionOrders
+pub mod TableFrames
+pub mod HeldPlacements
+pub mod FreeWrites
+pub mod Switches
+pub mod NewLogs
+pub mod Rotating
+pub mod Flushing
+pub mod Merging
+pub mod OpeningSteps
+pub mod OneMeaning

@@ -15,10 +15,14 @@ use Rattle.lsm_log.specs.Replay.{replay}
 use Rattle.lsm_log.proofs.Epochs.{later_is_free, none_above_more}
 use Rattle.lsm_log.proofs.Logs.{none_read}
 use Rattle.lsm_open.specs.CrashState.{CrashState, in_next_generation}
-use Rattle.lsm_open.specs.Image.{first_region, region_start, batches_at, all_batches, follow_on, one_if_some, regions_with_batches, served, left_in, image_by, image_of, IsImage}
+use Rattle.lsm_open.specs.Image.{served, IsImage}
+use Rattle.lsm_open.specs.LogRegions.{first_region, region_start, batches_at, all_batches, follow_on, one_if_some, regions_with_batches}
 use Rattle.lsm_open.specs.Reopening.{kept_records, is_free, least_free, new_records, next_contents}
 use Rattle.lsm_open.proofs.KeptRecords.{all_batches-append, regions-append, follow_on-append, same_batches, same_regions, same_follow, batches_agree, regions_agree, follow_agree}
-use Rattle.lsm_root.specs.Roots.{Root, Missing, Damaged, OtherSize, Unreadable, Stands, root_of}
+use Rattle.lsm_open.proofs.PlainImages.{plain_left, StandsFor, image_fresh, image_from}
+use Rattle.lsm_open.proofs.Served.{same_stands}
+use Rattle.lsm_open.proofs.TableFrames.{same_meaning}
+use Rattle.lsm_root.specs.Roots.{Stands, root_of}
 
 abbrev Sectors : Type 0
 Sectors = List (List ℕ)
@@ -46,74 +50,12 @@ module _ (c e : Sectors) (same : drop 130 c ≡ drop 130 e) where
   pub fresh_behind : (generation n : ℕ) → HasNoneAbove generation (area first_region n e) → HasNoneAbove generation (area first_region n c)
   fresh_behind generation n none = subst (HasNoneAbove generation) (ap (take n) (sym same)) none
 
-  left_behind : (n : ℕ) (m : Contents) → left_in n c m ≡ left_in n e m
-  left_behind n m =
-      ap (λ (bs : Batches). made bs (regions_with_batches n c m.logs)) (batches_agree n c e (batches_behind n) m.logs)
-      ∙ ap (λ (k : ℕ). made (all_batches n e m.logs) k) (regions_agree n c e (batches_behind n) m.logs)
-    where
-      made : Batches → ℕ → CrashState
-      made bs k = record { count = m.base + length bs; map = apply_all finite.empty bs; closed = k; generation = m.generation }
-
-  image_behind : (root : Root) → image_by c root ≡ image_by e root
-  image_behind Missing = refl
-  image_behind Damaged = refl
-  image_behind OtherSize = refl
-  image_behind Unreadable = refl
-  image_behind (Stands n m) =
-      ap (λ (b : Bool). cond b (Some (n, left_in n c m)) None) (follow_agree n c e (batches_behind n) (m.base + 1) m.logs)
-      ∙ ap (λ (x : CrashState). cond (follow_on n e (m.base + 1) m.logs) (Some (n, x)) None) (left_behind n m)
-
   -- with the same root they stand for the same
   pub same_image : (n : ℕ) (left : CrashState) → root_of c ≡ root_of e → IsImage n left e → IsImage n left c
-  unfolding image_of
-  same_image n left root is = record {
-    means = ap (λ (r : Root). image_by c (served r)) root ∙ image_behind (served (root_of e)) ∙ is.means;
-    fresh = fresh_behind left.generation (3 * n) is.fresh;
-  }
-
--- ---- the manifest of an image
-
--- the manifest stands, its regions follow on, and the crash state is what it says
-pub record StandsFor (n : ℕ) (left : CrashState) (sectors : Sectors) (m : Contents) : Type 0 where
-  pub root : served (root_of sectors) ≡ Stands n m
-  pub follows : follow_on n sectors (m.base + 1) m.logs ≡ true
-  pub left_is : left ≡ left_in n sectors m
-
-abbrev an_image : ℕ × CrashState
-an_image = (0, record { count = 0; map = finite.empty; closed = 0; generation = 0 })
-
-abbrev said : ℕ → CrashState → ℕ × CrashState
-said n left = (n, left)
-
-stands_if : (n k : ℕ) (left : CrashState) (sectors : Sectors) (m : Contents) (b : Bool) → follow_on k sectors (m.base + 1) m.logs ≡ b → served (root_of sectors) ≡ Stands k m
-    → cond b (Some (said k (left_in k sectors m))) None ≡ Some (said n left) → StandsFor n left sectors m
-stands_if n k left sectors m true follows root is =
-    let size : k ≡ n = ap (λ (o : Option (ℕ × CrashState)). (unwrap_or o an_image).0) is in
-    let state : left_in k sectors m ≡ left = ap (λ (o : Option (ℕ × CrashState)). (unwrap_or o an_image).1) is in
-    subst (λ (j : ℕ). StandsFor j left sectors m) size (record { root = root; follows = follows; left_is = sym state })
-stands_if n k left sectors m false follows root is = absurd (cc)
-
-stands_by : (n : ℕ) (left : CrashState) (sectors : Sectors) (root : Root) → served (root_of sectors) ≡ root → image_by sectors root ≡ Some (said n left) → (m : Contents) × StandsFor n left sectors m
-stands_by n left sectors Missing root is = absurd (cc)
-stands_by n left sectors Damaged root is = absurd (cc)
-stands_by n left sectors OtherSize root is = absurd (cc)
-stands_by n left sectors Unreadable root is = absurd (cc)
-stands_by n left sectors (Stands k m) root is = (m, stands_if n k left sectors m (follow_on k sectors (m.base + 1) m.logs) refl root is)
-
-pub manifest_of_image : (n : ℕ) (left : CrashState) (sectors : Sectors) → IsImage n left sectors → (m : Contents) × StandsFor n left sectors m
-unfolding image_of
-manifest_of_image n left sectors is = stands_by n left sectors (served (root_of sectors)) refl is.means
-
--- the manifest that stands in an image is the one that it is read by
-pub stands_here : (n k : ℕ) (left : CrashState) (sectors : Sectors) (m : Contents) → IsImage n left sectors → served (root_of sectors) ≡ Stands k m → (k ≡ n) × StandsFor n left sectors m
-unfolding image_of
-stands_here n k left sectors m is root =
-    let says : image_by sectors (Stands k m) ≡ Some (said n left) = ap (image_by sectors) (sym root) ∙ is.means in
-    (size (follow_on k sectors (m.base + 1) m.logs) says, stands_if n k left sectors m (follow_on k sectors (m.base + 1) m.logs) refl root says)
-  where
-    size : (b : Bool) → cond b (Some (said k (left_in k sectors m))) None ≡ Some (said n left) → k ≡ n
-    size true e = ap (λ (o : Option (ℕ × CrashState)). (unwrap_or o an_image).0) e
-    size false e = absurd (cc)
+  same_image n left root is =
+      let there = same_meaning n c e left same root is.stands in
+      let named = (same_stands n n is.stands.manifest there.manifest (sym is.stands.root ∙ sym root ∙ there.root)).1 in
+      record { stands = there; root = ap served root ∙ is.root ∙ ap (λ (m : Contents). Stands n m) named }
 
 -- ---- the next manifest
 
@@ -153,7 +95,7 @@ module _ (n : ℕ) (left : CrashState) (s i : Sectors) (m : Contents) (closed : 
   at_generation = ap (λ (x : CrashState). x.generation) stands.left_is
 
   pub fresh_here : HasNoneAbove m.generation (area first_region (3 * n) i)
-  fresh_here = subst (λ (g : ℕ). HasNoneAbove g (area first_region (3 * n) i)) at_generation (fresh_behind i s behind left.generation (3 * n) is.fresh)
+  fresh_here = subst (λ (g : ℕ). HasNoneAbove g (area first_region (3 * n) i)) at_generation (fresh_behind i s behind left.generation (3 * n) (image_fresh n left s is))
 
   pub fresh_next : HasNoneAbove (m.generation + 1) (area first_region (3 * n) i)
   fresh_next = none_above_more m.generation (m.generation + 1) (area first_region (3 * n) i) (omega arith) fresh_here
@@ -196,7 +138,7 @@ module _ (n : ℕ) (left : CrashState) (s i : Sectors) (m : Contents) (closed : 
   pub follows_here : follow_on n i (m.base + 1) next.logs ≡ true
   follows_here = follow_agree n i s (batches_behind i s behind n) (m.base + 1) next.logs ∙ next_follows n m left.count closed s kept counts stands.follows
 
-  next_left : left_in n i next ≡ in_next_generation left
+  next_left : plain_left n i next ≡ in_next_generation left
   next_left =
       ap (λ (bs : Batches). made bs (regions_with_batches n i next.logs)) next_batches
       ∙ ap (λ (k : ℕ). made (all_batches n s m.logs) k) next_regions
@@ -207,10 +149,6 @@ module _ (n : ℕ) (left : CrashState) (s i : Sectors) (m : Contents) (closed : 
 
   -- it stands for the same in the next generation
   pub next_image : root_of i ≡ Stands n next → IsImage n (in_next_generation left) i
-  unfolding image_of
-  next_image root = record {
-    means = ap (λ (r : Root). image_by i (served r)) root
-        ∙ ap (λ (b : Bool). cond b (Some (said n (left_in n i next))) None) follows_here
-        ∙ ap (λ (x : CrashState). Some (said n x)) next_left;
-    fresh = subst (λ (g : ℕ). HasNoneAbove g (area first_region (3 * n) i)) (ap (λ (g : ℕ). g + 1) (sym at_generation)) fresh_next;
-  }
+  next_image root = image_from n (in_next_generation left) i next
+      (record { root = ap served root; follows = follows_here; left_is = sym next_left })
+      (subst (λ (g : ℕ). HasNoneAbove g (area first_region (3 * n) i)) (ap (λ (g : ℕ). g + 1) (sym at_generation)) fresh_next)

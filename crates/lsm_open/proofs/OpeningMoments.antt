@@ -20,14 +20,16 @@ use Rattle.lsm_codec.specs.Versions.{Version}
 use Rattle.lsm_mem.specs.Versions.{NumberedBelow, map_of}
 use Rattle.lsm_open.specs.Answered.{IsInsideIfOpen, IsWithin}
 use Rattle.lsm_open.specs.CrashState.{CrashState, last_number, left_by_opening, MayRefuseOpening}
-use Rattle.lsm_open.specs.Image.{first_region, all_batches, served, IsImage, IsImageOfOne}
+use Rattle.lsm_open.specs.Image.{served, IsImage, IsImageOfOne}
+use Rattle.lsm_open.specs.LogRegions.{first_region, all_batches}
 use Rattle.lsm_open.specs.Layout.{Layout, manifest_for}
 use Rattle.lsm_open.specs.Opening.{root_refusal, opening_refusal, CrashesInOpening, FailsToOpen}
 use Rattle.lsm_open.specs.Recovered.{IsReopened, IsRecovered}
 use Rattle.lsm_open.specs.Reopening.{kept_records, next_contents, IsNewLog, IsNewIfOpen, IsNextLayout, HasCome, GoesOn}
 use Rattle.lsm_open.specs.declared.regions.OpenRegion.{OpenRegion}
 use Rattle.lsm_open.specs.declared.replayed.Replayed.{Replayed}
-use Rattle.lsm_open.proofs.NextImages.{StandsFor, stands_here, manifest_of_image, least_low}
+use Rattle.lsm_open.proofs.NextImages.{least_low}
+use Rattle.lsm_open.proofs.PlainImages.{StandsFor, stands_here, manifest_of_image}
 use Rattle.lsm_open.proofs.NextManifests.{closed_few, next_fits}
 use Rattle.lsm_open.proofs.Openings.{same_again}
 use Rattle.lsm_open.proofs.Served.{served_stands}

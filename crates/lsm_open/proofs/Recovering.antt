@@ -15,13 +15,15 @@ use Rattle.lsm_log.proofs.Logs.{none_read, new_open}
 use Rattle.lsm_codec.specs.Versions.{Version}
 use Rattle.lsm_mem.specs.Versions.{NumberedBelow, map_of}
 use Rattle.lsm_open.specs.CrashState.{CrashState, last_number, in_next_generation, left_by_opening}
-use Rattle.lsm_open.specs.Image.{first_region, region_start, batches_at, all_batches, follow_on, IsImage, IsImageOfOne}
+use Rattle.lsm_open.specs.Image.{IsImage, IsImageOfOne}
+use Rattle.lsm_open.specs.LogRegions.{first_region, region_start, batches_at, all_batches, follow_on}
 use Rattle.lsm_open.specs.Layout.{Layout, open_records, manifest_for, closed_batches, open_batches, IsOther, IsClosed, IsOpened, IsCarriedBy}
 use Rattle.lsm_open.specs.Recovered.{IsRecovered}
 use Rattle.lsm_open.specs.Reopening.{kept_records, least_free, new_records, next_contents, IsNewLog, IsNewIfOpen, IsNextLayout, HasCome}
 use Rattle.lsm_open.specs.declared.regions.OpenRegion.{OpenRegion}
 use Rattle.lsm_open.proofs.KeptRecords.{count_kept, all_hold, Holds}
-use Rattle.lsm_open.proofs.NextImages.{StandsFor, free_for_next, least_low, batches_behind, same_image, counts, fresh_here, fresh_next, closed_agree, follows_here, next_image}
+use Rattle.lsm_open.proofs.NextImages.{free_for_next, least_low, batches_behind, same_image, counts, fresh_here, fresh_next, closed_agree, follows_here, next_image}
+use Rattle.lsm_open.proofs.PlainImages.{StandsFor}
 use Rattle.lsm_open.proofs.NextManifests.{least_elsewhere, none_free, closed_few, closed_low, next_fits}
 use Rattle.lsm_open.proofs.Openings.{same_again, next_again}
 use Rattle.lsm_root.specs.Installed.{IsOldOrNew}

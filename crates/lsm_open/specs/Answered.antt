@@ -9,7 +9,7 @@ use Rattle.lsm_log.specs.Opened.{AreNumbers}
 use Rattle.lsm_codec.specs.Versions.{Version}
 use Rattle.lsm_mem.specs.Versions.{NumberedBelow}
 use Rattle.lsm_open.specs.CrashState.{last_number}
-use Rattle.lsm_open.specs.Image.{first_region}
+use Rattle.lsm_open.specs.LogRegions.{first_region}
 use Rattle.lsm_open.specs.Layout.{Layout, manifest_for}
 use Rattle.lsm_open.specs.Reopening.{least_free, IsNewLog}
 use Rattle.lsm_open.specs.declared.regions.OpenRegion.{OpenRegion}

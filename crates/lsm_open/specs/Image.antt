@@ -1,45 +1,58 @@
--- What the sectors of a device stand for, where all batches are in log regions.
-use Rattle.std.specs.Prelude.{◌≡◌, ℕ, ◌+◌, ◌*◌, ◌==◌, ◌&&◌, Bool, true, List, [], ◌∷◌, ◌++◌, length, Option, Some, None, Contains, if◌then◌else◌}
-use Rattle.std.specs.FinMap as finite
-use Rattle.lsm_codec.specs.declared.log_record.LogRecord.{LogRecord}
+-- What the sectors of a device stand for.
+use Rattle.std.specs.Prelude.{◌≡◌, ℕ, ◌+◌, ◌*◌, ◌==◌, true, List, [], ◌++◌, length, Contains, if◌then◌else◌}
 use Rattle.lsm_codec.specs.Manifests.{Contents}
-use Rattle.lsm_codec.specs.Map.{Operation, apply_all}
+use Rattle.lsm_codec.specs.Map.{Map}
+use Rattle.lsm_codec.specs.Versions.{Version}
 use Rattle.lsm_device.specs.Areas.{area}
 use Rattle.lsm_log.specs.Opened.{HasNoneAbove}
-use Rattle.lsm_log.specs.Replay.{replay}
+use Rattle.lsm_mem.specs.EntryOrder.{with_batches}
+use Rattle.lsm_mem.specs.Versions.{map_of}
 use Rattle.lsm_open.specs.CrashState.{CrashState}
+use Rattle.lsm_open.specs.LogRegions.{first_region, all_batches, follow_on, regions_with_batches}
+use Rattle.lsm_open.specs.Tables.{table_versions, AreTables}
 use Rattle.lsm_root.specs.Roots.{Root, Missing, Damaged, OtherSize, Unreadable, Stands, root_of}
 
--- the first sector of the log regions, which lie one behind the other
-abbrev pub first_region : ℕ
-first_region = 130
+-- how many batches there are: those in tables, and those that the regions replay to
+abbrev pub count_in : ℕ → List (List ℕ) → Contents → ℕ
+count_in log_sectors sectors m = m.base + length (all_batches log_sectors sectors m.logs)
 
--- the first sector of a region
-abbrev pub region_start : ℕ → ℕ → ℕ
-region_start log_sectors region = first_region + region * log_sectors
+-- all versions: those of the batches that the regions replay to, and those of the tables
+abbrev pub versions_in : ℕ → List (List ℕ) → Contents → List Version
+versions_in log_sectors sectors m = with_batches m.base (all_batches log_sectors sectors m.logs) [] ++ table_versions log_sectors sectors m.tables
 
--- the batches in the region of a log record
-abbrev pub batches_at : ℕ → List (List ℕ) → LogRecord → List (List Operation)
-batches_at log_sectors sectors r = replay r.epoch r.first_batch (area (region_start log_sectors r.region) log_sectors sectors)
+-- the map of the versions in tables
+abbrev pub base_map : ℕ → List (List ℕ) → Contents → Map
+base_map log_sectors sectors m = map_of (table_versions log_sectors sectors m.tables) m.base
 
--- the batches in the regions of these log records, in order
-abbrev pub all_batches : ℕ → List (List ℕ) → List LogRecord → List (List Operation)
-all_batches log_sectors sectors [] = []
-all_batches log_sectors sectors (r ∷ rest) = batches_at log_sectors sectors r ++ all_batches log_sectors sectors rest
+-- what a crash left, by the manifest that stands: the map is that of all versions at the count
+abbrev pub left_in : ℕ → List (List ℕ) → Contents → CrashState
+left_in log_sectors sectors m = record {
+  count = count_in log_sectors sectors m;
+  map = map_of (versions_in log_sectors sectors m) (count_in log_sectors sectors m);
+  closed = regions_with_batches log_sectors sectors m.logs;
+  generation = m.generation;
+}
 
--- each region's first batch comes next after those of the regions before it
-abbrev pub follow_on : ℕ → List (List ℕ) → ℕ → List LogRecord → Bool
-follow_on log_sectors sectors next [] = true
-follow_on log_sectors sectors next (r ∷ rest) = (r.first_batch == next) && follow_on log_sectors sectors (next + length (batches_at log_sectors sectors r)) rest
+-- What sectors hold for what a manifest names: the tables stand, the regions follow on, and no log sector is of an epoch
+-- above the generation.
+pub record HoldNamed (log_sectors : ℕ) (m : Contents) (sectors : List (List ℕ)) : Type 0 where
+  pub tables : AreTables log_sectors m.base m.tables sectors
+  pub follows : follow_on log_sectors sectors (m.base + 1) m.logs ≡ true
+  pub fresh : HasNoneAbove m.generation (area first_region (3 * log_sectors) sectors)
 
-abbrev pub one_if_some : List (List Operation) → ℕ
-one_if_some [] = 0
-one_if_some (batch ∷ rest) = 1
+-- Sectors stand for what a crash left, in a format with log regions of so many sectors: a manifest stands there, they hold
+-- what it names, and that is what was left.
+pub record StandFor (log_sectors : ℕ) (left : CrashState) (sectors : List (List ℕ)) : Type 0 where
+  pub manifest : Contents
+  pub root : root_of sectors ≡ Stands log_sectors manifest
+  pub holds : HoldNamed log_sectors manifest sectors
+  pub left_is : left ≡ left_in log_sectors sectors manifest
 
--- how many of the regions hold batches
-abbrev pub regions_with_batches : ℕ → List (List ℕ) → List LogRecord → ℕ
-regions_with_batches log_sectors sectors [] = 0
-regions_with_batches log_sectors sectors (r ∷ rest) = one_if_some (batches_at log_sectors sectors r) + regions_with_batches log_sectors sectors rest
+-- sectors stand for some crash state of these
+abbrev pub StandForSome : ℕ → (CrashState → Type 0) → List (List ℕ) → Type 0
+StandForSome log_sectors P sectors = (left : CrashState) × P left × StandFor log_sectors left sectors
+
+-- ---- what openings serve
 
 -- The root that an opening goes by. One whose manifest names a table is as good as unreadable: no store serves tables yet.
 abbrev pub served : Root → Root
@@ -49,33 +62,10 @@ served OtherSize = OtherSize
 served Unreadable = Unreadable
 served (Stands log_sectors manifest) = if length manifest.tables == 0 then Stands log_sectors manifest else Unreadable
 
--- what a crash left, by the manifest that stands
-abbrev pub left_in : ℕ → List (List ℕ) → Contents → CrashState
-left_in log_sectors sectors manifest = record {
-  count = manifest.base + length (all_batches log_sectors sectors manifest.logs);
-  map = apply_all finite.empty (all_batches log_sectors sectors manifest.logs);
-  closed = regions_with_batches log_sectors sectors manifest.logs;
-  generation = manifest.generation;
-}
-
-abbrev pub image_by : List (List ℕ) → Root → Option (ℕ × CrashState)
-image_by sectors Missing = None
-image_by sectors Damaged = None
-image_by sectors OtherSize = None
-image_by sectors Unreadable = None
-image_by sectors (Stands log_sectors manifest) = if follow_on log_sectors sectors (manifest.base + 1) manifest.logs
-    then Some (log_sectors, left_in log_sectors sectors manifest)
-    else None
-
--- what sectors stand for: the sectors of a log region, and what a crash left
-unfoldable pub image_of : List (List ℕ) → Option (ℕ × CrashState)
-image_of sectors = image_by sectors (served (root_of sectors))
-
--- Sectors stand for what a crash left, in a format with log regions of so many sectors. No log sector is of an epoch
--- above the generation: a region that is opened later takes no old sector for its own.
+-- Sectors stand for what a crash left, and an opening goes by their root.
 pub record IsImage (log_sectors : ℕ) (left : CrashState) (sectors : List (List ℕ)) : Type 0 where
-  pub means : image_of sectors ≡ Some (log_sectors, left)
-  pub fresh : HasNoneAbove left.generation (area first_region (3 * log_sectors) sectors)
+  pub stands : StandFor log_sectors left sectors
+  pub root : served (root_of sectors) ≡ Stands log_sectors stands.manifest
 
 -- sectors stand for one of these
 abbrev pub IsImageOfOne : ℕ → List CrashState → List (List ℕ) → Type 0

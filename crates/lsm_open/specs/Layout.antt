@@ -6,7 +6,7 @@ use Rattle.lsm_codec.specs.Map.{Operation}
 use Rattle.lsm_device.specs.Disk.{Disk, Write}
 use Rattle.lsm_device.specs.Areas.{area, disk_in}
 use Rattle.lsm_log.specs.Opened.{IsOpen, HasNoneAbove, batches_in, is_above}
-use Rattle.lsm_open.specs.Image.{first_region, region_start, batches_at, all_batches, follow_on}
+use Rattle.lsm_open.specs.LogRegions.{first_region, region_start, batches_at, all_batches, follow_on}
 use Rattle.lsm_open.specs.declared.regions.OpenRegion.{OpenRegion}
 use Rattle.lsm_open.specs.declared.regions.Regions.{Regions}
 use Rattle.lsm_root.specs.Roots.{Stands, root_of}

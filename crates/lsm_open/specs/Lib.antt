@@ -1,8 +1,13 @@
 pub mod CrashState
-pub mod Opening
+pub mod LogRegions
+pub mod Tables
 pub mod Image
+pub mod Opening
 pub mod Layout
 pub mod Recovered
 pub mod Reopening
 pub mod Answered
 pub mod Formatted
+pub mod Placements
+pub mod Replacing
+pub mod Switching

@@ -10,7 +10,8 @@ use Rattle.lsm_device.specs.Outcomes.{Leaves}
 use Rattle.lsm_device.specs.declared.refusal.Refusal.{Refusal}
 use Rattle.lsm_device.specs.declared.refusal.Refusal.TheVariants.{NoMemory, Io, Exhausted, NotAStore, BadSuper, BadManifest, BadGeometry}
 use Rattle.lsm_open.specs.CrashState.{CrashState, last_number, left_by_opening, MayRefuseOpening}
-use Rattle.lsm_open.specs.Image.{IsImageOfOne, follow_on, served}
+use Rattle.lsm_open.specs.Image.{IsImageOfOne, served}
+use Rattle.lsm_open.specs.LogRegions.{follow_on}
 use Rattle.lsm_root.specs.Roots.{Root, Missing, Damaged, OtherSize, Unreadable, Stands, root_of}
 
 abbrev pub manifest_refusal : ℕ → List (List ℕ) → Contents → Option Refusal

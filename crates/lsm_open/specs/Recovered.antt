@@ -8,7 +8,8 @@ use Rattle.lsm_codec.specs.Versions.{Version}
 use Rattle.lsm_mem.specs.Versions.{NumberedBelow, map_of}
 use Rattle.lsm_mem.specs.EntryOrder.{with_batches}
 use Rattle.lsm_open.specs.CrashState.{CrashState, last_number}
-use Rattle.lsm_open.specs.Image.{all_batches, served}
+use Rattle.lsm_open.specs.Image.{served}
+use Rattle.lsm_open.specs.LogRegions.{all_batches}
 use Rattle.lsm_open.specs.Layout.{Layout, manifest_for, closed_batches, open_batches, IsCarriedBy}
 use Rattle.lsm_open.specs.Reopening.{kept_records, IsNextLayout}
 use Rattle.lsm_root.specs.Layout.{behind}

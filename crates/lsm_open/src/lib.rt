@@ -2,6 +2,8 @@
 #![tactic(auto)]
 
 mod formatting;
+mod image_law;
+mod install_law;
 mod law;
 mod recovery;
 mod regions;
@@ -9,6 +11,14 @@ mod reopened;
 mod replayed;
 
 pub use formatting::format;
+pub use image_law::{
+    batches_apply_to_tables, crashes_leave_beginnings, free_writes_change_nothing,
+    sectors_have_one_meaning, syncs_keep_placements,
+};
+pub use install_law::{
+    flushes_may_be_installed, installs_switch, merges_may_be_installed, openings_may_be_installed,
+    rotations_may_be_installed,
+};
 pub use law::openings_leave_the_same;
 pub use recovery::{Recovered, recover};
 pub use regions::{OpenRegion, Regions};

@@ -1,6 +1,6 @@
 // Where a store's batches lie on its device.
 ghost use Rattle.std.specs.Prelude.{◌≡◌, ◌≤◌, ◌+◌, ◌*◌, length, IfOk};
-ghost use Rattle.lsm_open.specs.Image.{first_region, region_start};
+ghost use Rattle.lsm_open.specs.LogRegions.{first_region, region_start};
 ghost use Rattle.lsm_open.specs.Layout.{record_of, layout_of, manifest_for};
 
 use lsm_codec::{LogRecord, Manifest};

@@ -4,7 +4,6 @@ pub mod Running
 pub mod CrashStates
 pub mod Promises
 pub mod Lifelong
-pub mod Regions
 pub mod Carrying
 pub mod Syncing
 pub mod Growing

@@ -7,7 +7,7 @@ use Rattle.lsm_device.specs.History.{present}
 use Rattle.lsm_device.specs.Medium.{disk}
 use Rattle.lsm_device.proofs.Counting.{AtMost-joined, none_made}
 use Rattle.lsm_mem.specs.Versions.{NumberedBelow}
-use Rattle.lsm_open.specs.Image.{batches_at}
+use Rattle.lsm_open.specs.LogRegions.{batches_at}
 use Rattle.lsm_open.specs.Reopening.{GoesOn, HasCome}
 use Rattle.lsm_open.proofs.ReplaySteps.{come_step, come_started, goes_on_step, goes_started}
 use Rattle.lsm_open.proofs.replayed.Replayed.add_regions.Goals as goal

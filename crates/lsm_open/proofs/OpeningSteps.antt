@@ -1,0 +1,84 @@
+-- An opening may be installed, and leaves the same in the next generation.
+use Rattle.std.proofs.Common.{◌≡◌, ℕ, ◌+◌, ◌*◌, ◌≤◌, Bool, true, List, [], ◌∷◌, ◌++◌, length, get_or, Some, None, refl, sym, ◌∙◌, ap, subst, arith, All}
+use Rattle.std.specs.Prelude.{Option}
+use Rattle.std.proofs.lemmas.List.{append-nil}
+use Rattle.std.proofs.lemmas.List.Elements.{All-nil}
+use Rattle.lsm_codec.specs.Map.{Map, Operation, apply_all}
+use Rattle.lsm_device.specs.Disk.{Disk, Write, image, seen, synced, written, at_rest}
+use Rattle.lsm_device.specs.Outcomes.{Leaves}
+use Rattle.lsm_open.specs.CrashState.{CrashState, in_next_generation}
+use Rattle.lsm_open.specs.LogRegions.{all_batches, follow_on, regions_with_batches}
+use Rattle.lsm_open.specs.Layout.{open_batches}
+use Rattle.lsm_open.specs.Image.{count_in, base_map, StandFor, StandForSome}
+use Rattle.lsm_open.specs.Placements.{Placement, table_map, closed_in, IsHeld, state_with, present_state}
+use Rattle.lsm_open.specs.Reopening.{kept_records}
+use Rattle.lsm_open.specs.Switching.{MayBeInstalled, IsInLeastFree, reopened_at, MayReopen}
+use Rattle.lsm_open.specs.declared.regions.OpenRegion.{OpenRegion}
+use Rattle.lsm_open.proofs.KeptRecords.{same_batches, count_kept, all_hold, same_follow}
+use Rattle.lsm_open.proofs.NewLogs.{HoldsBatches, HoldsAll, new_held, new_empty}
+use Rattle.lsm_open.proofs.TableFrames.{state_applied}
+use Rattle.lsm_root.specs.Installed.{IsSettled}
+
+abbrev Sectors : Type 0
+Sectors = List (List ℕ)
+
+abbrev Batches : Type 0
+Batches = List (List Operation)
+
+module _ (n : ℕ) (left : CrashState) (c : Sectors) (is : StandFor n left c) (may : MayReopen n is.manifest c) (o : Option OpenRegion)
+    (new : IsInLeastFree n (is.manifest.generation + 1) (count_in n c is.manifest) (kept_records n c is.manifest.logs) o) where
+  abbrev q : Placement
+  q = reopened_at n c is.manifest o
+
+  closed_are : all_batches n c (kept_records n c is.manifest.logs) ≡ all_batches n c is.manifest.logs
+  closed_are = same_batches n c is.manifest.logs
+
+  holds_all : HoldsAll (reopened_at n c is.manifest o) is.manifest.generation (count_in n c is.manifest) c
+  holds_all = record {
+    generation = refl;
+    inside = may.inside;
+    closed = λ k r lt. record { region = may.low k r lt; some = all_hold n c is.manifest.logs k r lt };
+    follows = same_follow n c (is.manifest.base + 1) is.manifest.logs is.holds.follows;
+    counts = ap (λ (t : Batches). is.manifest.base + length t) (sym closed_are);
+    fresh = is.holds.fresh;
+    tables = is.holds.tables;
+    generation_high = may.generation;
+    count_high = may.count;
+  }
+
+  pub reopen_held : IsHeld (reopened_at n c is.manifest o) (at_rest c)
+  reopen_held = new_held (reopened_at n c is.manifest o) is.manifest.generation (count_in n c is.manifest) c holds_all new
+
+  none_open : open_batches o c ≡ []
+  none_open = new_empty (reopened_at n c is.manifest o) is.manifest.generation (count_in n c is.manifest) c holds_all new
+
+  applied : left ≡ record { count = is.manifest.base + length (all_batches n c is.manifest.logs); map = apply_all (base_map n c is.manifest) (all_batches n c is.manifest.logs); closed = regions_with_batches n c is.manifest.logs; generation = is.manifest.generation }
+  applied = is.left_is ∙ state_applied n c is.manifest is.holds.tables
+
+  abbrev made : Batches → ℕ → CrashState
+  made bs k = record { count = is.manifest.base + length bs; map = apply_all (base_map n c is.manifest) bs; closed = k; generation = is.manifest.generation + 1 }
+
+  -- what the next manifest names stands for the same in the next generation
+  pub reopen_left : state_with (reopened_at n c is.manifest o) c (open_batches o c) ≡ in_next_generation left
+  reopen_left =
+      let kept = kept_records n c is.manifest.logs in
+      let counted : length kept + 0 ≡ regions_with_batches n c is.manifest.logs = omega (arith, count_kept n c is.manifest.logs) in
+      ap (λ (t : Batches). state_with q c t) none_open
+      ∙ ap (λ (t : Batches). made t (length kept + 0)) (append-nil (all_batches n c kept) ∙ closed_are)
+      ∙ ap (λ (k : ℕ). made (all_batches n c is.manifest.logs) k) counted
+      ∙ sym (ap in_next_generation applied)
+
+pub opening_installs : (n : ℕ) (left : CrashState) (d : Disk) (is : StandFor n left (seen d)) → MayReopen n is.manifest (seen d) → (o : Option OpenRegion)
+    → IsInLeastFree n (is.manifest.generation + 1) (count_in n (seen d) is.manifest) (kept_records n (seen d) is.manifest.logs) o
+    → MayBeInstalled (reopened_at n (seen d) is.manifest o) (in_next_generation left) d
+opening_installs n left d is may o new = record { held = reopen_held n left (seen d) is may o new; left_is = sym (reopen_left n left (seen d) is may o new) }
+
+-- a disk at rest leaves what reads give
+pub rests_stand : (n : ℕ) (left : CrashState) (d : Disk) → d.pending ≡ [] → StandFor n left (seen d) → Leaves (StandForSome n (λ x. x ≡ left)) d
+rests_stand n left d rests is = λ mask.
+    let same : image mask d ≡ seen d =
+    ap (λ (ws : List Write). image mask (record { stands = d.stands; pending = ws })) rests ∙ sym (ap (λ (ws : List Write). written d.stands ws) rests) in
+    (left, refl, subst (StandFor n left) (sym same) is)
+
+pub settled_at_rest : (d : Disk) → d.pending ≡ [] → IsSettled d
+settled_at_rest d rests = subst (All (λ (w : Write). 130 ≤ w.at)) (sym rests) (All-nil (λ (w : Write). 130 ≤ w.at))
