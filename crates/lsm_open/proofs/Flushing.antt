@@ -6,7 +6,7 @@ use Rattle.std.proofs.lemmas.Bool.{eq-eqb}
 use Rattle.std.proofs.lemmas.List.{length-append, map-append}
 use Rattle.std.proofs.lemmas.List.Elements.{All-nil, All-cons, All-head, All-tail, All-append}
 use Rattle.lsm_codec.specs.declared.table_record.TableRecord.{TableRecord}
-use Rattle.lsm_codec.specs.Map.{Map, Operation, apply, apply_all}
+use Rattle.lsm_codec.specs.Map.{Map, Operation, apply_all}
 use Rattle.lsm_codec.specs.Pairs.{Pairwise}
 use Rattle.lsm_codec.specs.Versions.{Version}
 use Rattle.lsm_codec.proofs.Lists.{all_map}
@@ -26,6 +26,7 @@ use Rattle.lsm_open.specs.Placements.{Placement, table_map, closed_in, IsHeld, C
 use Rattle.lsm_open.specs.Switching.{MayBeInstalled, pushed, flushed, left_flushed, IsNewestRun, AreFlushed}
 use Rattle.lsm_open.specs.Tables.{blocks_at, versions_at, table_versions, IsTableAt, IsSameRun, AscendInRun, AreTables}
 use Rattle.lsm_open.specs.declared.regions.OpenRegion.{OpenRegion}
+use Rattle.lsm_open.proofs.Beginnings.{apply_all-append}
 use Rattle.lsm_open.proofs.FreeWrites.{held_synced, present_synced}
 use Rattle.lsm_open.proofs.HeldRegions.{BeginsAfter, begins_after}
 use Rattle.lsm_open.proofs.InPlace.{same_newest_within}
@@ -43,11 +44,6 @@ Batches = List (List Operation)
 
 abbrev Versions : Type 0
 Versions = List Version
-
--- more batches behind others
-pub apply_all-append : (m : Map) (xs ys : List (List Operation)) → apply_all m (xs ++ ys) ≡ apply_all (apply_all m xs) ys
-apply_all-append m [] ys = refl
-apply_all-append m (x ∷ xs) ys = apply_all-append (apply m x) xs ys
 
 -- ---- lists of tables
 

@@ -26,3 +26,8 @@ pub mod Flushing
 pub mod Merging
 pub mod OpeningSteps
 pub mod OneMeaning
+pub mod Beginnings
+pub mod Writing
+pub mod TableTexts
+pub mod Taking
+pub mod OpenedImages

@@ -10,15 +10,18 @@ use Rattle.lsm_codec.specs.Map.{Map, apply_all}
 use Rattle.lsm_codec.specs.Versions.{Version}
 use Rattle.lsm_codec.proofs.Lists.{none_length}
 use Rattle.lsm_device.specs.Areas.{area}
+use Rattle.lsm_device.specs.Disk.{Disk}
 use Rattle.lsm_log.specs.Opened.{HasNoneAbove}
 use Rattle.lsm_mem.specs.EntryOrder.{with_batches}
 use Rattle.lsm_mem.specs.Versions.{map_of}
 use Rattle.lsm_mem.proofs.Replays.{map_of-with_batches}
 use Rattle.lsm_open.specs.CrashState.{CrashState}
 use Rattle.lsm_open.specs.Image.{count_in, left_in, StandFor, served, IsImage}
+use Rattle.lsm_open.specs.Layout.{Layout, IsCarriedBy}
 use Rattle.lsm_open.specs.LogRegions.{first_region, all_batches, follow_on, regions_with_batches}
+use Rattle.lsm_open.specs.Placements.{without_tables, IsStill, Carries}
 use Rattle.lsm_open.specs.Tables.{table_versions, IsTableAt, AreTables}
-use Rattle.lsm_open.proofs.Served.{same_stands, served_stands, served_none}
+use Rattle.lsm_open.proofs.Served.{same_stands, served_stands, served_none, served_plain}
 use Rattle.lsm_root.specs.Roots.{Stands, root_of}
 
 abbrev Sectors : Type 0
@@ -58,6 +61,13 @@ module _ (n : ℕ) (left : CrashState) (s : Sectors) where
   plain_of : (m : Contents) → served (root_of s) ≡ Stands n m → m.tables ≡ []
   plain_of m root = none_length m.tables (served_none (root_of s) n m root)
 
+  pub image_names_none : (is : IsImage n left s) → is.stands.manifest.tables ≡ []
+  image_names_none is = plain_of is.stands.manifest is.root
+
+  -- what stands without a table is one
+  pub image_without_tables : (is : StandFor n left s) → is.manifest.tables ≡ [] → IsImage n left s
+  image_without_tables is none = record { stands = is; root = served_plain (root_of s) n is.manifest is.root (ap length none) }
+
   -- the manifest of an image, and what it says
   pub manifest_of_image : IsImage n left s → (m : Contents) × StandsFor n left s m
   manifest_of_image is =
@@ -91,3 +101,28 @@ stands_here n k left sectors m is root =
     let there = manifest_of_image n left sectors is in
     let same = same_stands k n m there.0 (sym root ∙ there.1.root) in
     (same.0, subst (StandsFor n left sectors) (sym same.1) there.1)
+
+-- ---- layouts without tables
+
+module _ (l : Layout) (d : Disk) where
+  pub carries_layout : IsCarriedBy d l → Carries d (without_tables l)
+  carries_layout is = record {
+    root = is.laid.root;
+    settled = is.laid.settled;
+    held = record {
+      inside = is.laid.inside;
+      closed = is.laid.closed;
+      follows = is.laid.follows;
+      opened = is.opened;
+      above = record { stands = is.above.stands; pends = is.above.pends };
+      tables = no_tables_stand l.log_sectors l.base d.stands [] refl;
+      still = All-nil (IsStill (without_tables l) d);
+    };
+  }
+
+  pub layout_carried : Carries d (without_tables l) → IsCarriedBy d l
+  layout_carried is = record {
+    laid = record { root = is.root; settled = is.settled; inside = is.held.inside; closed = is.held.closed; follows = is.held.follows };
+    opened = is.held.opened;
+    above = record { stands = is.held.above.stands; pends = is.held.above.pends };
+  }

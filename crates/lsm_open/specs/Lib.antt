@@ -11,3 +11,4 @@ pub mod Formatted
 pub mod Placements
 pub mod Replacing
 pub mod Switching
+pub mod Writing

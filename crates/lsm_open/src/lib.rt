@@ -4,6 +4,7 @@
 mod formatting;
 mod image_law;
 mod install_law;
+mod job_law;
 mod law;
 mod recovery;
 mod regions;
@@ -13,11 +14,14 @@ mod replayed;
 pub use formatting::format;
 pub use image_law::{
     batches_apply_to_tables, crashes_leave_beginnings, free_writes_change_nothing,
-    sectors_have_one_meaning, syncs_keep_placements,
+    images_are_opened, no_tables_leave_the_batches, sectors_have_one_meaning, syncs_keep_placements,
 };
 pub use install_law::{
     flushes_may_be_installed, installs_switch, merges_may_be_installed, openings_may_be_installed,
     rotations_may_be_installed,
+};
+pub use job_law::{
+    installs_take_over, jobs_keep_what_they_place, jobs_write_free_blocks, written_tables_stand,
 };
 pub use law::openings_leave_the_same;
 pub use recovery::{Recovered, recover};

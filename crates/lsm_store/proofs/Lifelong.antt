@@ -11,7 +11,7 @@ use Rattle.lsm_store.specs.Calls.{Number, Done, Value, Rows, Refused}
 use Rattle.lsm_store.specs.Machine.{Step}
 use Rattle.lsm_store.specs.Promise.{accepted, acknowledged, in_flight, IsBeginning}
 use Rattle.lsm_store.specs.Lives.{Life, KeptByLife, IsAfter, PromiseOverLives}
-use Rattle.lsm_store.proofs.Points.{apply_all-append, take_sum}
+use Rattle.lsm_open.proofs.Beginnings.{apply_all-append, take_sum}
 use Rattle.lsm_store.proofs.Promises.{promise}
 
 -- a beginning that goes beyond the first of two lists
