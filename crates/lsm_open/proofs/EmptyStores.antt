@@ -1,5 +1,5 @@
 -- What a format leaves is the image of an empty store.
-use Rattle.std.proofs.Common.{◌≡◌, ℕ, ◌*◌, Bool, false, List, [], Some, refl, sym, ◌∙◌, ap, subst}
+use Rattle.std.proofs.Common.{◌≡◌, ℕ, ◌*◌, Bool, false, List, [], refl, sym, ◌∙◌, ap, subst}
 use Rattle.std.proofs.lemmas.List.Elements.{All-replicate}
 use Rattle.lsm_codec.specs.Formats.{blank}
 use Rattle.lsm_codec.proofs.FormatLaws.{part_laws_hold}

@@ -11,7 +11,7 @@ use Rattle.lsm_codec.specs.Pairs.{Pairwise}
 use Rattle.lsm_codec.specs.Versions.{Version}
 use Rattle.lsm_codec.proofs.Lists.{all_map}
 use Rattle.lsm_device.specs.Areas.{area}
-use Rattle.lsm_device.specs.Disk.{Disk, Write, seen, synced, at_rest}
+use Rattle.lsm_device.specs.Disk.{Disk, Write, seen, at_rest}
 use Rattle.lsm_levels.specs.Orders.{IsVersionOrder}
 use Rattle.lsm_log.specs.Opened.{is_above}
 use Rattle.lsm_log.proofs.Epochs.{none_above_more}
@@ -22,7 +22,7 @@ use Rattle.lsm_merge.specs.Inputs.{joined}
 use Rattle.lsm_open.specs.CrashState.{CrashState}
 use Rattle.lsm_open.specs.LogRegions.{first_region, follow_on, one_if_some}
 use Rattle.lsm_open.specs.Layout.{open_records, open_batches, IsClosed, IsOpened}
-use Rattle.lsm_open.specs.Placements.{Placement, table_map, closed_in, IsHeld, Carries, state_with, present_state}
+use Rattle.lsm_open.specs.Placements.{Placement, table_map, closed_in, IsHeld, Carries, state_with}
 use Rattle.lsm_open.specs.Switching.{MayBeInstalled, pushed, flushed, left_flushed, IsNewestRun, AreFlushed}
 use Rattle.lsm_open.specs.Tables.{blocks_at, versions_at, table_versions, IsTableAt, IsSameRun, AscendInRun, AreTables}
 use Rattle.lsm_open.specs.declared.regions.OpenRegion.{OpenRegion}

@@ -1,5 +1,5 @@
 -- Writes to free blocks, and syncs, leave a disk's placement and what crashes leave.
-use Rattle.std.proofs.Common.{◌≡◌, ◌⊎◌, inl, inr, ⊎_elim, ℕ, suc, ◌+◌, ◌*◌, ◌≤◌, ◌<◌, Bool, true, false, List, [], ◌∷◌, ◌++◌, length, get_or, replicate, take, Some, None, refl, sym, ◌∙◌, ap, subst, arith, All}
+use Rattle.std.proofs.Common.{◌≡◌, inr, ℕ, suc, ◌+◌, ◌*◌, ◌≤◌, Bool, true, List, ◌++◌, length, get_or, replicate, take, Some, None, refl, sym, ◌∙◌, ap, subst, arith, All}
 use Rattle.std.specs.Prelude.{Option}
 use Rattle.std.proofs.Math.Nat.{mul-le-mul_right}
 use Rattle.std.proofs.lemmas.List.Elements.{All-nil, All-append, All-weaker, All-take}
@@ -8,7 +8,7 @@ use Rattle.lsm_codec.specs.declared.table_record.TableRecord.{TableRecord}
 use Rattle.lsm_codec.specs.Map.{Map, Operation, apply_all}
 use Rattle.lsm_codec.specs.Versions.{Version}
 use Rattle.lsm_device.specs.Areas.{disk_in, IsOutside}
-use Rattle.lsm_device.specs.Disk.{Disk, Write, image, seen, synced}
+use Rattle.lsm_device.specs.Disk.{Disk, Write, seen, synced}
 use Rattle.lsm_device.specs.History.{present, EachSince}
 use Rattle.lsm_device.specs.Memory.{length-written}
 use Rattle.lsm_device.specs.Outcomes.{Leaves}
@@ -22,11 +22,11 @@ use Rattle.lsm_log.proofs.Epochs.{above_elsewhere, above_sync}
 use Rattle.lsm_log.proofs.Logs.{open_elsewhere, open_after_sync}
 use Rattle.lsm_mem.specs.Versions.{map_of}
 use Rattle.lsm_open.specs.CrashState.{CrashState}
-use Rattle.lsm_open.specs.LogRegions.{first_region, region_start, batches_at, one_if_some}
-use Rattle.lsm_open.specs.Layout.{Layout, open_batches, IsClosed, IsOpened}
+use Rattle.lsm_open.specs.LogRegions.{first_region, region_start, one_if_some}
+use Rattle.lsm_open.specs.Layout.{open_batches, IsClosed, IsOpened}
 use Rattle.lsm_open.specs.Image.{HoldNamed, StandForSome}
 use Rattle.lsm_open.specs.Placements.{Placement, contents_for, table_map, closed_in, IsStill, IsHeld, Carries, state_with, present_state, MayBeLeft, IsFreeWrite}
-use Rattle.lsm_open.specs.Tables.{first_data, extent_start, extent_length, extent_at, table_versions}
+use Rattle.lsm_open.specs.Tables.{first_data, extent_start, extent_length, extent_at}
 use Rattle.lsm_open.specs.declared.regions.OpenRegion.{OpenRegion}
 use Rattle.lsm_open.proofs.HeldPlacements.{holds_left, same_extents, same_closed, root_left, carried_leaves}
 use Rattle.lsm_open.proofs.HeldRegions.{Same, same_all}

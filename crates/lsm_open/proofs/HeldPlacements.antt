@@ -1,8 +1,7 @@
 -- What each crash of a disk leaves that holds a placement.
-use Rattle.std.proofs.Common.{◌≡◌, ℕ, ◌+◌, ◌*◌, ◌≤◌, Bool, true, List, [], ◌∷◌, ◌++◌, length, get_or, replicate, Some, None, refl, sym, ◌∙◌, ap, subst, arith, All}
+use Rattle.std.proofs.Common.{◌≡◌, ℕ, ◌+◌, ◌*◌, Bool, true, List, [], ◌++◌, length, get_or, replicate, Some, None, refl, sym, ◌∙◌, ap, subst, All}
 use Rattle.std.specs.Prelude.{Option}
 use Rattle.lsm_codec.specs.declared.table_record.TableRecord.{TableRecord}
-use Rattle.lsm_codec.specs.Manifests.{Contents}
 use Rattle.lsm_codec.specs.Map.{Map, Operation, apply_all}
 use Rattle.lsm_codec.specs.Versions.{Version}
 use Rattle.lsm_device.specs.Areas.{area, disk_in}
@@ -17,15 +16,15 @@ use Rattle.lsm_log.proofs.Epochs.{above_crash}
 use Rattle.lsm_log.proofs.Logs.{open_leaves}
 use Rattle.lsm_mem.specs.Versions.{map_of}
 use Rattle.lsm_open.specs.CrashState.{CrashState}
-use Rattle.lsm_open.specs.LogRegions.{first_region, region_start, batches_at, all_batches, one_if_some, regions_with_batches}
+use Rattle.lsm_open.specs.LogRegions.{first_region, region_start, all_batches, one_if_some, regions_with_batches}
 use Rattle.lsm_open.specs.Layout.{Layout, open_records, open_batches, IsOpened}
 use Rattle.lsm_open.specs.Image.{left_in, HoldNamed, StandFor, StandForSome}
 use Rattle.lsm_open.specs.Placements.{Placement, contents_for, table_map, closed_in, IsHeld, Carries, state_with, present_state, MayBeLeft}
-use Rattle.lsm_open.specs.Tables.{extent_start, extent_length, table_versions, AreTables}
+use Rattle.lsm_open.specs.Tables.{extent_start, extent_length, AreTables}
 use Rattle.lsm_open.specs.declared.regions.OpenRegion.{OpenRegion}
 use Rattle.lsm_open.proofs.HeldRegions as regions
 use Rattle.lsm_open.proofs.KeptRecords.{all_batches-append, regions-append}
-use Rattle.lsm_open.proofs.TableFrames.{SameExtent, same_all_versions, same_tables, applied_in, state_applied}
+use Rattle.lsm_open.proofs.TableFrames.{SameExtent, same_all_versions, same_tables, state_applied}
 use Rattle.lsm_root.specs.Installed.{IsSettled}
 use Rattle.lsm_root.specs.Roots.{Root, root_of}
 use Rattle.lsm_root.proofs.Frames.{root_of_outcome}

@@ -1,14 +1,14 @@
 -- What a merge puts in the place of its inputs stands for the same map.
-use Rattle.std.proofs.Common.{◌≡◌, ◌⊎◌, inl, inr, ⊎_elim, ℕ, ◌+◌, ◌<◌, ◌≤◌, Bool, true, false, cond, ltb, leb, ◌&&◌, List, [], ◌∷◌, ◌++◌, Option, Some, None, refl, ap, sym, ◌∙◌, subst, arith, option_and_then}
+use Rattle.std.proofs.Common.{◌≡◌, inl, inr, ℕ, ◌<◌, Bool, true, false, cond, ltb, leb, List, [], ◌∷◌, ◌++◌, Option, Some, None, refl, ap, sym, ◌∙◌, subst, arith, option_and_then}
 use Rattle.std.specs.List.{AllByRecursion}
 use Rattle.std.specs.Cmp.Lexicographic.{nat_list_cmp_total}
 use Rattle.std.specs.FinMap.{same_map}
-use Rattle.std.proofs.lemmas.Bool.{le-leb, le-ltb, and_parts}
+use Rattle.std.proofs.lemmas.Bool.{le-ltb, and_parts}
 use Rattle.lsm_codec.specs.Keys.{Bytes}
 use Rattle.lsm_codec.specs.Versions.{Version, is_same_key, is_version_of, newer_of, newest}
 use Rattle.lsm_levels.specs.Among.{IsAmong}
 use Rattle.lsm_levels.specs.Orders.{IsNewerPlace}
-use Rattle.lsm_mem.specs.Versions.{value_at, map_of, NumberedAtMost}
+use Rattle.lsm_mem.specs.Versions.{value_at, map_of}
 use Rattle.lsm_merge.specs.Laws.{HaveSameMap}
 use Rattle.lsm_table.specs.Division.{ShareNoKey}
 use Rattle.lsm_codec.proofs.KeyOrder.{same_keys, same_key}

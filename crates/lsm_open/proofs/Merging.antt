@@ -1,5 +1,5 @@
 -- A merge of levels may be installed.
-use Rattle.std.proofs.Common.{◌≡◌, ◌⊎◌, inl, inr, ℕ, ◌+◌, ◌*◌, ◌≤◌, Bool, false, List, [], ◌∷◌, ◌++◌, length, map, Some, None, refl, sym, ◌∙◌, ap, subst, arith, All, option_and_then}
+use Rattle.std.proofs.Common.{◌≡◌, inl, inr, ℕ, ◌+◌, ◌*◌, false, List, ◌++◌, length, map, Some, None, refl, sym, ◌∙◌, ap, subst, arith, All, option_and_then}
 use Rattle.std.specs.Prelude.{Option}
 use Rattle.std.proofs.lemmas.List.{map-append}
 use Rattle.std.proofs.lemmas.List.Elements.{All-nil, All-append}
@@ -8,7 +8,7 @@ use Rattle.lsm_codec.specs.Keys.{Bytes}
 use Rattle.lsm_codec.specs.Map.{Map, Operation, apply_all}
 use Rattle.lsm_codec.specs.Versions.{Version}
 use Rattle.lsm_device.specs.Areas.{area}
-use Rattle.lsm_device.specs.Disk.{Disk, Write, seen, synced, at_rest}
+use Rattle.lsm_device.specs.Disk.{Disk, Write, seen, at_rest}
 use Rattle.lsm_levels.specs.Orders.{IsVersionOrder}
 use Rattle.lsm_log.specs.Opened.{is_above}
 use Rattle.lsm_log.proofs.Epochs.{none_above_more}
@@ -20,7 +20,7 @@ use Rattle.lsm_open.specs.Layout.{open_batches, IsOpened}
 use Rattle.lsm_open.specs.Placements.{Placement, table_map, closed_in, IsHeld, Carries, state_with, present_state}
 use Rattle.lsm_open.specs.Replacing.{MayReplace}
 use Rattle.lsm_open.specs.Switching.{MayBeInstalled, merged, Parts, with_inputs, with_outputs, IsKept, AreMerged}
-use Rattle.lsm_open.specs.Tables.{versions_at, table_versions, IsTableAt, AreTables}
+use Rattle.lsm_open.specs.Tables.{versions_at, table_versions, IsTableAt}
 use Rattle.lsm_open.specs.declared.regions.OpenRegion.{OpenRegion}
 use Rattle.lsm_open.proofs.Flushing.{joined_versions}
 use Rattle.lsm_open.proofs.FreeWrites.{held_synced, present_synced}

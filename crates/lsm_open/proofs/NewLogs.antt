@@ -1,18 +1,18 @@
 -- A new log behind closed regions.
-use Rattle.std.proofs.Common.{◌≡◌, ℕ, ◌+◌, ◌*◌, ◌≤◌, ◌<◌, ◌==◌, ◌&&◌, Bool, true, false, List, [], ◌∷◌, ◌++◌, length, get_or, Some, None, refl, sym, ◌∙◌, ap, subst, arith, All}
+use Rattle.std.proofs.Common.{◌≡◌, ℕ, ◌+◌, ◌*◌, ◌≤◌, ◌<◌, ◌&&◌, Bool, true, false, List, [], length, get_or, Some, None, refl, sym, ◌∙◌, ap, subst, arith, All}
 use Rattle.std.specs.Prelude.{Option, option_map}
 use Rattle.std.proofs.lemmas.Bool.{eq-eqb}
 use Rattle.std.proofs.lemmas.List.Elements.{All-nil}
 use Rattle.lsm_codec.specs.declared.log_record.LogRecord.{LogRecord}
 use Rattle.lsm_device.specs.Areas.{area}
-use Rattle.lsm_device.specs.Disk.{Disk, Write, at_rest}
+use Rattle.lsm_device.specs.Disk.{Write, at_rest}
 use Rattle.lsm_log.specs.Opened.{AreNumbers, HasNoneAbove, IsFree, is_above}
 use Rattle.lsm_log.proofs.Epochs.{none_above_more}
 use Rattle.lsm_log.proofs.Logs.{none_read, new_open}
 use Rattle.lsm_open.specs.CrashState.{last_number}
 use Rattle.lsm_open.specs.LogRegions.{first_region, region_start, batches_at, all_batches, follow_on}
-use Rattle.lsm_open.specs.Layout.{open_records, open_batches, IsOther, IsClosed, IsOpened}
-use Rattle.lsm_open.specs.Placements.{Placement, contents_for, IsHeld}
+use Rattle.lsm_open.specs.Layout.{open_records, open_batches, IsOther, IsOpened}
+use Rattle.lsm_open.specs.Placements.{Placement, IsHeld}
 use Rattle.lsm_open.specs.Reopening.{least_free, IsNewLog, IsNewIfOpen}
 use Rattle.lsm_open.specs.Switching.{IsInLeastFree}
 use Rattle.lsm_open.specs.Tables.{AreTables}

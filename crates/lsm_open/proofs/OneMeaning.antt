@@ -7,8 +7,7 @@ use Rattle.lsm_open.proofs.Served.{same_stands}
 
 pub one_meaning : (n k : ℕ) (left other : CrashState) (c : List (List ℕ)) → StandFor n left c → StandFor k other c → (n ≡ k) × (left ≡ other)
 one_meaning n k left other c is also =
-    let same = same_stands n k is.manifest also.manifest (sym is.root ∙ also.root) in
-    (
+    let same = same_stands n k is.manifest also.manifest (sym is.root ∙ also.root) in (
       same.0,
       is.left_is ∙ ap (λ (j : ℕ). left_in j c is.manifest) same.0 ∙ ap (λ (x : Contents). left_in k c x) same.1 ∙ sym also.left_is,
     )

@@ -1,12 +1,11 @@
 -- Which images are opened.
 use Rattle.std.proofs.Common.{◌≡◌, ◌≤◌, ℕ, ◌==◌, cond, List, length, Some, None, ap, sym, ◌∙◌, arith}
 use Rattle.std.proofs.lemmas.Bool.{cond-true, cond-false, ne_eqb}
-use Rattle.lsm_codec.specs.Manifests.{Contents}
 use Rattle.lsm_device.specs.declared.refusal.Refusal.TheVariants.{BadManifest, Exhausted}
 use Rattle.lsm_open.specs.CrashState.{CrashState, last_number}
 use Rattle.lsm_open.specs.Image.{StandFor, served, IsImage}
 use Rattle.lsm_open.specs.Opening.{root_refusal, opening_refusal}
-use Rattle.lsm_root.specs.Roots.{Root, Stands, Unreadable, root_of}
+use Rattle.lsm_root.specs.Roots.{Root, Stands, Unreadable}
 
 -- an image is refused in the last generation alone
 pub image_opened : (n : ℕ) (left : CrashState) (s : List (List ℕ)) → IsImage n left s → opening_refusal s ≡ cond (left.generation == last_number) (Some Exhausted) None

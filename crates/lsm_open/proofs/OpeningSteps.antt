@@ -1,21 +1,21 @@
 -- An opening may be installed, and leaves the same in the next generation.
-use Rattle.std.proofs.Common.{◌≡◌, ℕ, ◌+◌, ◌*◌, ◌≤◌, Bool, true, List, [], ◌∷◌, ◌++◌, length, get_or, Some, None, refl, sym, ◌∙◌, ap, subst, arith, All}
+use Rattle.std.proofs.Common.{◌≡◌, ℕ, ◌+◌, ◌≤◌, List, [], length, refl, sym, ◌∙◌, ap, subst, arith, All}
 use Rattle.std.specs.Prelude.{Option}
 use Rattle.std.proofs.lemmas.List.{append-nil}
 use Rattle.std.proofs.lemmas.List.Elements.{All-nil}
-use Rattle.lsm_codec.specs.Map.{Map, Operation, apply_all}
-use Rattle.lsm_device.specs.Disk.{Disk, Write, image, seen, synced, written, at_rest}
+use Rattle.lsm_codec.specs.Map.{Operation, apply_all}
+use Rattle.lsm_device.specs.Disk.{Disk, Write, image, seen, written, at_rest}
 use Rattle.lsm_device.specs.Outcomes.{Leaves}
 use Rattle.lsm_open.specs.CrashState.{CrashState, in_next_generation}
-use Rattle.lsm_open.specs.LogRegions.{all_batches, follow_on, regions_with_batches}
+use Rattle.lsm_open.specs.LogRegions.{all_batches, regions_with_batches}
 use Rattle.lsm_open.specs.Layout.{open_batches}
 use Rattle.lsm_open.specs.Image.{count_in, base_map, StandFor, StandForSome}
-use Rattle.lsm_open.specs.Placements.{Placement, table_map, closed_in, IsHeld, state_with, present_state}
+use Rattle.lsm_open.specs.Placements.{Placement, IsHeld, state_with}
 use Rattle.lsm_open.specs.Reopening.{kept_records}
 use Rattle.lsm_open.specs.Switching.{MayBeInstalled, IsInLeastFree, reopened_at, MayReopen}
 use Rattle.lsm_open.specs.declared.regions.OpenRegion.{OpenRegion}
 use Rattle.lsm_open.proofs.KeptRecords.{same_batches, count_kept, all_hold, same_follow}
-use Rattle.lsm_open.proofs.NewLogs.{HoldsBatches, HoldsAll, new_held, new_empty}
+use Rattle.lsm_open.proofs.NewLogs.{HoldsAll, new_held, new_empty}
 use Rattle.lsm_open.proofs.TableFrames.{state_applied}
 use Rattle.lsm_root.specs.Installed.{IsSettled}
 

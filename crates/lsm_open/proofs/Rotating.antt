@@ -1,5 +1,5 @@
 -- A rotation may be installed.
-use Rattle.std.proofs.Common.{◌≡◌, ℕ, ◌+◌, ◌*◌, ◌≤◌, Bool, true, List, [], ◌∷◌, ◌++◌, length, Some, None, refl, sym, ◌∙◌, ap, subst, arith, All}
+use Rattle.std.proofs.Common.{◌≡◌, ℕ, ◌+◌, ◌≤◌, true, List, [], ◌++◌, length, Some, None, refl, sym, ◌∙◌, ap, subst, arith, All}
 use Rattle.std.specs.Prelude.{Option, IsSome}
 use Rattle.std.proofs.lemmas.List.{append-nil}
 use Rattle.std.proofs.lemmas.List.Elements.{All-nil, All-cons}
@@ -9,7 +9,7 @@ use Rattle.lsm_device.specs.Disk.{Disk, at_rest, seen, synced}
 use Rattle.lsm_open.specs.CrashState.{CrashState, last_number}
 use Rattle.lsm_open.specs.LogRegions.{batches_at, all_batches, follow_on, one_if_some}
 use Rattle.lsm_open.specs.Layout.{record_of, open_records, open_batches, IsOpened}
-use Rattle.lsm_open.specs.Placements.{Placement, contents_for, table_map, closed_in, IsHeld, Carries, state_with, present_state}
+use Rattle.lsm_open.specs.Placements.{Placement, table_map, closed_in, IsHeld, Carries, state_with, present_state}
 use Rattle.lsm_open.specs.Switching.{MayBeInstalled, rotated, left_rotated, MayRotate, IsInLeastFree}
 use Rattle.lsm_open.specs.declared.regions.OpenRegion.{OpenRegion}
 use Rattle.lsm_open.proofs.FreeWrites.{held_synced, present_synced}

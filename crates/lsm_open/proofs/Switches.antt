@@ -1,10 +1,9 @@
 -- An installation leaves the old meaning or the new one, and after it the new placement is carried.
-use Rattle.std.proofs.Common.{◌≡◌, ◌⊎◌, inl, inr, ℕ, ◌+◌, ◌*◌, ◌≤◌, Bool, true, false, List, [], ◌∷◌, ◌++◌, length, drop, get_or, Some, None, refl, sym, ◌∙◌, ap, subst, arith, All}
+use Rattle.std.proofs.Common.{◌≡◌, inl, inr, ℕ, ◌+◌, ◌*◌, ◌≤◌, false, List, [], ◌++◌, length, drop, get_or, Some, None, refl, sym, ◌∙◌, ap, subst, arith}
 use Rattle.std.specs.Prelude.{Option}
 use Rattle.std.proofs.lemmas.List.{length-drop}
 use Rattle.std.proofs.lemmas.List.Elements.{All-nil}
 use Rattle.lsm_codec.specs.declared.log_record.LogRecord.{LogRecord}
-use Rattle.lsm_codec.specs.Manifests.{Contents}
 use Rattle.lsm_codec.specs.Map.{Map, Operation, apply_all}
 use Rattle.lsm_codec.specs.Versions.{Version}
 use Rattle.lsm_device.specs.Areas.{area, disk_in}
@@ -27,7 +26,7 @@ use Rattle.lsm_open.proofs.HeldPlacements.{holds_left, state_left}
 use Rattle.lsm_open.proofs.HeldRegions.{same_all}
 use Rattle.lsm_open.proofs.TableFrames.{same_tables, same_all_versions, same_follow, same_behind, same_holds, same_state, same_meaning, area_behind}
 use Rattle.lsm_root.specs.Installed.{IsSettled, IsOld, IsNew, IsOldOrNew, IsInstalled}
-use Rattle.lsm_root.specs.Roots.{Stands, root_of}
+use Rattle.lsm_root.specs.Roots.{Stands}
 use Rattle.lsm_root.proofs.Frames.{root_of_outcome}
 
 abbrev Sectors : Type 0

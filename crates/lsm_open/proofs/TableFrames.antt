@@ -1,9 +1,9 @@
 -- What sectors stand for depends on what the manifest names alone.
-use Rattle.std.proofs.Common.{◌≡◌, ℕ, ◌+◌, ◌-◌, ◌*◌, ◌≤◌, ◌&&◌, ◌==◌, Bool, true, List, [], ◌∷◌, ◌++◌, length, take, drop, get_or, map, Option, Some, refl, sym, ◌∙◌, ap, subst, arith, All}
+use Rattle.std.proofs.Common.{◌≡◌, ℕ, ◌+◌, ◌-◌, ◌*◌, ◌≤◌, ◌&&◌, ◌==◌, Bool, List, [], ◌∷◌, ◌++◌, length, take, drop, get_or, map, refl, sym, ◌∙◌, ap, subst, arith, All}
 use Rattle.std.specs.List.{AllByRecursion}
 use Rattle.std.specs.declared.cmp.Ordering.TheVariants.{Less}
 use Rattle.std.proofs.lemmas.List.{drop-drop}
-use Rattle.std.proofs.lemmas.List.Elements.{All-nil, All-head, All-tail}
+use Rattle.std.proofs.lemmas.List.Elements.{All-head, All-tail}
 use Rattle.lsm_codec.specs.declared.log_record.LogRecord.{LogRecord}
 use Rattle.lsm_codec.specs.declared.table_record.TableRecord.{TableRecord}
 use Rattle.lsm_codec.specs.Keys.{byte_order}
@@ -26,7 +26,7 @@ use Rattle.lsm_open.specs.Image.{count_in, base_map, left_in, HoldNamed, StandFo
 use Rattle.lsm_open.specs.Tables.{extent_start, extent_length, extent_at, blocks_at, versions_if, versions_at, table_versions, IsTableAt, AscendInRun, AreTables}
 use Rattle.lsm_open.proofs.HeldRegions.{Same, same_all}
 use Rattle.lsm_open.proofs.NewestFound.{map_of_batches}
-use Rattle.lsm_root.specs.Roots.{Stands, root_of}
+use Rattle.lsm_root.specs.Roots.{root_of}
 use Rattle.lsm_table.specs.Stored.{table_in, outline_at}
 
 abbrev Sectors : Type 0
@@ -78,10 +78,9 @@ module _ (n : ℕ) (c e : Sectors) where
   same_ascend [] same ascend = tt
   same_ascend (t ∷ rest) same ascend =
       let here = same_versions t (All-head SameExtent t rest same) in
-      let later = All-tail SameExtent t rest same in
-      (
+      let later = All-tail SameExtent t rest same in (
         λ k u lt run. subst (λ (l : Versions). Below (versions_at n c (get_or rest k u)) l) (sym here)
-        (subst (λ (l : Versions). Below l (versions_at n e t)) (sym (same_versions (get_or rest k u) (later k u lt))) (ascend.0 k u lt run)),
+            (subst (λ (l : Versions). Below l (versions_at n e t)) (sym (same_versions (get_or rest k u) (later k u lt))) (ascend.0 k u lt run)),
         same_ascend rest later ascend.1,
       )
 

@@ -3,7 +3,6 @@ use Rattle.std.proofs.Common.{◌≡◌, ℕ, ◌≤◌, ◌^◌, true, List, le
 use Rattle.std.specs.List.{AllByRecursion}
 use Rattle.lsm_codec.specs.declared.table_record.TableRecord.{TableRecord}
 use Rattle.lsm_codec.specs.TableRecords.{extent_blocks}
-use Rattle.lsm_codec.specs.Versions.{Version}
 use Rattle.lsm_filter.specs.Bits.{is_perhaps}
 use Rattle.lsm_levels.specs.Stored.{blocks_from}
 use Rattle.lsm_mem.specs.Versions.{NumberedAtMost}

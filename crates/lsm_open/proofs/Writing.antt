@@ -1,10 +1,10 @@
 -- What jobs write of tables.
-use Rattle.std.proofs.Common.{◌≡◌, ◌⊎◌, inl, inr, ℕ, ◌+◌, ◌-◌, ◌*◌, ◌≤◌, ◌<◌, List, [], ◌∷◌, ◌++◌, length, take, drop, get_or, refl, sym, ◌∙◌, ap, subst, arith, append_assoc, All}
+use Rattle.std.proofs.Common.{◌≡◌, inl, inr, ℕ, ◌+◌, ◌≤◌, List, [], ◌∷◌, ◌++◌, length, take, drop, get_or, refl, sym, ◌∙◌, ap, subst, arith, append_assoc, All}
 use Rattle.std.proofs.lemmas.List.{length-append, length-drop, length-take-le, take_all, take_at}
 use Rattle.std.proofs.lemmas.List.Elements.{All-nil, All-cons, All-head, All-tail, All-append, All-push, All-weaker}
 use Rattle.lsm_codec.specs.declared.table_record.TableRecord.{TableRecord}
 use Rattle.lsm_codec.specs.Pairs.{Pairwise}
-use Rattle.lsm_codec.specs.TableRecords.{extent_blocks, AreApart}
+use Rattle.lsm_codec.specs.TableRecords.{AreApart}
 use Rattle.lsm_device.specs.Areas.{area, writes_in, IsOutside}
 use Rattle.lsm_device.specs.Disk.{Disk, Write, seen, synced, written}
 use Rattle.lsm_device.specs.Memory.{length-written}

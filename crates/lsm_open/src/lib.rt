@@ -14,7 +14,8 @@ mod replayed;
 pub use formatting::format;
 pub use image_law::{
     batches_apply_to_tables, crashes_leave_beginnings, free_writes_change_nothing,
-    images_are_opened, no_tables_leave_the_batches, sectors_have_one_meaning, syncs_keep_placements,
+    images_are_opened, no_tables_leave_the_batches, sectors_have_one_meaning,
+    syncs_keep_placements,
 };
 pub use install_law::{
     flushes_may_be_installed, installs_switch, merges_may_be_installed, openings_may_be_installed,

@@ -1,4 +1,4 @@
-use Rattle.std.proofs.Common.{true, false, refl, sym, subst, ◌≡◌, ◌∙◌, List, ℕ, length, arith}
+use Rattle.std.proofs.Common.{true, false, sym, subst, ◌≡◌, List, ℕ, length, arith}
 use Rattle.std.proofs.lemmas.Result.{err_from_is_err_and}
 use Rattle.lsm_device.specs.Calls.{AtMost}
 use Rattle.lsm_device.specs.declared.calls.Calls.{Calls}
