@@ -5,7 +5,7 @@ use Rattle.lsm_codec.specs.Map.{Operation}
 use Rattle.lsm_codec.specs.Words.{word_of}
 use Rattle.lsm_codec.specs.Geometry.{data_blocks_of}
 use Rattle.lsm_store.specs.Machine.{Step}
-use Rattle.lsm_store.specs.Paging.{Page}
+use Rattle.lsm_mem.specs.Paging.{Page}
 use Rattle.lsm_device.specs.Calls.{no_calls}
 use Rattle.lsm_device.specs.Medium.{Medium, disk, silent}
 use Rattle.lsm_device.specs.Outcomes.{Leaves}

@@ -3,7 +3,7 @@ use Rattle.std.specs.Prelude.{ℕ, List, [], ◌∷◌, ◌++◌, codes, decimal
 use Rattle.std.specs.List.{flat_map}
 use Rattle.lsm_codec.specs.Words.{word_of}
 use Rattle.lsm_codec.specs.Keys.{Bytes}
-use Rattle.lsm_store.specs.Paging.{Page}
+use Rattle.lsm_mem.specs.Paging.{Page}
 use Rattle.lsm_store.specs.Calls.{Reply, Number, Done, Value, Rows, Refused}
 use Rattle.lsm_language.specs.Faults.{refusal_line}
 use Rattle.lsm_requests.specs.declared.steps.Counted.{Counted}

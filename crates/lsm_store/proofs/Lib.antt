@@ -15,7 +15,6 @@ pub mod Remembering
 pub mod States
 pub mod Refusing
 pub mod Marking
-pub mod Paged
 pub mod Snapshotting
 pub mod Checking
 mod WorkedCalls

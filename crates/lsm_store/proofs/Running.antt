@@ -9,7 +9,7 @@ use Rattle.lsm_device.specs.declared.refusal.Refusal.TheVariants.{NoMemory, Io, 
 use Rattle.lsm_open.specs.CrashState.{CrashState}
 use Rattle.lsm_codec.specs.Keys.{Bytes}
 use Rattle.lsm_store.specs.State.{State, map_at}
-use Rattle.lsm_store.specs.Paging.{Page}
+use Rattle.lsm_mem.specs.Paging.{Page}
 use Rattle.lsm_store.specs.Calls.{Call, Reply}
 use Rattle.lsm_store.specs.Calls.{Commit, Sync, SyncTo, Get, Scan, Snapshot, Release, LogRoom, Number, Done, Value, Rows, Refused}
 use Rattle.lsm_store.specs.Refusals.{refusals, first_refusal, refusal}

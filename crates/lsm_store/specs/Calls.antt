@@ -4,7 +4,7 @@ use Rattle.lsm_codec.specs.Keys.{Bytes}
 use Rattle.lsm_codec.specs.Map.{Operation}
 use Rattle.lsm_device.specs.declared.refusal.Refusal.{Refusal}
 use Rattle.lsm_store.specs.declared.asked.At.{At}
-use Rattle.lsm_store.specs.Paging.{Page}
+use Rattle.lsm_mem.specs.Paging.{Page}
 
 pub data Call : Type 0 where
   -- adds a batch

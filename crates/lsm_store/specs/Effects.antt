@@ -6,7 +6,7 @@ use Rattle.lsm_codec.specs.BatchText.{sectors_of}
 use Rattle.lsm_device.specs.declared.refusal.Refusal.{Refusal}
 use Rattle.lsm_store.specs.RecoveryPoints.{batch_count, present_point, with_batch, all_synced}
 use Rattle.lsm_store.specs.State.{OpenLog, LiveSnapshot, State, map_at, log_room}
-use Rattle.lsm_store.specs.Paging.{page_of}
+use Rattle.lsm_mem.specs.Paging.{page_of}
 use Rattle.lsm_store.specs.Calls.{Call, Reply}
 use Rattle.lsm_store.specs.Calls.{Commit, Sync, SyncTo, Get, Scan, Snapshot, Release, LogRoom, Number, Done, Value, Rows, Refused}
 use Rattle.lsm_store.specs.Refusals.{refusal}

@@ -1,5 +1,4 @@
 pub mod RecoveryPoints
-pub mod Paging
 pub mod State
 pub mod Calls
 pub mod Refusals

@@ -6,7 +6,7 @@ use Rattle.lsm_device.specs.declared.refusal.Refusal.TheVariants.{Stopped, LogFu
 use Rattle.lsm_open.specs.CrashState.{last_number}
 use Rattle.lsm_store.specs.RecoveryPoints.{batch_count}
 use Rattle.lsm_store.specs.State.{State, snapshot_of, may_ask, fits}
-use Rattle.lsm_store.specs.Paging.{is_backwards}
+use Rattle.lsm_mem.specs.Paging.{is_backwards}
 use Rattle.lsm_store.specs.Calls.{Call}
 use Rattle.lsm_store.specs.Calls.{Commit, Sync, SyncTo, Get, Scan, Snapshot, Release, LogRoom}
 

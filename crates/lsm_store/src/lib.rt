@@ -7,7 +7,6 @@ mod device_law;
 mod law;
 mod memory;
 mod opening;
-mod page;
 mod serve;
 mod snapshots;
 mod store;
@@ -18,5 +17,5 @@ pub use law::{
     allowed_is_admitted, ample_steps_run, crash_keeps_a_beginning, crash_states_go_on,
     crashes_keep_beginnings, runs_join, stopped_refuses,
 };
-pub use page::{Page, Row};
+pub use lsm_mem::{Page, Row};
 pub use store::Store;
