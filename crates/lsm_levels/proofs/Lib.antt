@@ -19,6 +19,7 @@ pub mod BottomLaws
 mod Walks
 pub mod CoveringLaws
 pub mod NewestOf
+pub mod SourceLaws
 pub mod AskedLaws
 pub mod LookingUp
 pub mod ToldLaws

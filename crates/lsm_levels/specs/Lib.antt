@@ -11,3 +11,4 @@ pub mod Asking
 pub mod Lookups
 pub mod Stored
 pub mod Founds
+pub mod Sources

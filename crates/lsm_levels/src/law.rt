@@ -1,6 +1,7 @@
 //! Laws of the definitions.
 
 ghost use Rattle.lsm_levels.specs.Held.{PickLaw, SurvivalLaw, RunsLaw, MergingLaw, OrderLaw, FlushLaw};
+ghost use Rattle.lsm_levels.specs.Sources.{NextLaw, PageLaw};
 
 /// A job that is picked takes tables that no other job has as input, and all that it needs.
 pub fn picked_jobs_have_free_tables()
@@ -23,4 +24,10 @@ pub fn merges_leave_other_versions()
 /// A flush of versions that are newer than those of their keys in all levels keeps the order of versions.
 pub fn flushes_keep_the_order()
     ensures { FlushLaw }
+{}
+
+/// Sources of versions, read in the order of entries, come to a page of the map that all their places stand for.
+pub fn sources_come_to_a_page()
+    ensures next { NextLaw }
+    ensures page { PageLaw }
 {}

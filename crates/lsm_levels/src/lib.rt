@@ -20,7 +20,7 @@ mod within;
 
 pub use law::{
     flushes_keep_the_order, jobs_keep_their_tables, merges_leave_other_versions,
-    picked_jobs_have_free_tables,
+    picked_jobs_have_free_tables, sources_come_to_a_page,
 };
 pub use levels::Levels;
 pub use picking::{HeldJobs, Pick};

@@ -27,7 +27,7 @@ no : true ≡ false → ⊥
 no e = cc
 
 -- what comes behind a version has a greater key, or the same key and a lesser number
-behind_cases : (v w : Version) → entry_order v w ≡ Less → (byte_order v.key w.key ≡ Less) ⊎ ((v.key ≡ w.key) × (w.number < v.number))
+pub behind_cases : (v w : Version) → entry_order v w ≡ Less → (byte_order v.key w.key ≡ Less) ⊎ ((v.key ≡ w.key) × (w.number < v.number))
 behind_cases v w h = by (byte_order v.key w.key) refl h
   where
     by : (r : Ordering) → byte_order v.key w.key ≡ r → ordering_then r (nat_cmp w.number v.number) ≡ Less → (byte_order v.key w.key ≡ Less) ⊎ ((v.key ≡ w.key) × (w.number < v.number))
@@ -36,7 +36,7 @@ behind_cases v w h = by (byte_order v.key w.key) refl h
     by Greater e k = absurd (let other : Greater ≡ Less = k in cc)
 
 -- a key below a version's is below all others'
-below_other : (q : Bytes) (v w : Version) → byte_order q v.key ≡ Less → entry_order v w ≡ Less → byte_order q w.key ≡ Less
+pub below_other : (q : Bytes) (v w : Version) → byte_order q v.key ≡ Less → entry_order v w ≡ Less → byte_order q w.key ≡ Less
 below_other q v w h k = ⊎_elim (λ (l : byte_order v.key w.key ≡ Less). below_both q v.key w.key h l) (λ (s : (v.key ≡ w.key) × (w.number < v.number)). subst (λ (key : Bytes). byte_order q key ≡ Less) s.0 h) (behind_cases v w k)
 
 -- of the same key it is older
@@ -97,18 +97,18 @@ newest_is_first n (w ∷ newer) v older le h =
 
 -- ---- what comes, key by key
 
-abbrev wanted : Gathering → Bytes → Bool
+abbrev pub wanted : Gathering → Bytes → Bool
 wanted g q = is_behind g.decided q && is_before g.to q
 
-come_sorted : (g : Gathering) (left : List Version) → T (is_sorted byte_order (pairs_to_come g left))
+pub come_sorted : (g : Gathering) (left : List Version) → T (is_sorted byte_order (pairs_to_come g left))
 come_sorted g left = is_sorted-where_key byte_order (wanted g) (entries (map_of left g.at)) (entries_sorted (map_of left g.at))
 
-come_find : (g : Gathering) (left : List Version) (q : Bytes) → find byte_order q (pairs_to_come g left) ≡ cond (wanted g q) (value_at left g.at q) None
+pub come_find : (g : Gathering) (left : List Version) (q : Bytes) → find byte_order q (pairs_to_come g left) ≡ cond (wanted g q) (value_at left g.at q) None
 come_find g left q =
     find-where_key byte_order (wanted g) q (λ x e. ap (wanted g) (sym (same_keys q x e))) (entries (map_of left g.at))
     ∙ ap (λ (o : Option Bytes). cond (wanted g q) o None) (sym (get-entries (map_of left g.at) q) ∙ get-map_of left g.at q)
 
-same_pairs : (ps qs : List (Bytes × Bytes)) → T (is_sorted byte_order ps) → T (is_sorted byte_order qs) → ((q : Bytes) → find byte_order q ps ≡ find byte_order q qs) → ps ≡ qs
+pub same_pairs : (ps qs : List (Bytes × Bytes)) → T (is_sorted byte_order ps) → T (is_sorted byte_order qs) → ((q : Bytes) → find byte_order q ps ≡ find byte_order q qs) → ps ≡ qs
 same_pairs ps qs a b h = same_entries byte_order nat_list_cmp_total same_keys ps qs a b h
 
 -- none is found

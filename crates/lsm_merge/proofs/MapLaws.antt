@@ -48,7 +48,7 @@ found_at test key n v rest false e h next =
     skipped test key n v (filter test rest) (test v) e ∙ next (λ w f. h w (passed ∙ f)) ∙ sym passed
 
 -- a filter that passes the first that is found leaves it the first
-first-filter : (test : Version → Bool) (key : Bytes) (n : ℕ) (versions : List Version) → ((v : Version) → first_at key n versions ≡ Some v → test v ≡ true) → first_at key n (filter test versions) ≡ first_at key n versions
+pub first-filter : (test : Version → Bool) (key : Bytes) (n : ℕ) (versions : List Version) → ((v : Version) → first_at key n versions ≡ Some v → test v ≡ true) → first_at key n (filter test versions) ≡ first_at key n versions
 first-filter test key n [] h = refl
 first-filter test key n (v ∷ rest) h = found_at test key n v rest (is_version_of key n v) refl h (λ k. first-filter test key n rest k)
 
@@ -56,7 +56,7 @@ found_key : (key : Bytes) (n : ℕ) (w v : Version) (o : Option Version) (b : Bo
 found_key key n w v o true f g next = let same : w ≡ v = cc in same_key key w.key (is_version_of-key key n w f) ∙ ap (λ x. x.key) same
 found_key key n w v o false f g next = next g
 
-first_key : (key : Bytes) (n : ℕ) (versions : List Version) (v : Version) → first_at key n versions ≡ Some v → key ≡ v.key
+pub first_key : (key : Bytes) (n : ℕ) (versions : List Version) (v : Version) → first_at key n versions ≡ Some v → key ≡ v.key
 first_key key n [] v e = cc
 first_key key n (w ∷ rest) v e = found_key key n w v (first_at key n rest) (is_version_of key n w) refl e (first_key key n rest v)
 
