@@ -14,7 +14,7 @@ use Rattle.std.proofs.lemmas.List.{append_assoc}
 use Rattle.lsm_codec.specs.Keys.{Bytes, byte_order}
 use Rattle.lsm_codec.specs.Versions.{Version, is_same_key, is_version_of, newer_of, newest, entry_order}
 use Rattle.lsm_mem.specs.Versions.{value_at, map_of}
-use Rattle.lsm_mem.specs.Paging.{Page, is_before, first_page}
+use Rattle.lsm_mem.specs.Paging.{is_before, first_page}
 use Rattle.lsm_mem.specs.Gathering.{Gathering, is_behind, pairs_to_come, page_with, page_so_far, IsFirst, with_deleted, with_row, with_next, last_key}
 use Rattle.lsm_codec.proofs.KeyOrder.{same_keys, same_key, key_itself, is_lt_Less, above, below_both, less_greater}
 use Rattle.lsm_mem.proofs.HistoryLaws.{last-push}

@@ -3,7 +3,6 @@ use Rattle.std.proofs.Common.{◌≡◌, ℕ, List, [], ◌∷◌, ◌++◌, len
 use Rattle.std.proofs.lemmas.List.{reverse-append, reverse-reverse}
 use Rattle.std.specs.declared.vec.Vec.{Vec}
 use Rattle.lsm_codec.specs.Keys.{Bytes}
-use Rattle.lsm_codec.specs.Versions.{Version}
 use Rattle.lsm_codec.proofs.Lists.{none_length}
 use Rattle.lsm_mem.specs.Histories.{Change, version, versions_of, plain}
 

@@ -33,12 +33,12 @@ impl<'k, A: Allocator> Model for PageBuilder<'k, A> {
     ghost Value = { Gathering };
 
     ghost view = { λ b. record {
-        at = b.at;
-        to = option_map (λ to. to.now) b.to;
-        limit = b.limit;
-        decided = if b.is_deleted then Some b.deleted.items else last_key b.rows.items;
-        rows = b.rows.items;
-        next = option_map (λ key. key.items) b.next;
+      at = b.at;
+      to = option_map (λ to. to.now) b.to;
+      limit = b.limit;
+      decided = if b.is_deleted then Some b.deleted.items else last_key b.rows.items;
+      rows = b.rows.items;
+      next = option_map (λ key. key.items) b.next;
     } };
 
     ghost invariant = { λ b. length b.rows.items ≤ b.limit };

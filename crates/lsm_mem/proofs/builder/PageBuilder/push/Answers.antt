@@ -1,4 +1,4 @@
-use Rattle.std.proofs.Common.{◌≡◌, List, [], ◌∷◌, ◌++◌, Option, Some, option_map, sym, ◌∙◌, ap}
+use Rattle.std.proofs.Common.{◌≡◌, List, [], ◌∷◌, ◌++◌, Option, option_map, ◌∙◌, ap}
 use Rattle.lsm_codec.specs.Keys.{Bytes}
 use Rattle.lsm_mem.specs.Gathering.{Gathering, with_row, last_key}
 use Rattle.lsm_mem.proofs.GatheringLaws.{last_key-push}

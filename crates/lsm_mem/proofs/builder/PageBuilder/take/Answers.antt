@@ -1,6 +1,5 @@
-use Rattle.std.proofs.Common.{◌≡◌, ◌≤◌, ◌<◌, ◌∷◌, ◌++◌, length, List, Bool, true, false, Some, None, inl, inr, option_map, refl, sym, ◌∙◌, ap, subst, arith}
+use Rattle.std.proofs.Common.{◌≡◌, ◌≤◌, ◌<◌, ◌++◌, length, true, inl, inr, option_map, sym, ◌∙◌, ap, subst}
 use Rattle.lsm_codec.specs.References.{shown}
-use Rattle.lsm_codec.specs.Versions.{Version}
 use Rattle.lsm_mem.specs.Paging.{is_before}
 use Rattle.lsm_mem.specs.Gathering.{Gathering, page_with, page_so_far}
 use Rattle.lsm_mem.proofs.GatheringLaws.{page_past_the_end, page_passed_over, page_deleted, page_with_row, page_full}

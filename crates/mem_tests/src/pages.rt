@@ -1,0 +1,97 @@
+//! Pages of versions that come from many places.
+
+use lsm_codec::VersionRef;
+use lsm_mem::{Page, PageBuilder};
+use std::alloc::{AllocError, Global};
+use std::test::Fail;
+
+fn put<'v>(key: &'v [u8], number: u64, value: &'v [u8]) -> VersionRef<'v> {
+    VersionRef {
+        key,
+        number,
+        value: Some(value),
+    }
+}
+
+fn delete(key: &[u8], number: u64) -> VersionRef<'_> {
+    VersionRef {
+        key,
+        number,
+        value: None,
+    }
+}
+
+/// The page of versions in the order of entries.
+fn page_of(
+    alloc: Global,
+    versions: [VersionRef<'_>; 9],
+    to: Option<&[u8]>,
+    at: u64,
+    limit: u64,
+) -> Result<Page, AllocError> {
+    let mut builder = PageBuilder::new(&alloc, to, at, limit)?;
+    for version in versions {
+        if !builder.take(&alloc, version)? {
+            break;
+        }
+    }
+    Ok(builder.into_page())
+}
+
+/// The bytes of a page: key and value of each row, and behind a `>` the next key.
+fn listed(alloc: Global, page: &Page) -> Result<Vec<u8>, AllocError> {
+    let mut out = Vec::new(alloc);
+    for row in page.rows() {
+        out.extend_from_slice(row.key())?;
+        out.extend_from_slice(row.value())?;
+    }
+    if let Some(key) = page.next_key() {
+        out.push(b'>')?;
+        out.extend_from_slice(key)?;
+    }
+    Ok(out)
+}
+
+/// Whether the page of five keys is this one: `a` and `c` are put twice, `b` is put and deleted, `d` and `e` are put once.
+fn is_page(
+    alloc: Global,
+    to: Option<&[u8]>,
+    at: u64,
+    limit: u64,
+    wanted: &[u8],
+) -> Result<bool, AllocError> {
+    let versions = [
+        put(b"a", 5, b"5"),
+        put(b"a", 2, b"2"),
+        delete(b"b", 4),
+        put(b"b", 3, b"3"),
+        put(b"b", 1, b"1"),
+        put(b"c", 9, b"9"),
+        put(b"c", 3, b"3"),
+        put(b"d", 2, b"2"),
+        put(b"e", 1, b"1"),
+    ];
+    let page = page_of(alloc, versions, to, at, limit)?;
+    let found = listed(alloc, &page)?;
+    Ok(found.as_slice() == wanted)
+}
+
+#[test]
+fn a_page_has_the_newest_put_of_each_key(rt: HostRuntime) -> Result<(), Fail> {
+    for (to, at, limit, wanted) in [
+        (None, 9, 64, b"a5c9d2e1".as_slice()),
+        (None, 5, 64, b"a5c3d2e1".as_slice()),
+        (None, 3, 64, b"a2b3c3d2e1".as_slice()),
+        (None, 1, 64, b"b1e1".as_slice()),
+        (None, 0, 64, b"".as_slice()),
+        (None, 5, 2, b"a5c3>d".as_slice()),
+        (None, 5, 1, b"a5>c".as_slice()),
+        (None, 5, 4, b"a5c3d2e1".as_slice()),
+        (Some(b"d".as_slice()), 5, 2, b"a5c3".as_slice()),
+        (Some(b"c".as_slice()), 5, 64, b"a5".as_slice()),
+        (Some(b"a".as_slice()), 5, 64, b"".as_slice()),
+    ] {
+        assert!(rt; is_page(rt.alloc(), to, at, limit, wanted)?, "{at} {limit}");
+    }
+    Ok(())
+}
