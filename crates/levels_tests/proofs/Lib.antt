@@ -1,2 +1,1 @@
-mod Inputs
 mod Merges

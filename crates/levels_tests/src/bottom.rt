@@ -1,42 +1,40 @@
 //! Bottom flags.
 
-use crate::jobs::NoJob;
+use crate::jobs::Slots;
 use crate::tables::{Put, levels_of};
-use lsm_levels::Pick;
-use std::alloc::Global;
+use lsm_levels::{Levels, Pick};
 use std::process::Abort;
-use std::test::Fail;
 
-/// The bottom flag of the next job of levels whose oldest run has the keys 61 and 63, with these in level 1 and level 3.
-fn flag_of(alloc: Global, level_1: &[Put], level_3: &[Put]) -> Result<Option<bool>, Fail> {
-    let runs: [&[Put]; 4] = [
-        &[(1, 0x61), (2, 0x63)],
-        &[(3, 0x62)],
-        &[(4, 0x62)],
-        &[(5, 0x62)],
+/// The bottom flag of the next job, if there is one.
+fn next_flag(levels: &Levels) -> Option<bool> {
+    let job = levels.pick(false, &Slots::Free)?;
+    Some(levels.is_bottom(&job))
+}
+
+/// Four runs, of which the oldest has the keys 61 and 63.
+const FOUR: [&[Put]; 4] = [
+    &[(1, 0x61), (2, 0x63)],
+    &[(3, 0x62)],
+    &[(4, 0x62)],
+    &[(5, 0x62)],
+];
+
+#[test]
+fn a_merge_is_at_the_bottom_where_nothing_below_meets_it(rt: HostRuntime) {
+    let cases: [([&[Put]; 3], bool); 4] = [
+        ([&[], &[], &[]], true),
+        ([&[(7, 0x62)], &[], &[(8, 0x60), (9, 0x64)]], true),
+        ([&[], &[], &[(8, 0x62)]], false),
+        ([&[], &[], &[(8, 0x63)]], false),
     ];
-    let levels = levels_of(&alloc, &runs, &[level_1, &[], level_3])?;
-    Ok(levels.pick(false, &NoJob).map(|job| levels.is_bottom(&job)))
+    for (deeper, flag) in cases {
+        let levels = levels_of(&rt, &rt.alloc(), &FOUR, &deeper);
+        assert!(rt; next_flag(&levels) == Some(flag));
+    }
 }
 
 #[test]
-fn nothing_below_meets_the_inputs(rt: HostRuntime) -> Result<(), Fail> {
-    let beside: [Put; 2] = [(8, 0x60), (9, 0x64)];
-    assert!(rt; flag_of(rt.alloc(), &[], &[])? == Some(true));
-    assert!(rt; flag_of(rt.alloc(), &[(7, 0x62)], &beside)? == Some(true));
-    Ok(())
-}
-
-#[test]
-fn a_table_below_meets_the_inputs(rt: HostRuntime) -> Result<(), Fail> {
-    assert!(rt; flag_of(rt.alloc(), &[], &[(8, 0x62)])? == Some(false));
-    assert!(rt; flag_of(rt.alloc(), &[], &[(8, 0x63)])? == Some(false));
-    Ok(())
-}
-
-#[test]
-fn a_flush_is_never_at_the_bottom(rt: HostRuntime) -> Result<(), Fail> {
-    let levels = levels_of(&rt.alloc(), &[], &[])?;
+fn a_flush_is_never_at_the_bottom(rt: HostRuntime) {
+    let levels = levels_of(&rt, &rt.alloc(), &[], &[]);
     assert!(rt; !levels.is_bottom(&Pick::Flush));
-    Ok(())
 }

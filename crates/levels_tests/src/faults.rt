@@ -1,45 +1,38 @@
 //! Reads that fault, and blocks that are none.
 
-use crate::batches::{has, puts};
+use crate::batches::{batch_of, finds};
 use crate::subject::Subject;
 use lsm_device::Refusal;
 use std::alloc::Global;
 use std::process::Abort;
-use std::test::Fail;
 
-fn subject(alloc: Global) -> Result<Subject, Refusal> {
-    let mut subject = Subject::new(alloc, &alloc, 16)?;
-    subject.add_run(&puts(&alloc, &[0x61, 0x63], b"1")?, 1)?;
-    Ok(subject)
+/// A table of the keys 61 and 63.
+fn subject<R: Abort>(rt: &R, alloc: Global) -> Subject {
+    let mut subject = Subject::new(rt, alloc, &alloc, 16);
+    subject.put(rt, 0, &batch_of(rt, &alloc, &[0x61, 0x63], Some(b"1")), 1);
+    subject
 }
 
 /// Whether a look-up is refused with Io where the read with this number fails, counted from 0, and not the next time.
-fn is_refused_once(alloc: Global, number: u64) -> Result<bool, Refusal> {
-    let mut subject = subject(alloc)?;
+fn is_refused_once(subject: &mut Subject, number: u64) -> bool {
     let before = subject.reads();
     subject.fail_after(number);
-    let is_refused = matches!(subject.get(&[0x61], 1), Err(Refusal::Io));
-    let is_last = subject.reads().wrapping_sub(before) == number.wrapping_add(1);
-    Ok(is_refused && is_last && has(&mut subject, 0x61, 1, Some(b"1"))?)
+    finds(subject, 0x61, 1, Some(b"1")) == Err(Refusal::Io)
+        && subject.reads().wrapping_sub(before) == number.wrapping_add(1)
+        && finds(subject, 0x61, 1, Some(b"1")) == Ok(true)
 }
 
 #[test]
-fn each_read_fails_in_turn(rt: HostRuntime) -> Result<(), Fail> {
+fn each_read_fails_in_turn(rt: HostRuntime) {
     for number in 0..8u64 {
-        assert!(rt; is_refused_once(rt.alloc(), number)?, "{number}");
+        let mut subject = subject(&rt, rt.alloc());
+        assert!(rt; is_refused_once(&mut subject, number), "{number}");
     }
-    Ok(())
-}
-
-/// Whether a block that is no data block is refused.
-fn is_bad(alloc: Global) -> Result<bool, Refusal> {
-    let mut subject = subject(alloc)?;
-    subject.spoil(0)?;
-    Ok(matches!(subject.get(&[0x61], 1), Err(Refusal::BadTable)))
 }
 
 #[test]
-fn a_block_of_zeros(rt: HostRuntime) -> Result<(), Fail> {
-    assert!(rt; is_bad(rt.alloc())?);
-    Ok(())
+fn a_block_of_zeros(rt: HostRuntime) {
+    let mut subject = subject(&rt, rt.alloc());
+    subject.spoil(&rt, 0);
+    assert!(rt; finds(&mut subject, 0x61, 1, Some(b"1")) == Err(Refusal::BadTable));
 }

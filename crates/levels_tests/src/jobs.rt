@@ -1,74 +1,38 @@
-//! Jobs that hold slots.
+//! Slots that a job holds, or none.
 
 use lsm_levels::HeldJobs;
 
-/// No slot is held.
-#[derive(Drop)]
-pub struct NoJob;
+/// Who holds slots.
+#[derive(Clone, Copy, Drop)]
+pub enum Slots {
+    /// Nobody.
+    Free,
+    /// A flush.
+    Flush,
+    /// A merge of a level, which takes in one table.
+    Merge { level: u8, table: u64 },
+}
 
-impl HeldJobs for NoJob {
-    ghost use Rattle.std.specs.Prelude.{[]};
+impl HeldJobs for Slots {
+    ghost use Rattle.levels_tests.specs.Jobs.{jobs_of};
 
-    ghost jobs = { λ _. [] };
+    ghost jobs = { jobs_of };
 
     fn has_flush(&self) -> bool {
-        false
+        matches!(self, Slots::Flush)
     }
 
     fn has_level_0(&self) -> bool {
-        false
-    }
-
-    fn takes_in(&self, _number: u64) -> bool {
-        false
-    }
-}
-
-/// A flush alone.
-#[derive(Drop)]
-pub struct OneFlush;
-
-impl HeldJobs for OneFlush {
-    ghost use Rattle.std.specs.Prelude.{[], ◌∷◌};
-    ghost use Rattle.lsm_levels.specs.Pick.{Flush};
-
-    ghost jobs = { λ _. Flush ∷ [] };
-
-    fn has_flush(&self) -> bool {
-        true
-    }
-
-    fn has_level_0(&self) -> bool {
-        false
-    }
-
-    fn takes_in(&self, _number: u64) -> bool {
-        false
-    }
-}
-
-/// A merge of a level alone, which takes in one table.
-#[derive(Drop)]
-pub struct OneMerge {
-    pub level: u8,
-    pub table: u64,
-}
-
-impl HeldJobs for OneMerge {
-    ghost use Rattle.std.specs.Prelude.{[], ◌∷◌};
-    ghost use Rattle.levels_tests.specs.Jobs.{merge_of_table};
-
-    ghost jobs = { λ s. merge_of_table s.level s.table ∷ [] };
-
-    fn has_flush(&self) -> bool {
-        false
-    }
-
-    fn has_level_0(&self) -> bool {
-        self.level == 0
+        match self {
+            Slots::Free | Slots::Flush => false,
+            Slots::Merge { level, table: _ } => *level == 0,
+        }
     }
 
     fn takes_in(&self, number: u64) -> bool {
-        self.table == number
+        match self {
+            Slots::Free | Slots::Flush => false,
+            Slots::Merge { level: _, table } => *table == number,
+        }
     }
 }

@@ -10,17 +10,21 @@ mod faults;
 #[cfg(test)]
 mod growth;
 #[cfg(test)]
-mod installs;
+mod heaps;
 #[cfg(test)]
-mod jobs;
+mod installs;
+pub mod jobs;
 #[cfg(test)]
 mod lookup_growth;
+#[cfg(test)]
+mod opens;
 #[cfg(test)]
 mod picks;
 #[cfg(test)]
 mod places;
 #[cfg(test)]
 mod reads;
-pub mod subject;
+#[cfg(test)]
+mod subject;
 #[cfg(test)]
 mod tables;

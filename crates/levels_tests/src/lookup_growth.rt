@@ -1,75 +1,36 @@
 //! Look-ups whose memory is short.
 
-use crate::batches::{has, puts};
-use crate::subject::Subject;
+use crate::batches::{finds, three_blocks};
+use crate::heaps::take;
 use linked_list_allocator::LocalHeap;
 use lsm_device::Refusal;
-use std::alloc::{AllocError, Global};
+use std::alloc::{Allocator, Global};
 use std::process::Abort;
-use std::test::Fail;
 
-const HEAP: usize = 65_536;
-
-/// Pieces of 256 bytes.
-type Pieces<'h> = Vec<Vec<u8, &'h LocalHeap>, &'h LocalHeap>;
-
-/// All that is left of the heap, in pieces.
-fn all_of(heap: &LocalHeap) -> Result<Pieces<'_>, AllocError> {
-    let mut pieces = Vec::with_capacity(heap, 256)?;
-    for _piece in 0..256_usize {
-        let Ok(piece) = Vec::with_capacity(heap, 256) else {
-            return Ok(pieces);
-        };
-        pieces.push(piece)?;
-    }
-    Ok(pieces)
-}
-
-/// Whether a value is found where all of the heap but so many pieces is taken, or memory is refused. The memory is given
-/// back.
-fn finds_beside<'h>(
-    heap: &'h LocalHeap,
-    subject: &mut Subject<&'h LocalHeap>,
-    value: &[u8],
-    left: usize,
-) -> Result<bool, Refusal> {
-    let mut taken = all_of(heap)?;
-    taken.truncate(taken.len().saturating_sub(left));
-    match has(subject, 0x62, 1, Some(value)) {
-        Ok(true) => Ok(true),
-        Err(Refusal::NoMemory) => Ok(false),
-        _ => Err(Refusal::WrongState),
-    }
-}
-
-/// The same, of a table of three blocks; and the value is found once there is memory.
-fn finds(disk: Global, heap: &LocalHeap, left: usize) -> Result<bool, Refusal> {
+/// Whether a value of 2,048 bytes is found where others have so many pieces of 256 bytes, or else memory is refused. It is
+/// found once they have given them back.
+fn is_found<A: Allocator + Clone, R: Abort>(rt: &R, disk: Global, alloc: &A, count: usize) -> bool {
     let value = [7; 2_048];
-    let mut subject = Subject::new(disk, &heap, 2)?;
-    subject.add_run(&puts(&heap, &[0x61, 0x62, 0x63], &value)?, 1)?;
-    let is_found = finds_beside(heap, &mut subject, &value, left)?;
-    if !has(&mut subject, 0x62, 1, Some(&value))? {
-        return Err(Refusal::WrongState);
-    }
-    Ok(is_found)
-}
-
-fn in_heap(alloc: Global, left: usize) -> Result<bool, Fail> {
-    let heap = LocalHeap::new(alloc, HEAP)?;
-    Ok(finds(alloc, &heap, left)?)
+    let mut subject = three_blocks(rt, disk, alloc, 2, &value);
+    let taken = take(rt, disk, alloc, count, 256);
+    let found = finds(&mut subject, 0x62, 1, Some(&value));
+    drop(taken);
+    assert!(rt; matches!(found, Ok(true) | Err(Refusal::NoMemory)));
+    assert!(rt; finds(&mut subject, 0x62, 1, Some(&value)) == Ok(true));
+    found.is_ok()
 }
 
 #[test]
-fn each_growth_is_refused_in_turn(rt: HostRuntime) -> Result<(), Fail> {
+fn each_growth_is_refused_in_turn(rt: HostRuntime) {
     let mut refused = 0u32;
     let mut found = 0u32;
-    for left in 0..40usize {
-        if in_heap(rt.alloc(), left)? {
+    for count in 0..256usize {
+        let heap = LocalHeap::new(rt.alloc(), 65_536).expect(&rt, "a heap");
+        if is_found(&rt, rt.alloc(), &&heap, count) {
             found = found.wrapping_add(1);
         } else {
             refused = refused.wrapping_add(1);
         }
     }
     assert!(rt; refused > 5 && found > 5, "{refused} {found}");
-    Ok(())
 }

@@ -1,95 +1,83 @@
 //! What look-ups are made in: memory, and tables on a device.
 
-ghost use Rattle.std.specs.Prelude.{◌≤◌};
+ghost use Rattle.std.specs.Prelude.{◌≡◌};
+ghost use Rattle.std.specs.Arc.{arc_value};
+ghost use Rattle.std.specs.List.{AllByRecursion};
+ghost use Rattle.lsm_codec.specs.Versions.{IsEntry};
 
+use crate::tables::{add_run, copy, run_of};
 use lsm_cache::Cache;
 use lsm_codec::{Batch, Entry};
 use lsm_device::{Device, MemDevice, Refusal};
-use lsm_levels::{Levels, PlacedTable, ReadView, Run, is_run};
+use lsm_levels::{Levels, PlacedTable, ReadView, Run};
 use lsm_mem::{Mem, Sealed};
 use lsm_table::Image;
 use std::alloc::{Allocator, Global};
+use std::process::Abort;
 use std::sync::Arc;
 use table_tests::input::images_of;
 
 /// Where the blocks of tables begin.
 const AREA: u32 = 16;
 
-/// Memory, levels whose tables stand on a device, and a cache.
-#[derive(Drop)]
-pub struct Subject<A: Allocator = Global> {
-    alloc: A,
-    mem: Mem<A>,
-    sealed: Option<Arc<Sealed<A>, A>>,
-    levels: Levels<A>,
-    cache: Cache<A>,
-    device: MemDevice,
-    next_block: u32,
-    next_table: u32,
-}
-
-/// The entries of a batch under this number.
-fn entries_of<A: Allocator + Clone>(
+/// Memory with a batch alone, under a number from 1 to 2^63.
+fn mem_of<A: Allocator + Clone, R: Abort>(
+    rt: &R,
     alloc: &A,
     batch: &Batch<A>,
     number: u64,
-) -> Result<Vec<Entry<A>, A>, Refusal> {
-    if !(1..=1 << 63).contains(&number) {
-        return Err(Refusal::BadLimit);
-    }
-    let mut mem = Mem::new(alloc.clone()?)?;
-    mem.insert(batch, number)?;
+) -> Mem<A>
+    ensures { AllByRecursion IsEntry result }
+{
+    assert!(rt; (1..=1 << 63).contains(&number));
+    let mut mem = Mem::new(copy(rt, alloc)).expect(rt, "memory");
+    mem.insert(batch, number).expect(rt, "memory");
+    mem
+}
+
+fn sealed_of<A: Allocator + Clone, R: Abort>(rt: &R, mem: Mem<A>) -> Arc<Sealed<A>, A>
+    ensures { arc_value result ≡ mem }
+{
     match mem.seal() {
-        Ok(sealed) => Ok(sealed.entries(alloc.clone()?)?),
-        Err(_) => Err(Refusal::NoMemory),
+        Ok(sealed) => sealed,
+        Err(_) => rt.panic("memory"),
     }
+}
+
+/// The entries of a batch under this number.
+fn entries_of<A: Allocator + Clone, R: Abort>(
+    rt: &R,
+    alloc: &A,
+    batch: &Batch<A>,
+    number: u64,
+) -> Vec<Entry<A>, A> {
+    let sealed = sealed_of(rt, mem_of(rt, alloc, batch, number));
+    sealed.entries(copy(rt, alloc)).expect(rt, "memory")
 }
 
 /// Writes a block to the eight sectors from one on.
-fn write_block(device: &mut MemDevice, sector: u32, block: &[u8; 4_096]) -> Result<(), Refusal> {
+fn write_block<R: Abort>(rt: &R, device: &mut MemDevice, sector: u32, block: &[u8; 4_096]) {
     for i in 0..8_usize {
-        let Some(at) = sector.checked_add(i as u32) else {
-            return Err(Refusal::NoSpace);
-        };
-        if at >= device.sectors() {
-            return Err(Refusal::NoSpace);
-        }
+        let at = sector.wrapping_add(i as u32);
+        assert!(rt; at < device.sectors());
         let mut bytes = [0; 512];
         bytes.copy_from_slice(&block[512 * i..512 * i + 512]);
-        device.write(at, &bytes)?;
+        device.write(at, &bytes).expect(rt, "a write");
     }
-    Ok(())
 }
 
 /// Writes the blocks of a table's extent, which begins at a sector.
-fn write_image<A: Allocator>(
+fn write_image<A: Allocator, R: Abort>(
+    rt: &R,
     device: &mut MemDevice,
     sector: u32,
     image: &Image<A>,
     number: u32,
-) -> Result<(), Refusal> {
+) {
     let mut next = sector;
     for at in 0..image.extent_blocks() {
-        write_block(device, next, &image.block(number as u64, at))?;
+        write_block(rt, device, next, &image.block(number as u64, at));
         next = next.wrapping_add(8);
-    }
-    Ok(())
-}
-
-/// The run of one table.
-fn run_of<A: Allocator + Clone>(alloc: &A, table: PlacedTable<A>) -> Result<Run<A>, Refusal> {
-    let mut tables = Vec::new(alloc.clone()?);
-    tables.push(table)?;
-    if !is_run(&tables) {
-        return Err(Refusal::BadTable);
-    }
-    Ok(Run::from_tables(tables))
-}
-
-fn sealed_of<A: Allocator>(sealed: &Option<Arc<Sealed<A>, A>>) -> Option<&Sealed<A>> {
-    match sealed {
-        Some(sealed) => Some(sealed),
-        None => None,
     }
 }
 
@@ -121,92 +109,85 @@ fn find_in<A: Allocator + Clone>(
     view.find(alloc, cache, device, key, at)
 }
 
+/// Memory, levels whose tables stand on a device, and a cache. Its calls tell the prover nothing, so that it has nothing to
+/// carry from one line of a test to the next.
+#[derive(Drop)]
+pub struct Subject<A: Allocator = Global> {
+    alloc: A,
+    mem: Mem<A>,
+    sealed: Option<Arc<Sealed<A>, A>>,
+    levels: Levels<A>,
+    cache: Cache<A>,
+    device: MemDevice,
+    next_block: u32,
+    next_table: u32,
+}
+
 impl<A: Allocator + Clone> Subject<A> {
-    /// Nothing yet, on a device of 256 sectors, with a cache of so many blocks.
-    pub fn new(disk: Global, alloc: &A, blocks: u16) -> Result<Subject<A>, Refusal>
-        requires low { 1 ≤ blocks }
-        requires high { blocks ≤ 4096 }
-    {
-        Ok(Subject {
-            mem: Mem::new(alloc.clone()?)?,
+    /// Nothing yet, on a device of 256 sectors, with a cache of so many blocks, from 1 to 4,096.
+    pub fn new<R: Abort>(rt: &R, disk: Global, alloc: &A, blocks: u16) -> Subject<A> {
+        assert!(rt; (1..=4_096).contains(&blocks));
+        Subject {
+            mem: Mem::new(copy(rt, alloc)).expect(rt, "memory"),
             sealed: None,
-            levels: Levels::new(alloc.clone()?)?,
-            cache: Cache::new(alloc.clone()?, blocks)?,
-            device: MemDevice::new(disk, 256)?,
+            levels: Levels::new(copy(rt, alloc)).expect(rt, "memory"),
+            cache: Cache::new(copy(rt, alloc), blocks).expect(rt, "memory"),
+            device: MemDevice::new(disk, 256).expect(rt, "a device"),
             next_block: 0,
             next_table: 1,
-            alloc: alloc.clone()?,
-        })
+            alloc: copy(rt, alloc),
+        }
     }
 
     /// The table of an image, whose blocks are written behind those of other tables.
-    fn place(&mut self, image: &Image<A>) -> Result<PlacedTable<A>, Refusal> {
+    fn place<R: Abort>(&mut self, rt: &R, image: &Image<A>) -> PlacedTable<A> {
         let sector = AREA.wrapping_add(self.next_block.wrapping_mul(8));
         let number = self.next_table;
-        write_image(&mut self.device, sector, image, number)?;
-        let alloc = self.alloc.clone()?;
-        let table = PlacedTable::of_image(alloc, image, number as u64, self.next_block)?;
+        write_image(rt, &mut self.device, sector, image, number);
+        let alloc = copy(rt, &self.alloc);
+        let made = PlacedTable::of_image(alloc, image, number as u64, self.next_block);
+        let table = made.expect(rt, "a table");
         self.next_block = self.next_block.wrapping_add(table.blocks());
         self.next_table = number.wrapping_add(1);
-        Ok(table)
+        table
     }
 
     /// The run of the table of a batch under this number.
-    fn flush(&mut self, batch: &Batch<A>, number: u64) -> Result<Run<A>, Refusal> {
-        let entries = entries_of(&self.alloc, batch, number)?;
-        let images = images_of(self.alloc.clone()?, entries)?;
-        let Some(image) = images.first() else {
-            return Err(Refusal::BadTable);
-        };
-        let table = self.place(image)?;
-        run_of(&self.alloc, table)
+    fn flush<R: Abort>(&mut self, rt: &R, batch: &Batch<A>, number: u64) -> Run<A> {
+        let entries = entries_of(rt, &self.alloc, batch, number);
+        let images = images_of(copy(rt, &self.alloc), entries).expect(rt, "images");
+        let image = images.first().expect(rt, "an image");
+        let table = self.place(rt, image);
+        let mut tables = Vec::new(copy(rt, &self.alloc));
+        tables.push(table).expect(rt, "memory");
+        run_of(rt, tables)
     }
 
-    /// Puts the table of a batch into level 0, as its newest run.
-    pub fn add_run(&mut self, batch: &Batch<A>, number: u64) -> Result<(), Refusal> {
-        let run = self.flush(batch, number)?;
-        if run.tables().is_empty() {
-            return Err(Refusal::BadTable);
+    /// Puts the table of a batch into a level: in level 0 as its newest run, and else as its only table.
+    pub fn put<R: Abort>(&mut self, rt: &R, level: usize, batch: &Batch<A>, number: u64) {
+        assert!(rt; level <= 4);
+        let run = self.flush(rt, batch, number);
+        if level == 0 {
+            assert!(rt; add_run(rt, &mut self.levels, run).is_ok());
+        } else {
+            self.levels.set_level(level, run);
         }
-        self.levels.add_run(run)?;
-        Ok(())
-    }
-
-    /// Makes the table of a batch the run of a level from 1 to 4.
-    pub fn set_level(&mut self, level: usize, batch: &Batch<A>, number: u64) -> Result<(), Refusal>
-        requires low { 1 ≤ level }
-        requires high { level ≤ 4 }
-    {
-        let run = self.flush(batch, number)?;
-        self.levels.set_level(level, run);
-        Ok(())
     }
 
     /// Seals memory with a batch alone.
-    pub fn seal(&mut self, batch: &Batch<A>, number: u64) -> Result<(), Refusal> {
-        let mut mem = Mem::new(self.alloc.clone()?)?;
-        mem.insert(batch, number)?;
-        match mem.seal() {
-            Ok(sealed) => {
-                self.sealed = Some(sealed);
-                Ok(())
-            }
-            Err(_) => Err(Refusal::NoMemory),
-        }
+    pub fn seal<R: Abort>(&mut self, rt: &R, batch: &Batch<A>, number: u64) {
+        let mem = mem_of(rt, &self.alloc, batch, number);
+        self.sealed = Some(sealed_of(rt, mem));
     }
 
     /// Makes memory that of a batch alone.
-    pub fn remember(&mut self, batch: &Batch<A>, number: u64) -> Result<(), Refusal> {
-        let mut mem = Mem::new(self.alloc.clone()?)?;
-        mem.insert(batch, number)?;
-        self.mem = mem;
-        Ok(())
+    pub fn remember<R: Abort>(&mut self, rt: &R, batch: &Batch<A>, number: u64) {
+        self.mem = mem_of(rt, &self.alloc, batch, number);
     }
 
     /// The value of a key at a count of batches.
     pub fn get(&mut self, key: &[u8], at: u64) -> Result<Option<Vec<u8, A>>, Refusal> {
-        let sealed = sealed_of(&self.sealed);
-        let view = view_of(&self.mem, sealed, &self.levels);
+        let view = view_of(&self.mem, self.sealed.as_deref(), &self.levels);
         find_in(
             &view,
             &self.alloc,
@@ -228,8 +209,8 @@ impl<A: Allocator + Clone> Subject<A> {
     }
 
     /// Zeroes a block of the tables, counted from the first one's.
-    pub fn spoil(&mut self, block: u32) -> Result<(), Refusal> {
+    pub fn spoil<R: Abort>(&mut self, rt: &R, block: u32) {
         let sector = AREA.wrapping_add(block.wrapping_mul(8));
-        write_block(&mut self.device, sector, &[0; 4_096])
+        write_block(rt, &mut self.device, sector, &[0; 4_096]);
     }
 }

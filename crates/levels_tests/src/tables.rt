@@ -1,96 +1,121 @@
 //! Tables of one put each, and levels of them.
 
-use lsm_codec::{Entry, VersionRef};
 use lsm_device::Refusal;
 use lsm_levels::{Levels, PlacedTable, Run, is_run};
-use lsm_table::{Image, images};
-use std::alloc::{AllocError, Allocator};
+use std::alloc::Allocator;
+use std::process::Abort;
+use table_tests::input::images_of_puts;
 
 /// The number of a table, and the one byte of its key.
 pub type Put = (u32, u8);
 
-/// The image of a put.
-fn image_of<A: Allocator + Clone>(alloc: A, key: u8) -> Result<Vec<Image<A>, A>, AllocError> {
-    let key = [key];
-    let version = VersionRef {
-        key: &key,
-        number: 1,
-        value: Some(b"1"),
-    };
-    let entry = Entry::from_ref(alloc.clone()?, version)?;
-    let mut entries = Vec::new(alloc.clone()?);
-    entries.push(entry)?;
-    images(alloc, entries)
+/// A copy of an allocator.
+pub fn copy<A: Allocator + Clone, R: Abort>(rt: &R, alloc: &A) -> A {
+    alloc.clone().expect(rt, "an allocator")
 }
 
-/// The table of a put.
-pub fn table_of<A: Allocator + Clone>(
-    alloc: A,
-    (number, key): Put,
-) -> Result<PlacedTable<A>, Refusal> {
-    let images = image_of(alloc.clone()?, key)?;
-    match images.first() {
-        Some(image) => PlacedTable::of_image(alloc, image, number as u64, number),
-        None => Err(Refusal::BadTable),
-    }
-}
-
+/// Pushes the table of a put. Its extent begins at the block of its number.
 fn push_table<A: Allocator + Clone>(
     tables: &mut Vec<PlacedTable<A>, A>,
-    alloc: A,
-    put: Put,
+    alloc: &A,
+    (number, key): Put,
 ) -> Result<(), Refusal> {
-    let table = table_of(alloc, put)?;
+    let images = images_of_puts(alloc.clone()?, &[&[key]], b"1")?;
+    let Some(image) = images.first() else {
+        return Err(Refusal::BadTable);
+    };
+    let table = PlacedTable::of_image(alloc.clone()?, image, number as u64, number)?;
     tables.push(table)?;
     Ok(())
 }
 
-/// The run of these tables, whose keys rise.
-pub fn run_of<A: Allocator + Clone>(alloc: &A, puts: &[Put]) -> Result<Run<A>, Refusal> {
-    let mut tables = Vec::new(alloc.clone()?);
-    for put in puts {
-        push_table(&mut tables, alloc.clone()?, *put)?;
-    }
-    if !is_run(&tables) {
-        return Err(Refusal::BadTable);
-    }
-    Ok(Run::from_tables(tables))
-}
-
-/// Adds a run of these tables as the newest of level 0.
-pub fn add_run<A: Allocator + Clone>(
-    levels: &mut Levels<A>,
+/// The tables of puts. They are refused for want of memory alone.
+pub fn tables_of<A: Allocator + Clone>(
     alloc: &A,
     puts: &[Put],
-) -> Result<(), Refusal> {
-    let run = run_of(alloc, puts)?;
-    if run.tables().is_empty() {
-        return Err(Refusal::BadTable);
+) -> Result<Vec<PlacedTable<A>, A>, Refusal> {
+    let mut tables = Vec::with_capacity(alloc.clone()?, puts.len())?;
+    for put in puts {
+        push_table(&mut tables, alloc, *put)?;
     }
-    levels.add_run(run)?;
-    Ok(())
+    Ok(tables)
+}
+
+/// The run of tables that are one.
+pub fn run_of<A: Allocator, R: Abort>(rt: &R, tables: Vec<PlacedTable<A>, A>) -> Run<A> {
+    assert!(rt; is_run(&tables));
+    Run::from_tables(tables)
+}
+
+/// The run of puts.
+pub fn run_of_puts<A: Allocator + Clone, R: Abort>(rt: &R, alloc: &A, puts: &[Put]) -> Run<A> {
+    run_of(rt, tables_of(alloc, puts).expect(rt, "tables"))
+}
+
+/// Adds a run as the newest of level 0. Where memory is refused, it comes back.
+pub fn add_run<A: Allocator, R: Abort>(
+    rt: &R,
+    levels: &mut Levels<A>,
+    run: Run<A>,
+) -> Result<(), Run<A>> {
+    assert!(rt; !run.tables().is_empty());
+    match levels.add_run(run) {
+        Ok(()) => Ok(()),
+        Err(refused) => Err(refused.value),
+    }
 }
 
 /// Levels with these runs of level 0, the oldest first, and these in levels from 1 on.
-pub fn levels_of<A: Allocator + Clone>(
+pub fn levels_of<A: Allocator + Clone, R: Abort>(
+    rt: &R,
     alloc: &A,
     runs: &[&[Put]],
     deeper: &[&[Put]],
-) -> Result<Levels<A>, Refusal> {
-    let mut levels = Levels::new(alloc.clone()?)?;
-    for run in runs {
-        add_run(&mut levels, alloc, run)?;
+) -> Levels<A> {
+    let mut levels = Levels::new(copy(rt, alloc)).expect(rt, "levels");
+    for puts in runs {
+        let run = run_of_puts(rt, alloc, puts);
+        assert!(rt; add_run(rt, &mut levels, run).is_ok());
     }
     for (i, puts) in deeper.iter().enumerate() {
-        if i < 4 {
-            levels.set_level(i + 1, run_of(alloc, puts)?);
-        }
+        assert!(rt; i < 4);
+        levels.set_level(i + 1, run_of_puts(rt, alloc, puts));
     }
-    Ok(levels)
+    levels
+}
+
+/// Levels with so many tables in level 1, of 4 blocks each, numbered down from 100, with the keys from 0 on, and with these in
+/// level 2.
+pub fn with_level_1<A: Allocator + Clone, R: Abort>(
+    rt: &R,
+    alloc: &A,
+    count: u8,
+    level_2: &[Put],
+) -> Levels<A> {
+    let mut level_1 = Vec::new(copy(rt, alloc));
+    for key in 0..count {
+        let put = (100u32.wrapping_sub(key as u32), key);
+        level_1.push(put).expect(rt, "memory");
+    }
+    let mut levels = Levels::new(copy(rt, alloc)).expect(rt, "levels");
+    levels.set_level(1, run_of_puts(rt, alloc, &level_1));
+    levels.set_level(2, run_of_puts(rt, alloc, level_2));
+    levels
 }
 
 /// Whether tables have these numbers.
 pub fn have_numbers<A: Allocator>(tables: &[PlacedTable<A>], numbers: &[u64]) -> bool {
-    let mut all = tables.iter().map(|table| table.number());
-    tables.len() == numbers.len() && numbers.iter().all(|number| all.next() == Some(*number))
+    let mut all = tables.len() == numbers.len();
+    for (table, number) in tables.iter().zip(numbers) {
+        all = all && table.number() == *number;
+    }
+    all
+}
+
+/// Whether a level from 1 to 4 has tables with these numbers.
+pub fn is_level<A: Allocator>(levels: &Levels<A>, level: usize, numbers: &[u64]) -> bool {
+    match levels.deeper().get(level.wrapping_sub(1)) {
+        Some(run) => have_numbers(run.tables(), numbers),
+        None => false,
+    }
 }
