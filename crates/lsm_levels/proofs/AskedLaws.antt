@@ -61,4 +61,4 @@ block_within size area key n run b all e = of_run area key n (LiesWithin size ar
 -- what is within fewer sectors is within more
 pub within_more : (size more area : ℕ) (run : List Table) → size ≤ more → AllByRecursion (LiesWithin size area) run → AllByRecursion (LiesWithin more area) run
 within_more size more area [] le all = tt
-within_more size more area (t ∷ rest) le all = (record { few = all.0.few; ends = omega (arith, all.0.ends, le) }, within_more size more area rest le all.1)
+within_more size more area (t ∷ rest) le all = (record { ends = omega (arith, all.0.ends, le) }, within_more size more area rest le all.1)

@@ -2,6 +2,7 @@
 use Rattle.std.proofs.Common.{◌≡◌, ◌≢◌, inl, inr, ⊎_elim, ℕ, zero, suc, ◌<◌, ◌≤◌, Bool, true, false, cond, not, ◌&&◌, ◌==◌, leb, ltb, List, [], ◌∷◌, ◌++◌, length, get_or, filter, sum_by, Option, Some, None, option_map, refl, sym, ap, ◌∙◌, subst, arith}
 use Rattle.std.proofs.lemmas.Bool.{leb-true, eq-eqb}
 use Rattle.std.specs.List.{AllByRecursion, list_any, list_all}
+use Rattle.lsm_codec.specs.Keys.{Bytes}
 use Rattle.lsm_levels.specs.Among.{IsAmong}
 use Rattle.lsm_levels.proofs.Members.{among_left, among_right, among_either, among_passed, passed_among, any_of}
 use Rattle.lsm_levels.specs.Tables.{Table, KeyRange, range_of, spanned, hull, meets, meeting}
@@ -44,6 +45,29 @@ module _ {X : Type 0} where
   all_pass p [] h x a = absurd a
   all_pass p (y ∷ xs) h x (inl e) = ap p e ∙ (in_both (p y) (list_all p xs) h).0
   all_pass p (y ∷ xs) h x (inr a) = all_pass p xs (in_both (p y) (list_all p xs) h).1 x a
+
+-- ---- what the parts of a choice tell
+
+pub get_or_any : {X : Type 0} (xs : List X) (i : ℕ) (d e : X) → i < length xs → get_or xs i d ≡ get_or xs i e
+get_or_any [] i d e lt = absurd (omega (arith, lt))
+get_or_any (x ∷ xs) zero d e lt = refl
+get_or_any (x ∷ xs) (suc i) d e lt = get_or_any xs i d e (omega (arith, lt))
+
+pub may_merge : (jobs : List Job) (t : Table) (below found : List Table) (number : ℕ) (first last : Bytes) (held free : Bool) → number ≡ t.number → held ≡ is_input jobs number → held ≡ false → first ≡ t.first → last ≡ t.last
+    → found ≡ filter (meets (record { first = first; last = last })) below → free ≡ list_all (is_free jobs) found → free ≡ can_merge jobs (t ∷ []) below
+may_merge jobs t below found number first last held free n h no f l m e =
+    let input : is_input jobs t.number ≡ false = ap (is_input jobs) (sym n) ∙ sym h ∙ no in
+    let met : found ≡ filter (meets (range_of t)) below =
+    m ∙ ap (λ (k : Bytes). filter (meets (record { first = k; last = last })) below) f ∙ ap (λ (k : Bytes). filter (meets (record { first = t.first; last = k })) below) l in
+    e ∙ ap (list_all (is_free jobs)) met ∙ sym (ap (λ (b : Bool). (not b && true) && list_all (is_free jobs) (filter (meets (range_of t)) below)) input)
+
+waits : (waiting had : Bool) (next : Option Job) → waiting ≡ true → had ≡ false → Some Flush ≡ or_next (cond (waiting && not had) (Some Flush) None) next
+waits true true next w h = absurd (no h)
+waits true false next w h = refl
+waits false had next w h = absurd (no (sym w))
+
+pub flush_first : (waiting had : Bool) (levels : Levels) (jobs : List Job) → waiting ≡ true → had ≡ list_any is_flush jobs → had ≡ false → Some Flush ≡ pick waiting levels jobs
+flush_first waiting had levels jobs w h none = waits waiting (list_any is_flush jobs) _ w (sym h ∙ none)
 
 -- ---- free tables
 

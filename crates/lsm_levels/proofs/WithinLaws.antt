@@ -1,13 +1,13 @@
 -- The test of tables that lie within a device.
 use Rattle.std.proofs.Common.{◌≡◌, ◌↔◌, ℕ, Bool, true, false, ◌&&◌, List, [], ◌∷◌, ◌++◌, IsTrue, Decides, refl, ap, sym, ◌∙◌}
 use Rattle.std.specs.List.{list_all}
-use Rattle.std.proofs.lemmas.Bool.Decides.{Decides-like, Decides-and}
+use Rattle.std.proofs.lemmas.Bool.Decides.{Decides-like}
 use Rattle.lsm_codec.proofs.Limits.{at_most-Decides, each-Decides}
 use Rattle.lsm_levels.specs.Tables.{Table}
 use Rattle.lsm_levels.specs.Stored.{LiesWithin, AreWithin, is_within}
 
 within-Decides : (size area : ℕ) (t : Table) → Decides (is_within size area t) (LiesWithin size area t)
-within-Decides size area t = Decides-like (is_within size area t) (λ h. record { few = h.0; ends = h.1 }) (λ h. (h.few, h.ends)) (Decides-and _ _ (at_most-Decides _ _) (at_most-Decides _ _))
+within-Decides size area t = Decides-like (is_within size area t) (λ h. record { ends = h }) (λ h. h.ends) (at_most-Decides _ _)
 
 runs-Decides : (size area : ℕ) (runs : List (List Table)) → Decides (list_all (list_all (is_within size area)) runs) (AreWithin size area runs)
 runs-Decides size area runs = each-Decides _ _ (each-Decides _ _ (within-Decides size area)) runs

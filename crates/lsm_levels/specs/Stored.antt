@@ -1,5 +1,5 @@
 -- Tables that stand in the sectors of a device.
-use Rattle.std.specs.Prelude.{◌≡◌, ℕ, zero, suc, ◌+◌, ◌*◌, ◌<◌, ◌≤◌, Bool, true, ◌&&◌, leb, IsTrue, List, [], ◌∷◌, length, Option, Some}
+use Rattle.std.specs.Prelude.{◌≡◌, ℕ, zero, suc, ◌+◌, ◌*◌, ◌<◌, ◌≤◌, Bool, true, leb, IsTrue, List, [], ◌∷◌, length, Option, Some}
 use Rattle.std.specs.List.{AllByRecursion}
 use Rattle.lsm_device.specs.Disk.{seen}
 use Rattle.lsm_device.specs.Medium.{disk}
@@ -15,14 +15,13 @@ use Rattle.lsm_cache.specs.Fresh.{IsFresh}
 use Rattle.lsm_levels.specs.Tables.{Table, table_at}
 use Rattle.lsm_levels.specs.Asking.{Source, sector_of}
 
--- The data blocks of a table, at most 64, lie within so many sectors.
+-- The data blocks of a table lie within so many sectors.
 pub record LiesWithin (size area : ℕ) (t : Table) : Type 0 where
-  pub few : length t.outline.edges ≤ 64
   pub ends : area + 8 * (t.start + length t.outline.edges) ≤ size
 
 -- the same, as a test
 abbrev pub is_within : ℕ → ℕ → Table → Bool
-is_within size area t = leb (length t.outline.edges) 64 && leb (area + 8 * (t.start + length t.outline.edges)) size
+is_within size area t = leb (area + 8 * (t.start + length t.outline.edges)) size
 
 -- so do those of all tables of runs
 abbrev pub AreWithin : ℕ → ℕ → List (List Table) → Type 0

@@ -23,10 +23,12 @@ fn asked_of_table<A: Allocator>(
     requires { LiesWithin (2 ^ 32) area table.now }
     ensures { result ≡ asked_of_table area key.now at table.now }
 {
-    if !table.table().perhaps(key) {
+    let told = table.table();
+    if !told.perhaps(key) {
         return None;
     }
-    let place = table.table().place(key, at)?;
+    let place = told.place(key, at)?;
+    let _blocks = told.data_blocks();
     let name = BlockName {
         table: table.number(),
         block: place as u8,

@@ -2,7 +2,7 @@
 
 ghost use Rattle.std.specs.Prelude.{◌≡◌, ◌≤◌, ◌<◌, ◌-◌, [], slice_set, suc, Bool, List, length, is_ok, if◌then◌else◌, IfOk, IfErr, IfSome, OnOk, OnErr, option_map};
 ghost use Rattle.lsm_levels.specs.Tables.{IsRun, hull, put_at};
-ghost use Rattle.lsm_levels.specs.Levels.{level as level_of, no_tables, flushed, merged};
+ghost use Rattle.lsm_levels.specs.Levels.{level as level_of, newer_runs, no_tables, flushed, merged};
 ghost use Rattle.lsm_levels.specs.Pick.{Merge, below_output, is_bottom, meets_none, pick};
 ghost use Rattle.lsm_levels.specs.Picks.{job_of};
 ghost use Rattle.lsm_levels.specs.Hulls.{range_shown};
@@ -32,6 +32,14 @@ impl<A: Allocator> Model for Levels<A> {
     ghost view = { λ l. record { runs = l.runs.items; deeper = l.deeper.items } };
 
     ghost invariant = { λ l. AreRuns (record { runs = l.runs.items; deeper = l.deeper.items }) };
+}
+
+/// Drops the oldest run of level 0. It takes no memory.
+fn drop_oldest<A: Allocator>(runs: &mut Vec<Run<A>, A>)
+    ensures { runs.new.items ≡ newer_runs runs.old.items }
+{
+    let kept = runs.len().saturating_sub(1);
+    runs.truncate(kept);
 }
 
 impl<A: Allocator> Levels<A> {
@@ -109,8 +117,7 @@ impl<A: Allocator> Levels<A> {
         };
         self.deeper[level].replace(first, last, outputs)?;
         if level == 0 {
-            let kept = self.runs.len().saturating_sub(1);
-            self.runs.truncate(kept);
+            drop_oldest(&mut self.runs);
         } else {
             self.deeper[level - 1].remove(first, last);
         }

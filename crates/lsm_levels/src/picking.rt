@@ -1,9 +1,10 @@
 //! Which job comes next.
 
-ghost use Rattle.std.specs.Prelude.{◌≡◌, ◌∷◌, [], ltb, ℕ, List, sum_by, filter, option_map};
+ghost use Rattle.std.specs.Prelude.{◌≡◌, ◌<◌, ◌∷◌, [], ltb, ℕ, List, length, sum_by, filter, option_map};
 ghost use Rattle.std.specs.List.{list_any, list_all};
 ghost use Rattle.std.specs.Option.{option_copied};
 ghost use Rattle.lsm_levels.specs.Tables.{IsRun};
+ghost use Rattle.lsm_levels.specs.Levels.{last_run};
 ghost use Rattle.lsm_levels.specs.Pick.{Job, is_flush, is_of_level_0, is_input, is_free, can_merge, lower_of, least_numbered, level_0_job, level_job};
 ghost use Rattle.lsm_levels.specs.Picks.{job_of, is_less};
 
@@ -114,6 +115,15 @@ fn is_less<A: Allocator>(table: &PlacedTable<A>, other: Option<&PlacedTable<A>>)
     }
 }
 
+/// The oldest run of level 0.
+fn oldest<A: Allocator>(runs: &[Run<A>]) -> &[PlacedTable<A>]
+    requires { 0 < length runs.now }
+    ensures last { result.now ≡ last_run runs.now }
+    ensures run { IsRun result.now }
+{
+    runs[runs.len() - 1].tables()
+}
+
 /// The oldest run of level 0 with the tables of level 1 that meet its hull, where there are 4 or more runs and no job of
 /// level 0, and all of them are free.
 pub(crate) fn level_0_job<'a, H: HeldJobs, A: Allocator>(
@@ -126,7 +136,7 @@ pub(crate) fn level_0_job<'a, H: HeldJobs, A: Allocator>(
     if runs.len() < 4 || held.has_level_0() {
         return None;
     }
-    let upper = runs[runs.len() - 1].tables();
+    let upper = oldest(runs);
     let lower = lower_of(upper, below);
     if are_free(held, upper) && are_free(held, lower) {
         return Some(Pick::OldestRun { upper, lower });

@@ -40,7 +40,7 @@ pub struct ReadView<'a, A: Allocator = Global> {
 }
 
 impl<'a, A: Allocator> ReadView<'a, A> {
-    /// Whether the data blocks of each table, at most 64, lie within so many sectors.
+    /// Whether the data blocks of each table lie within so many sectors.
     pub fn is_within(&self, sectors: u32) -> bool
         ensures { IsTrue result ↔ AreWithin sectors self.now.area (places self.now.levels.now) }
     {

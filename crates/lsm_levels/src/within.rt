@@ -12,7 +12,7 @@ fn is_within<A: Allocator>(table: &PlacedTable<A>, sectors: u32, area: u32) -> b
     ensures { result ≡ is_within sectors area table.now }
 {
     let blocks = table.table().data_blocks();
-    blocks <= 64 && area as u64 + 8 * (table.first_block() as u64 + blocks as u64) <= sectors as u64
+    area as u64 + 8 * (table.first_block() as u64 + blocks as u64) <= sectors as u64
 }
 
 fn is_run_within<A: Allocator>(run: &Run<A>, sectors: u32, area: u32) -> bool

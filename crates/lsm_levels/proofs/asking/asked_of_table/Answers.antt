@@ -1,33 +1,34 @@
-use Rattle.std.proofs.Common.{◌<◌, length, sym, arith}
+use Rattle.std.proofs.Common.{◌<◌, length, sym, ap, arith}
+use Rattle.lsm_table.specs.Outlines.{Outline}
 use Rattle.lsm_levels.proofs.AskedLaws.{place_within}
 use Rattle.lsm_levels.proofs.asking.asked_of_table.Goals as goal
 
 pub overflow_cast-name : goal.overflow_cast-name
 overflow_cast-name g c =
     let t = c.args.table.now.outline in
-    let within : c.in_ok-place.place < length t.edges = place_within t.first t.edges c.args.key.now c.args.at c.in_ok-place.place (sym (rw c.table-2.ensures.same at c.in_ok-place.ensures.place)) in
-    omega (arith, within, c.requires.few)
+    let within : c.in_ok-place.place < length t.edges = place_within t.first t.edges c.args.key.now c.args.at c.in_ok-place.place (sym (rw c.table-told.ensures.same at c.in_ok-place.ensures.place)) in
+    omega (arith, within, ap (λ (o : Outline). length o.edges) c.table-told.ensures.same, c.data_blocks-blocks.ensures.count, c.data_blocks-blocks.ensures.high)
 
 pub overflow_cast-result : goal.overflow_cast-result
 overflow_cast-result g c =
     let t = c.args.table.now.outline in
-    let within : c.in_ok-place.place < length t.edges = place_within t.first t.edges c.args.key.now c.args.at c.in_ok-place.place (sym (rw c.table-2.ensures.same at c.in_ok-place.ensures.place)) in
-    omega (arith, within, c.requires.few)
+    let within : c.in_ok-place.place < length t.edges = place_within t.first t.edges c.args.key.now c.args.at c.in_ok-place.place (sym (rw c.table-told.ensures.same at c.in_ok-place.ensures.place)) in
+    omega (arith, within, ap (λ (o : Outline). length o.edges) c.table-told.ensures.same, c.data_blocks-blocks.ensures.count, c.data_blocks-blocks.ensures.high)
 
 pub overflow_add-result : goal.overflow_add-result
 overflow_add-result g c =
     let t = c.args.table.now.outline in
-    let within : c.in_ok-place.place < length t.edges = place_within t.first t.edges c.args.key.now c.args.at c.in_ok-place.place (sym (rw c.table-2.ensures.same at c.in_ok-place.ensures.place)) in
+    let within : c.in_ok-place.place < length t.edges = place_within t.first t.edges c.args.key.now c.args.at c.in_ok-place.place (sym (rw c.table-told.ensures.same at c.in_ok-place.ensures.place)) in
     omega (arith, within, c.requires.ends, c.first_block.ensures)
 
 pub overflow_mul-result : goal.overflow_mul-result
 overflow_mul-result g c =
     let t = c.args.table.now.outline in
-    let within : c.in_ok-place.place < length t.edges = place_within t.first t.edges c.args.key.now c.args.at c.in_ok-place.place (sym (rw c.table-2.ensures.same at c.in_ok-place.ensures.place)) in
+    let within : c.in_ok-place.place < length t.edges = place_within t.first t.edges c.args.key.now c.args.at c.in_ok-place.place (sym (rw c.table-told.ensures.same at c.in_ok-place.ensures.place)) in
     omega (arith, within, c.requires.ends, c.first_block.ensures)
 
 pub overflow_add-result-2 : goal.overflow_add-result-2
 overflow_add-result-2 g c =
     let t = c.args.table.now.outline in
-    let within : c.in_ok-place.place < length t.edges = place_within t.first t.edges c.args.key.now c.args.at c.in_ok-place.place (sym (rw c.table-2.ensures.same at c.in_ok-place.ensures.place)) in
+    let within : c.in_ok-place.place < length t.edges = place_within t.first t.edges c.args.key.now c.args.at c.in_ok-place.place (sym (rw c.table-told.ensures.same at c.in_ok-place.ensures.place)) in
     omega (arith, within, c.requires.ends, c.first_block.ensures)

@@ -1,4 +1,4 @@
-use Rattle.std.proofs.Common.{◌<◌, length, sym, ◌∙◌, subst}
+use Rattle.std.proofs.Common.{◌<◌, ◌-◌, length, sym, ◌∙◌, subst}
 use Rattle.std.proofs.lemmas.List.{length-set}
 use Rattle.std.specs.List.{AllByRecursion}
 use Rattle.lsm_levels.specs.Tables.{IsRun}
@@ -18,9 +18,9 @@ remove-requires g c = run_hull_order c.args.upper.now (record { first = c.in-Som
 pub invariant_of-self-then-level-eq0 : goal.invariant_of-self-then-level-eq0
 invariant_of-self-then-level-eq0 g c = record {
   four = length-set c.self.inside.deeper.items c.args.level c.replace.new.self ∙ c.self.invariant.four;
-  runs = subst (AllByRecursion IsRun) (sym c.truncate.ensures.items) (all_take IsRun c.saturating_sub-kept.result c.self.inside.runs.items c.self.invariant.runs);
+  runs = subst (AllByRecursion IsRun) (sym c.drop_oldest.ensures) (all_take IsRun (length c.self.inside.runs.items - 1) c.self.inside.runs.items c.self.invariant.runs);
   deeper = all_set IsRun c.self.inside.deeper.items c.args.level c.replace.new.self c.self.invariant.deeper c.in_ok-replace.ensures.stays;
-  some = subst (AllByRecursion (λ run. 0 < length run)) (sym c.truncate.ensures.items) (all_take (λ run. 0 < length run) c.saturating_sub-kept.result c.self.inside.runs.items c.self.invariant.some);
+  some = subst (AllByRecursion (λ run. 0 < length run)) (sym c.drop_oldest.ensures) (all_take (λ run. 0 < length run) (length c.self.inside.runs.items - 1) c.self.inside.runs.items c.self.invariant.some);
 }
 
 pub invariant_of-self-else-level-eq0 : goal.invariant_of-self-else-level-eq0
