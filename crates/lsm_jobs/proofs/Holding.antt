@@ -60,19 +60,17 @@ next_given waiting levels shown items next place s job some same view picked =
     let free : has_free s.slots ≡ true = ap (λ (v : JobSlots). has_free v.slots) (sym view) ∙ ap has_free (sym same) ∙ some_free shown 0 place (sym some) in
     picked ∙ sym (ap (λ b. cond b (pick waiting levels (held_jobs s.slots)) None) free)
 
--- a place in the slots
-pub is_place : (items : Slots) (next place : ℕ) (s : JobSlots) → record { next = next; slots = items } ≡ s → free_from 0 s.slots ≡ Some place → (slot : Slot) → place < length items
-is_place items next place s view free slot = let at = placed_at_free slot items 0 place (ap (λ (v : JobSlots). free_from 0 v.slots) view ∙ free) in omega (arith, at.1)
-
 abbrev these : ℕ → Slots → JobSlots
 these next slots = record { next = next; slots = slots }
 
+-- a place in the slots
+pub is_place : (items : Slots) (next place : ℕ) (s : JobSlots) → these next items ≡ s → free_from 0 s.slots ≡ Some place → (slot : Slot) → place < length items
+is_place items next place s view free slot = let at = placed_at_free slot items 0 place (ap (λ (v : JobSlots). free_from 0 v.slots) view ∙ free) in omega (arith, at.1)
+
 -- a job that is put there
-pub put_is : (items : Slots) (next place : ℕ) (s : JobSlots) (r : Slot) (make : ℕ → Slot) → these next items ≡ s → free_from 0 s.slots ≡ Some place → r ≡ make next
-    → these (next + 1) (set items place (Some r)) ≡ these (s.next + 1) (with_slot (make s.next) s.slots)
-put_is items next place s r make view free is =
+pub put_is : (items : Slots) (next place : ℕ) (s : JobSlots) (r : Slot) → these next items ≡ s → free_from 0 s.slots ≡ Some place → these (next + 1) (set items place (Some r)) ≡ these (s.next + 1) (with_slot r s.slots)
+put_is items next place s r view free =
     let first : free_from 0 items ≡ Some place = ap (λ (v : JobSlots). free_from 0 v.slots) view ∙ free in
     let here : place - 0 ≡ place = omega arith in
-    let there : set items place (Some r) ≡ with_slot (make next) items =
-    ap (λ (x : Slot). set items place (Some x)) is ∙ sym (ap (λ (k : ℕ). set items k (Some (make next))) here) ∙ sym (placed_at_free (make next) items 0 place first).2 in
-    ap (these (next + 1)) there ∙ ap (λ (v : JobSlots). these (v.next + 1) (with_slot (make v.next) v.slots)) view
+    let there : set items place (Some r) ≡ with_slot r items = sym (ap (λ (k : ℕ). set items k (Some r)) here) ∙ sym (placed_at_free r items 0 place first).2 in
+    ap (these (next + 1)) there ∙ ap (λ (v : JobSlots). these (v.next + 1) (with_slot r v.slots)) view

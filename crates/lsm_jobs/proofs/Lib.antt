@@ -1,3 +1,4 @@
 pub mod KeptJobs
 pub mod Numbers
 pub mod Holding
+pub mod Found

@@ -1,17 +1,24 @@
 -- Jobs in slots have what they were taken with, and share no table.
-use Rattle.std.specs.Prelude.{◌≡◌, ◌≢◌, ℕ, suc, ◌<◌, Bool, List, Some, None}
+use Rattle.std.specs.Prelude.{◌≡◌, ◌≢◌, ℕ, suc, ◌<◌, Bool, List, [], ◌∷◌, Option, Some, None}
 use Rattle.lsm_levels.specs.Among.{IsAmong}
 use Rattle.lsm_levels.specs.Tables.{Table}
 use Rattle.lsm_levels.specs.Levels.{Levels}
 use Rattle.lsm_levels.specs.Pick.{pick, is_bottom, installed}
 use Rattle.lsm_levels.specs.Held.{AreRuns, IsHeld, AreApart, AreOutputs}
-use Rattle.lsm_jobs.specs.Slots.{Stage, Slot, Slots, held_jobs, with_slot, with_held, at_stage}
+use Rattle.lsm_jobs.specs.Slots.{Stage, Slot, Slots, slot_of, held_jobs, with_slot, with_held, at_stage}
+
+-- no two jobs have one number
+abbrev pub AreNumbered : Slots → Type 0
+AreNumbered [] = Unit {0}
+AreNumbered (None ∷ rest) = AreNumbered rest
+AreNumbered (Some slot ∷ rest) = (slot_of slot.number rest ≡ None) × AreNumbered rest
 
 -- Each job has its tables in the levels, no two of them share one, and their numbers differ and were given out.
 pub record AreKept (levels : Levels) (next : ℕ) (slots : Slots) : Type 0 where
   pub held : (s : Slot) → IsAmong (Some s) slots → IsHeld levels s.input.bottom s.job
   pub apart : (a b : Slot) → IsAmong (Some a) slots → IsAmong (Some b) slots → a.number ≢ b.number → AreApart a.job b.job
   pub given : (s : Slot) → IsAmong (Some s) slots → s.number < next
+  pub numbered : AreNumbered slots
 
 -- a taking of the job that is picked, with its bottom flag
 abbrev pub TakingLaw : Type 0
@@ -20,13 +27,18 @@ TakingLaw = (waiting : Bool) (levels : Levels) (next : ℕ) (slots : Slots) (new
 
 -- an install of one job's outputs, whose slot is free then
 abbrev pub InstallingLaw : Type 0
-InstallingLaw = (levels : Levels) (next : ℕ) (slots : Slots) (one : Slot) (new : List Table) → AreRuns levels → AreKept levels next slots → IsAmong (Some one) slots → AreOutputs one.job new
+InstallingLaw = (levels : Levels) (next : ℕ) (slots : Slots) (one : Slot) (new : List Table) → AreRuns levels → AreKept levels next slots → slot_of one.number slots ≡ Some one → AreOutputs one.job new
     → AreKept (installed levels one.job new) next (with_held one.number None slots)
 
 -- another stage of one job
 abbrev pub StagingLaw : Type 0
-StagingLaw = (levels : Levels) (next : ℕ) (slots : Slots) (one : Slot) (stage : Stage) → AreKept levels next slots → IsAmong (Some one) slots → AreKept levels next (at_stage one stage slots)
+StagingLaw = (levels : Levels) (next : ℕ) (slots : Slots) (one : Slot) (stage : Stage) → AreKept levels next slots → slot_of one.number slots ≡ Some one → AreKept levels next (at_stage one stage slots)
 
 -- one slot is free again
 abbrev pub FreeingLaw : Type 0
 FreeingLaw = (levels : Levels) (next number : ℕ) (slots : Slots) → AreKept levels next slots → AreKept levels next (with_held number None slots)
+
+-- a job that is found is in a slot, under its number
+pub record FoundLaw : Type 0 where
+  pub there : (number : ℕ) (slots : Slots) (slot : Slot) → slot_of number slots ≡ Some slot → IsAmong (Some slot) slots
+  pub number : (number : ℕ) (slots : Slots) (slot : Slot) → slot_of number slots ≡ Some slot → slot.number ≡ number

@@ -1,5 +1,5 @@
 -- The slots of jobs.
-use Rattle.std.specs.Prelude.{ℕ, Bool, false, ◌==◌, is_none, List, [], ◌∷◌, map, filter_map, Option, Some, None, option_map, if◌then◌else◌}
+use Rattle.std.specs.Prelude.{ℕ, Bool, true, false, not, ◌==◌, is_none, List, [], ◌∷◌, filter_map, Option, Some, None, option_map, if◌then◌else◌}
 use Rattle.std.specs.List.{list_any}
 use Rattle.lsm_merge.specs.Inputs.{MergeInput}
 use Rattle.lsm_levels.specs.Tables.{Table}
@@ -33,9 +33,11 @@ pub record JobSlots : Type 0 where
 abbrev pub no_jobs : JobSlots
 no_jobs = record { next = 1; slots = None ∷ None ∷ None ∷ None ∷ [] }
 
-abbrev pub has_number : ℕ → Option Slot → Bool
-has_number number None = false
-has_number number (Some slot) = slot.number == number
+-- the slot of the job of a number
+abbrev pub slot_of : ℕ → Slots → Option Slot
+slot_of number [] = None
+slot_of number (None ∷ rest) = slot_of number rest
+slot_of number (Some slot ∷ rest) = if slot.number == number then Some slot else slot_of number rest
 
 -- the jobs that hold slots
 abbrev pub held_jobs : Slots → List Job
@@ -52,8 +54,47 @@ with_slot slot (Some held ∷ rest) = Some held ∷ with_slot slot rest
 
 -- with the slot of this number so, or free
 abbrev pub with_held : ℕ → Option Slot → Slots → Slots
-with_held number now slots = map (λ held. if has_number number held then now else held) slots
+with_held number now [] = []
+with_held number now (None ∷ rest) = None ∷ with_held number now rest
+with_held number now (Some held ∷ rest) = if held.number == number then now ∷ rest else Some held ∷ with_held number now rest
 
 -- with the job of this slot at a stage
 abbrev pub at_stage : Slot → Stage → Slots → Slots
 at_stage slot stage slots = with_held slot.number (Some (record slot { stage = stage })) slots
+
+abbrev pub is_reading : Stage → Bool
+is_reading (Reading left) = true
+is_reading Frozen = false
+is_reading (Writing tables left) = false
+
+abbrev pub is_frozen : Stage → Bool
+is_frozen (Reading left) = false
+is_frozen Frozen = true
+is_frozen (Writing tables left) = false
+
+abbrev pub is_writing : Stage → Bool
+is_writing (Reading left) = false
+is_writing Frozen = false
+is_writing (Writing tables left) = true
+
+-- whether all blocks of its outputs are written
+abbrev pub is_written : Stage → Bool
+is_written (Reading left) = false
+is_written Frozen = false
+is_written (Writing tables left) = left == 0
+
+-- the outputs that are placed
+abbrev pub outputs_at : Stage → List Table
+outputs_at (Reading left) = []
+outputs_at Frozen = []
+outputs_at (Writing tables left) = tables
+
+-- whether there is a job, and its stage is no such
+abbrev pub is_past : (Stage → Bool) → Option Slot → Bool
+is_past test None = false
+is_past test (Some slot) = not (test slot.stage)
+
+-- the outputs of a job, if there is one
+abbrev pub outputs_of : Option Slot → List Table
+outputs_of None = []
+outputs_of (Some slot) = outputs_at slot.stage

@@ -1,35 +1,35 @@
 //! A job that holds a slot.
 
-ghost use Rattle.std.specs.Prelude.{◌≡◌, ◌==◌, ◌++◌, ◌∷◌, [], IfOk, IfErr};
+ghost use Rattle.std.specs.Prelude.{◌≡◌, ◌==◌, ◌++◌, ◌∷◌, []};
 ghost use Rattle.std.specs.List.{list_any};
 ghost use Rattle.lsm_levels.specs.Pick.{is_flush, is_of_level_0, inputs};
 
+use crate::gathering::Gathering;
 use crate::merge::MergeTables;
+use crate::outputs::Outputs;
 use lsm_merge::Input;
-use std::alloc::{AllocError, Allocator};
+use std::alloc::Allocator;
 use std::marker::Model;
 use std::sync::Arc;
 
-/// What a job is about.
+/// How far a job is.
 #[derive(Drop)]
 pub(crate) enum Work<A: Allocator> {
-    /// A flush, which begins with its whole input.
-    Flush {
-        input: Arc<Input<A>, A>,
-    },
-    /// A merge, whose data blocks have to be read: its tables, the cuts of its taking, and its bottom flag.
-    Merge {
-        tables: MergeTables<A>,
-        cuts: Vec<u64, A>,
-        bottom: bool,
-    },
+    /// Its data blocks are being read.
+    Reading(Gathering<A>),
+    /// Its input is whole.
+    Frozen(Arc<Input<A>, A>),
+    /// Its outputs are being written.
+    Writing(Outputs<A>),
 }
 
 /// A job that holds a slot, under its number.
 #[derive(Drop)]
 pub(crate) struct HeldJob<A: Allocator> {
-    number: u64,
-    work: Work<A>,
+    pub(crate) number: u64,
+    /// What it takes in; none of a flush.
+    pub(crate) tables: Option<MergeTables<A>>,
+    pub(crate) work: Work<A>,
 }
 
 impl<A: Allocator> Model for HeldJob<A> {
@@ -38,30 +38,31 @@ impl<A: Allocator> Model for HeldJob<A> {
 
     ghost Value = { Slot };
 
-    ghost view = { λ h. slot_shown h.number h.work };
+    ghost view = { λ h. slot_shown h.number h.tables h.work };
 }
 
 impl<A: Allocator> HeldJob<A> {
     ghost use Rattle.lsm_jobs.specs.Shown.{slot_shown};
 
-    pub(crate) fn new(number: u64, work: Work<A>) -> HeldJob<A>
-        ensures { result ≡ slot_shown number work }
+    /// Its number.
+    pub(crate) fn number(&self) -> u64
+        ensures { result ≡ self.now.number }
     {
-        HeldJob { number, work }
+        self.number
     }
 
     pub(crate) fn is_flush(&self) -> bool
         ensures { result ≡ is_flush self.now.job }
     {
-        matches!(&self.work, Work::Flush { input: _ })
+        self.tables.is_none()
     }
 
     pub(crate) fn is_of_level_0(&self) -> bool
         ensures { result ≡ is_of_level_0 self.now.job }
     {
-        match &self.work {
-            Work::Flush { input: _ } => false,
-            Work::Merge { tables, .. } => tables.is_of_level_0(),
+        match &self.tables {
+            Some(tables) => tables.is_of_level_0(),
+            None => false,
         }
     }
 
@@ -69,9 +70,9 @@ impl<A: Allocator> HeldJob<A> {
     pub(crate) fn takes_in(&self, number: u64) -> bool
         ensures { result ≡ list_any (λ t. t.number == number) (inputs self.now.job) }
     {
-        match &self.work {
-            Work::Flush { input: _ } => false,
-            Work::Merge { tables, .. } => tables.takes_in(number),
+        match &self.tables {
+            Some(tables) => tables.takes_in(number),
+            None => false,
         }
     }
 }

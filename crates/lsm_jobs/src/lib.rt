@@ -1,10 +1,13 @@
 //! The jobs of a store, in four slots.
 #![tactic(auto)]
 
+mod gathering;
 mod held;
 mod law;
 mod merge;
+mod outputs;
 mod slots;
+mod taking;
 
 pub use law::slots_stay_apart;
 pub use slots::Slots;

@@ -1,4 +1,5 @@
 use Rattle.lsm_jobs.proofs.KeptJobs.{taking_law, installing_law, staging_law, freeing_law}
+use Rattle.lsm_jobs.proofs.Found.{found_law}
 use Rattle.lsm_jobs.proofs.law.slots_stay_apart.Goals as goal
 
 pub returns-clause-taking : goal.returns-clause-taking
@@ -12,3 +13,6 @@ returns-clause-staging c = staging_law
 
 pub returns-clause-freeing : goal.returns-clause-freeing
 returns-clause-freeing c = freeing_law
+
+pub returns-clause-found : goal.returns-clause-found
+returns-clause-found c = found_law

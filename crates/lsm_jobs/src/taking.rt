@@ -1,0 +1,184 @@
+//! How a job is taken.
+
+ghost use Rattle.std.specs.Prelude.{◌≡◌, ◌<◌, ◌≤◌, ◌+◌, ◌^◌, ◌⊎◌, ◌↔◌, ◌∷◌, [], true, false, Some, Err, is_some, option_map, IfOk, IfErr, IfSome, OnOk, OnErr};
+ghost use Rattle.std.specs.List.{AllByRecursion};
+ghost use Rattle.lsm_codec.specs.Versions.{IsEntry};
+ghost use Rattle.lsm_merge.specs.Inputs.{IsCuts};
+ghost use Rattle.lsm_levels.specs.Pick.{Flush, Merge, is_flush};
+ghost use Rattle.lsm_levels.specs.Picks.{job_of};
+ghost use Rattle.lsm_device.specs.declared.refusal.Refusal.TheVariants.{NoMemory, Exhausted};
+ghost use Rattle.lsm_jobs.specs.Taking.{given_job, sealed_versions, slot_with, slot_for, with_taken};
+ghost use Rattle.lsm_jobs.specs.Slots.{Frozen, with_slot};
+ghost use Rattle.lsm_jobs.specs.Holding.{free_from};
+
+use crate::gathering::Gathering;
+use crate::held::{HeldJob, Work};
+use crate::merge::{MergeTables, shared};
+use crate::slots::{Slots, free_place};
+use lsm_device::Refusal;
+use lsm_levels::{Levels, Pick, PlacedTable};
+use lsm_mem::Sealed;
+use lsm_merge::Input;
+use std::alloc::{AllocError, Allocator};
+use std::sync::Arc;
+
+/// A flush of sealed versions.
+fn flush_of<A: Allocator + Clone>(
+    alloc: &A,
+    number: u64,
+    sealed: &Sealed<A>,
+    cuts: Vec<u64, A>,
+) -> Result<HeldJob<A>, AllocError>
+    requires entries { AllByRecursion IsEntry sealed.now }
+    requires cuts { IsCuts cuts.items }
+    ensures { IfOk result (λ held. held ≡ slot_with number sealed.now cuts.items false Flush) }
+{
+    let entries = sealed.entries(alloc.clone()?)?;
+    let mut runs = Vec::new(alloc.clone()?);
+    runs.push(entries)?;
+    let input = Arc::new(alloc.clone()?, Input::new(runs, cuts, false))?;
+    Ok(HeldJob {
+        number,
+        tables: None,
+        work: Work::Frozen(input),
+    })
+}
+
+/// What a merge of these tables takes in.
+fn tables_of<A: Allocator + Clone>(
+    alloc: &A,
+    level: usize,
+    upper: Vec<PlacedTable<A>, A>,
+    lower: &[PlacedTable<A>],
+) -> Result<MergeTables<A>, AllocError>
+    ensures { IfOk result (λ m. m ≡ record { level = level; upper = upper.items; lower = lower.now }) }
+{
+    let lower = shared(alloc.clone()?, lower)?;
+    MergeTables::new(alloc, level, upper, lower)
+}
+
+/// A handle of a table alone.
+fn one_handle<A: Allocator>(
+    alloc: A,
+    table: &PlacedTable<A>,
+) -> Result<Vec<PlacedTable<A>, A>, AllocError>
+    ensures { IfOk result (λ handles. handles.items ≡ table.now ∷ []) }
+{
+    let mut handles = Vec::new(alloc);
+    handles.push(table.share()?)?;
+    Ok(handles)
+}
+
+/// A merge whose data blocks have to be read.
+fn merge_of<A: Allocator>(
+    number: u64,
+    tables: MergeTables<A>,
+    cuts: Vec<u64, A>,
+    bottom: bool,
+) -> HeldJob<A>
+    ensures { result ≡ slot_with number [] cuts.items bottom (Merge tables.level tables.upper tables.lower) }
+{
+    HeldJob {
+        number,
+        tables: Some(tables),
+        work: Work::Reading(Gathering { cuts, bottom }),
+    }
+}
+
+/// The job that comes next, under this number.
+fn job_for<A: Allocator + Clone>(
+    alloc: &A,
+    number: u64,
+    levels: &Levels<A>,
+    job: &Pick<'_, A>,
+    sealed: Option<&Sealed<A>>,
+    cuts: Vec<u64, A>,
+) -> Result<HeldJob<A>, AllocError>
+    requires entries { IfSome sealed (λ s. AllByRecursion IsEntry s.now) }
+    requires cuts { IsCuts cuts.items }
+    requires waits { is_flush (job_of job.now) ≡ true → is_some sealed ≡ true }
+    ensures { IfOk result (λ held. held ≡ slot_for number (sealed_versions (option_map (λ s. s.now) sealed.entry)) cuts.items levels.now (job_of job.now)) }
+{
+    let bottom = levels.is_bottom(job);
+    match job {
+        Pick::Flush => {
+            let sealed = sealed.unwrap();
+            flush_of(alloc, number, sealed, cuts)
+        }
+        Pick::OldestRun { upper, lower } => {
+            let upper = shared(alloc.clone()?, upper)?;
+            let tables = tables_of(alloc, 0, upper, lower)?;
+            Ok(merge_of(number, tables, cuts, bottom))
+        }
+        Pick::OneTable {
+            level,
+            upper,
+            lower,
+        } => {
+            let upper = one_handle(alloc.clone()?, upper)?;
+            let tables = tables_of(alloc, *level, upper, lower)?;
+            Ok(merge_of(number, tables, cuts, bottom))
+        }
+    }
+}
+
+impl<A: Allocator> Slots<A> {
+    /// The job that comes next, and the least free slot for it.
+    fn next_job<'l>(&self, levels: &'l Levels<A>, waiting: bool) -> Option<(usize, Pick<'l, A>)>
+        ensures given { option_map (λ n. job_of n.1) result ≡ given_job waiting levels.now self.now.slots }
+        ensures place { IfSome result (λ n. free_from 0 self.now.slots ≡ Some n.0) }
+        ensures waits { IfSome result (λ n. is_flush (job_of n.1) ≡ true → waiting ≡ true) }
+    {
+        let Some(place) = free_place(&self.slots) else {
+            return None;
+        };
+        match levels.pick(waiting, self) {
+            Some(job) => Some((place, job)),
+            None => None,
+        }
+    }
+
+    /// Puts a job into the least free slot, under the next number.
+    fn put(&mut self, place: usize, job: HeldJob<A>) -> u64
+        requires place { free_from 0 self.old.slots ≡ Some place }
+        requires number { self.old.next ≤ 2 ^ 63 }
+        ensures number { result ≡ self.old.next }
+        ensures held { self.new ≡ record { next = self.old.next + 1; slots = with_slot job self.old.slots } }
+    {
+        let number = self.next;
+        self.slots[place] = Some(job);
+        self.next = number + 1;
+        number
+    }
+
+    /// Takes the job that comes next: it goes into the least free slot, with these cuts and under a number of its own. None
+    /// where all slots are held or no job comes next. It is refused with `Exhausted` exactly where there is such a job and
+    /// the number 2^63 was given out, or else with `NoMemory`; then nothing has changed.
+    pub fn take(
+        &mut self,
+        alloc: &A,
+        levels: &Levels<A>,
+        sealed: Option<&Sealed<A>>,
+        cuts: Vec<u64, A>,
+    ) -> Result<Option<u64>, Refusal>
+    where
+        A: Clone,
+        requires entries { IfSome sealed (λ s. AllByRecursion IsEntry s.now) }
+        requires cuts { IsCuts cuts.items }
+        ensures given { IfOk result (λ number. number ≡ option_map (λ _. self.old.next) (given_job (is_some sealed.entry) levels.now self.old.slots)) }
+        ensures taken { OnOk result (self.new ≡ with_taken (sealed_versions (option_map (λ s. s.now) sealed.entry)) cuts.items levels.now (given_job (is_some sealed.entry) levels.now self.old.slots) self.old) }
+        ensures exhausted { (result ≡ Err Exhausted) ↔ ((is_some (given_job (is_some sealed.entry) levels.now self.old.slots) ≡ true) × (2 ^ 63 < self.old.next)) }
+        ensures refusals { IfErr result (λ refusal. (refusal ≡ Exhausted) ⊎ (refusal ≡ NoMemory)) }
+        ensures unchanged { OnErr result (self.new ≡ self.old) }
+    {
+        let Some((place, job)) = self.next_job(levels, sealed.is_some()) else {
+            return Ok(None);
+        };
+        if self.next > 1 << 63 {
+            return Err(Refusal::Exhausted);
+        }
+        let held = job_for(alloc, self.next, levels, &job, sealed, cuts)?;
+        let number = self.put(place, held);
+        Ok(Some(number))
+    }
+}
