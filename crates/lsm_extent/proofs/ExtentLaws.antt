@@ -73,7 +73,7 @@ without-with e (x ∷ xs) none =
     (λ _. cond-true (e.first == e.first) (x ∷ xs) (e ∷ without_extent e (x ∷ xs)) (eq-eqb e.first e.first refl))
     (λ _. cond-false (x.first == e.first) (with_extent e xs) (x ∷ without_extent e (with_extent e xs)) head ∙ ap (λ (es : List Extent). x ∷ es) (without-with e xs rest))
 
-begins_none : (e : Extent) (area : Area) → 0 < e.blocks → IsPartition area → IsFreeRun area e.first e.blocks → BeginsNone e area.held
+pub begins_none : (e : Extent) (area : Area) → 0 < e.blocks → IsPartition area → IsFreeRun area e.first e.blocks → BeginsNone e area.held
 begins_none e area nonempty partition run = record {
   apart = λ x has same.
       let some : 0 < x.blocks = subst (λ (y : Extent). 0 < y.blocks) has.2 (partition.nonempty has.0 x has.1) in

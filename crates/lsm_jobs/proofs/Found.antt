@@ -96,6 +96,7 @@ module _ (number place next : ℕ) (shown items : Slots) (s : JobSlots) (now : O
       let both : shown ≡ s.slots = same ∙ ap (λ (v : JobSlots). v.slots) view in
       let told : IsAt number shown place slot = record {
         within = omega (arith, found.within, here);
+        there = λ d. sym (ap (λ (k : ℕ). get_or shown k d) here) ∙ found.at d ∙ sym now_is ∙ is;
         is = found.is ∙ sym now_is ∙ is;
         set = λ new. sym (ap (λ (k : ℕ). set shown k new) here) ∙ found.sets new;
       } in

@@ -2,3 +2,5 @@ pub mod KeptJobs
 pub mod Numbers
 pub mod Holding
 pub mod Found
+pub mod Placed
+pub mod Accepted

@@ -1,7 +1,8 @@
 -- The places of slots.
-use Rattle.std.specs.Prelude.{◌≡◌, ℕ, ◌+◌, ◌<◌, ◌==◌, Bool, false, is_none, [], ◌∷◌, length, slice_set, Option, Some, None, if◌then◌else◌}
+use Rattle.std.specs.Prelude.{◌≡◌, ℕ, ◌+◌, ◌<◌, ◌==◌, Bool, false, is_none, [], ◌∷◌, length, slice_index_or, slice_set, Option, Some, None, if◌then◌else◌}
 use Rattle.lsm_levels.specs.Pick.{Job}
-use Rattle.lsm_jobs.specs.Slots.{Slot, Slots, slot_of, with_held}
+use Rattle.lsm_merge.specs.Inputs.{MergeInput}
+use Rattle.lsm_jobs.specs.Slots.{Slot, Slots, Frozen, slot_of, with_held}
 
 -- whether a slot holds a job that passes a test
 abbrev pub holds : (Job → Bool) → Option Slot → Bool
@@ -26,5 +27,13 @@ place_from n number (held ∷ rest) = if has_number number held then Some n else
 -- The job of a number holds the slot at this place.
 pub record IsAt (number : ℕ) (slots : Slots) (place : ℕ) (slot : Slot) : Type 0 where
   pub within : place < length slots
+  pub there : (d : Option Slot) → slice_index_or slots place d ≡ Some slot
   pub is : slot_of number slots ≡ Some slot
   pub set : (now : Option Slot) → slice_set slots place now ≡ with_held number now slots
+
+-- The job of a number holds it, and is frozen with this input.
+pub record IsFrozenAt (number : ℕ) (slots : Slots) (place : ℕ) (input : MergeInput) : Type 0 where
+  pub slot : Slot
+  pub at : IsAt number slots place slot
+  pub frozen : slot.stage ≡ Frozen
+  pub own : slot.input ≡ input

@@ -5,3 +5,5 @@ pub mod Numbers
 pub mod Outputs
 pub mod Shown
 pub mod Holding
+pub mod Placing
+pub mod Refusing

@@ -90,9 +90,9 @@ outputs_at Frozen = []
 outputs_at (Writing tables left) = tables
 
 -- whether there is a job, and its stage is no such
-abbrev pub is_past : (Stage → Bool) → Option Slot → Bool
-is_past test None = false
-is_past test (Some slot) = not (test slot.stage)
+abbrev pub is_not_at : (Stage → Bool) → Option Slot → Bool
+is_not_at test None = false
+is_not_at test (Some slot) = not (test slot.stage)
 
 -- the outputs of a job, if there is one
 abbrev pub outputs_of : Option Slot → List Table

@@ -1,12 +1,15 @@
 //! A job that holds a slot.
 
-ghost use Rattle.std.specs.Prelude.{◌≡◌, ◌==◌, ◌++◌, ◌∷◌, []};
+ghost use Rattle.std.specs.Prelude.{◌≡◌, ◌==◌, ◌++◌, ◌∷◌, [], false, MatchOption};
+ghost use Rattle.std.specs.Arc.{arc_value};
 ghost use Rattle.std.specs.List.{list_any};
 ghost use Rattle.lsm_levels.specs.Pick.{is_flush, is_of_level_0, inputs};
+ghost use Rattle.lsm_jobs.specs.Slots.{Frozen, is_frozen, outputs_at};
 
 use crate::gathering::Gathering;
 use crate::merge::MergeTables;
 use crate::outputs::Outputs;
+use lsm_levels::PlacedTable;
 use lsm_merge::Input;
 use std::alloc::Allocator;
 use std::marker::Model;
@@ -34,11 +37,11 @@ pub(crate) struct HeldJob<A: Allocator> {
 
 impl<A: Allocator> Model for HeldJob<A> {
     ghost use Rattle.lsm_jobs.specs.Slots.{Slot};
-    ghost use Rattle.lsm_jobs.specs.Shown.{slot_shown};
+    ghost use Rattle.lsm_jobs.specs.Shown.{job_of, slot_shown};
 
     ghost Value = { Slot };
 
-    ghost view = { λ h. slot_shown h.number h.tables h.work };
+    ghost view = { λ h. slot_shown h.number (job_of h.tables) h.work };
 }
 
 impl<A: Allocator> HeldJob<A> {
@@ -73,6 +76,35 @@ impl<A: Allocator> HeldJob<A> {
         match &self.tables {
             Some(tables) => tables.takes_in(number),
             None => false,
+        }
+    }
+
+    /// Its input, where it is frozen.
+    pub(crate) fn frozen(&self) -> Option<&Arc<Input<A>, A>>
+        ensures { MatchOption result (is_frozen self.now.stage ≡ false) (λ input. (self.now.stage ≡ Frozen) × (self.now.input ≡ arc_value input.now)) }
+    {
+        match &self.work {
+            Work::Reading(_) => None,
+            Work::Frozen(input) => Some(input),
+            Work::Writing(_) => None,
+        }
+    }
+
+    /// Goes over to other work.
+    pub(crate) fn set_work(&mut self, work: Work<A>)
+        ensures { self.new ≡ slot_shown self.old.number self.old.job work }
+    {
+        self.work = work;
+    }
+
+    /// Its outputs, where they are placed.
+    pub(crate) fn outputs(&self) -> &[PlacedTable<A>]
+        ensures { result.now ≡ outputs_at self.now.stage }
+    {
+        match &self.work {
+            Work::Reading(_) => &[],
+            Work::Frozen(_) => &[],
+            Work::Writing(outputs) => outputs.tables(),
         }
     }
 }

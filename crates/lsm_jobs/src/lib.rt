@@ -1,11 +1,14 @@
 //! The jobs of a store, in four slots.
 #![tactic(auto)]
 
+mod accepting;
+mod ending;
 mod gathering;
 mod held;
 mod law;
 mod merge;
 mod outputs;
+mod placing;
 mod slots;
 mod taking;
 

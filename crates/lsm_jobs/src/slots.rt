@@ -1,13 +1,14 @@
 //! Four slots of jobs.
 
-ghost use Rattle.std.specs.Prelude.{◌≡◌, ◌==◌, ◌<◌, length, is_some, IfOk, IfErr, None};
+ghost use Rattle.std.specs.Prelude.{◌≡◌, ◌==◌, ◌<◌, length, is_some, IfOk, IfErr, None, Some, ℕ};
 ghost use Rattle.std.specs.List.{list_any};
 ghost use Rattle.lsm_device.specs.declared.refusal.Refusal.TheVariants.{NoSuchJob};
 ghost use Rattle.lsm_levels.specs.Pick.{is_flush, is_of_level_0, inputs};
-ghost use Rattle.lsm_jobs.specs.Slots.{no_jobs, slot_of};
+ghost use Rattle.lsm_jobs.specs.Slots.{Slot, no_jobs, slot_of, with_held};
+ghost use Rattle.lsm_jobs.specs.Shown.{slot_shown};
 ghost use Rattle.lsm_jobs.specs.Holding.{holds, free_from, has_number, place_from, IsAt};
 
-use crate::held::HeldJob;
+use crate::held::{HeldJob, Work};
 use lsm_device::Refusal;
 use lsm_levels::HeldJobs;
 use std::alloc::{AllocError, Allocator, Global};
@@ -130,6 +131,18 @@ impl<A: Allocator> Slots<A> {
         match &self.slots[place] {
             Some(held) => Ok((place, held)),
             None => Err(Refusal::NoSuchJob),
+        }
+    }
+
+    /// Has the job at a place go over to other work.
+    pub(crate) fn set_work(&mut self, place: usize, work: Work<A>)
+        requires { place < length self.old.slots }
+        ensures { (number : ℕ) (slot : Slot) → IsAt number self.old.slots place slot
+            → self.new ≡ record { next = self.old.next; slots = with_held number (Some (slot_shown slot.number slot.job work)) self.old.slots } }
+    {
+        match &mut self.slots[place] {
+            Some(held) => held.set_work(work),
+            None => {}
         }
     }
 }
