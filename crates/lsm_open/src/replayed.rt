@@ -1,4 +1,4 @@
-// The batches of the listed regions are brought into memory.
+// The batches of the listed regions move into memory.
 ghost use Rattle.std.specs.Prelude.{◌≡◌, ◌≢◌, ◌⊎◌, ◌<◌, ◌≤◌, ◌^◌, ◌+◌, ◌*◌, List, [], length, false, IsTrue, IfOk, OnOk, OnErr, IfErr, is_ok};
 ghost use Rattle.lsm_codec.specs.Manifests.{IsManifest};
 ghost use Rattle.lsm_codec.specs.Map.{Operation};
@@ -32,17 +32,17 @@ pub(crate) struct Replayed<A: Allocator> {
 fn insert_all<A: Allocator + Clone>(
     mem: &mut Mem<A>,
     count: u64,
-    batches: &[Batch<A>],
+    batches: Vec<Batch<A>, A>,
 ) -> Result<(), AllocError>
     requires numbered { NumberedBelow (count + 1) mem.old }
-    requires room { count + length batches.now ≤ 2 ^ 63 }
-    ensures inserted { OnOk result (mem.new ≡ with_batches count batches.now mem.old) }
-    ensures numbered { OnOk result (NumberedBelow (count + length batches.now + 1) mem.new) }
+    requires room { count + length batches.items ≤ 2 ^ 63 }
+    ensures inserted { OnOk result (mem.new ≡ with_batches count batches.items mem.old) }
+    ensures numbered { OnOk result (NumberedBelow (count + length batches.items + 1) mem.new) }
 {
     let mut number = count;
     for batch in batches {
         number += 1;
-        mem.insert(batch, number)?;
+        mem.insert_owned(batch, number)?;
     }
     Ok(())
 }
@@ -62,17 +62,18 @@ impl<A: Allocator + Clone> Replayed<A> {
     }
 
     // Takes in the batches of the region of a log record, which come next.
-    fn take_in(&mut self, listed: &LogRecord, batches: &[Batch<A>]) -> Result<(), AllocError>
+    fn take_in(&mut self, listed: &LogRecord, batches: Vec<Batch<A>, A>) -> Result<(), AllocError>
         requires first { listed.now.first_batch ≡ self.old.count + 1 }
         requires numbered { NumberedBelow (self.old.count + 1) self.old.mem }
-        requires room { self.old.count + length batches.now ≤ 2 ^ 63 }
-        ensures { OnOk result (HasReplayed listed.now batches.now self.old self.new) }
+        requires room { self.old.count + length batches.items ≤ 2 ^ 63 }
+        ensures { OnOk result (HasReplayed listed.now batches.items self.old self.new) }
     {
         if batches.is_empty() {
             return Ok(());
         }
+        let count = batches.len() as u64;
         insert_all(&mut self.mem, self.count, batches)?;
-        self.count += batches.len() as u64;
+        self.count += count;
         self.closed.push(*listed)?;
         Ok(())
     }
@@ -105,7 +106,7 @@ impl<A: Allocator + Clone> Replayed<A> {
             return Err(Refusal::BadManifest);
         }
         let batches = replay_region(alloc, device, log_sectors, listed)?;
-        self.take_in(listed, &batches)?;
+        self.take_in(listed, batches)?;
         Ok(())
     }
 
