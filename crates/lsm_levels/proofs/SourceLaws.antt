@@ -1,12 +1,12 @@
 -- The source that comes next, and the page that sources come to.
-use Rattle.std.proofs.Common.{◌≡◌, ◌⊎◌, inl, inr, ⊎_elim, ℕ, zero, suc, ◌+◌, ◌<◌, Bool, true, false, cond, ◌&&◌, leb, List, [], ◌∷◌, ◌++◌, map, set, slice_get, filter, Option, Some, None, option_and_then, refl, sym, ap, ◌∙◌, subst, arith}
+use Rattle.std.proofs.Common.{◌≡◌, ◌⊎◌, inl, inr, ⊎_elim, ℕ, zero, suc, ◌+◌, ◌<◌, Bool, true, false, cond, ◌&&◌, leb, List, [], ◌∷◌, ◌++◌, set, slice_get, Option, Some, None, option_and_then, refl, sym, ap, ◌∙◌, subst, arith}
 use Rattle.std.specs.Option.{option_or}
 use Rattle.std.specs.Cmp.{nat_cmp_is}
 use Rattle.std.specs.List.{AllByRecursion}
 use Rattle.std.specs.declared.cmp.Ordering.{Ordering}
 use Rattle.std.specs.declared.cmp.Ordering.TheVariants.{Less, Equal, Greater}
-use Rattle.std.specs.Ordering.{is_eq, is_le, is_lt, nat_cmp, ordering_then}
-use Rattle.std.specs.FinMap.{entries, entries_sorted, find, get-entries}
+use Rattle.std.specs.Ordering.{is_le, is_lt, nat_cmp, ordering_then}
+use Rattle.std.specs.FinMap.{entries, entries_sorted, get-entries}
 use Rattle.std.specs.FinMap.Entries.{is_sorted-where_key, find-where_key}
 use Rattle.std.proofs.lemmas.Bool.{eq-eqb}
 use Rattle.std.proofs.lemmas.Cmp.{ranked}
@@ -24,7 +24,7 @@ use Rattle.lsm_mem.proofs.GatheringLaws.{behind_cases, below_other, come_sorted,
 use Rattle.lsm_mem.proofs.Maps.{get-map_of}
 use Rattle.lsm_merge.specs.Inputs.{joined}
 use Rattle.lsm_merge.proofs.MapLaws.{first-filter, first_key}
-use Rattle.lsm_merge.proofs.NewestLaws.{first_at, newest-first}
+use Rattle.lsm_merge.proofs.NewestLaws.{newest-first}
 use Rattle.lsm_merge.proofs.OrderTests.{tested, ordered_tested}
 use Rattle.lsm_merge.proofs.RangeLaws.{is_in_order-filter, newest-filter}
 use Rattle.lsm_levels.specs.Orders.{IsNewerPlace, IsVersionOrder}
