@@ -88,7 +88,9 @@ fn is_over<A: Allocator>(tables: &[PlacedTable<A>], limit: u32) -> bool
     false
 }
 
-/// The least-numbered table that is free, as are all those of the next level that meet it.
+/// The least-numbered table that is free, as are all those of the next level that meet it. It looks at each table once, and
+/// searches the next level by halves for those that meet it. As the tables of a level lie apart, fewer pairs of tables meet
+/// than both levels have tables, so it asks `held` no more than twice for each table of theirs.
 fn least_to_merge<'a, H: HeldJobs, A: Allocator>(
     held: &H,
     tables: &'a [PlacedTable<A>],
