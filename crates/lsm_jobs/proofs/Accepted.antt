@@ -1,12 +1,11 @@
 -- A result is accepted.
-use Rattle.std.proofs.Common.{◌≡◌, ◌≢◌, ◌⊎◌, inl, inr, ⊎_elim, ℕ, suc, ◌+◌, ◌-◌, ◌<◌, ◌≤◌, Bool, true, false, not, List, [], ◌∷◌, ◌++◌, length, map, Option, Some, None, refl, sym, ap, ◌∙◌, subst, arith}
+use Rattle.std.proofs.Common.{◌≡◌, ◌≢◌, inl, inr, ℕ, ◌+◌, ◌-◌, ◌<◌, ◌≤◌, not, List, [], ◌∷◌, ◌++◌, length, map, Option, refl, sym, ap, ◌∙◌, subst, arith}
 use Rattle.std.specs.Prelude.{sum_by, ltb}
 use Rattle.std.specs.List.{AllByRecursion}
 use Rattle.std.proofs.lemmas.Bool.{and_parts, ltb-true}
 use Rattle.std.proofs.lemmas.List.{length-append, length-map}
 use Rattle.std.proofs.lemmas.List.Sums.{sum_by-cons}
 use Rattle.lsm_device.specs.declared.refusal.Refusal.{Refusal}
-use Rattle.lsm_device.specs.declared.refusal.Refusal.TheVariants.{NoSuchJob, WrongState}
 use Rattle.lsm_device.specs.Runs.{run_at}
 use Rattle.lsm_device.proofs.Runs.{length-run_at}
 use Rattle.lsm_codec.specs.Indexes.{index_count, index_blocks}
@@ -15,7 +14,7 @@ use Rattle.lsm_extent.specs.declared.extent.Extent.{Extent}
 use Rattle.lsm_extent.specs.Area.{Area, is_held, handed_out, free_count, IsPartition}
 use Rattle.lsm_extent.proofs.ExtentLaws.{blocks-with}
 use Rattle.lsm_filter.specs.Bits.{filter_of}
-use Rattle.lsm_table.specs.Division.{TableBlocks, IsTable, entries_of, blocks}
+use Rattle.lsm_table.specs.Division.{TableBlocks, entries_of, blocks}
 use Rattle.lsm_table.specs.BlockEdges.{edges_of}
 use Rattle.lsm_table.specs.Extents.{extent_size, index_in_blocks, footer_in, keys_of}
 use Rattle.lsm_table.specs.Extents as laid
@@ -23,10 +22,10 @@ use Rattle.lsm_table.proofs.Blocks.{only_blocks}
 use Rattle.lsm_table.proofs.Blocked.{length-in_pieces}
 use Rattle.lsm_table.proofs.Outlines.{edge_count}
 use Rattle.lsm_merge.specs.Inputs.{MergeInput}
-use Rattle.lsm_levels.specs.Tables.{Table, table_of}
-use Rattle.lsm_jobs.specs.Slots.{Slot, Slots, JobSlots, Frozen, slot_of, is_frozen, is_not_at}
+use Rattle.lsm_levels.specs.Tables.{Table}
+use Rattle.lsm_jobs.specs.Slots.{Slot, Slots, slot_of}
 use Rattle.lsm_jobs.specs.Outputs.{IsTableOf, AreTablesOf, blocks_of, placed_blocks}
-use Rattle.lsm_jobs.specs.Placing.{extent_of, all_handed_out, IsPlaced, ArePlaced, FindNoRoom}
+use Rattle.lsm_jobs.specs.Placing.{extent_of, all_handed_out, ArePlaced, FindNoRoom}
 use Rattle.lsm_jobs.specs.Holding.{IsFrozenAt}
 use Rattle.lsm_jobs.specs.Refusing.{HasInput, HasOtherInput, IsNotFrozen, RefusesInput, RefusesResult}
 
@@ -52,7 +51,7 @@ size_is image number filter =
 pub block_count : (image : TableBlocks) (t : Table) → IsTableOf image t → length (blocks_of t) ≡ extent_size image
 block_count image t of = ap (λ (bs : List (List ℕ)). length bs) (blocks_are image t of) ∙ size_is image t.number (filter_of (keys_of image))
 
-table_size : (image : TableBlocks) (t : Table) → IsTableOf image t → t.blocks ≡ extent_size image
+pub table_size : (image : TableBlocks) (t : Table) → IsTableOf image t → t.blocks ≡ extent_size image
 table_size image t of = ap (λ (x : Table). x.blocks) of.same ∙ ap (λ (k : ℕ). k + index_count (edges_of image) + 2) (edge_count image of.is)
 
 pub placed_count : (images : List TableBlocks) (tables : List Table) → AreTablesOf images tables → length (placed_blocks tables) ≡ sum_by (λ t. t.blocks) tables

@@ -5,7 +5,7 @@ use Rattle.std.proofs.Common.{inl, inr}
 use Rattle.lsm_levels.specs.Among.{IsAmong}
 use Rattle.lsm_jobs.specs.Slots.{Slot, Slots, JobSlots, slot_of, with_held}
 use Rattle.lsm_jobs.specs.Keeping.{FoundLaw}
-use Rattle.lsm_jobs.specs.Holding.{has_number, place_from, IsAt}
+use Rattle.lsm_jobs.specs.Holding.{place_from, IsAt}
 
 none_some : (k : ℕ) → None ≡ Some k → ⊥
 none_some k e = cc

@@ -4,3 +4,5 @@ pub mod Holding
 pub mod Found
 pub mod Placed
 pub mod Accepted
+pub mod Sectors
+pub mod Noted

@@ -2,7 +2,8 @@
 use Rattle.std.specs.Prelude.{◌≡◌, ℕ, ◌+◌, ◌<◌, ◌==◌, Bool, false, is_none, [], ◌∷◌, length, slice_index_or, slice_set, Option, Some, None, if◌then◌else◌}
 use Rattle.lsm_levels.specs.Pick.{Job}
 use Rattle.lsm_merge.specs.Inputs.{MergeInput}
-use Rattle.lsm_jobs.specs.Slots.{Slot, Slots, Frozen, slot_of, with_held}
+use Rattle.lsm_jobs.specs.Outputs.{Placed}
+use Rattle.lsm_jobs.specs.Slots.{Slot, Slots, Frozen, Writing, slot_of, with_held}
 
 -- whether a slot holds a job that passes a test
 abbrev pub holds : (Job → Bool) → Option Slot → Bool
@@ -37,3 +38,9 @@ pub record IsFrozenAt (number : ℕ) (slots : Slots) (place : ℕ) (input : Merg
   pub at : IsAt number slots place slot
   pub frozen : slot.stage ≡ Frozen
   pub own : slot.input ≡ input
+
+-- The job of a number holds it, and is writing these outputs.
+pub record IsWritingAt (number : ℕ) (slots : Slots) (place : ℕ) (outputs : Placed) : Type 0 where
+  pub slot : Slot
+  pub at : IsAt number slots place slot
+  pub stage : slot.stage ≡ Writing outputs.tables outputs.left

@@ -7,3 +7,5 @@ pub mod Shown
 pub mod Holding
 pub mod Placing
 pub mod Refusing
+pub mod Writing
+pub mod Installing

@@ -1,5 +1,5 @@
 -- The outputs of a job, and the blocks that they are written as.
-use Rattle.std.specs.Prelude.{◌≡◌, ℕ, zero, suc, ◌+◌, ◌*◌, ◌-◌, List, [], ◌∷◌, ◌++◌, length, take, drop}
+use Rattle.std.specs.Prelude.{◌≡◌, ℕ, zero, suc, ◌+◌, ◌*◌, ◌-◌, ◌≤◌, ◌<◌, ◌^◌, ltb, List, [], ◌∷◌, length, take, drop, Option, Some, None, if◌then◌else◌}
 use Rattle.std.specs.List.{flat_map}
 use Rattle.lsm_device.specs.Disk.{Write}
 use Rattle.lsm_device.specs.Runs.{run_at}
@@ -46,6 +46,15 @@ writes_of area blocks = flat_map (block_writes area) blocks
 abbrev pub next_blocks : List Table → ℕ → List Write
 next_blocks tables left = take 8 (drop (length (placed_blocks tables) - left) (placed_blocks tables))
 
+-- which of the blocks that images take stands at a place, counted through them: the image, counted from n on, and the place in it
+abbrev pub place_in : ℕ → ℕ → List TableBlocks → Option (ℕ × ℕ)
+place_in n at [] = None
+place_in n at (image ∷ rest) = if ltb at (extent_size image) then Some (n, at) else place_in (n + 1) (at - extent_size image) rest
+
+-- the extent of a table lies in so many sectors, where the data area begins with the sector `area`
+abbrev pub EndsWithin : ℕ → ℕ → Table → Type 0
+EndsWithin size area t = area + 8 * (t.start + t.blocks) ≤ size
+
 -- what a job has to write: its input, its outputs, and how many of their blocks are left
 pub record Placed : Type 0 where
   pub input : MergeInput
@@ -56,3 +65,4 @@ pub record Placed : Type 0 where
 pub record AreOutputsOf (images : List TableBlocks) (tables : List Table) (written left : ℕ) : Type 0 where
   pub placed : AreTablesOf images tables
   pub counted : written + left ≡ length (placed_blocks tables)
+  pub fits : written + left < 2 ^ 32

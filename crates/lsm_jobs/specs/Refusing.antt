@@ -2,11 +2,11 @@
 -- a refusal comes exactly where its condition holds, but that NoMemory may come in the place of NoSpace or of an Ok.
 use Rattle.std.specs.Prelude.{◌≡◌, ◌≢◌, ◌⊎◌, ◌<◌, ◌≤◌, ◌+◌, ◌^◌, ℕ, Bool, true, List, length, Option, Some, None}
 use Rattle.lsm_device.specs.declared.refusal.Refusal.{Refusal}
-use Rattle.lsm_device.specs.declared.refusal.Refusal.TheVariants.{NoMemory, NoSuchJob, WrongState, ForeignResult, NoSpace, Exhausted}
+use Rattle.lsm_device.specs.declared.refusal.Refusal.TheVariants.{NoMemory, Io, NoSuchJob, WrongState, ForeignResult, NoSpace, Exhausted}
 use Rattle.lsm_extent.specs.Area.{Area}
 use Rattle.lsm_table.specs.Division.{TableBlocks}
 use Rattle.lsm_merge.specs.Inputs.{MergeInput}
-use Rattle.lsm_jobs.specs.Slots.{Stage, Slot, Frozen, is_frozen, is_not_at}
+use Rattle.lsm_jobs.specs.Slots.{Stage, Slot, Frozen, is_frozen, is_writing, is_written, is_not_at}
 use Rattle.lsm_jobs.specs.Placing.{FindNoRoom}
 
 -- a job is frozen, with this input
@@ -44,3 +44,18 @@ RefusesResult next_table input images area held Exhausted = HasInput input held 
 RefusesResult next_table input images area held NoSpace = HasInput input held × (next_table + length images ≤ 2 ^ 63 + 1) × FindNoRoom area images
 RefusesResult next_table input images area held NoMemory = HasInput input held × (next_table + length images ≤ 2 ^ 63 + 1)
 RefusesResult next_table input images area held other = ⊥
+
+-- there is no such job, or it is not writing
+abbrev pub IsNotWriting : Option Slot → Refusal → Type 0
+IsNotWriting held refusal = ((refusal ≡ NoSuchJob) × (held ≡ None)) ⊎ ((refusal ≡ WrongState) × (is_not_at is_writing held ≡ true))
+
+-- why no block is written, or not all that come next
+abbrev pub RefusesWrite : Option Slot → Refusal → Type 0
+RefusesWrite held NoSuchJob = held ≡ None
+RefusesWrite held WrongState = is_not_at is_writing held ≡ true
+RefusesWrite held Io = IsAtStage is_writing held
+RefusesWrite held other = ⊥
+
+-- there is no such job, or it is not writing or has blocks left
+abbrev pub IsNotWritten : Option Slot → Refusal → Type 0
+IsNotWritten held refusal = ((refusal ≡ NoSuchJob) × (held ≡ None)) ⊎ ((refusal ≡ WrongState) × (is_not_at is_written held ≡ true))

@@ -1,5 +1,5 @@
 -- The slots of jobs.
-use Rattle.std.specs.Prelude.{ℕ, Bool, true, false, not, ◌==◌, is_none, List, [], ◌∷◌, filter_map, Option, Some, None, option_map, if◌then◌else◌}
+use Rattle.std.specs.Prelude.{ℕ, ◌-◌, Bool, true, false, not, ◌==◌, is_none, List, [], ◌∷◌, filter_map, Option, Some, None, option_map, if◌then◌else◌}
 use Rattle.std.specs.List.{list_any}
 use Rattle.lsm_merge.specs.Inputs.{MergeInput}
 use Rattle.lsm_levels.specs.Tables.{Table}
@@ -82,6 +82,18 @@ abbrev pub is_written : Stage → Bool
 is_written (Reading left) = false
 is_written Frozen = false
 is_written (Writing tables left) = left == 0
+
+-- the blocks that are left, to read or to write
+abbrev pub left_at : Stage → ℕ
+left_at (Reading left) = left
+left_at Frozen = 0
+left_at (Writing tables left) = left
+
+-- with so many blocks fewer left to write
+abbrev pub less_left : ℕ → Stage → Stage
+less_left count (Reading left) = Reading left
+less_left count Frozen = Frozen
+less_left count (Writing tables left) = Writing tables (left - count)
 
 -- the outputs that are placed
 abbrev pub outputs_at : Stage → List Table

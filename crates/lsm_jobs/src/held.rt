@@ -1,12 +1,14 @@
 //! A job that holds a slot.
 
-ghost use Rattle.std.specs.Prelude.{◌≡◌, ◌==◌, ◌++◌, ◌∷◌, [], false, MatchOption};
+ghost use Rattle.std.specs.Prelude.{◌≡◌, ◌≤◌, ◌==◌, ◌++◌, ◌∷◌, [], false, Some, MatchOption};
 ghost use Rattle.std.specs.Arc.{arc_value};
 ghost use Rattle.std.specs.List.{list_any};
 ghost use Rattle.lsm_levels.specs.Pick.{is_flush, is_of_level_0, inputs};
-ghost use Rattle.lsm_jobs.specs.Slots.{Frozen, is_frozen, outputs_at};
+ghost use Rattle.lsm_jobs.specs.Installing.{IsWhole};
+ghost use Rattle.lsm_jobs.specs.Slots.{Frozen, Writing, is_frozen, is_writing, is_written, left_at, less_left, outputs_at};
 
 use crate::gathering::Gathering;
+use crate::installing::Written;
 use crate::merge::MergeTables;
 use crate::outputs::Outputs;
 use lsm_levels::PlacedTable;
@@ -87,6 +89,54 @@ impl<A: Allocator> HeldJob<A> {
             Work::Reading(_) => None,
             Work::Frozen(input) => Some(input),
             Work::Writing(_) => None,
+        }
+    }
+
+    /// Its outputs, where it is writing.
+    pub(crate) fn writing(&self) -> Option<&Outputs<A>>
+        ensures { MatchOption result (is_writing self.now.stage ≡ false) (λ outputs. self.now.stage ≡ Writing outputs.now.tables outputs.now.left) }
+    {
+        match &self.work {
+            Work::Reading(_) => None,
+            Work::Frozen(_) => None,
+            Work::Writing(outputs) => Some(outputs),
+        }
+    }
+
+    /// Whether all blocks of its outputs are written.
+    pub(crate) fn is_written(&self) -> bool
+        ensures { result ≡ is_written self.now.stage }
+    {
+        match &self.work {
+            Work::Reading(_) => false,
+            Work::Frozen(_) => false,
+            Work::Writing(outputs) => outputs.left() == 0,
+        }
+    }
+
+    /// Its outputs, where all of their blocks are written, and what they take the place of.
+    pub(crate) fn written(&self) -> Option<Written<'_, A>>
+        ensures { MatchOption result (is_written self.now.stage ≡ false) (λ written. IsWhole written (Some self.now)) }
+    {
+        if !self.is_written() {
+            return None;
+        }
+        let outputs = self.outputs();
+        match &self.tables {
+            Some(tables) => Some(tables.written(outputs)),
+            None => Some(Written::Flush { outputs }),
+        }
+    }
+
+    /// Notes that so many blocks more are written.
+    pub(crate) fn note_written(&mut self, count: u32)
+        requires { count ≤ left_at self.old.stage }
+        ensures { self.new ≡ record { number = self.old.number; job = self.old.job; input = self.old.input; stage = less_left count self.old.stage } }
+    {
+        match &mut self.work {
+            Work::Reading(_) => {}
+            Work::Frozen(_) => {}
+            Work::Writing(outputs) => outputs.note_written(count),
         }
     }
 

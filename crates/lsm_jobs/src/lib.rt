@@ -5,12 +5,15 @@ mod accepting;
 mod ending;
 mod gathering;
 mod held;
+mod installing;
 mod law;
 mod merge;
 mod outputs;
 mod placing;
 mod slots;
 mod taking;
+mod writing;
 
+pub use installing::Written;
 pub use law::slots_stay_apart;
 pub use slots::Slots;

@@ -5,7 +5,9 @@ ghost use Rattle.std.specs.List.{list_any};
 ghost use Rattle.lsm_levels.specs.Tables.{Table};
 ghost use Rattle.lsm_levels.specs.Pick.{inputs, is_of_level_0};
 ghost use Rattle.lsm_jobs.specs.Numbers.{AreNumbersOf, merge_of};
+ghost use Rattle.lsm_jobs.specs.Installing.{job_told, outputs_told};
 
+use crate::installing::Written;
 use lsm_levels::PlacedTable;
 use std::alloc::{AllocError, Allocator};
 use std::collections::BTreeSet;
@@ -81,6 +83,19 @@ impl<A: Allocator + Clone> MergeTables<A> {
 }
 
 impl<A: Allocator> MergeTables<A> {
+    /// These tables, with the outputs that take their place.
+    pub(crate) fn written<'a>(&'a self, outputs: &'a [PlacedTable<A>]) -> Written<'a, A>
+        ensures job { job_told result ≡ merge_of self.now }
+        ensures outputs { outputs_told result ≡ outputs.now }
+    {
+        Written::Merge {
+            level: self.level,
+            upper: &self.upper,
+            lower: &self.lower,
+            outputs,
+        }
+    }
+
     /// Whether it is of level 0.
     pub(crate) fn is_of_level_0(&self) -> bool
         ensures { result ≡ is_of_level_0 (merge_of self.now) }

@@ -1,10 +1,10 @@
 //! Four slots of jobs.
 
-ghost use Rattle.std.specs.Prelude.{◌≡◌, ◌==◌, ◌<◌, length, is_some, IfOk, IfErr, None, Some, ℕ};
+ghost use Rattle.std.specs.Prelude.{◌≡◌, ◌==◌, ◌<◌, ◌≤◌, length, is_some, IfOk, IfErr, None, Some, ℕ};
 ghost use Rattle.std.specs.List.{list_any};
 ghost use Rattle.lsm_device.specs.declared.refusal.Refusal.TheVariants.{NoSuchJob};
 ghost use Rattle.lsm_levels.specs.Pick.{is_flush, is_of_level_0, inputs};
-ghost use Rattle.lsm_jobs.specs.Slots.{Slot, no_jobs, slot_of, with_held};
+ghost use Rattle.lsm_jobs.specs.Slots.{Slot, no_jobs, slot_of, with_held, left_at, less_left};
 ghost use Rattle.lsm_jobs.specs.Shown.{slot_shown};
 ghost use Rattle.lsm_jobs.specs.Holding.{holds, free_from, has_number, place_from, IsAt};
 
@@ -131,6 +131,18 @@ impl<A: Allocator> Slots<A> {
         match &self.slots[place] {
             Some(held) => Ok((place, held)),
             None => Err(Refusal::NoSuchJob),
+        }
+    }
+
+    /// Notes that so many blocks more of the job at a place are written.
+    pub(crate) fn note_written(&mut self, place: usize, count: u32)
+        requires { (number : ℕ) × (slot : Slot) × IsAt number self.old.slots place slot × (count ≤ left_at slot.stage) }
+        ensures { (number : ℕ) (slot : Slot) → IsAt number self.old.slots place slot
+            → self.new ≡ record { next = self.old.next; slots = with_held number (Some (record slot { stage = less_left count slot.stage })) self.old.slots } }
+    {
+        match &mut self.slots[place] {
+            Some(held) => held.note_written(count),
+            None => {}
         }
     }
 

@@ -1,4 +1,4 @@
-use Rattle.std.proofs.Common.{◌≡◌, ◌∙◌, List, length, refl, sym, subst, arith}
+use Rattle.std.proofs.Common.{◌≡◌, List, refl, subst, arith}
 use Rattle.std.specs.Arc.{arc_value}
 use Rattle.lsm_table.specs.Division.{TableBlocks}
 use Rattle.lsm_jobs.specs.Placing.{ArePlaced}

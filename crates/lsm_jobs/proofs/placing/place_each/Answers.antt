@@ -1,4 +1,4 @@
-use Rattle.std.proofs.Common.{Err, ◌≡◌, ◌∷◌, [], ◌++◌, List, ◌∙◌, ap, sym, subst, arith}
+use Rattle.std.proofs.Common.{Err, ◌∷◌, [], ◌++◌, List, ◌∙◌, ap, sym, subst, arith}
 use Rattle.std.proofs.lemmas.Result.{err_from_is_err_and}
 use Rattle.lsm_device.specs.declared.refusal.Refusal.{Refusal}
 use Rattle.lsm_device.specs.declared.refusal.Refusal.TheVariants.{NoSpace}

@@ -1,0 +1,58 @@
+//! What an install of a job's outputs needs.
+
+ghost use Rattle.std.specs.Prelude.{◌≡◌, IfOk, IfErr, OnOk, OnErr};
+ghost use Rattle.lsm_jobs.specs.Slots.{slot_of, with_held, outputs_of};
+ghost use Rattle.lsm_jobs.specs.Refusing.{IsNotWritten};
+ghost use Rattle.lsm_jobs.specs.Installing.{IsWhole};
+
+use crate::slots::Slots;
+use lsm_device::Refusal;
+use lsm_levels::PlacedTable;
+use std::alloc::{Allocator, Global};
+
+/// The outputs of a job whose blocks are all written, and what they take the place of.
+#[derive(Drop)]
+pub enum Written<'a, A: Allocator = Global> {
+    /// Those of a flush come before all others.
+    Flush {
+        outputs: &'a [PlacedTable<A>],
+    },
+    /// Those of a merge replace the tables of a level, and those of the next that they met.
+    Merge {
+        level: usize,
+        upper: &'a [PlacedTable<A>],
+        lower: &'a [PlacedTable<A>],
+        outputs: &'a [PlacedTable<A>],
+    },
+}
+
+impl<A: Allocator> Slots<A> {
+    /// The outputs of a job whose blocks are all written, with what they take the place of. It is refused with `NoSuchJob`
+    /// exactly where no slot has the number, and with `WrongState` exactly where the job is not writing or has blocks left. It
+    /// takes no memory.
+    pub fn written(&self, job: u64) -> Result<Written<'_, A>, Refusal>
+        ensures found { IfOk result (λ written. IsWhole written (slot_of job self.now.slots)) }
+        ensures refused { IfErr result (IsNotWritten (slot_of job self.now.slots)) }
+    {
+        let (_place, held) = self.find(job)?;
+        match held.written() {
+            Some(written) => Ok(written),
+            None => Err(Refusal::WrongState),
+        }
+    }
+
+    /// Ends such a job, once its outputs are installed: its slot is free, and what was placed for it stays handed out. It is
+    /// refused as `written` is; then nothing has changed. It takes no memory.
+    pub fn finish(&mut self, job: u64) -> Result<(), Refusal>
+        ensures freed { OnOk result (self.new ≡ record { next = self.old.next; slots = with_held job None self.old.slots }) }
+        ensures refused { IfErr result (IsNotWritten (slot_of job self.old.slots)) }
+        ensures unchanged { OnErr result (self.new ≡ self.old) }
+    {
+        let (place, held) = self.find(job)?;
+        if !held.is_written() {
+            return Err(Refusal::WrongState);
+        }
+        self.slots[place] = None;
+        Ok(())
+    }
+}
