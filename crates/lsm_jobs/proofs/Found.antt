@@ -1,6 +1,6 @@
 -- The job of a number is found.
 use Rattle.std.proofs.Common.{◌≡◌, ℕ, suc, ◌+◌, ◌-◌, ◌<◌, ◌≤◌, Bool, true, false, cond, eqb, [], ◌∷◌, length, set, get_or, Option, Some, None, refl, sym, ap, ◌∙◌, subst, arith}
-use Rattle.std.proofs.lemmas.Bool.{eqb-true}
+use Rattle.std.proofs.lemmas.Bool.{eqb-true, eq-eqb}
 use Rattle.std.proofs.Common.{inl, inr}
 use Rattle.lsm_levels.specs.Among.{IsAmong}
 use Rattle.lsm_jobs.specs.Slots.{Slot, Slots, JobSlots, slot_of, with_held}
@@ -126,5 +126,15 @@ found_number number (Some held ∷ rest) slot e = by (found_number number rest s
     by later true is here = ap (λ (x : Slot). x.number) (same_slot slot held (sym here)) ∙ eqb-true held.number number is
     by later false is there = later there
 
+found_replaced : (number : ℕ) (slots : Slots) (slot new : Slot) → slot_of number slots ≡ Some slot → new.number ≡ number → slot_of number (with_held number (Some new) slots) ≡ Some new
+found_replaced number [] slot new e same = absurd (let f : None ≡ Some slot = e in cc)
+found_replaced number (None ∷ rest) slot new e same = found_replaced number rest slot new e same
+found_replaced number (Some held ∷ rest) slot new e same = by (λ f. found_replaced number rest slot new f same) (eqb held.number number) refl e
+  where
+    by : (slot_of number rest ≡ Some slot → slot_of number (with_held number (Some new) rest) ≡ Some new) → (b : Bool) → eqb held.number number ≡ b → cond b (Some held) (slot_of number rest) ≡ Some slot
+        → slot_of number (cond b (Some new ∷ rest) (Some held ∷ with_held number (Some new) rest)) ≡ Some new
+    by later true is _ = ap (λ b. cond b (Some new) (slot_of number rest)) (eq-eqb new.number number same)
+    by later false is there = ap (λ b. cond b (Some held) (slot_of number (with_held number (Some new) rest))) is ∙ later there
+
 pub found_law : FoundLaw
-found_law = record { there = found_there; number = found_number }
+found_law = record { there = found_there; number = found_number; replaced = found_replaced }

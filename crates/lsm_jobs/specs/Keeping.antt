@@ -38,7 +38,8 @@ StagingLaw = (levels : Levels) (next : ℕ) (slots : Slots) (one : Slot) (stage 
 abbrev pub FreeingLaw : Type 0
 FreeingLaw = (levels : Levels) (next number : ℕ) (slots : Slots) → AreKept levels next slots → AreKept levels next (with_held number None slots)
 
--- a job that is found is in a slot, under its number
+-- A job that is found is in a slot, under its number, and what comes in its place is found there.
 pub record FoundLaw : Type 0 where
   pub there : (number : ℕ) (slots : Slots) (slot : Slot) → slot_of number slots ≡ Some slot → IsAmong (Some slot) slots
   pub number : (number : ℕ) (slots : Slots) (slot : Slot) → slot_of number slots ≡ Some slot → slot.number ≡ number
+  pub replaced : (number : ℕ) (slots : Slots) (slot new : Slot) → slot_of number slots ≡ Some slot → new.number ≡ number → slot_of number (with_held number (Some new) slots) ≡ Some new
