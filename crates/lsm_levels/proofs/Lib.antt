@@ -26,3 +26,8 @@ pub mod ToldLaws
 pub mod StoredLaws
 pub mod Finding
 pub mod WithinLaws
+pub mod CursorBlocks
+pub mod AskingLaws
+pub mod CursorLaws
+pub mod CursorStored
+pub mod CursorGives

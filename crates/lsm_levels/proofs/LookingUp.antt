@@ -45,11 +45,11 @@ ends_map (Err x) e g h = e h
 
 -- ---- what a block says is a version, none, or BadTable
 
-abbrev IsBad : Result Version Refusal → Type 0
+abbrev pub IsBad : Result Version Refusal → Type 0
 IsBad (Ok v) = Unit {0}
 IsBad (Err e) = e ≡ BadTable
 
-bad_from : (n : ℕ) (bytes : List ℕ) → AllByRecursion IsBad (entries_from n bytes)
+pub bad_from : (n : ℕ) (bytes : List ℕ) → AllByRecursion IsBad (entries_from n bytes)
 unfolding entries_from
 bad_from zero bytes = elim (are_zeros bytes) as (λ b. AllByRecursion IsBad (cond b [] (Err BadTable ∷ []))) [ true ↦ tt | false ↦ (refl, tt) ]
 bad_from (suc n) bytes = elim (entry_at bytes) as (λ o. AllByRecursion IsBad (elim o as (λ _. List (Result Version Refusal)) [ None ↦ Err BadTable ∷ [] | Some x ↦ Ok x.0 ∷ entries_from n x.1 ])) [
@@ -57,7 +57,7 @@ bad_from (suc n) bytes = elim (entry_at bytes) as (λ o. AllByRecursion IsBad (e
   | Some x ↦ (tt, bad_from n x.1)
 ]
 
-bad_in : (bytes : List ℕ) → AllByRecursion IsBad (entries_in bytes)
+pub bad_in : (bytes : List ℕ) → AllByRecursion IsBad (entries_in bytes)
 unfolding entries_in
 bad_in bytes = elim (number_at 2 bytes) as (λ o. AllByRecursion IsBad (elim o as (λ _. List (Result Version Refusal)) [ None ↦ Err BadTable ∷ [] | Some x ↦ cond (x.0 == 0) (Err BadTable ∷ []) (entries_from x.0 x.1) ])) [
   | None ↦ (refl, tt)

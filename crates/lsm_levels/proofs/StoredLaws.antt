@@ -66,7 +66,7 @@ spelled_read bytes None vs e = absurd cc
 spelled_read bytes (Some ws) vs e = elim (is_data_block ws && bytes_eq bytes (data_block ws)) as (λ b. cond b (Some ws) None ≡ Some vs → Some ws ≡ Some vs) [ true ↦ λ e. e | false ↦ λ e. absurd cc ] e
 
 -- the entries of a block that spells some
-block_entries : (bytes : List ℕ) (vs : List Version) → block_of bytes ≡ Some vs → entries_in bytes ≡ map (λ v. Ok v) vs
+pub block_entries : (bytes : List ℕ) (vs : List Version) → block_of bytes ≡ Some vs → entries_in bytes ≡ map (λ v. Ok v) vs
 unfolding block_of
 block_entries bytes vs e = all_ok_map (entries_in bytes) vs (spelled_read bytes (all_ok (entries_in bytes)) vs e)
 

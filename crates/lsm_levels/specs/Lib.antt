@@ -11,4 +11,5 @@ pub mod Asking
 pub mod Lookups
 pub mod Stored
 pub mod Founds
+pub mod Cursors
 pub mod Sources

@@ -1,5 +1,6 @@
 //! Laws of the definitions.
 
+ghost use Rattle.lsm_levels.specs.Cursors.{CursorLaw};
 ghost use Rattle.lsm_levels.specs.Held.{PickLaw, SurvivalLaw, RunsLaw, MergingLaw, OrderLaw, FlushLaw};
 ghost use Rattle.lsm_levels.specs.Sources.{NextLaw, PageLaw};
 
@@ -19,6 +20,11 @@ pub fn jobs_keep_their_tables()
 pub fn merges_leave_other_versions()
     ensures merging { MergingLaw }
     ensures order { OrderLaw }
+{}
+
+/// A cursor gives the versions of its run, where the run's tables stand.
+pub fn cursors_give_their_versions()
+    ensures { CursorLaw }
 {}
 
 /// A flush of versions that are newer than those of their keys in all levels keeps the order of versions.

@@ -2,8 +2,10 @@
 #![tactic(auto)]
 
 mod asking;
+mod blocks;
 mod contents;
 mod covered;
+mod cursor;
 mod found;
 mod hulls;
 mod law;
@@ -18,9 +20,10 @@ mod table;
 mod view;
 mod within;
 
+pub use cursor::RunCursor;
 pub use law::{
-    flushes_keep_the_order, jobs_keep_their_tables, merges_leave_other_versions,
-    picked_jobs_have_free_tables, sources_come_to_a_page,
+    cursors_give_their_versions, flushes_keep_the_order, jobs_keep_their_tables,
+    merges_leave_other_versions, picked_jobs_have_free_tables, sources_come_to_a_page,
 };
 pub use levels::Levels;
 pub use picking::{HeldJobs, Pick};

@@ -1,12 +1,15 @@
 -- One step of the entries of a block.
-use Rattle.std.proofs.Common.{◌≡◌, ℕ, suc, ◌-◌, Bool, true, false, cond, List, [], ◌∷◌, Option, Some, None, Result, Ok, Err, sym, ap, ◌∙◌, arith, length, drop}
+use Rattle.std.proofs.Common.{◌≡◌, ℕ, suc, ◌-◌, ◌≤◌, ◌++◌, Bool, true, false, cond, List, [], ◌∷◌, Option, Some, None, Result, Ok, Err, sym, ap, ◌∙◌, arith, length, take, drop, append_assoc, take-append-drop, refl, subst}
 use Rattle.lsm_device.specs.declared.refusal.Refusal.{Refusal}
 use Rattle.lsm_device.specs.declared.refusal.Refusal.TheVariants.{BadTable}
 use Rattle.lsm_codec.specs.BatchText.{key_at}
 use Rattle.lsm_codec.specs.Versions.{Version}
-use Rattle.lsm_codec.specs.Entries.{are_zeros, entry_at, entries_from, entries_in}
+use Rattle.lsm_codec.specs.Entries.{are_zeros, entry_text, entry_at, entries_from, entries_in}
+use Rattle.lsm_codec.specs.Keys.{IsBytes}
+use Rattle.lsm_codec.proofs.Readers.{after}
+use Rattle.lsm_codec.proofs.EntryLaws.{entry_reads}
 use Rattle.std.proofs.lemmas.Bool.{le-ltb}
-use Rattle.std.proofs.lemmas.List.{take_all, length-drop}
+use Rattle.std.proofs.lemmas.List.{take_all, length-drop, length-append}
 use borrow.Rule.Slice.PartMut.{mid_of}
 use Rattle.byteorder.specs.Endian.{big_number}
 use Rattle.lsm_codec.specs.Reading.{number_at}
@@ -54,3 +57,58 @@ none_counted_here bytes n items size is zeroth bad = none_counted bytes (drop 2 
 pub some_counted : (bytes : List ℕ) (n : ℕ) → length bytes ≡ 4096 → n ≡ big_number 2 bytes → (n ≡ 0 → ⊥) → entries_from n (mid_of 2 4094 bytes) ≡ entries_in bytes
 some_counted bytes n size is some =
     ap (entries_from n) (take_all 4094 (drop 2 bytes) (omega (arith, size, length-drop 2 bytes))) ∙ counted_in bytes (drop 2 bytes) n (counted bytes n size is) some
+
+-- ---- places
+
+pub some_counted_at : (bytes : List ℕ) (n : ℕ) → length bytes ≡ 4096 → n ≡ big_number 2 bytes → (n ≡ 0 → ⊥) → entries_from n (drop 2 bytes) ≡ entries_in bytes
+some_counted_at bytes n size is some = counted_in bytes (drop 2 bytes) n (counted bytes n size is) some
+
+-- nothing is left of no bytes
+pub nothing_left : (nothing : List ℕ) → nothing ≡ [] → entries_from 0 nothing ≡ []
+unfolding entries_from
+nothing_left nothing empty = ap (entries_from 0) empty
+
+-- one item at most is left where no entry is
+one_at_most : (b : Bool) → drop {A = Result Version Refusal} 1 (cond b [] (Err BadTable ∷ [])) ≡ []
+one_at_most true = refl
+one_at_most false = refl
+
+pub none_behind_last : (left : ℕ) (bytes : List ℕ) → left ≡ 0 → drop 1 (entries_from left bytes) ≡ []
+unfolding entries_from
+none_behind_last left bytes none =
+    ap (λ (n : ℕ). drop 1 (entries_from n bytes)) none ∙ one_at_most (are_zeros bytes)
+
+pub none_behind_bad : (left : ℕ) (bytes : List ℕ) → (left ≡ 0 → ⊥) → None ≡ entry_at bytes → drop 1 (entries_from left bytes) ≡ []
+none_behind_bad left bytes some read = ap (drop 1) (step left bytes None some (sym read))
+
+rest_of : (front rest : List ℕ) → drop (length (front ++ rest) - length rest) (front ++ rest) ≡ rest
+rest_of [] rest =
+    let none : length ([] ++ rest) - length rest ≡ 0 = omega arith in
+    ap (λ (n : ℕ). drop n rest) none
+rest_of (x ∷ front) rest =
+    let same : length (x ∷ front ++ rest) - length rest ≡ suc (length (front ++ rest) - length rest) = omega (arith, length-append front rest) in
+    ap (λ (n : ℕ). drop n (x ∷ front ++ rest)) same ∙ rest_of front rest
+
+-- where the bytes behind a text begin
+begins_at : (bytes : List ℕ) (offset : ℕ) (text rest : List ℕ) → drop offset bytes ≡ text ++ rest → drop (length bytes - length rest) bytes ≡ rest
+begins_at bytes offset text rest e =
+    let whole : (take offset bytes ++ text) ++ rest ≡ bytes = append_assoc (take offset bytes) text rest ∙ ap (λ (t : List ℕ). take offset bytes ++ t) (sym e) ∙ take-append-drop offset bytes in
+    subst (λ (b : List ℕ). drop (length b - length rest) b ≡ rest) whole (rest_of (take offset bytes ++ text) rest)
+
+fit_behind : (bytes : List ℕ) (offset : ℕ) → IsBytes bytes → IsBytes (drop offset bytes)
+fit_behind bytes offset fits = after bytes (take offset bytes) (drop offset bytes) fits (sym (take-append-drop offset bytes))
+
+-- what is left behind an entry
+pub left_behind : (left : ℕ) (bytes : List ℕ) (offset at : ℕ) (v : Version) (rest : List ℕ) → IsBytes bytes → length bytes ≡ 4096 → at ≡ 4096 - length rest → (left ≡ 0 → ⊥) → Some (v, rest) ≡ entry_at (drop offset bytes)
+    → entries_from (left - 1) (drop at bytes) ≡ drop 1 (entries_from left (drop offset bytes))
+left_behind left bytes offset at v rest fits size is some read =
+    let found = entry_reads.found (drop offset bytes) (v, rest) (fit_behind bytes offset fits) (sym read) in
+    let same : at ≡ length bytes - length rest = is ∙ ap (λ (n : ℕ). n - length rest) (sym size) in
+    ap (entries_from (left - 1)) (ap (λ (n : ℕ). drop n bytes) same ∙ begins_at bytes offset (entry_text v) rest found.1)
+    ∙ sym (ap (drop 1) (step left (drop offset bytes) (Some (v, rest)) some (sym read)))
+
+-- the bytes behind an entry are some of the block's
+pub within_block : (bytes : List ℕ) (offset : ℕ) (v : Version) (rest : List ℕ) → IsBytes bytes → length bytes ≡ 4096 → Some (v, rest) ≡ entry_at (drop offset bytes) → length rest ≤ 4096
+within_block bytes offset v rest fits size read =
+    let found = entry_reads.found (drop offset bytes) (v, rest) (fit_behind bytes offset fits) (sym read) in
+    omega (arith, size, length-drop offset bytes, ap length found.1, length-append (entry_text v) rest)

@@ -1,5 +1,5 @@
 -- In which block of a table a version is found.
-use Rattle.std.specs.Prelude.{ℕ, ◌+◌, ◌<◌, Bool, cond, ◌||◌, ◌==◌, List, [], ◌∷◌, length, Option, Some, None, slice_index_or}
+use Rattle.std.specs.Prelude.{ℕ, suc, ◌+◌, ◌<◌, Bool, cond, ◌||◌, ◌==◌, List, [], ◌∷◌, length, Option, Some, None, slice_index_or}
 use Rattle.std.specs.List.{AllByRecursion}
 use Rattle.std.specs.Ordering.{nat_cmp, is_lt, is_gt, ordering_then}
 use Rattle.lsm_codec.specs.Keys.{Bytes, byte_order}
@@ -31,3 +31,12 @@ pub record IsSorted (table : TableBlocks) : Type 0 where
 abbrev pub at_place : TableBlocks → Option ℕ → List Version
 at_place table None = []
 at_place table (Some n) = slice_index_or table n []
+
+-- whether the block of an edge ends before a key
+abbrev pub ends_before : Bytes → Edge → Bool
+ends_before key e = is_lt (byte_order e.key key)
+
+-- how many blocks end before a key, one after the other from the first on
+abbrev pub blocks_before : Bytes → List Edge → ℕ
+blocks_before key [] = 0
+blocks_before key (e ∷ edges) = cond (ends_before key e) (suc (blocks_before key edges)) 0

@@ -2,7 +2,7 @@
 
 ghost use Rattle.std.specs.Prelude.{◌≡◌, ◌++◌, ◌<◌, ◌≤◌, length, map, true, IfOk, IfSome, OnOk};
 ghost use Rattle.lsm_table.specs.BlockEdges.{edge_of, edges_of, last_key, is_edge_before, are_rising};
-ghost use Rattle.lsm_table.specs.Places.{stands_before, place_from};
+ghost use Rattle.lsm_table.specs.Places.{stands_before, place_from, blocks_before};
 
 use lsm_codec::{Edge, Entry, Index};
 use std::alloc::{AllocError, Allocator};
@@ -73,6 +73,14 @@ pub(crate) fn place_in<A: Allocator>(edges: &[Edge<A>], key: &[u8], at: u64) -> 
     } else {
         None
     }
+}
+
+/// How many blocks end before a key.
+pub(crate) fn blocks_before<A: Allocator>(edges: &[Edge<A>], key: &[u8]) -> usize
+    requires { are_rising edges.now ≡ true }
+    ensures { result ≡ blocks_before key.now edges.now }
+{
+    edges.partition_point(|edge: &Edge<A>| edge.key().cmp(key).is_lt())
 }
 
 fn is_edge_before<A: Allocator>(edge: &Edge<A>, next: &Edge<A>) -> bool

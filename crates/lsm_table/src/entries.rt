@@ -4,7 +4,7 @@ ghost use Rattle.std.specs.Prelude.{◌≡◌, ◌↔◌, List, ◌∷◌, [], O
 ghost use Rattle.std.specs.Iterator.{YieldsFirstBy, item_count};
 ghost use Rattle.lsm_device.specs.declared.refusal.Refusal.TheVariants.{BadTable};
 ghost use Rattle.lsm_codec.specs.Versions.{Version};
-ghost use Rattle.lsm_codec.specs.Entries.{entries_in, IsDataBlock, data_block};
+ghost use Rattle.lsm_codec.specs.Entries.{entries_from, entries_in, IsDataBlock, data_block};
 ghost use Rattle.lsm_table.specs.Items.{shown_item, Takes};
 
 use byteorder::{BigEndian, ByteOrder};
@@ -56,6 +56,13 @@ impl<'a> Entries<'a> {
             left: count as usize,
             rest: &block[2..],
         }
+    }
+
+    /// So many entries, which begin with these bytes.
+    pub(crate) fn of(left: usize, rest: &'a [u8]) -> Entries<'a>
+        ensures { result ≡ entries_from left rest.now }
+    {
+        Entries { left, rest }
     }
 
     fn take(&mut self) -> Option<Result<VersionRef<'a>, Refusal>>

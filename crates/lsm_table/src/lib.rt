@@ -5,6 +5,7 @@ mod counting;
 mod division;
 mod edges;
 mod entries;
+mod entry_place;
 mod filling;
 mod image;
 mod laws;
@@ -14,6 +15,7 @@ mod table;
 
 pub use division::images;
 pub use entries::Entries;
+pub use entry_place::EntryPlace;
 pub use image::Image;
 pub use laws::{one_division_law, one_layout_law, outline_law, stored_law};
 pub use table::Table;

@@ -7,10 +7,10 @@ ghost use Rattle.lsm_codec.specs.Footers.{IsSummary, summary_of};
 ghost use Rattle.lsm_filter.specs.Bits.{is_perhaps};
 ghost use Rattle.lsm_table.specs.Division.{TableBlocks, entries_of};
 ghost use Rattle.lsm_table.specs.BlockEdges.{edges_of, first_key_of, last_key};
-ghost use Rattle.lsm_table.specs.Places.{place_of, at_place, IsSorted};
+ghost use Rattle.lsm_table.specs.Places.{place_of, at_place, blocks_before, IsSorted};
 ghost use Rattle.lsm_table.specs.Outlines.{IsOutline, outline_with, outline_by, outline_of, Opens};
 
-use crate::edges::{last_key, place_in};
+use crate::edges::{blocks_before, last_key, place_in};
 use crate::outline::{go_together, is_of_record};
 use lsm_codec::{Edge, Footer, Index, Key, TableRecord};
 use lsm_device::Refusal;
@@ -159,6 +159,13 @@ impl<A: Allocator> Table<A> {
         ensures { result ≡ is_perhaps self.now.filter key.now }
     {
         self.filter.perhaps(key)
+    }
+
+    /// How many data blocks end before the key, as the index tells, found by a binary search over the edges. It takes no memory.
+    pub fn blocks_before(&self, key: &[u8]) -> usize
+        ensures { result ≡ blocks_before key.now self.now.edges }
+    {
+        blocks_before(self.index.edges(), key)
     }
 
     /// The one data block that can hold the newest version of the key that is numbered at most `at`, found by a binary
