@@ -7,3 +7,4 @@ mod read;
 
 pub use cache::Cache;
 pub use name::BlockName;
+pub use read::read_block;

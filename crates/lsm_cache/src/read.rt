@@ -11,8 +11,9 @@ const SECTOR_BYTES: usize = 512;
 
 const BLOCK_SECTORS: u32 = 8;
 
-/// Reads the block that begins at a sector. The first read that faults is the last one.
-pub(crate) fn read_block<D: Device>(
+/// Reads the block that lies in the eight sectors from `sector` on, past any cache. The first read that faults is the last
+/// one; then `out` may have changed.
+pub fn read_block<D: Device>(
     device: &mut D,
     sector: u32,
     out: &mut [u8; 4_096],

@@ -1,7 +1,7 @@
 //! The input of a merge.
 
 ghost use Rattle.std.specs.Prelude.{◌≡◌, ◌↔◌, IsTrue, filter};
-ghost use Rattle.lsm_merge.specs.Inputs.{MergeInput, IsCuts, AreRuns, items_of};
+ghost use Rattle.lsm_merge.specs.Inputs.{MergeInput, IsMergeInput, IsCuts, AreRuns, items_of};
 ghost use Rattle.lsm_merge.specs.Ranges.{shown_key, is_from, is_until, within};
 ghost use Rattle.lsm_codec.specs.Versions.{AreOrdered};
 
@@ -39,6 +39,14 @@ impl<A: Allocator> Input<A> {
         ensures { result ≡ record { runs = items_of runs.items; cuts = cuts.items; bottom = bottom } }
     {
         Input { runs, cuts, bottom }
+    }
+
+    /// The runs, the cuts and the flag that it was made of. It takes no memory.
+    pub fn into_parts(self) -> (Vec<Vec<Entry<A>, A>, A>, Vec<u64, A>, bool)
+        ensures same { self ≡ record { runs = items_of result.0.items; cuts = result.1.items; bottom = result.2 } }
+        ensures limits { IsMergeInput self }
+    {
+        (self.runs, self.cuts, self.bottom)
     }
 
     /// The runs, the newer first.
