@@ -2,7 +2,10 @@ pub mod KeptJobs
 pub mod Numbers
 pub mod Holding
 pub mod Found
+pub mod GoingOn
+pub mod BlockReads
 pub mod Placed
 pub mod Accepted
 pub mod Sectors
 pub mod Noted
+pub mod ReadJobs

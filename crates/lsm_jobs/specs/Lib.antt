@@ -1,9 +1,11 @@
 pub mod Slots
 pub mod Keeping
+pub mod Gathering
 pub mod Taking
 pub mod Numbers
 pub mod Outputs
 pub mod Shown
+pub mod Reading
 pub mod Holding
 pub mod Placing
 pub mod Refusing

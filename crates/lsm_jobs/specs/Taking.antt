@@ -1,9 +1,10 @@
 -- What a job is taken with.
-use Rattle.std.specs.Prelude.{ℕ, ◌+◌, Bool, List, [], ◌∷◌, length, sum_by, Option, Some, None, if◌then◌else◌}
+use Rattle.std.specs.Prelude.{ℕ, ◌+◌, Bool, List, [], ◌∷◌, Option, Some, None, if◌then◌else◌}
 use Rattle.lsm_codec.specs.Versions.{Version}
-use Rattle.lsm_levels.specs.Tables.{Table, versions_of}
+use Rattle.lsm_levels.specs.Tables.{versions_of}
 use Rattle.lsm_levels.specs.Levels.{Levels}
-use Rattle.lsm_levels.specs.Pick.{Job, Flush, Merge, inputs, pick, is_bottom}
+use Rattle.lsm_levels.specs.Pick.{Job, Flush, Merge, pick, is_bottom}
+use Rattle.lsm_jobs.specs.Gathering.{data_blocks, run_if_some}
 use Rattle.lsm_jobs.specs.Slots.{Stage, Reading, Frozen, Slot, Slots, JobSlots, held_jobs, has_free, with_slot}
 
 -- the job that is given: none where no slot is free, and else the one that comes next
@@ -14,20 +15,15 @@ abbrev pub sealed_versions : Option (List Version) → List Version
 sealed_versions None = []
 sealed_versions (Some versions) = versions
 
--- the run of tables, none where there is no table
-abbrev pub run_if_some : List Table → List (List Version)
-run_if_some [] = []
-run_if_some (t ∷ rest) = versions_of (t ∷ rest) ∷ []
-
 -- the runs that a job takes in, the newer first
 abbrev pub runs_of : List Version → Job → List (List Version)
 runs_of sealed Flush = sealed ∷ []
-runs_of sealed (Merge i upper lower) = versions_of upper ∷ run_if_some lower
+runs_of sealed (Merge i upper lower) = versions_of upper ∷ run_if_some lower (versions_of lower)
 
 -- a flush begins with a whole input; another job has its data blocks to read
 abbrev pub first_stage : Job → Stage
 first_stage Flush = Frozen
-first_stage (Merge i upper lower) = Reading (sum_by (λ t. length t.outline.edges) (inputs (Merge i upper lower)))
+first_stage (Merge i upper lower) = Reading (data_blocks upper + data_blocks lower)
 
 -- the slot of a job with these cuts and this bottom flag
 abbrev pub slot_with : ℕ → List Version → List ℕ → Bool → Job → Slot

@@ -2,6 +2,7 @@
 #![tactic(auto)]
 
 mod accepting;
+mod blocks;
 mod ending;
 mod gathering;
 mod held;
@@ -10,6 +11,7 @@ mod law;
 mod merge;
 mod outputs;
 mod placing;
+mod reading;
 mod slots;
 mod taking;
 mod writing;

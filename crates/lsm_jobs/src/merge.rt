@@ -83,6 +83,20 @@ impl<A: Allocator + Clone> MergeTables<A> {
 }
 
 impl<A: Allocator> MergeTables<A> {
+    /// The upper tables.
+    pub(crate) fn upper(&self) -> &[PlacedTable<A>]
+        ensures { result.now ≡ self.now.upper }
+    {
+        &self.upper
+    }
+
+    /// The lower tables.
+    pub(crate) fn lower(&self) -> &[PlacedTable<A>]
+        ensures { result.now ≡ self.now.lower }
+    {
+        &self.lower
+    }
+
     /// These tables, with the outputs that take their place.
     pub(crate) fn written<'a>(&'a self, outputs: &'a [PlacedTable<A>]) -> Written<'a, A>
         ensures job { job_told result ≡ merge_of self.now }

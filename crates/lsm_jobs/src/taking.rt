@@ -70,19 +70,22 @@ fn one_handle<A: Allocator>(
 }
 
 /// A merge whose data blocks have to be read.
-fn merge_of<A: Allocator>(
+fn merge_of<A: Allocator + Clone>(
+    alloc: &A,
     number: u64,
     tables: MergeTables<A>,
     cuts: Vec<u64, A>,
     bottom: bool,
-) -> HeldJob<A>
-    ensures { result ≡ slot_with number [] cuts.items bottom (Merge tables.level tables.upper tables.lower) }
+) -> Result<HeldJob<A>, AllocError>
+    requires { IsCuts cuts.items }
+    ensures { IfOk result (λ held. held ≡ slot_with number [] cuts.items bottom (Merge tables.level tables.upper tables.lower)) }
 {
-    HeldJob {
+    let gathering = Gathering::new(alloc, cuts, bottom)?;
+    Ok(HeldJob {
         number,
         tables: Some(tables),
-        work: Work::Reading(Gathering { cuts, bottom }),
-    }
+        work: Work::Reading(gathering),
+    })
 }
 
 /// The job that comes next, under this number.
@@ -108,7 +111,7 @@ fn job_for<A: Allocator + Clone>(
         Pick::OldestRun { upper, lower } => {
             let upper = shared(alloc.clone()?, upper)?;
             let tables = tables_of(alloc, 0, upper, lower)?;
-            Ok(merge_of(number, tables, cuts, bottom))
+            merge_of(alloc, number, tables, cuts, bottom)
         }
         Pick::OneTable {
             level,
@@ -117,7 +120,7 @@ fn job_for<A: Allocator + Clone>(
         } => {
             let upper = one_handle(alloc.clone()?, upper)?;
             let tables = tables_of(alloc, *level, upper, lower)?;
-            Ok(merge_of(number, tables, cuts, bottom))
+            merge_of(alloc, number, tables, cuts, bottom)
         }
     }
 }
