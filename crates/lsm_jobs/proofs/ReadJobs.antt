@@ -1,15 +1,19 @@
 -- A job that is read goes back into its slot.
-use Rattle.std.proofs.Common.{◌≡◌, ℕ, zero, suc, ◌<◌, List, [], ◌∷◌, length, set, get_or, Option, Some, None, Result, Ok, Err, refl, sym, ap, subst, ◌∙◌, arith}
+use Rattle.std.proofs.Common.{◌≡◌, ◌↔◌, ℕ, zero, suc, ◌+◌, ◌<◌, ◌≤◌, Bool, true, false, IsTrue, Decides, List, [], ◌∷◌, length, set, get_or, Option, Some, None, Result, Ok, Err, refl, sym, ap, subst, ◌∙◌, arith}
 use Rattle.std.specs.Result.{IfOk, OnErr}
+use Rattle.std.specs.List.{AllByRecursion, list_all}
+use Rattle.std.proofs.lemmas.Bool.Decides.{Decides-like, Decides-and}
 use Rattle.std.proofs.lemmas.List.{set-set}
 use Rattle.lsm_device.specs.declared.refusal.Refusal.{Refusal}
 use Rattle.lsm_device.specs.Disk.{seen}
 use Rattle.lsm_device.specs.Medium.{Medium, disk}
+use Rattle.lsm_codec.proofs.Limits.{at_most-Decides, each-Decides}
+use Rattle.lsm_levels.specs.Stored.{LiesWithin, is_within}
 use Rattle.lsm_levels.specs.Tables.{Table}
 use Rattle.lsm_levels.specs.Pick.{Job}
 use Rattle.lsm_jobs.specs.Slots.{Slot, Slots, JobSlots, Reading}
 use Rattle.lsm_jobs.specs.Gathering.{Gathered, uppers, lowers, input_ahead, blocks_left, BothGoOn}
-use Rattle.lsm_jobs.specs.Reading.{SlotReadsOn, IsBadNext, JobReadsOn}
+use Rattle.lsm_jobs.specs.Reading.{CanBeRead, JobCanBeRead, SlotReadsOn, IsBadNext, JobReadsOn}
 use Rattle.lsm_jobs.specs.Holding.{IsAt}
 
 abbrev these : ℕ → Slots → JobSlots
@@ -58,3 +62,13 @@ slot_bad area m number job g upper lower slot first second view none = subst (λ
   shows = record { input = refl; stage = refl };
   none = λ after h. none after (subst (λ (t : List Table). BothGoOn (seen (disk m)) area t lower g after) (sym first) (subst (λ (t : List Table). BothGoOn (seen (disk m)) area (uppers job) t g after) (sym second) h));
 })
+
+-- ---- whether a job can be read
+
+within-Decides : (size area : ℕ) (t : Table) → Decides (is_within size area t) (LiesWithin size area t)
+within-Decides size area t = Decides-like (is_within size area t) (λ h. record { few = h.0; ends = h.1 }) (λ h. (h.few, h.ends)) (Decides-and _ _ (at_most-Decides _ _) (at_most-Decides _ _))
+
+pub all_within : (size area : ℕ) (tables : List Table) (r : Bool) → r ≡ list_all (is_within size area) tables → IsTrue r ↔ AllByRecursion (LiesWithin size area) tables
+all_within size area tables r e =
+    let d = each-Decides (is_within size area) (LiesWithin size area) (within-Decides size area) tables in
+    (λ t. d.0 (sym e ∙ t), λ all. e ∙ d.1 all)

@@ -8,7 +8,7 @@ use Rattle.lsm_merge.specs.Inputs.{MergeInput}
 use Rattle.lsm_levels.specs.Tables.{Table}
 use Rattle.lsm_levels.specs.Pick.{Job}
 use Rattle.lsm_levels.specs.Stored.{LiesWithin}
-use Rattle.lsm_jobs.specs.Slots.{Stage, Reading, Frozen, Slot, JobSlots, slot_of, with_held}
+use Rattle.lsm_jobs.specs.Slots.{Stage, Reading, Frozen, Slot, Slots, JobSlots, slot_of, with_held}
 use Rattle.lsm_jobs.specs.Gathering.{Gathered, uppers, lowers, whole_input, input_ahead, blocks_left, IsNext, BothGoOn}
 use Rattle.lsm_jobs.specs.declared.held.Work.{Work}
 use Rattle.lsm_jobs.specs.declared.held.Work.TheVariants as work
@@ -18,6 +18,10 @@ pub record CanBeRead (size area : ℕ) (job : Job) : Type 0 where
   pub few : length (uppers job) + length (lowers job) ≤ 1024
   pub upper : AllByRecursion (LiesWithin size area) (uppers job)
   pub lower : AllByRecursion (LiesWithin size area) (lowers job)
+
+-- those of the job of a number, if there is one
+pub record JobCanBeRead (size area job : ℕ) (slots : Slots) : Type 0 where
+  pub is : (slot : Slot) → slot_of job slots ≡ Some slot → CanBeRead size area slot.job
 
 -- A slot shows what is gathered.
 pub record Shows (slot : Slot) (g : Gathered) : Type 0 where

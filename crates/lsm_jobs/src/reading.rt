@@ -1,14 +1,15 @@
 //! How the data blocks of a job's tables are read.
 
-ghost use Rattle.std.specs.Prelude.{◌≡◌, ◌↔◌, ◌⊎◌, ◌<◌, false, true, Err, None, Some, length, slice_set, IsTrue, IfOk, IfErr, OnErr};
-ghost use Rattle.std.specs.List.{slice_index_or};
+ghost use Rattle.std.specs.Prelude.{◌≡◌, ◌↔◌, ◌⊎◌, ◌+◌, ◌<◌, ◌≤◌, false, true, Err, None, Some, length, slice_set, IsTrue, IfOk, IfErr, OnErr};
+ghost use Rattle.std.specs.List.{AllByRecursion, slice_index_or, list_all};
 ghost use Rattle.lsm_device.specs.declared.refusal.Refusal.TheVariants.{NoMemory, Io, BadTable, NoSuchJob, WrongState};
 ghost use Rattle.lsm_device.specs.Calls.{AtMost, faults_after};
 ghost use Rattle.lsm_device.specs.Refusals.{faultless};
+ghost use Rattle.lsm_levels.specs.Stored.{LiesWithin, is_within};
 ghost use Rattle.lsm_jobs.specs.Slots.{Slot, slot_of, is_reading, is_not_at};
 ghost use Rattle.lsm_jobs.specs.Shown.{job_of};
 ghost use Rattle.lsm_jobs.specs.Gathering.{uppers, lowers, ReadsBlocks};
-ghost use Rattle.lsm_jobs.specs.Reading.{CanBeRead, SlotReadsOn, IsBadNext, JobReadsOn};
+ghost use Rattle.lsm_jobs.specs.Reading.{CanBeRead, JobCanBeRead, SlotReadsOn, IsBadNext, JobReadsOn};
 
 use crate::held::{HeldJob, Work};
 use crate::merge::MergeTables;
@@ -34,6 +35,52 @@ fn lowers<A: Allocator>(tables: &Option<MergeTables<A>>) -> &[PlacedTable<A>]
     match tables {
         Some(tables) => tables.lower(),
         None => &[],
+    }
+}
+
+/// Whether the data blocks of a table lie within so many sectors.
+fn is_within<A: Allocator>(table: &PlacedTable<A>, sectors: u32, area: u32) -> bool
+    ensures { result ≡ is_within sectors area table.now }
+{
+    let blocks = table.table().data_blocks();
+    blocks <= 64
+        && area as u64 + 8 * (table.first_block() as u64 + blocks as u64) <= sectors as u64
+}
+
+fn all_within<A: Allocator>(tables: &[PlacedTable<A>], sectors: u32, area: u32) -> bool
+    ensures { result ≡ list_all (is_within sectors area) tables.now }
+{
+    tables.iter().all(|table| is_within(table, sectors, area))
+}
+
+/// Whether the data blocks of tables lie within so many sectors.
+fn are_within<A: Allocator>(tables: &[PlacedTable<A>], sectors: u32, area: u32) -> bool
+    ensures { IsTrue result ↔ AllByRecursion (LiesWithin sectors area) tables.now }
+{
+    all_within(tables, sectors, area)
+}
+
+/// Whether there are at most 1,024 tables.
+fn are_few<A: Allocator>(upper: &[PlacedTable<A>], lower: &[PlacedTable<A>]) -> bool
+    ensures { IsTrue result ↔ (length upper.now + length lower.now ≤ 1024) }
+{
+    upper.len() <= 1_024 && lower.len() <= 1_024 - upper.len()
+}
+
+impl<A: Allocator> HeldJob<A> {
+    /// Whether its tables are few, and lie within so many sectors.
+    fn can_be_read(&self, sectors: u32, area: u32) -> bool
+        ensures { IsTrue result ↔ CanBeRead sectors area self.now.job }
+    {
+        let upper = uppers(&self.tables);
+        let lower = lowers(&self.tables);
+        if !are_few(upper, lower) {
+            return false;
+        }
+        if !are_within(upper, sectors, area) {
+            return false;
+        }
+        are_within(lower, sectors, area)
     }
 }
 
@@ -105,6 +152,16 @@ impl<A: Allocator> Slots<A> {
         self.slots[place] = Some(held);
     }
 
+    /// Whether the tables of a job, where there is one, are at most 1,024, and their data blocks lie within so many sectors.
+    pub fn can_be_read(&self, job: u64, sectors: u32, area: u32) -> bool
+        ensures { IsTrue result ↔ JobCanBeRead sectors area job self.now.slots }
+    {
+        match self.find(job) {
+            Ok((_place, held)) => held.can_be_read(sectors, area),
+            Err(_) => true,
+        }
+    }
+
     /// Reads the next data blocks of a merge, past any cache: of those of its tables that are left eight, or all. Those of the
     /// upper tables come first, table by table, and then those of the lower ones. It answers how many are left then; with none
     /// left the job is frozen. The blocks, eight sectors each, are counted from the sector `area` on.
@@ -122,7 +179,7 @@ impl<A: Allocator> Slots<A> {
     ) -> Result<usize, Refusal>
     where
         A: Clone,
-        requires { (slot : Slot) → slot_of job self.old.slots ≡ Some slot → CanBeRead (D.medium device.old).size area slot.job }
+        requires { JobCanBeRead (D.medium device.old).size area job self.old.slots }
 
         // The next blocks are read, and both runs go on with what their bytes spell.
         ensures reads { IfOk result (λ left. JobReadsOn area (D.medium device.old) job left self.old self.new) }
