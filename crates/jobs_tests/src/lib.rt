@@ -2,4 +2,6 @@
 #![tactic(auto)]
 
 #[cfg(test)]
+mod reading;
+#[cfg(test)]
 mod taking;
