@@ -2,6 +2,12 @@
 #![tactic(auto)]
 
 #[cfg(test)]
+mod accepting;
+#[cfg(test)]
 mod reading;
 #[cfg(test)]
+mod subject;
+#[cfg(test)]
 mod taking;
+#[cfg(test)]
+mod writing;

@@ -1,35 +1,19 @@
 //! Jobs that are taken.
 
-ghost use Rattle.std.specs.Prelude.{◌≡◌, ◌∷◌, [], IfOk};
-
-use lsm_codec::{Batch, Op};
+use crate::subject::{one_cut, one_put};
 use lsm_device::Refusal;
 use lsm_jobs::Slots;
 use lsm_levels::{HeldJobs, Levels};
 use lsm_mem::Mem;
-use std::alloc::{AllocError, Global};
+use std::alloc::Global;
 use std::process::Abort;
 use std::test::Fail;
-
-/// The count 1 as the only cut.
-fn one_cut(alloc: Global) -> Result<Vec<u64>, AllocError>
-    ensures { IfOk result (λ cuts. cuts.items ≡ 1 ∷ []) }
-{
-    let mut cuts = Vec::new(alloc);
-    cuts.push(1)?;
-    Ok(cuts)
-}
-
-/// Memory with one put.
-fn one_put(alloc: Global) -> Result<Batch, Refusal> {
-    Batch::new(alloc, Op::put(alloc, b"\x61", b"\x31")?)
-}
 
 /// What is taken of levels without a table: first where nothing waits, and then twice where one put waits sealed.
 fn taken(alloc: Global, slots: &mut Slots) -> Result<[Option<u64>; 3], Refusal> {
     let levels = Levels::new(alloc)?;
     let mut mem = Mem::new(alloc)?;
-    mem.insert(&one_put(alloc)?, 1)?;
+    mem.insert(&one_put(alloc, 0x61)?, 1)?;
     let Ok(sealed) = mem.seal() else {
         return Err(Refusal::NoMemory);
     };

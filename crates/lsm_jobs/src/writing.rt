@@ -70,9 +70,7 @@ fn ends_within<A: Allocator>(table: &PlacedTable<A>, sectors: u32, area: u32) ->
 fn end_within<A: Allocator>(tables: &[PlacedTable<A>], sectors: u32, area: u32) -> bool
     ensures { result ≡ list_all (λ t. leb (area + 8 * (t.start + t.blocks)) sectors) tables.now }
 {
-    tables
-        .iter()
-        .all(|table| ends_within(table, sectors, area))
+    tables.iter().all(|table| ends_within(table, sectors, area))
 }
 
 impl<A: Allocator> Slots<A> {
