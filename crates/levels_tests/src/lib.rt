@@ -24,6 +24,7 @@ mod picks;
 mod places;
 #[cfg(test)]
 mod reads;
+pub mod scans;
 #[cfg(test)]
 mod subject;
 #[cfg(test)]

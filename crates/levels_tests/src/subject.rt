@@ -5,6 +5,7 @@ ghost use Rattle.std.specs.Arc.{arc_value};
 ghost use Rattle.std.specs.List.{AllByRecursion};
 ghost use Rattle.lsm_codec.specs.Versions.{IsEntry};
 
+use crate::scans::walk;
 use crate::tables::{add_run, copy, run_of};
 use lsm_cache::Cache;
 use lsm_codec::{Batch, Entry};
@@ -195,6 +196,22 @@ impl<A: Allocator + Clone> Subject<A> {
             &mut self.device,
             key,
             at,
+        )
+    }
+
+    /// Whether a cursor over the newest run of level 0 stands at just these keys from a key on, one after the other.
+    pub fn walks(&mut self, from: &[u8], keys: &[u8]) -> Result<bool, Refusal> {
+        let Some(run) = self.levels.runs().first() else {
+            return Ok(false);
+        };
+        walk(
+            run,
+            &self.alloc,
+            AREA,
+            &mut self.cache,
+            &mut self.device,
+            from,
+            keys,
         )
     }
 
