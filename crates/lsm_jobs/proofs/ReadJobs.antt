@@ -2,7 +2,7 @@
 use Rattle.std.proofs.Common.{◌≡◌, ◌↔◌, ℕ, zero, suc, ◌+◌, ◌<◌, ◌≤◌, Bool, true, false, IsTrue, Decides, List, [], ◌∷◌, length, set, get_or, Option, Some, None, Result, Ok, Err, refl, sym, ap, subst, ◌∙◌, arith}
 use Rattle.std.specs.Result.{IfOk, OnErr}
 use Rattle.std.specs.List.{AllByRecursion, list_all}
-use Rattle.std.proofs.lemmas.Bool.Decides.{Decides-like, Decides-and}
+use Rattle.std.proofs.lemmas.Bool.Decides.{Decides-like}
 use Rattle.std.proofs.lemmas.List.{set-set}
 use Rattle.lsm_device.specs.declared.refusal.Refusal.{Refusal}
 use Rattle.lsm_device.specs.Disk.{seen}
@@ -66,7 +66,7 @@ slot_bad area m number job g upper lower slot first second view none = subst (λ
 -- ---- whether a job can be read
 
 within-Decides : (size area : ℕ) (t : Table) → Decides (is_within size area t) (LiesWithin size area t)
-within-Decides size area t = Decides-like (is_within size area t) (λ h. record { few = h.0; ends = h.1 }) (λ h. (h.few, h.ends)) (Decides-and _ _ (at_most-Decides _ _) (at_most-Decides _ _))
+within-Decides size area t = Decides-like (is_within size area t) (λ h. record { ends = h }) (λ h. h.ends) (at_most-Decides _ _)
 
 pub all_within : (size area : ℕ) (tables : List Table) (r : Bool) → r ≡ list_all (is_within size area) tables → IsTrue r ↔ AllByRecursion (LiesWithin size area) tables
 all_within size area tables r e =

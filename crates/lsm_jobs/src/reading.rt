@@ -43,7 +43,7 @@ fn is_within<A: Allocator>(table: &PlacedTable<A>, sectors: u32, area: u32) -> b
     ensures { result ≡ is_within sectors area table.now }
 {
     let blocks = table.table().data_blocks();
-    blocks <= 64 && area as u64 + 8 * (table.first_block() as u64 + blocks as u64) <= sectors as u64
+    area as u64 + 8 * (table.first_block() as u64 + blocks as u64) <= sectors as u64
 }
 
 fn all_within<A: Allocator>(tables: &[PlacedTable<A>], sectors: u32, area: u32) -> bool
