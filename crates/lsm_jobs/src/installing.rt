@@ -1,8 +1,8 @@
 //! What an install of a job's outputs needs.
 
 ghost use Rattle.std.specs.Prelude.{◌≡◌, IfOk, IfErr, OnOk, OnErr};
-ghost use Rattle.lsm_jobs.specs.Slots.{slot_of, with_held, outputs_of};
-ghost use Rattle.lsm_jobs.specs.Refusing.{IsNotWritten};
+ghost use Rattle.lsm_jobs.specs.Slots.{slot_of, with_held, outputs_of, is_written};
+ghost use Rattle.lsm_jobs.specs.Refusing.{IsAtStage, IsNotWritten};
 ghost use Rattle.lsm_jobs.specs.Installing.{IsWhole};
 
 use crate::slots::Slots;
@@ -44,6 +44,7 @@ impl<A: Allocator> Slots<A> {
     /// Ends such a job, once its outputs are installed: its slot is free, and what was placed for it stays handed out. It is
     /// refused as `written` is; then nothing has changed. It takes no memory.
     pub fn finish(&mut self, job: u64) -> Result<(), Refusal>
+        ensures written { OnOk result (IsAtStage is_written (slot_of job self.old.slots)) }
         ensures freed { OnOk result (self.new ≡ record { next = self.old.next; slots = with_held job None self.old.slots }) }
         ensures refused { IfErr result (IsNotWritten (slot_of job self.old.slots)) }
         ensures unchanged { OnErr result (self.new ≡ self.old) }

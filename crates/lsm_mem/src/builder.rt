@@ -96,7 +96,7 @@ impl<'k, A: Allocator + Clone> PageBuilder<'k, A> {
     }
 
     /// Takes the first of the versions that are left, and answers whether the page goes on: whether the next is wanted too.
-    /// Where memory is refused, the rows are as they were.
+    /// Where memory is refused, the builder is of no more use.
     pub fn take(&mut self, alloc: &A, version: VersionRef<'_>) -> Result<bool, AllocError>
         requires { self.old.next ≡ None }
 
