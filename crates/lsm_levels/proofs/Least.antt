@@ -26,7 +26,7 @@ not_below a b h = by (leb b a) refl
     by true e = absurd (omega (arith, leb-true b a e))
     by false e = e
 
-not_less : (a b : ℕ) → ltb a b ≡ false → b ≤ a
+pub not_less : (a b : ℕ) → ltb a b ≡ false → b ≤ a
 not_less a b e = grind (arith, nat_tests)
 
 -- a lesser one in front: what was found before it is not the least

@@ -31,3 +31,5 @@ pub mod AskingLaws
 pub mod CursorLaws
 pub mod CursorStored
 pub mod CursorGives
+pub mod MemoryCursors
+pub mod QueueLaws

@@ -13,3 +13,6 @@ pub mod Stored
 pub mod Founds
 pub mod Cursors
 pub mod Sources
+pub mod Passing
+pub mod SourceCursors
+pub mod Queues
