@@ -47,7 +47,10 @@ impl<'k, A: Allocator> Model for PageBuilder<'k, A> {
 impl<'k, A: Allocator> PageBuilder<'k, A> {
     /// The page of the rows so far.
     pub fn into_page(self) -> Page<A>
-        ensures { result ≡ page_so_far self.entry }
+        ensures so_far { result ≡ page_so_far self.entry }
+
+        // Where the page goes on and no version is left, it is the whole page.
+        ensures whole { self.entry.next ≡ None → result ≡ page_with self.entry [] }
     {
         Page::of(self.rows, self.next)
     }
