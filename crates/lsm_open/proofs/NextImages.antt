@@ -20,7 +20,7 @@ use Rattle.lsm_open.specs.LogRegions.{first_region, region_start, batches_at, al
 use Rattle.lsm_open.specs.Reopening.{kept_records, is_free, least_free, new_records, next_contents}
 use Rattle.lsm_open.proofs.KeptRecords.{all_batches-append, regions-append, follow_on-append, same_batches, same_regions, same_follow, batches_agree, regions_agree, follow_agree}
 use Rattle.lsm_open.proofs.PlainImages.{plain_left, StandsFor, image_fresh, image_from}
-use Rattle.lsm_open.proofs.Served.{same_stands}
+use Rattle.lsm_open.proofs.Served.{same_stands, served_none, served_plain}
 use Rattle.lsm_open.proofs.TableFrames.{same_meaning}
 use Rattle.lsm_root.specs.Roots.{Stands, root_of}
 
@@ -150,5 +150,5 @@ module _ (n : ℕ) (left : CrashState) (s i : Sectors) (m : Contents) (closed : 
   -- it stands for the same in the next generation
   pub next_image : root_of i ≡ Stands n next → IsImage n (in_next_generation left) i
   next_image root = image_from n (in_next_generation left) i next
-      (record { root = ap served root; follows = follows_here; left_is = sym next_left })
+      (record { root = served_plain (root_of i) n next root (served_none (root_of s) n m stands.root); follows = follows_here; left_is = sym next_left })
       (subst (λ (g : ℕ). HasNoneAbove g (area first_region (3 * n) i)) (ap (λ (g : ℕ). g + 1) (sym at_generation)) fresh_next)

@@ -1,5 +1,5 @@
 -- The manifest of the next generation is within the limits.
-use Rattle.std.proofs.Common.{◌≡◌, ◌≢◌, ◌⊎◌, inl, inr, ⊎_elim, ℕ, ◌+◌, ◌≤◌, ◌<◌, ◌==◌, not, Bool, true, false, cond, List, [], ◌∷◌, ◌++◌, length, Some, None, refl, sym, ap, subst, arith, append_assoc, All}
+use Rattle.std.proofs.Common.{◌≡◌, ◌≢◌, ◌⊎◌, inl, inr, ⊎_elim, ℕ, zero, suc, ◌+◌, ◌≤◌, ◌<◌, ◌==◌, not, Bool, true, false, cond, List, [], ◌∷◌, ◌++◌, length, Some, None, refl, sym, ap, subst, arith, append_assoc, All}
 use Rattle.std.specs.Prelude.{Option, unwrap_or}
 use Rattle.std.proofs.lemmas.Bool.{and_parts, and_cases, eqb-true, eqb-false, not-true, not-false}
 use Rattle.std.proofs.lemmas.List.{append-nil, length-append}
@@ -7,7 +7,8 @@ use Rattle.std.proofs.lemmas.List.Elements.{All-nil, All-cons, All-head, All-tai
 use Rattle.lsm_codec.specs.declared.log_record.LogRecord.{LogRecord}
 use Rattle.lsm_codec.specs.Pairs.{Pairwise}
 use Rattle.lsm_codec.specs.Manifests.{Contents, IsLogRecord, LogsAgree, BeginsAfter, LogsFit, IsManifest}
-use Rattle.lsm_codec.proofs.ManifestLaws.{no_tables_fit}
+use Rattle.lsm_codec.specs.TableRecords.{HasRun}
+use Rattle.lsm_codec.specs.declared.table_record.TableRecord.{TableRecord}
 use Rattle.lsm_open.specs.CrashState.{last_number}
 use Rattle.lsm_open.specs.Reopening.{is_free, least_free, new_records, next_contents, BeginsAt, HasCome}
 use Rattle.lsm_open.proofs.NextImages.{least_low}
@@ -153,6 +154,14 @@ come_kept m count more closed r rest come first up high =
       begins = begins_kept m.base count more closed r come.begins first;
     }
 
+-- a manifest without tables has no run of level 0
+pub no_runs : (m : Contents) → IsManifest m → m.tables ≡ [] → m.runs ≡ 0
+no_runs m is none = by m.runs (λ run lt. (subst (λ (ts : List TableRecord). HasRun ts run) none (is.tables.runs.each run lt)))
+  where
+    by : (runs : ℕ) → ((run : ℕ) → run < runs → HasRun [] run) → runs ≡ 0
+    by zero all = refl
+    by (suc runs) all = absurd (let found = all 0 (omega arith) in omega (arith, found.1))
+
 -- ---- the next manifest
 
 module _ (m : Contents) (count : ℕ) (closed : Records) (is : IsManifest m) (come : HasCome m count closed []) where
@@ -190,7 +199,7 @@ module _ (m : Contents) (count : ℕ) (closed : Records) (is : IsManifest m) (co
       (record { regions = All-head (IsElsewhere region) x xs other; epochs = omega (arith, fits.epoch_high); firsts = omega (arith, first) })
       (agree_here region xs (All-tail (IsLogRecord m.generation) x xs each) (All-tail (λ (r : LogRecord). r.first_batch ≤ count) x xs before) (All-tail (IsElsewhere region) x xs other))
 
-  logs_fit : (o : Option ℕ) → least_free closed ≡ o → LogsFit (record { generation = m.generation + 1; base = m.base; next_table = m.next_table; runs = 0; logs = closed ++ new_records o (m.generation + 1) (count + 1); tables = [] })
+  logs_fit : (o : Option ℕ) → least_free closed ≡ o → LogsFit (record { generation = m.generation + 1; base = m.base; next_table = m.next_table; runs = m.runs; logs = closed ++ new_records o (m.generation + 1) (count + 1); tables = m.tables })
   logs_fit None none = record {
     each = All-append (IsLogRecord (m.generation + 1)) closed [] closed_later (All-nil (IsLogRecord (m.generation + 1)));
     agree = subst (Pairwise LogsAgree) (sym (append-nil closed)) closed_agree;
@@ -222,12 +231,12 @@ module _ (m : Contents) (count : ℕ) (closed : Records) (is : IsManifest m) (co
       base = is.numbers.base;
       next_low = is.numbers.next_low;
       next_high = is.numbers.next_high;
-      runs = omega arith;
+      runs = is.numbers.runs;
       logs = count_logs (least_free closed) refl;
-      tables = omega arith;
+      tables = is.numbers.tables;
     };
     logs = logs_fit (least_free closed) refl;
-    tables = no_tables_fit (m.generation + 1) m.base m.next_table (closed ++ new_records (least_free closed) (m.generation + 1) (count + 1));
+    tables = record { each = is.tables.each; agree = is.tables.agree; runs = is.tables.runs };
   }
     where
       below : (g : ℕ) → g ≤ last_number → g ≢ last_number → g + 1 ≤ last_number

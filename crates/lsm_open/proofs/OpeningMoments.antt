@@ -4,6 +4,7 @@ use Rattle.std.specs.Prelude.{Option, option_map, unwrap_or}
 use Rattle.std.proofs.lemmas.Bool.{eqb-true, cond-true}
 use Rattle.std.proofs.lemmas.List.{append-nil}
 use Rattle.lsm_codec.specs.declared.log_record.LogRecord.{LogRecord}
+use Rattle.lsm_codec.specs.declared.table_record.TableRecord.{TableRecord}
 use Rattle.lsm_codec.specs.Manifests.{Contents, IsManifest}
 use Rattle.lsm_device.specs.Disk.{Disk, Write, image, seen, synced, written}
 use Rattle.lsm_device.specs.History.{present, Becomes, EachSince}
@@ -32,8 +33,10 @@ use Rattle.lsm_open.proofs.NextImages.{least_low}
 use Rattle.lsm_open.proofs.PlainImages.{StandsFor, stands_here, manifest_of_image}
 use Rattle.lsm_open.proofs.NextManifests.{closed_few, next_fits}
 use Rattle.lsm_open.proofs.Openings.{same_again}
-use Rattle.lsm_open.proofs.Served.{served_stands}
-use Rattle.lsm_open.proofs.Recovering.{layout_says, left_at, recovered}
+use Rattle.lsm_open.proofs.Served.{served_stands, served_none}
+use Rattle.lsm_open.specs.Placements.{contents_for}
+use Rattle.lsm_codec.proofs.Lists.{none_length}
+use Rattle.lsm_open.proofs.Recovering.{layout_says, plain_says, left_at, recovered}
 use Rattle.lsm_root.specs.Installed.{IsOldOrNew, IsInstalled}
 use Rattle.lsm_root.specs.Layout.{IsDeviceSize, IsGeometry}
 use Rattle.lsm_root.specs.Roots.{Stands, root_of}
@@ -44,8 +47,10 @@ Sectors = List (List ℕ)
 
 -- ---- the installed manifest
 
-pub installs : (n count : ℕ) (m manifest : Contents) (closed : List LogRecord) (l : Layout) → manifest ≡ manifest_for l → IsNextLayout n m count l → l.closed ≡ closed → manifest ≡ next_contents m closed count
-installs n count m manifest closed l is next kept = is ∙ layout_says n m count l next ∙ ap (λ (logs : List LogRecord). next_contents m logs count) kept
+pub installs : (n count : ℕ) (m manifest : Contents) (closed : List LogRecord) (runs : ℕ) (tables : List TableRecord) (l : Layout) → manifest ≡ contents_for (record { logs = l; runs = runs; tables = tables }) → runs ≡ m.runs → tables ≡ m.tables → IsNextLayout n m count l → l.closed ≡ closed → manifest ≡ next_contents m closed count
+installs n count m manifest closed runs tables l is same_runs same_tables next kept =
+    is ∙ ap (λ (k : ℕ). contents_for (record { logs = l; runs = k; tables = tables })) same_runs ∙ ap (λ (ts : List TableRecord). contents_for (record { logs = l; runs = m.runs; tables = ts })) same_tables
+    ∙ layout_says n m count l next ∙ ap (λ (logs : List LogRecord). next_contents m logs count) kept
 
 -- ---- the regions lie inside each device of a fair size
 
@@ -131,7 +136,7 @@ module _ {A : Type 0} (n k : ℕ) (left : CrashState) (m : Contents) (replayed :
 -- ---- what is reopened, whatever the device holds
 
 module _ {A : Type 0} (k : ℕ) (m : Contents) (replayed : Replayed A) (s : Sectors) (start d : Disk) (l : Layout) (root : served (root_of s) ≡ Stands k m) (goes : GoesOn k s m replayed []) (next : IsNextLayout k m replayed.count l)
-    (same : l.closed ≡ replayed.closed.items) (is : seen start ≡ s) (installed : IsInstalled start (Stands k (next_contents m replayed.closed.items replayed.count)) d) where
+    (same : l.closed ≡ replayed.closed.items) (is : seen start ≡ s) (fits : IsManifest m) (installed : IsInstalled start (Stands k (next_contents m replayed.closed.items replayed.count)) d) where
   size_is : k ≡ l.log_sectors
   size_is = sym next.log_size
 
@@ -145,7 +150,7 @@ module _ {A : Type 0} (k : ℕ) (m : Contents) (replayed : Replayed A) (s : Sect
     remembers = sym goes.versions ∙ ap (λ (j : ℕ). with_batches m.base (all_batches j s m.logs) []) size_is;
     installed = installed.stands.root
         ∙ ap (λ (ls : List LogRecord). Stands k (next_contents m ls replayed.count)) (sym same)
-        ∙ ap (λ (c : Contents). Stands k c) (sym (layout_says k m replayed.count l next))
+        ∙ ap (λ (c : Contents). Stands k c) (sym (plain_says k m replayed.count l next fits (none_length m.tables (served_none (root_of s) k m root))))
         ∙ ap (λ (j : ℕ). Stands j (manifest_for l)) size_is;
     rests = installed.settled;
     same_behind = installed.stands.all ∙ ap (drop 130) is;
@@ -153,7 +158,7 @@ module _ {A : Type 0} (k : ℕ) (m : Contents) (replayed : Replayed A) (s : Sect
 
 -- ---- within the limits, whatever the device holds
 
-module _ (size k : ℕ) (m : Contents) (count : ℕ) (l : Layout) (geometry : IsGeometry size k) (fits : IsManifest m) (has_next : m.generation ≢ last_number) (come : HasCome m count l.closed []) (next : IsNextLayout k m count l) where
+module _ (size k : ℕ) (m : Contents) (count : ℕ) (l : Layout) (geometry : IsGeometry size k) (fits : IsManifest m) (plain : m.tables ≡ []) (has_next : m.generation ≢ last_number) (come : HasCome m count l.closed []) (next : IsNextLayout k m count l) where
   log_high_here : l.log_sectors ≤ 2048
   log_high_here = omega (arith, next.log_size, geometry.log_high)
 
@@ -164,7 +169,7 @@ module _ (size k : ℕ) (m : Contents) (count : ℕ) (l : Layout) (geometry : Is
   inside_here = omega (arith, log_high_here, geometry.device.low)
 
   fits_here : IsManifest (manifest_for l)
-  fits_here = subst IsManifest (sym (layout_says k m count l next)) (next_fits m count l.closed fits come has_next)
+  fits_here = subst IsManifest (sym (plain_says k m count l next fits plain)) (next_fits m count l.closed fits come has_next)
 
   opened_here : (o : Option OpenRegion) → l.open_region ≡ o → IsNewIfOpen k (m.generation + 1) count o → IsInsideIfOpen size l.log_sectors l.generation count o
   opened_here None is new = tt

@@ -1,23 +1,27 @@
 -- An opening may be installed, and leaves the same in the next generation.
-use Rattle.std.proofs.Common.{◌≡◌, ℕ, ◌+◌, ◌≤◌, List, [], length, refl, sym, ◌∙◌, ap, subst, arith, All}
+use Rattle.std.proofs.Common.{◌≡◌, ◌≢◌, ℕ, ◌+◌, ◌*◌, ◌≤◌, List, [], length, refl, sym, ◌∙◌, ap, subst, arith, All}
 use Rattle.std.specs.Prelude.{Option}
 use Rattle.std.proofs.lemmas.List.{append-nil}
 use Rattle.std.proofs.lemmas.List.Elements.{All-nil}
+use Rattle.lsm_codec.specs.Manifests.{Contents, IsManifest}
 use Rattle.lsm_codec.specs.Map.{Operation, apply_all}
+use Rattle.lsm_codec.specs.declared.log_record.LogRecord.{LogRecord}
 use Rattle.lsm_device.specs.Disk.{Disk, Write, image, seen, written, at_rest}
 use Rattle.lsm_device.specs.Outcomes.{Leaves}
-use Rattle.lsm_open.specs.CrashState.{CrashState, in_next_generation}
+use Rattle.lsm_open.specs.CrashState.{CrashState, last_number, in_next_generation}
 use Rattle.lsm_open.specs.LogRegions.{all_batches, regions_with_batches}
 use Rattle.lsm_open.specs.Layout.{open_batches}
 use Rattle.lsm_open.specs.Image.{count_in, base_map, StandFor, StandForSome}
 use Rattle.lsm_open.specs.Placements.{Placement, IsHeld, state_with}
-use Rattle.lsm_open.specs.Reopening.{kept_records}
+use Rattle.lsm_open.specs.Reopening.{kept_records, HasCome}
 use Rattle.lsm_open.specs.Switching.{MayBeInstalled, IsInLeastFree, reopened_at, MayReopen}
 use Rattle.lsm_open.specs.declared.regions.OpenRegion.{OpenRegion}
 use Rattle.lsm_open.proofs.KeptRecords.{same_batches, count_kept, all_hold, same_follow}
 use Rattle.lsm_open.proofs.NewLogs.{HoldsAll, new_held, new_empty}
+use Rattle.lsm_open.proofs.NextManifests.{closed_low}
 use Rattle.lsm_open.proofs.TableFrames.{state_applied}
 use Rattle.lsm_root.specs.Installed.{IsSettled}
+use Rattle.lsm_root.specs.Layout.{IsGeometry}
 
 abbrev Sectors : Type 0
 Sectors = List (List ℕ)
@@ -82,3 +86,15 @@ rests_stand n left d rests is = λ mask.
 
 pub settled_at_rest : (d : Disk) → d.pending ≡ [] → IsSettled d
 settled_at_rest d rests = subst (All (λ (w : Write). 130 ≤ w.at)) (sym rests) (All-nil (λ (w : Write). 130 ≤ w.at))
+
+-- a replay that came to the end of a manifest's regions, in a generation that isn't the last
+pub may_reopen : (n count : ℕ) (m : Contents) (closed : List LogRecord) (s : Sectors) → IsGeometry (length s) n → IsManifest m → m.generation ≢ last_number → HasCome m count closed [] → closed ≡ kept_records n s m.logs → count ≡ count_in n s m → MayReopen n m s
+may_reopen n count m closed s geometry fits has_next come kept counted = record {
+  inside = omega (arith, geometry.log_high, geometry.device.low);
+  low = subst (All (λ (r : LogRecord). r.region ≤ 2)) kept (closed_low m count closed fits come);
+  generation = below m.generation fits.numbers.generation_high has_next;
+  count = omega (arith, come.count_high, counted);
+}
+  where
+    below : (g : ℕ) → g ≤ last_number → g ≢ last_number → g + 1 ≤ last_number
+    below g le ne = omega arith

@@ -23,8 +23,12 @@ use Rattle.lsm_open.specs.Reopening.{kept_records, least_free, new_records, next
 use Rattle.lsm_open.specs.declared.regions.OpenRegion.{OpenRegion}
 use Rattle.lsm_open.proofs.KeptRecords.{count_kept, all_hold, Holds}
 use Rattle.lsm_open.proofs.NextImages.{free_for_next, least_low, batches_behind, same_image, counts, fresh_here, fresh_next, closed_agree, follows_here, next_image}
+use Rattle.lsm_open.specs.Placements.{contents_for}
+use Rattle.lsm_codec.specs.declared.table_record.TableRecord.{TableRecord}
+use Rattle.lsm_codec.proofs.Lists.{none_length}
+use Rattle.lsm_open.proofs.Served.{served_none}
 use Rattle.lsm_open.proofs.PlainImages.{StandsFor}
-use Rattle.lsm_open.proofs.NextManifests.{least_elsewhere, none_free, closed_few, closed_low, next_fits}
+use Rattle.lsm_open.proofs.NextManifests.{least_elsewhere, none_free, closed_few, closed_low, next_fits, no_runs}
 use Rattle.lsm_open.proofs.Openings.{same_again, next_again}
 use Rattle.lsm_root.specs.Installed.{IsOldOrNew}
 use Rattle.lsm_root.specs.Roots.{Stands, root_of}
@@ -45,7 +49,8 @@ open_is n generation count (Some o) new =
     of : ℕ → ℕ → ℕ → List LogRecord
     of region epoch first = record { region = region; epoch = epoch; first_batch = first } ∷ []
 
-pub layout_says : (n : ℕ) (m : Contents) (count : ℕ) (l : Layout) → IsNextLayout n m count l → manifest_for l ≡ next_contents m l.closed count
+-- the next layout with a manifest's tables is the next manifest
+pub layout_says : (n : ℕ) (m : Contents) (count : ℕ) (l : Layout) → IsNextLayout n m count l → contents_for (record { logs = l; runs = m.runs; tables = m.tables }) ≡ next_contents m l.closed count
 layout_says n m count l next =
     ap (λ (g : ℕ). says g l.base l.next_table (open_records l.open_region)) next.generation
     ∙ ap (λ (b : ℕ). says (m.generation + 1) b l.next_table (open_records l.open_region)) next.base
@@ -54,7 +59,15 @@ layout_says n m count l next =
     (open_is n (m.generation + 1) count l.open_region next.new_log ∙ ap (λ (o : Option ℕ). new_records o (m.generation + 1) (count + 1)) next.least)
   where
     says : ℕ → ℕ → ℕ → List LogRecord → Contents
-    says g b t rs = record { generation = g; base = b; next_table = t; runs = 0; logs = l.closed ++ rs; tables = [] }
+    says g b t rs = record { generation = g; base = b; next_table = t; runs = m.runs; logs = l.closed ++ rs; tables = m.tables }
+
+-- and where there is none, the layout alone
+pub plain_says : (n : ℕ) (m : Contents) (count : ℕ) (l : Layout) → IsNextLayout n m count l → IsManifest m → m.tables ≡ [] → manifest_for l ≡ next_contents m l.closed count
+plain_says n m count l next fits none =
+    sym (ap (λ (k : ℕ). with k m.tables) (no_runs m fits none) ∙ ap (λ (ts : List TableRecord). with 0 ts) none) ∙ layout_says n m count l next
+  where
+    with : ℕ → List TableRecord → Contents
+    with k ts = contents_for (record { logs = l; runs = k; tables = ts })
 
 -- ---- at each moment of the installation
 
@@ -135,10 +148,13 @@ module _ (left : CrashState) (s : Sectors) (m : Contents) (l : Layout) (versions
         is_open = new_open o.log (numbers o open_is) new.used new.next d (free_now o open_is);
       }
 
+  says : manifest_for l ≡ next_contents m l.closed left.count
+  says = plain_says l.log_sectors m left.count l next fits (none_length m.tables (served_none (root_of s) l.log_sectors m stands.root))
+
   -- no log is open exactly where all three regions are closed
   few_with : (o : OpenRegion) → l.open_region ≡ Some o → length l.closed + 1 ≤ 3
   few_with o open_is =
-      let logs : length (manifest_for l).logs ≤ 3 = (subst IsManifest (sym (layout_says l.log_sectors m left.count l next)) (next_fits m left.count l.closed fits come (λ e. has_next (generation_is ∙ e)))).numbers.logs in
+      let logs : length (manifest_for l).logs ≤ 3 = (subst IsManifest (sym says) (next_fits m left.count l.closed fits come (λ e. has_next (generation_is ∙ e)))).numbers.logs in
       omega (arith, logs, length-append l.closed (open_records l.open_region), ap (λ (k : Option OpenRegion). length (open_records k)) open_is)
 
   closed_by : (o : Option OpenRegion) → l.open_region ≡ o → (l.open_region ≡ None) ↔ (length l.closed ≡ 3)
@@ -165,9 +181,6 @@ module _ (left : CrashState) (s : Sectors) (m : Contents) (l : Layout) (versions
     some = holds_here k r lt;
     other = other_by l.open_region k r refl lt;
   }
-
-  says : manifest_for l ≡ next_contents m l.closed left.count
-  says = layout_says l.log_sectors m left.count l next
 
   follows : follow_on l.log_sectors d.stands (l.base + 1) (manifest_for l).logs ≡ true
   follows =

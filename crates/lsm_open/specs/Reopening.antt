@@ -36,9 +36,9 @@ abbrev pub new_records : Option ℕ → ℕ → ℕ → List LogRecord
 new_records (Some region) epoch first = record { region = region; epoch = epoch; first_batch = first } ∷ []
 new_records None epoch first = []
 
--- the manifest of the next generation: behind the kept regions a new log, in the least free one
+-- the manifest of the next generation: the same tables, and behind the kept regions a new log, in the least free one
 abbrev pub next_contents : Contents → List LogRecord → ℕ → Contents
-next_contents m closed count = record { generation = m.generation + 1; base = m.base; next_table = m.next_table; runs = 0; logs = closed ++ new_records (least_free closed) (m.generation + 1) (count + 1); tables = [] }
+next_contents m closed count = record { generation = m.generation + 1; base = m.base; next_table = m.next_table; runs = m.runs; logs = closed ++ new_records (least_free closed) (m.generation + 1) (count + 1); tables = m.tables }
 
 -- a log with no batch yet, in its region, of this generation and behind so many batches
 pub record IsNewLog (log_sectors generation count : ℕ) (o : OpenRegion) : Type 0 where

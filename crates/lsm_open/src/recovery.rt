@@ -56,6 +56,7 @@ fn load_served<A: Allocator + Clone, D: Device>(
 ) -> Result<Loaded<A>, Refusal>
     ensures loaded { IsTrue (D.medium device.old).lasting.tells → Tells (served (root_of (seen (disk (D.medium device.old))))) result }
     ensures fits { IfOk result (λ l. IsGeometry (D.medium device.old).size l.log_sectors × IsManifest l.manifest) }
+    ensures plain { IfOk result (λ l. l.manifest.tables ≡ []) }
     ensures refused { IfErr result (λ refusal. ((root : Root) × (refusal_of root ≡ Some refusal)) ⊎ ((refusal ≡ Refusal.NoMemory) ⊎ (refusal ≡ Refusal.Io))) }
     ensures next { IsTrue (D.medium device.old).lasting.tells → IfOk result (λ l.
         IsNext (D.medium device.old).size l.log_sectors (l.manifest.generation + 1) (superblock_in (seen (disk (D.medium device.old))))) }

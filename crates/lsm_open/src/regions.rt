@@ -1,9 +1,10 @@
 // Where a store's batches lie on its device.
 ghost use Rattle.std.specs.Prelude.{◌≡◌, ◌≤◌, ◌+◌, ◌*◌, length, IfOk};
 ghost use Rattle.lsm_open.specs.LogRegions.{first_region, region_start};
-ghost use Rattle.lsm_open.specs.Layout.{record_of, layout_of, manifest_for};
+ghost use Rattle.lsm_open.specs.Layout.{record_of, layout_of};
+ghost use Rattle.lsm_open.specs.Placements.{contents_for};
 
-use lsm_codec::{LogRecord, Manifest};
+use lsm_codec::{LogRecord, Manifest, TableRecord};
 use lsm_log::Log;
 use std::alloc::{AllocError, Allocator, Global};
 
@@ -55,16 +56,30 @@ impl OpenRegion {
 }
 
 impl<A: Allocator + Clone> Regions<A> {
-    /// The manifest that says where the batches lie. It names no table.
-    pub fn manifest(&self, alloc: A) -> Result<Manifest<A>, AllocError>
-        ensures { IfOk result (λ m. m ≡ manifest_for (layout_of self.now)) }
+    /// The manifest that says where the batches lie, with these tables up to the base, and so many runs of level 0 among
+    /// them.
+    pub fn manifest(
+        &self,
+        alloc: A,
+        runs: u8,
+        tables: &[TableRecord],
+    ) -> Result<Manifest<A>, AllocError>
+        ensures { IfOk result (λ m. m ≡ contents_for (record { logs = layout_of self.now; runs = runs; tables = tables.now })) }
     {
         let mut logs = Vec::new(alloc.clone()?);
         logs.extend_from_slice(&self.closed)?;
         if let Some(open) = &self.open_region {
             logs.push(open.record())?;
         }
-        let tables = Vec::new(alloc);
-        Ok(Manifest::new(self.generation, self.base, self.next_table, 0, logs, tables))
+        let mut named = Vec::new(alloc);
+        named.extend_from_slice(tables)?;
+        Ok(Manifest::new(
+            self.generation,
+            self.base,
+            self.next_table,
+            runs,
+            logs,
+            named,
+        ))
     }
 }

@@ -7,11 +7,11 @@ ghost use Rattle.lsm_device.specs.Medium.{disk};
 ghost use Rattle.lsm_device.specs.Outcomes.{Leaves};
 ghost use Rattle.lsm_device.specs.Refusals.{faultless, is_no_fault};
 ghost use Rattle.lsm_open.specs.CrashState.{last_number};
-ghost use Rattle.lsm_open.specs.Layout.{layout_of, manifest_for};
+ghost use Rattle.lsm_open.specs.Layout.{layout_of};
 ghost use Rattle.lsm_open.specs.Reopening.{is_free, least_free, next_contents, IsNewIfOpen, IsNextLayout, HasCome};
 ghost use Rattle.lsm_root.specs.Counted.{CallsMade};
 ghost use Rattle.lsm_root.specs.Installed.{IsReady, IsOldOrNew, IsInstalled};
-ghost use Rattle.lsm_root.specs.Layout.{IsGeometry};
+ghost use Rattle.lsm_root.specs.Layout.{IsGeometry, LieInside};
 ghost use Rattle.lsm_root.specs.Roots.{Stands};
 
 use crate::regions::{OpenRegion, Regions, region_start};
@@ -86,7 +86,7 @@ fn next_regions<A: Allocator>(
 }
 
 /// Opens the least free region, if one is free, behind so many batches, and installs the manifest of the next generation,
-/// which says so.
+/// which says so and names the same tables.
 pub(crate) fn reopen<A: Allocator + Clone, D: Device>(
     alloc: A,
     device: &mut D,
@@ -96,6 +96,7 @@ pub(crate) fn reopen<A: Allocator + Clone, D: Device>(
 ) -> Result<Regions<A>, Refusal>
     requires geometry { IsGeometry (D.medium device.old).size loaded.now.log_sectors }
     requires fits { IsManifest loaded.now.manifest }
+    requires inside { LieInside (D.medium device.old).size loaded.now.log_sectors loaded.now.manifest.tables }
     requires has_next { loaded.now.manifest.generation ≢ last_number }
     requires come { HasCome loaded.now.manifest count closed.items [] }
     requires ready { IsTrue (D.medium device.old).lasting.tells → IsReady (D.medium device.old).size loaded.now.log_sectors (loaded.now.manifest.generation + 1) (disk (D.medium device.old)) }
@@ -110,7 +111,7 @@ pub(crate) fn reopen<A: Allocator + Clone, D: Device>(
 
     // Unless a call of it failed, the device wasn't called.
     ensures untouched { IfErr result (λ refusal. IsTrue (is_no_fault refusal) → device.new ≡ device.old) }
-    ensures made { IfOk result (λ r. CallsMade (sector_count (manifest_for (layout_of r)) + 1) 2 (D.medium device.old).calls (D.medium device.new).calls) }
+    ensures made { OnOk result (CallsMade (sector_count (next_contents loaded.now.manifest closed.items count) + 1) 2 (D.medium device.old).calls (D.medium device.new).calls) }
     ensures calls { AtMost 0 38 2 (D.medium device.old).calls (D.medium device.new).calls }
     ensures faults { (D.medium device.new).calls.faults ≡ faults_after (faultless result) (D.medium device.old).calls.faults }
     ensures stops { IfErr result (λ refusal. refusal ≡ Refusal.Io → IsTrue (D.medium device.new).calls.last_faulted) }
@@ -118,7 +119,8 @@ pub(crate) fn reopen<A: Allocator + Clone, D: Device>(
     ensures same_lasting { (D.medium device.new).lasting ≡ (D.medium device.old).lasting }
 {
     let regions = next_regions(loaded, closed, count);
-    let manifest = regions.manifest(alloc.clone()?)?;
+    let named = &loaded.manifest;
+    let manifest = regions.manifest(alloc.clone()?, named.runs(), named.tables())?;
     install(alloc, device, loaded.log_sectors, &manifest)?;
     Ok(regions)
 }

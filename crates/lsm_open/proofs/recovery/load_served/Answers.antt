@@ -2,6 +2,7 @@ use Rattle.std.proofs.Common.{◌∙◌, inl, length, ap, refl, sym}
 use Rattle.std.proofs.lemmas.Bool.{eqb-true, eqb-false}
 use Rattle.std.proofs.lemmas.Result.{err_from_is_err_and}
 use Rattle.lsm_root.specs.Roots.{Unreadable}
+use Rattle.lsm_codec.proofs.Lists.{none_length}
 use Rattle.lsm_open.proofs.Served.{served_plain, tables_refused, load_refused}
 use Rattle.lsm_open.proofs.recovery.load_served.Goals as goal
 
@@ -22,6 +23,9 @@ returns-then-not-is_empty-clause-loaded g c = λ t.
 
 pub returns-then-not-is_empty-clause-refused : goal.returns-then-not-is_empty-clause-refused
 returns-then-not-is_empty-clause-refused g c = inl (Unreadable, refl)
+
+pub returns-clause-plain : goal.returns-clause-plain
+returns-clause-plain g c = none_length _ (ap length (sym c.tables.ensures) ∙ eqb-true _ 0 (sym c.is_empty.ensures ∙ c.if-not-is_empty.false))
 
 pub returns-clause-loaded : goal.returns-clause-loaded
 returns-clause-loaded g c = λ t.

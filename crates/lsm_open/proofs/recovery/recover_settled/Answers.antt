@@ -1,19 +1,27 @@
-use Rattle.std.proofs.Common.{◌∙◌, ◌*◌, List, [], refl, subst, arith}
+use Rattle.std.proofs.Common.{◌≡◌, ◌∙◌, ◌+◌, ◌*◌, List, [], ap, refl, sym, subst, arith}
+use Rattle.lsm_codec.specs.Manifests.{Contents, sector_count}
+use Rattle.lsm_codec.specs.declared.log_record.LogRecord.{LogRecord}
 use Rattle.std.proofs.lemmas.Result.{err_from_is_err_and}
 use Rattle.lsm_device.specs.Disk.{Disk, seen}
 use Rattle.lsm_device.specs.History.{present, EachSince}
 use Rattle.lsm_device.specs.Medium.{disk}
 use Rattle.lsm_device.specs.Outcomes.{Leaves}
 use Rattle.lsm_device.proofs.Counting.{AtMost-joined}
-use Rattle.lsm_open.specs.Layout.{layout_of}
+use Rattle.lsm_open.specs.Layout.{layout_of, manifest_for}
 use Rattle.lsm_open.specs.Reopening.{next_contents, HasCome, GoesOn}
 use Rattle.lsm_open.proofs.OpeningMoments.{rests_stay, installing, recovers, reopened, within_limits}
 use Rattle.lsm_open.proofs.CountedCalls.{installed_once}
 use Rattle.lsm_open.proofs.OpeningRefusals.{from_load, from_replay, from_memory}
 use Rattle.lsm_open.proofs.Served.{served_stands}
+use Rattle.lsm_open.proofs.Recovering.{plain_says}
+use Rattle.lsm_root.specs.Counted.{CallsMade}
 use Rattle.lsm_root.specs.Installed.{IsOldOrNew, IsInstalled}
 use Rattle.lsm_root.specs.Roots.{Stands}
+use Rattle.lsm_root.proofs.Naming.{none_elsewhere}
 use Rattle.lsm_open.proofs.recovery.recover_settled.Goals as goal
+
+pub reopen-requires-clause-inside : goal.reopen-requires-clause-inside
+reopen-requires-clause-inside g c = none_elsewhere _ c.in_ok-loaded.loaded.log_sectors _ c.in_ok-loaded.ensures.plain
 
 pub returns-in_err-clone-clause-any_moment : goal.returns-in_err-clone-clause-any_moment
 returns-in_err-clone-clause-any_moment g c = λ n left t is. rests_stay n left _ _ refl (c.requires.rests t) is
@@ -81,7 +89,7 @@ returns-clause-within g c =
     let k = c.in_ok-loaded.loaded.log_sectors in
     let r = c.in_ok-replayed.replayed in
     let come : HasCome m r.count c.in_ok-regions.regions.closed.items [] = rw c.in_ok-regions.ensures.kept c.in_ok-replayed.ensures.come in
-    within_limits (g.D.Device.medium c.args.device.now).size k m r.count (layout_of c.in_ok-regions.regions) c.in_ok-loaded.ensures.fits.0 c.in_ok-loaded.ensures.fits.1 (λ e. c.if-generation.false (c.generation.ensures ∙ e)) come
+    within_limits (g.D.Device.medium c.args.device.now).size k m r.count (layout_of c.in_ok-regions.regions) c.in_ok-loaded.ensures.fits.0 c.in_ok-loaded.ensures.fits.1 c.in_ok-loaded.ensures.plain (λ e. c.if-generation.false (c.generation.ensures ∙ e)) come
     c.in_ok-regions.ensures.layout r.mem c.in_ok-replayed.ensures.numbered
 
 pub returns-in_err-replayed-clause-calls : goal.returns-in_err-replayed-clause-calls
@@ -115,7 +123,7 @@ returns-clause-reopened g c = λ t.
     let goes : GoesOn k (seen (present old)) m r [] = subst (λ (h : List Disk). GoesOn k (seen (present h)) m r []) (c.load_served.ensures.unchanged t) (c.in_ok-replayed.ensures.replayed (rw c.load_served.ensures.same_lasting t)) in
     let installed : IsInstalled (present old) (Stands k (next_contents m r.closed.items r.count)) (disk (D.medium c.reopen.new.device)) =
     subst (λ (h : List Disk). IsInstalled (present h) (Stands k (next_contents m r.closed.items r.count)) (disk (D.medium c.reopen.new.device))) same (c.in_ok-regions.ensures.installed (rw (c.replay_regions.ensures.same_lasting ∙ c.load_served.ensures.same_lasting) t)) in
-    reopened k m r (seen (present old)) (present old) (disk (D.medium c.reopen.new.device)) (layout_of c.in_ok-regions.regions) (c.in_ok-loaded.ensures.loaded t) goes c.in_ok-regions.ensures.layout c.in_ok-regions.ensures.kept refl installed
+    reopened k m r (seen (present old)) (present old) (disk (D.medium c.reopen.new.device)) (layout_of c.in_ok-regions.regions) (c.in_ok-loaded.ensures.loaded t) goes c.in_ok-regions.ensures.layout c.in_ok-regions.ensures.kept refl c.in_ok-loaded.ensures.fits.1 installed
 
 pub returns-in_err-loaded-clause-refused : goal.returns-in_err-loaded-clause-refused
 returns-in_err-loaded-clause-refused g c =
@@ -149,6 +157,12 @@ returns-in_err-regions-clause-unwritten g c =
 pub returns-clause-made : goal.returns-clause-made
 returns-clause-made g c =
     let D = g.D.Device in
+    let m = c.in_ok-loaded.loaded.manifest in
+    let r = c.in_ok-replayed.replayed in
+    let l = layout_of c.in_ok-regions.regions in
+    let says : manifest_for l ≡ next_contents m r.closed.items r.count =
+    plain_says c.in_ok-loaded.loaded.log_sectors m r.count l c.in_ok-regions.ensures.layout c.in_ok-loaded.ensures.fits.1 c.in_ok-loaded.ensures.plain
+    ∙ ap (λ (logs : List LogRecord). next_contents m logs r.count) c.in_ok-regions.ensures.kept in
     installed_once 6210 (layout_of c.in_ok-regions.regions) (D.medium c.args.device.now).calls (D.medium c.replay_regions.new.device).calls (D.medium c.reopen.new.device).calls
     (AtMost-joined 66 0 0 (3 * c.in_ok-loaded.loaded.log_sectors) 0 0 6210 0 0 _ _ _ (omega (arith, c.in_ok-loaded.ensures.fits.0.log_high)) (omega arith) (omega arith) c.load_served.ensures.counts c.replay_regions.ensures.calls)
-    c.in_ok-regions.ensures.made
+    (subst (λ (x : Contents). CallsMade (sector_count x + 1) 2 (D.medium c.replay_regions.new.device).calls (D.medium c.reopen.new.device).calls) (sym says) c.in_ok-regions.ensures.made)
