@@ -21,3 +21,6 @@ mod WorkedCalls
 pub mod Appends
 pub mod Accepting
 pub mod Opened
+pub mod NewestAmong
+pub mod Replaced
+pub mod InstalledMaps

@@ -14,3 +14,8 @@ pub mod Serving
 pub mod LiveMarks
 pub mod Memory
 pub mod Appending
+pub mod Placings
+pub mod Work
+pub mod WorkRefusals
+pub mod WorkEffects
+pub mod WorkMaps

@@ -10,6 +10,7 @@ mod opening;
 mod serve;
 mod snapshots;
 mod store;
+mod work_law;
 
 pub use asked::At;
 pub use device_law::{device_reads_on, recovered_is_stored, stored_is_backed, sync_keeps_stored};
@@ -19,3 +20,4 @@ pub use law::{
 };
 pub use lsm_mem::{Page, Row};
 pub use store::Store;
+pub use work_law::maps_stay;

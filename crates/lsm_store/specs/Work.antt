@@ -1,0 +1,80 @@
+-- The work beside the map machine: where the versions are, the jobs that move them, and the pieces of work on these.
+use Rattle.std.specs.Prelude.{ℕ, nat_le, ◌==◌, Bool, List, [], ◌∷◌, ◌++◌, map, Option, if◌then◌else◌}
+use Rattle.lsm_codec.specs.Versions.{Version}
+use Rattle.lsm_extent.specs.Area.{Area}
+use Rattle.lsm_merge.specs.Inputs.{MergeInput, joined}
+use Rattle.lsm_merge.specs.Results.{MergeResult}
+use Rattle.lsm_levels.specs.Tables.{versions_of}
+use Rattle.lsm_levels.specs.Levels.{Levels, places}
+use Rattle.lsm_jobs.specs.Slots.{JobSlots}
+use Rattle.lsm_store.specs.RecoveryPoints.{batch_count}
+use Rattle.lsm_store.specs.State.{State}
+use Rattle.lsm_store.specs.Calls.{Reply}
+
+-- Where the versions are, and the jobs that move them.
+pub record WorkView : Type 0 where
+  -- the versions in memory, and those that wait for a flush, both in the order of entries
+  pub memory : List Version
+  pub sealed : List Version
+  pub levels : Levels
+  pub jobs : JobSlots
+  -- the number of the next table
+  pub next_table : ℕ
+  -- the data area, where the extents of tables and of outputs that are being written are handed out
+  pub area : Area
+
+-- A store with its tables and jobs: the map machine's state, and the work beside it.
+pub record WorkMachine : Type 0 where
+  pub state : State
+  pub work : WorkView
+
+-- a piece of work on a job
+pub data Work : Type 0 where
+  -- takes the job that comes next
+  Take : Work
+  -- reads data blocks of a job's tables
+  Read : ℕ → Work
+  -- asks for what a job's merge is given
+  Ask : ℕ → Work
+  -- places the tables of a result; none stands for a result that was never made
+  Accept : ℕ → Option MergeResult → Work
+  -- writes blocks of a job's outputs
+  Write : ℕ → Work
+  -- puts a job's outputs in the place of what it took in
+  Install : ℕ → Work
+  -- gives a job up
+  Drop : ℕ → Work
+
+pub data WorkReply : Type 0 where
+  -- one that calls have too: a number of blocks, that it is done, or a refusal
+  Plain : Reply → WorkReply
+  -- of a job that was taken, its number and the level of its upper tables, none of a flush; none where there was none
+  Given : Option (ℕ × Option ℕ) → WorkReply
+  -- of a job, what its merge is given
+  Handed : MergeInput → WorkReply
+
+-- the versions of each place, the newer places first
+abbrev pub versions_at : WorkView → List (List Version)
+versions_at w = w.memory ∷ (w.sealed ∷ map versions_of (places w.levels))
+
+-- all versions
+abbrev pub versions_in : WorkView → List Version
+versions_in w = joined (versions_at w)
+
+-- sealed versions wait for a flush exactly where closed regions hold batches that are in no table
+abbrev pub are_waiting : State → Bool
+are_waiting s = nat_le 1 s.closed
+
+-- a count before these, but for one that is equal to the first of them
+abbrev pub with_count : ℕ → List ℕ → List ℕ
+with_count n [] = n ∷ []
+with_count n (m ∷ rest) = if n == m then m ∷ rest else n ∷ (m ∷ rest)
+
+-- counts without those that an equal one follows
+abbrev pub each_once : List ℕ → List ℕ
+each_once [] = []
+each_once (n ∷ rest) = with_count n (each_once rest)
+
+-- the cuts of a job that is taken now: the counts at which the live snapshots were taken, and the present count
+abbrev pub cuts_of : State → List ℕ
+cuts_of s = each_once (map (λ snapshot. snapshot.point.count) s.snapshots ++ (batch_count s.points ∷ []))

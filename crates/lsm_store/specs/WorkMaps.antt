@@ -1,0 +1,68 @@
+-- The versions of all places as maps, and what an install, a rotation and a commit keep of them.
+use Rattle.std.specs.Prelude.{◌≡◌, ◌⊎◌, ℕ, ◌+◌, ◌≤◌, List, [], Contains}
+use Rattle.lsm_codec.specs.Map.{Operation, apply}
+use Rattle.lsm_codec.specs.Versions.{Version}
+use Rattle.lsm_mem.specs.Versions.{map_of, NumberedAtMost}
+use Rattle.lsm_merge.specs.Inputs.{joined, kept_of}
+use Rattle.lsm_merge.specs.Laws.{HaveSameMap}
+use Rattle.lsm_levels.specs.Among.{IsAmong}
+use Rattle.lsm_levels.specs.Tables.{Table, versions_of}
+use Rattle.lsm_levels.specs.Levels.{level}
+use Rattle.lsm_levels.specs.Orders.{IsVersionOrder}
+use Rattle.lsm_levels.specs.Held.{AreRuns, IsHeld, AreRanged, AreOutputs}
+use Rattle.lsm_jobs.specs.Slots.{Slot, outputs_at}
+use Rattle.lsm_jobs.specs.Taking.{runs_of}
+use Rattle.lsm_store.specs.RecoveryPoints.{batch_count}
+use Rattle.lsm_store.specs.State.{State, LiveSnapshot}
+use Rattle.lsm_store.specs.Calls.{Commit}
+use Rattle.lsm_store.specs.Work.{WorkView, WorkMachine, versions_at, versions_in}
+use Rattle.lsm_store.specs.WorkEffects.{with_installed, with_sealed, work_called}
+
+-- no two are of one key and number
+abbrev pub IsUnique : List Version → Type 0
+IsUnique versions = (v w : Version) → IsAmong v versions → IsAmong w versions → v.key ≡ w.key → v.number ≡ w.number → v ≡ w
+
+-- The versions in their places: no two are of one key and number, of one key the newer place has the greater numbers, and each
+-- version of a table is in its range.
+pub record AreVersions (w : WorkView) : Type 0 where
+  pub unique : IsUnique (versions_in w)
+  pub order : IsVersionOrder (versions_at w)
+  pub runs : AreRuns w.levels
+  pub ranges : (k : ℕ) → AreRanged (level w.levels k)
+
+-- a count whose map can be asked for, or fallen back to: a recovery point's, or a live snapshot's
+abbrev pub IsAsked : State → ℕ → Type 0
+IsAsked s n = ((s.points.synced ≤ n) × (n ≤ batch_count s.points)) ⊎ ((snapshot : LiveSnapshot) × IsAmong snapshot s.snapshots × (n ≡ snapshot.point.count))
+
+-- What holds of a job until its install. Its input is what it was when the job was taken, and all of it is synced. The count
+-- at the taking is a cut; each live snapshot's count is a cut too, or was taken since.
+pub record IsJobOf (m : WorkMachine) (slot : Slot) : Type 0 where
+  pub runs : slot.input.runs ≡ runs_of m.work.sealed slot.job
+  pub cut : ℕ
+  pub is_cut : Contains slot.input.cuts cut
+  pub before : cut ≤ batch_count m.state.points
+  pub inputs : (v : Version) → IsAmong v (joined slot.input.runs) → (v.number ≤ cut) × (v.number ≤ m.state.points.synced)
+  pub asked : (snapshot : LiveSnapshot) → IsAmong snapshot m.state.snapshots → Contains slot.input.cuts snapshot.point.count ⊎ (cut ≤ snapshot.point.count)
+
+-- tables that a job may put in: those of what its merge keeps
+pub record MayBePutIn (slot : Slot) (new : List Table) : Type 0 where
+  pub fit : AreOutputs slot.job new
+  pub versions : versions_of new ≡ kept_of slot.input
+  pub ranges : AreRanged new
+
+-- An install of a job keeps the map at each count that can be asked for, with the bottom flag and without it.
+abbrev pub InstallLaw : Type 0
+InstallLaw = (m : WorkMachine) (job : ℕ) (slot : Slot) → AreVersions m.work → IsHeld m.work.levels slot.input.bottom slot.job → IsJobOf m slot → MayBePutIn slot (outputs_at slot.stage)
+    → (n : ℕ) → IsAsked m.state n → HaveSameMap n (versions_in m.work) (versions_in (with_installed m.work job slot))
+
+-- A rotation, where no sealed versions wait, moves no version past another: they are the same.
+abbrev pub RotationLaw : Type 0
+RotationLaw = (w : WorkView) → w.sealed ≡ [] → versions_in (with_sealed w) ≡ versions_in w
+
+-- A commit keeps the map at each count so far, and gives that of the next with its batch applied.
+pub record AddsBatch (m : WorkMachine) (batch : List Operation) : Type 0 where
+  pub older : (n : ℕ) → n ≤ batch_count m.state.points → HaveSameMap n (versions_in m.work) (versions_in (work_called m (Commit batch)))
+  pub applied : map_of (versions_in (work_called m (Commit batch))) (batch_count m.state.points + 1) ≡ apply (map_of (versions_in m.work) (batch_count m.state.points)) batch
+
+abbrev pub CommitLaw : Type 0
+CommitLaw = (m : WorkMachine) (batch : List Operation) → NumberedAtMost (batch_count m.state.points) (versions_in m.work) → AddsBatch m batch
