@@ -27,8 +27,10 @@ use Rattle.lsm_jobs.specs.Slots.{Slot, outputs_at}
 use Rattle.lsm_jobs.specs.Taking.{runs_of}
 use Rattle.lsm_open.proofs.NewestFound.{newer_found, newest-append, map_of_batches}
 use Rattle.lsm_store.specs.RecoveryPoints.{batch_count}
+use Rattle.lsm_store.specs.State.{State}
 use Rattle.lsm_store.specs.Work.{WorkView, WorkMachine, versions_in}
-use Rattle.lsm_store.specs.WorkMaps.{AreVersions, IsAsked, IsJobOf, InstallLaw, RotationLaw, CommitLaw}
+use Rattle.lsm_store.specs.WorkEffects.{with_installed}
+use Rattle.lsm_store.specs.WorkMaps.{AreVersions, IsAsked, IsJobOf, MayBePutIn, InstallLaw, RotationLaw, CommitLaw}
 use Rattle.lsm_store.proofs.Replaced.{IsReplacing, replaced_maps}
 
 -- ---- the versions of runs of tables
@@ -69,7 +71,7 @@ of_run : (v : Version) (tables : List Table) → IsAmong v (versions_of tables) 
 of_run v [] a = absurd a
 of_run v (t ∷ rest) a = among_left v (versions_of (t ∷ rest)) [] a
 
-runs_tables : (v : Version) (upper lower : List Table) → IsAmong v (joined (versions_of upper ∷ run_if_some lower (versions_of lower))) → IsAmong v (versions_of (upper ++ lower))
+pub runs_tables : (v : Version) (upper lower : List Table) → IsAmong v (joined (versions_of upper ∷ run_if_some lower (versions_of lower))) → IsAmong v (versions_of (upper ++ lower))
 runs_tables v upper lower a = ⊎_elim
     (λ b. let t = in_tables v upper b in of_table v t.0 (upper ++ lower) (among_left t.0 upper lower t.1) t.2)
     (λ b. let t = in_tables v lower (run_of v lower b) in of_table v t.0 (upper ++ lower) (among_right t.0 upper lower t.1) t.2)
@@ -85,7 +87,7 @@ tables_runs v upper lower a =
 
 -- ---- an install
 
-kept_input : (input : MergeInput) (v : Version) → IsAmong v (kept_of input) → IsAmong v (joined input.runs)
+pub kept_input : (input : MergeInput) (v : Version) → IsAmong v (kept_of input) → IsAmong v (joined input.runs)
 kept_input input v a =
     let among = recursion_from_All (Contains (joined input.runs)) (kept_of input) ((keep_law input.cuts (joined input.runs)).among input.bottom) in
     contained v (joined input.runs) (of_all (Contains (joined input.runs)) (kept_of input) among v a)
@@ -148,7 +150,7 @@ module _ (w : WorkView) (good : AreVersions w) where
       of_sealed v a = subst (λ (rs : List (List Version)). IsAmong v (joined rs)) (sym runs) (among_left v w.sealed [] a)
 
   -- what is in memory or sealed is newer than what is in tables
-  front_newer : (front : List Version) (ps : List (List Table)) (u v : Version) → AllByRecursion (IsNewerPlace front) (map versions_of ps) → IsAmong u front → IsAmong v (table_versions ps) → u.key ≡ v.key → v.number < u.number
+  pub front_newer : (front : List Version) (ps : List (List Table)) (u v : Version) → AllByRecursion (IsNewerPlace front) (map versions_of ps) → IsAmong u front → IsAmong v (table_versions ps) → u.key ≡ v.key → v.number < u.number
   front_newer front [] u v h a b same = absurd b
   front_newer front (p ∷ ps) u v h a b same = ⊎_elim
       (λ c. newer_than front (versions_of p) u v h.0 a c same)
@@ -224,32 +226,37 @@ module _ (w : WorkView) (good : AreVersions w) where
   any_replacing input (Merge i upper lower) new held runs outputs = merge_replacing input i upper lower new held runs outputs
 
 -- each count that can be asked for is one at which the input's map stays
-kept_at_asked : (m : WorkMachine) (slot : Slot) → IsJobOf m slot → (n : ℕ) → IsAsked m.state n → IsKeptAt slot.input.cuts (joined slot.input.runs) n
-kept_at_asked m slot job n (inl point) = record {
-  cut = job.cut;
-  is_cut = job.is_cut;
+kept_at_asked : (t : State) (sealed : List Version) (job : Job) (input : MergeInput) → IsJobOf t sealed job input → (n : ℕ) → IsAsked t n → IsKeptAt input.cuts (joined input.runs) n
+kept_at_asked t sealed job input is n (inl point) = record {
+  cut = is.cut;
+  is_cut = is.is_cut;
   at = inr (
-    all_of (λ (v : Version). v.number ≤ n) (joined slot.input.runs) (λ v a. let below = job.inputs v a in let known = point.0 in omega (arith, below.1, known)),
-    all_of (λ (v : Version). v.number ≤ job.cut) (joined slot.input.runs) (λ v a. (job.inputs v a).0),
+    all_of (λ (v : Version). v.number ≤ n) (joined input.runs) (λ v a. let below = is.inputs v a in let known = point.0 in omega (arith, below.1, known)),
+    all_of (λ (v : Version). v.number ≤ is.cut) (joined input.runs) (λ v a. (is.inputs v a).0),
   );
 }
-kept_at_asked m slot job n (inr (snapshot, there, is)) = ⊎_elim
-    (λ cut. record { cut = snapshot.point.count; is_cut = cut; at = inl is })
+kept_at_asked t sealed job input is n (inr (snapshot, there, same)) = ⊎_elim
+    (λ cut. record { cut = snapshot.point.count; is_cut = cut; at = inl same })
     (λ since. record {
-      cut = job.cut;
-      is_cut = job.is_cut;
+      cut = is.cut;
+      is_cut = is.is_cut;
       at = inr (
-        all_of (λ (v : Version). v.number ≤ n) (joined slot.input.runs) (λ v a. let below = job.inputs v a in omega (arith, below.0, since, is)),
-        all_of (λ (v : Version). v.number ≤ job.cut) (joined slot.input.runs) (λ v a. (job.inputs v a).0),
+        all_of (λ (v : Version). v.number ≤ n) (joined input.runs) (λ v a. let below = is.inputs v a in omega (arith, below.0, since, same)),
+        all_of (λ (v : Version). v.number ≤ is.cut) (joined input.runs) (λ v a. (is.inputs v a).0),
       );
     })
-    (job.asked snapshot there)
+    (is.asked snapshot there)
+
+-- the versions after an install replace those before
+pub installed_replacing : (m : WorkMachine) (job : ℕ) (slot : Slot) → AreVersions m.work → IsHeld m.work.levels slot.input.bottom slot.job → IsJobOf m.state m.work.sealed slot.job slot.input
+    → MayBePutIn slot.job slot.input (outputs_at slot.stage) → IsReplacing slot.input (versions_in m.work) (versions_in (with_installed m.work job slot))
+installed_replacing m job slot good held is outputs = any_replacing m.work good slot.input slot.job (outputs_at slot.stage) held is.runs outputs.versions
 
 pub install_law : InstallLaw
 install_law m job slot good held is outputs n asked =
-    replaced_maps slot.input (versions_in m.work) (replaced_versions m.work good slot.job (outputs_at slot.stage)) n
-    (any_replacing m.work good slot.input slot.job (outputs_at slot.stage) held is.runs outputs.versions)
-    (kept_at_asked m slot is n asked)
+    replaced_maps slot.input (versions_in m.work) (versions_in (with_installed m.work job slot)) n
+    (installed_replacing m job slot good held is outputs)
+    (kept_at_asked m.state m.work.sealed slot.job slot.input is n asked)
 
 -- ---- a rotation and a commit
 

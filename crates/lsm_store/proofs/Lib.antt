@@ -21,6 +21,10 @@ mod WorkedCalls
 pub mod Appends
 pub mod Accepting
 pub mod Opened
+pub mod PlacedImages
+pub mod AnsweredWork
+pub mod Cuts
 pub mod NewestAmong
 pub mod Replaced
 pub mod InstalledMaps
+pub mod WorkSounds

@@ -18,4 +18,6 @@ pub mod Placings
 pub mod Work
 pub mod WorkRefusals
 pub mod WorkEffects
+pub mod JobAnswers
 pub mod WorkMaps
+pub mod WorkSound

@@ -75,6 +75,10 @@ abbrev pub each_once : List ℕ → List ℕ
 each_once [] = []
 each_once (n ∷ rest) = with_count n (each_once rest)
 
--- the cuts of a job that is taken now: the counts at which the live snapshots were taken, and the present count
+-- the counts at which the live snapshots were taken, and the present count
+abbrev pub counts_of : State → List ℕ
+counts_of s = map (λ snapshot. snapshot.point.count) s.snapshots ++ (batch_count s.points ∷ [])
+
+-- the cuts of a job that is taken now: these counts, each once
 abbrev pub cuts_of : State → List ℕ
-cuts_of s = each_once (map (λ snapshot. snapshot.point.count) s.snapshots ++ (batch_count s.points ∷ []))
+cuts_of s = each_once (counts_of s)

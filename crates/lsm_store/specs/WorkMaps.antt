@@ -3,11 +3,12 @@ use Rattle.std.specs.Prelude.{◌≡◌, ◌⊎◌, ℕ, ◌+◌, ◌≤◌, Lis
 use Rattle.lsm_codec.specs.Map.{Operation, apply}
 use Rattle.lsm_codec.specs.Versions.{Version}
 use Rattle.lsm_mem.specs.Versions.{map_of, NumberedAtMost}
-use Rattle.lsm_merge.specs.Inputs.{joined, kept_of}
+use Rattle.lsm_merge.specs.Inputs.{MergeInput, joined, kept_of}
 use Rattle.lsm_merge.specs.Laws.{HaveSameMap}
 use Rattle.lsm_levels.specs.Among.{IsAmong}
 use Rattle.lsm_levels.specs.Tables.{Table, versions_of}
 use Rattle.lsm_levels.specs.Levels.{level}
+use Rattle.lsm_levels.specs.Pick.{Job}
 use Rattle.lsm_levels.specs.Orders.{IsVersionOrder}
 use Rattle.lsm_levels.specs.Held.{AreRuns, IsHeld, AreRanged, AreOutputs}
 use Rattle.lsm_jobs.specs.Slots.{Slot, outputs_at}
@@ -34,25 +35,26 @@ pub record AreVersions (w : WorkView) : Type 0 where
 abbrev pub IsAsked : State → ℕ → Type 0
 IsAsked s n = ((s.points.synced ≤ n) × (n ≤ batch_count s.points)) ⊎ ((snapshot : LiveSnapshot) × IsAmong snapshot s.snapshots × (n ≡ snapshot.point.count))
 
--- What holds of a job until its install. Its input is what it was when the job was taken, and all of it is synced. The count
--- at the taking is a cut; each live snapshot's count is a cut too, or was taken since.
-pub record IsJobOf (m : WorkMachine) (slot : Slot) : Type 0 where
-  pub runs : slot.input.runs ≡ runs_of m.work.sealed slot.job
+-- What holds of a job until its install, where these versions are sealed. Its input is what it was when the job was taken, and
+-- all of it is synced. The count at the taking is a cut; each live snapshot's count is a cut too, or was taken since.
+pub record IsJobOf (s : State) (sealed : List Version) (job : Job) (input : MergeInput) : Type 0 where
+  pub runs : input.runs ≡ runs_of sealed job
   pub cut : ℕ
-  pub is_cut : Contains slot.input.cuts cut
-  pub before : cut ≤ batch_count m.state.points
-  pub inputs : (v : Version) → IsAmong v (joined slot.input.runs) → (v.number ≤ cut) × (v.number ≤ m.state.points.synced)
-  pub asked : (snapshot : LiveSnapshot) → IsAmong snapshot m.state.snapshots → Contains slot.input.cuts snapshot.point.count ⊎ (cut ≤ snapshot.point.count)
+  pub is_cut : Contains input.cuts cut
+  pub before : cut ≤ batch_count s.points
+  pub inputs : (v : Version) → IsAmong v (joined input.runs) → (v.number ≤ cut) × (v.number ≤ s.points.synced)
+  pub asked : (snapshot : LiveSnapshot) → IsAmong snapshot s.snapshots → Contains input.cuts snapshot.point.count ⊎ (cut ≤ snapshot.point.count)
 
--- tables that a job may put in: those of what its merge keeps
-pub record MayBePutIn (slot : Slot) (new : List Table) : Type 0 where
-  pub fit : AreOutputs slot.job new
-  pub versions : versions_of new ≡ kept_of slot.input
+-- tables that a job with this input may put in: those of what its merge keeps
+pub record MayBePutIn (job : Job) (input : MergeInput) (new : List Table) : Type 0 where
+  pub fit : AreOutputs job new
+  pub versions : versions_of new ≡ kept_of input
   pub ranges : AreRanged new
 
 -- An install of a job keeps the map at each count that can be asked for, with the bottom flag and without it.
 abbrev pub InstallLaw : Type 0
-InstallLaw = (m : WorkMachine) (job : ℕ) (slot : Slot) → AreVersions m.work → IsHeld m.work.levels slot.input.bottom slot.job → IsJobOf m slot → MayBePutIn slot (outputs_at slot.stage)
+InstallLaw = (m : WorkMachine) (job : ℕ) (slot : Slot) → AreVersions m.work → IsHeld m.work.levels slot.input.bottom slot.job → IsJobOf m.state m.work.sealed slot.job slot.input
+    → MayBePutIn slot.job slot.input (outputs_at slot.stage)
     → (n : ℕ) → IsAsked m.state n → HaveSameMap n (versions_in m.work) (versions_in (with_installed m.work job slot))
 
 -- A rotation, where no sealed versions wait, moves no version past another: they are the same.

@@ -96,6 +96,10 @@ work_refusals m (Install job) = (is_none (held m job), NoSuchJob) ∷ (is_not_at
     ∷ (m.state.generation == last_number, Exhausted) ∷ []
 work_refusals m (Drop job) = (is_none (held m job), NoSuchJob) ∷ []
 
+-- the refusal that decides where the store runs
+abbrev pub running_refusal : WorkMachine → Work → Option Refusal
+running_refusal m work = first_refusal (work_refusals m work)
+
 -- the refusal that decides, if the work is refused; a stopped store refuses each
 abbrev pub work_refusal : WorkMachine → Work → Option Refusal
-work_refusal m work = first_refusal ((is_some m.state.stopped, Stopped) ∷ work_refusals m work)
+work_refusal m work = if is_some m.state.stopped then Some Stopped else running_refusal m work

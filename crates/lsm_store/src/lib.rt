@@ -20,4 +20,4 @@ pub use law::{
 };
 pub use lsm_mem::{Page, Row};
 pub use store::Store;
-pub use work_law::maps_stay;
+pub use work_law::{maps_stay, slots_answer_the_work, work_stays_sound};

@@ -1,0 +1,13 @@
+use Rattle.lsm_store.proofs.Cuts.{cuts_law}
+use Rattle.lsm_store.proofs.AnsweredWork.{jobs_law}
+use Rattle.lsm_store.proofs.PlacedImages.{placing_law}
+use Rattle.lsm_store.proofs.work_law.slots_answer_the_work.Goals as goal
+
+pub returns-clause-placing : goal.returns-clause-placing
+returns-clause-placing c = placing_law
+
+pub returns-clause-jobs : goal.returns-clause-jobs
+returns-clause-jobs c = jobs_law
+
+pub returns-clause-cuts : goal.returns-clause-cuts
+returns-clause-cuts c = cuts_law
