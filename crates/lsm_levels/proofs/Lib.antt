@@ -14,6 +14,7 @@ pub mod Turning
 pub mod Placing
 pub mod Merging
 pub mod Least
+pub mod Sweeping
 pub mod RunTests
 pub mod BottomLaws
 mod Walks

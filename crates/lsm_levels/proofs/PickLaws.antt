@@ -53,14 +53,6 @@ get_or_any [] i d e lt = absurd (omega (arith, lt))
 get_or_any (x ∷ xs) zero d e lt = refl
 get_or_any (x ∷ xs) (suc i) d e lt = get_or_any xs i d e (omega (arith, lt))
 
-pub may_merge : (jobs : List Job) (t : Table) (below found : List Table) (number : ℕ) (first last : Bytes) (held free : Bool) → number ≡ t.number → held ≡ is_input jobs number → held ≡ false → first ≡ t.first → last ≡ t.last
-    → found ≡ filter (meets (record { first = first; last = last })) below → free ≡ list_all (is_free jobs) found → free ≡ can_merge jobs (t ∷ []) below
-may_merge jobs t below found number first last held free n h no f l m e =
-    let input : is_input jobs t.number ≡ false = ap (is_input jobs) (sym n) ∙ sym h ∙ no in
-    let met : found ≡ filter (meets (range_of t)) below =
-    m ∙ ap (λ (k : Bytes). filter (meets (record { first = k; last = last })) below) f ∙ ap (λ (k : Bytes). filter (meets (record { first = t.first; last = k })) below) l in
-    e ∙ ap (list_all (is_free jobs)) met ∙ sym (ap (λ (b : Bool). (not b && true) && list_all (is_free jobs) (filter (meets (range_of t)) below)) input)
-
 waits : (waiting had : Bool) (next : Option Job) → waiting ≡ true → had ≡ false → Some Flush ≡ or_next (cond (waiting && not had) (Some Flush) None) next
 waits true true next w h = absurd (no h)
 waits true false next w h = refl

@@ -19,6 +19,7 @@ mod reading;
 mod run;
 mod slices;
 mod source;
+mod sweep;
 mod table;
 mod view;
 mod within;

@@ -1,15 +1,16 @@
 //! Which job comes next.
 
-ghost use Rattle.std.specs.Prelude.{◌≡◌, ◌<◌, ◌∷◌, [], ltb, ℕ, List, length, sum_by, filter, option_map};
-ghost use Rattle.std.specs.List.{list_any, list_all};
+ghost use Rattle.std.specs.Prelude.{◌≡◌, ◌<◌, ◌∷◌, ◌&&◌, [], true, if◌then◌else◌, Some, ltb, ℕ, List, length, sum_by, filter, option_map};
+ghost use Rattle.std.specs.List.{AllByRecursion, list_any, list_all};
 ghost use Rattle.std.specs.Option.{option_copied};
-ghost use Rattle.lsm_levels.specs.Tables.{IsRun};
+ghost use Rattle.lsm_levels.specs.Tables.{IsRun, at_most};
 ghost use Rattle.lsm_levels.specs.Levels.{last_run};
 ghost use Rattle.lsm_levels.specs.Pick.{Job, is_flush, is_of_level_0, is_input, is_free, can_merge, lower_of, least_numbered, level_0_job, level_job};
 ghost use Rattle.lsm_levels.specs.Picks.{job_of, is_less};
 
 use crate::run::Run;
 use crate::slices::ends;
+use crate::sweep::{begun_by, ending_on};
 use crate::table::PlacedTable;
 use std::alloc::{Allocator, Global};
 
@@ -67,11 +68,18 @@ fn lower_of<'a, A: Allocator>(upper: &[PlacedTable<A>], below: &'a Run<A>) -> &'
     }
 }
 
-/// Whether a table, and those of the next level that meet it, are all free.
-fn can_merge<H: HeldJobs, A: Allocator>(held: &H, table: &PlacedTable<A>, below: &Run<A>) -> bool
-    ensures { result ≡ can_merge (H.jobs held.now) (table.now ∷ []) below.now }
+/// Whether a table, and those of the next level that meet it, are all free. Of the next level it takes those that don't end
+/// before the table.
+fn can_merge<H: HeldJobs, A: Allocator>(
+    held: &H,
+    table: &PlacedTable<A>,
+    rest: &[PlacedTable<A>],
+) -> bool
+    requires run { IsRun rest.now }
+    requires behind { AllByRecursion (λ t. at_most table.now.first t.last ≡ true) rest.now }
+    ensures { result ≡ can_merge (H.jobs held.now) (table.now ∷ []) rest.now }
 {
-    !held.takes_in(table.number()) && are_free(held, below.meeting(table.first(), table.last()))
+    !held.takes_in(table.number()) && are_free(held, begun_by(rest, table.last()))
 }
 
 /// Whether tables have more blocks than the limit.
@@ -88,21 +96,43 @@ fn is_over<A: Allocator>(tables: &[PlacedTable<A>], limit: u32) -> bool
     false
 }
 
-/// The least-numbered table that is free, as are all those of the next level that meet it. It looks at each table once, and
-/// searches the next level by halves for those that meet it. As the tables of a level lie apart, fewer pairs of tables meet
-/// than both levels have tables, so it asks `held` no more than twice for each table of theirs.
+/// The lesser of a table and what was found so far, where the table and those of the next level that meet it are free; else
+/// what was found.
+fn lesser<'a, H: HeldJobs, A: Allocator>(
+    held: &H,
+    found: Option<&'a PlacedTable<A>>,
+    table: &'a PlacedTable<A>,
+    rest: &[PlacedTable<A>],
+) -> Option<&'a PlacedTable<A>>
+    requires run { IsRun rest.now }
+    requires behind { AllByRecursion (λ t. at_most table.now.first t.last ≡ true) rest.now }
+    ensures { option_copied result
+        ≡ (if is_less table.now (option_copied found.entry) && can_merge (H.jobs held.now) (table.now ∷ []) rest.now then Some table.now else option_copied found.entry) }
+{
+    if is_less(table, found) && can_merge(held, table, rest) {
+        return Some(table);
+    }
+    found
+}
+
+/// The least-numbered table that is free, as are all those of the next level that meet it. It goes once through both levels
+/// side by side: those of the next level that end before a table end before the tables behind it too. As the tables of a
+/// level lie apart, fewer pairs of tables meet than both levels have tables, so it looks at no more than three times as many
+/// tables as both have.
 fn least_to_merge<'a, H: HeldJobs, A: Allocator>(
     held: &H,
     tables: &'a [PlacedTable<A>],
-    below: &Run<A>,
+    below: &[PlacedTable<A>],
 ) -> Option<&'a PlacedTable<A>>
+    requires tables { IsRun tables.now }
+    requires below { IsRun below.now }
     ensures { option_copied result ≡ least_numbered (filter (λ t. can_merge (H.jobs held.now) (t ∷ []) below.now) tables.now) }
 {
     let mut least: Option<&PlacedTable<A>> = None;
+    let mut rest = below;
     for table in tables {
-        if is_less(table, least) && can_merge(held, table, below) {
-            least = Some(table);
-        }
+        rest = ending_on(rest, table.first());
+        least = lesser(held, least, table, rest);
     }
     least
 }
@@ -160,7 +190,7 @@ pub(crate) fn level_job<'a, H: HeldJobs, A: Allocator>(
     if !is_over(tables.tables(), limit) {
         return None;
     }
-    match least_to_merge(held, tables.tables(), below) {
+    match least_to_merge(held, tables.tables(), below.tables()) {
         Some(upper) => {
             let lower = below.meeting(upper.first(), upper.last());
             Some(Pick::OneTable {

@@ -28,7 +28,8 @@ impl<A: Allocator> Model for Queue<A> {
     ghost view = { λ q. q.places.items };
 }
 
-fn current_at<'s, A: Allocator>(
+/// The version at which the source at a place stands, if there is one.
+pub(crate) fn current_at<'s, A: Allocator>(
     sources: &'s [SourceCursor<'_, A>],
     place: usize,
 ) -> Option<VersionRef<'s>>
