@@ -117,8 +117,7 @@ fn lesser<'a, H: HeldJobs, A: Allocator>(
 
 /// The least-numbered table that is free, as are all those of the next level that meet it. It goes once through both levels
 /// side by side: those of the next level that end before a table end before the tables behind it too. As the tables of a
-/// level lie apart, fewer pairs of tables meet than both levels have tables, so it looks at no more than three times as many
-/// tables as both have.
+/// level lie apart, fewer pairs of tables meet than both levels have tables, so its time is linear in these.
 fn least_to_merge<'a, H: HeldJobs, A: Allocator>(
     held: &H,
     tables: &'a [PlacedTable<A>],
