@@ -1,10 +1,11 @@
 -- What an opening makes of a manifest, and of the batches that its regions hold.
 use Rattle.std.specs.Prelude.{◌≡◌, ℕ, ◌+◌, ◌≤◌, ◌==◌, not, Bool, List, [], ◌∷◌, ◌++◌, length, Option, Some, None, option_map, if◌then◌else◌}
-use Rattle.std.specs.List.{All, list_all}
+use Rattle.std.specs.List.{All, AllByRecursion, list_all}
 use Rattle.lsm_codec.specs.declared.log_record.LogRecord.{LogRecord}
 use Rattle.lsm_codec.specs.Pairs.{Pairwise}
 use Rattle.lsm_codec.specs.Manifests.{Contents, IsLogRecord, LogsAgree}
 use Rattle.lsm_codec.specs.Map.{Operation}
+use Rattle.lsm_codec.specs.Versions.{IsEntry}
 use Rattle.lsm_mem.specs.EntryOrder.{with_batches}
 use Rattle.lsm_mem.specs.Versions.{NumberedBelow}
 use Rattle.lsm_open.specs.CrashState.{last_number}
@@ -85,6 +86,7 @@ pub record HasReplayed {A : Type 0} (r : LogRecord) (batches : List (List Operat
   pub count_high : new.count ≤ last_number
   pub versions : new.mem ≡ with_batches old.count batches old.mem
   pub numbered : NumberedBelow (new.count + 1) new.mem
+  pub entries : AllByRecursion IsEntry old.mem → AllByRecursion IsEntry new.mem
 
 -- How far a replay of a manifest's regions has come by what sectors hold: it goes on from here as it began.
 pub record GoesOn {A : Type 0} (log_sectors : ℕ) (sectors : List (List ℕ)) (m : Contents) (replayed : Replayed A) (rest : List LogRecord) : Type 0 where

@@ -1,7 +1,9 @@
 // The batches of the listed regions move into memory.
 ghost use Rattle.std.specs.Prelude.{◌≡◌, ◌≢◌, ◌⊎◌, ◌<◌, ◌≤◌, ◌^◌, ◌+◌, ◌*◌, List, [], length, false, IsTrue, IfOk, OnOk, OnErr, IfErr, is_ok};
 ghost use Rattle.lsm_codec.specs.Manifests.{IsManifest};
+ghost use Rattle.std.specs.List.{AllByRecursion};
 ghost use Rattle.lsm_codec.specs.Map.{Operation};
+ghost use Rattle.lsm_codec.specs.Versions.{IsEntry};
 ghost use Rattle.lsm_device.specs.Calls.{faults_after, AtMost};
 ghost use Rattle.lsm_device.specs.Disk.{seen};
 ghost use Rattle.lsm_device.specs.Medium.{disk};
@@ -38,6 +40,7 @@ fn insert_all<A: Allocator + Clone>(
     requires room { count + length batches.items ≤ 2 ^ 63 }
     ensures inserted { OnOk result (mem.new ≡ with_batches count batches.items mem.old) }
     ensures numbered { OnOk result (NumberedBelow (count + length batches.items + 1) mem.new) }
+    ensures entries { OnOk result (AllByRecursion IsEntry mem.old → AllByRecursion IsEntry mem.new) }
 {
     let mut number = count;
     for batch in batches {
@@ -126,6 +129,7 @@ impl<A: Allocator + Clone> Replayed<A> {
         requires mem { self.old.mem ≡ [] }
         ensures come { OnOk result (HasCome manifest.now self.new.count self.new.closed.items []) }
         ensures numbered { OnOk result (NumberedBelow (self.new.count + 1) self.new.mem) }
+        ensures entries { OnOk result (AllByRecursion IsEntry self.new.mem) }
         ensures replayed { IsTrue (D.medium device.old).lasting.tells → OnOk result
             (GoesOn log_sectors (seen (disk (D.medium device.old))) manifest.now self.new []) }
         ensures refused { IfErr result (λ refusal. ((refusal ≡ Refusal.BadManifest)
@@ -191,6 +195,7 @@ pub(crate) fn replay_regions<A: Allocator + Clone, D: Device>(
     requires inside { first_region + 3 * log_sectors ≤ (D.medium device.old).size }
     ensures come { IfOk result (λ r. HasCome manifest.now r.count r.closed.items []) }
     ensures numbered { IfOk result (λ r. NumberedBelow (r.count + 1) r.mem) }
+    ensures entries { IfOk result (λ r. AllByRecursion IsEntry r.mem) }
     ensures replayed { IsTrue (D.medium device.old).lasting.tells → IfOk result (λ r.
         GoesOn log_sectors (seen (disk (D.medium device.old))) manifest.now r []) }
     ensures refused { IfErr result (λ refusal. ((refusal ≡ Refusal.BadManifest)

@@ -19,6 +19,7 @@ loop-batch-preserved g c =
       left = omega (arith, ap length steps, at.invariant.left);
       numbered = c.insert_owned.ensures.numbered;
       inserted = at.invariant.inserted ∙ ap (λ batches. with_batches at.number batches at.mem) steps ∙ ap (with_batches (at.number + 1) rest) (sym c.in_ok-insert_owned.ensures.ok);
+      entries = λ h. c.insert_owned.ensures.within (omega arith) (omega (arith, ap length steps, at.invariant.left, c.requires.room)) (at.invariant.entries h);
       len = let was = at.invariant.len in let gone = c.in-Some.ensures.steps.1 in let short = ap length steps in omega arith;
     }
 
@@ -35,3 +36,6 @@ returns-clause-numbered g c =
     let all : at.number ≡ c.args.count + length c.args.batches.items = omega (arith, at.invariant.left, at.invariant.len, none) in
     let P : ℕ → Type 0 = λ n. NumberedBelow (n + 1) at.mem in
     subst P all at.invariant.numbered
+
+pub returns-clause-entries : goal.returns-clause-entries
+returns-clause-entries g c = λ h. c.loop-batch.invariant.entries h

@@ -2,6 +2,8 @@ use Rattle.std.proofs.Common.{◌≡◌, ◌+◌, ◌*◌, ◌≤◌, ◌∙◌,
 use Rattle.std.proofs.lemmas.List.{drop_more}
 use Rattle.std.proofs.Math.Nat.{mul-le-mul_right}
 use Rattle.lsm_codec.specs.declared.log_record.LogRecord.{LogRecord}
+use Rattle.std.specs.List.{AllByRecursion}
+use Rattle.lsm_codec.specs.Versions.{IsEntry}
 use Rattle.lsm_device.specs.Disk.{Disk, seen}
 use Rattle.lsm_device.specs.History.{present}
 use Rattle.lsm_device.specs.Medium.{disk}
@@ -25,6 +27,7 @@ loop-listed-init g c =
       all = c.logs-logs.ensures;
       come = subst (HasCome m c.args.self.now.count c.args.self.now.closed.items) (sym c.logs-logs.ensures) (come_started m c.args.self.now.count c.args.self.now.closed.items c.requires.fits c.requires.closed c.requires.count);
       numbered = subst (NumberedBelow (c.args.self.now.count + 1)) (sym c.requires.mem) tt;
+      entries = subst (AllByRecursion IsEntry) (sym c.requires.mem) tt;
       goes_on = λ t. subst (GoesOn c.args.log_sectors (seen (disk (D.medium c.args.device.now))) m c.args.self.now) (sym c.logs-logs.ensures)
           (goes_started m c.args.self.now c.args.log_sectors (seen (disk (D.medium c.args.device.now))) c.requires.closed c.requires.mem c.requires.count);
     }
@@ -48,6 +51,7 @@ loop-listed-preserved g c =
       all = inv.all;
       come = come_step c.args.manifest.now c.loop-listed.self c.add_region.new.self r (drop (i + 1) logs) step.0 step.1 (subst (HasCome c.args.manifest.now c.loop-listed.self.count c.loop-listed.self.closed.items) rest inv.come);
       numbered = step.1.numbered;
+      entries = step.1.entries inv.entries;
       goes_on = λ t.
           let gave : step.0 ≡ batches_at n (seen (disk (D.medium c.args.device.now))) r = subst (λ (h : List Disk). step.0 ≡ batches_at n (seen (present h)) r) (inv.unchanged t) (step.2 (rw inv.same_lasting t)) in
           goes_on_step c.args.manifest.now c.loop-listed.self c.add_region.new.self r (drop (i + 1) logs) step.0 step.1 n (seen (disk (D.medium c.args.device.now))) gave

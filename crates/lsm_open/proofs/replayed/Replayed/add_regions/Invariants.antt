@@ -1,4 +1,6 @@
 use Rattle.std.proofs.Common.{◌≡◌, ◌+◌, ◌*◌, drop, IsTrue}
+use Rattle.std.specs.List.{AllByRecursion}
+use Rattle.lsm_codec.specs.Versions.{IsEntry}
 use Rattle.lsm_device.specs.Calls.{AtMost}
 use Rattle.lsm_device.specs.Disk.{seen}
 use Rattle.lsm_device.specs.Medium.{disk}
@@ -18,5 +20,6 @@ invariant-loop-listed g l =
       all : l.logs ≡ l.manifest.logs;
       come : HasCome l.manifest l.self.count l.self.closed.items (drop l.listed-index l.logs);
       numbered : NumberedBelow (l.self.count + 1) l.self.mem;
+      entries : AllByRecursion IsEntry l.self.mem;
       goes_on : IsTrue (D.medium l.fn.device).lasting.tells → GoesOn l.log_sectors (seen (disk (D.medium l.fn.device))) l.manifest l.self (drop l.listed-index l.logs);
     }

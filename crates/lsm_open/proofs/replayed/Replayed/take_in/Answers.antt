@@ -13,6 +13,7 @@ returns g c =
       first = c.requires.first;
       versions = c.in_ok-insert_all.ensures.inserted;
       numbered = subst IsNumbered (sym long) c.in_ok-insert_all.ensures.numbered;
+      entries = c.in_ok-insert_all.ensures.entries;
       closed = search rules;
       count = ap (λ n. before + n) long;
       count_high = subst IsWithin (sym long) c.requires.room;
