@@ -9,3 +9,9 @@ pub mod Accepted
 pub mod Sectors
 pub mod Noted
 pub mod ReadJobs
+pub mod StoredBlocks
+pub mod StoredRuns
+pub mod RunOrders
+pub mod StoredJobs
+pub mod Outcomes
+pub mod Installs

@@ -7,6 +7,7 @@ use Rattle.std.proofs.lemmas.List.{set-set}
 use Rattle.lsm_device.specs.declared.refusal.Refusal.{Refusal}
 use Rattle.lsm_device.specs.Disk.{seen}
 use Rattle.lsm_device.specs.Medium.{Medium, disk}
+use Rattle.lsm_codec.specs.Versions.{AreOrdered}
 use Rattle.lsm_codec.proofs.Limits.{at_most-Decides, each-Decides}
 use Rattle.lsm_levels.specs.Stored.{LiesWithin, is_within}
 use Rattle.lsm_levels.specs.Tables.{Table}
@@ -56,10 +57,11 @@ job_stays job place old lifted new slot held now (Err e) at there out back same 
 -- where what is gathered doesn't go on, neither does the slot that shows it
 pub slot_bad : (area : ℕ) (m : Medium) (number : ℕ) (job : Job) (g : Gathered) (upper lower : List Table) (slot : Slot) → upper ≡ uppers job → lower ≡ lowers job
     → record { number = number; job = job; input = input_ahead (uppers job) (lowers job) g; stage = Reading (blocks_left (uppers job) (lowers job) g) } ≡ slot
-    → ((after : Gathered) → BothGoOn (seen (disk m)) area upper lower g after → ⊥) → IsBadNext area m slot
-slot_bad area m number job g upper lower slot first second view none = subst (λ (s : Slot). IsBadNext area m s) view (record {
+    → AreOrdered g.upper × AreOrdered g.lower → ((after : Gathered) → BothGoOn (seen (disk m)) area upper lower g after → ⊥) → IsBadNext area m slot
+slot_bad area m number job g upper lower slot first second view ordered none = subst (λ (s : Slot). IsBadNext area m s) view (record {
   before = g;
   shows = record { input = refl; stage = refl };
+  ordered = ordered;
   none = λ after h. none after (subst (λ (t : List Table). BothGoOn (seen (disk m)) area t lower g after) (sym first) (subst (λ (t : List Table). BothGoOn (seen (disk m)) area (uppers job) t g after) (sym second) h));
 })
 

@@ -11,3 +11,6 @@ pub mod Placing
 pub mod Refusing
 pub mod Writing
 pub mod Installing
+pub mod StoredJobs
+pub mod Outcomes
+pub mod Installs

@@ -4,9 +4,9 @@ use Rattle.std.specs.List.{flat_map}
 use Rattle.lsm_device.specs.Disk.{Write}
 use Rattle.lsm_device.specs.Runs.{run_at}
 use Rattle.lsm_table.specs.Division as division
-use Rattle.lsm_table.specs.Division.{TableBlocks, IsTable}
+use Rattle.lsm_table.specs.Division.{TableBlocks, IsTable, IsTables}
 use Rattle.lsm_table.specs.Extents.{extent_of, extent_size}
-use Rattle.lsm_merge.specs.Inputs.{MergeInput}
+use Rattle.lsm_merge.specs.Inputs.{MergeInput, kept_of}
 use Rattle.lsm_levels.specs.Tables.{Table, table_of}
 
 -- A table is that of an image, at its place and under its number.
@@ -20,6 +20,12 @@ AreTablesOf [] [] = Unit {0}
 AreTablesOf (image ∷ images) (t ∷ tables) = IsTableOf image t × AreTablesOf images tables
 AreTablesOf [] (t ∷ tables) = ⊥
 AreTablesOf (image ∷ images) [] = ⊥
+
+-- Tables are those that a merge makes of this input.
+pub record AreMadeOf (input : MergeInput) (tables : List Table) : Type 0 where
+  pub images : List TableBlocks
+  pub kept : IsTables (kept_of input) images
+  pub placed : AreTablesOf images tables
 
 -- the blocks of a table's extent: its data blocks, which its versions fill in order, filter, index and footer
 abbrev pub blocks_of : Table → List (List ℕ)
@@ -61,8 +67,9 @@ pub record Placed : Type 0 where
   pub tables : List Table
   pub left : ℕ
 
--- The tables are those of the images, and so many of their blocks are written and left.
-pub record AreOutputsOf (images : List TableBlocks) (tables : List Table) (written left : ℕ) : Type 0 where
+-- The images are those that a merge makes of the input, the tables are theirs, and so many of their blocks are written and left.
+pub record AreOutputsOf (input : MergeInput) (images : List TableBlocks) (tables : List Table) (written left : ℕ) : Type 0 where
+  pub kept : IsTables (kept_of input) images
   pub placed : AreTablesOf images tables
   pub counted : written + left ≡ length (placed_blocks tables)
   pub fits : written + left < 2 ^ 32

@@ -7,6 +7,7 @@ ghost use Rattle.lsm_device.specs.declared.refusal.Refusal.TheVariants.{NoMemory
 ghost use Rattle.lsm_device.specs.Disk.{seen};
 ghost use Rattle.lsm_device.specs.Medium.{disk};
 ghost use Rattle.lsm_device.specs.Refusals.{faultless};
+ghost use Rattle.lsm_codec.specs.Versions.{AreOrdered};
 ghost use Rattle.lsm_merge.specs.Inputs.{IsCuts, AreRuns, items_of};
 ghost use Rattle.lsm_levels.specs.Stored.{LiesWithin};
 ghost use Rattle.lsm_jobs.specs.Gathering.{Gathered, ReadsBlocks, none_gathered, whole_input, blocks_left, IsNext, BothGoOn, IsGrown};
@@ -89,6 +90,7 @@ impl<A: Allocator + Clone> Gathering<A> {
             (BothGoOn (seen (disk (D.medium device.old))) area upper.now lower.now self.old self.new) }
         ensures bad { IsTrue (D.medium device.old).lasting.tells → result ≡ Err BadTable → (new : Gathered)
             → BothGoOn (seen (disk (D.medium device.old))) area upper.now lower.now self.old new → ⊥ }
+        ensures ordered { AreOrdered self.old.upper × AreOrdered self.old.lower }
         ensures grown { IsGrown self.old self.new }
         ensures refused { IfErr result (λ refusal. (refusal ≡ Io) ⊎ ((refusal ≡ BadTable) ⊎ (refusal ≡ NoMemory))) }
         ensures device { ReadsBlocks 8 (faultless result) (D.medium device.old) (D.medium device.new) }
@@ -255,6 +257,7 @@ impl<A: Allocator + Clone> Gathering<A> {
         ensures reads { IfOk result.1 (λ left. ReadsOn area (D.medium device.old) upper.now lower.now left self result.0) }
         ensures bad { IsTrue (D.medium device.old).lasting.tells → result.1 ≡ Err BadTable → (new : Gathered)
             → BothGoOn (seen (disk (D.medium device.old))) area upper.now lower.now self new → ⊥ }
+        ensures ordered { AreOrdered self.upper × AreOrdered self.lower }
         ensures unchanged { OnErr result.1 (result.0 ≡ Reading self) }
         ensures refused { IfErr result.1 (λ refusal. (refusal ≡ Io) ⊎ ((refusal ≡ BadTable) ⊎ (refusal ≡ NoMemory))) }
         ensures device { ReadsBlocks 8 (faultless result.1) (D.medium device.old) (D.medium device.new) }

@@ -1,9 +1,10 @@
 //! A job that holds a slot.
 
-ghost use Rattle.std.specs.Prelude.{◌≡◌, ◌≤◌, ◌==◌, ◌++◌, ◌∷◌, [], false, Some, MatchOption};
+ghost use Rattle.std.specs.Prelude.{◌≡◌, ◌≤◌, ◌==◌, ◌++◌, ◌∷◌, [], true, false, Some, MatchOption};
 ghost use Rattle.std.specs.Arc.{arc_value};
 ghost use Rattle.std.specs.List.{list_any};
 ghost use Rattle.lsm_levels.specs.Pick.{is_flush, is_of_level_0, inputs};
+ghost use Rattle.lsm_jobs.specs.Outputs.{AreMadeOf};
 ghost use Rattle.lsm_jobs.specs.Installing.{IsWhole};
 ghost use Rattle.lsm_jobs.specs.Slots.{Frozen, Writing, is_frozen, is_writing, is_written, left_at, less_left, outputs_at};
 
@@ -147,9 +148,10 @@ impl<A: Allocator> HeldJob<A> {
         self.work = work;
     }
 
-    /// Its outputs, where they are placed.
+    /// Its outputs, where they are placed; then they are what a merge makes of its input.
     pub(crate) fn outputs(&self) -> &[PlacedTable<A>]
-        ensures { result.now ≡ outputs_at self.now.stage }
+        ensures same { result.now ≡ outputs_at self.now.stage }
+        ensures made { is_written self.now.stage ≡ true → AreMadeOf self.now.input result.now }
     {
         match &self.work {
             Work::Reading(_) => &[],

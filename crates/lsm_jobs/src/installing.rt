@@ -27,9 +27,9 @@ pub enum Written<'a, A: Allocator = Global> {
 }
 
 impl<A: Allocator> Slots<A> {
-    /// The outputs of a job whose blocks are all written, with what they take the place of. It is refused with `NoSuchJob`
-    /// exactly where no slot has the number, and with `WrongState` exactly where the job is not writing or has blocks left. It
-    /// takes no memory.
+    /// The outputs of a job whose blocks are all written, with what they take the place of: the tables that a merge makes of
+    /// the job's input. It is refused with `NoSuchJob` exactly where no slot has the number, and with `WrongState` exactly
+    /// where the job is not writing or has blocks left. It takes no memory.
     pub fn written(&self, job: u64) -> Result<Written<'_, A>, Refusal>
         ensures found { IfOk result (λ written. IsWhole written (slot_of job self.now.slots)) }
         ensures refused { IfErr result (IsNotWritten (slot_of job self.now.slots)) }

@@ -1,6 +1,9 @@
 //! Laws of the definitions.
 
 ghost use Rattle.lsm_jobs.specs.Keeping.{TakingLaw, InstallingLaw, StagingLaw, FreeingLaw, FoundLaw};
+ghost use Rattle.lsm_jobs.specs.Outcomes.{OutputsLaw};
+ghost use Rattle.lsm_jobs.specs.Installs.{InstallLaw};
+ghost use Rattle.lsm_jobs.specs.StoredJobs.{StoredTakingLaw, StoredReadingLaw, NeverBadLaw};
 
 /// Jobs in slots have their tables and share none, whatever is taken, read, written, installed or dropped.
 pub fn slots_stay_apart()
@@ -9,4 +12,18 @@ pub fn slots_stay_apart()
     ensures staging { StagingLaw }
     ensures freeing { FreeingLaw }
     ensures found { FoundLaw }
+{}
+
+/// A merge whose tables stand in the device is read as their versions: each step keeps its input, and none finds a bad block.
+pub fn stored_tables_are_read()
+    ensures taking { StoredTakingLaw }
+    ensures reading { StoredReadingLaw }
+    ensures good { NeverBadLaw }
+{}
+
+/// The tables that are made of a job's input may be installed: a merge's in the place of its inputs, a flush's as a run. Then
+/// the levels stay runs in the order of versions, and the other jobs keep their tables.
+pub fn outputs_may_be_installed()
+    ensures outputs { OutputsLaw }
+    ensures install { InstallLaw }
 {}

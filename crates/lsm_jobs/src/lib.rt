@@ -17,5 +17,5 @@ mod taking;
 mod writing;
 
 pub use installing::Written;
-pub use law::slots_stay_apart;
+pub use law::{outputs_may_be_installed, slots_stay_apart, stored_tables_are_read};
 pub use slots::Slots;

@@ -4,7 +4,9 @@ ghost use Rattle.std.specs.Prelude.{◌≡◌, ◌<◌, ◌≤◌, ◌+◌, ◌-
 ghost use Rattle.std.specs.Arc.{arc_value};
 ghost use Rattle.std.specs.List.{AllByRecursion};
 ghost use Rattle.lsm_device.specs.Calls.{AtMost};
-ghost use Rattle.lsm_jobs.specs.Outputs.{AreTablesOf, placed_blocks, place_in, EndsWithin, next_blocks};
+ghost use Rattle.lsm_table.specs.Division.{IsTables};
+ghost use Rattle.lsm_merge.specs.Inputs.{kept_of};
+ghost use Rattle.lsm_jobs.specs.Outputs.{AreMadeOf, AreTablesOf, placed_blocks, place_in, EndsWithin, next_blocks};
 ghost use Rattle.lsm_jobs.specs.Writing.{WritesBlocks};
 
 use crate::writing::write_block;
@@ -35,7 +37,7 @@ impl<A: Allocator> Model for Outputs<A> {
 
     ghost view = { λ o. record { input = arc_value o.input; tables = o.tables.items; left = o.left } };
 
-    ghost invariant = { λ o. AreOutputsOf (arc_value o.images).items o.tables.items o.written o.left };
+    ghost invariant = { λ o. AreOutputsOf (arc_value o.input) (arc_value o.images).items o.tables.items o.written o.left };
 }
 
 /// Which of the blocks that images take stands at a place, counted through them: the image, and the place in it.
@@ -111,6 +113,7 @@ impl<A: Allocator> Outputs<A> {
         tables: Vec<PlacedTable<A>, A>,
         left: u32,
     ) -> Outputs<A>
+        requires kept { IsTables (kept_of (arc_value input)) (arc_value images).items }
         requires placed { AreTablesOf (arc_value images).items tables.items }
         requires left { left ≡ length (placed_blocks tables.items) }
         ensures { result ≡ record { input = arc_value input; tables = tables.items; left = left } }
@@ -124,9 +127,10 @@ impl<A: Allocator> Outputs<A> {
         }
     }
 
-    /// The tables that the images are placed as.
+    /// The tables that the images are placed as. They are what a merge makes of the input.
     pub(crate) fn tables(&self) -> &[PlacedTable<A>]
-        ensures { result.now ≡ self.now.tables }
+        ensures same { result.now ≡ self.now.tables }
+        ensures made { AreMadeOf self.now.input result.now }
     {
         &self.tables
     }
