@@ -6,6 +6,10 @@ mod devices;
 #[cfg(test)]
 mod format;
 #[cfg(test)]
+mod images;
+#[cfg(test)]
 mod refusals;
+#[cfg(test)]
+mod roots;
 #[cfg(test)]
 mod tests;

@@ -2,15 +2,19 @@
 use crate::devices::{
     SECTORS, formatted, fresh, open_log, opened, put, refused, sector, value_of, with_one_batch,
 };
+use crate::images::{FOUR, with_tables};
 use lsm_device::{MemDevice, Refusal};
-use lsm_root::load;
 use std::alloc::Global;
 use std::test::Fail;
 
 const ZEROS: [u8; 512] = [0; 512];
 
 /// Whether an opening is refused so, and the device was synced once and not written.
-fn is_refused_with(alloc: Global, device: MemDevice, wanted: Refusal) -> Result<bool, Fail> {
+pub(crate) fn is_refused_with(
+    alloc: Global,
+    device: MemDevice,
+    wanted: Refusal,
+) -> Result<bool, Fail> {
     let (writes, syncs) = (device.writes(), device.syncs());
     let (refusal, device) = refused(alloc, device)?;
     Ok(refusal == wanted && device.writes() == writes && device.syncs().wrapping_sub(syncs) == 1)
@@ -56,30 +60,9 @@ fn damaged_roots(rt: HostRuntime) -> Result<(), Fail> {
     Ok(())
 }
 
-/// Names a table in the manifest of a store, behind its log record: table 1 in level 1, with a data block, an index block
-/// and an entry; table 2 comes next.
-fn name_table(device: &mut MemDevice) -> Result<(), Fail> {
-    let mut bytes = sector(device, 2)?;
-    for at in [31usize, 56, 57, 63, 64, 66] {
-        bytes[at] = 1;
-    }
-    bytes[27] = 2;
-    put(device, 2, &bytes)
-}
-
-/// A device whose root names a table.
-fn with_table(alloc: Global) -> Result<MemDevice, Fail> {
-    let mut device = fresh(alloc)?;
-    name_table(&mut device)?;
-    if load(alloc, &mut device)?.manifest.tables().len() != 1 {
-        return Err("a root with a table".into());
-    }
-    Ok(device)
-}
-
 #[test]
 fn a_root_with_a_table_is_not_served_yet(rt: HostRuntime) -> Result<(), Fail> {
-    let device = with_table(rt.alloc())?;
+    let device = with_tables(rt.alloc(), FOUR)?;
     assert!(rt; is_refused_with(rt.alloc(), device, Refusal::BadManifest)?);
     Ok(())
 }
