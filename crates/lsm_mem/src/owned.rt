@@ -7,7 +7,7 @@ ghost use Rattle.lsm_mem.specs.EntryOrder.{with_batch};
 ghost use Rattle.lsm_mem.specs.Histories.{AreHistories, plain, versions_of};
 
 use crate::change::Change;
-use crate::histories::{Histories, put_owned};
+use crate::histories::{Histories, put};
 use lsm_codec::Op;
 use std::alloc::{AllocError, Allocator};
 
@@ -27,7 +27,12 @@ pub(crate) fn put_all_owned<A: Allocator + Clone>(
 {
     for operation in operations {
         let (key, value) = operation.into_parts();
-        put_owned(histories, alloc, key, Change::new(number, value))?;
+        put(
+            histories,
+            alloc,
+            key.into_bytes(),
+            Change::new(number, value),
+        )?;
     }
     Ok(())
 }

@@ -2,9 +2,8 @@
 
 ghost use Rattle.std.specs.Prelude.{◌≡◌, ◌++◌, [], map, reverse};
 ghost use Rattle.std.specs.Iterator.{YieldsFirstBy, item_count};
-ghost use Rattle.std.specs.List.{AllByRecursion};
 ghost use Rattle.lsm_codec.specs.References.{shown};
-ghost use Rattle.lsm_mem.specs.Histories.{IsHistory, version, versions_of, plain};
+ghost use Rattle.lsm_mem.specs.Histories.{version, versions_of, plain};
 
 use crate::change::Change;
 use crate::history::History;
@@ -25,21 +24,17 @@ pub struct AllVersions<'a, A: Allocator = Global> {
 
 impl<'a, A: Allocator> Model for AllVersions<'a, A> {
     ghost use Rattle.std.specs.Prelude.{List, ◌++◌, map, reverse};
-    ghost use Rattle.std.specs.List.{AllByRecursion};
     ghost use Rattle.lsm_codec.specs.Versions.{Version};
 
     ghost Value = { List Version };
 
-    ghost use Rattle.lsm_mem.specs.Histories.{IsHistory, version, versions_of, plain};
+    ghost use Rattle.lsm_mem.specs.Histories.{version, versions_of, plain};
 
     ghost view = { λ v. map (version v.key.now) (reverse v.changes.now) ++ versions_of (plain v.rest) };
-
-    ghost invariant = { λ v. AllByRecursion (λ entry. IsHistory entry.1) (plain v.rest) };
 }
 
 impl<'a, A: Allocator> AllVersions<'a, A> {
     pub(crate) fn new(rest: btree_map::Iter<'a, Vec<u8, A>, History<A>>) -> AllVersions<'a, A>
-        requires { AllByRecursion (λ entry. IsHistory entry.1) (plain rest) }
         ensures { result ≡ versions_of (plain rest.entry) }
     {
         AllVersions {
@@ -63,7 +58,7 @@ impl<'a, A: Allocator> Iterator for AllVersions<'a, A> {
             return Some(version_of(self.key, newest));
         }
         let (key, history) = self.rest.next()?;
-        let (newest, older) = history.changes().split_last()?;
+        let (newest, older) = history.parts();
         self.key = key;
         self.changes = older;
         Some(version_of(key, newest))

@@ -8,10 +8,10 @@ pub returns-clause-steps : goal.returns-clause-steps
 returns-clause-steps g c =
     let walk = c.self.inside in
     let key = c.deref-self-inside.result.now in
-    let newest = c.in_ok-newest.newest.now in
-    let left : List Version = map (version key) (reverse c.in_ok-newest.older.now) ++ versions_of (plain c.next.new.self) in
+    let newest = c.parts.result.0.now in
+    let left : List Version = map (version key) (reverse c.parts.result.1.now) ++ versions_of (plain c.next.new.self) in
     let shows = c.version_of-2.ensures ∙ ap (λ k. version k newest) (c.deref.ensures.value ∙ sym c.deref-self-inside.ensures.value) in
     sym c.self.view_is
-    ∙ next_key walk.changes.now walk.key.now walk.rest c.next.new.self c.in_ok-key.key.now key c.in_ok-key.history.now c.changes.result.now c.in_ok-newest.older.now newest
-    c.in_default.ensures.cases c.in_ok-key.ensures.steps c.changes.ensures c.in_ok-newest.ensures.cases.0 c.deref-self-inside.ensures.value
+    ∙ next_key walk.changes.now walk.key.now walk.rest c.next.new.self c.in_ok-key.key.now key c.in_ok-key.history.now c.parts.result.1.now newest
+    c.in_default.ensures.cases c.in_ok-key.ensures.steps c.parts.ensures c.deref-self-inside.ensures.value
     ∙ ap (λ v. v ∷ left) (sym shows)
