@@ -1,13 +1,17 @@
 -- The cuts of a job that is taken.
-use Rattle.std.proofs.Common.{◌≡◌, ⊎_elim, ℕ, suc, ◌+◌, ◌<◌, ◌≤◌, Bool, true, false, cond, ◌&&◌, eqb, List, [], ◌∷◌, map, length, refl, ap, ◌∙◌, arith}
+use Rattle.std.proofs.Common.{◌≡◌, ◌⊎◌, inl, inr, ⊎_elim, ℕ, suc, ◌+◌, ◌<◌, ◌≤◌, Bool, true, false, cond, ◌&&◌, eqb, List, [], ◌∷◌, map, length, refl, ap, ◌∙◌, subst, arith}
+use Rattle.std.specs.Prelude.{Contains}
 use Rattle.std.specs.List.{AllByRecursion}
-use Rattle.std.proofs.lemmas.Bool.{cases_lt, eqb-false, lt-ltb}
+use Rattle.std.proofs.lemmas.Bool.{cases_lt, eqb-true, eqb-false, lt-ltb}
 use Rattle.std.proofs.lemmas.List.{length-append, length-map}
 use Rattle.lsm_merge.specs.Inputs.{is_ascending}
+use Rattle.lsm_levels.specs.Among.{IsAmong}
+use Rattle.lsm_levels.proofs.Members.{among_left, among_right}
 use Rattle.lsm_store.specs.JobAnswers.{AreRising, CutsLaw}
 use Rattle.lsm_store.specs.RecoveryPoints.{batch_count}
-use Rattle.lsm_store.specs.State.{LiveSnapshot}
-use Rattle.lsm_store.specs.Work.{with_count, each_once, counts_of}
+use Rattle.lsm_store.specs.State.{State, LiveSnapshot}
+use Rattle.lsm_store.specs.Work.{with_count, each_once, counts_of, cuts_of}
+use Rattle.lsm_store.proofs.Membership.{in_head, in_tail}
 
 above_with : (k n : ℕ) (ns : List ℕ) → k ≤ n → AllByRecursion (λ m. k ≤ m) ns → AllByRecursion (λ m. k ≤ m) (with_count n ns)
 above_with k n [] le all = (le, tt)
@@ -66,3 +70,41 @@ cuts_law s few rising =
       at_most = omega (arith, short, many, few);
       ascending = ascending_once (counts_of s) rising;
     }
+
+-- ---- which counts are cuts
+
+among_contained : (n : ℕ) (ns : List ℕ) → IsAmong n ns → Contains ns n
+among_contained n [] a = absurd a
+among_contained n (m ∷ ns) (inl e) = subst (λ (k : ℕ). Contains (k ∷ ns) n) e (in_head n ns)
+among_contained n (m ∷ ns) (inr a) = in_tail m n ns (among_contained n ns a)
+
+in_counts : (n k : ℕ) (ns : List ℕ) → (n ≡ k) ⊎ IsAmong n ns → IsAmong n (with_count k ns)
+in_counts n k [] (inl e) = inl e
+in_counts n k [] (inr a) = absurd a
+in_counts n k (x ∷ rest) h = by (eqb k x) refl h
+  where
+    by : (b : Bool) → eqb k x ≡ b → (n ≡ k) ⊎ IsAmong n (x ∷ rest) → IsAmong n (cond b (x ∷ rest) (k ∷ (x ∷ rest)))
+    by true e (inl f) = inl (f ∙ eqb-true k x e)
+    by true e (inr a) = a
+    by false e (inl f) = inl f
+    by false e (inr a) = inr a
+
+in_each_once : (n : ℕ) (ns : List ℕ) → IsAmong n ns → IsAmong n (each_once ns)
+in_each_once n [] a = absurd a
+in_each_once n (x ∷ rest) (inl e) = in_counts n x (each_once rest) (inl e)
+in_each_once n (x ∷ rest) (inr a) = in_counts n x (each_once rest) (inr (in_each_once n rest a))
+
+in_mapped : (snapshot : LiveSnapshot) (all : List LiveSnapshot) → IsAmong snapshot all → IsAmong snapshot.point.count (map (λ (x : LiveSnapshot). x.point.count) all)
+in_mapped snapshot [] a = absurd a
+in_mapped snapshot (x ∷ rest) (inl e) = inl (ap (λ (y : LiveSnapshot). y.point.count) e)
+in_mapped snapshot (x ∷ rest) (inr a) = inr (in_mapped snapshot rest a)
+
+pub present_cut : (s : State) → Contains (cuts_of s) (batch_count s.points)
+present_cut s =
+    let counts = map (λ (x : LiveSnapshot). x.point.count) s.snapshots in
+    among_contained (batch_count s.points) (cuts_of s) (in_each_once (batch_count s.points) (counts_of s) (among_right (batch_count s.points) counts (batch_count s.points ∷ []) (inl refl)))
+
+pub snapshot_cut : (s : State) (snapshot : LiveSnapshot) → IsAmong snapshot s.snapshots → Contains (cuts_of s) snapshot.point.count
+snapshot_cut s snapshot a =
+    let counts = map (λ (x : LiveSnapshot). x.point.count) s.snapshots in
+    among_contained snapshot.point.count (cuts_of s) (in_each_once snapshot.point.count (counts_of s) (among_left snapshot.point.count counts (batch_count s.points ∷ []) (in_mapped snapshot s.snapshots a)))

@@ -28,3 +28,5 @@ pub mod NewestAmong
 pub mod Replaced
 pub mod InstalledMaps
 pub mod WorkSounds
+pub mod InstallSounds
+pub mod CallSounds

@@ -1,12 +1,14 @@
 -- Where images are placed: the lowest fit as it is computed.
-use Rattle.std.proofs.Common.{◌≡◌, inl, inr, ⊎_elim, ℕ, zero, suc, ◌+◌, ◌<◌, ◌≤◌, Bool, true, false, cond, ◌&&◌, ltb, not, List, [], ◌∷◌, Option, Some, None, option_map, option_and_then, refl, sym, ap, ◌∙◌, arith}
+use Rattle.std.proofs.Common.{◌≡◌, inl, inr, ⊎_elim, ℕ, zero, suc, ◌+◌, ◌<◌, ◌≤◌, Bool, true, false, cond, ◌&&◌, ltb, not, List, [], ◌∷◌, ◌++◌, Option, Some, None, option_map, option_and_then, refl, sym, ap, ◌∙◌, arith}
 use Rattle.std.proofs.lemmas.Bool.{and_parts, ltb-true, false≢true, cases_lt}
 use Rattle.lsm_extent.specs.Area.{Area, is_free, is_held, IsFreeRun, IsLowestFit, HasNoFit, handed_out}
-use Rattle.lsm_table.specs.Division.{TableBlocks}
+use Rattle.std.specs.List.{flat_map}
+use Rattle.lsm_codec.specs.Versions.{Version}
+use Rattle.lsm_table.specs.Division.{TableBlocks, entries_of}
 use Rattle.lsm_table.specs.Extents.{extent_size}
-use Rattle.lsm_levels.specs.Tables.{Table, table_of}
+use Rattle.lsm_levels.specs.Tables.{Table, table_of, versions_of}
 use Rattle.lsm_jobs.specs.Placing.{extent_of, ArePlaced, FindNoRoom}
-use Rattle.lsm_store.specs.JobAnswers.{PlacingLaw}
+use Rattle.lsm_store.specs.JobAnswers.{PlacingLaw, PlacedVersionsLaw}
 use Rattle.lsm_store.specs.Placings.{is_free_run, first_fit, lowest_fit, place_all}
 
 module _ (area : Area) where
@@ -86,3 +88,31 @@ none_placed number area (image ∷ rest) (inr (start, lowest, later)) =
 
 pub placing_law : PlacingLaw
 placing_law = record { placed = all_placed; none = none_placed }
+
+-- ---- the versions of what is placed
+
+none_some : (tables : List Table) → None ≡ Some tables → ⊥
+none_some tables e = cc
+
+some_tables : (these tables : List Table) → Some these ≡ Some tables → these ≡ tables
+some_tables these tables e = cc
+
+placed_versions : (number : ℕ) (area : Area) (images : List TableBlocks) (tables : List Table) → place_all number area images ≡ Some tables → versions_of tables ≡ flat_map entries_of images
+placed_versions number area [] tables e = ap versions_of (sym (some_tables [] tables e))
+placed_versions number area (image ∷ rest) tables e = by (λ a later is. placed_versions (number + 1) a rest later is) (lowest_fit area (extent_size image)) e
+  where
+    next : ℕ → Area
+    next start = handed_out (record { first = start; blocks = extent_size image }) area
+
+    behind : (start : ℕ) (o : Option (List Table)) → ((later : List Table) → o ≡ Some later → versions_of later ≡ flat_map entries_of rest) → option_map (λ later. table_of number start image ∷ later) o ≡ Some tables
+        → versions_of tables ≡ entries_of image ++ flat_map entries_of rest
+    behind start None same is = absurd (none_some tables is)
+    behind start (Some later) same is = ap versions_of (sym (some_tables (table_of number start image ∷ later) tables is)) ∙ ap (λ (vs : List Version). entries_of image ++ vs) (same later refl)
+
+    by : ((a : Area) (later : List Table) → place_all (number + 1) a rest ≡ Some later → versions_of later ≡ flat_map entries_of rest) → (o : Option ℕ) → Placed number area image rest o ≡ Some tables
+        → versions_of tables ≡ entries_of image ++ flat_map entries_of rest
+    by same None is = absurd (none_some tables is)
+    by same (Some start) is = behind start (place_all (number + 1) (next start) rest) (same (next start)) is
+
+pub placed_versions_law : PlacedVersionsLaw
+placed_versions_law number area result tables made placed = placed_versions number area result.images tables placed ∙ made.whole

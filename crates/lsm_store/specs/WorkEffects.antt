@@ -1,5 +1,5 @@
 -- What a piece of work answers that nothing refuses, and what it leaves.
-use Rattle.std.specs.Prelude.{ℕ, ◌+◌, ◌-◌, ◌==◌, Bool, true, false, List, [], length, Option, Some, None, option_map, if◌then◌else◌}
+use Rattle.std.specs.Prelude.{ℕ, ◌+◌, ◌-◌, ◌==◌, Bool, true, false, List, [], length, Option, Some, None, option_map, is_some, if◌then◌else◌}
 use Rattle.lsm_mem.specs.EntryOrder.{with_batch}
 use Rattle.lsm_levels.specs.Tables.{Table}
 use Rattle.lsm_levels.specs.Pick.{Job, Flush, Merge, inputs, is_flush, installed as installed_levels}
@@ -97,7 +97,16 @@ abbrev pub work_called : WorkMachine → Call → WorkView
 work_called m (Commit batch) = record m.work { memory = with_batch (batch_count m.state.points + 1) batch m.work.memory }
 work_called m other = m.work
 
--- the work after a rotation: what was in memory is sealed
+-- the state after a rotation: the region of the open log is closed, a new log is open behind all batches, and all are synced
+abbrev pub rotated : State → State
+rotated s = record s {
+  points = all_synced s.points;
+  closed = if is_some s.open_log then 1 else 0;
+  open_log = Some (record { first = batch_count s.points + 1; used = 0 });
+  generation = s.generation + 1;
+}
+
+-- the work after it: what was in memory is sealed
 abbrev pub with_sealed : WorkView → WorkView
 with_sealed w = record w { memory = []; sealed = w.memory }
 

@@ -9,10 +9,13 @@ use Rattle.lsm_levels.specs.Held.{HasVersion}
 use Rattle.lsm_jobs.specs.Slots.{Slot, is_writing, outputs_at}
 use Rattle.lsm_jobs.specs.Keeping.{AreKept}
 use Rattle.lsm_store.specs.State.{State, LiveSnapshot}
+use Rattle.lsm_store.specs.Calls.{Call}
+use Rattle.lsm_store.specs.Refusals.{refusal}
+use Rattle.lsm_store.specs.Effects.{after}
 use Rattle.lsm_store.specs.Memory.{points_of}
 use Rattle.lsm_store.specs.Work.{WorkMachine, Work, Take, Read, Ask, Accept, Write, Install, Drop, versions_in, are_waiting}
 use Rattle.lsm_store.specs.WorkRefusals.{held, placing, running_refusal}
-use Rattle.lsm_store.specs.WorkEffects.{work_after, state_after}
+use Rattle.lsm_store.specs.WorkEffects.{work_after, state_after, work_called, rotated, with_sealed}
 use Rattle.lsm_store.specs.WorkMaps.{AreVersions, IsJobOf, MayBePutIn}
 
 -- The versions have the maps of the state: those of its recovery points and of its live snapshots.
@@ -63,3 +66,11 @@ IsServed m (Drop job) = Unit {0}
 -- Each piece of work that nothing refuses keeps all that.
 abbrev pub SoundLaw : Type 0
 SoundLaw = (m : WorkMachine) (work : Work) → IsSound m → running_refusal m work ≡ None → IsServed m work → IsSound (record { state = state_after m work; work = work_after m work })
+
+-- So does each call that nothing refuses.
+abbrev pub CallSoundLaw : Type 0
+CallSoundLaw = (m : WorkMachine) (call : Call) → IsSound m → refusal m.state call ≡ None → IsSound (record { state = after m.state call; work = work_called m call })
+
+-- And so does a rotation, where no sealed versions wait.
+abbrev pub RotationSoundLaw : Type 0
+RotationSoundLaw = (m : WorkMachine) → IsSound m → are_waiting m.state ≡ false → IsSound (record { state = rotated m.state; work = with_sealed m.work })
