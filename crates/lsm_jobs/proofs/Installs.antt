@@ -1,9 +1,8 @@
 -- Outputs of a job may be installed.
-use Rattle.std.proofs.Common.{◌≡◌, ℕ, ◌<◌, Bool, List, [], ◌∷◌, ◌++◌, map, Some, refl}
+use Rattle.std.proofs.Common.{◌≡◌, ℕ, ◌<◌, List, [], ◌++◌, map, Some, None, ap, subst, ◌∙◌}
 use Rattle.std.specs.List.{AllByRecursion}
 use Rattle.lsm_codec.specs.Versions.{Version}
 use Rattle.lsm_merge.specs.Inputs.{MergeInput, joined}
-use Rattle.lsm_levels.specs.Among.{IsAmong}
 use Rattle.lsm_levels.specs.Tables.{Table, versions_of}
 use Rattle.lsm_levels.specs.Levels.{Levels, places}
 use Rattle.lsm_levels.specs.Orders.{IsNewerPlace}
@@ -14,6 +13,8 @@ use Rattle.lsm_levels.proofs.Parts.{all_map}
 use Rattle.lsm_levels.proofs.Ranges.{all_of, of_all}
 use Rattle.lsm_levels.proofs.Runs.{runs_law}
 use Rattle.lsm_levels.proofs.Taking.{order_law, flush_law, merging_law}
+use Rattle.lsm_jobs.specs.Slots.{slot_of, with_held}
+use Rattle.lsm_jobs.specs.Keeping.{AreKept}
 use Rattle.lsm_jobs.specs.Outputs.{AreMadeOf}
 use Rattle.lsm_jobs.specs.Outcomes.{ReplaceInputs}
 use Rattle.lsm_jobs.specs.Installs.{IsInputOf, InstallLaw}
@@ -47,13 +48,15 @@ module _ (levels : Levels) (input : MergeInput) (outputs : List Table) (runs : A
   stay_ordered (Merge i upper lower) held is = order_law levels input.bottom i upper lower outputs runs held ordered (replaces i upper lower held is).versions (made_ranged input outputs made)
 
 pub install_law : InstallLaw
-install_law levels next slots slot outputs runs ordered kept found is made =
-    let held : IsHeld levels slot.input.bottom slot.job = kept.held slot (found_law.there slot.number slots slot found) in
+install_law levels next job slots slot outputs runs ordered kept found is made =
+    let number : slot.number ≡ job = found_law.number job slots slot found in
+    let own : slot_of slot.number slots ≡ Some slot = ap (λ (n : ℕ). slot_of n slots) number ∙ found in
+    let held : IsHeld levels slot.input.bottom slot.job = kept.held slot (found_law.there job slots slot found) in
     let outs : AreOutputs slot.job outputs = are_outputs levels slot.input outputs runs ordered made slot.job held is in
     record {
       held = held;
       are_outputs = outs;
       runs = runs_law levels slot.input.bottom slot.job outputs runs held outs;
       ordered = stay_ordered levels slot.input outputs runs ordered made slot.job held is;
-      kept = installing_law levels next slots slot outputs runs kept found outs;
+      kept = subst (λ (n : ℕ). AreKept (installed levels slot.job outputs) next (with_held n None slots)) number (installing_law levels next slots slot outputs runs kept own outs);
     }

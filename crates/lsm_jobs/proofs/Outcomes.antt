@@ -1,6 +1,6 @@
 -- The tables that are made of an input.
-use Rattle.std.proofs.Common.{◌≡◌, ◌≢◌, ◌⊎◌, inl, inr, ⊎_elim, ℕ, zero, suc, ◌<◌, ◌≤◌, Bool, true, false, cond, List, [], ◌∷◌, ◌++◌, length, get_or, Option, Some, None, refl, sym, ap, subst, ◌∙◌, append-nil, append_assoc, arith}
-use Rattle.std.specs.Prelude.{Contains, All}
+use Rattle.std.proofs.Common.{◌≡◌, ◌≢◌, ◌⊎◌, inl, inr, ⊎_elim, ℕ, zero, suc, ◌<◌, Bool, true, false, List, [], ◌∷◌, ◌++◌, length, get_or, refl, sym, ap, subst, ◌∙◌, append-nil, arith}
+use Rattle.std.specs.Prelude.{Contains}
 use Rattle.std.specs.List.{AllByRecursion, flat_map}
 use Rattle.std.specs.declared.cmp.Ordering.{Ordering}
 use Rattle.std.specs.declared.cmp.Ordering.TheVariants.{Less, Equal, Greater}
@@ -9,12 +9,12 @@ use Rattle.std.proofs.lemmas.Bool.{and_from, le-leb}
 use Rattle.std.proofs.lemmas.List.Elements.{recursion_from_All}
 use Rattle.lsm_codec.specs.Keys.{Bytes, byte_order}
 use Rattle.lsm_codec.specs.Pairs.{Pairwise}
-use Rattle.lsm_codec.specs.Versions.{Version, is_same_key, newest, AreOrdered}
+use Rattle.lsm_codec.specs.Versions.{Version, newest, AreOrdered}
 use Rattle.lsm_codec.proofs.KeyOrder.{same_key, key_itself}
 use Rattle.lsm_codec.proofs.Lists.{all_right}
 use Rattle.lsm_table.specs.Division.{Block, TableBlocks, IsTables, ShareNoKey, entries_of}
 use Rattle.lsm_table.specs.BlockEdges.{last_edge, edges_of, last_key}
-use Rattle.lsm_table.proofs.Orders.{Before, befores, later_pairs, front_pairs, next_before, keys_rise}
+use Rattle.lsm_table.proofs.Orders.{Before, befores, later_pairs, next_before, keys_rise}
 use Rattle.lsm_merge.specs.Inputs.{MergeInput, joined, kept_of}
 use Rattle.lsm_merge.specs.Keeping.{keep}
 use Rattle.lsm_merge.specs.Laws.{IsKeptAt, KeepsMaps}

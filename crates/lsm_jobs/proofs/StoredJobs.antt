@@ -9,10 +9,10 @@ use Rattle.lsm_codec.specs.Versions.{Version, AreOrdered}
 use Rattle.lsm_merge.specs.Inputs.{MergeInput, AreRuns}
 use Rattle.lsm_levels.specs.Tables.{Table}
 use Rattle.lsm_levels.specs.Stored.{IsStored}
-use Rattle.lsm_jobs.specs.Gathering.{Gathered, uppers, lowers, data_blocks, versions_behind, run_if_some, whole_input, input_ahead, blocks_left, upper_next, upper_items, lower_items, IsNext, BothGoOn}
-use Rattle.lsm_jobs.specs.Slots.{Stage, Slot, Slots, JobSlots, slot_of, with_held, left_at, is_reading, at_stage}
-use Rattle.lsm_jobs.specs.Reading.{Shows, SlotReadsOn, IsBadNext, JobReadsOn, input_with, stage_with, slot_with_gathered}
-use Rattle.lsm_jobs.specs.StoredJobs.{HasStored, KeepsInput, StoredReadingLaw, NeverBadLaw}
+use Rattle.lsm_jobs.specs.Gathering.{Gathered, uppers, lowers, data_blocks, versions_behind, run_if_some, input_ahead, blocks_left, upper_next, IsNext, BothGoOn}
+use Rattle.lsm_jobs.specs.Slots.{Stage, Slot, with_held, left_at, is_reading}
+use Rattle.lsm_jobs.specs.Reading.{SlotReadsOn, input_with, stage_with}
+use Rattle.lsm_jobs.specs.StoredJobs.{HasStored, StoredReadingLaw, NeverBadLaw}
 use Rattle.lsm_jobs.proofs.Found.{found_law}
 use Rattle.lsm_jobs.proofs.StoredRuns.{same_behind, none_left, run_stays, run_goes_on}
 

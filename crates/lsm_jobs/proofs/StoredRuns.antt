@@ -1,5 +1,5 @@
 -- The versions of tables that stand, behind so many of their data blocks.
-use Rattle.std.proofs.Common.{◌≡◌, ℕ, zero, suc, ◌+◌, ◌-◌, ◌<◌, ◌≤◌, min, ltb, Bool, true, false, cond, List, [], ◌∷◌, ◌++◌, length, map, take, drop, sum_by, refl, sym, ap, subst, ◌∙◌, append_assoc, append-nil, arith}
+use Rattle.std.proofs.Common.{◌≡◌, ℕ, zero, suc, ◌+◌, ◌-◌, ◌≤◌, min, ltb, Bool, true, false, cond, List, [], ◌∷◌, ◌++◌, length, map, take, drop, refl, sym, ap, subst, ◌∙◌, append_assoc, arith}
 use Rattle.std.specs.List.{AllByRecursion}
 use Rattle.std.proofs.lemmas.Bool.{ltb-true, ltb-false}
 use Rattle.std.proofs.lemmas.List.{drop_all, drop_min, drop-drop, take-append-drop, drop-append-le, length-append}
@@ -7,10 +7,7 @@ use Rattle.std.proofs.Math.Seq.{drop-append-add}
 use Rattle.std.proofs.lemmas.List.Concat.{flat_map-append}
 use Rattle.std.proofs.lemmas.List.Sums.{sum_by-cons}
 use Rattle.lsm_codec.specs.Versions.{Version, AreOrdered}
-use Rattle.lsm_codec.specs.Indexes.{Edge}
 use Rattle.lsm_table.specs.Division.{Block, TableBlocks, entries_of}
-use Rattle.lsm_table.specs.BlockEdges.{edges_of}
-use Rattle.lsm_table.specs.Places.{stands_before}
 use Rattle.lsm_table.proofs.Orders.{front_pairs}
 use Rattle.lsm_levels.specs.Tables.{Table, versions_of}
 use Rattle.lsm_levels.specs.Asking.{sector_of}

@@ -21,14 +21,14 @@ IsInputOf levels (Merge level upper lower) input = input.runs ≡ versions_of up
 
 -- A job has its tables, and its outputs may take their place: the levels stay runs in the order of versions, and the other
 -- jobs keep theirs.
-pub record CanBeInstalled (levels : Levels) (next : ℕ) (slots : Slots) (slot : Slot) (outputs : List Table) : Type 0 where
+pub record CanBeInstalled (levels : Levels) (next job : ℕ) (slots : Slots) (slot : Slot) (outputs : List Table) : Type 0 where
   pub held : IsHeld levels slot.input.bottom slot.job
   pub are_outputs : AreOutputs slot.job outputs
   pub runs : AreRuns (installed levels slot.job outputs)
   pub ordered : AreOrdered (installed levels slot.job outputs)
-  pub kept : AreKept (installed levels slot.job outputs) next (with_held slot.number None slots)
+  pub kept : AreKept (installed levels slot.job outputs) next (with_held job None slots)
 
 -- Outputs that are made of a job's input may be installed.
 abbrev pub InstallLaw : Type 0
-InstallLaw = (levels : Levels) (next : ℕ) (slots : Slots) (slot : Slot) (outputs : List Table) → AreRuns levels → AreOrdered levels → AreKept levels next slots → slot_of slot.number slots ≡ Some slot
-    → IsInputOf levels slot.job slot.input → AreMadeOf slot.input outputs → CanBeInstalled levels next slots slot outputs
+InstallLaw = (levels : Levels) (next job : ℕ) (slots : Slots) (slot : Slot) (outputs : List Table) → AreRuns levels → AreOrdered levels → AreKept levels next slots → slot_of job slots ≡ Some slot
+    → IsInputOf levels slot.job slot.input → AreMadeOf slot.input outputs → CanBeInstalled levels next job slots slot outputs

@@ -1,5 +1,5 @@
 -- What an install puts in.
-use Rattle.std.specs.Prelude.{◌≡◌, ◌≤◌, ℕ, false, List, Option, Some, None, Contains}
+use Rattle.std.specs.Prelude.{◌≡◌, ◌≤◌, ℕ, false, List, Contains}
 use Rattle.lsm_codec.specs.Versions.{Version}
 use Rattle.lsm_extent.specs.Area.{Area}
 use Rattle.lsm_table.specs.Division.{TableBlocks, IsTables}
