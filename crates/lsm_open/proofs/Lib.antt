@@ -31,3 +31,7 @@ pub mod Writing
 pub mod TableTexts
 pub mod Taking
 pub mod OpenedImages
+pub mod BlockReads
+pub mod ToldRuns
+pub mod Claims
+pub mod RunCounts

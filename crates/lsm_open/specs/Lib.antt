@@ -12,3 +12,5 @@ pub mod Placements
 pub mod Replacing
 pub mod Switching
 pub mod Writing
+pub mod ToldTables
+pub mod OpeningTables

@@ -10,6 +10,7 @@ mod recovery;
 mod regions;
 mod reopened;
 mod replayed;
+mod tables;
 
 pub use formatting::format;
 pub use image_law::{
