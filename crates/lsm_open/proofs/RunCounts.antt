@@ -1,10 +1,12 @@
 -- Runs that are read one before the other, and how many tables they have.
 use Rattle.std.proofs.Common.{◌≡◌, ⊎_elim, ◌⊎◌, inl, inr, ℕ, zero, suc, ◌+◌, ◌-◌, ◌*◌, ◌<◌, ◌≤◌, ◌==◌, Bool, true, false, cond, leb, IsTrue, List, [], ◌∷◌, ◌++◌, length, drop, filter, Some, refl, sym, ap, subst, ◌∙◌, arith}
 use Rattle.std.specs.Prelude.{slice_set}
+use Rattle.std.specs.List.{HoldsAt}
 use Rattle.std.proofs.lemmas.Bool.{eq-eqb, ne_eqb, le-leb, lt-leb}
 use Rattle.std.proofs.lemmas.Grind.{drop-set_at}
 use Rattle.lsm_codec.proofs.Lists.{filter_step}
 use Rattle.lsm_codec.specs.Manifests.{Contents}
+use Rattle.lsm_codec.specs.TableRecords.{IsOfRun, HasRuns}
 use Rattle.lsm_codec.specs.declared.table_record.TableRecord.{TableRecord}
 use Rattle.lsm_device.specs.Disk.{Disk, seen}
 use Rattle.lsm_device.specs.History.{present}
@@ -12,7 +14,7 @@ use Rattle.lsm_device.specs.Medium.{Medium, Lasting, disk}
 use Rattle.lsm_device.specs.declared.refusal.Refusal.{Refusal}
 use Rattle.lsm_levels.specs.Asking.{OnlyReads}
 use Rattle.lsm_levels.specs.Tables.{Table}
-use Rattle.lsm_open.specs.ToldTables.{run_place, is_in_run, run_records, tables_from, told_run, IsRefusedFor, IsRunRead, AreRunsRead}
+use Rattle.lsm_open.specs.ToldTables.{run_place, is_in_run, run_records, tables_from, told_run, IsRefusedFor, AreNamedBy, IsRunRead, AreRunsRead}
 
 -- ---- a run that is read later is read as before
 
@@ -83,3 +85,40 @@ fewer_from m k zero = let same : k + 0 ≡ k = omega arith in omega (arith, ap (
 fewer_from m k (suc j) =
     let next : k + suc j ≡ suc (k + j) = omega arith in
     omega (arith, run_counted m (k + j) (k + suc j) next, fewer_from m k j)
+
+-- ---- which runs have tables
+
+pub named_length : (ts : List TableRecord) (xs : List Table) → AreNamedBy ts xs → length xs ≡ length ts
+named_length [] [] named = refl
+named_length [] (x ∷ xs) named = absurd named
+named_length (t ∷ ts) [] named = absurd named
+named_length (t ∷ ts) (x ∷ xs) named = ap suc (named_length ts xs named.1)
+
+in_its_run : (runs k : ℕ) (t : TableRecord) → IsOfRun k t → is_in_run runs k t ≡ true
+in_its_run runs k t is = eq-eqb (run_place runs t.run t.level) k (ap (run_place runs t.run) is.0 ∙ is.1)
+
+some_in_run : (runs k : ℕ) (ts : List TableRecord) (i : ℕ) → i < length ts → HoldsAt (IsOfRun k) ts i → 0 < length (filter (is_in_run runs k) ts)
+some_in_run runs k [] i lt is = absurd (omega (arith, lt))
+some_in_run runs k (t ∷ rest) zero lt is = let one = one_counted (is_in_run runs k) t rest true (in_its_run runs k t (is t)) in omega (arith, one)
+some_in_run runs k (t ∷ rest) (suc i) lt is =
+    let one = one_counted (is_in_run runs k) t rest (is_in_run runs k t) refl in
+    let more = some_in_run runs k rest i (omega (arith, lt)) is in
+    omega (arith, one, more)
+
+-- each run of level 0 that was read has a table
+pub some_read : (m : Contents) (k : ℕ) (r : List Table) → HasRuns m.runs m.tables → k < m.runs → AreNamedBy (run_records m k) r → 0 < length r
+some_read m k r has lt named =
+    let at = has.each k lt in
+    let some = some_in_run m.runs k m.tables at.0 at.1 at.2 in
+    omega (arith, named_length (run_records m k) r named, some)
+
+few_counted : {X : Type 0} (p : X → Bool) (xs : List X) → length (filter p xs) ≤ length xs
+few_counted p [] = omega arith
+few_counted p (x ∷ xs) = by (p x) (one_counted p x xs (p x) refl) (few_counted p xs)
+  where
+    by : (b : Bool) → length (filter p (x ∷ xs)) ≡ cond b 1 0 + length (filter p xs) → length (filter p xs) ≤ length xs → length (filter p (x ∷ xs)) ≤ suc (length xs)
+    by true one few = omega (arith, one, few)
+    by false one few = omega (arith, one, few)
+
+pub few_tables : (m : Contents) (k : ℕ) → tables_from m k ≤ length m.tables
+few_tables m k = few_counted (λ t. leb k (run_place m.runs t.run t.level)) m.tables

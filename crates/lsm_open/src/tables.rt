@@ -240,6 +240,34 @@ fn read_deeper<A: Allocator + Clone, D: Device>(
     Ok(levels)
 }
 
+// Opens the tables of the runs of level 0, the oldest first.
+fn read_newer<A: Allocator + Clone, D: Device>(
+    alloc: &A,
+    device: &mut D,
+    log_sectors: u16,
+    manifest: &Manifest<A>,
+    levels: &mut Levels<A>,
+) -> Result<(), Refusal>
+    requires log_high { log_sectors ≤ 2048 }
+    requires readable { All (IsReadable log_sectors (D.medium device.old).size) manifest.now.tables }
+    requires has { HasRuns manifest.now.runs manifest.now.tables }
+    requires none { levels.old.runs ≡ [] }
+    requires deeper { AreRunsRead log_sectors (D.medium device.old).lasting.tells (seen (disk (D.medium device.old))) manifest.now manifest.now.runs levels.old.deeper }
+    ensures runs { OnOk result (length levels.new.runs ≡ manifest.now.runs) }
+    ensures same { levels.new.deeper ≡ levels.old.deeper }
+    ensures read { OnOk result (AreRunsRead log_sectors (D.medium device.old).lasting.tells (seen (disk (D.medium device.old))) manifest.now 0 (places levels.new)) }
+    ensures none { IsTrue (D.medium device.old).lasting.tells → IfErr result (IsRefusedFor (told_levels log_sectors (seen (disk (D.medium device.old))) manifest.now)) }
+    ensures refused { IfErr result IsTableRefusal }
+    ensures device { (reads : ℕ) × (reads + tables_from manifest.now manifest.now.runs ≤ length manifest.now.tables) × ReadsBlocks (7 * reads) (faultless result) (D.medium device.old) (D.medium device.new) }
+{
+    let runs = manifest.runs() as usize;
+    for done in 0..runs {
+        let run = read_run(alloc, device, log_sectors, manifest, runs - 1 - done)?;
+        levels.add_run(run)?;
+    }
+    Ok(())
+}
+
 // Hands out the extents of tables.
 fn claim_extents<A: Allocator>(
     extents: &mut Extents<A>,
