@@ -22,7 +22,7 @@ impl Subject {
     fn new(alloc: Global, blocks: u32) -> Result<Subject, Refusal> {
         Ok(Subject {
             alloc,
-            slots: flushing(alloc, 0x61)?,
+            slots: flushing(&alloc, 0x61)?,
             extents: Extents::new(alloc, blocks),
         })
     }
@@ -46,8 +46,8 @@ impl Subject {
 fn a_result_is_accepted_for_its_own_job_once(rt: HostRuntime) -> Result<(), Fail> {
     let alloc = rt.alloc();
     let mut subject = Subject::new(alloc, 16)?;
-    let own = built(&rt, alloc, &subject.slots)?;
-    let other = built(&rt, alloc, &flushing(alloc, 0x62)?)?;
+    let own = built(&rt, alloc, &subject.slots, 1)?;
+    let other = built(&rt, alloc, &flushing(&alloc, 0x62)?, 1)?;
     assert!(rt;
         subject.refuses(2, &own, Refusal::NoSuchJob)
             && subject.refuses(1, &other, Refusal::ForeignResult)
@@ -65,7 +65,7 @@ fn a_result_is_accepted_for_its_own_job_once(rt: HostRuntime) -> Result<(), Fail
 fn a_result_that_finds_no_room_takes_none(rt: HostRuntime) -> Result<(), Fail> {
     let alloc = rt.alloc();
     let mut subject = Subject::new(alloc, 3)?;
-    let own = built(&rt, alloc, &subject.slots)?;
+    let own = built(&rt, alloc, &subject.slots, 1)?;
     assert!(rt; subject.refuses(1, &own, Refusal::NoSpace) && subject.extents.free_blocks() == 3);
     Ok(())
 }

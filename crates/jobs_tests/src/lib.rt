@@ -4,10 +4,18 @@
 #[cfg(test)]
 mod accepting;
 #[cfg(test)]
+mod dropping;
+#[cfg(test)]
+mod growth;
+#[cfg(test)]
+mod merging;
+#[cfg(test)]
 mod reading;
 #[cfg(test)]
 mod subject;
 #[cfg(test)]
 mod taking;
+#[cfg(test)]
+mod two_jobs;
 #[cfg(test)]
 mod writing;

@@ -39,8 +39,8 @@ fn is_whole(slots: &Slots) -> bool {
 #[test]
 fn a_flush_is_written_and_ends(rt: HostRuntime) -> Result<(), Fail> {
     let alloc = rt.alloc();
-    let slots = flushing(alloc, 0x61)?;
-    let made = built(&rt, alloc, &slots)?;
+    let slots = flushing(&alloc, 0x61)?;
+    let made = built(&rt, alloc, &slots, 1)?;
     let mut slots = accepted(alloc, slots, &made)?;
     let mut device = MemDevice::new(alloc, 40)?;
     assert!(rt; !is_whole(&slots) && write(&mut slots, &mut device)? == 0 && device.writes() == 32);
