@@ -56,7 +56,7 @@ asks_denied b rest refusal old new io d = record {
 -- ---- fresh caches
 
 module _ (place : BlockName → Option ℕ) (sectors : List (List ℕ)) where
-  shows_read : (old new : Source) → OnlyReads old.medium new.medium → IsFresh place sectors new.cache → Shows place sectors old → Shows place sectors new
+  pub shows_read : (old new : Source) → OnlyReads old.medium new.medium → IsFresh place sectors new.cache → Shows place sectors old → Shows place sectors new
   shows_read old new reads fresh st = record {
     tells = ap (λ l. l.tells) reads.same_lasting ∙ st.tells;
     holds = ap (λ h. seen (present h)) (reads.unchanged st.tells) ∙ st.holds;

@@ -34,3 +34,9 @@ pub mod CursorStored
 pub mod CursorGives
 pub mod MemoryCursors
 pub mod QueueLaws
+pub mod EntriesFew
+pub mod RunOrders
+pub mod ScanAsking
+pub mod ScanLaws
+pub mod ScanSources
+pub mod ScanViews

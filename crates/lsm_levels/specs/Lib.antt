@@ -16,3 +16,4 @@ pub mod Sources
 pub mod Passing
 pub mod SourceCursors
 pub mod Queues
+pub mod Scans

@@ -1,6 +1,6 @@
 //! A cursor over a run.
 
-ghost use Rattle.std.specs.Prelude.{◌≡◌, ◌⊎◌, ◌+◌, ◌≤◌, [], false, drop, option_map, IfOk, IfErr};
+ghost use Rattle.std.specs.Prelude.{◌≡◌, ◌⊎◌, ◌+◌, ◌≤◌, [], false, drop, option_map, length, IfOk, IfErr, OnOk};
 ghost use Rattle.std.specs.List.{AllByRecursion};
 ghost use Rattle.lsm_device.specs.declared.refusal.Refusal.TheVariants.{BadTable};
 ghost use Rattle.lsm_codec.specs.References.{shown};
@@ -14,7 +14,7 @@ use crate::run::Run;
 use lsm_cache::Cache;
 use lsm_codec::VersionRef;
 use lsm_device::{Device, Refusal};
-use lsm_table::EntryPlace;
+use lsm_table::{Entries, EntryPlace};
 use std::alloc::{AllocError, Allocator, Global};
 use std::marker::Model;
 
@@ -41,6 +41,14 @@ fn sought_place(block: &[u8; 4_096], place: EntryPlace, from: &[u8]) -> EntryPla
         at = at.next(block);
     }
     EntryPlace::bad(block)
+}
+
+/// The entries of a block from a place on: no more than it has bytes, and one item more where bytes behind them are none.
+fn entries_at<'b>(place: &EntryPlace, block: &'b [u8; 4_096]) -> Entries<'b>
+    ensures entries { result ≡ items_at place.now block.now }
+    ensures few { length (items_at place.now block.now) ≤ 4097 }
+{
+    place.entries(block)
 }
 
 /// A cursor over a run, which stands at a version, or behind all of them. It keeps the bytes of one block, and lends the
@@ -96,8 +104,9 @@ impl<'a, A: Allocator> RunCursor<'a, A> {
     fn test(&self) -> Result<(), Refusal>
         ensures first { refusal_of result ≡ first_refusal self.now.items }
         ensures bad { IfErr result (λ refusal. refusal ≡ BadTable) }
+        ensures few { length self.now.items ≤ 4097 }
     {
-        match self.place.entries(&self.bytes).next() {
+        match entries_at(&self.place, &self.bytes).next() {
             Some(Err(refusal)) => Err(refusal),
             Some(Ok(_)) | None => Ok(()),
         }
@@ -165,6 +174,7 @@ impl<'a, A: Allocator> RunCursor<'a, A> {
         ensures goes_on { GoesOn (drop 1 self.old.items) self.old.blocks self.new (refusal_of result)
             (record { cache = cache.old; medium = D.medium device.old }) (record { cache = cache.new; medium = D.medium device.new }) }
         ensures fair { IfErr result (λ refusal. (refusal ≡ BadTable) ⊎ (has_item (drop 1 self.old.items) ≡ false)) }
+        ensures few { OnOk result (length self.new.items ≤ 4097) }
     {
         self.pass();
         if self.has_item() {
@@ -194,6 +204,9 @@ impl<'a, A: Allocator> RunCursor<'a, A> {
         ensures asks { AsksOnce self.old.blocks (refusal_of result)
             (record { cache = cache.old; medium = D.medium device.old }) (record { cache = cache.new; medium = D.medium device.new }) }
         ensures within { AllByRecursion (EndsWithin (D.medium device.new).size) self.new.blocks }
+
+        // A block has no more entries than bytes, and one item more where bytes behind them are none.
+        ensures few { OnOk result (length self.new.items ≤ 4097) }
     {
         self.step(cache, device)?;
         Ok(())

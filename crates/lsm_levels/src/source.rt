@@ -1,6 +1,6 @@
 //! A cursor over versions of one place: of a memory table or of a run.
 
-ghost use Rattle.std.specs.Prelude.{◌≡◌, Ok, [], drop, map, option_map};
+ghost use Rattle.std.specs.Prelude.{◌≡◌, ◌≤◌, ◌+◌, Ok, [], drop, length, map, option_map, OnOk};
 ghost use Rattle.std.specs.List.{AllByRecursion};
 ghost use Rattle.lsm_codec.specs.References.{shown};
 ghost use Rattle.lsm_levels.specs.Cursors.{AsksOnce, EndsWithin, GoesOn, present, refusal_of};
@@ -84,6 +84,7 @@ impl<'a, A: Allocator> SourceCursor<'a, A> {
         ensures asks { AsksOnce self.old.blocks (refusal_of result)
             (record { cache = cache.old; medium = D.medium device.old }) (record { cache = cache.new; medium = D.medium device.new }) }
         ensures within { AllByRecursion (EndsWithin (D.medium device.new).size) self.new.blocks }
+        ensures few { OnOk result (length self.new.items ≤ length self.old.items + 4097) }
     {
         match &mut self.place {
             Place::Memory(cursor) => {

@@ -1,6 +1,7 @@
 //! What is read of a store.
 
-ghost use Rattle.std.specs.Prelude.{◌≡◌, ◌⊎◌, ◌↔◌, ◌*◌, ℕ, length, Option, IsTrue, IfErr, MatchResult, option_map};
+ghost use Rattle.std.specs.Prelude.{◌≡◌, ◌⊎◌, ◌↔◌, ◌*◌, ℕ, [], length, map, Option, Some, None, IsTrue, IfOk, IfErr, OnOk, MatchResult, option_map};
+ghost use Rattle.std.specs.List.{AllByRecursion};
 ghost use Rattle.std.specs.Option.{option_or};
 ghost use Rattle.std.specs.FinMap as finite;
 ghost use Rattle.lsm_device.specs.declared.refusal.Refusal.TheVariants.{Io, BadTable, NoMemory};
@@ -9,25 +10,36 @@ ghost use Rattle.lsm_device.specs.Disk.{seen};
 ghost use Rattle.lsm_device.specs.Medium.{disk};
 ghost use Rattle.lsm_device.specs.Refusals.{faultless};
 ghost use Rattle.lsm_codec.specs.References.{shown};
-ghost use Rattle.lsm_codec.specs.Versions.{newest};
+ghost use Rattle.lsm_codec.specs.Versions.{AreOrdered, newest};
 ghost use Rattle.lsm_mem.specs.Versions.{map_of};
+ghost use Rattle.lsm_mem.specs.Ranges.{from_key, newest_each};
+ghost use Rattle.lsm_mem.specs.Paging.{page_of};
+ghost use Rattle.lsm_mem.specs.Gathering.{gathering};
+ghost use Rattle.lsm_codec.specs.Keys.{Bytes};
 ghost use Rattle.lsm_merge.specs.Inputs.{joined};
 ghost use Rattle.lsm_cache.specs.declared.name.BlockName.{BlockName as Name};
 ghost use Rattle.lsm_cache.specs.Fresh.{IsFresh, IsNumberedBelow};
 ghost use Rattle.lsm_levels.specs.Levels.{places};
 ghost use Rattle.lsm_levels.specs.Orders.{IsVersionOrder};
 ghost use Rattle.lsm_levels.specs.Stored.{AreWithin, AreNumberedBelow, ArePlaced, IsReadable};
+ghost use Rattle.lsm_levels.specs.Cursors.{refusal_of};
+ghost use Rattle.lsm_levels.specs.Scans.{AreReady, AsksOn, AsksSome, ComesTo, ScansRuns, blocks_of_runs, blocks_to_come, memory_places};
+ghost use Rattle.lsm_levels.specs.SourceCursors.{cursor_of_versions};
 ghost use Rattle.lsm_levels.specs.Lookups.{IsLookUp, answer_of, sealed_versions, versions_at};
 
 use crate::found::Found;
 use crate::levels::Levels;
 use crate::lookup::{Query, find_in_levels};
+use crate::queue::Queue;
+use crate::scan::gather;
+use crate::source::SourceCursor;
+use crate::sources::seek_runs;
 use crate::within::are_within;
 use lsm_cache::Cache;
 use lsm_codec::VersionRef;
 use lsm_device::{Device, Refusal};
-use lsm_mem::{Mem, Sealed};
-use std::alloc::{Allocator, Global};
+use lsm_mem::{Mem, Page, PageBuilder, Sealed};
+use std::alloc::{AllocError, Allocator, Global};
 
 /// What is read of a store: its memory, its sealed memory where there is one, and its levels, each newer than the next. The
 /// blocks of tables, eight sectors each, are counted from the sector `area` on.
@@ -116,5 +128,114 @@ impl<'a, A: Allocator + Clone> ReadView<'a, A> {
         };
         let found = find_in_levels(self.levels, query, alloc, cache, device)?;
         Ok(found.into_value())
+    }
+
+    /// Puts the sources of memory and of sealed memory in front of others.
+    fn memory_sources(
+        &self,
+        sources: &mut Vec<SourceCursor<'a, A>, A>,
+        from: &[u8],
+        at: u64,
+    ) -> Result<(), AllocError>
+        requires { sources.old.items ≡ [] }
+        ensures left { OnOk result (sources.new.items ≡ map (λ place. cursor_of_versions (from_key from.now (newest_each at place))) (memory_places self.now.mem.now self.now.sealed)) }
+        ensures ordered { OnOk result (AllByRecursion AreOrdered (memory_places self.now.mem.now self.now.sealed)) }
+    {
+        let _versions = self.mem.versions();
+        sources.push(SourceCursor::of_range(self.mem.range(from, at)?))?;
+        if let Some(sealed) = self.sealed {
+            let _versions = sealed.versions();
+            sources.push(SourceCursor::of_range(sealed.range(from, at)?))?;
+        }
+        Ok(())
+    }
+
+    /// The sources of memory and of sealed memory, with room for those of the runs.
+    fn memory(
+        &self,
+        alloc: &A,
+        from: &[u8],
+        at: u64,
+    ) -> Result<Vec<SourceCursor<'a, A>, A>, AllocError>
+        ensures left { IfOk result (λ sources. sources.items ≡ map (λ place. cursor_of_versions (from_key from.now (newest_each at place))) (memory_places self.now.mem.now self.now.sealed)) }
+        ensures ordered { IfOk result (λ sources. AllByRecursion AreOrdered (memory_places self.now.mem.now self.now.sealed)) }
+    {
+        let count = self.levels.runs().len().saturating_add(6);
+        let mut sources = Vec::with_capacity(alloc.clone()?, count)?;
+        self.memory_sources(&mut sources, from, at)?;
+        Ok(sources)
+    }
+
+    /// The sources of a scan, the newer first: memory, sealed memory, and each run.
+    fn sources<D: Device>(
+        &self,
+        alloc: &A,
+        cache: &mut Cache<A>,
+        device: &mut D,
+        from: &[u8],
+        at: u64,
+    ) -> Result<Vec<SourceCursor<'a, A>, A>, Refusal>
+        requires { AreWithin (D.medium device.old).size self.now.area (places self.now.levels.now) }
+        ensures asks { MatchResult result
+            (λ sources. AsksOn (blocks_of_runs self.now.area from.now (places self.now.levels.now)) (blocks_to_come sources.items) None
+            (record { cache = cache.old; medium = D.medium device.old }) (record { cache = cache.new; medium = D.medium device.new }))
+            (λ refusal. AsksSome (blocks_of_runs self.now.area from.now (places self.now.levels.now)) (Some refusal)
+            (record { cache = cache.old; medium = D.medium device.old }) (record { cache = cache.new; medium = D.medium device.new })) }
+        ensures comes { (place : Name → Option ℕ) → IsReadable place self.now.area (places self.now.levels.now) (record { cache = cache.old; medium = D.medium device.old })
+            → IsVersionOrder (versions_at self.now.mem.now (sealed_versions self.now.sealed) (places self.now.levels.now))
+            → MatchResult result (λ sources. (to : Option Bytes) (limit : ℕ)
+            → ComesTo place (seen (disk (D.medium device.old)))
+            (page_of (map_of (joined (versions_at self.now.mem.now (sealed_versions self.now.sealed) (places self.now.levels.now))) at) from.now to limit)
+            (gathering at to limit) sources.items (record { cache = cache.new; medium = D.medium device.new }))
+            (λ refusal. (refusal ≡ Io) ⊎ (refusal ≡ NoMemory)) }
+        ensures ready { IfOk result (λ sources. AreReady (D.medium device.new).size sources.items) }
+        ensures refused { IfErr result (λ refusal. (refusal ≡ Io) ⊎ ((refusal ≡ BadTable) ⊎ (refusal ≡ NoMemory))) }
+    {
+        let runs = self.levels.runs();
+        let mut sources = self.memory(alloc, from, at)?;
+        seek_runs(&mut sources, runs, alloc, self.area, from, cache, device)?;
+        let older = self.levels.deeper();
+        seek_runs(&mut sources, older, alloc, self.area, from, cache, device)?;
+        Ok(sources)
+    }
+
+    /// The first `limit` pairs of the map at a count of batches from the key `from` on, up to the key `to` where one is given,
+    /// and the key of the next. Memory, sealed memory and the runs of the levels are read together in the order of keys, each
+    /// from `from` on. Blocks of a run are asked for in turn, each once at most, from the first on that doesn't end before
+    /// `from`. Only the pairs are copied. The time for a version grows with the logarithm of the runs.
+    ///
+    /// It is refused with `Io` for a read that faulted, its last; with `BadTable` where bytes of a block are no entry; and with
+    /// `NoMemory`.
+    pub fn scan<D: Device>(
+        &self,
+        alloc: &A,
+        cache: &mut Cache<A>,
+        device: &mut D,
+        range: (&[u8], Option<&[u8]>),
+        at: u64,
+        limit: u64,
+    ) -> Result<Page<A>, Refusal>
+        requires { AreWithin (D.medium device.old).size self.now.area (places self.now.levels.now) }
+
+        // Which blocks are asked for, and what it comes to: reads alone, eight sectors a block at most.
+        ensures asks { ScansRuns self.now.area range.entry.0.now (places self.now.levels.now) (refusal_of result)
+            (record { cache = cache.old; medium = D.medium device.old }) (record { cache = cache.new; medium = D.medium device.new }) }
+
+        // Where the tables stand, and the blocks of the cache are those of the device, the page is that of the map, unless a
+        // read faults or memory is refused.
+        ensures answers { (place : Name → Option ℕ) → IsReadable place self.now.area (places self.now.levels.now) (record { cache = cache.old; medium = D.medium device.old })
+            → IsVersionOrder (versions_at self.now.mem.now (sealed_versions self.now.sealed) (places self.now.levels.now))
+            → MatchResult result (λ page. page
+            ≡ page_of (map_of (joined (versions_at self.now.mem.now (sealed_versions self.now.sealed) (places self.now.levels.now))) at) range.entry.0.now (option_map (λ to. to.now) range.entry.1) limit)
+            (λ refusal. (refusal ≡ Io) ⊎ (refusal ≡ NoMemory)) }
+        ensures refused { IfErr result (λ refusal. (refusal ≡ Io) ⊎ ((refusal ≡ BadTable) ⊎ (refusal ≡ NoMemory))) }
+    {
+        let (from, to) = range;
+        let mut builder = PageBuilder::new(alloc, to, at, limit)?;
+        let own = alloc.clone()?;
+        let mut sources = self.sources(alloc, cache, device, from, at)?;
+        let mut queue = Queue::of(own, &sources)?;
+        gather(&mut sources, &mut queue, &mut builder, alloc, cache, device)?;
+        Ok(builder.into_page())
     }
 }
