@@ -19,6 +19,8 @@ mod lookup_growth;
 #[cfg(test)]
 mod opens;
 #[cfg(test)]
+mod pages;
+#[cfg(test)]
 mod picks;
 #[cfg(test)]
 mod places;

@@ -11,7 +11,7 @@ use lsm_cache::Cache;
 use lsm_codec::{Batch, Entry};
 use lsm_device::{Device, MemDevice, Refusal};
 use lsm_levels::{Levels, PlacedTable, ReadView, Run};
-use lsm_mem::{Mem, Sealed};
+use lsm_mem::{Mem, Page, Sealed};
 use lsm_table::Image;
 use std::alloc::{Allocator, Global};
 use std::process::Abort;
@@ -110,6 +110,22 @@ fn find_in<A: Allocator + Clone>(
     view.find(alloc, cache, device, key, at)
 }
 
+/// A page of the keys of a range at a count of batches, where the tables lie within the device.
+fn scan_in<A: Allocator + Clone>(
+    view: &ReadView<'_, A>,
+    alloc: &A,
+    cache: &mut Cache<A>,
+    device: &mut MemDevice,
+    range: (&[u8], Option<&[u8]>),
+    at: u64,
+    limit: u64,
+) -> Result<Page<A>, Refusal> {
+    if !view.is_within(device.sectors()) {
+        return Err(Refusal::BadGeometry);
+    }
+    view.scan(alloc, cache, device, range, at, limit)
+}
+
 /// Memory, levels whose tables stand on a device, and a cache. Its calls tell the prover nothing, so that it has nothing to
 /// carry from one line of a test to the next.
 #[derive(Drop)]
@@ -196,6 +212,25 @@ impl<A: Allocator + Clone> Subject<A> {
             &mut self.device,
             key,
             at,
+        )
+    }
+
+    /// The first so many pairs of a range at a count of batches.
+    pub fn scan(
+        &mut self,
+        range: (&[u8], Option<&[u8]>),
+        at: u64,
+        limit: u64,
+    ) -> Result<Page<A>, Refusal> {
+        let view = view_of(&self.mem, self.sealed.as_deref(), &self.levels);
+        scan_in(
+            &view,
+            &self.alloc,
+            &mut self.cache,
+            &mut self.device,
+            range,
+            at,
+            limit,
         )
     }
 
