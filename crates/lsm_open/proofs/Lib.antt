@@ -35,3 +35,9 @@ pub mod BlockReads
 pub mod ToldRuns
 pub mod Claims
 pub mod RunCounts
+pub mod LevelsTold
+pub mod ReadLevels
+pub mod NamedRecords
+pub mod StandingTables
+pub mod StandingRuns
+pub mod StandingLevels

@@ -285,3 +285,63 @@ fn claim_extents<A: Allocator>(
     }
     Ok(())
 }
+
+/// What an opening makes of the tables that a manifest names: the levels that they stand in, and the blocks that they
+/// occupy.
+#[derive(Drop)]
+pub(crate) struct TablesRead<A: Allocator> {
+    pub(crate) levels: Levels<A>,
+    pub(crate) extents: Extents<A>,
+}
+
+/// Opens the tables that a manifest names: of each footer, index and filter are read, and no data block. Their extents are
+/// handed out.
+///
+/// It is refused with `BadTable` where these are not those of the table that the record names, or where tables of a run are
+/// out of order; with `NoMemory`; and with `Io` where a read failed, which was its last. It writes nothing, and reads at most
+/// 56 sectors a table.
+pub(crate) fn read_tables<A: Allocator + Clone, D: Device>(
+    alloc: &A,
+    device: &mut D,
+    log_sectors: u16,
+    manifest: &Manifest<A>,
+) -> Result<TablesRead<A>, Refusal>
+    requires geometry { IsGeometry (D.medium device.old).size log_sectors }
+    requires fits { IsManifest manifest.now }
+    requires inside { LieInside (D.medium device.old).size log_sectors manifest.now.tables }
+
+    // Of any sectors: Ok exactly where each table is told and each run is one, with just these levels; BadTable exactly where
+    // not.
+    ensures told { IsTrue (D.medium device.old).lasting.tells → MatchResult result
+        (λ t. told_levels log_sectors (seen (disk (D.medium device.old))) manifest.now ≡ Some t.levels)
+        (IsRefusedFor (told_levels log_sectors (seen (disk (D.medium device.old))) manifest.now)) }
+
+    // Whatever the device holds, and whether it tells so or not, levels have just the tables that the manifest names, these
+    // lie within the device, and their extents are handed out alone.
+    ensures named { IfOk result (λ t. HaveNamed manifest.now t.levels) }
+    ensures within { IfOk result (λ t. AreWithin (D.medium device.old).size (first_data log_sectors) (places t.levels)) }
+    ensures numbered { IfOk result (λ t. AreNumberedBelow manifest.now.next_table (places t.levels)) }
+    ensures extents { IfOk result (λ t. Held (data_blocks_of (D.medium device.old).size log_sectors) manifest.now.tables t.extents) }
+
+    // Tables that stand are not refused so, and they stand in the levels, in the order of versions.
+    ensures stored { IsTrue (D.medium device.old).lasting.tells → AreTables log_sectors manifest.now.base manifest.now.tables (seen (disk (D.medium device.old)))
+        → MatchResult result
+        (λ t. AreThose log_sectors manifest.now.base (seen (disk (D.medium device.old))) manifest.now.tables t.levels)
+        (λ e. (e ≡ Refusal.NoMemory) ⊎ (e ≡ Refusal.Io)) }
+    ensures refused { IfErr result IsTableRefusal }
+
+    // The device is read alone, and is refused with Io only for a read that faulted, its last.
+    ensures unchanged { IsTrue (D.medium device.old).lasting.tells → (D.medium device.new).history ≡ (D.medium device.old).history }
+    ensures calls { AtMost (56 * length manifest.now.tables) 0 0 (D.medium device.old).calls (D.medium device.new).calls }
+    ensures faults { (D.medium device.new).calls.faults ≡ faults_after (faultless result) (D.medium device.old).calls.faults }
+    ensures stops { IfErr result (λ refusal. refusal ≡ Refusal.Io → IsTrue (D.medium device.new).calls.last_faulted) }
+    ensures same_size { (D.medium device.new).size ≡ (D.medium device.old).size }
+    ensures same_lasting { (D.medium device.new).lasting ≡ (D.medium device.old).lasting }
+{
+    let blocks = data_blocks(device.sectors(), log_sectors);
+    let mut extents = Extents::new(alloc.clone()?, blocks);
+    claim_extents(&mut extents, manifest.tables())?;
+    let mut levels = read_deeper(alloc, device, log_sectors, manifest)?;
+    read_newer(alloc, device, log_sectors, manifest, &mut levels)?;
+    Ok(TablesRead { levels, extents })
+}

@@ -1,8 +1,8 @@
-use Rattle.std.proofs.Common.{◌≡◌, ◌≤◌, ◌+◌, ◌||◌, ℕ, List, Bool, take, length, get_or, take_all, All, Contains, sym, ap, subst, ◌∙◌, arith}
+use Rattle.std.proofs.Common.{◌≡◌, ◌≤◌, ◌+◌, ◌||◌, List, Bool, take, get_or, take_all, All, Contains, sym, ap, subst, ◌∙◌, arith}
 use Rattle.std.specs.List.{list_any}
 use Rattle.std.proofs.lemmas.List.Elements.{All-get_or, All-more, All-weaker}
 use Rattle.std.proofs.lemmas.List.Folds.{list_any_more}
-use Rattle.lsm_codec.specs.TableRecords.{AreApart, extent_end, extent_blocks}
+use Rattle.lsm_codec.specs.TableRecords.{extent_end}
 use Rattle.lsm_codec.specs.declared.table_record.TableRecord.{TableRecord}
 use Rattle.lsm_extent.specs.Area.{Area, covers, is_held, handed_out}
 use Rattle.lsm_extent.specs.declared.extent.Extent.{Extent}

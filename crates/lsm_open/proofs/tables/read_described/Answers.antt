@@ -1,4 +1,4 @@
-use Rattle.std.proofs.Common.{◌≡◌, ◌+◌, ◌*◌, ℕ, List, Bool, true, IsTrue, sym, ap, subst, ◌∙◌, arith}
+use Rattle.std.proofs.Common.{◌≡◌, ◌+◌, ◌*◌, ℕ, List, true, IsTrue, sym, ap, subst, ◌∙◌, arith}
 use Rattle.std.specs.List.{flat_map}
 use Rattle.std.proofs.lemmas.Result.{err_from_is_err_and}
 use Rattle.lsm_cache.specs.Reads.{block_at}
@@ -7,7 +7,6 @@ use Rattle.lsm_device.specs.History.{present}
 use Rattle.lsm_device.specs.Medium.{Lasting, disk}
 use Rattle.lsm_device.specs.Refusals.{faultless}
 use Rattle.lsm_levels.specs.Stored.{blocks_from}
-use Rattle.lsm_open.specs.Tables.{extent_start}
 use Rattle.lsm_open.specs.ToldTables.{ReadsBlocks}
 use Rattle.lsm_open.proofs.BlockReads.{reads_then, outline_is}
 use Rattle.lsm_table.specs.Outlines.{outline_of}

@@ -1,4 +1,4 @@
-use Rattle.std.proofs.Common.{◌≡◌, ◌+◌, ◌*◌, ◌++◌, IsTrue, true, List, take, drop, Some, All, ap}
+use Rattle.std.proofs.Common.{◌≡◌, ◌*◌, ◌++◌, IsTrue, true, List, take, drop, Some}
 use Rattle.lsm_codec.specs.Reading.{◌>>=◌}
 use Rattle.lsm_device.specs.Disk.{seen}
 use Rattle.lsm_device.specs.Medium.{disk}

@@ -1,7 +1,6 @@
-use Rattle.std.proofs.Common.{◌≡◌, ℕ, List, Bool, true, IsTrue, Some, Option, sym, ap, subst, ◌∙◌}
+use Rattle.std.proofs.Common.{ℕ, List, Some, Option, sym, ap, subst, ◌∙◌}
 use Rattle.std.specs.Prelude.{option_map}
 use Rattle.std.proofs.lemmas.Result.{err_from_is_err_and}
-use Rattle.lsm_device.specs.declared.refusal.Refusal.{Refusal}
 use Rattle.lsm_levels.specs.Tables.{Table, table_at}
 use Rattle.lsm_open.specs.ToldTables.{IsRefusedFor, IsNamedBy}
 use Rattle.lsm_open.proofs.ToldRuns.{named_by, not_opened}

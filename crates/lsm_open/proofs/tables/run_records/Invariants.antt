@@ -1,4 +1,4 @@
-use Rattle.std.proofs.Common.{◌≡◌, ◌++◌, take, filter}
+use Rattle.std.proofs.Common.{◌≡◌, take, filter}
 use Rattle.lsm_open.specs.ToldTables.{is_in_run}
 use Rattle.lsm_open.proofs.tables.run_records.Given as goal
 
