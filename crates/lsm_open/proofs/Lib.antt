@@ -41,3 +41,7 @@ pub mod NamedRecords
 pub mod StandingTables
 pub mod StandingRuns
 pub mod StandingLevels
+pub mod ReadPlaces
+pub mod TableOpenings
+pub mod TableReads
+pub mod TableMoments

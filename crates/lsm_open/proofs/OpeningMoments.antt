@@ -26,7 +26,8 @@ use Rattle.lsm_open.specs.LogRegions.{first_region, all_batches}
 use Rattle.lsm_open.specs.Layout.{Layout, manifest_for}
 use Rattle.lsm_open.specs.Opening.{root_refusal, opening_refusal, CrashesInOpening, FailsToOpen}
 use Rattle.lsm_open.specs.Recovered.{IsReopened, IsRecovered}
-use Rattle.lsm_open.specs.Reopening.{kept_records, next_contents, IsNewLog, IsNewIfOpen, IsNextLayout, HasCome, GoesOn}
+use Rattle.lsm_open.specs.Switching.{IsInLeastFree}
+use Rattle.lsm_open.specs.Reopening.{kept_records, least_free, next_contents, IsNewLog, IsNewIfOpen, IsNextLayout, HasCome, GoesOn}
 use Rattle.lsm_open.specs.declared.regions.OpenRegion.{OpenRegion}
 use Rattle.lsm_open.specs.declared.replayed.Replayed.{Replayed}
 use Rattle.lsm_open.proofs.NextImages.{least_low}
@@ -51,6 +52,10 @@ pub installs : (n count : ℕ) (m manifest : Contents) (closed : List LogRecord)
 installs n count m manifest closed runs tables l is same_runs same_tables next kept =
     is ∙ ap (λ (k : ℕ). contents_for (record { logs = l; runs = k; tables = tables })) same_runs ∙ ap (λ (ts : List TableRecord). contents_for (record { logs = l; runs = m.runs; tables = ts })) same_tables
     ∙ layout_says n m count l next ∙ ap (λ (logs : List LogRecord). next_contents m logs count) kept
+
+-- its new log is open in the least free region
+pub least_kept : (n count : ℕ) (m : Contents) (closed : List LogRecord) (l : Layout) → IsNextLayout n m count l → l.closed ≡ closed → IsInLeastFree n (m.generation + 1) count closed l.open_region
+least_kept n count m closed l next same = record { least = next.least ∙ ap least_free same; new_log = next.new_log }
 
 -- ---- the regions lie inside each device of a fair size
 
@@ -158,7 +163,7 @@ module _ {A : Type 0} (k : ℕ) (m : Contents) (replayed : Replayed A) (s : Sect
 
 -- ---- within the limits, whatever the device holds
 
-module _ (size k : ℕ) (m : Contents) (count : ℕ) (l : Layout) (geometry : IsGeometry size k) (fits : IsManifest m) (plain : m.tables ≡ []) (has_next : m.generation ≢ last_number) (come : HasCome m count l.closed []) (next : IsNextLayout k m count l) where
+module _ (size k : ℕ) (m : Contents) (count : ℕ) (l : Layout) (geometry : IsGeometry size k) (fits : IsManifest m) (has_next : m.generation ≢ last_number) (come : HasCome m count l.closed []) (next : IsNextLayout k m count l) where
   log_high_here : l.log_sectors ≤ 2048
   log_high_here = omega (arith, next.log_size, geometry.log_high)
 
@@ -168,37 +173,37 @@ module _ (size k : ℕ) (m : Contents) (count : ℕ) (l : Layout) (geometry : Is
   inside_here : first_region + 3 * l.log_sectors ≤ size
   inside_here = omega (arith, log_high_here, geometry.device.low)
 
-  fits_here : IsManifest (manifest_for l)
-  fits_here = subst IsManifest (sym (plain_says k m count l next fits plain)) (next_fits m count l.closed fits come has_next)
+  next_here : IsManifest (next_contents m l.closed count)
+  next_here = next_fits m count l.closed fits come has_next
 
-  opened_here : (o : Option OpenRegion) → l.open_region ≡ o → IsNewIfOpen k (m.generation + 1) count o → IsInsideIfOpen size l.log_sectors l.generation count o
-  opened_here None is new = tt
-  opened_here (Some o) is new =
+  pub opened_in : (o : Option OpenRegion) → l.open_region ≡ o → IsNewIfOpen k (m.generation + 1) count o → IsInsideIfOpen size l.log_sectors l.generation count o
+  opened_in None is new = tt
+  opened_in (Some o) is new =
       let low : o.region ≤ 2 = least_low l.closed o.region (sym next.least ∙ ap (option_map (λ (x : OpenRegion). x.region)) is) in
       let last : suc o.region * k ≤ 3 * k = mul-le-mul_right k (omega arith) in
       let there : IsNewLog l.log_sectors l.generation count o = subst (λ (j : ℕ). IsNewLog j l.generation count o) (sym next.log_size) (subst (λ (e : ℕ). IsNewLog k e count o) (sym next.generation) new) in
-      let epoch : o.log.epoch ≡ (manifest_for l).generation = there.epoch in
+      let epoch : o.log.epoch ≡ (next_contents m l.closed count).generation = new.epoch in
       record {
         region = low;
         within = omega (arith, new.start, new.sectors, last, regions_inside size k geometry);
         numbers = record {
-          epoch_low = omega (arith, epoch, fits_here.numbers.generation_low);
-          epoch_high = omega (arith, epoch, fits_here.numbers.generation_high);
+          epoch_low = omega (arith, epoch, next_here.numbers.generation_low);
+          epoch_high = omega (arith, epoch, next_here.numbers.generation_high);
           first_low = omega (arith, new.first);
           last_high = omega (arith, new.first, come.count_high);
         };
         new_log = there;
       }
 
-  pub within_limits : (versions : List Version) → NumberedBelow (count + 1) versions → IsWithin size l count versions
-  within_limits versions numbered = record {
+  pub within_limits : m.tables ≡ [] → (versions : List Version) → NumberedBelow (count + 1) versions → IsWithin size l count versions
+  within_limits plain versions numbered = record {
     log_low = log_low_here;
     log_high = log_high_here;
     inside = inside_here;
-    manifest = fits_here;
+    manifest = subst IsManifest (sym (plain_says k m count l next fits plain)) next_here;
     closed = closed_few m count l.closed fits come;
     least = next.least;
-    opened = opened_here l.open_region refl next.new_log;
+    opened = opened_in l.open_region refl next.new_log;
     count_high = come.count_high;
     numbered = numbered;
   }

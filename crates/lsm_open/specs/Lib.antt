@@ -14,3 +14,5 @@ pub mod Switching
 pub mod Writing
 pub mod ToldTables
 pub mod OpeningTables
+pub mod RecoveredTables
+pub mod ReadParts

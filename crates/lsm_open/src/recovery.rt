@@ -27,7 +27,7 @@ use lsm_mem::Mem;
 use lsm_root::{Loaded, load, root_laws};
 use std::alloc::{Allocator, Global};
 
-const LAST_GENERATION: u64 = 1 << 63;
+pub(crate) const LAST_GENERATION: u64 = 1 << 63;
 
 /// A store's parts, as an opening recovers them.
 #[derive(Drop)]
@@ -113,7 +113,7 @@ fn recover_settled<A: Allocator + Clone, D: Device>(
 }
 
 // The first call of an opening, a sync, on a device of a fair size.
-fn begin<D: Device>(device: &mut D) -> Result<(), Refusal>
+pub(crate) fn begin<D: Device>(device: &mut D) -> Result<(), Refusal>
     ensures size { (IsDeviceSize (D.medium device.old).size → ⊥) → (result ≡ Err Refusal.BadGeometry) × (device.new ≡ device.old) }
     ensures stands { IsTrue (D.medium device.old).lasting.tells → OnOk result
         (Becomes (synced (disk (D.medium device.old))) (D.medium device.old).history (D.medium device.new).history) }

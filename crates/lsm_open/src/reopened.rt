@@ -1,5 +1,5 @@
 // The log of the next generation is opened.
-ghost use Rattle.std.specs.Prelude.{◌≡◌, ◌≢◌, ◌⊎◌, ◌<◌, ◌≤◌, ◌^◌, ◌+◌, [], IsTrue, IfOk, OnOk, IfErr, option_map};
+ghost use Rattle.std.specs.Prelude.{Option, ◌≡◌, ◌≢◌, ◌⊎◌, ◌<◌, ◌≤◌, ◌^◌, ◌+◌, [], IsTrue, IfOk, OnOk, IfErr, option_map};
 ghost use Rattle.lsm_codec.specs.Manifests.{IsManifest, sector_count};
 ghost use Rattle.lsm_device.specs.Calls.{faults_after, AtMost};
 ghost use Rattle.lsm_device.specs.History.{EachSince};
@@ -9,6 +9,8 @@ ghost use Rattle.lsm_device.specs.Refusals.{faultless, is_no_fault};
 ghost use Rattle.lsm_open.specs.CrashState.{last_number};
 ghost use Rattle.lsm_open.specs.Layout.{layout_of};
 ghost use Rattle.lsm_open.specs.Reopening.{is_free, least_free, next_contents, IsNewIfOpen, IsNextLayout, HasCome};
+ghost use Rattle.lsm_open.specs.Switching.{IsInLeastFree};
+ghost use Rattle.lsm_open.specs.declared.regions.OpenRegion.{OpenRegion};
 ghost use Rattle.lsm_root.specs.Counted.{CallsMade};
 ghost use Rattle.lsm_root.specs.Installed.{IsReady, IsOldOrNew, IsInstalled};
 ghost use Rattle.lsm_root.specs.Layout.{IsGeometry, LieInside};
@@ -100,6 +102,9 @@ pub(crate) fn reopen<A: Allocator + Clone, D: Device>(
     requires has_next { loaded.now.manifest.generation ≢ last_number }
     requires come { HasCome loaded.now.manifest count closed.items [] }
     requires ready { IsTrue (D.medium device.old).lasting.tells → IsReady (D.medium device.old).size loaded.now.log_sectors (loaded.now.manifest.generation + 1) (disk (D.medium device.old)) }
+
+    // A log may be open in the least free region, whether it comes to be installed or not.
+    ensures may_open { (o : Option OpenRegion) × IsInLeastFree loaded.now.log_sectors (loaded.now.manifest.generation + 1) count closed.items o }
     ensures layout { IfOk result (λ r. IsNextLayout loaded.now.log_sectors loaded.now.manifest count (layout_of r)) }
     ensures kept { IfOk result (λ r. r.closed.items ≡ closed.items) }
     ensures any_moment { IsTrue (D.medium device.old).lasting.tells → EachSince

@@ -89,8 +89,8 @@ returns-clause-within g c =
     let k = c.in_ok-loaded.loaded.log_sectors in
     let r = c.in_ok-replayed.replayed in
     let come : HasCome m r.count c.in_ok-regions.regions.closed.items [] = rw c.in_ok-regions.ensures.kept c.in_ok-replayed.ensures.come in
-    within_limits (g.D.Device.medium c.args.device.now).size k m r.count (layout_of c.in_ok-regions.regions) c.in_ok-loaded.ensures.fits.0 c.in_ok-loaded.ensures.fits.1 c.in_ok-loaded.ensures.plain (λ e. c.if-generation.false (c.generation.ensures ∙ e)) come
-    c.in_ok-regions.ensures.layout r.mem c.in_ok-replayed.ensures.numbered
+    within_limits (g.D.Device.medium c.args.device.now).size k m r.count (layout_of c.in_ok-regions.regions) c.in_ok-loaded.ensures.fits.0 c.in_ok-loaded.ensures.fits.1 (λ e. c.if-generation.false (c.generation.ensures ∙ e)) come
+    c.in_ok-regions.ensures.layout c.in_ok-loaded.ensures.plain r.mem c.in_ok-replayed.ensures.numbered
 
 pub returns-in_err-replayed-clause-calls : goal.returns-in_err-replayed-clause-calls
 returns-in_err-replayed-clause-calls g c =

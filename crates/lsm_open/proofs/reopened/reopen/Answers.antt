@@ -6,7 +6,7 @@ use Rattle.lsm_device.specs.Outcomes.{Leaves}
 use Rattle.lsm_device.proofs.Moments.{started}
 use Rattle.lsm_open.specs.Layout.{layout_of}
 use Rattle.lsm_open.proofs.NextManifests.{next_fits}
-use Rattle.lsm_open.proofs.OpeningMoments.{installs}
+use Rattle.lsm_open.proofs.OpeningMoments.{installs, least_kept}
 use Rattle.lsm_root.specs.Counted.{CallsMade}
 use Rattle.lsm_root.specs.Installed.{IsOldOrNew, IsInstalled}
 use Rattle.lsm_root.specs.Roots.{Stands}
@@ -51,3 +51,15 @@ returns-clause-made g c =
     let m = c.args.loaded.now.manifest in
     let says = installs c.args.loaded.now.log_sectors c.args.count m c.in_ok-manifest.manifest c.args.closed.items c.runs.result c.tables.result.now (layout_of c.next_regions-regions.result) c.in_ok-manifest.ensures c.runs.ensures c.tables.ensures c.next_regions-regions.ensures.layout c.next_regions-regions.ensures.kept in
     subst (λ (x : Contents). CallsMade (sector_count x + 1) 2 (D.medium c.args.device.now).calls (D.medium c.install.new.device).calls) says c.in_ok-install.ensures.made
+
+pub returns-in_err-clone-clause-may_open : goal.returns-in_err-clone-clause-may_open
+returns-in_err-clone-clause-may_open g c =
+    (c.next_regions-regions.result.open_region, least_kept c.args.loaded.now.log_sectors c.args.count c.args.loaded.now.manifest c.args.closed.items (layout_of c.next_regions-regions.result) c.next_regions-regions.ensures.layout c.next_regions-regions.ensures.kept)
+
+pub returns-in_err-manifest-clause-may_open : goal.returns-in_err-manifest-clause-may_open
+returns-in_err-manifest-clause-may_open g c =
+    (c.next_regions-regions.result.open_region, least_kept c.args.loaded.now.log_sectors c.args.count c.args.loaded.now.manifest c.args.closed.items (layout_of c.next_regions-regions.result) c.next_regions-regions.ensures.layout c.next_regions-regions.ensures.kept)
+
+pub returns-clause-may_open : goal.returns-clause-may_open
+returns-clause-may_open g c =
+    (c.next_regions-regions.result.open_region, least_kept c.args.loaded.now.log_sectors c.args.count c.args.loaded.now.manifest c.args.closed.items (layout_of c.next_regions-regions.result) c.next_regions-regions.ensures.layout c.next_regions-regions.ensures.kept)
