@@ -34,10 +34,14 @@ later_with_batches base n [] vs le later = later
 later_with_batches base n (batch ∷ rest) vs le later =
     later_with_batches base (n + 1) rest (with_batch (n + 1) batch vs) (omega arith) (later_with_batch base (n + 1) batch vs (omega arith) later)
 
--- the versions of batches are newer than those of places that have none above the base
+-- the versions of batches behind the base are numbered above it
+pub batches_later : (base : ℕ) (batches : List (List Operation)) → AreLater base (with_batches base batches [])
+batches_later base batches = later_with_batches base base batches [] (omega arith) tt
+
+-- so they are newer than those of places that have none above the base
 pub batches_newer : (base : ℕ) (batches : List (List Operation)) (older : List (List Version)) → AllByRecursion (NumberedAtMost base) older → AllByRecursion (IsNewerPlace (with_batches base batches [])) older
 batches_newer base batches older numbered =
-    all_map (λ ys most. later_is_newer base (with_batches base batches []) ys (later_with_batches base base batches [] (omega arith) tt) most) older numbered
+    all_map (λ ys most. later_is_newer base (with_batches base batches []) ys (batches_later base batches) most) older numbered
 
 -- ---- tables
 

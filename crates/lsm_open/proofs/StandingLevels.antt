@@ -39,7 +39,7 @@ versions_joined : (ts us : List Table) → versions_of (ts ++ us) ≡ versions_o
 versions_joined [] us = refl
 versions_joined (t ∷ ts) us = ap (λ (l : Versions). t.versions ++ l) (versions_joined ts us) ∙ sym (append_assoc t.versions (versions_of ts) (versions_of us))
 
-all_versions : (runs : List (List Table)) → versions_of (all_tables runs) ≡ joined (map versions_of runs)
+pub all_versions : (runs : List (List Table)) → versions_of (all_tables runs) ≡ joined (map versions_of runs)
 all_versions [] = refl
 all_versions (r ∷ rest) = versions_joined r (all_tables rest) ∙ ap (λ (l : Versions). versions_of r ++ l) (all_versions rest)
 

@@ -1,5 +1,5 @@
 -- An opening that serves tables: from what it has read and installed to what it promises.
-use Rattle.std.proofs.Common.{◌≡◌, ◌≢◌, ◌⊎◌, inl, inr, true, false, IsTrue, ℕ, ◌+◌, ◌≤◌, List, [], ◌∷◌, ◌++◌, length, map, Some, None, refl, sym, ◌∙◌, ap, subst, arith}
+use Rattle.std.proofs.Common.{◌≡◌, ◌≢◌, ◌⊎◌, inl, inr, true, false, IsTrue, ℕ, ◌+◌, ◌<◌, ◌≤◌, List, [], ◌∷◌, ◌++◌, length, map, Some, None, refl, sym, ◌∙◌, ap, subst, arith}
 use Rattle.std.specs.Prelude.{◌↔◌, Contains, Option, option_map}
 use Rattle.std.specs.List.{AllByRecursion}
 use Rattle.std.proofs.lemmas.List.{length-append}
@@ -39,7 +39,7 @@ use Rattle.lsm_open.proofs.NextManifests.{none_free, closed_few, next_fits}
 use Rattle.lsm_open.proofs.Openings.{same_again, next_again}
 use Rattle.lsm_open.proofs.OpeningMoments.{opened_in}
 use Rattle.lsm_open.proofs.OpeningSteps.{opening_installs, may_reopen, rests_stand, settled_at_rest}
-use Rattle.lsm_open.proofs.ReadPlaces.{batches_newer, stored_behind}
+use Rattle.lsm_open.proofs.ReadPlaces.{batches_later, batches_newer, stored_behind}
 use Rattle.lsm_open.proofs.Recovering.{layout_says}
 use Rattle.lsm_open.proofs.Served.{same_stands}
 use Rattle.lsm_open.proofs.Switches.{switch_moments, installed_carried, installed_present}
@@ -95,6 +95,8 @@ module _ (n count : ℕ) (m : Contents) (closed : List LogRecord) (o : Option Op
     sealed_if = read.sealed_if;
     numbered = read.numbered;
     entries = read.entries;
+    ordered = read.ordered;
+    runs = read.runs;
     named = read.named.records;
     within = read.within;
     numbers = read.numbers;
@@ -278,6 +280,8 @@ module _ (size k n count : ℕ) (left : CrashState) (m : Contents) (closed : Lis
       count_is = count_here;
       same_map = map_here;
       order = order_here;
+      tabled = those.numbered;
+      later = subst (λ (vs : List Version). AllByRecursion (λ v. m.base < v.number) vs) (sym told.remembers) (batches_later m.base (all_batches n (seen (present old)) m.logs));
       stored = stored_now;
     }
 

@@ -6,7 +6,7 @@ use Rattle.std.proofs.lemmas.List.{append-nil}
 use Rattle.lsm_codec.specs.declared.log_record.LogRecord.{LogRecord}
 use Rattle.lsm_codec.specs.Manifests.{Contents, IsManifest, sector_count}
 use Rattle.lsm_codec.specs.Map.{Operation}
-use Rattle.lsm_codec.specs.Versions.{Version, IsEntry}
+use Rattle.lsm_codec.specs.Versions.{Version, IsEntry, AreOrdered}
 use Rattle.std.specs.List.{AllByRecursion}
 use Rattle.lsm_device.specs.Calls.{AtMost, after_sync, faults_after, more}
 use Rattle.lsm_device.specs.declared.calls.Calls.{Calls}
@@ -17,6 +17,7 @@ use Rattle.lsm_device.specs.declared.refusal.Refusal.TheVariants.{NoMemory, Io, 
 use Rattle.lsm_device.proofs.Counting.{none_made, AtMost-joined, AtMost-wider}
 use Rattle.lsm_codec.specs.Geometry.{data_blocks_of}
 use Rattle.lsm_extent.specs.Area.{Area}
+use Rattle.lsm_levels.specs.Held.{AreRuns}
 use Rattle.lsm_levels.specs.Levels.{Levels, places}
 use Rattle.lsm_levels.specs.Stored.{AreWithin, AreNumberedBelow}
 use Rattle.lsm_mem.specs.Versions.{NumberedBelow}
@@ -194,9 +195,9 @@ module _ (size n count now_count : ℕ) (m : Contents) (closed now_closed : List
   is_now : sealed ≡ cond (length now_closed == 0) None (Some mem)
   is_now = is ∙ ap (λ (x : List LogRecord). cond (length x == 0) None (Some mem)) (sym same)
 
-  pub all_read : (extents : Area) → IsGeometry size n → IsManifest m → LieInside size n m.tables → m.generation ≢ last_number → HasCome m count closed [] → NumberedBelow (count + 1) mem → AllByRecursion IsEntry mem → HaveNamed m levels
+  pub all_read : (extents : Area) → IsGeometry size n → IsManifest m → LieInside size n m.tables → m.generation ≢ last_number → HasCome m count closed [] → NumberedBelow (count + 1) mem → AllByRecursion IsEntry mem → AreOrdered (sealed_versions sealed) → HaveNamed m levels → AreRuns levels
       → AreWithin size (first_data n) (places levels) → AreNumberedBelow m.next_table (places levels) → Held (data_blocks_of size n) m.tables extents → AreRead size n m now_closed now_count sealed levels extents
-  all_read extents geometry fits inside has_next come numbered entries named within numbers held = record {
+  all_read extents geometry fits inside has_next come numbered entries ordered named runs within numbers held = record {
     geometry = geometry;
     fits = fits;
     inside = inside;
@@ -205,6 +206,8 @@ module _ (size n count now_count : ℕ) (m : Contents) (closed now_closed : List
     sealed_if = sealed_if now_closed mem sealed is_now;
     numbered = subst (λ (k : ℕ). NumberedBelow (k + 1) (sealed_versions sealed)) (sym same_count) (of_sealed now_closed mem sealed is_now (NumberedBelow (count + 1)) numbered tt);
     entries = of_sealed now_closed mem sealed is_now (AllByRecursion IsEntry) entries tt;
+    ordered = ordered;
+    runs = runs;
     named = named;
     within = within;
     numbers = numbers;

@@ -3,11 +3,12 @@ use Rattle.std.specs.Prelude.{◌≡◌, ◌≢◌, ◌↔◌, ℕ, ◌+◌, Boo
 use Rattle.std.specs.List.{AllByRecursion}
 use Rattle.lsm_codec.specs.Geometry.{data_blocks_of}
 use Rattle.lsm_codec.specs.Manifests.{Contents, IsManifest}
-use Rattle.lsm_codec.specs.Versions.{Version, IsEntry}
+use Rattle.lsm_codec.specs.Versions.{Version, IsEntry, AreOrdered}
 use Rattle.lsm_codec.specs.declared.log_record.LogRecord.{LogRecord}
 use Rattle.lsm_device.specs.Calls.{AtMost, faults_after}
 use Rattle.lsm_device.specs.Medium.{Medium}
 use Rattle.lsm_extent.specs.Area.{Area}
+use Rattle.lsm_levels.specs.Held.{AreRuns}
 use Rattle.lsm_levels.specs.Levels.{Levels, places}
 use Rattle.lsm_levels.specs.Stored.{AreWithin, AreNumberedBelow}
 use Rattle.lsm_mem.specs.EntryOrder.{with_batches}
@@ -35,6 +36,8 @@ pub record AreRead (size log_sectors : ℕ) (m : Contents) (closed : List LogRec
   pub sealed_if : (sealed ≡ None) ↔ (length closed ≡ 0)
   pub numbered : NumberedBelow (count + 1) (sealed_versions sealed)
   pub entries : AllByRecursion IsEntry (sealed_versions sealed)
+  pub ordered : AreOrdered (sealed_versions sealed)
+  pub runs : AreRuns levels
   pub named : HaveNamed m levels
   pub within : AreWithin size (first_data log_sectors) (places levels)
   pub numbers : AreNumberedBelow m.next_table (places levels)

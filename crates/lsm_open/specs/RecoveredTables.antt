@@ -1,9 +1,9 @@
 -- What an opening that serves tables makes of sectors, and of what a crash left.
-use Rattle.std.specs.Prelude.{◌≡◌, ◌≢◌, ◌≤◌, ◌⊎◌, ◌↔◌, ℕ, ◌+◌, Bool, List, [], ◌∷◌, ◌++◌, length, map, Contains, Option, Some, None, option_map}
+use Rattle.std.specs.Prelude.{◌≡◌, ◌≢◌, ◌<◌, ◌≤◌, ◌⊎◌, ◌↔◌, ℕ, ◌+◌, Bool, List, [], ◌∷◌, ◌++◌, length, map, Contains, Option, Some, None, option_map}
 use Rattle.std.specs.List.{AllByRecursion}
 use Rattle.lsm_codec.specs.Geometry.{data_blocks_of}
 use Rattle.lsm_codec.specs.Manifests.{Contents, IsManifest, sector_count}
-use Rattle.lsm_codec.specs.Versions.{Version, IsEntry}
+use Rattle.lsm_codec.specs.Versions.{Version, IsEntry, AreOrdered}
 use Rattle.lsm_codec.specs.declared.table_record.TableRecord.{TableRecord}
 use Rattle.lsm_device.specs.Calls.{AtMost, after_sync, more}
 use Rattle.lsm_device.specs.declared.calls.Calls.{Calls}
@@ -14,12 +14,13 @@ use Rattle.lsm_device.specs.Outcomes.{Leaves}
 use Rattle.lsm_device.specs.declared.refusal.Refusal.{Refusal}
 use Rattle.lsm_device.specs.declared.refusal.Refusal.TheVariants.{BadTable}
 use Rattle.lsm_extent.specs.Area.{Area}
+use Rattle.lsm_levels.specs.Held.{AreRuns}
 use Rattle.lsm_levels.specs.Levels.{Levels, all_tables, places}
 use Rattle.lsm_levels.specs.Orders.{IsVersionOrder}
 use Rattle.lsm_levels.specs.Stored.{AreStored, AreWithin, AreNumberedBelow}
 use Rattle.lsm_levels.specs.Tables.{versions_of}
 use Rattle.lsm_mem.specs.EntryOrder.{with_batches}
-use Rattle.lsm_mem.specs.Versions.{NumberedBelow, map_of}
+use Rattle.lsm_mem.specs.Versions.{NumberedAtMost, NumberedBelow, map_of}
 use Rattle.lsm_open.specs.Answered.{IsInsideIfOpen}
 use Rattle.lsm_open.specs.CrashState.{CrashState, last_number, in_next_generation, left_by_opening, MayRefuseOpening}
 use Rattle.lsm_open.specs.Image.{count_in, StandForSome}
@@ -67,7 +68,8 @@ pub record IsReopenedWithTables (sectors : List (List ℕ)) (p : Placement) (cou
 
 -- The opening of what a crash left: the disk carries the placement, which leaves the same in the next generation; the
 -- regions that hold batches are closed, a log that holds none is open behind them, unless all three are closed, and nothing
--- pends. Memory and tables have the map that was left, in the order of versions, and the tables stand.
+-- pends. Memory and tables have the map that was left, in the order of versions: those of tables are of batches up to the
+-- base, those in memory of later ones. And the tables stand.
 pub record IsRecoveredWithTables (log_sectors : ℕ) (left : CrashState) (p : Placement) (count : ℕ) (sealed : Option (List Version)) (levels : Levels) (d : Disk) : Type 0 where
   pub carried : Carries d p
   pub present : present_state p d ≡ in_next_generation left
@@ -79,11 +81,13 @@ pub record IsRecoveredWithTables (log_sectors : ℕ) (left : CrashState) (p : Pl
   pub count_is : count ≡ left.count
   pub same_map : map_of (sealed_versions sealed ++ level_versions levels) count ≡ left.map
   pub order : IsVersionOrder (sealed_versions sealed ∷ map versions_of (places levels))
+  pub tabled : AllByRecursion (NumberedAtMost p.logs.base) (map versions_of (places levels))
+  pub later : AllByRecursion (λ v. p.logs.base < v.number) (sealed_versions sealed)
   pub stored : AreStored (seen d) (first_data log_sectors) (places levels)
 
 -- What holds of parts that were read from any device of this size, whatever it held: they are within the limits, memory is
--- sealed where a region is closed, levels have just the tables of the records, within the device, and just their extents
--- are handed out.
+-- sealed where a region is closed, in the order of entries, levels have just the tables of the records, each run in the order
+-- of keys, within the device, and just their extents are handed out.
 pub record AreWithinLimits (size : ℕ) (p : Placement) (count : ℕ) (sealed : Option (List Version)) (levels : Levels) (extents : Area) : Type 0 where
   pub geometry : IsGeometry size p.logs.log_sectors
   pub manifest : IsManifest (contents_for p)
@@ -94,6 +98,8 @@ pub record AreWithinLimits (size : ℕ) (p : Placement) (count : ℕ) (sealed : 
   pub sealed_if : (sealed ≡ None) ↔ (length p.logs.closed ≡ 0)
   pub numbered : NumberedBelow (count + 1) (sealed_versions sealed)
   pub entries : AllByRecursion IsEntry (sealed_versions sealed)
+  pub ordered : AreOrdered (sealed_versions sealed)
+  pub runs : AreRuns levels
   pub named : records_of levels ≡ p.tables
   pub within : AreWithin size (first_data p.logs.log_sectors) (places levels)
   pub numbers : AreNumberedBelow p.logs.next_table (places levels)

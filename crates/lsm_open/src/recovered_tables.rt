@@ -2,6 +2,7 @@
 ghost use Rattle.std.specs.Prelude.{◌≡◌, ◌≢◌, ◌⊎◌, ◌↔◌, ◌<◌, ◌≤◌, ◌^◌, ◌+◌, ◌*◌, ◌==◌, ℕ, [], true, false, Some, None, length, option_map, if◌then◌else◌, IsTrue, IfOk, OnOk, OnErr, IfErr, Err, is_ok, MatchResult};
 ghost use Rattle.std.specs.Arc.{arc_value};
 ghost use Rattle.lsm_codec.specs.Manifests.{IsManifest};
+ghost use Rattle.lsm_codec.specs.Versions.{AreOrdered};
 ghost use Rattle.lsm_device.specs.Calls.{after_sync, faults_after, AtMost};
 ghost use Rattle.lsm_device.specs.Disk.{seen, synced};
 ghost use Rattle.lsm_device.specs.History.{Becomes, EachSince};
@@ -15,7 +16,7 @@ ghost use Rattle.lsm_open.specs.Layout.{layout_of};
 ghost use Rattle.lsm_open.specs.OpeningTables.{table_refusal};
 ghost use Rattle.lsm_open.specs.Placements.{contents_for};
 ghost use Rattle.lsm_open.specs.ReadParts.{AreRead, AreToldBy, ReadsAtMost};
-ghost use Rattle.lsm_open.specs.RecoveredTables.{placed_in, IsReopenedWithTables, IsRecoveredWithTables, AreWithinLimits, IsTableOpeningRefusal, BeginsTablesWithSync, HasWritten, StandForOne, CrashesWithTables, FailsWithTables};
+ghost use Rattle.lsm_open.specs.RecoveredTables.{placed_in, sealed_versions, IsReopenedWithTables, IsRecoveredWithTables, AreWithinLimits, IsTableOpeningRefusal, BeginsTablesWithSync, HasWritten, StandForOne, CrashesWithTables, FailsWithTables};
 ghost use Rattle.lsm_root.specs.Layout.{IsDeviceSize};
 
 use crate::recovery::{LAST_GENERATION, begin};
@@ -85,8 +86,10 @@ fn seal_closed<A: Allocator + Clone>(
     closed: &[LogRecord],
 ) -> Result<Option<Arc<Sealed<A>, A>>, Refusal>
     ensures sealed { IfOk result (λ s. option_map arc_value s ≡ (if length closed.now == 0 then None else Some mem)) }
+    ensures ordered { IfOk result (λ s. AreOrdered (sealed_versions (option_map arc_value s))) }
     ensures refused { IfErr result (λ refusal. refusal ≡ Refusal.NoMemory) }
 {
+    let _versions = mem.versions();
     if closed.is_empty() {
         return Ok(None);
     }
@@ -107,6 +110,7 @@ fn keep<A: Allocator + Clone>(
     ensures closed { IfOk result (λ k. k.closed.items ≡ replayed.closed.items) }
     ensures count { IfOk result (λ k. k.count ≡ replayed.count) }
     ensures sealed { IfOk result (λ k. option_map arc_value k.sealed ≡ (if length replayed.closed.items == 0 then None else Some replayed.mem)) }
+    ensures ordered { IfOk result (λ k. AreOrdered (sealed_versions (option_map arc_value k.sealed))) }
     ensures refused { IfErr result (λ refusal. ((refusal ≡ Refusal.Exhausted) × (manifest.now.generation ≡ last_number)) ⊎ (refusal ≡ Refusal.NoMemory)) }
 {
     if manifest.generation() == LAST_GENERATION {

@@ -11,6 +11,7 @@ ghost use Rattle.lsm_device.specs.Calls.{faults_after, AtMost};
 ghost use Rattle.lsm_device.specs.Disk.{seen};
 ghost use Rattle.lsm_device.specs.Medium.{disk};
 ghost use Rattle.lsm_device.specs.Refusals.{faultless};
+ghost use Rattle.lsm_levels.specs.Held.{AreRuns};
 ghost use Rattle.lsm_levels.specs.Levels.{places};
 ghost use Rattle.lsm_levels.specs.Stored.{AreWithin, AreNumberedBelow, blocks_from};
 ghost use Rattle.lsm_open.specs.Tables.{first_data, blocks_at, AreTables};
@@ -316,9 +317,10 @@ pub(crate) fn read_tables<A: Allocator + Clone, D: Device>(
         (λ t. told_levels log_sectors (seen (disk (D.medium device.old))) manifest.now ≡ Some t.levels)
         (IsRefusedFor (told_levels log_sectors (seen (disk (D.medium device.old))) manifest.now)) }
 
-    // Whatever the device holds, and whether it tells so or not, levels have just the tables that the manifest names, these
-    // lie within the device, and their extents are handed out alone.
+    // Whatever the device holds, and whether it tells so or not, levels have just the tables that the manifest names, in runs,
+    // these lie within the device, and their extents are handed out alone.
     ensures named { IfOk result (λ t. HaveNamed manifest.now t.levels) }
+    ensures runs { IfOk result (λ t. AreRuns t.levels) }
     ensures within { IfOk result (λ t. AreWithin (D.medium device.old).size (first_data log_sectors) (places t.levels)) }
     ensures numbered { IfOk result (λ t. AreNumberedBelow manifest.now.next_table (places t.levels)) }
     ensures extents { IfOk result (λ t. Held (data_blocks_of (D.medium device.old).size log_sectors) manifest.now.tables t.extents) }
@@ -343,5 +345,6 @@ pub(crate) fn read_tables<A: Allocator + Clone, D: Device>(
     claim_extents(&mut extents, manifest.tables())?;
     let mut levels = read_deeper(alloc, device, log_sectors, manifest)?;
     read_newer(alloc, device, log_sectors, manifest, &mut levels)?;
+    let _runs = levels.runs();
     Ok(TablesRead { levels, extents })
 }
