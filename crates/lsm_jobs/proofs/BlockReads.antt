@@ -1,7 +1,9 @@
 -- Data blocks that are read one after the other.
-use Rattle.std.proofs.Common.{◌≡◌, ⊎_elim, ◌⊎◌, ℕ, zero, suc, ◌+◌, ◌-◌, ◌*◌, ◌<◌, ◌≤◌, min, Bool, true, false, List, [], ◌∷◌, ◌++◌, length, take, drop, refl, sym, ap, subst, ◌∙◌, arith}
+use Rattle.std.proofs.Common.{◌≡◌, ⊎_elim, ◌⊎◌, ℕ, zero, suc, ◌+◌, ◌-◌, ◌*◌, ◌<◌, ◌≤◌, min, Bool, true, false, List, [], ◌∷◌, ◌++◌, length, take, drop, get_or, take-suc, refl, sym, ap, subst, ◌∙◌, arith}
 use Rattle.std.proofs.lemmas.List.{length-drop, take_min, drop_min}
+use Rattle.std.specs.Prelude.{sum_by}
 use Rattle.std.proofs.lemmas.List.Concat.{flat_map-append}
+use Rattle.std.proofs.lemmas.List.Sums.{sum_by-cons, sum_by-append, sum_by-take-le}
 use Rattle.lsm_device.specs.declared.refusal.Refusal.{Refusal}
 use Rattle.lsm_device.specs.declared.refusal.Refusal.TheVariants.{NoMemory, BadTable}
 use Rattle.lsm_device.specs.declared.calls.Calls.{Calls}
@@ -17,7 +19,7 @@ use Rattle.lsm_levels.specs.Tables.{Table}
 use Rattle.lsm_levels.specs.Asking.{OnlyReads, sector_of}
 use Rattle.lsm_levels.specs.Stored.{blocks_from}
 use Rattle.lsm_levels.proofs.LookingUp.{more_reads}
-use Rattle.lsm_jobs.specs.Gathering.{blocks_in, items_in, GoesOn, ReadsBlocks}
+use Rattle.lsm_jobs.specs.Gathering.{data_blocks, blocks_in, items_in, GoesOn, ReadsBlocks}
 use Rattle.lsm_jobs.proofs.GoingOn.{Item, SameEnd, then_end, joined, none_with_more, ended}
 
 -- ---- what is done to the device
@@ -28,6 +30,8 @@ nothing_read m = record {
   faults = refl;
   stops = λ e. absurd cc;
   only_reads = record { same_size = refl; same_lasting = refl; unchanged = λ t. refl };
+  untouched = λ none. refl;
+  some = λ e. absurd cc;
 }
 
 pub block_read : (old new : Medium) → new.calls ≡ after_reads 8 old.calls → OnlyReads old new → ReadsBlocks 1 true old new
@@ -36,6 +40,8 @@ block_read old new is reads = record {
   faults = ap (λ (c : Calls). c.faults) is ∙ faults_made 8 old.calls;
   stops = λ e. absurd cc;
   only_reads = reads;
+  untouched = λ none. absurd (omega (arith, none));
+  some = λ e. omega arith;
 }
 
 pub block_faulted : (old new : Medium) → FaultsAmong 8 old.calls new.calls → OnlyReads old new → ReadsBlocks 1 false old new
@@ -44,6 +50,8 @@ block_faulted old new fault reads = record {
   faults = one_fault 8 old.calls new.calls fault;
   stops = λ e. ap (λ (c : Calls). c.last_faulted) fault.counted;
   only_reads = reads;
+  untouched = λ none. absurd (omega (arith, none));
+  some = λ e. omega arith;
 }
 
 pub reads_then : (i n m : ℕ) (ok : Bool) (a b c : Medium) → i + n ≤ m → ReadsBlocks i true a b → ReadsBlocks n ok b c → ReadsBlocks m ok a c
@@ -52,7 +60,13 @@ reads_then i n m ok a b c room first then_ = record {
   faults = then_.faults ∙ ap (faults_after ok) first.faults;
   stops = then_.stops;
   only_reads = more_reads a b c first.only_reads then_.only_reads;
+  untouched = λ none. then_.untouched (omega (arith, room, none)) ∙ first.untouched (omega (arith, room, none));
+  some = λ bad. omega (arith, room, then_.some bad);
 }
+
+-- with room for more of them, or with just these
+pub reads_within : (n m : ℕ) (ok : Bool) (old new : Medium) → n ≤ m → ReadsBlocks n ok old new → ReadsBlocks m ok old new
+reads_within n m ok old new room reads = reads_then 0 n m ok old old new (omega (arith, room)) (nothing_read old) reads
 
 pub no_fault : (e : Refusal) → (e ≡ BadTable) ⊎ (e ≡ NoMemory) → is_no_fault e ≡ true
 no_fault e = ⊎_elim (λ h. ap is_no_fault h) (λ h. ap is_no_fault h)
@@ -100,14 +114,14 @@ module _ (sectors : List (List ℕ)) where
 
 -- ---- parts of lists
 
-take_parts : {X : Type 0} (k : ℕ) (xs ys : List X) → take k (xs ++ ys) ≡ take k xs ++ take (k - length xs) ys
+pub take_parts : {X : Type 0} (k : ℕ) (xs ys : List X) → take k (xs ++ ys) ≡ take k xs ++ take (k - length xs) ys
 take_parts zero xs ys = let none : 0 - length xs ≡ 0 = omega arith in sym (ap (λ (n : ℕ). take n ys) none)
 take_parts (suc k) [] ys = let all : suc k - 0 ≡ suc k = omega arith in sym (ap (λ (n : ℕ). take n ys) all)
 take_parts (suc k) (x ∷ xs) ys =
     let same : suc k - suc (length xs) ≡ k - length xs = omega arith in
     ap (λ l. x ∷ l) (take_parts k xs ys) ∙ sym (ap (λ (n : ℕ). x ∷ (take k xs ++ take n ys)) same)
 
-drop_parts : {X : Type 0} (k : ℕ) (xs ys : List X) → drop k (xs ++ ys) ≡ drop k xs ++ drop (k - length xs) ys
+pub drop_parts : {X : Type 0} (k : ℕ) (xs ys : List X) → drop k (xs ++ ys) ≡ drop k xs ++ drop (k - length xs) ys
 drop_parts zero xs ys = let none : 0 - length xs ≡ 0 = omega arith in sym (ap (λ (n : ℕ). xs ++ drop n ys) none)
 drop_parts (suc k) [] ys = let all : suc k - 0 ≡ suc k = omega arith in sym (ap (λ (n : ℕ). drop n ys) all)
 drop_parts (suc k) (x ∷ xs) ys =
@@ -129,6 +143,19 @@ window left skip first count xs ys f n =
     ∙ ap (λ (k : ℕ). take count (drop first xs) ++ take k (drop (skip - first) ys)) more
 
 -- ---- blocks of tables
+
+pub some_tables : (tables : List Table) (i : ℕ) → data_blocks (take i tables) ≤ data_blocks tables
+some_tables tables i = sum_by-take-le (λ (t : Table). length t.outline.edges) tables i
+
+-- with one table more
+pub one_table_more : (tables : List Table) (i : ℕ) (t : Table) → i < length tables → t ≡ get_or tables i t → (data_blocks (take (i + 1) tables) ≡ data_blocks (take i tables) + length t.outline.edges) × (data_blocks (take (i + 1) tables) ≤ data_blocks tables)
+one_table_more tables i t within at =
+    let next : i + 1 ≡ suc i = omega arith in
+    let edges : Table → ℕ = λ (u : Table). length u.outline.edges in
+    let alone : sum_by edges (t ∷ []) ≡ length t.outline.edges + 0 = sum_by-cons edges t [] in
+    let parts : take (i + 1) tables ≡ take i tables ++ t ∷ [] = ap (λ (k : ℕ). take k tables) next ∙ take-suc tables i t within ∙ ap (λ (u : Table). take i tables ++ u ∷ []) (sym at) in
+    let sum : sum_by edges (take (i + 1) tables) ≡ sum_by edges (take i tables) + sum_by edges (t ∷ []) = ap (sum_by edges) parts ∙ sum_by-append edges (take i tables) (t ∷ []) in
+    (omega (arith, sum, alone), some_tables tables (i + 1))
 
 module _ (sectors : List (List ℕ)) where
   pub length-blocks_from : (at n : ℕ) → length (blocks_from sectors at n) ≡ n

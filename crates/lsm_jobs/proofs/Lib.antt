@@ -5,8 +5,10 @@ pub mod Found
 pub mod GoingOn
 pub mod BlockReads
 pub mod Placed
+pub mod GivenBack
 pub mod Accepted
 pub mod Sectors
+pub mod TableWrites
 pub mod Noted
 pub mod ReadJobs
 pub mod StoredBlocks

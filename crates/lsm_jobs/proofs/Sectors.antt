@@ -237,7 +237,7 @@ take_split zero j xs = let same : 0 + j ≡ j = omega arith in ap (λ (n : ℕ).
 take_split {X} (suc k) j [] = take_none {X = X} (suc k + j) ∙ sym (take_none {X = X} j)
 take_split {X} (suc k) j (x ∷ xs) = let same : suc k + j ≡ suc (k + j) = omega arith in ap (λ (n : ℕ). take n (x ∷ xs)) same ∙ ap (λ (l : List X). x ∷ l) (take_split k j xs)
 
-writes_append : (area : ℕ) (xs ys : List Write) → writes_of area (xs ++ ys) ≡ writes_of area xs ++ writes_of area ys
+pub writes_append : (area : ℕ) (xs ys : List Write) → writes_of area (xs ++ ys) ≡ writes_of area xs ++ writes_of area ys
 writes_append area [] ys = refl
 writes_append area (x ∷ xs) ys = ap (λ (ws : List Write). block_writes area x ++ ws) (writes_append area xs ys) ∙ sym (append_assoc (block_writes area x) (writes_of area xs) (writes_of area ys))
 

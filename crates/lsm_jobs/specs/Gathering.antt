@@ -1,5 +1,5 @@
 -- What is read of a merge's tables, before it is merged.
-use Rattle.std.specs.Prelude.{◌≡◌, ℕ, zero, suc, ◌+◌, ◌-◌, ◌*◌, Bool, false, ltb, IsTrue, List, [], ◌∷◌, ◌++◌, length, map, filter, take, drop, min, sum_by, Result, Ok, if◌then◌else◌}
+use Rattle.std.specs.Prelude.{◌≡◌, ℕ, zero, suc, ◌+◌, ◌-◌, ◌*◌, ◌<◌, Bool, false, ltb, IsTrue, List, [], ◌∷◌, ◌++◌, length, map, filter, take, drop, min, sum_by, Result, Ok, if◌then◌else◌}
 use Rattle.std.specs.List.{flat_map, list_all}
 use Rattle.lsm_device.specs.declared.refusal.Refusal.{Refusal}
 use Rattle.lsm_device.specs.Calls.{AtMost, faults_after}
@@ -48,12 +48,14 @@ pub record IsLonger (old new : List Version) : Type 0 where
   pub whole : new ≡ old ++ more
 
 -- So many blocks were read at most, and nothing else was done to a device: a fault comes just where it isn't told that all went
--- well, and then in the last call.
+-- well, and then in the last call. Where that is no block it wasn't touched.
 pub record ReadsBlocks (blocks : ℕ) (ok : Bool) (old new : Medium) : Type 0 where
   pub calls : AtMost (8 * blocks) 0 0 old.calls new.calls
   pub faults : new.calls.faults ≡ faults_after ok old.calls.faults
   pub stops : ok ≡ false → IsTrue new.calls.last_faulted
   pub only_reads : OnlyReads old new
+  pub untouched : blocks ≡ 0 → new ≡ old
+  pub some : ok ≡ false → 0 < blocks
 
 -- the versions of a table in its data blocks from one on: those that the edges of all blocks before it stand before
 abbrev pub versions_from : ℕ → Table → List Version

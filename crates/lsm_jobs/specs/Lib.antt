@@ -7,9 +7,11 @@ pub mod Outputs
 pub mod Shown
 pub mod Reading
 pub mod Holding
+pub mod Turns
 pub mod Placing
 pub mod Refusing
 pub mod Writing
+pub mod Pieces
 pub mod Installing
 pub mod StoredJobs
 pub mod Outcomes

@@ -6,7 +6,7 @@ use Rattle.lsm_device.specs.declared.refusal.Refusal.TheVariants.{NoMemory, Io, 
 use Rattle.lsm_extent.specs.Area.{Area}
 use Rattle.lsm_table.specs.Division.{TableBlocks}
 use Rattle.lsm_merge.specs.Inputs.{MergeInput}
-use Rattle.lsm_jobs.specs.Slots.{Stage, Slot, Frozen, is_frozen, is_writing, is_written, is_not_at}
+use Rattle.lsm_jobs.specs.Slots.{Stage, Slot, Frozen, is_frozen, is_writing, is_written, is_not_at, to_write}
 use Rattle.lsm_jobs.specs.Placing.{FindNoRoom}
 
 -- a job is frozen, with this input
@@ -49,11 +49,11 @@ RefusesResult next_table input images area held other = ⊥
 abbrev pub IsNotWriting : Option Slot → Refusal → Type 0
 IsNotWriting held refusal = ((refusal ≡ NoSuchJob) × (held ≡ None)) ⊎ ((refusal ≡ WrongState) × (is_not_at is_writing held ≡ true))
 
--- why no block is written, or not all that come next
+-- why no block is written, or not all that come next: of a fault only where some are left
 abbrev pub RefusesWrite : Option Slot → Refusal → Type 0
 RefusesWrite held NoSuchJob = held ≡ None
 RefusesWrite held WrongState = is_not_at is_writing held ≡ true
-RefusesWrite held Io = IsAtStage is_writing held
+RefusesWrite held Io = 0 < to_write held
 RefusesWrite held other = ⊥
 
 -- there is no such job, or it is not writing or has blocks left

@@ -3,7 +3,7 @@ use Rattle.std.specs.Prelude.{ℕ, ◌-◌, Bool, true, false, not, ◌==◌, is
 use Rattle.std.specs.List.{list_any}
 use Rattle.lsm_merge.specs.Inputs.{MergeInput}
 use Rattle.lsm_levels.specs.Tables.{Table}
-use Rattle.lsm_levels.specs.Pick.{Job}
+use Rattle.lsm_levels.specs.Pick.{Job, inputs}
 
 -- how far a job is
 pub data Stage : Type 0 where
@@ -110,3 +110,28 @@ is_not_at test (Some slot) = not (test slot.stage)
 abbrev pub outputs_of : Option Slot → List Table
 outputs_of None = []
 outputs_of (Some slot) = outputs_at slot.stage
+
+-- the tables that a job takes in, if there is one
+abbrev pub inputs_of : Option Slot → List Table
+inputs_of None = []
+inputs_of (Some slot) = inputs slot.job
+
+-- the data blocks that are left to read at a stage, and the blocks that are left to write
+abbrev pub left_to_read : Stage → ℕ
+left_to_read (Reading left) = left
+left_to_read Frozen = 0
+left_to_read (Writing tables left) = 0
+
+abbrev pub left_to_write : Stage → ℕ
+left_to_write (Reading left) = 0
+left_to_write Frozen = 0
+left_to_write (Writing tables left) = left
+
+-- those of a job, if there is one
+abbrev pub to_read : Option Slot → ℕ
+to_read None = 0
+to_read (Some slot) = left_to_read slot.stage
+
+abbrev pub to_write : Option Slot → ℕ
+to_write None = 0
+to_write (Some slot) = left_to_write slot.stage

@@ -5,11 +5,21 @@ use Rattle.lsm_levels.specs.Tables.{versions_of}
 use Rattle.lsm_levels.specs.Levels.{Levels}
 use Rattle.lsm_levels.specs.Pick.{Job, Flush, Merge, pick, is_bottom}
 use Rattle.lsm_jobs.specs.Gathering.{data_blocks, run_if_some}
+use Rattle.lsm_jobs.specs.declared.taking.TakenJob.{TakenJob}
 use Rattle.lsm_jobs.specs.Slots.{Stage, Reading, Frozen, Slot, Slots, JobSlots, held_jobs, has_free, with_slot}
 
 -- the job that is given: none where no slot is free, and else the one that comes next
 abbrev pub given_job : Bool → Levels → Slots → Option Job
 given_job waiting levels slots = if has_free slots then pick waiting levels (held_jobs slots) else None
+
+-- the level of a job's upper tables, none of a flush
+abbrev pub level_of : Job → Option ℕ
+level_of Flush = None
+level_of (Merge i upper lower) = Some i
+
+-- what is told of a job that is taken under a number
+abbrev pub told_of : ℕ → Job → TakenJob
+told_of number job = record { number = number; level = level_of job }
 
 abbrev pub sealed_versions : Option (List Version) → List Version
 sealed_versions None = []

@@ -1,6 +1,6 @@
 //! Data blocks of tables are read, and their entries added to a run.
 
-ghost use Rattle.std.specs.Prelude.{◌≡◌, ◌↔◌, ◌⊎◌, ◌≤◌, ◌+◌, ◌*◌, ◌++◌, ◌∷◌, [], List, Err, length, take, drop, IsTrue, IfErr, OnOk};
+ghost use Rattle.std.specs.Prelude.{◌≡◌, ◌↔◌, ◌⊎◌, ◌≤◌, ◌+◌, ◌-◌, ◌*◌, min, ◌++◌, ◌∷◌, [], List, Err, length, take, drop, IsTrue, IfErr, OnOk};
 ghost use Rattle.std.specs.List.{AllByRecursion};
 ghost use Rattle.std.specs.Ordering.{is_lt};
 ghost use Rattle.lsm_device.specs.declared.refusal.Refusal.TheVariants.{NoMemory, Io, BadTable};
@@ -126,7 +126,7 @@ pub(crate) fn read_tables<D: Device, A: Allocator + Clone>(
     ensures longer { IsLonger run.old.items run.new.items }
     ensures ordered { AreOrdered run.new.items }
     ensures refused { IfErr result (λ refusal. (refusal ≡ Io) ⊎ ((refusal ≡ BadTable) ⊎ (refusal ≡ NoMemory))) }
-    ensures device { ReadsBlocks most (faultless result) (D.medium device.old) (D.medium device.new) }
+    ensures device { ReadsBlocks (min most (data_blocks tables.now - done)) (faultless result) (D.medium device.old) (D.medium device.new) }
 {
     let mut skip = done;
     let mut left = most;

@@ -2,9 +2,12 @@
 
 ghost use Rattle.std.specs.Prelude.{◌≡◌, ◌↔◌, ◌⊎◌, IfErr, OnOk, OnErr, Err, None};
 ghost use Rattle.lsm_device.specs.declared.refusal.Refusal.TheVariants.{NoSuchJob};
+ghost use Rattle.lsm_levels.specs.Pick.{inputs};
 ghost use Rattle.lsm_jobs.specs.Slots.{slot_of, with_held, outputs_of};
 ghost use Rattle.lsm_jobs.specs.Placing.{AreHandedOut, all_given_back};
 
+use crate::held::HeldJob;
+use crate::reading::{lowers, uppers};
 use crate::slots::Slots;
 use lsm_device::Refusal;
 use lsm_extent::{Extent, Extents};
@@ -21,6 +24,19 @@ pub(crate) fn give_back<A: Allocator>(tables: &[PlacedTable<A>], extents: &mut E
             first: table.first_block(),
             blocks: table.blocks(),
         });
+    }
+}
+
+impl<A: Allocator> HeldJob<A> {
+    /// Gives back the extents of the tables that it takes in.
+    pub(crate) fn give_inputs_back(&self, extents: &mut Extents<A>)
+        requires { AreHandedOut (inputs self.now.job) extents.old }
+        ensures { extents.new ≡ all_given_back (inputs self.now.job) extents.old }
+    {
+        let upper = uppers(&self.tables);
+        let lower = lowers(&self.tables);
+        give_back(lower, extents);
+        give_back(upper, extents);
     }
 }
 

@@ -1,6 +1,6 @@
 //! What a merge gathers while its data blocks are read.
 
-ghost use Rattle.std.specs.Prelude.{◌≡◌, ◌⊎◌, ◌+◌, ◌≤◌, [], ◌∷◌, vec_capacity, Err, length, take, IsTrue, IfOk, IfErr, OnOk, OnErr};
+ghost use Rattle.std.specs.Prelude.{◌≡◌, ◌⊎◌, ◌+◌, ◌≤◌, [], ◌∷◌, vec_capacity, Err, length, min, take, IsTrue, IfOk, IfErr, OnOk, OnErr};
 ghost use Rattle.std.specs.List.{AllByRecursion};
 ghost use Rattle.std.specs.Arc.{arc_value};
 ghost use Rattle.lsm_device.specs.declared.refusal.Refusal.TheVariants.{NoMemory, Io, BadTable};
@@ -93,7 +93,7 @@ impl<A: Allocator + Clone> Gathering<A> {
         ensures ordered { AreOrdered self.old.upper × AreOrdered self.old.lower }
         ensures grown { IsGrown self.old self.new }
         ensures refused { IfErr result (λ refusal. (refusal ≡ Io) ⊎ ((refusal ≡ BadTable) ⊎ (refusal ≡ NoMemory))) }
-        ensures device { ReadsBlocks 8 (faultless result) (D.medium device.old) (D.medium device.new) }
+        ensures device { ReadsBlocks (min 8 (blocks_left upper.now lower.now self.old)) (faultless result) (D.medium device.old) (D.medium device.new) }
     {
         let upper_blocks = data_blocks(upper);
         let blocks = upper_blocks + data_blocks(lower);
@@ -116,6 +116,14 @@ impl<A: Allocator + Clone> Gathering<A> {
 }
 
 impl<A: Allocator> Gathering<A> {
+    /// How many data blocks of the tables are left.
+    pub(crate) fn left(&self, upper: &[PlacedTable<A>], lower: &[PlacedTable<A>]) -> usize
+        requires { length upper.now + length lower.now ≤ 1024 }
+        ensures { result ≡ blocks_left upper.now lower.now self.now }
+    {
+        (data_blocks(upper) + data_blocks(lower)).saturating_sub(self.done)
+    }
+
     /// Keeps so many entries of each run, and counts so many blocks.
     fn take_back(&mut self, upper: usize, lower: usize, done: usize)
         ensures { self.new ≡ record { upper = take upper self.old.upper; lower = take lower self.old.lower; done = done; cuts = self.old.cuts; bottom = self.old.bottom } }
@@ -260,7 +268,7 @@ impl<A: Allocator + Clone> Gathering<A> {
         ensures ordered { AreOrdered self.upper × AreOrdered self.lower }
         ensures unchanged { OnErr result.1 (result.0 ≡ Reading self) }
         ensures refused { IfErr result.1 (λ refusal. (refusal ≡ Io) ⊎ ((refusal ≡ BadTable) ⊎ (refusal ≡ NoMemory))) }
-        ensures device { ReadsBlocks 8 (faultless result.1) (D.medium device.old) (D.medium device.new) }
+        ensures device { ReadsBlocks (min 8 (blocks_left upper.now lower.now self)) (faultless result.1) (D.medium device.old) (D.medium device.new) }
     {
         let mut gathering = self;
         let upper_len = gathering.upper.len();

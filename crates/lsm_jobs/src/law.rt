@@ -3,6 +3,7 @@
 ghost use Rattle.lsm_jobs.specs.Keeping.{TakingLaw, InstallingLaw, StagingLaw, FreeingLaw, FoundLaw};
 ghost use Rattle.lsm_jobs.specs.Outcomes.{OutputsLaw};
 ghost use Rattle.lsm_jobs.specs.Installs.{InstallLaw};
+ghost use Rattle.lsm_jobs.specs.Pieces.{PiecesLaw};
 ghost use Rattle.lsm_jobs.specs.StoredJobs.{StoredTakingLaw, StoredReadingLaw, NeverBadLaw};
 
 /// Jobs in slots have their tables and share none, whatever is taken, read, written, installed or dropped.
@@ -26,4 +27,10 @@ pub fn stored_tables_are_read()
 pub fn outputs_may_be_installed()
     ensures outputs { OutputsLaw }
     ensures install { InstallLaw }
+{}
+
+/// The writes of a step of writing, all or those so far, which may cross from one output into the next, are in each output those
+/// of its next sectors, within its extent.
+pub fn pieces_stay_in_outputs()
+    ensures { PiecesLaw }
 {}

@@ -1,6 +1,6 @@
 //! The outputs of a job, which are being written.
 
-ghost use Rattle.std.specs.Prelude.{◌≡◌, ◌<◌, ◌≤◌, ◌+◌, ◌-◌, ◌*◌, length, take, drop, is_ok, IfSome};
+ghost use Rattle.std.specs.Prelude.{◌≡◌, ◌<◌, ◌≤◌, ◌+◌, ◌-◌, ◌*◌, length, take, drop, is_ok, IfSome, OnErr};
 ghost use Rattle.std.specs.Arc.{arc_value};
 ghost use Rattle.std.specs.List.{AllByRecursion};
 ghost use Rattle.lsm_device.specs.Calls.{AtMost};
@@ -98,6 +98,8 @@ fn write_some<D: Device, A: Allocator>(
     requires within { AllByRecursion (EndsWithin (D.medium device.old).size area) tables.now }
     ensures written { WritesBlocks area (take count (drop from (placed_blocks tables.now))) (is_ok result) (D.medium device.old) (D.medium device.new) }
     ensures calls { AtMost 0 (8 * count) 0 (D.medium device.old).calls (D.medium device.new).calls }
+    ensures untouched { count ≡ 0 → D.medium device.new ≡ D.medium device.old }
+    ensures some { OnErr result (0 < count) }
 {
     for i in 0..count {
         write_one(images, tables, device, area, from as usize + i as usize)?;
@@ -154,7 +156,9 @@ impl<A: Allocator> Outputs<A> {
         requires most { count < 8 → count ≡ self.now.left }
         requires within { AllByRecursion (EndsWithin (D.medium device.old).size area) self.now.tables }
         ensures written { WritesBlocks area (next_blocks self.now.tables self.now.left) (is_ok result) (D.medium device.old) (D.medium device.new) }
-        ensures calls { AtMost 0 64 0 (D.medium device.old).calls (D.medium device.new).calls }
+        ensures calls { AtMost 0 (8 * count) 0 (D.medium device.old).calls (D.medium device.new).calls }
+        ensures untouched { count ≡ 0 → D.medium device.new ≡ D.medium device.old }
+        ensures some { OnErr result (0 < count) }
     {
         write_some(
             self.images.as_slice(),

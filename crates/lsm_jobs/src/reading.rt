@@ -1,12 +1,12 @@
 //! How the data blocks of a job's tables are read.
 
-ghost use Rattle.std.specs.Prelude.{◌≡◌, ◌↔◌, ◌⊎◌, ◌+◌, ◌<◌, ◌≤◌, false, true, Err, None, Some, length, slice_set, IsTrue, IfOk, IfErr, OnErr};
+ghost use Rattle.std.specs.Prelude.{◌≡◌, ◌↔◌, ◌⊎◌, ◌+◌, ◌*◌, ◌<◌, ◌≤◌, false, true, Err, None, Some, length, min, slice_set, IsTrue, IfOk, IfErr, OnErr};
 ghost use Rattle.std.specs.List.{AllByRecursion, slice_index_or, list_all};
 ghost use Rattle.lsm_device.specs.declared.refusal.Refusal.TheVariants.{NoMemory, Io, BadTable, NoSuchJob, WrongState};
 ghost use Rattle.lsm_device.specs.Calls.{AtMost, faults_after};
 ghost use Rattle.lsm_device.specs.Refusals.{faultless};
 ghost use Rattle.lsm_levels.specs.Stored.{LiesWithin, is_within};
-ghost use Rattle.lsm_jobs.specs.Slots.{Slot, slot_of, is_reading, is_not_at};
+ghost use Rattle.lsm_jobs.specs.Slots.{Slot, slot_of, is_reading, is_not_at, left_to_read, to_read};
 ghost use Rattle.lsm_jobs.specs.Shown.{job_of};
 ghost use Rattle.lsm_jobs.specs.Gathering.{uppers, lowers, ReadsBlocks};
 ghost use Rattle.lsm_jobs.specs.Reading.{CanBeRead, JobCanBeRead, SlotReadsOn, IsBadNext, JobReadsOn};
@@ -19,7 +19,7 @@ use lsm_levels::PlacedTable;
 use std::alloc::Allocator;
 
 /// The upper tables, none of a flush.
-fn uppers<A: Allocator>(tables: &Option<MergeTables<A>>) -> &[PlacedTable<A>]
+pub(crate) fn uppers<A: Allocator>(tables: &Option<MergeTables<A>>) -> &[PlacedTable<A>]
     ensures { result.now ≡ uppers (job_of tables.now) }
 {
     match tables {
@@ -29,7 +29,7 @@ fn uppers<A: Allocator>(tables: &Option<MergeTables<A>>) -> &[PlacedTable<A>]
 }
 
 /// The lower tables, none of a flush.
-fn lowers<A: Allocator>(tables: &Option<MergeTables<A>>) -> &[PlacedTable<A>]
+pub(crate) fn lowers<A: Allocator>(tables: &Option<MergeTables<A>>) -> &[PlacedTable<A>]
     ensures { result.now ≡ lowers (job_of tables.now) }
 {
     match tables {
@@ -98,7 +98,7 @@ impl<A: Allocator + Clone> HeldJob<A> {
         ensures bad { IsTrue (D.medium device.old).lasting.tells → result.1 ≡ Err BadTable → IsBadNext area (D.medium device.old) self }
         ensures unchanged { OnErr result.1 (result.0 ≡ self) }
         ensures refused { IfErr result.1 (λ refusal. (refusal ≡ WrongState) ⊎ ((refusal ≡ Io) ⊎ ((refusal ≡ BadTable) ⊎ (refusal ≡ NoMemory)))) }
-        ensures device { ReadsBlocks 8 (faultless result.1) (D.medium device.old) (D.medium device.new) }
+        ensures device { ReadsBlocks (min 8 (left_to_read self.stage)) (faultless result.1) (D.medium device.old) (D.medium device.new) }
     {
         let HeldJob {
             number,
@@ -191,10 +191,13 @@ impl<A: Allocator> Slots<A> {
         ensures refused { IfErr result (λ refusal. (refusal ≡ NoSuchJob) ⊎ ((refusal ≡ WrongState) ⊎ ((refusal ≡ Io) ⊎ ((refusal ≡ BadTable) ⊎ (refusal ≡ NoMemory))))) }
         ensures same { OnErr result (self.new ≡ self.old) }
 
-        // The device is read alone, eight blocks at most. It is refused with Io only for a read that faulted, its last.
+        // The device is read alone: the blocks that are left, eight at most. It is refused with Io only for a read that faulted,
+        // its last. Where no block is left the device isn't touched.
         ensures faults { (D.medium device.new).calls.faults ≡ faults_after (faultless result) (D.medium device.old).calls.faults }
         ensures stops { IfErr result (λ refusal. refusal ≡ Io → IsTrue (D.medium device.new).calls.last_faulted) }
-        ensures calls { AtMost 64 0 0 (D.medium device.old).calls (D.medium device.new).calls }
+        ensures io { result ≡ Err Io → 0 < to_read (slot_of job self.old.slots) }
+        ensures calls { AtMost (8 * min 8 (to_read (slot_of job self.old.slots))) 0 0 (D.medium device.old).calls (D.medium device.new).calls }
+        ensures untouched { to_read (slot_of job self.old.slots) ≡ 0 → D.medium device.new ≡ D.medium device.old }
         ensures unchanged { IsTrue (D.medium device.old).lasting.tells → (D.medium device.new).history ≡ (D.medium device.old).history }
         ensures same_size { (D.medium device.new).size ≡ (D.medium device.old).size }
         ensures same_lasting { (D.medium device.new).lasting ≡ (D.medium device.old).lasting }

@@ -7,7 +7,7 @@ ghost use Rattle.lsm_merge.specs.Inputs.{IsCuts};
 ghost use Rattle.lsm_levels.specs.Pick.{Flush, Merge, is_flush};
 ghost use Rattle.lsm_levels.specs.Picks.{job_of};
 ghost use Rattle.lsm_device.specs.declared.refusal.Refusal.TheVariants.{NoMemory, Exhausted};
-ghost use Rattle.lsm_jobs.specs.Taking.{given_job, sealed_versions, slot_with, slot_for, with_taken};
+ghost use Rattle.lsm_jobs.specs.Taking.{given_job, level_of, told_of, sealed_versions, slot_with, slot_for, with_taken};
 ghost use Rattle.lsm_jobs.specs.Slots.{Frozen, with_slot};
 ghost use Rattle.lsm_jobs.specs.Holding.{free_from};
 
@@ -21,6 +21,28 @@ use lsm_mem::Sealed;
 use lsm_merge::Input;
 use std::alloc::{AllocError, Allocator};
 use std::sync::Arc;
+
+/// What is told of a job that was taken: its number, and the level of its upper tables, none of a flush.
+#[derive(Clone, Copy, Debug, PartialEq, Eq)]
+pub struct TakenJob {
+    pub number: u64,
+    pub level: Option<usize>,
+}
+
+/// The level of a job's upper tables, none of a flush.
+fn level_of<A: Allocator>(job: &Pick<'_, A>) -> Option<usize>
+    ensures { result ≡ level_of (job_of job.now) }
+{
+    match job {
+        Pick::Flush => None,
+        Pick::OldestRun { upper: _, lower: _ } => Some(0),
+        Pick::OneTable {
+            level,
+            upper: _,
+            lower: _,
+        } => Some(*level),
+    }
+}
 
 /// A flush of sealed versions.
 fn flush_of<A: Allocator + Clone>(
@@ -154,21 +176,22 @@ impl<A: Allocator> Slots<A> {
         number
     }
 
-    /// Takes the job that comes next: it goes into the least free slot, with these cuts and under a number of its own. None
-    /// where all slots are held or no job comes next. It is refused with `Exhausted` exactly where there is such a job and
-    /// the number 2^63 was given out, or else with `NoMemory`; then nothing has changed.
+    /// Takes the job that comes next: it goes into the least free slot, with these cuts and under a number of its own. It
+    /// answers that number, and the level of the job's upper tables. None where all slots are held or no job comes next. It
+    /// is refused with `Exhausted` exactly where there is such a job and the number 2^63 was given out, or else with
+    /// `NoMemory`; then nothing has changed.
     pub fn take(
         &mut self,
         alloc: &A,
         levels: &Levels<A>,
         sealed: Option<&Sealed<A>>,
         cuts: Vec<u64, A>,
-    ) -> Result<Option<u64>, Refusal>
+    ) -> Result<Option<TakenJob>, Refusal>
     where
         A: Clone,
         requires entries { IfSome sealed (λ s. AllByRecursion IsEntry s.now) }
         requires cuts { IsCuts cuts.items }
-        ensures given { IfOk result (λ number. number ≡ option_map (λ _. self.old.next) (given_job (is_some sealed.entry) levels.now self.old.slots)) }
+        ensures given { IfOk result (λ taken. taken ≡ option_map (told_of self.old.next) (given_job (is_some sealed.entry) levels.now self.old.slots)) }
         ensures taken { OnOk result (self.new ≡ with_taken (sealed_versions (option_map (λ s. s.now) sealed.entry)) cuts.items levels.now (given_job (is_some sealed.entry) levels.now self.old.slots) self.old) }
         ensures exhausted { (result ≡ Err Exhausted) ↔ ((is_some (given_job (is_some sealed.entry) levels.now self.old.slots) ≡ true) × (2 ^ 63 < self.old.next)) }
         ensures refusals { IfErr result (λ refusal. (refusal ≡ Exhausted) ⊎ (refusal ≡ NoMemory)) }
@@ -181,7 +204,8 @@ impl<A: Allocator> Slots<A> {
             return Err(Refusal::Exhausted);
         }
         let held = job_for(alloc, self.next, levels, &job, sealed, cuts)?;
+        let level = level_of(&job);
         let number = self.put(place, held);
-        Ok(Some(number))
+        Ok(Some(TakenJob { number, level }))
     }
 }

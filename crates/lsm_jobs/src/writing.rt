@@ -1,13 +1,13 @@
 //! How the outputs of a job are written.
 
-ghost use Rattle.std.specs.Prelude.{◌≡◌, ◌↔◌, ◌≤◌, ◌+◌, leb, ◌*◌, length, take, drop, IsTrue, OnOk, OnErr, is_ok, true, IfOk, IfErr};
+ghost use Rattle.std.specs.Prelude.{◌≡◌, ◌↔◌, ◌≤◌, ◌+◌, leb, ◌*◌, length, min, take, drop, IsTrue, OnOk, OnErr, is_ok, true, IfOk, IfErr};
 ghost use Rattle.lsm_device.specs.Calls.{AtMost, faults_after};
 ghost use Rattle.lsm_device.specs.History.{EachSince};
 ghost use Rattle.lsm_device.specs.Medium.{disk};
 ghost use Rattle.lsm_device.specs.Runs.{run_at, grown, HasSomeOf};
 ghost use Rattle.std.specs.List.{AllByRecursion, list_all};
 ghost use Rattle.lsm_device.specs.Refusals.{faultless};
-ghost use Rattle.lsm_jobs.specs.Slots.{slot_of, outputs_of};
+ghost use Rattle.lsm_jobs.specs.Slots.{slot_of, outputs_of, to_write};
 ghost use Rattle.lsm_jobs.specs.Outputs.{in_sectors, EndsWithin};
 ghost use Rattle.lsm_jobs.specs.Holding.{IsWritingAt};
 ghost use Rattle.lsm_jobs.specs.Writing.{WritesBlocks, IsWritten, next_of};
@@ -102,13 +102,16 @@ impl<A: Allocator> Slots<A> {
     /// data blocks, filter, index and footer. It takes no memory.
     ///
     /// It is refused with `NoSuchJob` exactly where no slot has the number, with `WrongState` exactly where the job is not
-    /// writing, and with `Io` where a write faulted, its last; then the blocks that it was to write count as left.
+    /// writing, and with `Io` where a write faulted, its last; then the blocks that it was to write count as left. With no block
+    /// left it makes no device call.
     pub fn write<D: Device>(&mut self, job: u64, device: &mut D, area: u32) -> Result<u32, Refusal>
         // The extents of the outputs lie in the device.
         requires { AllByRecursion (EndsWithin (D.medium device.old).size area) (outputs_of (slot_of job self.old.slots)) }
         ensures left { IfOk result (λ left. IsWritten job left self.old self.new) }
         ensures written { WritesBlocks area (next_of (slot_of job self.old.slots)) (faultless result) (D.medium device.old) (D.medium device.new) }
-        ensures calls { AtMost 0 64 0 (D.medium device.old).calls (D.medium device.new).calls }
+        ensures calls { AtMost 0 (8 * min 8 (to_write (slot_of job self.old.slots))) 0 (D.medium device.old).calls (D.medium device.new).calls }
+        // Where no block is left the device isn't touched.
+        ensures untouched { to_write (slot_of job self.old.slots) ≡ 0 → D.medium device.new ≡ D.medium device.old }
         ensures refused { IfErr result (RefusesWrite (slot_of job self.old.slots)) }
         ensures unchanged { OnErr result (self.new ≡ self.old) }
     {

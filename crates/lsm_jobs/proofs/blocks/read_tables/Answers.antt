@@ -11,9 +11,9 @@ use Rattle.lsm_codec.specs.Versions.{Version}
 use Rattle.lsm_table.specs.Outlines.{Outline}
 use Rattle.lsm_levels.specs.Tables.{Table}
 use Rattle.lsm_levels.specs.Stored.{blocks_from}
-use Rattle.lsm_jobs.specs.Gathering.{blocks_in, items_in, GoesOn, ReadsBlocks}
+use Rattle.lsm_jobs.specs.Gathering.{data_blocks, blocks_in, items_in, GoesOn, ReadsBlocks}
 use Rattle.lsm_jobs.proofs.GoingOn.{SameEnd, longer_by}
-use Rattle.lsm_jobs.proofs.BlockReads.{reads_then, items_behind, table_added, table_refused, tables_added}
+use Rattle.lsm_jobs.proofs.BlockReads.{reads_then, reads_within, some_tables, one_table_more, items_behind, table_added, table_refused, tables_added}
 use Rattle.lsm_jobs.proofs.blocks.read_tables.Goals as goal
 
 pub returns-in_err-read_blocks-clause-bad : goal.returns-in_err-read_blocks-clause-bad
@@ -54,10 +54,15 @@ returns-in_err-read_blocks-clause-device g c =
     let mid = D.medium c.loop-table.device in
     let new = D.medium c.read_blocks.new.device in
     let count = c.min-count.result in
-    let e = c.in_err-read_blocks.field-0.0 in
+    let table = c.table-item.result in
+    let size : c.data_blocks-blocks.result ≡ length table.outline.edges = c.data_blocks-blocks.ensures.count ∙ ap (λ (o : Outline). length o.edges) c.table.ensures.same in
+    let tables = c.args.tables.now in
+    let i = c.loop-table.table-index in
+    let all = data_blocks tables - c.args.done in
+    let step = one_table_more tables i table c.loop-table-test.true c.table-item.is in
     let d : ReadsBlocks count (faultless c.read_blocks.result) mid new = c.read_blocks.ensures.device in
-    rw (p.1, p.2) (subst (λ ok. ReadsBlocks c.args.most ok old new) (ap faultless c.in_err-read_blocks.was)
-    (reads_then (c.args.most - c.loop-table.left) count c.args.most (faultless c.read_blocks.result) old mid new (omega (arith, k.few, c.min-count.ensures)) k.device d))
+    rw (p.1, p.2) (subst (λ ok. ReadsBlocks (min c.args.most all) ok old new) (ap faultless c.in_err-read_blocks.was)
+    (reads_then (c.args.most - c.loop-table.left) count (min c.args.most all) (faultless c.read_blocks.result) old mid new (omega (arith, size, k.few, k.skipped, k.spent, c.min-first.ensures, c.min-count.ensures, step.0, step.1)) k.device d))
 
 pub loop-table-preserved : goal.loop-table-preserved
 loop-table-preserved g c =
@@ -84,9 +89,12 @@ loop-table-preserved g c =
     let at : sector ≡ c.args.area + 8 * (table.start + first) = ap (λ (m : ℕ). c.args.area + 8 * (m + first)) c.first_block.ensures in
     let front : drop i tables ≡ table ∷ drop (i + 1) tables = drop_more tables i table c.loop-table-test.true ∙ ap (λ (u : Table). u ∷ drop (i + 1) tables) (sym c.table-item.is) in
     let d : ReadsBlocks count true mid new = c.in_ok-read_blocks.ensures.device in
+    let step = one_table_more tables i table c.loop-table-test.true c.table-item.is in
     record {
       same_size = d.only_reads.same_size ∙ k.same_size;
       few = omega (arith, k.few);
+      skipped = omega (arith, f, k.skipped, step.0);
+      spent = omega (arith, f, n, k.few, k.skipped, k.spent, step.0);
       device = reads_then (c.args.most - left) count (c.args.most - (left - count)) true old mid new (omega (arith, k.few, n)) k.device d;
       same = λ t.
           let tells : IsTrue mid.lasting.tells = subst (λ (l : Lasting). IsTrue l.tells) (sym k.device.only_reads.same_lasting) t in
@@ -109,3 +117,12 @@ returns-clause-goes_on g c = λ t.
     let end : drop c.loop-table.table-index tables ≡ [] = drop_all c.loop-table.table-index tables (omega (arith, c.loop-table-test.false)) in
     tables_added S c.args.area c.loop-table.skip c.loop-table.left run run0 whole k.ordered
     (subst (λ (l : List Table). SameEnd run (items_behind S c.args.area l c.loop-table.skip c.loop-table.left) run0 whole) end (k.same t))
+
+pub returns-clause-device : goal.returns-clause-device
+returns-clause-device g c =
+    let D = g.D.Device in
+    let k = c.loop-table.invariant in
+    let tables = c.args.tables.now in
+    let all = data_blocks tables - c.args.done in
+    let whole = some_tables tables c.loop-table.table-index in
+    reads_within (c.args.most - c.loop-table.left) (min c.args.most all) true (D.medium c.args.device.now) (D.medium c.loop-table.device) (omega (arith, k.spent, whole)) k.device

@@ -32,6 +32,9 @@ pub returns-in_err-write_one-clause-calls : goal.returns-in_err-write_one-clause
 returns-in_err-write_one-clause-calls g c =
     AtMost-joined 0 (8 * c.loop-i.i) 0 0 8 0 0 (8 * c.args.count) 0 _ _ _ (omega arith) (omega (arith, c.loop-i-test.true)) (omega arith) c.loop-i.invariant.calls c.write_one.ensures.calls
 
+pub returns-in_err-write_one-clause-untouched : goal.returns-in_err-write_one-clause-untouched
+returns-in_err-write_one-clause-untouched g c = λ none. absurd (omega (arith, c.loop-i-test.true, none))
+
 pub loop-i-preserved : goal.loop-i-preserved
 loop-i-preserved g c =
     let D = g.D.Device in
@@ -43,9 +46,13 @@ loop-i-preserved g c =
       same_size = one.same_size ∙ inv.same_size;
       same_lasting = one.same_lasting ∙ inv.same_lasting;
       no_fault = one.faults ∙ inv.no_fault;
+      untouched = λ none. absurd (omega (arith, none));
       calls = AtMost-joined 0 (8 * c.loop-i.i) 0 0 8 0 0 (8 * (c.loop-i.i + 1)) 0 _ _ _ (omega arith) (omega arith) (omega arith) inv.calls c.write_one.ensures.calls;
       comes = λ t. block_comes c.args.area c.args.count c.loop-i.i (drop c.args.from placed) (D.medium c.args.device.now).history (D.medium c.loop-i.device).history (D.medium c.write_one.new.device).history c.loop-i-test.true (inv.comes t) (one.moments (rw inv.same_lasting t)) (one.pends (rw inv.same_lasting t) refl);
     }
+
+pub returns-clause-untouched : goal.returns-clause-untouched
+returns-clause-untouched g c = λ none. c.loop-i.invariant.untouched (omega (arith, c.loop-i.auto.i-end, none))
 
 pub returns-clause-written : goal.returns-clause-written
 returns-clause-written g c =

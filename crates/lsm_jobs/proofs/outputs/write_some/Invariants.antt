@@ -14,6 +14,7 @@ invariant-loop-i g l =
       same_size : (D.medium l.device).size ≡ (D.medium l.fn.device).size;
       same_lasting : (D.medium l.device).lasting ≡ (D.medium l.fn.device).lasting;
       no_fault : (D.medium l.device).calls.faults ≡ (D.medium l.fn.device).calls.faults;
+      untouched : l.i ≡ 0 → D.medium l.device ≡ D.medium l.fn.device;
       calls : AtMost 0 (8 * l.i) 0 (D.medium l.fn.device).calls (D.medium l.device).calls;
       comes : IsTrue (D.medium l.fn.device).lasting.tells
           → Comes (HasSomeOf (present (D.medium l.fn.device).history) (writes_of l.area (take l.count blocks))) (D.medium l.fn.device).history (D.medium l.device).history
