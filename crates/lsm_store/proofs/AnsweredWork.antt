@@ -1,5 +1,5 @@
 -- What the slots of jobs answer is what the work says.
-use Rattle.std.proofs.Common.{◌≡◌, ◌≢◌, ◌⊎◌, inl, inr, ⊎_elim, ℕ, suc, ◌+◌, ◌-◌, ◌<◌, ◌≤◌, ◌^◌, Bool, true, false, cond, not, ◌&&◌, ◌==◌, ltb, List, [], ◌∷◌, length, Option, Some, None, is_none, refl, sym, ap, ◌∙◌, subst}
+use Rattle.std.proofs.Common.{◌≡◌, ◌≢◌, ◌⊎◌, inl, inr, ⊎_elim, ℕ, suc, ◌+◌, ◌-◌, ◌<◌, ◌≤◌, ◌^◌, Bool, true, false, cond, not, ◌&&◌, ◌==◌, ltb, List, [], ◌∷◌, length, Option, Some, None, is_none, refl, sym, ap, ◌∙◌, subst, arith}
 use Rattle.std.proofs.lemmas.Bool.{and_parts, eqb-true, eq-eqb, lt-ltb, le-ltb, false≢true}
 use Rattle.lsm_codec.specs.Keys.{Bytes}
 use Rattle.lsm_codec.specs.Versions.{Version, is_same_key}
@@ -13,7 +13,7 @@ use Rattle.lsm_table.specs.Division.{TableBlocks}
 use Rattle.lsm_merge.specs.Inputs.{MergeInput}
 use Rattle.lsm_merge.specs.Results.{MergeResult}
 use Rattle.lsm_levels.specs.Tables.{Table}
-use Rattle.lsm_jobs.specs.Slots.{Stage, Slot, Frozen, Writing, JobSlots, with_held, left_at, less_left, is_reading, is_frozen, is_writing, is_written, is_not_at}
+use Rattle.lsm_jobs.specs.Slots.{Stage, Slot, Reading, Frozen, Writing, JobSlots, with_held, left_at, left_to_write, less_left, is_reading, is_frozen, is_writing, is_written, is_not_at}
 use Rattle.lsm_jobs.specs.Reading.{JobReadsOn, stage_with, input_with}
 use Rattle.lsm_jobs.specs.Gathering.{uppers, lowers}
 use Rattle.lsm_jobs.specs.Outputs.{placed_blocks}
@@ -150,11 +150,16 @@ ask_answers m job = record {
 
 -- ---- writing
 
+some_to_write : (stage : Stage) → 0 < left_to_write stage → is_writing stage ≡ true
+some_to_write (Reading left) some = absurd (omega (arith, some))
+some_to_write Frozen some = absurd (omega (arith, some))
+some_to_write (Writing tables left) some = refl
+
 written_refusal : (o : Option Slot) (e : Refusal) → RefusesWrite o e → (AtStage is_writing o None ≡ Some e) ⊎ ((e ≡ Io) × (AtStage is_writing o None ≡ None))
 written_refusal o NoSuchJob h = inl (no_job is_writing o None h)
 written_refusal o WrongState h = inl (other_stage is_writing o None h)
-written_refusal None Io h = absurd h
-written_refusal (Some slot) Io h = inr (refl, stage_passes is_writing (Some slot) slot None refl h)
+written_refusal None Io h = absurd (omega (arith, h))
+written_refusal (Some slot) Io h = inr (refl, stage_passes is_writing (Some slot) slot None refl (some_to_write slot.stage h))
 written_refusal o other h = absurd h
 
 pub write_answers : (m : WorkMachine) (job : ℕ) → WritesSome m job

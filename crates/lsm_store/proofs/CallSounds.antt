@@ -1,4 +1,4 @@
--- A call that is answered, a rotation and an opening leave the work standing for the state, and each job ready for its install.
+-- A call that is answered and a rotation leave the work standing for the state, and each job ready for its install.
 use Rattle.std.proofs.Common.{◌≡◌, ◌⊎◌, inl, inr, ⊎_elim, ℕ, ◌+◌, ◌<◌, ◌≤◌, Bool, true, false, cond, not, ◌==◌, List, [], ◌∷◌, ◌++◌, map, Option, Some, None, option_map, is_some, refl, sym, ap, ◌∙◌, subst, arith}
 use Rattle.std.specs.Prelude.{nat_le}
 use Rattle.std.specs.List.{AllByRecursion}
@@ -50,7 +50,7 @@ ordered_with n (operation ∷ rest) vs h =
     ordered_with n rest (placed (version_by n operation) vs) (ordered_tested (placed (version_by n operation) vs) (is_in_order-placed (version_by n operation) vs (tested vs h)))
 
 -- in order no two are of one key and number
-unique_ordered : (vs : List Version) → AreOrdered vs → IsUnique vs
+pub unique_ordered : (vs : List Version) → AreOrdered vs → IsUnique vs
 unique_ordered [] h v w a b key number = absurd a
 unique_ordered (x ∷ xs) h v w (inl a) (inl b) key number = a ∙ sym b
 unique_ordered (x ∷ xs) h v w (inl a) (inr b) key number =

@@ -30,3 +30,10 @@ pub mod InstalledMaps
 pub mod WorkSounds
 pub mod InstallSounds
 pub mod CallSounds
+pub mod OpenedWorks
+pub mod LeftStates
+pub mod AppendedTables
+pub mod InstalledTables
+pub mod StoredTables
+pub mod KeptJobs
+pub mod VersionPoints

@@ -21,3 +21,5 @@ pub mod WorkEffects
 pub mod JobAnswers
 pub mod WorkMaps
 pub mod WorkSound
+pub mod OpenedWork
+pub mod StoredTables

@@ -2,9 +2,9 @@
 use Rattle.std.specs.Prelude.{ℕ, ◌+◌, ◌-◌, ◌==◌, Bool, true, false, List, [], length, Option, Some, None, option_map, is_some, if◌then◌else◌}
 use Rattle.lsm_mem.specs.EntryOrder.{with_batch}
 use Rattle.lsm_levels.specs.Tables.{Table}
-use Rattle.lsm_levels.specs.Pick.{Job, Flush, Merge, inputs, is_flush, installed as installed_levels}
+use Rattle.lsm_levels.specs.Pick.{inputs, is_flush, installed as installed_levels}
 use Rattle.lsm_jobs.specs.Slots.{Stage, Slot, Writing, with_held, left_at, less_left, outputs_at, outputs_of}
-use Rattle.lsm_jobs.specs.Taking.{with_taken}
+use Rattle.lsm_jobs.specs.Taking.{level_of, with_taken}
 use Rattle.lsm_jobs.specs.Reading.{stage_with}
 use Rattle.lsm_jobs.specs.Outputs.{placed_blocks}
 use Rattle.lsm_jobs.specs.Placing.{all_handed_out, all_given_back}
@@ -18,11 +18,6 @@ use Rattle.lsm_store.specs.Work.{WorkView, WorkMachine, Work, Take, Read, Ask, A
 use Rattle.lsm_store.specs.WorkRefusals.{job_given, held, of_slot, placing}
 
 -- ---- the answer
-
--- a job as a reply tells of it: none of a flush, else the level of its upper tables
-abbrev pub level_of : Job → Option ℕ
-level_of Flush = None
-level_of (Merge i upper lower) = Some i
 
 -- how many blocks of a job are left after a piece of work that reads or writes at most eight
 abbrev pub left_then : Option Slot → ℕ

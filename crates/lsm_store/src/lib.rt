@@ -6,10 +6,12 @@ mod checks;
 mod device_law;
 mod law;
 mod memory;
+mod opened_law;
 mod opening;
 mod serve;
 mod snapshots;
 mod store;
+mod stored_law;
 mod work_law;
 
 pub use asked::At;
@@ -19,5 +21,11 @@ pub use law::{
     crashes_keep_beginnings, runs_join, stopped_refuses,
 };
 pub use lsm_mem::{Page, Row};
+pub use opened_law::opened_work_is_sound;
 pub use store::Store;
+pub use stored_law::{
+    commits_keep_tables, free_writes_keep_tables, installs_keep_tables, jobs_keep_tables,
+    jobs_may_go_on, layouts_are_placements, recovered_tables_are_stored, rotations_keep_tables,
+    stored_tables_leave, syncs_keep_tables,
+};
 pub use work_law::{maps_stay, slots_answer_the_work, work_stays_sound};
