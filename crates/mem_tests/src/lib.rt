@@ -4,6 +4,8 @@
 #[cfg(test)]
 mod growth;
 #[cfg(test)]
+mod lines;
+#[cfg(test)]
 mod pages;
 #[cfg(test)]
 mod sealing;

@@ -21,16 +21,32 @@ fn delete(key: &[u8], number: u64) -> VersionRef<'_> {
     }
 }
 
-/// The page of versions in the order of entries.
+/// The versions of five keys in the order of entries: `a` and `c` are put twice, `b` is put and deleted, `d` and `e` are put
+/// once.
+fn versions() -> [VersionRef<'static>; 9] {
+    [
+        put(b"a", 5, b"5"),
+        put(b"a", 2, b"2"),
+        delete(b"b", 4),
+        put(b"b", 3, b"3"),
+        put(b"b", 1, b"1"),
+        put(b"c", 9, b"9"),
+        put(b"c", 3, b"3"),
+        put(b"d", 2, b"2"),
+        put(b"e", 1, b"1"),
+    ]
+}
+
+/// The page of the first so many versions.
 fn page_of(
     alloc: Global,
-    versions: [VersionRef<'_>; 9],
+    count: usize,
     to: Option<&[u8]>,
     at: u64,
     limit: u64,
 ) -> Result<Page, AllocError> {
     let mut builder = PageBuilder::new(&alloc, to, at, limit)?;
-    for version in versions {
+    for version in versions().into_iter().take(count) {
         if !builder.take(&alloc, version)? {
             break;
         }
@@ -52,26 +68,15 @@ fn listed(alloc: Global, page: &Page) -> Result<Vec<u8>, AllocError> {
     Ok(out)
 }
 
-/// Whether the page of five keys is this one: `a` and `c` are put twice, `b` is put and deleted, `d` and `e` are put once.
+/// Whether the page of the first so many versions is this one.
 fn is_page(
     alloc: Global,
+    count: usize,
     to: Option<&[u8]>,
-    at: u64,
-    limit: u64,
+    (at, limit): (u64, u64),
     wanted: &[u8],
 ) -> Result<bool, AllocError> {
-    let versions = [
-        put(b"a", 5, b"5"),
-        put(b"a", 2, b"2"),
-        delete(b"b", 4),
-        put(b"b", 3, b"3"),
-        put(b"b", 1, b"1"),
-        put(b"c", 9, b"9"),
-        put(b"c", 3, b"3"),
-        put(b"d", 2, b"2"),
-        put(b"e", 1, b"1"),
-    ];
-    let page = page_of(alloc, versions, to, at, limit)?;
+    let page = page_of(alloc, count, to, at, limit)?;
     let found = listed(alloc, &page)?;
     Ok(found.as_slice() == wanted)
 }
@@ -91,7 +96,35 @@ fn a_page_has_the_newest_put_of_each_key(rt: HostRuntime) -> Result<(), Fail> {
         (Some(b"c".as_slice()), 5, 64, b"a5".as_slice()),
         (Some(b"a".as_slice()), 5, 64, b"".as_slice()),
     ] {
-        assert!(rt; is_page(rt.alloc(), to, at, limit, wanted)?, "{at} {limit}");
+        assert!(rt;
+            is_page(rt.alloc(), 9, to, (at, limit), wanted)?,
+            "{at} {limit}"
+        );
+    }
+    Ok(())
+}
+
+#[test]
+fn a_page_is_whole_where_no_version_is_left(rt: HostRuntime) -> Result<(), Fail> {
+    for (count, limit, wanted) in [
+        (0, 64, b"".as_slice()),
+        (1, 64, b"a5"),
+        (4, 64, b"a5"),
+        (6, 64, b"a5"),
+        (8, 64, b"a5c3d2"),
+        // Full pages, behind which no key with a row has come.
+        (0, 0, b""),
+        (6, 1, b"a5"),
+        (7, 2, b"a5c3"),
+        // One row more is the next key.
+        (1, 0, b">a"),
+        (7, 1, b"a5>c"),
+        (8, 2, b"a5c3>d"),
+    ] {
+        assert!(rt;
+            is_page(rt.alloc(), count, None, (5, limit), wanted)?,
+            "{count} {limit}"
+        );
     }
     Ok(())
 }

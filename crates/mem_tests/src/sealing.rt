@@ -6,6 +6,7 @@ ghost use Rattle.std.specs.List.{AllByRecursion};
 ghost use Rattle.lsm_codec.specs.Versions.{IsEntry};
 
 use crate::growth::all_but;
+use crate::lines::{LINE, line_of_versions, tell};
 use crate::tables::{Table, lists, put};
 use crate::versions::several_keys;
 use linked_list_allocator::LocalHeap;
@@ -16,9 +17,6 @@ use std::alloc::{AllocError, Global};
 use std::sync::Arc;
 use std::test::Fail;
 
-/// Key, number and value of each version, in a line.
-const LINE: &[u8] = b"a1=1 ab3= b2 b1=1 c1=1 ";
-
 fn sealed(table: Table) -> Result<Arc<Sealed, Global>, Fail>
     ensures { IfOk result (λ sealed. AllByRecursion IsEntry (arc_value sealed)) }
 {
@@ -26,26 +24,6 @@ fn sealed(table: Table) -> Result<Arc<Sealed, Global>, Fail>
         Ok(sealed) => Ok(sealed),
         Err(_) => Err("no memory".into()),
     }
-}
-
-/// Adds a version to a line.
-fn tell(line: &mut Vec<u8>, version: VersionRef<'_>) -> Result<(), AllocError> {
-    line.extend_from_slice(version.key)?;
-    line.push(b'0' + (version.number % 10) as u8)?;
-    if let Some(value) = version.value {
-        line.push(b'=')?;
-        line.extend_from_slice(value)?;
-    }
-    line.push(b' ')?;
-    Ok(())
-}
-
-fn line_of_versions(alloc: Global, sealed: &Sealed) -> Result<Vec<u8>, AllocError> {
-    let mut line = Vec::new(alloc);
-    for version in sealed.versions() {
-        tell(&mut line, version)?;
-    }
-    Ok(line)
 }
 
 fn line_of_entries(alloc: Global, entries: &[Entry]) -> Result<Vec<u8>, AllocError> {
@@ -64,7 +42,7 @@ fn line_of_entries(alloc: Global, entries: &[Entry]) -> Result<Vec<u8>, AllocErr
 #[test]
 fn a_sealed_table_lends_and_copies_all_versions_in_order(rt: HostRuntime) -> Result<(), Fail> {
     let sealed = sealed(several_keys(rt.alloc())?)?;
-    assert!(rt; line_of_versions(rt.alloc(), &sealed)?.as_slice() == LINE);
+    assert!(rt; line_of_versions(rt.alloc(), sealed.versions())?.as_slice() == LINE);
     let entries = sealed.entries(rt.alloc())?;
     assert!(rt; line_of_entries(rt.alloc(), &entries)?.as_slice() == LINE);
     Ok(())

@@ -1,10 +1,11 @@
 //! Versions that a table keeps.
 
+use crate::lines::{LINE, line_of_versions};
 use crate::tables::{Table, delete, is_version, lists, put};
 use lsm_codec::Batch;
 use lsm_device::Refusal;
 use lsm_mem::Mem;
-use std::alloc::Global;
+use std::alloc::{AllocError, Global};
 use std::test::Fail;
 
 /// A table with four versions of one key.
@@ -109,6 +110,25 @@ fn a_range_gives_the_newest_version_of_each_key(rt: HostRuntime) -> Result<(), F
         (b"d".as_slice(), 9, b"".as_slice()),
     ] {
         assert!(rt; lists(table.mem(), rt.alloc(), from, at, wanted)?, "{at}");
+    }
+    Ok(())
+}
+
+/// Whether all versions of a table, in their order, are these in a line.
+fn has_versions(alloc: Global, table: &Table, line: &[u8]) -> Result<bool, AllocError> {
+    let found = line_of_versions(alloc, table.mem().versions())?;
+    Ok(found.as_slice() == line)
+}
+
+#[test]
+fn all_versions_come_by_key_and_the_newest_first(rt: HostRuntime) -> Result<(), Fail> {
+    for (table, line) in [
+        (Table::new(rt.alloc())?, b"".as_slice()),
+        (four_versions(rt.alloc())?, b"a4=4 a3=3 a2=2 a1=1 "),
+        (puts_and_deletes(rt.alloc())?, b"a2=2 a1 "),
+        (several_keys(rt.alloc())?, LINE),
+    ] {
+        assert!(rt; has_versions(rt.alloc(), &table, line)?);
     }
     Ok(())
 }
