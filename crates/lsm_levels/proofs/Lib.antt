@@ -26,6 +26,7 @@ pub mod LookingUp
 pub mod ToldLaws
 pub mod StoredLaws
 pub mod Finding
+pub mod AnswerLaws
 pub mod WithinLaws
 pub mod CursorBlocks
 pub mod AskingLaws

@@ -107,18 +107,22 @@ pub same_refusal : {X : Type 0} (a b : Refusal) (r : Result X Refusal) → r ≡
 same_refusal a b (Ok x) p q = absurd cc
 same_refusal a b (Err y) p q = let one : y ≡ a = cc in let other : y ≡ b = cc in sym one ∙ other
 
+-- where nothing is read
+pub nothing_counted : (count : ℕ) (found : Outcome) (o : Option Version) (c : Calls) → found ≡ Ok o → IsCounted count found c c
+nothing_counted count found o c e =
+    let fair : IsFair found = subst IsFair (sym e) tt in
+    record {
+      at_most = none_made (8 * count) c;
+      faults = sym (ap (λ (f : Outcome). faults_after (faultless f) c.faults) e);
+      stops = λ io. absurd (not_io found fair io);
+      refusals = fair_refusals found fair;
+    }
+
 io_refusals : (found : Outcome) → found ≡ Err Io → (e : Refusal) → found ≡ Err e → (e ≡ Io) ⊎ (e ≡ BadTable)
 io_refusals found io e is = inl (same_refusal e Io found is io)
 
 pub says_counted : (key : Bytes) (n : ℕ) (o : Option PlacedBlock) (found : Outcome) (old new : Source) → Says key n o found old new → IsCounted 1 found old.medium.calls new.medium.calls
-says_counted key n None found old new h =
-    let same : new.medium.calls ≡ old.medium.calls = ap (λ (s : Source). s.medium.calls) h.1 in
-    record {
-      at_most = subst (λ (c : Calls). AtMost (8 * 1) 0 0 old.medium.calls c) (sym same) (none_made (8 * 1) old.medium.calls);
-      faults = ap (λ (c : Calls). c.faults) same ∙ sym (ap (λ (f : Outcome). faults_after (faultless f) old.medium.calls.faults) h.0);
-      stops = λ e. absurd (not_io found (subst IsFair (sym h.0) tt) e);
-      refusals = fair_refusals found (subst IsFair (sym h.0) tt);
-    }
+says_counted key n None found old new h = subst (λ (s : Source). IsCounted 1 found old.medium.calls s.medium.calls) (sym h.1) (nothing_counted 1 found None old.medium.calls h.0)
 says_counted key n (Some b) found old new (inl s) =
     let count : ℕ = sectors_read b.name old.cache in
     let few : count ≤ 8 = elim (is_some (bytes_of b.name old.cache)) as (λ y. cond y 0 8 ≤ 8) [ true ↦ omega arith | false ↦ omega arith ] in
@@ -154,14 +158,7 @@ counted_here count first found old new same one = record {
 }
 
 pub looks_counted : (area : ℕ) (key : Bytes) (n : ℕ) (runs : List (List Table)) (found : Outcome) (old new : Source) → LooksUp area key n runs found old new → IsCounted (length runs) found old.medium.calls new.medium.calls
-looks_counted area key n [] found old new h =
-    let same : new.medium.calls ≡ old.medium.calls = ap (λ (s : Source). s.medium.calls) h.1 in
-    record {
-      at_most = subst (λ (c : Calls). AtMost (8 * 0) 0 0 old.medium.calls c) (sym same) (none_made (8 * 0) old.medium.calls);
-      faults = ap (λ (c : Calls). c.faults) same ∙ sym (ap (λ (f : Outcome). faults_after (faultless f) old.medium.calls.faults) h.0);
-      stops = λ e. absurd (not_io found (subst IsFair (sym h.0) tt) e);
-      refusals = fair_refusals found (subst IsFair (sym h.0) tt);
-    }
+looks_counted area key n [] found old new h = subst (λ (s : Source). IsCounted 0 found old.medium.calls s.medium.calls) (sym h.1) (nothing_counted 0 found None old.medium.calls h.0)
 looks_counted area key n (run ∷ older) found old new h =
     let one = says_counted key n (asked_of_run area key n run) h.0 old h.1 h.2 in
     ends_or h.0
@@ -183,7 +180,7 @@ all_trivial : {X : Type 0} (xs : List X) → AllByRecursion (λ x. Unit {0}) xs
 all_trivial [] = tt
 all_trivial (x ∷ xs) = (tt, all_trivial xs)
 
-no_reads : (m : Medium) → OnlyReads m m
+pub no_reads : (m : Medium) → OnlyReads m m
 no_reads m = record { same_size = refl; same_lasting = refl; unchanged = λ t. refl }
 
 pub more_reads : (a b c : Medium) → OnlyReads a b → OnlyReads b c → OnlyReads a c

@@ -1,11 +1,11 @@
 -- Which blocks a scan asks for.
-use Rattle.std.proofs.Common.{◌≡◌, ◌⊎◌, inl, inr, ℕ, zero, suc, ◌+◌, ◌*◌, ◌<◌, ◌≤◌, Bool, true, false, cond, List, [], ◌∷◌, ◌++◌, length, map, set, drop, slice_get, Option, Some, None, Result, Ok, Err, option_map, refl, ap, sym, subst, ◌∙◌, arith}
+use Rattle.std.proofs.Common.{◌≡◌, ◌⊎◌, inl, inr, ℕ, zero, suc, ◌*◌, ◌<◌, Bool, true, false, cond, List, [], ◌∷◌, length, map, set, drop, slice_get, Option, Some, None, Ok, Err, option_map, refl, ap, sym, subst, ◌∙◌, arith}
 use Rattle.std.specs.Prelude.{IsTrue}
 use Rattle.std.specs.List.{AllByRecursion}
 use Rattle.std.proofs.lemmas.Option.{same_Some, slice_get-map}
 use Rattle.std.proofs.lemmas.List.{map-set}
 use Rattle.lsm_device.specs.declared.refusal.Refusal.{Refusal}
-use Rattle.lsm_device.specs.declared.refusal.Refusal.TheVariants.{NoMemory, Io, BadTable}
+use Rattle.lsm_device.specs.declared.refusal.Refusal.TheVariants.{Io, BadTable}
 use Rattle.lsm_device.specs.Calls.{AtMost, faults_after}
 use Rattle.lsm_device.proofs.Counting.{AtMost-joined, AtMost-wider}
 use Rattle.lsm_codec.specs.Keys.{Bytes}
@@ -14,12 +14,11 @@ use Rattle.lsm_codec.specs.Entries.{entries_in}
 use Rattle.lsm_cache.specs.Fresh.{IsFresh, IsNumberedBelow}
 use Rattle.lsm_cache.specs.declared.name.BlockName.{BlockName}
 use Rattle.lsm_levels.specs.Asking.{Source, OnlyReads, IsGiven, IsDenied}
-use Rattle.lsm_levels.specs.Cursors.{Items, Cursor, AsksOnce, Enters, GoesOn, IsPlacedAt, Seeks, SeeksTo, Shows, first_refusal, is_faultless, is_passed, refusal_of, sought}
+use Rattle.lsm_levels.specs.Cursors.{Items, Cursor, Enters, GoesOn, IsPlacedAt, Seeks, SeeksTo, Shows, first_refusal, is_faultless, is_passed, sought}
 use Rattle.lsm_levels.specs.Scans.{AsksInTurn, AsksOn, AsksSome, IsFairItem, blocks_in, blocks_to_come}
 use Rattle.lsm_levels.specs.declared.placed.PlacedBlock.{PlacedBlock}
 use Rattle.lsm_levels.proofs.AskingLaws.{asks_none, asks_given, asks_denied, given_shows, shows_read}
 use Rattle.lsm_levels.proofs.LookingUp.{IsBad, bad_in, more_reads}
-use Rattle.lsm_levels.proofs.Parts.{all_map}
 
 -- ---- places in lists
 

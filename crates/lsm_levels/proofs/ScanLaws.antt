@@ -1,5 +1,5 @@
 -- How sources come to a page.
-use Rattle.std.proofs.Common.{◌≡◌, ◌⊎◌, inl, inr, ℕ, zero, suc, ◌+◌, ◌*◌, ◌<◌, ◌≤◌, Bool, true, false, is_some, List, [], ◌∷◌, ◌++◌, length, map, set, drop, slice_get, Option, Some, None, Result, Ok, Err, option_map, refl, ap, sym, subst, ◌∙◌, arith}
+use Rattle.std.proofs.Common.{◌≡◌, ◌⊎◌, inl, inr, ℕ, zero, suc, ◌+◌, ◌<◌, ◌≤◌, Bool, true, false, is_some, List, [], ◌∷◌, ◌++◌, length, map, set, drop, slice_get, Option, Some, None, refl, ap, sym, subst, ◌∙◌, arith}
 use Rattle.std.specs.List.{AllByRecursion}
 use Rattle.std.proofs.lemmas.Option.{same_Some}
 use Rattle.lsm_device.specs.declared.refusal.Refusal.{Refusal}
@@ -8,13 +8,13 @@ use Rattle.lsm_codec.specs.Versions.{Version}
 use Rattle.lsm_codec.specs.Entries.{entries_in}
 use Rattle.lsm_cache.specs.declared.name.BlockName.{BlockName}
 use Rattle.lsm_mem.specs.Paging.{Page}
-use Rattle.lsm_mem.specs.Gathering.{Gathering, page_with, page_so_far}
+use Rattle.lsm_mem.specs.Gathering.{Gathering, page_with}
 use Rattle.lsm_merge.specs.Inputs.{joined}
 use Rattle.lsm_levels.specs.Asking.{Source}
-use Rattle.lsm_levels.specs.Cursors.{Items, Cursor, GoesOn, Gives, Shows, first_version, present}
+use Rattle.lsm_levels.specs.Cursors.{Items, Cursor, GoesOn, Gives, first_version, present}
 use Rattle.lsm_levels.specs.Queues.{AreSpent, OneGoesOn}
-use Rattle.lsm_levels.specs.Sources.{AreInOrder, IsNext, Splits, head_at, heads_of}
-use Rattle.lsm_levels.specs.Scans.{Advances, AllGive, AreEndingWithin, AreReady, AsksOn, blocks_to_come, ComesTo, GivesLeft, Goes, HasCome, IsFairItem, Takes, steps_left, steps_of}
+use Rattle.lsm_levels.specs.Sources.{IsNext, Splits, head_at, heads_of}
+use Rattle.lsm_levels.specs.Scans.{Advances, AllGive, AreEndingWithin, AreReady, AsksOn, blocks_to_come, ComesTo, GivesLeft, HasCome, IsFairItem, Takes, steps_left, steps_of}
 use Rattle.lsm_levels.proofs.CursorGives.{cursor_law}
 use Rattle.lsm_levels.proofs.ScanAsking.{all_of_place, all_with, blocks_at_place, blocks_with, fair_dropped, fair_in, fair_refusal, goes_asking}
 use Rattle.lsm_levels.proofs.QueueLaws.{cursor_goes_on}

@@ -1,13 +1,11 @@
 -- The sources of a scan: what they have left, and which blocks are to come.
-use Rattle.std.proofs.Common.{◌≡◌, ◌⊎◌, inl, inr, ℕ, zero, suc, ◌+◌, ◌<◌, Bool, true, false, List, [], ◌∷◌, ◌++◌, length, map, set, slice_get, Option, Some, None, Result, Ok, Err, refl, ap, sym, subst, ◌∙◌, arith}
+use Rattle.std.proofs.Common.{◌≡◌, ◌⊎◌, inl, inr, ℕ, List, [], ◌∷◌, ◌++◌, length, set, slice_get, Option, Some, None, Result, Err, refl, ap, sym, subst, ◌∙◌}
 use Rattle.std.specs.Prelude.{MatchResult}
 use Rattle.std.specs.List.{AllByRecursion}
 use Rattle.std.proofs.lemmas.Option.{same_Some}
-use Rattle.std.proofs.lemmas.List.{append_assoc, append-nil, map-append, set_at}
+use Rattle.std.proofs.lemmas.List.{append_assoc, map-append, set_at}
 use Rattle.lsm_device.specs.declared.refusal.Refusal.{Refusal}
 use Rattle.lsm_device.specs.declared.refusal.Refusal.TheVariants.{NoMemory, Io, BadTable}
-use Rattle.lsm_device.specs.Disk.{seen}
-use Rattle.lsm_device.specs.Medium.{disk}
 use Rattle.lsm_codec.specs.Keys.{Bytes}
 use Rattle.lsm_codec.specs.Versions.{Version}
 use Rattle.lsm_codec.specs.Entries.{entries_in}
@@ -16,13 +14,13 @@ use Rattle.lsm_cache.specs.Fresh.{IsFresh}
 use Rattle.lsm_mem.specs.Ranges.{from_key}
 use Rattle.lsm_levels.specs.Tables.{Table, IsRun, versions_of}
 use Rattle.lsm_levels.specs.Asking.{Source}
-use Rattle.lsm_levels.specs.Stored.{IsPlaced, IsStored, IsReadable}
+use Rattle.lsm_levels.specs.Stored.{IsPlaced, IsStored}
 use Rattle.lsm_levels.specs.Cursors.{Cursor, EndsWithin, Gives, Seeks, SeeksTo, Shows, blocks_from_key, sought}
-use Rattle.lsm_levels.specs.Scans.{AllGive, AreReady, AsksOn, AsksSome, IsFairItem, blocks_of_runs, blocks_to_come}
+use Rattle.lsm_levels.specs.Scans.{AllGive, AreReady, AsksOn, AsksSome, IsFairItem, blocks_to_come}
 use Rattle.lsm_levels.specs.declared.placed.PlacedBlock.{PlacedBlock}
 use Rattle.lsm_levels.proofs.CursorGives.{cursor_law}
 use Rattle.lsm_levels.proofs.Parts.{all_append}
-use Rattle.lsm_levels.proofs.ScanAsking.{asks_then, fair_in, fair_refusal, fair_sought, seeks_asking, refused_asking}
+use Rattle.lsm_levels.proofs.ScanAsking.{fair_in, fair_refusal, fair_sought, seeks_asking, refused_asking}
 use Rattle.lsm_levels.proofs.ScanLaws.{given_more}
 
 -- ---- a source more

@@ -1,7 +1,6 @@
 -- A scan of a view.
-use Rattle.std.proofs.Common.{◌≡◌, ◌⊎◌, inl, inr, ℕ, zero, suc, ◌<◌, Bool, List, [], ◌∷◌, ◌++◌, map, set, slice_get, filter, Option, Some, None, Ok, refl, ap, sym, subst, ◌∙◌}
+use Rattle.std.proofs.Common.{◌≡◌, ◌⊎◌, inl, inr, ℕ, zero, suc, ◌<◌, List, [], ◌∷◌, ◌++◌, map, set, slice_get, filter, Option, Some, None, Ok, refl, ap, sym, subst, ◌∙◌}
 use denote.Ref.{Bor}
-use Rattle.std.specs.Prelude.{IsTrue}
 use Rattle.std.specs.List.{AllByRecursion}
 use Rattle.std.proofs.lemmas.Option.{same_Some}
 use Rattle.std.proofs.lemmas.List.{append-nil, append_assoc, map-append}
@@ -24,17 +23,16 @@ use Rattle.lsm_levels.specs.Levels.{Levels, places}
 use Rattle.lsm_levels.specs.Lookups.{sealed_versions, versions_at}
 use Rattle.lsm_levels.specs.Orders.{IsVersionOrder}
 use Rattle.lsm_levels.specs.Stored.{ArePlaced, AreStored, IsPlaced, IsStored}
-use Rattle.lsm_levels.specs.Cursors.{Cursor, IsLeft, IsPlacedAt, Shows, blocks_from_key, passed_blocks}
+use Rattle.lsm_levels.specs.Cursors.{Cursor, IsPlacedAt, Shows, blocks_from_key, passed_blocks}
 use Rattle.lsm_levels.specs.SourceCursors.{cursor_of_versions}
 use Rattle.lsm_levels.specs.Sources.{AreInOrder, AreLeftOf}
-use Rattle.lsm_levels.specs.Scans.{AllGive, AreReady, AsksInTurn, AsksOn, AsksSome, ComesTo, GivesLeft, HasCome, IsFairItem, ScansRuns, blocks_of_runs, blocks_to_come, memory_places}
+use Rattle.lsm_levels.specs.Scans.{AllGive, AreReady, AsksInTurn, AsksOn, AsksSome, ComesTo, GivesLeft, HasCome, ScansRuns, blocks_of_runs, blocks_to_come, memory_places}
 use Rattle.lsm_levels.specs.declared.placed.PlacedBlock.{PlacedBlock}
 use Rattle.lsm_levels.proofs.CursorBlocks.{all_blocks, left_of_all}
 use Rattle.lsm_levels.proofs.MemoryCursors.{first_present}
-use Rattle.lsm_levels.proofs.Parts.{all_append, all_filter, all_left, all_map, all_right}
+use Rattle.lsm_levels.proofs.Parts.{all_append, all_filter, all_left, all_right}
 use Rattle.lsm_levels.proofs.RunOrders.{run_ordered}
-use Rattle.lsm_levels.proofs.ScanAsking.{asks_then, fair_oks, still_shown, sums}
-use Rattle.lsm_levels.proofs.ScanLaws.{given_more}
+use Rattle.lsm_levels.proofs.ScanAsking.{fair_oks, still_shown, sums}
 use Rattle.lsm_levels.proofs.SourceLaws.{parts_in_order, same_page}
 
 -- ---- the blocks of a view

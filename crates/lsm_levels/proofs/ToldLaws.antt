@@ -1,9 +1,8 @@
 -- What is told of what was found.
-use Rattle.std.proofs.Common.{◌≡◌, ◌⊎◌, inl, inr, ⊎_elim, ℕ, true, false, is_none, List, ◌++◌, Option, Some, None, Result, Ok, Err, refl, ap, sym, subst, ◌∙◌}
+use Rattle.std.proofs.Common.{◌≡◌, inl, inr, ℕ, true, false, is_none, List, ◌++◌, Option, Some, None, Result, Ok, Err, refl, ap, sym, subst, ◌∙◌}
 use Rattle.std.specs.Prelude.{option_map}
 use Rattle.lsm_device.specs.declared.refusal.Refusal.{Refusal}
-use Rattle.lsm_device.specs.declared.refusal.Refusal.TheVariants.{Io, BadTable, NoMemory}
-use Rattle.lsm_device.specs.Refusals.{faultless}
+use Rattle.lsm_device.specs.declared.refusal.Refusal.TheVariants.{Io}
 use Rattle.lsm_codec.specs.Keys.{Bytes}
 use Rattle.lsm_codec.specs.Versions.{Version}
 use Rattle.lsm_levels.specs.declared.found.Found.{Found}
@@ -35,20 +34,7 @@ refusal_ends A (Ok None) e E G h x = absurd (let no : false ≡ true = h.1 in cc
 refusal_ends A (Ok (Some v)) e E G h x = x
 refusal_ends A (Err r) e E G h x = x
 
-pub told_io : (A : Type 0) (found : Result (Option Version) Refusal) (e : Refusal) → Tells {A = A} found (Err e) → e ≡ Io → found ≡ Err Io
-told_io A (Ok o) e h io = absurd (let no : NoMemory ≡ Io = sym h.0 ∙ io in cc)
-told_io A (Err x) e h io = let same : e ≡ x = cc in ap (λ (y : Refusal). Err y) (sym same ∙ io)
-
-pub told_refusal : (A : Type 0) (found : Result (Option Version) Refusal) (e : Refusal) → Tells {A = A} found (Err e) → ((x : Refusal) → found ≡ Err x → (x ≡ Io) ⊎ (x ≡ BadTable)) → (e ≡ Io) ⊎ ((e ≡ BadTable) ⊎ (e ≡ NoMemory))
-told_refusal A (Ok o) e h fair = inr (inr h.0)
-told_refusal A (Err x) e h fair =
-    let same : e ≡ x = cc in
-    ⊎_elim (λ (io : x ≡ Io). inl (same ∙ io)) (λ (bad : x ≡ BadTable). inr (inl (same ∙ bad))) (fair x refl)
-
 module _ {A : Type 0} where
-  abbrev no_value : Refusal → Result (Found A) Refusal
-  no_value e = Err e
-
   flat_told : (f : Found A) → value_in f ≡ flat (told_by f)
   unfolding flat
   flat_told Nothing = refl
@@ -71,14 +57,6 @@ module _ {A : Type 0} where
   something_ends (Ok None) f E G h e x = absurd (let no : false ≡ true = e ∙ ap is_none h in cc)
   something_ends (Ok (Some v)) f E G h e x = x
   something_ends (Err r) f E G h e x = x
-
-  -- ---- faults and refusals
-
-  pub told_faults : (found : Result (Option Version) Refusal) (result : Result (Found A) Refusal) → Tells found result → faultless found ≡ faultless result
-  told_faults (Ok o) (Ok f) h = refl
-  told_faults (Ok o) (Err e) h = sym (ap (λ (x : Refusal). faultless (no_value x)) h.0)
-  told_faults (Err e) (Ok f) h = absurd cc
-  told_faults (Err x) (Err e) h = let same : e ≡ x = cc in ap (λ (y : Refusal). faultless (no_value y)) (sym same)
 
   -- ---- one run
 

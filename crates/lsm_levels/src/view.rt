@@ -72,6 +72,32 @@ impl<'a, A: Allocator> ReadView<'a, A> {
 }
 
 impl<'a, A: Allocator + Clone> ReadView<'a, A> {
+    /// What memory, sealed memory and the runs of the levels say of a key, each asked where the newer ones have no version.
+    fn look_up<D: Device>(
+        &self,
+        alloc: &A,
+        cache: &mut Cache<A>,
+        device: &mut D,
+        key: &[u8],
+        at: u64,
+    ) -> Result<Option<Vec<u8, A>>, Refusal>
+        requires { AreWithin (D.medium device.old).size self.now.area (places self.now.levels.now) }
+        ensures { IsLookUp self.now.mem.now (sealed_versions self.now.sealed) (places self.now.levels.now) self.now.area key.now at (answer_of result)
+            (record { cache = cache.old; medium = D.medium device.old }) (record { cache = cache.new; medium = D.medium device.new }) }
+    {
+        if let Some(version) = self.newest_in_memory(key, at) {
+            let found = Found::of(alloc, Some(version))?;
+            return Ok(found.into_value());
+        }
+        let query = Query {
+            area: self.area,
+            key,
+            at,
+        };
+        let found = find_in_levels(self.levels, query, alloc, cache, device)?;
+        Ok(found.into_value())
+    }
+
     /// The value of a key at a count of batches, or none where it has none. Memory is asked first, then sealed memory, then
     /// the runs of the levels, the newer first, until one has a version of the key that is numbered at most `at`. Of each run
     /// at most one block is asked for: that of the one table whose range has the key, where filter and index don't tell that it
@@ -117,17 +143,8 @@ impl<'a, A: Allocator + Clone> ReadView<'a, A> {
         ensures same_lasting { (D.medium device.new).lasting ≡ (D.medium device.old).lasting }
     {
         let _runs = self.levels.runs();
-        if let Some(version) = self.newest_in_memory(key, at) {
-            let found = Found::of(alloc, Some(version))?;
-            return Ok(found.into_value());
-        }
-        let query = Query {
-            area: self.area,
-            key,
-            at,
-        };
-        let found = find_in_levels(self.levels, query, alloc, cache, device)?;
-        Ok(found.into_value())
+        let answer = self.look_up(alloc, cache, device, key, at);
+        answer
     }
 
     /// Puts the sources of memory and of sealed memory in front of others.

@@ -1,4 +1,4 @@
-use Rattle.std.proofs.Common.{Bool, None, Some, subst}
+use Rattle.std.proofs.Common.{Bool, subst}
 use Rattle.std.proofs.lemmas.Result.{err_from_is_err_and}
 use Rattle.lsm_levels.specs.Asking.{Source}
 use Rattle.lsm_levels.specs.Scans.{Goes}

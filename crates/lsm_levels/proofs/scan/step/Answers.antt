@@ -1,10 +1,7 @@
-use Rattle.std.proofs.Common.{None, Some, map, refl, inl, inr}
+use Rattle.std.proofs.Common.{None, Some, map}
 use Rattle.std.proofs.lemmas.Result.{err_from_is_err_and}
-use Rattle.lsm_device.specs.declared.refusal.Refusal.TheVariants.{NoMemory}
 use Rattle.lsm_levels.specs.Asking.{Source}
 use Rattle.lsm_levels.specs.Cursors.{present}
-use Rattle.lsm_levels.specs.Scans.{blocks_to_come}
-use Rattle.lsm_levels.proofs.ScanAsking.{asks_nothing}
 use Rattle.lsm_levels.proofs.ScanLaws.{advances_asking, advances_fewer, advances_ready, advances_refused, all_spent, one_goes_on, place_within, step_ends, step_goes, step_going, step_stops}
 use Rattle.lsm_levels.proofs.scan.step.Goals as goal
 

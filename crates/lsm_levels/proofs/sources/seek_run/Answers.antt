@@ -1,4 +1,4 @@
-use Rattle.std.proofs.Common.{Ok, Err, None, Some, refl, sym, subst, ap, ◌∙◌, ◌++◌, ◌∷◌, [], ◌≡◌, ℕ}
+use Rattle.std.proofs.Common.{Ok, Err, Some, refl, sym, subst, ap, ◌∙◌, ◌++◌, ◌∷◌, [], ◌≡◌, ℕ}
 use Rattle.std.proofs.lemmas.Result.{err_from_is_err_and}
 use Rattle.lsm_device.specs.declared.refusal.Refusal.TheVariants.{NoMemory}
 use Rattle.lsm_levels.specs.Asking.{Source}

@@ -1,4 +1,4 @@
-use Rattle.std.proofs.Common.{List, None, Some, true, inl, inr, refl, sym, subst, ap, ◌∙◌, map, option_map}
+use Rattle.std.proofs.Common.{List, None, Some, true, inr, refl, sym, subst, ap, ◌∙◌, map, option_map}
 use Rattle.std.proofs.lemmas.Result.{err_from_is_err_and}
 use Rattle.lsm_device.specs.declared.refusal.Refusal.TheVariants.{NoMemory}
 use Rattle.lsm_device.specs.Disk.{seen}

@@ -1,20 +1,18 @@
-use Rattle.std.proofs.Common.{◌≡◌, ◌⊎◌, ℕ, List, None, Some, Ok, Err, map, refl, sym, subst, ap, ◌∙◌, ◌++◌}
+use Rattle.std.proofs.Common.{◌≡◌, ◌⊎◌, ℕ, List, map, refl, sym, subst, ◌++◌}
 use Rattle.std.specs.List.{AllByRecursion}
-use Rattle.std.proofs.lemmas.List.{append_assoc, map-append}
 use Rattle.std.proofs.lemmas.Result.{err_from_is_err_and}
 use Rattle.lsm_device.specs.declared.refusal.Refusal.TheVariants.{Io, NoMemory}
 use Rattle.lsm_device.specs.Disk.{seen}
 use Rattle.lsm_device.specs.Medium.{disk}
-use Rattle.lsm_codec.specs.Versions.{Version}
 use Rattle.lsm_mem.specs.Ranges.{from_key}
 use Rattle.lsm_levels.specs.Tables.{Table, IsRun, versions_of}
-use Rattle.lsm_levels.specs.Stored.{ArePlaced, AreStored, AreWithin, IsPlaced, IsStored, LiesWithin}
+use Rattle.lsm_levels.specs.Stored.{AreWithin, LiesWithin}
 use Rattle.lsm_levels.specs.Levels.{places}
 use Rattle.lsm_levels.specs.Asking.{Source}
 use Rattle.lsm_levels.specs.Cursors.{Cursor, Shows}
 use Rattle.lsm_levels.specs.Scans.{AllGive, AreReady}
 use Rattle.lsm_levels.proofs.Parts.{all_append, all_left, all_right}
-use Rattle.lsm_levels.proofs.ScanViews.{memory_left, memory_ready, newer_do, older_do, view_given, view_comes, view_newer_refused, view_older_refused, view_sought}
+use Rattle.lsm_levels.proofs.ScanViews.{memory_ready, newer_do, older_do, view_given, view_comes, view_newer_refused, view_older_refused, view_sought}
 use Rattle.lsm_levels.proofs.view.ReadView.sources.Goals as goal
 
 pub seek_runs-requires-clause-within : goal.seek_runs-requires-clause-within
