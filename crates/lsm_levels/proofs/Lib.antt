@@ -7,6 +7,7 @@ pub mod Runs
 pub mod Surviving
 pub mod PickLaws
 pub mod Taking
+pub mod Moving
 pub mod Parts
 pub mod Searching
 pub mod RunHulls

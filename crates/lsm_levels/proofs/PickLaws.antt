@@ -4,12 +4,13 @@ use Rattle.std.proofs.lemmas.Bool.{leb-true, eq-eqb}
 use Rattle.std.specs.List.{AllByRecursion, list_any, list_all}
 use Rattle.lsm_levels.specs.Among.{IsAmong}
 use Rattle.lsm_levels.proofs.Members.{among_left, among_right, among_either, among_passed, passed_among, any_of}
-use Rattle.lsm_levels.specs.Tables.{Table, KeyRange, range_of, spanned, hull, meets, meeting}
+use Rattle.lsm_levels.specs.Tables.{Table, KeyRange, range_of, spanned, hull, meets, meeting, IsRun}
 use Rattle.lsm_levels.specs.Levels.{Levels, level, last_run}
 use Rattle.lsm_levels.specs.Pick.{Job, Flush, inputs, is_flush, is_of_level_0, is_input, is_free, lower_of, can_merge, merge_of, least_numbered, lesser, flush_job, level_0_job, level_job, or_next, pick, below_output, meets_none, is_bottom}
 use Rattle.lsm_levels.specs.Held.{AreRuns, IsUpper, HasItsTables, AreApart, IsPicked, PickLaw}
 use Rattle.lsm_levels.proofs.Ranges.{no}
 use Rattle.lsm_levels.proofs.Replacing.{last_cons}
+use Rattle.lsm_levels.proofs.Runs.{run_at, run_filter}
 
 in_both : (a b : Bool) → (a && b) ≡ true → (a ≡ true) × (b ≡ true)
 in_both true b h = (refl, h)
@@ -85,9 +86,9 @@ deeper_none [] m le = refl
 deeper_none (x ∷ xs) zero le = absurd (omega (arith, le))
 deeper_none (x ∷ xs) (suc m) le = deeper_none xs m (omega (arith, le))
 
-module _ (levels : Levels) (four : length levels.deeper ≡ 4) where
+module _ (levels : Levels) (runs : AreRuns levels) where
   too_deep : (m : ℕ) (t : Table) → 4 ≤ m → IsAmong t (level levels (suc m)) → ⊥
-  too_deep m t le a = subst (IsAmong t) (deeper_none levels.deeper m (omega (arith, four, le))) a
+  too_deep m t le a = subst (IsAmong t) (deeper_none levels.deeper m (omega (arith, runs.four, le))) a
 
   below_is : (i k : ℕ) (t : Table) → i ≤ 3 → suc i < k → IsAmong t (level levels k) → IsAmong t (below_output levels i)
   below_is zero zero t small deep a = absurd (omega (arith, deep))
@@ -129,6 +130,7 @@ module _ (levels : Levels) (four : length levels.deeper ≡ 4) where
         range = range;
         hull_is = is;
         uppers = uppers;
+        lower_run = subst IsRun (sym lower_is) (run_filter (meets range) (level levels (suc i)) (run_at levels runs i));
         lowers = λ t a. (passed_among (meets range) t (level levels (suc i)) (subst (IsAmong t) lower_is a)).0;
         meet = λ t a. (passed_among (meets range) t (level levels (suc i)) (subst (IsAmong t) lower_is a)).1;
         all = λ t a met. subst (IsAmong t) (sym lower_is) (among_passed (meets range) t (level levels (suc i)) a met);
@@ -169,7 +171,7 @@ level_0_rule levels jobs job runs e =
     let many = leb-true 4 (length levels.runs) first.0 in
     let there = hull_there oldest (last_in (λ run. 0 < length run) levels.runs (omega (arith, many)) runs.some) in
     subst (IsPicked levels jobs) (some_job (merge_of 0 oldest (level levels 1)) job test.1) (record {
-      held = held_merge levels runs.four 0 oldest there.0 (omega arith) there.1 (omega (arith, many), refl);
+      held = held_merge levels runs 0 oldest there.0 (omega arith) there.1 (omega (arith, many), refl);
       apart = free_merge jobs 0 oldest (level levels 1) then.1;
     })
 
@@ -198,7 +200,7 @@ level_rule i limit levels jobs job small runs e =
     let t = found.0 in
     let passed = passed_among (λ u. can_merge jobs (u ∷ []) below) t tables (least_among (filter (λ u. can_merge jobs (u ∷ []) below) tables) t found.1) in
     subst (IsPicked levels jobs) found.2 (record {
-      held = held_merge levels runs.four (suc i) (t ∷ []) (range_of t) small refl (t, refl, passed.0);
+      held = held_merge levels runs (suc i) (t ∷ []) (range_of t) small refl (t, refl, passed.0);
       apart = free_merge jobs (suc i) (t ∷ []) below passed.1;
     })
 

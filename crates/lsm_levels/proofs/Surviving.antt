@@ -209,6 +209,7 @@ module _ (levels : Levels) (runs : AreRuns levels) (bottom flag : Bool) (i j : �
       hull_is = h.hull_is;
       uppers = uppers_after i refl h.uppers;
       lowers = λ t a. stays (suc i) t (among_right t upper lower a) (h.lowers t a) new (λ e f. omega (arith, e));
+      lower_run = h.lower_run;
       meet = h.meet;
       all = λ t a met. ⊎_elim
           (λ old. h.all t old met)
@@ -228,6 +229,7 @@ flush_survives levels bottom i upper lower new h = record {
   hull_is = h.hull_is;
   uppers = by i h.uppers;
   lowers = h.lowers;
+  lower_run = h.lower_run;
   meet = h.meet;
   all = h.all;
   lowest = λ lowest k t whole deeper a is. below k t whole deeper a lowest is;

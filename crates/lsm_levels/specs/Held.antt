@@ -20,14 +20,15 @@ abbrev pub IsUpper : Levels → ℕ → List Table → Type 0
 IsUpper levels zero upper = (1 ≤ length levels.runs) × (last_run levels.runs ≡ upper)
 IsUpper levels (suc i) upper = (t : Table) × (upper ≡ t ∷ []) × IsAmong t (level levels (suc i))
 
--- A merge still has what it was taken with: its upper tables in their level, its lower ones in the next, which are all there
--- that meet the hull of the upper ones; and with the bottom flag nothing below meets the hull of all its inputs.
+-- A merge still has what it was taken with: its upper tables in their level, its lower ones in the next, a run, which are all
+-- there that meet the hull of the upper ones; and with the bottom flag nothing below meets the hull of all its inputs.
 pub record HasItsTables (levels : Levels) (bottom : Bool) (i : ℕ) (upper lower : List Table) : Type 0 where
   pub known : i ≤ 3
   pub range : KeyRange
   pub hull_is : hull upper ≡ Some range
   pub uppers : IsUpper levels i upper
   pub lowers : (t : Table) → IsAmong t lower → IsAmong t (level levels (suc i))
+  pub lower_run : IsRun lower
   pub meet : (t : Table) → IsAmong t lower → meets range t ≡ true
   pub all : (t : Table) → IsAmong t (level levels (suc i)) → meets range t ≡ true → IsAmong t lower
   pub lowest : bottom ≡ true → (k : ℕ) (t : Table) (whole : KeyRange) → suc i < k → IsAmong t (level levels k) → hull (upper ++ lower) ≡ Some whole → meets whole t ≡ false

@@ -7,6 +7,7 @@ pub mod Pick
 pub mod Picks
 pub mod Orders
 pub mod Held
+pub mod Moving
 pub mod Asking
 pub mod Lookups
 pub mod Stored

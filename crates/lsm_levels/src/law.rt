@@ -2,6 +2,7 @@
 
 ghost use Rattle.lsm_levels.specs.Cursors.{CursorLaw};
 ghost use Rattle.lsm_levels.specs.Held.{PickLaw, SurvivalLaw, RunsLaw, MergingLaw, OrderLaw, FlushLaw};
+ghost use Rattle.lsm_levels.specs.Moving.{MovingLaw, LowerLaw};
 ghost use Rattle.lsm_levels.specs.Sources.{NextLaw, PageLaw};
 
 /// A job that is picked takes tables that no other job has as input, and all that it needs.
@@ -36,4 +37,11 @@ pub fn flushes_keep_the_order()
 pub fn sources_come_to_a_page()
     ensures next { NextLaw }
     ensures page { PageLaw }
+{}
+
+/// An install moves tables: its inputs go, its outputs come, and each other table stays. The lower inputs of a merge are all of
+/// their level that meet the upper ones.
+pub fn installs_move_tables()
+    ensures moved { MovingLaw }
+    ensures lower { LowerLaw }
 {}

@@ -1,0 +1,282 @@
+-- How many tables an install leaves: those that were there, without its inputs and with its outputs.
+use Rattle.std.proofs.Common.{◌≡◌, inl, inr, ⊎_elim, ℕ, zero, suc, ◌+◌, ◌-◌, ◌<◌, ◌≤◌, Bool, true, false, cond, ◌&&◌, List, [], ◌∷◌, ◌++◌, length, get_or, set, filter, ◌⊎◌, Option, refl, sym, ap, ◌∙◌, subst, arith}
+use Rattle.std.specs.List.{AllByRecursion}
+use Rattle.std.proofs.lemmas.List.{length-append, length-take, get_or-set_other}
+use Rattle.std.proofs.lemmas.List.Elements.{filter-append}
+use Rattle.lsm_levels.specs.Among.{IsAmong}
+use Rattle.lsm_levels.specs.Tables.{Table, KeyRange, range_of, at_most, is_below, hull, meets, meeting, put_at, IsRun}
+use Rattle.lsm_levels.specs.Levels.{Levels, all_tables, level, places, newer_runs, last_run, merged_at, replaced}
+use Rattle.lsm_levels.specs.Pick.{Flush, Merge}
+use Rattle.lsm_levels.specs.Held.{AreRuns, HasItsTables}
+use Rattle.lsm_levels.specs.Moving.{MovingLaw, LowerLaw}
+use Rattle.lsm_levels.proofs.KeyOrder.{below_not, below_at_most, below_then}
+use Rattle.lsm_levels.proofs.Members.{among_passed, passed_among}
+use Rattle.lsm_levels.proofs.Parts.{filter_step}
+use Rattle.lsm_levels.proofs.Ranges.{no, of_all, all_of, in_run, run_order, apart_left, apart_right, sides, meets_ends}
+use Rattle.lsm_levels.proofs.Replacing.{newer_cons, last_cons}
+use Rattle.lsm_levels.proofs.Runs.{run_at, run_filter, upper_order}
+use Rattle.lsm_levels.proofs.Surviving.{single_range}
+
+-- ---- two runs of the same tables are one
+
+not_behind : (x : Table) (xs : List Table) → IsRun (x ∷ xs) → IsAmong x xs → ⊥
+not_behind x xs run a = no (sym run.0 ∙ below_not x.last x.first (of_all (λ u. is_below x.last u.first ≡ true) xs run.1 x a))
+
+-- neither lies before the other
+not_both_before : (x y : Table) → at_most x.first x.last ≡ true → at_most y.first y.last ≡ true → is_below x.last y.first ≡ true → is_below y.last x.first ≡ true → ⊥
+not_both_before x y own other before behind =
+    let up : is_below x.last y.last ≡ true = below_then x.last y.first y.last before other in
+    let over : is_below x.last x.first ≡ true = below_then x.last y.last x.first up (below_at_most y.last x.first behind) in
+    no (sym own ∙ below_not x.last x.first over)
+
+abbrev AreIn : List Table → List Table → Type 0
+AreIn xs ys = (t : Table) → IsAmong t xs → IsAmong t ys
+
+same_head : (x y : Table) (xs ys : List Table) → IsRun (x ∷ xs) → IsRun (y ∷ ys) → AreIn (x ∷ xs) (y ∷ ys) → AreIn (y ∷ ys) (x ∷ xs) → x ≡ y
+same_head x y xs ys r s f g = by (f x (inl refl)) (g y (inl refl))
+  where
+    by : IsAmong x (y ∷ ys) → IsAmong y (x ∷ xs) → x ≡ y
+    by (inl e) b = e
+    by (inr a) (inl e) = sym e
+    by (inr a) (inr b) = absurd (not_both_before x y r.0 s.0 (of_all (λ u. is_below x.last u.first ≡ true) xs r.1 y b) (of_all (λ u. is_below y.last u.first ≡ true) ys s.1 x a))
+
+tail_in : (x y : Table) (xs ys : List Table) → x ≡ y → IsRun (x ∷ xs) → AreIn (x ∷ xs) (y ∷ ys) → AreIn xs ys
+tail_in x y xs ys same r f t a = by (f t (inr a))
+  where
+    by : IsAmong t (y ∷ ys) → IsAmong t ys
+    by (inl e) = absurd (not_behind x xs r (subst (λ (u : Table). IsAmong u xs) (e ∙ sym same) a))
+    by (inr b) = b
+
+pub same_run : (xs ys : List Table) → IsRun xs → IsRun ys → AreIn xs ys → AreIn ys xs → xs ≡ ys
+same_run [] [] r s f g = refl
+same_run [] (y ∷ ys) r s f g = absurd (g y (inl refl))
+same_run (x ∷ xs) [] r s f g = absurd (f x (inl refl))
+same_run (x ∷ xs) (y ∷ ys) r s f g =
+    let head = same_head x y xs ys r s f g in
+    ap (λ (t : Table). t ∷ xs) head ∙ ap (λ (l : List Table). y ∷ l) (same_run xs ys r.2 s.2 (tail_in x y xs ys head r f) (tail_in y x ys xs (sym head) s g))
+
+-- ---- the inputs of a merge
+
+module _ (levels : Levels) (runs : AreRuns levels) (flag : Bool) (i : ℕ) (upper lower : List Table) (h : HasItsTables levels flag i upper lower) where
+  pub lower_met : lower ≡ filter (meets h.range) (level levels (suc i))
+  lower_met = same_run lower (filter (meets h.range) (level levels (suc i))) h.lower_run (run_filter (meets h.range) (level levels (suc i)) (run_at levels runs i))
+      (λ t a. among_passed (meets h.range) t (level levels (suc i)) (h.lowers t a) (h.meet t a))
+      (λ t a. let both = passed_among (meets h.range) t (level levels (suc i)) a in h.all t both.0 both.1)
+
+pub lower_law : LowerLaw
+lower_law levels flag i upper lower runs h =
+    let next : suc i ≡ i + 1 = omega arith in
+    lower_met levels runs flag i upper lower h ∙ ap (λ (n : ℕ). filter (meets h.range) (level levels n)) next ∙ ap (λ (o : Option KeyRange). meeting o (level levels (i + 1))) (sym h.hull_is)
+
+-- of a run one table alone meets the range of one
+one_met : (run : List Table) (t : Table) → IsRun run → IsAmong t run → t ∷ [] ≡ filter (meets (range_of t)) run
+one_met run t r a = same_run (t ∷ []) (filter (meets (range_of t)) run) (run_order run r t a, tt, tt) (run_filter (meets (range_of t)) run r)
+    (λ u b. subst (λ (x : Table). IsAmong x (filter (meets (range_of t)) run)) (sym (only u b)) (among_passed (meets (range_of t)) t run a itself))
+    (λ u b. let both = passed_among (meets (range_of t)) u run b in alone u (in_run run r t u a both.0) both.1)
+  where
+    only : (u : Table) → IsAmong u (t ∷ []) → u ≡ t
+    only u (inl e) = e
+    only u (inr none) = absurd none
+
+    itself : meets (range_of t) t ≡ true
+    itself = ap (λ b. b && at_most t.first t.last) (run_order run r t a) ∙ run_order run r t a
+
+    alone : (u : Table) → (t ≡ u) ⊎ ((is_below t.last u.first ≡ true) ⊎ (is_below u.last t.first ≡ true)) → meets (range_of t) u ≡ true → IsAmong u (t ∷ [])
+    alone u (inl e) met = inl (sym e)
+    alone u (inr (inl before)) met = absurd (no (sym met ∙ apart_right (range_of t) u before))
+    alone u (inr (inr behind)) met = absurd (no (sym met ∙ apart_left (range_of t) u behind))
+
+-- ---- counting
+
+module _ (p : Table → Bool) where
+  abbrev count : List Table → ℕ
+  count xs = length (filter p xs)
+
+  count_append : (xs ys : List Table) → count (xs ++ ys) ≡ count xs + count ys
+  count_append xs ys = ap length (filter-append p xs ys) ∙ length-append (filter p xs) (filter p ys)
+
+  -- with one table more
+  abbrev one_more : Bool → ℕ → ℕ
+  one_more true n = suc n
+  one_more false n = n
+
+  count_cons : (x : Table) (xs : List Table) → count (x ∷ xs) ≡ one_more (p x) (count xs)
+  count_cons x xs = by (p x)
+    where
+      by : (b : Bool) → length (cond b (x ∷ filter p xs) (filter p xs)) ≡ one_more b (count xs)
+      by true = refl
+      by false = refl
+
+  abbrev count_all : List (List Table) → ℕ
+  count_all runs = count (all_tables runs)
+
+  count_run : (run : List Table) (rest : List (List Table)) → count_all (run ∷ rest) ≡ count run + count_all rest
+  count_run run rest = count_append run (all_tables rest)
+
+  count_places : (xs ys : List (List Table)) → count_all (xs ++ ys) ≡ count_all xs + count_all ys
+  count_places [] ys = omega arith
+  count_places (x ∷ xs) ys = omega (arith, count_run x (xs ++ ys), count_run x xs, count_places xs ys)
+
+  -- with another run at a place
+  count_set : (runs : List (List Table)) (i : ℕ) (run : List Table) → i < length runs → count_all (set runs i run) + count (get_or runs i []) ≡ count_all runs + count run
+  count_set [] i run lt = absurd (omega (arith, lt))
+  count_set (x ∷ xs) zero run lt = omega (arith, count_run run xs, count_run x xs)
+  count_set (x ∷ xs) (suc i) run lt = omega (arith, count_run x (set xs i run), count_run x xs, count_set xs i run (omega (arith, lt)))
+
+  -- without the oldest run
+  count_newer : (runs : List (List Table)) → count_all (newer_runs runs) + count (last_run runs) ≡ count_all runs
+  count_newer [] = refl
+  count_newer (x ∷ []) = omega (arith, count_run x [])
+  count_newer (x ∷ y ∷ rest) =
+      omega (arith, ap count_all (newer_cons x y rest), count_run x (newer_runs (y ∷ rest)), ap count (last_cons x y rest), count_newer (y ∷ rest), count_run x (y ∷ rest))
+
+  module _ (r : KeyRange) (order : at_most r.first r.last ≡ true) where
+    abbrev before : List Table → List Table
+    before xs = filter (λ t. is_below t.last r.first) xs
+
+    abbrev behind : List Table → List Table
+    behind xs = filter (λ t. is_below r.last t.first) xs
+
+    abbrev met : List Table → List Table
+    met xs = filter (meets r) xs
+
+    -- a table lies before the range, meets it or lies behind it
+    abbrev Parted : List Table → Type 0
+    Parted xs = count (before xs) + count (met xs) + count (behind xs) ≡ count xs
+
+    part_more : (t : Table) (xs : List Table) → at_most t.first t.last ≡ true → Parted xs → Parted (t ∷ xs)
+    part_more t xs own rest = by (meets r t) refl
+      where
+        joined : (a b c : Bool) → is_below t.last r.first ≡ a → meets r t ≡ b → is_below r.last t.first ≡ c
+            → count (cond a (t ∷ before xs) (before xs)) + count (cond b (t ∷ met xs) (met xs)) + count (cond c (t ∷ behind xs) (behind xs)) ≡ count (t ∷ xs)
+            → count (before (t ∷ xs)) + count (met (t ∷ xs)) + count (behind (t ∷ xs)) ≡ count (t ∷ xs)
+        joined a b c e f g same =
+            omega (arith, ap count (filter_step (λ u. is_below u.last r.first) t xs a e), ap count (filter_step (meets r) t xs b f), ap count (filter_step (λ u. is_below r.last u.first) t xs c g), same)
+
+        here : (b : Bool) → p t ≡ b → count (t ∷ before xs) + count (met xs) + count (behind xs) ≡ count (t ∷ xs)
+        here true e = omega (arith, count_cons t (before xs), count_cons t xs, ap (λ b. one_more b (count (before xs))) e, ap (λ b. one_more b (count xs)) e, rest)
+        here false e = omega (arith, count_cons t (before xs), count_cons t xs, ap (λ b. one_more b (count (before xs))) e, ap (λ b. one_more b (count xs)) e, rest)
+
+        there : (b : Bool) → p t ≡ b → count (before xs) + count (t ∷ met xs) + count (behind xs) ≡ count (t ∷ xs)
+        there true e = omega (arith, count_cons t (met xs), count_cons t xs, ap (λ b. one_more b (count (met xs))) e, ap (λ b. one_more b (count xs)) e, rest)
+        there false e = omega (arith, count_cons t (met xs), count_cons t xs, ap (λ b. one_more b (count (met xs))) e, ap (λ b. one_more b (count xs)) e, rest)
+
+        beyond : (b : Bool) → p t ≡ b → count (before xs) + count (met xs) + count (t ∷ behind xs) ≡ count (t ∷ xs)
+        beyond true e = omega (arith, count_cons t (behind xs), count_cons t xs, ap (λ b. one_more b (count (behind xs))) e, ap (λ b. one_more b (count xs)) e, rest)
+        beyond false e = omega (arith, count_cons t (behind xs), count_cons t xs, ap (λ b. one_more b (count (behind xs))) e, ap (λ b. one_more b (count xs)) e, rest)
+
+        unless : (b : Bool) → (b ≡ true → ⊥) → b ≡ false
+        unless true f = absurd (f refl)
+        unless false f = refl
+
+        both : is_below t.last r.first ≡ true → is_below r.last t.first ≡ true → ⊥
+        both left right =
+            let over : is_below t.last r.last ≡ true = below_then t.last r.first r.last left order in
+            let round : is_below t.last t.first ≡ true = below_then t.last r.last t.first over (below_at_most r.last t.first right) in
+            no (sym own ∙ below_not t.last t.first round)
+
+        by : (b : Bool) → meets r t ≡ b → count (before (t ∷ xs)) + count (met (t ∷ xs)) + count (behind (t ∷ xs)) ≡ count (t ∷ xs)
+        by true e =
+            let ends = meets_ends r t e in
+            joined false true false (unless (is_below t.last r.first) (λ h. no (sym ends.0 ∙ below_not t.last r.first h))) e (unless (is_below r.last t.first) (λ h. no (sym ends.1 ∙ below_not r.last t.first h))) (there (p t) refl)
+        by false e = ⊎_elim
+            (λ left. joined true false false left e (unless (is_below r.last t.first) (λ right. both left right)) (here (p t) refl))
+            (λ right. joined false false true (unless (is_below t.last r.first) (λ left. both left right)) e right (beyond (p t) refl))
+            (sides r t e)
+
+    count_parts : (xs : List Table) → AllByRecursion (λ t. at_most t.first t.last ≡ true) xs → Parted xs
+    count_parts [] own = refl
+    count_parts (t ∷ xs) own = part_more t xs own.0 (count_parts xs own.1)
+
+    -- with tables in the place of those that meet the range
+    count_put : (new xs : List Table) → AllByRecursion (λ t. at_most t.first t.last ≡ true) xs → count (put_at r new xs) + count (met xs) ≡ count xs + count new
+    count_put new xs own = omega (arith, count_append (before xs) (new ++ behind xs), count_append new (behind xs), count_parts xs own)
+
+-- ---- what an install leaves
+
+length_set : (xs : List (List Table)) (i : ℕ) (y : List Table) → length (set xs i y) ≡ length xs
+length_set [] i y = refl
+length_set (x ∷ xs) zero y = refl
+length_set (x ∷ xs) (suc i) y = ap suc (length_set xs i y)
+
+each_own : (run : List Table) → IsRun run → AllByRecursion (λ t. at_most t.first t.last ≡ true) run
+each_own run r = all_of (λ t. at_most t.first t.last ≡ true) run (run_order run r)
+
+module _ (levels : Levels) (runs : AreRuns levels) (flag : Bool) (upper lower new : List Table) where
+  -- the tables that meet the hull of the upper ones, in their own level
+  upper_met : (i : ℕ) (h : HasItsTables levels flag (suc i) upper lower) → upper ≡ filter (meets h.range) (level levels (suc i))
+  upper_met i h =
+      let t = h.uppers.0 in
+      h.uppers.1 ∙ one_met (level levels (suc i)) t (run_at levels runs i) h.uppers.2
+      ∙ ap (λ (r : KeyRange). filter (meets r) (level levels (suc i))) (sym (single_range t upper h.range h.uppers.1 h.hull_is))
+
+  module _ (p : Table → Bool) where
+    abbrev Moved : Levels → Type 0
+    Moved after = length (filter p (all_tables (places after))) + length (filter p (upper ++ lower)) ≡ length (filter p (all_tables (places levels))) + length (filter p new)
+
+    moved : (i : ℕ) (h : HasItsTables levels flag i upper lower) → Moved (replaced i h.range new levels)
+    moved zero h =
+        let r = h.range in
+        let below = get_or levels.deeper 0 [] in
+        let put = put_at r new below in
+        let order = upper_order levels flag zero upper lower runs h in
+        omega (
+          arith,
+          count_places p (newer_runs levels.runs) (set levels.deeper 0 put),
+          count_places p levels.runs levels.deeper,
+          count_newer p levels.runs,
+          ap (λ (l : List Table). length (filter p l)) h.uppers.1,
+          count_set p levels.deeper 0 put (omega (arith, runs.four)),
+          count_put p r order new below (each_own below (run_at levels runs 0)),
+          ap (λ (l : List Table). length (filter p l)) (lower_met levels runs flag zero upper lower h),
+          count_append p upper lower,
+        )
+    moved (suc i) h =
+        let r = h.range in
+        let above = get_or levels.deeper i [] in
+        let below = get_or levels.deeper (suc i) [] in
+        let put = put_at r new below in
+        let mid = set levels.deeper (suc i) put in
+        let cut = put_at r [] (get_or mid i []) in
+        let order = upper_order levels flag (suc i) upper lower runs h in
+        let same : get_or mid i [] ≡ above = get_or-set_other levels.deeper (suc i) i put [] (λ e. omega (arith, e)) in
+        let cut_is : length (filter p cut) ≡ length (filter p (put_at r [] above)) = ap (λ (l : List Table). length (filter p (put_at r [] l))) same in
+        omega (
+          arith,
+          count_places p levels.runs (set mid i cut),
+          count_places p levels.runs levels.deeper,
+          count_set p mid i cut (omega (arith, length_set levels.deeper (suc i) put, runs.four, h.known)),
+          count_set p levels.deeper (suc i) put (omega (arith, runs.four, h.known)),
+          ap (λ (l : List Table). length (filter p l)) same,
+          cut_is,
+          count_put p r order [] above (each_own above (run_at levels runs i)),
+          count_put p r order new below (each_own below (run_at levels runs (suc i))),
+          ap (λ (l : List Table). length (filter p l)) (upper_met i h),
+          ap (λ (l : List Table). length (filter p l)) (lower_met levels runs flag (suc i) upper lower h),
+          count_append p upper lower,
+        )
+
+  -- no run is added
+  kept_runs : (i : ℕ) (r : KeyRange) → length (replaced i r new levels).runs ≤ length levels.runs + 0
+  kept_runs zero r = omega (arith, length-take (length levels.runs - 1) levels.runs)
+  kept_runs (suc i) r = omega arith
+
+-- the tables in all
+all_pass : (xs : List Table) → length (filter (λ t. true) xs) ≡ length xs
+all_pass [] = refl
+all_pass (x ∷ xs) = ap suc (all_pass xs)
+
+pub moving_law : MovingLaw
+moving_law levels flag Flush new runs h = record {
+  passed = λ test. omega (arith, count_run test new (levels.runs ++ levels.deeper));
+  number = omega (arith, length-append new (all_tables (levels.runs ++ levels.deeper)));
+  runs = omega arith;
+}
+moving_law levels flag (Merge i upper lower) new runs h =
+    let counted : (test : Table → Bool) → Moved levels runs flag upper lower new test (merged_at i (hull upper) new levels) =
+    λ test. subst (λ (o : Option KeyRange). Moved levels runs flag upper lower new test (merged_at i o new levels)) (sym h.hull_is) (moved levels runs flag upper lower new test i h) in
+    record {
+      passed = counted;
+      number = omega (arith, counted (λ t. true), all_pass (all_tables (places (merged_at i (hull upper) new levels))), all_pass (upper ++ lower), all_pass (all_tables (places levels)), all_pass new);
+      runs = subst (λ (o : Option KeyRange). length (merged_at i o new levels).runs ≤ length levels.runs + 0) (sym h.hull_is) (kept_runs levels runs flag upper lower new i h.range);
+    }
