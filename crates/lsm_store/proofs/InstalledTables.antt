@@ -212,7 +212,7 @@ used_holds [] used is some = absurd (omega (arith, is, some))
 used_holds (batch ∷ rest) used is some = omega arith
 
 module _ (p : Placement) (s : State) (d : Disk) (stored : IsStoredIn p s d) (none_closed : s.closed ≡ 0) where
-  no_records : p.logs.closed ≡ []
+  pub no_records : p.logs.closed ≡ []
   no_records = none_length p.logs.closed (sym stored.state.placed.closed ∙ none_closed)
 
   has_batch : (o : Option OpenRegion) → IsOpened p.logs d o → ((log : OpenLog) → option_map open_log_of o ≡ Some log → 1 ≤ log.used) → IsSome o → 1 ≤ length (open_batches o (seen d))
@@ -231,7 +231,7 @@ module _ (p : Placement) (s : State) (d : Disk) (stored : IsStoredIn p s d) (non
       omega (arith, high, length-append (closed_in p d.stands) [], ap length none)
 
   module _ (used : (log : OpenLog) → s.open_log ≡ Some log → 1 ≤ log.used) (generation : s.generation + 1 ≤ last_number) where
-    may_rotate : MayRotate p d
+    pub may_rotate : MayRotate p d
     may_rotate = record {
       none_closed = no_records;
       some = has_batch p.logs.open_region stored.carried.held.opened (λ log is. used log (stored.state.placed.open_log ∙ is));
@@ -240,7 +240,7 @@ module _ (p : Placement) (s : State) (d : Disk) (stored : IsStoredIn p s d) (non
     }
 
     module _ (o : OpenRegion) (new : IsInLeastFree p.logs.log_sectors (s.generation + 1) (batch_count s.points) (open_records p.logs.open_region) (Some o)) where
-      new_here : IsInLeastFree p.logs.log_sectors (p.logs.generation + 1) (present_state p d).count (open_records p.logs.open_region) (Some o)
+      pub new_here : IsInLeastFree p.logs.log_sectors (p.logs.generation + 1) (present_state p d).count (open_records p.logs.open_region) (Some o)
       new_here =
           subst (λ (n : ℕ). IsInLeastFree p.logs.log_sectors (p.logs.generation + 1) n (open_records p.logs.open_region) (Some o)) (count_is p s d stored)
           (subst (λ (n : ℕ). IsInLeastFree p.logs.log_sectors n (batch_count s.points) (open_records p.logs.open_region) (Some o)) (next_generation p s d stored) new)

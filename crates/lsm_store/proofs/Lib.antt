@@ -36,4 +36,6 @@ pub mod AppendedTables
 pub mod InstalledTables
 pub mod StoredTables
 pub mod KeptJobs
+pub mod RotatedManifests
+pub mod StoredLevels
 pub mod VersionPoints

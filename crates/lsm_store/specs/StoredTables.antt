@@ -1,5 +1,5 @@
 -- How a running store with tables goes with its device.
-use Rattle.std.specs.Prelude.{◌≡◌, List, [], ◌++◌, length, All, Some, None, option_map}
+use Rattle.std.specs.Prelude.{◌≡◌, ℕ, List, [], ◌++◌, length, All, Some, None, option_map}
 use Rattle.lsm_codec.specs.Map.{Map, Operation}
 use Rattle.lsm_device.specs.Disk.{Disk, seen}
 use Rattle.lsm_open.specs.declared.regions.OpenRegion.{OpenRegion}
@@ -44,6 +44,10 @@ KeepsExtents p old new = All (λ t. extent_at p.logs.log_sectors (seen new) t �
 -- the placement with this log open, in the same region
 abbrev pub with_log : Placement → OpenRegion → Placement
 with_log p o = record p { logs = record p.logs { open_region = Some o } }
+
+-- the placement with another number for the next table
+abbrev pub with_next : ℕ → Placement → Placement
+with_next n p = record p { logs = record p.logs { next_table = n } }
 
 -- A store may go on in this placement and this state after an installation on a disk: the placement may be installed, and
 -- leaves the present map of the state, in which all batches are synced.

@@ -1,5 +1,7 @@
 // Laws of a store with tables: what its own writes leave of them.
 ghost use Rattle.std.specs.Prelude.{◌≡◌, ◌≤◌, ◌↔◌, ℕ, ◌+◌, Bool, true, false, List, [], ◌∷◌, ◌++◌, length, take, drop, All, Option, Some};
+ghost use Rattle.std.specs.List.{AllByRecursion};
+ghost use Rattle.lsm_codec.specs.Manifests.{IsManifest};
 ghost use Rattle.lsm_codec.specs.Map.{Operation};
 ghost use Rattle.lsm_codec.specs.Versions.{Version};
 ghost use Rattle.lsm_codec.specs.declared.table_record.TableRecord.{TableRecord};
@@ -7,7 +9,13 @@ ghost use Rattle.lsm_device.specs.Disk.{Disk, Write, seen, synced};
 ghost use Rattle.lsm_device.specs.History.{present, Becomes, EachSince};
 ghost use Rattle.lsm_device.specs.Outcomes.{Leaves};
 ghost use Rattle.lsm_device.specs.Runs.{run_at, grown, HasSomeOf};
-ghost use Rattle.lsm_levels.specs.Levels.{Levels};
+ghost use Rattle.lsm_jobs.specs.Slots.{Slot};
+ghost use Rattle.lsm_jobs.specs.StoredJobs.{HasStored};
+ghost use Rattle.lsm_levels.specs.Held.{IsHeld};
+ghost use Rattle.lsm_levels.specs.Levels.{Levels, places};
+ghost use Rattle.lsm_levels.specs.Pick.{Job, installed as installed_levels};
+ghost use Rattle.lsm_levels.specs.Stored.{IsStored as IsStoredTable, AreStored};
+ghost use Rattle.lsm_levels.specs.Tables.{Table};
 ghost use Rattle.lsm_log.specs.Batches.{IsBetween};
 ghost use Rattle.lsm_log.specs.Opened.{IsOpen, IsGrownBy, TakesBatch, batches_in};
 ghost use Rattle.lsm_open.specs.CrashState.{CrashState, last_number};
@@ -16,7 +24,9 @@ ghost use Rattle.lsm_open.specs.Layout.{Layout, open_records};
 ghost use Rattle.lsm_open.specs.Placements.{Placement, without_tables, contents_for, closed_in, IsFreeWrite};
 ghost use Rattle.lsm_open.specs.RecoveredTables.{StandForOne, IsRecoveredWithTables};
 ghost use Rattle.lsm_open.specs.Switching.{rotated as rotated_placement, flushed, AreFlushed, merged, Parts, with_outputs, AreMerged, IsInLeastFree};
-ghost use Rattle.lsm_open.specs.Tables.{extent_start};
+ghost use Rattle.lsm_merge.specs.Inputs.{AreRuns};
+ghost use Rattle.lsm_open.specs.Tables.{first_data, extent_start};
+ghost use Rattle.lsm_open.specs.ToldTables.{records_of};
 ghost use Rattle.lsm_open.specs.Writing.{PlacedTable, tables_of, MayBePlaced};
 ghost use Rattle.lsm_open.specs.declared.regions.OpenRegion.{OpenRegion};
 ghost use Rattle.lsm_root.specs.Installed.{IsReady, IsOldOrNew, IsInstalled};
@@ -29,7 +39,7 @@ ghost use Rattle.lsm_store.specs.RecoveryPoints.{batch_count};
 ghost use Rattle.lsm_store.specs.Run.{stopped_in};
 ghost use Rattle.lsm_store.specs.State.{OpenLog, State, map_at};
 ghost use Rattle.lsm_store.specs.Stored.{IsStored};
-ghost use Rattle.lsm_store.specs.StoredTables.{IsStoredIn, IsStoredWithJobs, KeepsExtents, with_log, MayGoOn};
+ghost use Rattle.lsm_store.specs.StoredTables.{IsStoredIn, IsStoredWithJobs, KeepsExtents, with_log, with_next, MayGoOn};
 ghost use Rattle.lsm_store.specs.WorkEffects.{installed, rotated};
 ghost use Rattle.lsm_store.specs.declared.asked.At.{At};
 
@@ -100,11 +110,19 @@ pub fn installs_keep_tables()
 {}
 
 /// A store may go on after a rotation, where no closed region waits and the open log, if there is one, is used: the open log's
-/// region is closed, and a new log is open in the least free one.
+/// region is closed, and a new log is open in the least free one. Its manifest is one, with any later number for the next table;
+/// a store may go on with any, and what jobs have placed stays.
 pub fn rotations_keep_tables()
     ensures next { (p : Placement) (s : State) (d : Disk) (o : OpenRegion) → IsStoredIn p s d → s.closed ≡ 0 → ((log : OpenLog) → s.open_log ≡ Some log → 1 ≤ log.used) → s.generation + 1 ≤ last_number
         → IsInLeastFree p.logs.log_sectors (s.generation + 1) (batch_count s.points) (open_records p.logs.open_region) (Some o)
         → MayGoOn (rotated_placement p o) (rotated s) d }
+    ensures fits { (p : Placement) (s : State) (d : Disk) (o : OpenRegion) (n : ℕ) → IsStoredIn p s d → s.closed ≡ 0 → ((log : OpenLog) → s.open_log ≡ Some log → 1 ≤ log.used) → s.generation + 1 ≤ last_number
+        → IsInLeastFree p.logs.log_sectors (s.generation + 1) (batch_count s.points) (open_records p.logs.open_region) (Some o)
+        → p.logs.next_table ≤ n → n ≤ last_number + 1 → IsManifest (contents_for (with_next n (rotated_placement p o))) }
+    ensures numbered { (q : Placement) (t : State) (d : Disk) (n : ℕ) → MayGoOn q t d → MayGoOn (with_next n q) t d }
+    ensures jobs { (p : Placement) (placed : List PlacedTable) (s t : State) (o : OpenRegion) (n : ℕ) (start d : Disk) → IsStoredWithJobs p placed s start
+        → IsInstalled start (Stands p.logs.log_sectors (contents_for (with_next n (rotated_placement p o)))) d
+        → IsStoredIn (with_next n (rotated_placement p o)) t d → IsStoredWithJobs (with_next n (rotated_placement p o)) placed t d }
     ensures maps { (s : State) (at : At) → map_at (rotated s) at ≡ map_at s at }
 {}
 
@@ -144,4 +162,16 @@ pub fn jobs_keep_tables()
 pub fn recovered_tables_are_stored()
     ensures { (log_sectors : ℕ) (left : CrashState) (p : Placement) (count : ℕ) (sealed : Option (List Version)) (levels : Levels) (d : Disk)
         → IsRecoveredWithTables log_sectors left p count sealed levels d → IsStoredWithJobs p [] (reopened log_sectors left) d }
+{}
+
+/// The tables that levels keep stay on the device, as long as reads give what they gave in the extents of a placement's tables
+/// and the levels have just these. So do those that a job takes in; and after an install those of the levels with its outputs,
+/// where these stand.
+pub fn levels_stay_stored()
+    ensures kept { (p : Placement) (levels : Levels) (old new : Disk) → records_of levels ≡ p.tables → KeepsExtents p old new
+        → AreStored (seen old) (first_data p.logs.log_sectors) (places levels) → AreStored (seen new) (first_data p.logs.log_sectors) (places levels) }
+    ensures jobs { (sectors : List (List ℕ)) (area : ℕ) (levels : Levels) (slot : Slot) → AreStored sectors area (places levels) → IsHeld levels slot.input.bottom slot.job → AreRuns slot.input.runs
+        → HasStored sectors area slot }
+    ensures installed { (sectors : List (List ℕ)) (area : ℕ) (levels : Levels) (job : Job) (new : List Table) → AreStored sectors area (places levels) → AllByRecursion (IsStoredTable sectors area) new
+        → AreStored sectors area (places (installed_levels levels job new)) }
 {}

@@ -1,0 +1,11 @@
+use Rattle.lsm_store.proofs.StoredLevels.{levels_kept, levels_installed, jobs_stored}
+use Rattle.lsm_store.proofs.stored_law.levels_stay_stored.Goals as goal
+
+pub returns-clause-kept : goal.returns-clause-kept
+returns-clause-kept c = levels_kept
+
+pub returns-clause-jobs : goal.returns-clause-jobs
+returns-clause-jobs c = jobs_stored
+
+pub returns-clause-installed : goal.returns-clause-installed
+returns-clause-installed c = levels_installed
