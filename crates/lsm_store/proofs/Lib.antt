@@ -39,3 +39,7 @@ pub mod KeptJobs
 pub mod RotatedManifests
 pub mod StoredLevels
 pub mod VersionPoints
+pub mod InstalledRecords
+pub mod MergedRecords
+pub mod StoredRecords
+pub mod WrittenOutputs

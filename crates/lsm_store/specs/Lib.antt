@@ -23,3 +23,4 @@ pub mod WorkMaps
 pub mod WorkSound
 pub mod OpenedWork
 pub mod StoredTables
+pub mod InstalledJobs

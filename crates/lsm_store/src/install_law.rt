@@ -1,0 +1,39 @@
+// Laws of installs: what a job's outputs and the tables of the levels give of the manifest that comes next.
+ghost use Rattle.std.specs.Prelude.{◌≡◌, ◌≤◌, ℕ, ◌^◌, Bool, List, ◌++◌, length, All, Some};
+ghost use Rattle.std.specs.List.{AllByRecursion};
+ghost use Rattle.lsm_device.specs.Disk.{Disk, seen};
+ghost use Rattle.lsm_jobs.specs.Outputs.{AreMadeOf};
+ghost use Rattle.lsm_jobs.specs.Slots.{Slot, Slots, Writing, slot_of, outputs_at};
+ghost use Rattle.lsm_levels.specs.Held.{AreRuns, IsHeld};
+ghost use Rattle.lsm_levels.specs.Levels.{Levels};
+ghost use Rattle.lsm_levels.specs.Pick.{Job, installed as installed_levels};
+ghost use Rattle.lsm_levels.specs.Stored.{IsStored};
+ghost use Rattle.lsm_levels.specs.Tables.{Table, versions_of};
+ghost use Rattle.lsm_mem.specs.Versions.{NumberedAtMost};
+ghost use Rattle.lsm_open.specs.Placements.{Placement};
+ghost use Rattle.lsm_open.specs.Tables.{first_data, IsTableAt};
+ghost use Rattle.lsm_open.specs.ToldTables.{records_of};
+ghost use Rattle.lsm_open.specs.Writing.{PlacedTable, tables_of};
+ghost use Rattle.lsm_store.specs.InstalledJobs.{output_records, placed_for, HasPlaced, installed_in};
+ghost use Rattle.lsm_store.specs.State.{State};
+ghost use Rattle.lsm_store.specs.StoredTables.{IsStoredWithJobs};
+
+/// The outputs of a job whose blocks are all written stand: in the levels, and each for its record in the manifest that comes next.
+pub fn written_outputs_stand()
+    ensures placed { (slots : Slots) (job : ℕ) (slot : Slot) → slot_of job slots ≡ Some slot → HasPlaced slots job slot }
+    ensures records { (slot : Slot) → tables_of (placed_for slot) ≡ output_records slot.job (outputs_at slot.stage) }
+    ensures stored { (p : Placement) (xs ys : List PlacedTable) (s : State) (d : Disk) (slot : Slot) (outputs : List Table) → IsStoredWithJobs p (xs ++ (placed_for slot ++ ys)) s d
+        → slot.stage ≡ Writing outputs 0 → AreMadeOf slot.input outputs → AllByRecursion (λ t. t.number ≤ 2 ^ 63) outputs
+        → AllByRecursion (IsStored (seen d) (first_data p.logs.log_sectors)) outputs }
+    ensures named { (p : Placement) (xs ys : List PlacedTable) (s : State) (d : Disk) (slot : Slot) (outputs : List Table) → IsStoredWithJobs p (xs ++ (placed_for slot ++ ys)) s d
+        → slot.stage ≡ Writing outputs 0 → AreMadeOf slot.input outputs → AllByRecursion (λ t. t.number ≤ 2 ^ 63) outputs
+        → (base : ℕ) → NumberedAtMost base (versions_of outputs) → All (IsTableAt p.logs.log_sectors base (seen d)) (output_records slot.job outputs) }
+{}
+
+/// After an install the records of the tables in the levels are those that the next placement names, in as many runs.
+pub fn installed_records_are_placed()
+    ensures records { (p : Placement) (d : Disk) (levels : Levels) (bottom : Bool) (job : Job) (next_table : ℕ) (new : List Table) → AreRuns levels → IsHeld levels bottom job → records_of levels ≡ p.tables
+        → records_of (installed_levels levels job new) ≡ (installed_in p d levels job next_table new).tables }
+    ensures runs { (p : Placement) (d : Disk) (levels : Levels) (job : Job) (next_table : ℕ) (new : List Table) → length levels.runs ≡ p.runs
+        → length (installed_levels levels job new).runs ≡ (installed_in p d levels job next_table new).runs }
+{}
