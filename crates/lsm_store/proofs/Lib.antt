@@ -43,3 +43,4 @@ pub mod InstalledRecords
 pub mod MergedRecords
 pub mod StoredRecords
 pub mod WrittenOutputs
+pub mod WrittenFlush

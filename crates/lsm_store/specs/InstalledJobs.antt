@@ -1,5 +1,6 @@
 -- What jobs place, and what an install of a job's outputs makes of the tables that a manifest names.
 use Rattle.std.specs.Prelude.{◌≡◌, ℕ, zero, suc, ◌-◌, min, List, [], ◌∷◌, ◌++◌, length, map, filter, take, drop, Option, Some, None}
+use Rattle.lsm_codec.specs.Versions.{Version}
 use Rattle.lsm_codec.specs.declared.table_record.TableRecord.{TableRecord}
 use Rattle.lsm_device.specs.Disk.{Disk, seen}
 use Rattle.lsm_levels.specs.Levels.{Levels, level, newer_runs, last_run}
@@ -7,6 +8,7 @@ use Rattle.lsm_levels.specs.Pick.{Job, Flush, Merge, installed as installed_leve
 use Rattle.lsm_levels.specs.Tables.{Table, KeyRange, record_of, hull, is_below, meets}
 use Rattle.lsm_jobs.specs.Pieces.{sectors_of, sector_count, written_of}
 use Rattle.lsm_jobs.specs.Slots.{Slot, Slots, with_held, outputs_at, left_at}
+use Rattle.lsm_mem.specs.EntryOrder.{with_batches}
 use Rattle.lsm_open.specs.Placements.{Placement, closed_in}
 use Rattle.lsm_open.specs.Switching.{flushed, merged, Parts, with_outputs}
 use Rattle.lsm_open.specs.ToldTables.{records_of_runs, records_of_levels}
@@ -45,6 +47,10 @@ pub record HasPlaced (slots : Slots) (job : ℕ) (slot : Slot) : Type 0 where
   pub behind : List PlacedTable
   pub own : placed_by slots ≡ before ++ (placed_for slot ++ behind)
   pub others : placed_by (with_held job None slots) ≡ before ++ behind
+
+-- sealed versions are those of the batches in the closed regions
+abbrev pub AreSealedIn : Placement → List (List ℕ) → List Version → Type 0
+AreSealedIn p sectors sealed = sealed ≡ with_batches p.logs.base (closed_in p sectors) []
 
 -- ---- the parts of a manifest's list around a merge
 

@@ -6,17 +6,21 @@ ghost use Rattle.lsm_jobs.specs.Outputs.{AreMadeOf};
 ghost use Rattle.lsm_jobs.specs.Slots.{Slot, Slots, Writing, slot_of, outputs_at};
 ghost use Rattle.lsm_levels.specs.Held.{AreRuns, IsHeld};
 ghost use Rattle.lsm_levels.specs.Levels.{Levels};
-ghost use Rattle.lsm_levels.specs.Pick.{Job, installed as installed_levels};
+ghost use Rattle.lsm_levels.specs.Pick.{Job, Flush, installed as installed_levels};
 ghost use Rattle.lsm_levels.specs.Stored.{IsStored};
 ghost use Rattle.lsm_levels.specs.Tables.{Table, versions_of};
 ghost use Rattle.lsm_mem.specs.Versions.{NumberedAtMost};
 ghost use Rattle.lsm_open.specs.Placements.{Placement};
+ghost use Rattle.lsm_open.specs.Switching.{AreFlushed};
 ghost use Rattle.lsm_open.specs.Tables.{first_data, IsTableAt};
 ghost use Rattle.lsm_open.specs.ToldTables.{records_of};
 ghost use Rattle.lsm_open.specs.Writing.{PlacedTable, tables_of};
-ghost use Rattle.lsm_store.specs.InstalledJobs.{output_records, placed_for, HasPlaced, installed_in};
+ghost use Rattle.lsm_store.specs.InstalledJobs.{output_records, placed_for, HasPlaced, AreSealedIn, installed_in};
 ghost use Rattle.lsm_store.specs.State.{State};
 ghost use Rattle.lsm_store.specs.StoredTables.{IsStoredWithJobs};
+ghost use Rattle.lsm_store.specs.Work.{WorkMachine};
+ghost use Rattle.lsm_store.specs.WorkRefusals.{held};
+ghost use Rattle.lsm_store.specs.WorkSound.{IsSound};
 
 /// The outputs of a job whose blocks are all written stand: in the levels, and each for its record in the manifest that comes next.
 pub fn written_outputs_stand()
@@ -36,4 +40,11 @@ pub fn installed_records_are_placed()
         → records_of (installed_levels levels job new) ≡ (installed_in p d levels job next_table new).tables }
     ensures runs { (p : Placement) (d : Disk) (levels : Levels) (job : Job) (next_table : ℕ) (new : List Table) → length levels.runs ≡ p.runs
         → length (installed_levels levels job new).runs ≡ (installed_in p d levels job next_table new).runs }
+{}
+
+/// A flush whose blocks are all written may be installed: its tables are of the batches in the closed regions.
+pub fn written_flushes_are_flushed()
+    ensures { (m : WorkMachine) (p : Placement) (xs ys : List PlacedTable) (d : Disk) (job : ℕ) (slot : Slot) (outputs : List Table) → IsSound m → IsStoredWithJobs p (xs ++ (placed_for slot ++ ys)) m.state d
+        → AreSealedIn p (seen d) m.work.sealed → held m job ≡ Some slot → slot.job ≡ Flush → slot.stage ≡ Writing outputs 0 → AreMadeOf slot.input outputs → AllByRecursion (λ t. t.number ≤ 2 ^ 63) outputs
+        → AreFlushed p (seen d) (output_records Flush outputs) }
 {}

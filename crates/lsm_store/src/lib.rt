@@ -17,7 +17,9 @@ mod work_law;
 
 pub use asked::At;
 pub use device_law::{device_reads_on, recovered_is_stored, stored_is_backed, sync_keeps_stored};
-pub use install_law::{installed_records_are_placed, written_outputs_stand};
+pub use install_law::{
+    installed_records_are_placed, written_flushes_are_flushed, written_outputs_stand,
+};
 pub use law::{
     allowed_is_admitted, ample_steps_run, crash_keeps_a_beginning, crash_states_go_on,
     crashes_keep_beginnings, runs_join, stopped_refuses,
