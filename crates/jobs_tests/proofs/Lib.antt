@@ -1,1 +1,2 @@
 mod Dropped
+mod Ended

@@ -1,7 +1,7 @@
 //! Jobs that are dropped.
 
 use crate::merging::one_merge;
-use crate::subject::built;
+use crate::subject::{built, merge};
 use lsm_device::Refusal;
 use lsm_extent::Extents;
 use lsm_jobs::{Slots, slots_stay_apart};
@@ -40,6 +40,6 @@ fn a_job_that_is_dropped_gives_its_blocks_back(rt: HostRuntime) -> Result<(), Fa
     let mut extents = Extents::new(alloc, 40);
     let _levels = extents.take(22)?;
     assert!(rt; free_blocks(alloc, &mut subject.slots, &made, &mut extents)? == [12, 18]);
-    assert!(rt; are_free(&subject.slots) && subject.take()? == Some(2));
+    assert!(rt; are_free(&subject.slots) && subject.take()? == Some(merge(2)));
     Ok(())
 }

@@ -3,7 +3,7 @@
 ghost use Rattle.std.specs.List.{AllByRecursion};
 ghost use Rattle.lsm_codec.specs.Versions.{IsEntry};
 
-use crate::subject::{one_cut, sealed_put};
+use crate::subject::{flush, one_cut, sealed_put};
 use lsm_device::Refusal;
 use lsm_extent::Extents;
 use lsm_jobs::Slots;
@@ -34,7 +34,7 @@ fn is_taken<A: Allocator + Clone>(
     let taken = slots.take(alloc, levels, Some(sealed), cuts);
     heap.allow(AMPLE);
     match taken {
-        Ok(Some(1)) if slots.has_flush() => Ok(true),
+        Ok(Some(job)) if job == flush(1) && slots.has_flush() => Ok(true),
         Err(Refusal::NoMemory) if !slots.has_flush() => Ok(false),
         _ => Err(Refusal::WrongState),
     }

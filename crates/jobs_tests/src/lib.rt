@@ -6,6 +6,8 @@ mod accepting;
 #[cfg(test)]
 mod dropping;
 #[cfg(test)]
+mod ending;
+#[cfg(test)]
 mod growth;
 #[cfg(test)]
 mod merging;
@@ -15,6 +17,8 @@ mod reading;
 mod subject;
 #[cfg(test)]
 mod taking;
+#[cfg(test)]
+mod turns;
 #[cfg(test)]
 mod two_jobs;
 #[cfg(test)]

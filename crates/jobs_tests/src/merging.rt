@@ -1,10 +1,12 @@
 //! Tables on a device, and the jobs that merge them.
 
-use crate::subject::one_cut;
+use crate::subject::{merge, one_cut};
 use lsm_codec::Entry;
 use lsm_device::{Device, MemDevice, Refusal};
-use lsm_jobs::Slots;
+use lsm_extent::Extents;
+use lsm_jobs::{Slots, TakenJob};
 use lsm_levels::{Levels, PlacedTable, Run, is_run};
+use lsm_merge::Built;
 use lsm_table::Image;
 use std::alloc::Global;
 use table_tests::input::{entry, images_of};
@@ -133,7 +135,7 @@ impl Subject {
     }
 
     /// Takes the merge that comes next.
-    pub(crate) fn take(&mut self) -> Result<Option<u64>, Refusal> {
+    pub(crate) fn take(&mut self) -> Result<Option<TakenJob>, Refusal> {
         let cuts = one_cut(self.alloc)?;
         self.slots.take(&self.alloc, &self.levels, None, cuts)
     }
@@ -144,6 +146,31 @@ impl Subject {
             return Err(Refusal::BadGeometry);
         }
         self.slots.read(&self.alloc, job, AREA, &mut self.device)
+    }
+
+    /// How many data blocks of a job's tables are left to read.
+    pub(crate) fn left_to_read(&self, job: u64) -> Result<usize, Refusal> {
+        if !self.slots.can_be_read(job, self.device.sectors(), AREA) {
+            return Err(Refusal::BadGeometry);
+        }
+        Ok(self.slots.left_to_read(job))
+    }
+
+    /// Accepts a result for a job, whose outputs are placed behind the tables of the levels.
+    pub(crate) fn accept(&mut self, job: u64, built: &Built) -> Result<u64, Refusal> {
+        let mut extents = Extents::new(self.alloc, 60);
+        if self.blocks > 0 {
+            let _levels = extents.take(self.blocks)?;
+        }
+        self.slots.accept(&self.alloc, job, built, &mut extents, 7)
+    }
+
+    /// Writes the next blocks of a job.
+    pub(crate) fn write(&mut self, job: u64) -> Result<u32, Refusal> {
+        if !self.slots.lie_within(job, self.device.sectors(), AREA) {
+            return Err(Refusal::BadGeometry);
+        }
+        self.slots.write(job, &mut self.device, AREA)
     }
 }
 
@@ -157,7 +184,7 @@ pub(crate) fn one_merge(alloc: Global, blocks: u8) -> Result<Subject, Refusal> {
     }
     subject.set_level_1(0x12, 1)?;
     match subject.take()? {
-        Some(1) => Ok(subject),
+        Some(job) if job == merge(1) => Ok(subject),
         _ => Err(Refusal::NoSuchJob),
     }
 }

@@ -7,7 +7,7 @@ ghost use Rattle.lsm_codec.specs.Versions.{IsEntry};
 
 use lsm_codec::{Batch, Op};
 use lsm_device::Refusal;
-use lsm_jobs::Slots;
+use lsm_jobs::{Slots, TakenJob};
 use lsm_levels::Levels;
 use lsm_mem::{Mem, Sealed};
 use lsm_merge::{Built, build};
@@ -22,6 +22,22 @@ pub(crate) fn one_cut<A: Allocator>(alloc: A) -> Result<Vec<u64, A>, AllocError>
     let mut cuts = Vec::new(alloc);
     cuts.push(1)?;
     Ok(cuts)
+}
+
+/// What is told of a flush.
+pub(crate) fn flush(number: u64) -> TakenJob {
+    TakenJob {
+        number,
+        level: None,
+    }
+}
+
+/// What is told of a merge of the oldest run of level 0.
+pub(crate) fn merge(number: u64) -> TakenJob {
+    TakenJob {
+        number,
+        level: Some(0),
+    }
 }
 
 /// A batch of one put of the value 31.
@@ -50,7 +66,7 @@ pub(crate) fn flushing<A: Allocator + Clone>(alloc: &A, key: u8) -> Result<Slots
     let sealed = sealed_put(alloc, key)?;
     let mut slots = Slots::new(alloc.clone()?)?;
     match slots.take(alloc, &levels, Some(&sealed), one_cut(alloc.clone()?)?)? {
-        Some(1) => Ok(slots),
+        Some(job) if job == flush(1) => Ok(slots),
         _ => Err(Refusal::NoSuchJob),
     }
 }

@@ -1,8 +1,8 @@
 //! Jobs that are taken.
 
-use crate::subject::{flushing, one_cut, sealed_put};
+use crate::subject::{flush, flushing, one_cut, sealed_put};
 use lsm_device::Refusal;
-use lsm_jobs::Slots;
+use lsm_jobs::{Slots, TakenJob};
 use lsm_levels::{HeldJobs, Levels};
 use merge_tests::input::input_of;
 use std::alloc::Global;
@@ -11,7 +11,7 @@ use std::test::Fail;
 use table_tests::input::entry;
 
 /// What is taken of levels without a table: first where nothing waits, and then twice where one put waits sealed.
-fn taken(alloc: Global, slots: &mut Slots) -> Result<[Option<u64>; 3], Refusal> {
+fn taken(alloc: Global, slots: &mut Slots) -> Result<[Option<TakenJob>; 3], Refusal> {
     let levels = Levels::new(alloc)?;
     let sealed = sealed_put(&alloc, 0x61)?;
     Ok([
@@ -24,7 +24,7 @@ fn taken(alloc: Global, slots: &mut Slots) -> Result<[Option<u64>; 3], Refusal> 
 #[test]
 fn one_flush_is_taken_of_what_waits(rt: HostRuntime) -> Result<(), Fail> {
     let mut slots = Slots::new(rt.alloc())?;
-    assert!(rt; taken(rt.alloc(), &mut slots)? == [None, Some(1), None]);
+    assert!(rt; taken(rt.alloc(), &mut slots)? == [None, Some(flush(1)), None]);
     assert!(rt; slots.has_flush() && !slots.has_level_0() && !slots.takes_in(1));
     Ok(())
 }

@@ -4,9 +4,10 @@ ghost use Rattle.std.specs.List.{AllByRecursion};
 ghost use Rattle.lsm_codec.specs.Versions.{IsEntry};
 
 use crate::merging::Subject;
-use crate::subject::{built, one_cut, sealed_put};
+use crate::subject::{built, flush, merge, one_cut, sealed_put};
 use lsm_device::Refusal;
 use lsm_extent::Extents;
+use lsm_jobs::TakenJob;
 use lsm_levels::HeldJobs;
 use lsm_mem::Sealed;
 use lsm_merge::Built;
@@ -15,8 +16,8 @@ use std::process::Abort;
 use std::test::Fail;
 use std::thread::Threads;
 
-/// The number of the job that comes next where something is sealed.
-fn take(subject: &mut Subject, alloc: Global, sealed: &Sealed) -> Result<Option<u64>, Refusal>
+/// What is told of the job that comes next where something is sealed.
+fn take(subject: &mut Subject, alloc: Global, sealed: &Sealed) -> Result<Option<TakenJob>, Refusal>
     requires { AllByRecursion IsEntry sealed.now }
 {
     subject
@@ -36,7 +37,7 @@ fn take_and_drop(
     let taken = take(subject, alloc, sealed)?;
     let _input = subject.slots.input(job)?;
     subject.slots.drop(job, &mut Extents::new(alloc, 0))?;
-    Ok(taken == Some(job) && !subject.slots.has_flush())
+    Ok(taken == Some(flush(job)) && !subject.slots.has_flush())
 }
 
 /// Levels with four runs of one put each, and a flush and a merge of the oldest run as the jobs 5 and 6.
@@ -53,7 +54,7 @@ fn two_jobs(alloc: Global) -> Result<Subject, Refusal> {
         take(&mut subject, alloc, &sealed)?,
         take(&mut subject, alloc, &sealed)?,
     ];
-    if taken != [Some(5), Some(6)] {
+    if taken != [Some(flush(5)), Some(merge(6))] {
         return Err(Refusal::NoSuchJob);
     }
     Ok(subject)

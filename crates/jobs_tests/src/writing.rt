@@ -1,5 +1,6 @@
 //! Outputs that are written.
 
+use crate::ending::end;
 use crate::subject::{built, flushing};
 use lsm_device::{Device, MemDevice, Refusal};
 use lsm_extent::Extents;
@@ -44,6 +45,7 @@ fn a_flush_is_written_and_ends(rt: HostRuntime) -> Result<(), Fail> {
     let mut slots = accepted(alloc, slots, &made)?;
     let mut device = MemDevice::new(alloc, 40)?;
     assert!(rt; !is_whole(&slots) && write(&mut slots, &mut device)? == 0 && device.writes() == 32);
-    assert!(rt; is_whole(&slots) && slots.finish(1).is_ok() && !slots.has_flush());
+    // Its table has a block of data, filter, index and footer, which stay handed out.
+    assert!(rt; is_whole(&slots) && end(alloc, &mut slots)? == [36, 36] && !slots.has_flush());
     Ok(())
 }
