@@ -1,7 +1,7 @@
 -- How sources come to a page.
-use Rattle.std.proofs.Common.{◌≡◌, ◌⊎◌, inl, inr, ℕ, zero, suc, ◌+◌, ◌<◌, ◌≤◌, Bool, true, false, is_some, List, [], ◌∷◌, ◌++◌, length, map, set, drop, slice_get, Option, Some, None, refl, ap, sym, subst, ◌∙◌, arith}
+use Rattle.std.proofs.Common.{◌≡◌, ◌⊎◌, inl, inr, ℕ, zero, suc, ◌+◌, ◌<◌, ◌≤◌, Bool, true, false, is_some, List, [], ◌∷◌, ◌++◌, length, map, set, drop, get_or, slice_get, Option, Some, None, refl, ap, sym, subst, ◌∙◌, arith}
 use Rattle.std.specs.List.{AllByRecursion}
-use Rattle.std.proofs.lemmas.Option.{same_Some}
+use Rattle.std.proofs.lemmas.Option.{same_Some, slice_get-get_or}
 use Rattle.lsm_device.specs.declared.refusal.Refusal.{Refusal}
 use Rattle.lsm_device.specs.declared.refusal.Refusal.TheVariants.{NoMemory, Io, BadTable}
 use Rattle.lsm_codec.specs.Versions.{Version}
@@ -172,6 +172,11 @@ goes_fewer (first ∷ item ∷ items) blocks c next refusal old new is bs some h
     let b = ap length bs in
     let n = ap steps_of h.0.stands in
     omega (arith, a, b, n)
+
+-- the cursor at a place goes on
+pub goes_on_at : (i : ℕ) (cursors : List Cursor) (c then : Cursor) (refusal : Option Refusal) (old new : Source) → i < length cursors → GoesOn (drop 1 (get_or cursors i c).items) (get_or cursors i c).blocks then refusal old new
+    → (refusal ≡ None → length then.items ≤ length (get_or cursors i c).items + 4097) → Advances i cursors (set cursors i then) refusal old new
+goes_on_at i cursors c then refusal old new inside goes_on few = record { cursor = get_or cursors i c; at = slice_get-get_or cursors i c inside; then = then; is = refl; goes_on = goes_on; few = few }
 
 pub advances_fewer : (i : ℕ) (cursors next : List Cursor) (old new : Source) → Advances i cursors next None old new → is_some (head_at (map present cursors) i) ≡ true → steps_left next < steps_left cursors
 advances_fewer i cursors next old new a some =

@@ -1,11 +1,11 @@
-use Rattle.std.proofs.Common.{Ok, Err, Some, refl, sym, subst, ap, ◌∙◌, ◌++◌, ◌∷◌, [], ◌≡◌, ℕ}
+use Rattle.std.proofs.Common.{Ok, Err, Some, refl, sym, subst, ◌++◌, ◌∷◌, [], ◌≡◌, ℕ}
 use Rattle.std.proofs.lemmas.Result.{err_from_is_err_and}
 use Rattle.lsm_device.specs.declared.refusal.Refusal.TheVariants.{NoMemory}
 use Rattle.lsm_levels.specs.Asking.{Source}
 use Rattle.lsm_levels.specs.Scans.{AreReady}
-use Rattle.lsm_levels.specs.Cursors.{Cursor, blocks_from_key}
+use Rattle.lsm_levels.specs.Cursors.{blocks_from_key}
 use Rattle.lsm_levels.proofs.ScanAsking.{asks_nothing}
-use Rattle.lsm_levels.proofs.ScanSources.{gives_more, more_asking, none_asking, ready_more, run_gives, seek_refused, sought_fair}
+use Rattle.lsm_levels.proofs.ScanSources.{with_one_more, gives_more, more_asking, none_asking, ready_more, run_gives, seek_refused, sought_fair}
 use Rattle.lsm_levels.proofs.sources.seek_run.Goals as goal
 
 pub returns-in_err-cursor-clause-asks : goal.returns-in_err-cursor-clause-asks
@@ -26,14 +26,14 @@ pub returns-clause-asks : goal.returns-clause-asks
 returns-clause-asks g c = λ behind.
     let old : Source = record { cache = c.args.cache.now; medium = g.D.Device.medium c.args.device.now } in
     let new : Source = record { cache = c.seek.new.cache; medium = g.D.Device.medium c.seek.new.device } in
-    more_asking c.args.sources.now.items c.push.new.self.items c.in_ok-cursor.cursor c.args.from.now (blocks_from_key c.args.area c.args.from.now c.args.run.now) behind old new (c.in_ok-push.ensures.items ∙ ap (λ (d : Cursor). c.args.sources.now.items ++ d ∷ []) c.of_run.ensures) c.in_ok-cursor.ensures.sought
+    more_asking c.args.sources.now.items c.push.new.self.items c.in_ok-cursor.cursor c.args.from.now (blocks_from_key c.args.area c.args.from.now c.args.run.now) behind old new (with_one_more c.push.new.self.items c.args.sources.now.items c.of_run.result c.in_ok-cursor.cursor c.in_ok-push.ensures.items c.of_run.ensures) c.in_ok-cursor.ensures.sought
 
 pub returns-clause-gives : goal.returns-clause-gives
 returns-clause-gives g c = λ place sectors lefts r stored placed all shows.
     let old : Source = record { cache = c.args.cache.now; medium = g.D.Device.medium c.args.device.now } in
     let new : Source = record { cache = c.seek.new.cache; medium = g.D.Device.medium c.seek.new.device } in
     let given = run_gives place sectors c.args.area c.args.from.now c.args.run.now (Ok c.in_ok-cursor.cursor) old new r stored placed shows c.in_ok-cursor.ensures.sought in
-    (gives_more place sectors lefts c.args.sources.now.items c.push.new.self.items _ c.in_ok-cursor.cursor new (c.in_ok-push.ensures.items ∙ ap (λ (d : Cursor). c.args.sources.now.items ++ d ∷ []) c.of_run.ensures) all given, given.shows)
+    (gives_more place sectors lefts c.args.sources.now.items c.push.new.self.items _ c.in_ok-cursor.cursor new (with_one_more c.push.new.self.items c.args.sources.now.items c.of_run.result c.in_ok-cursor.cursor c.in_ok-push.ensures.items c.of_run.ensures) all given, given.shows)
 
 pub returns-in_err-cursor-clause-refused : goal.returns-in_err-cursor-clause-refused
 returns-in_err-cursor-clause-refused g c =
@@ -57,7 +57,7 @@ returns-clause-ready g c =
     let new : Source = record { cache = c.seek.new.cache; medium = g.D.Device.medium c.seek.new.device } in
     let cursors = c.args.sources.now.items in
     let blocks = blocks_from_key c.args.area c.args.from.now c.args.run.now in
-    let is : c.push.new.self.items ≡ cursors ++ c.in_ok-cursor.cursor ∷ [] = c.in_ok-push.ensures.items ∙ ap (λ (d : Cursor). cursors ++ d ∷ []) c.of_run.ensures in
+    let is : c.push.new.self.items ≡ cursors ++ c.in_ok-cursor.cursor ∷ [] = with_one_more c.push.new.self.items c.args.sources.now.items c.of_run.result c.in_ok-cursor.cursor c.in_ok-push.ensures.items c.of_run.ensures in
     subst (AreReady new.medium.size) (sym is)
     (ready_more new.medium.size cursors c.in_ok-cursor.cursor (subst (λ (n : ℕ). AreReady n cursors) (sym c.in_ok-cursor.ensures.asks.reads.same_size) c.requires.ready) c.in_ok-cursor.ensures.within
     (sought_fair c.args.from.now blocks c.in_ok-cursor.cursor old new c.in_ok-cursor.ensures.sought))
