@@ -32,15 +32,16 @@ use Rattle.lsm_store.specs.Calls.{Call}
 use Rattle.lsm_store.specs.Calls.{Commit, Sync, SyncTo, Get, Scan, Snapshot, Release, LogRoom}
 use Rattle.lsm_store.specs.Refusals.{refusal}
 use Rattle.lsm_store.specs.Effects.{with_sectors, next_taken, without, after}
-use Rattle.lsm_store.specs.Memory.{points_of}
+use Rattle.lsm_store.specs.StateMaps.{points_of, HaveMaps}
 use Rattle.lsm_store.specs.Work.{WorkView, WorkMachine, versions_in, are_waiting}
 use Rattle.lsm_store.specs.WorkEffects.{work_called, with_sealed, rotated}
 use Rattle.lsm_store.specs.WorkMaps.{IsUnique}
-use Rattle.lsm_store.specs.WorkSound.{HaveMaps, IsSound, CallSoundLaw, RotationSoundLaw}
+use Rattle.lsm_store.specs.WorkSound.{IsSound, CallSoundLaw, RotationSoundLaw}
 use Rattle.lsm_store.proofs.InstalledMaps.{table_versions, in_has, commit_law}
 use Rattle.lsm_store.proofs.Refusing.{unrefused_commit}
 use Rattle.lsm_store.proofs.Remembering.{present_map-points_of, all_synced-points_of, points_of-next}
-use Rattle.lsm_store.proofs.WorkSounds.{count_is, synced_is, Goes, job_goes, machine}
+use Rattle.lsm_store.proofs.StateMaps.{count_is, synced_is}
+use Rattle.lsm_store.proofs.WorkSounds.{Goes, job_goes, machine}
 
 -- ---- memory in order
 

@@ -24,17 +24,18 @@ use Rattle.lsm_jobs.specs.Taking.{runs_of}
 use Rattle.lsm_jobs.proofs.KeptJobs.{installing_law}
 use Rattle.lsm_store.specs.RecoveryPoints.{batch_count, all_synced}
 use Rattle.lsm_store.specs.State.{State}
-use Rattle.lsm_store.specs.Memory.{points_of}
+use Rattle.lsm_store.specs.StateMaps.{points_of, HaveMaps}
 use Rattle.lsm_store.specs.Work.{WorkView, WorkMachine, Work, Take, Read, Ask, Accept, Write, Install, Drop, versions_in}
 use Rattle.lsm_store.specs.WorkRefusals.{held, of_slot, running_refusal}
 use Rattle.lsm_store.specs.WorkEffects.{with_installed, installed, work_after, state_after}
 use Rattle.lsm_store.specs.WorkMaps.{AreVersions, IsAsked, IsJobOf, MayBePutIn}
-use Rattle.lsm_store.specs.WorkSound.{HaveMaps, IsSound, IsServed, SoundLaw}
+use Rattle.lsm_store.specs.WorkSound.{IsSound, IsServed, SoundLaw}
 use Rattle.lsm_store.proofs.InstalledMaps.{table_versions, has_in, in_has, runs_tables, kept_input, front_newer, installed_replacing, install_law}
 use Rattle.lsm_store.proofs.Refusing.{none_taken}
 use Rattle.lsm_store.proofs.Remembering.{all_synced-points_of}
 use Rattle.lsm_store.proofs.Replaced.{IsReplacing}
-use Rattle.lsm_store.proofs.WorkSounds.{count_is, synced_is, Goes, job_goes, alone, points_alone, machine, there, numbered, found, freed, read_sound, write_sound, accept_sound, drop_sound, take_sound}
+use Rattle.lsm_store.proofs.StateMaps.{count_is, synced_is, alone, points_alone}
+use Rattle.lsm_store.proofs.WorkSounds.{Goes, job_goes, machine, there, numbered, found, freed, read_sound, write_sound, accept_sound, drop_sound, take_sound}
 
 writes_written : (stage : Stage) → is_written stage ≡ true → is_writing stage ≡ true
 writes_written (Reading left) h = h

@@ -12,6 +12,8 @@ pub mod Reopening
 pub mod Serving
 pub mod Exits
 pub mod Remembering
+pub mod StateMaps
+mod Walks
 pub mod States
 pub mod Refusing
 pub mod Marking

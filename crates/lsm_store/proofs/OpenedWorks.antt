@@ -45,7 +45,7 @@ use Rattle.lsm_store.specs.OpenedWork.{opened_work, opened_machine, OpenedLaw}
 use Rattle.lsm_store.proofs.CallSounds.{unique_ordered}
 use Rattle.lsm_store.proofs.InstalledMaps.{table_versions, in_has}
 use Rattle.lsm_store.proofs.States.{made_same}
-use Rattle.lsm_store.proofs.WorkSounds.{alone, points_alone}
+use Rattle.lsm_store.proofs.StateMaps.{alone, points_alone}
 
 -- ---- versions in their places
 

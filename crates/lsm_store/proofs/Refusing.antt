@@ -1,25 +1,32 @@
 -- Refusals in order, and what a refused call does.
-use Rattle.std.proofs.Common.{◌≡◌, ◌≢◌, ◌⊎◌, inl, inr, ⊎_elim, Bool, true, false, not, List, [], ◌∷◌, Some, None, is_some, refl, sym, ◌∙◌, ap, subst}
+use Rattle.std.proofs.Common.{◌≡◌, ◌≢◌, ◌⊎◌, inl, inr, ⊎_elim, ℕ, Bool, true, false, not, List, [], ◌∷◌, Some, None, is_some, refl, sym, ◌∙◌, ap, subst}
 use Rattle.std.specs.Result.{IsErrAnd}
 use Rattle.std.specs.Prelude.{Result, Ok, Err, Option, IsNone, ◌==◌, if◌then◌else◌}
 use Rattle.std.specs.List.{AllByRecursion}
+use Rattle.std.specs.FinMap as finite
 use Rattle.std.proofs.lemmas.Bool.{eq-eqb}
-use Rattle.lsm_codec.specs.Map.{Operation}
+use Rattle.lsm_codec.specs.Keys.{Bytes}
+use Rattle.lsm_codec.specs.Map.{Map, Operation}
+use Rattle.lsm_mem.specs.Paging.{Page, page_of}
+use Rattle.lsm_mem.specs.Versions.{map_of}
 use Rattle.lsm_device.specs.declared.refusal.Refusal.{Refusal}
 use Rattle.lsm_device.specs.declared.refusal.Refusal.TheVariants.{NoMemory, Io, Stopped, LogFull, NoSuchSnapshot, TooManySnapshots, NoSuchBatch, BadKey, BadRange, Exhausted, BadLimit}
 use Rattle.lsm_open.specs.CrashState.{last_number}
 use Rattle.lsm_store.specs.RecoveryPoints.{batch_count}
-use Rattle.lsm_store.specs.State.{State, fits}
+use Rattle.lsm_store.specs.State.{State, fits, map_at}
+use Rattle.lsm_store.specs.StateMaps.{HaveMaps}
+use Rattle.lsm_store.specs.declared.asked.At.{At}
+use Rattle.lsm_store.specs.Run.{Allows}
 use Rattle.lsm_store.specs.Calls.{Call}
 use Rattle.lsm_store.specs.Calls.{Commit, Sync, SyncTo, Get, Scan, Snapshot, Release, LogRoom}
 use Rattle.lsm_store.specs.Refusals.{refusals, first_refusal, refusal}
-use Rattle.lsm_store.specs.Calls.{Reply, Refused}
+use Rattle.lsm_store.specs.Calls.{Reply, Value, Rows, Refused}
 use Rattle.lsm_store.specs.Effects.{answer, after, wants_memory, use_of}
 use Rattle.lsm_store.specs.Effects.{Changes}
-use Rattle.lsm_store.specs.Backing.{StoreView}
+use Rattle.lsm_store.specs.Backing.{StoreView, IsBacked}
 use Rattle.lsm_store.specs.Serving.{Serves, is_faultless}
 use Rattle.lsm_device.specs.Refusals.{is_no_fault}
-use Rattle.lsm_store.proofs.Serving.{refused, answered, refused_use, no_memory_use, answer_use, serves_still}
+use Rattle.lsm_store.proofs.Serving.{refused, answered, refused_use, no_memory_use, answer_use, reads_no_change, serves_read, serves_still}
 
 -- a test that doesn't hold
 pub passes_by : (b : Bool) (e : Refusal) (rest x : Option Refusal) → b ≡ false → rest ≡ x → (if b then Some e else rest) ≡ x
@@ -104,6 +111,9 @@ no_fault_is : (e : Refusal) → e ≢ Io → is_no_fault e ≡ true
 no_fault_is Io other = absurd (other refl)
 no_fault_is e other = refl
 
+pub unrefused_runs : (s : State) (call : Call) → refusal s call ≡ None → IsNone s.stopped
+unrefused_runs s call none = (none_taken (is_some s.stopped) Stopped (first_refusal (refusals s call)) none).0
+
 -- a call that the state refuses
 pub serves_refused : (v : StoreView) (call : Call) (e : Refusal) → refusal v.state call ≡ Some e → Serves v call (Refused e) v
 serves_refused v call e is =
@@ -119,6 +129,35 @@ pub serves_answer : (v : StoreView) (call : Call) (reply : Reply) → refusal v.
 serves_answer v call reply none is same faultless other =
     let both = answered v.state call none in
     subst (λ (r : Reply). Serves v call r v) (sym is) (serves_still v call (answer v.state call) both.0 (both.1 ∙ same) faultless (answer_use v.state call (answer v.state call) none other))
+
+-- ---- a read of the map that the versions have at a count
+
+module _ (v : StoreView) (at : At) (count : ℕ) (same : HaveMaps v.memory v.state → map_of v.memory count ≡ map_at v.state at) where
+  map_is : (call : Call) → refusal v.state call ≡ None → IsBacked v → map_of v.memory count ≡ map_at v.state at
+  map_is call none backed = same (backed.maps (unrefused_runs v.state call none))
+
+  module _ (key : Bytes) (none : refusal v.state (Get at key) ≡ None) where
+    -- it answers the value of a key
+    pub serves_value : (value : Option Bytes) → value ≡ finite.get (map_of v.memory count) key → Serves v (Get at key) (Value value) v
+    serves_value value is =
+        serves_read v (Get at key) (Value value) (ap is_some none, refl)
+        (λ backed. subst (Allows v.state (Get at key)) (sym (ap Value (is ∙ ap (λ (m : Map). finite.get m key) (map_is (Get at key) none backed)))) (answered v.state (Get at key) none).0)
+        refl refl (answer_use v.state (Get at key) (Value value) none reads_no_change)
+
+    -- it finds no memory for the value
+    pub serves_no_copy : is_some (finite.get (map_of v.memory count) key) ≡ true → Serves v (Get at key) (Refused NoMemory) v
+    serves_no_copy has =
+        serves_read v (Get at key) (Refused NoMemory) (ap is_some none, refl)
+        (λ backed. (ap is_some none, ap (λ (m : Map). is_some (finite.get m key)) (sym (map_is (Get at key) none backed)) ∙ has))
+        refl refl (no_memory_use v.state (Get at key) none)
+
+  -- it answers a page of a range
+  pub serves_page : (from : Bytes) (to : Option Bytes) (limit : ℕ) → refusal v.state (Scan at from to limit) ≡ None → (page : Page) → page ≡ page_of (map_of v.memory count) from to limit → Serves v (Scan at from to limit) (Rows page) v
+  serves_page from to limit none page is =
+      let call = Scan at from to limit in
+      serves_read v call (Rows page) (ap is_some none, refl)
+      (λ backed. subst (Allows v.state call) (sym (ap Rows (is ∙ ap (λ (m : Map). page_of m from to limit) (map_is call none backed)))) (answered v.state call none).0)
+      refl refl (answer_use v.state call (Rows page) none reads_no_change)
 
 -- what is known of a state that doesn't refuse a commit
 pub record MayCommit (s : State) (batch : List Operation) : Type 0 where
@@ -139,9 +178,6 @@ unrefused_commit s batch none =
   where
     no : true ≡ false → ⊥
     no e = cc
-
-pub unrefused_runs : (s : State) (call : Call) → refusal s call ≡ None → IsNone s.stopped
-unrefused_runs s call none = (none_taken (is_some s.stopped) Stopped (first_refusal (refusals s call)) none).0
 
 -- what `?` answers
 pub err_of : {T : Type 0} (r : Result T Refusal) (P : Refusal → Type 0) → IsErrAnd r P → (e : Refusal) × (r ≡ Err e) × P e

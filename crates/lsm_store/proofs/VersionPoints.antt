@@ -21,7 +21,7 @@ use Rattle.lsm_open.proofs.HeldRegions.{all_open, placed}
 use Rattle.lsm_open.proofs.KeptRecords.{all_batches-append}
 use Rattle.lsm_open.proofs.NewestFound.{newer_found, newest-append, map_of_batches}
 use Rattle.lsm_open.proofs.TableFrames.{same_all_versions, numbered_tables}
-use Rattle.lsm_store.specs.Memory.{maps_from, points_of}
+use Rattle.lsm_store.specs.StateMaps.{maps_from, points_of}
 use Rattle.lsm_store.specs.Promise.{beginnings, maps_after}
 use Rattle.lsm_store.specs.RecoveryPoints.{RecoveryPoints, batch_count}
 use Rattle.lsm_store.specs.State.{State}

@@ -1,10 +1,8 @@
 -- Takings, and what is done with a job in its slot, leave the work standing for the state, and each job ready for its install.
 use Rattle.std.proofs.Common.{◌≡◌, ◌≢◌, ◌⊎◌, inl, inr, ⊎_elim, ℕ, zero, suc, ◌+◌, ◌-◌, ◌≤◌, Bool, true, false, cond, List, [], ◌++◌, length, Option, Some, None, refl, sym, ap, ◌∙◌, subst, arith}
 use Rattle.std.proofs.lemmas.Bool.{false≢true}
-use Rattle.lsm_codec.specs.Map.{Map}
 use Rattle.lsm_codec.specs.Versions.{Version}
 use Rattle.lsm_extent.specs.Area.{Area}
-use Rattle.lsm_mem.specs.Versions.{map_of}
 use Rattle.lsm_merge.specs.Inputs.{MergeInput, joined}
 use Rattle.lsm_merge.specs.Results.{MergeResult}
 use Rattle.lsm_levels.specs.Among.{IsAmong}
@@ -22,17 +20,17 @@ use Rattle.lsm_jobs.specs.Reading.{stage_with}
 use Rattle.lsm_jobs.specs.Taking.{runs_of, first_stage, slot_for, with_taken}
 use Rattle.lsm_jobs.proofs.Found.{found_there, found_number}
 use Rattle.lsm_jobs.proofs.KeptJobs.{taken_cases, held_cases, taking_law, staging_law, freeing_law}
-use Rattle.lsm_store.specs.RecoveryPoints.{RecoveryPoints, batch_count}
+use Rattle.lsm_store.specs.RecoveryPoints.{batch_count}
 use Rattle.lsm_store.specs.State.{State, LiveSnapshot}
-use Rattle.lsm_store.specs.Memory.{maps_from, points_of}
+use Rattle.lsm_store.specs.StateMaps.{HaveMaps}
 use Rattle.lsm_store.specs.Work.{WorkView, WorkMachine, Take, Read, Accept, Write, Drop, versions_in, are_waiting, cuts_of}
 use Rattle.lsm_store.specs.WorkRefusals.{job_given, held, of_slot, placing}
 use Rattle.lsm_store.specs.WorkEffects.{staged, with_placed, work_after}
 use Rattle.lsm_store.specs.WorkMaps.{AreVersions, IsJobOf, MayBePutIn}
-use Rattle.lsm_store.specs.WorkSound.{HaveMaps, IsSound, IsServed}
+use Rattle.lsm_store.specs.WorkSound.{IsSound, IsServed}
 use Rattle.lsm_store.proofs.Cuts.{present_cut, snapshot_cut}
 use Rattle.lsm_store.proofs.InstalledMaps.{runs_tables}
-use Rattle.lsm_store.proofs.Remembering.{batch_count-points_of}
+use Rattle.lsm_store.proofs.StateMaps.{count_is, synced_is}
 
 some_slot : (a b : Slot) → Some a ≡ Some b → a ≡ b
 some_slot a b e = cc
@@ -42,14 +40,6 @@ no_slot a e = cc
 
 none_job : (job : Job) → None ≡ Some job → ⊥
 none_job job e = cc
-
--- ---- numbers
-
-pub count_is : (vs : List Version) (s : State) (d : HaveMaps vs s) → batch_count s.points ≡ d.count
-count_is vs s d = ap batch_count d.points ∙ batch_count-points_of vs d.count d.synced d.within
-
-pub synced_is : (vs : List Version) (s : State) (d : HaveMaps vs s) → s.points.synced ≡ d.synced
-synced_is vs s d = ap (λ (p : RecoveryPoints). p.synced) d.points
 
 -- ---- jobs go on
 
@@ -68,16 +58,6 @@ job_goes s t sealed others job input goes runs is = record {
   inputs = λ v a. let x = is.inputs v a in let y = goes.synced in (x.0, omega (arith, x.1, y));
   asked = λ snapshot a. ⊎_elim (λ old. is.asked snapshot old) (λ since. let x = is.before in inr (omega (arith, x, since))) (goes.snapshots snapshot a);
 }
-
--- ---- all batches are synced
-
-abbrev pub alone : ℕ → Map → RecoveryPoints
-alone c x = record { synced = c; first = x; later = [] }
-
-pub points_alone : (vs : List Version) (c : ℕ) → points_of vs c c ≡ alone c (map_of vs c)
-points_alone vs c =
-    let none : c - c ≡ 0 = omega arith in
-    ap (λ (n : ℕ). let x : RecoveryPoints = record { synced = c; first = map_of vs c; later = maps_from vs (suc c) n } in x) none
 
 -- ---- stages
 

@@ -9,6 +9,7 @@ pub mod Run
 pub mod Promise
 pub mod Lives
 pub mod Stored
+pub mod StateMaps
 pub mod Backing
 pub mod Serving
 pub mod LiveMarks

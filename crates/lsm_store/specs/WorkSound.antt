@@ -1,30 +1,20 @@
 -- What holds of a running store between steps: its work stands for its state, and each job can be installed.
-use Rattle.std.specs.Prelude.{◌≡◌, ℕ, ◌≤◌, true, false, List, [], Some, None}
+use Rattle.std.specs.Prelude.{◌≡◌, ◌≤◌, true, false, List, [], Some, None}
 use Rattle.lsm_codec.specs.Versions.{Version, AreOrdered}
-use Rattle.lsm_mem.specs.Versions.{map_of}
 use Rattle.lsm_levels.specs.Among.{IsAmong}
 use Rattle.lsm_levels.specs.Tables.{Table}
 use Rattle.lsm_levels.specs.Pick.{is_flush}
 use Rattle.lsm_levels.specs.Held.{HasVersion}
 use Rattle.lsm_jobs.specs.Slots.{Slot, is_writing, outputs_at}
 use Rattle.lsm_jobs.specs.Keeping.{AreKept}
-use Rattle.lsm_store.specs.State.{State, LiveSnapshot}
 use Rattle.lsm_store.specs.Calls.{Call}
 use Rattle.lsm_store.specs.Refusals.{refusal}
 use Rattle.lsm_store.specs.Effects.{after}
-use Rattle.lsm_store.specs.Memory.{points_of}
+use Rattle.lsm_store.specs.StateMaps.{HaveMaps}
 use Rattle.lsm_store.specs.Work.{WorkMachine, Work, Take, Read, Ask, Accept, Write, Install, Drop, versions_in, are_waiting}
 use Rattle.lsm_store.specs.WorkRefusals.{held, placing, running_refusal}
 use Rattle.lsm_store.specs.WorkEffects.{work_after, state_after, work_called, rotated, with_sealed}
 use Rattle.lsm_store.specs.WorkMaps.{AreVersions, IsJobOf, MayBePutIn}
-
--- The versions have the maps of the state: those of its recovery points and of its live snapshots.
-pub record HaveMaps (versions : List Version) (s : State) : Type 0 where
-  pub count : ℕ
-  pub synced : ℕ
-  pub within : synced ≤ count
-  pub points : s.points ≡ points_of versions count synced
-  pub snapshots : (snapshot : LiveSnapshot) → IsAmong snapshot s.snapshots → (snapshot.point.count ≤ count) × (snapshot.point.map ≡ map_of versions snapshot.point.count)
 
 -- The versions in their places stand for the state: memory is in the order of entries, no version is of a batch to come, and
 -- what is sealed or in tables is synced.

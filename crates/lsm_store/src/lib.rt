@@ -13,6 +13,7 @@ mod serve;
 mod snapshots;
 mod store;
 mod stored_law;
+mod told;
 mod work_law;
 
 pub use asked::At;

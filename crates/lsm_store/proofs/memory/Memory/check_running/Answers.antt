@@ -1,5 +1,8 @@
-use Rattle.lsm_store.proofs.Checking.{stopped}
+use Rattle.lsm_store.proofs.Checking.{passes_running, refuses_stopped}
 use Rattle.lsm_store.proofs.memory.Memory.check_running.Goals as goal
 
-pub returns-in_default : goal.returns-in_default
-returns-in_default g c = record { refused = stopped c.args.self.now c.in_default.not-Running; runs = tt }
+pub returns-in-Running-clause-refused : goal.returns-in-Running-clause-refused
+returns-in-Running-clause-refused g c = passes_running c.args.self.now c.requires.agrees.stopped c.in-Running.is
+
+pub returns-in-Stopped-clause-refused : goal.returns-in-Stopped-clause-refused
+returns-in-Stopped-clause-refused g c = refuses_stopped c.args.self.now c.requires.agrees.stopped c.in-Stopped.is
