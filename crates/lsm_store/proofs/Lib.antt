@@ -46,3 +46,7 @@ pub mod MergedRecords
 pub mod StoredRecords
 pub mod WrittenOutputs
 pub mod WrittenFlush
+pub mod ExtentCounts
+pub mod OpenedAccounts
+pub mod Accounts
+pub mod TableLimits

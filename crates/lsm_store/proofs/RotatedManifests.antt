@@ -4,18 +4,16 @@ use Rattle.std.specs.Prelude.{Option, IsSome}
 use Rattle.std.proofs.lemmas.List.{length-append}
 use Rattle.std.proofs.lemmas.List.Elements.{All-nil, All-cons, All-weaker}
 use Rattle.lsm_codec.specs.declared.log_record.LogRecord.{LogRecord}
-use Rattle.lsm_codec.specs.declared.table_record.TableRecord.{TableRecord}
 use Rattle.lsm_codec.specs.Manifests.{Contents, IsLogRecord, LogsAgree, IsManifest}
 use Rattle.lsm_codec.specs.Map.{Operation}
-use Rattle.lsm_codec.specs.Pairs.{Pairwise}
 use Rattle.lsm_codec.specs.TableRecords.{IsTableRecord}
 use Rattle.lsm_device.specs.Disk.{Disk, seen, synced}
 use Rattle.lsm_open.specs.CrashState.{last_number}
 use Rattle.lsm_open.specs.Layout.{record_of, open_records, open_batches, IsClosed}
 use Rattle.lsm_open.specs.LogRegions.{all_batches}
 use Rattle.lsm_open.specs.Placements.{Placement, contents_for, closed_in, present_state}
-use Rattle.lsm_open.specs.Reopening.{least_free, new_records, next_contents, HasCome}
-use Rattle.lsm_open.specs.Switching.{MayBeInstalled, rotated as rotated_placement, IsInLeastFree}
+use Rattle.lsm_open.specs.Reopening.{least_free, new_records, HasCome}
+use Rattle.lsm_open.specs.Switching.{rotated as rotated_placement, IsInLeastFree}
 use Rattle.lsm_open.specs.Writing.{PlacedTable}
 use Rattle.lsm_open.specs.declared.regions.OpenRegion.{OpenRegion}
 use Rattle.lsm_open.proofs.HeldRegions.{BeginsAfter}

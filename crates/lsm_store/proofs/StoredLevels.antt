@@ -1,16 +1,15 @@
 -- The tables in levels stay on the device.
-use Rattle.std.proofs.Common.{◌≡◌, ℕ, zero, suc, ◌+◌, ◌-◌, ◌*◌, ◌≤◌, Bool, List, [], ◌∷◌, ◌++◌, length, get_or, set, map, take, Option, Some, None, refl, sym, ◌∙◌, ap, subst, arith, All}
+use Rattle.std.proofs.Common.{◌≡◌, ℕ, zero, suc, ◌+◌, ◌-◌, ◌*◌, ◌≤◌, Bool, List, [], ◌∷◌, length, get_or, map, take, Option, Some, None, sym, ◌∙◌, ap, subst, arith, All}
 use Rattle.std.specs.List.{AllByRecursion}
 use Rattle.std.proofs.lemmas.List.Elements.{All-head, All-tail}
 use Rattle.lsm_codec.specs.TableRecords.{extent_blocks}
-use Rattle.lsm_codec.specs.Versions.{Version}
 use Rattle.lsm_codec.specs.declared.table_record.TableRecord.{TableRecord}
-use Rattle.lsm_codec.proofs.Lists.{all_map, all_append, all_left, all_right, all_filter}
+use Rattle.lsm_codec.proofs.Lists.{all_append, all_left, all_right, all_filter}
 use Rattle.lsm_device.specs.Disk.{Disk, seen}
 use Rattle.lsm_levels.specs.Among.{IsAmong}
 use Rattle.lsm_levels.specs.Asking.{sector_of}
 use Rattle.lsm_levels.specs.Held.{IsHeld, IsUpper}
-use Rattle.lsm_levels.specs.Levels.{Levels, level, places, last_run, with_level, replaced, merged_at}
+use Rattle.lsm_levels.specs.Levels.{Levels, level, places, with_level, replaced, merged_at}
 use Rattle.lsm_levels.specs.Pick.{Job, Flush, Merge, installed}
 use Rattle.lsm_levels.specs.Stored.{blocks_from, IsStored, AreStored}
 use Rattle.lsm_levels.specs.Tables.{Table, KeyRange, hull, is_below, put_at, record_of}

@@ -25,3 +25,5 @@ pub mod WorkSound
 pub mod OpenedWork
 pub mod StoredTables
 pub mod InstalledJobs
+pub mod Accounts
+pub mod TableLimits

@@ -33,4 +33,6 @@ pub use stored_law::{
     jobs_may_go_on, layouts_are_placements, levels_stay_stored, recovered_tables_are_stored,
     rotations_keep_tables, stored_tables_leave, syncs_keep_tables,
 };
-pub use work_law::{maps_stay, slots_answer_the_work, work_stays_sound};
+pub use work_law::{
+    extents_stay_accounted_for, maps_stay, slots_answer_the_work, tables_stay_few, work_stays_sound,
+};

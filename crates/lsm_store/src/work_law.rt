@@ -1,5 +1,7 @@
 // Laws of the work beside the map machine.
+ghost use Rattle.lsm_store.specs.Accounts.{AccountsLaw, AccountedLaw};
 ghost use Rattle.lsm_store.specs.JobAnswers.{PlacingLaw, PlacedVersionsLaw, JobsLaw, CutsLaw};
+ghost use Rattle.lsm_store.specs.TableLimits.{FewLaw};
 ghost use Rattle.lsm_store.specs.WorkMaps.{InstallLaw, RotationLaw, CommitLaw};
 ghost use Rattle.lsm_store.specs.WorkSound.{SoundLaw, CallSoundLaw, RotationSoundLaw};
 
@@ -25,4 +27,17 @@ pub fn work_stays_sound()
     ensures work { SoundLaw }
     ensures call { CallSoundLaw }
     ensures rotation { RotationSoundLaw }
+{}
+
+/// Just the extents of tables and of placed outputs are handed out, each of them to one: so it is after an opening, each piece of
+/// work that nothing refuses keeps it, each call and a rotation. What a job has placed may be given back, and what it takes in.
+pub fn extents_stay_accounted_for()
+    ensures placed { AccountsLaw }
+    ensures kept { AccountedLaw }
+{}
+
+/// How many runs and tables an install leaves, which its refusals say exactly; so a store has 12 runs of level 0 and 1,024 tables
+/// at most, as a manifest has.
+pub fn tables_stay_few()
+    ensures { FewLaw }
 {}

@@ -1,0 +1,138 @@
+-- How many runs and tables a store has.
+use Rattle.std.proofs.Common.{◌≡◌, ℕ, suc, ◌+◌, ◌-◌, ◌≤◌, ◌<◌, Bool, true, false, cond, ◌&&◌, leb, List, [], ◌∷◌, length, map, Option, Some, None, refl, sym, ap, ◌∙◌, arith}
+use Rattle.std.proofs.lemmas.Bool.{and_parts, ltb-true, ltb-false, leb-true, leb-false, false≢true}
+use Rattle.std.proofs.lemmas.List.{length-append, length-map}
+use Rattle.lsm_codec.specs.Versions.{Version}
+use Rattle.lsm_extent.specs.Area.{Area}
+use Rattle.lsm_merge.specs.Results.{MergeResult}
+use Rattle.lsm_levels.specs.Held.{AreRuns, IsHeld}
+use Rattle.lsm_levels.specs.Levels.{Levels, all_tables, places}
+use Rattle.lsm_levels.specs.Pick.{Job, Flush, Merge, inputs, is_flush, installed as installed_levels}
+use Rattle.lsm_levels.specs.Tables.{Table, record_of}
+use Rattle.lsm_levels.proofs.Moving.{moving_law}
+use Rattle.lsm_jobs.specs.Keeping.{AreKept}
+use Rattle.lsm_jobs.specs.Slots.{Slot, outputs_at, less_left, left_at}
+use Rattle.lsm_jobs.specs.Reading.{stage_with}
+use Rattle.lsm_jobs.proofs.Found.{found_there}
+use Rattle.lsm_open.specs.Placements.{Placement}
+use Rattle.lsm_open.specs.RecoveredTables.{AreWithinLimits}
+use Rattle.lsm_open.specs.ToldTables.{records_of_runs, records_of_levels, records_of}
+use Rattle.lsm_store.specs.TableLimits.{AreFew, InstallCounts, FewLaw}
+use Rattle.lsm_store.specs.Work.{WorkView, WorkMachine, Work, Take, Read, Ask, Accept, Write, Install, Drop}
+use Rattle.lsm_store.specs.WorkEffects.{staged, with_placed, with_installed, work_after}
+use Rattle.lsm_store.specs.WorkRefusals.{held, of_slot, placing, has_too_many_runs, has_too_many_tables, work_refusals, running_refusal}
+use Rattle.lsm_store.proofs.Accounts.{tests_behind, first_not, behind_not}
+use Rattle.lsm_store.proofs.OpenedAccounts.{tables_joined}
+
+-- ---- an install
+
+module _ (w : WorkView) (number : ℕ) (slot : Slot) (runs : AreRuns w.levels) (has : IsHeld w.levels slot.input.bottom slot.job) where
+  abbrev after : Levels
+  after = installed_levels w.levels slot.job (outputs_at slot.stage)
+
+  moves : length (all_tables (places after)) + length (inputs slot.job) ≡ length (all_tables (places w.levels)) + length (outputs_at slot.stage)
+  moves = (moving_law w.levels slot.input.bottom slot.job (outputs_at slot.stage) runs has).number
+
+  tables_are : length (all_tables (places after)) ≡ (length (all_tables (places w.levels)) + length (outputs_at slot.stage)) - length (inputs slot.job)
+  tables_are = omega (arith, moves)
+
+  -- of level 0 there is a run more after a flush
+  flush_more : (job : Job) → is_flush job ≡ true → length (installed_levels w.levels job (outputs_at slot.stage)).runs ≡ suc (length w.levels.runs)
+  flush_more Flush is = refl
+  flush_more (Merge i upper lower) is = absurd (false≢true is)
+
+  few_by : (flush full : Bool) (before then : ℕ) → then ≤ before + cond flush 1 0 → (full ≡ false → before < 12) → (flush && full) ≡ false → before ≤ 12 → then ≤ 12
+  few_by true true before then most under is few = absurd (false≢true (sym is))
+  few_by true false before then most under is few = omega (arith, most, under refl)
+  few_by false full before then most under is few = omega (arith, most, few)
+
+  pub install_counts : InstallCounts w number slot
+  install_counts = record {
+    taken_in = omega (arith, (moving_law w.levels slot.input.bottom slot.job [] runs has).number);
+    tables = tables_are;
+    few_tables = λ few. omega (arith, tables_are, ltb-false 1024 _ few);
+    many_tables = λ many. omega (arith, tables_are, ltb-true 1024 _ many);
+    few_runs = few_by (is_flush slot.job) (leb 12 (length w.levels.runs)) (length w.levels.runs) (length after.runs) (moving_law w.levels slot.input.bottom slot.job (outputs_at slot.stage) runs has).runs (leb-false 12 (length w.levels.runs));
+    many_runs = λ many. let both = and_parts (is_flush slot.job) (leb 12 (length w.levels.runs)) many in omega (arith, flush_more slot.job both.0, leb-true 12 (length w.levels.runs) both.1);
+  }
+
+-- ---- an opening
+
+runs_counted : (run : ℕ) (runs : List (List Table)) → length (records_of_runs run runs) ≡ length (all_tables runs)
+runs_counted run [] = refl
+runs_counted run (ts ∷ rest) =
+    omega (arith, length-append (map (record_of 0 run) ts) (records_of_runs (suc run) rest), length-map ts (record_of 0 run), runs_counted (suc run) rest, length-append ts (all_tables rest))
+
+levels_counted : (lev : ℕ) (runs : List (List Table)) → length (records_of_levels lev runs) ≡ length (all_tables runs)
+levels_counted lev [] = refl
+levels_counted lev (ts ∷ rest) =
+    omega (arith, length-append (map (record_of lev 0) ts) (records_of_levels (suc lev) rest), length-map ts (record_of lev 0), levels_counted (suc lev) rest, length-append ts (all_tables rest))
+
+records_counted : (levels : Levels) → length (records_of levels) ≡ length (all_tables (places levels))
+records_counted levels =
+    omega (
+      arith,
+      length-append (records_of_runs 0 levels.runs) (records_of_levels 1 levels.deeper),
+      runs_counted 0 levels.runs,
+      levels_counted 1 levels.deeper,
+      length-append (all_tables levels.runs) (all_tables levels.deeper),
+      ap length (tables_joined levels.runs levels.deeper),
+    )
+
+opened_few : (size count : ℕ) (p : Placement) (sealed : Option (List Version)) (levels : Levels) (extents : Area) → AreWithinLimits size p count sealed levels extents → p.runs ≡ length levels.runs → AreFew levels
+opened_few size count p sealed levels extents within same = record {
+  runs = omega (arith, within.manifest.numbers.runs, same);
+  tables = omega (arith, within.manifest.numbers.tables, ap length within.named, records_counted levels);
+}
+
+-- ---- each piece of work
+
+module _ (m : WorkMachine) (few : AreFew m.work.levels) where
+  abbrev HasFew : WorkView → Type 0
+  HasFew w = AreFew w.levels
+
+  read_few : (job : ℕ) (o : Option Slot) → HasFew (of_slot m.work (λ slot. staged m.work job (stage_with (left_at slot.stage - 8)) slot) o)
+  read_few job None = few
+  read_few job (Some slot) = few
+
+  write_few : (job : ℕ) (o : Option Slot) → HasFew (of_slot m.work (λ slot. staged m.work job (less_left 8 slot.stage) slot) o)
+  write_few job None = few
+  write_few job (Some slot) = few
+
+  placed_few : (job : ℕ) (o : Option (List Table)) (slot : Slot) → HasFew (with_placed m.work job o slot)
+  placed_few job None slot = few
+  placed_few job (Some tables) slot = few
+
+  accept_few : (job : ℕ) (result : Option MergeResult) (o : Option Slot) → HasFew (of_slot m.work (with_placed m.work job (placing m.work result)) o)
+  accept_few job result None = few
+  accept_few job result (Some slot) = placed_few job (placing m.work result) slot
+
+  install_few : (job : ℕ) → AreRuns m.work.levels → AreKept m.work.levels m.work.jobs.next m.work.jobs.slots → running_refusal m (Install job) ≡ None → AreFew (work_after m (Install job)).levels
+  install_few job runs kept none = by (held m job) refl
+    where
+      many_runs : of_slot false (has_too_many_runs m.work) (held m job) ≡ false
+      many_runs = first_not (tests_behind 2 (work_refusals m (Install job))) (behind_not 2 (work_refusals m (Install job)) none)
+
+      many_tables : of_slot false (has_too_many_tables m.work) (held m job) ≡ false
+      many_tables = first_not (tests_behind 3 (work_refusals m (Install job))) (behind_not 3 (work_refusals m (Install job)) none)
+
+      by : (o : Option Slot) → held m job ≡ o → HasFew (of_slot m.work (with_installed m.work job) o)
+      by None is = few
+      by (Some slot) is =
+          let counts = install_counts m.work job slot runs (kept.held slot (found_there job m.work.jobs.slots slot is)) in
+          record {
+            runs = counts.few_runs (sym (ap (of_slot false (has_too_many_runs m.work)) is) ∙ many_runs) few.runs;
+            tables = counts.few_tables (sym (ap (of_slot false (has_too_many_tables m.work)) is) ∙ many_tables);
+          }
+
+kept_few : (m : WorkMachine) (work : Work) → AreRuns m.work.levels → AreKept m.work.levels m.work.jobs.next m.work.jobs.slots → running_refusal m work ≡ None → AreFew m.work.levels → AreFew (work_after m work).levels
+kept_few m Take runs kept none few = few
+kept_few m (Read job) runs kept none few = read_few m few job (held m job)
+kept_few m (Ask job) runs kept none few = few
+kept_few m (Accept job result) runs kept none few = accept_few m few job result (held m job)
+kept_few m (Write job) runs kept none few = write_few m few job (held m job)
+kept_few m (Install job) runs kept none few = install_few m few job runs kept none
+kept_few m (Drop job) runs kept none few = few
+
+pub few_law : FewLaw
+few_law = record { opened = opened_few; install = install_counts; kept = kept_few }

@@ -1,0 +1,5 @@
+use Rattle.lsm_store.proofs.TableLimits.{few_law}
+use Rattle.lsm_store.proofs.work_law.tables_stay_few.Goals as goal
+
+pub returns : goal.returns
+returns c = few_law
