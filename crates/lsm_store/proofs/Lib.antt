@@ -50,3 +50,6 @@ pub mod ExtentCounts
 pub mod OpenedAccounts
 pub mod Accounts
 pub mod TableLimits
+pub mod MergeInputs
+pub mod MergeParts
+pub mod WrittenMerge

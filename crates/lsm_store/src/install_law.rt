@@ -5,17 +5,17 @@ ghost use Rattle.lsm_device.specs.Disk.{Disk, seen};
 ghost use Rattle.lsm_jobs.specs.Outputs.{AreMadeOf};
 ghost use Rattle.lsm_jobs.specs.Slots.{Slot, Slots, Writing, slot_of, outputs_at};
 ghost use Rattle.lsm_levels.specs.Held.{AreRuns, IsHeld};
-ghost use Rattle.lsm_levels.specs.Levels.{Levels};
-ghost use Rattle.lsm_levels.specs.Pick.{Job, Flush, installed as installed_levels};
-ghost use Rattle.lsm_levels.specs.Stored.{IsStored};
+ghost use Rattle.lsm_levels.specs.Levels.{Levels, places};
+ghost use Rattle.lsm_levels.specs.Pick.{Job, Flush, Merge, installed as installed_levels};
+ghost use Rattle.lsm_levels.specs.Stored.{IsStored, AreStored};
 ghost use Rattle.lsm_levels.specs.Tables.{Table, versions_of};
 ghost use Rattle.lsm_mem.specs.Versions.{NumberedAtMost};
 ghost use Rattle.lsm_open.specs.Placements.{Placement};
-ghost use Rattle.lsm_open.specs.Switching.{AreFlushed};
+ghost use Rattle.lsm_open.specs.Switching.{AreFlushed, AreMerged};
 ghost use Rattle.lsm_open.specs.Tables.{first_data, IsTableAt};
 ghost use Rattle.lsm_open.specs.ToldTables.{records_of};
 ghost use Rattle.lsm_open.specs.Writing.{PlacedTable, tables_of};
-ghost use Rattle.lsm_store.specs.InstalledJobs.{output_records, placed_for, HasPlaced, AreSealedIn, installed_in};
+ghost use Rattle.lsm_store.specs.InstalledJobs.{output_records, placed_for, HasPlaced, AreSealedIn, parts_of, installed_in};
 ghost use Rattle.lsm_store.specs.State.{State};
 ghost use Rattle.lsm_store.specs.StoredTables.{IsStoredWithJobs};
 ghost use Rattle.lsm_store.specs.Work.{WorkMachine};
@@ -47,4 +47,12 @@ pub fn written_flushes_are_flushed()
     ensures { (m : WorkMachine) (p : Placement) (xs ys : List PlacedTable) (d : Disk) (job : ℕ) (slot : Slot) (outputs : List Table) → IsSound m → IsStoredWithJobs p (xs ++ (placed_for slot ++ ys)) m.state d
         → AreSealedIn p (seen d) m.work.sealed → held m job ≡ Some slot → slot.job ≡ Flush → slot.stage ≡ Writing outputs 0 → AreMadeOf slot.input outputs → AllByRecursion (λ t. t.number ≤ 2 ^ 63) outputs
         → AreFlushed p (seen d) (output_records Flush outputs) }
+{}
+
+/// A merge whose blocks are all written may be installed: its tables are of what it keeps of its inputs.
+pub fn written_merges_are_merged()
+    ensures { (m : WorkMachine) (p : Placement) (xs ys : List PlacedTable) (d : Disk) (job : ℕ) (slot : Slot) (outputs : List Table) (i : ℕ) (upper lower : List Table) → IsSound m
+        → IsStoredWithJobs p (xs ++ (placed_for slot ++ ys)) m.state d → records_of m.work.levels ≡ p.tables → AreStored (seen d) (first_data p.logs.log_sectors) (places m.work.levels)
+        → held m job ≡ Some slot → slot.job ≡ Merge i upper lower → slot.stage ≡ Writing outputs 0 → AreMadeOf slot.input outputs → AllByRecursion (λ t. t.number ≤ 2 ^ 63) outputs
+        → AreMerged p (seen d) (parts_of m.work.levels i upper) (output_records (Merge i upper lower) outputs) }
 {}

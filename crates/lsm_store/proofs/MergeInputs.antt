@@ -1,0 +1,141 @@
+-- The tables around a merge: its inputs, what lies between and behind them, and the newest versions of its inputs.
+use Rattle.std.proofs.Common.{◌≡◌, ◌⊎◌, inl, inr, ⊎_elim, ℕ, zero, suc, ◌+◌, ◌≤◌, ◌<◌, Bool, true, false, List, [], ◌∷◌, ◌++◌, length, map, drop, get_or, Option, Some, None, refl, sym, ap, subst, ◌∙◌, arith}
+use Rattle.std.specs.List.{AllByRecursion}
+use Rattle.lsm_codec.specs.Keys.{Bytes}
+use Rattle.lsm_codec.specs.Versions.{Version, newest}
+use Rattle.lsm_codec.specs.declared.table_record.TableRecord.{TableRecord}
+use Rattle.lsm_jobs.specs.Gathering.{run_if_some}
+use Rattle.lsm_levels.proofs.HullLaws.{hull_covers}
+use Rattle.lsm_levels.proofs.KeyOrder.{at_most_trans, at_most_itself}
+use Rattle.lsm_levels.proofs.Members.{among_left, among_right, among_either, among_passed, passed_among}
+use Rattle.lsm_levels.proofs.Ranges.{no, all_of, of_all, in_run, run_order, other_apart, apart_left, apart_right}
+use Rattle.lsm_levels.proofs.RunOrders.{stored_ranged}
+use Rattle.lsm_levels.proofs.Runs.{run_at}
+use Rattle.lsm_levels.proofs.Surviving.{single_range}
+use Rattle.lsm_levels.proofs.Taking.{in_tables, of_table, covers_meets}
+use Rattle.lsm_levels.specs.Among.{IsAmong}
+use Rattle.lsm_levels.specs.Held.{AreRuns, IsUpper, HasItsTables, IsRanged}
+use Rattle.lsm_levels.specs.Levels.{Levels, all_tables, level, last_run}
+use Rattle.lsm_levels.specs.Tables.{Table, KeyRange, range_of, at_most, is_below, spanned, hull, meets, versions_of}
+use Rattle.lsm_merge.specs.Inputs.{joined}
+use Rattle.lsm_store.proofs.NewestAmong.{IsNewest, key_of, newest_is, none_is}
+use Rattle.lsm_store.specs.InstalledJobs.{ending_before, that_meet, beginning_behind}
+use Rattle.lsm_store.specs.WorkMaps.{IsUnique}
+
+-- ---- lists with the same versions
+
+module _ (all xs ys : List Version) (unique : IsUnique all) (there : (v : Version) → IsAmong v xs → IsAmong v all) (to : (v : Version) → IsAmong v xs → IsAmong v ys) (back : (v : Version) → IsAmong v ys → IsAmong v xs) where
+  -- have the same newest versions
+  pub same_newest : (key : Bytes) (n : ℕ) → newest key n xs ≡ newest key n ys
+  same_newest key n = by (newest key n xs) (newest key n ys) refl refl
+    where
+      by : (o p : Option Version) → newest key n xs ≡ o → newest key n ys ≡ p → o ≡ p
+      by None None e f = refl
+      by None (Some w) e f = let is = newest_is key n ys w f in absurd (none_is key n xs e w (back w is.among) is.of)
+      by (Some v) None e f = let is = newest_is key n xs v e in absurd (none_is key n ys f v (to v is.among) is.of)
+      by (Some v) (Some w) e f =
+          let one = newest_is key n xs v e in
+          let two = newest_is key n ys w f in
+          let up = two.greatest v (to v one.among) one.of in
+          let down = one.greatest w (back w two.among) two.of in
+          let number : v.number ≡ w.number = omega (arith, up, down) in
+          ap (λ (x : Version). Some x) (unique v w (there v one.among) (there w (back w two.among)) (sym (key_of key n v one.of) ∙ key_of key n w two.of) number)
+
+-- ---- versions of a merge's tables
+
+pub tables_of_runs : (v : Version) (upper lower : List Table) → IsAmong v (versions_of (upper ++ lower)) → IsAmong v (joined (versions_of upper ∷ run_if_some lower (versions_of lower)))
+tables_of_runs v upper lower a =
+    let t = in_tables v (upper ++ lower) a in
+    ⊎_elim
+    (λ b. among_left v (versions_of upper) (joined (run_if_some lower (versions_of lower))) (of_table v t.0 upper b t.2))
+    (λ b. among_right v (versions_of upper) (joined (run_if_some lower (versions_of lower))) (below lower (of_table v t.0 lower b t.2)))
+    (among_either t.0 upper lower t.1)
+  where
+    below : (ts : List Table) → IsAmong v (versions_of ts) → IsAmong v (joined (run_if_some ts (versions_of ts)))
+    below [] b = absurd b
+    below (u ∷ rest) b = among_left v (versions_of (u ∷ rest)) [] b
+
+-- ---- the tables of a merge, where they stand
+
+-- the upper inputs in the list of a manifest
+abbrev pub uppers_at : Levels → ℕ → KeyRange → List Table
+uppers_at levels zero r = last_run levels.runs
+uppers_at levels (suc i) r = that_meet r (level levels (suc i))
+
+-- a table whose range has a key in common with none of these
+abbrev pub IsBeside : List Table → Table → Type 0
+IsBeside tables t = (a : Table) → IsAmong a tables → (k : Bytes) → at_most a.first k ≡ true → at_most k a.last ≡ true → at_most t.first k ≡ true → at_most k t.last ≡ true → ⊥
+
+module _ (levels : Levels) (bottom : Bool) (i : ℕ) (upper lower : List Table) (runs : AreRuns levels) (held : HasItsTables levels bottom i upper lower) where
+  abbrev r : KeyRange
+  r = held.range
+
+  -- the upper tables are those
+  upper_only : (j : ℕ) → IsUpper levels j upper → (t : Table) → IsAmong t (uppers_at levels j held.range) → IsAmong t upper
+  upper_only zero is t a = subst (λ (ts : List Table). IsAmong t ts) is.1 a
+  upper_only (suc j) is t a =
+      let one = is.0 in
+      let p = passed_among (meets r) t (level levels (suc j)) a in
+      let run = run_at levels runs j in
+      let range : held.range ≡ range_of one = single_range one upper r is.1 held.hull_is in
+      subst (λ (ts : List Table). IsAmong t ts) (sym is.1)
+      (⊎_elim (λ same. inl (sym same)) (λ other. absurd (no (sym (subst (λ (q : KeyRange). meets q t ≡ true) range p.1) ∙ beside one t other))) (in_run (level levels (suc j)) run one t is.2 p.0))
+    where
+      beside : (a t : Table) → (is_below a.last t.first ≡ true) ⊎ (is_below t.last a.first ≡ true) → meets (range_of a) t ≡ false
+      beside a t = ⊎_elim (λ h. apart_right (range_of a) t h) (λ h. apart_left (range_of a) t h)
+
+  upper_all : (j : ℕ) → IsUpper levels j upper → (t : Table) → IsAmong t upper → IsAmong t (uppers_at levels j held.range)
+  upper_all zero is t a = subst (λ (ts : List Table). IsAmong t ts) (sym is.1) a
+  upper_all (suc j) is t a =
+      let one = is.0 in
+      let run = run_at levels runs j in
+      let range : held.range ≡ range_of one = single_range one upper r is.1 held.hull_is in
+      let order = run_order (level levels (suc j)) run one is.2 in
+      let met : meets r one ≡ true = subst (λ (q : KeyRange). meets q one ≡ true) (sym range) (covers_meets (range_of one) one one.first (at_most_itself one.first) order (at_most_itself one.first) order) in
+      ⊎_elim (λ same. subst (λ (x : Table). IsAmong x (that_meet r (level levels (suc j)))) (sym same) (among_passed (meets r) one (level levels (suc j)) is.2 met)) (λ none. absurd none) (subst (λ (ts : List Table). IsAmong t ts) is.1 a)
+
+  pub upper_in : (t : Table) → IsAmong t (uppers_at levels i held.range) → IsAmong t upper
+  upper_in t a = upper_only i held.uppers t a
+
+  pub in_upper : (t : Table) → IsAmong t upper → IsAmong t (uppers_at levels i held.range)
+  in_upper t a = upper_all i held.uppers t a
+
+  -- and the lower ones those that meet the range
+  pub lower_in : (t : Table) → IsAmong t (that_meet held.range (level levels (suc i))) → IsAmong t lower
+  lower_in t a = let p = passed_among (meets r) t (level levels (suc i)) a in held.all t p.0 p.1
+
+  pub in_lower : (t : Table) → IsAmong t lower → IsAmong t (that_meet held.range (level levels (suc i)))
+  in_lower t a = among_passed (meets r) t (level levels (suc i)) (held.lowers t a) (held.meet t a)
+
+  -- a table that doesn't meet the range is beside the upper ones
+  pub beside_upper : (t : Table) → meets held.range t ≡ false → IsBeside upper t
+  beside_upper t apart a b k low high first last =
+      let whole = hull_covers upper r held.hull_is a b in
+      no (sym (covers_meets r t k (at_most_trans r.first a.first k whole.0 low) (at_most_trans k a.last r.last high whole.1) first last) ∙ apart)
+
+  -- another table of the lower level is beside the lower ones too
+  beside_lower : (t : Table) → meets held.range t ≡ false → IsAmong t (level levels (suc i)) → IsBeside lower t
+  beside_lower t apart there a b k low high first last =
+      no (sym (covers_meets (range_of a) t k low high first last)
+      ∙ other_apart (level levels (suc i)) (run_at levels runs i) a t (held.lowers a b) there (λ same. no (sym (held.meet a b) ∙ ap (meets r) same ∙ apart)))
+
+  pub beside_inputs : (t : Table) → meets held.range t ≡ false → IsAmong t (level levels (suc i)) → IsBeside (upper ++ lower) t
+  beside_inputs t apart there a b = ⊎_elim (λ c. beside_upper t apart a c) (λ c. beside_lower t apart there a c) (among_either a upper lower b)
+
+  -- at the bottom, so is each table of a lower level
+  pub beside_bottom : bottom ≡ true → (k : ℕ) (t : Table) → suc i < k → IsAmong t (level levels k) → IsBeside (upper ++ lower) t
+  beside_bottom flag k t below there = by upper held.hull_is (λ whole is. held.lowest flag k t whole below there is)
+    where
+      by : (us : List Table) → hull us ≡ Some held.range → ((whole : KeyRange) → hull (us ++ lower) ≡ Some whole → meets whole t ≡ false) → IsBeside (us ++ lower) t
+      by [] none apart a b key low high first last = absurd cc
+      by (u ∷ us) some apart a b key low high first last =
+          let w = spanned u (hull (us ++ lower)) in
+          let whole = hull_covers (u ∷ (us ++ lower)) w refl a b in
+          no (sym (covers_meets w t key (at_most_trans w.first a.first key whole.0 low) (at_most_trans key a.last w.last high whole.1) first last) ∙ apart w refl)
+
+-- a table of the lists from one on stands in one of these
+pub in_dropped : (t : Table) (j : ℕ) (xs : List (List Table)) → IsAmong t (all_tables (drop j xs)) → (l : ℕ) × (j ≤ l) × IsAmong t (get_or xs l [])
+in_dropped t zero [] a = absurd a
+in_dropped t zero (x ∷ xs) a = ⊎_elim (λ b. (0, omega arith, b)) (λ b. let more = in_dropped t zero xs b in (suc more.0, omega arith, more.2)) (among_either t x (all_tables xs) a)
+in_dropped t (suc j) [] a = absurd a
+in_dropped t (suc j) (x ∷ xs) a = let more = in_dropped t j xs a in let le = more.1 in (suc more.0, omega (arith, le), more.2)
