@@ -1,22 +1,20 @@
 -- The records of tables after an install.
-use Rattle.std.proofs.Common.{◌≡◌, ⊎_elim, ℕ, zero, suc, ◌+◌, ◌-◌, ◌<◌, ◌≤◌, Bool, true, false, not, cond, eqb, List, [], ◌∷◌, ◌++◌, length, map, take, drop, filter, get_or, set, Option, Some, refl, sym, ap, subst, ◌∙◌, append_assoc, arith}
+use Rattle.std.proofs.Common.{◌≡◌, ⊎_elim, ℕ, suc, ◌+◌, ◌-◌, ◌≤◌, Bool, true, false, not, cond, List, [], ◌∷◌, ◌++◌, length, map, refl, sym, ap, ◌∙◌, append_assoc, arith}
 use Rattle.std.specs.List.{AllByRecursion}
 use Rattle.std.proofs.lemmas.Bool.{eq-eqb, ne_eqb}
-use Rattle.std.proofs.lemmas.List.{append-nil, map-append, length-append, length-take-le, get_or-set_other}
+use Rattle.std.proofs.lemmas.List.{append-nil, map-append, length-take-le}
 use Rattle.lsm_codec.specs.Keys.{Bytes}
 use Rattle.lsm_codec.specs.declared.table_record.TableRecord.{TableRecord}
-use Rattle.lsm_levels.specs.Among.{IsAmong}
-use Rattle.lsm_levels.specs.Held.{AreRuns, HasItsTables, IsHeld}
-use Rattle.lsm_levels.specs.Levels.{Levels, level, newer_runs, last_run, replaced, merged_at}
-use Rattle.lsm_levels.specs.Pick.{Flush, Merge, installed as installed_levels}
-use Rattle.lsm_levels.specs.Tables.{Table, KeyRange, record_of, at_most, is_below, hull, meets, put_at, IsRun}
-use Rattle.lsm_levels.proofs.KeyOrder.{at_most_trans, below_at_most, below_then, then_below, below_is}
+use Rattle.lsm_levels.specs.Levels.{Levels, level, newer_runs, last_run}
+use Rattle.lsm_levels.specs.Pick.{Flush, installed as installed_levels}
+use Rattle.lsm_levels.specs.Tables.{Table, KeyRange, record_of, at_most, is_below, meets, put_at, IsRun}
+use Rattle.lsm_levels.proofs.KeyOrder.{at_most_trans, below_at_most, below_then, below_is}
 use Rattle.lsm_levels.proofs.Parts.{filter_step, filter_none, filter_all, all_map}
 use Rattle.lsm_levels.proofs.Ranges.{sides, apart_left, apart_right, meets_ends}
 use Rattle.lsm_levels.proofs.Replacing.{newer_cons, last_cons}
-use Rattle.lsm_open.specs.Switching.{pushed, Parts, with_inputs, with_outputs}
+use Rattle.lsm_open.specs.Switching.{pushed}
 use Rattle.lsm_open.specs.ToldTables.{records_of_runs, records_of_levels, records_of}
-use Rattle.lsm_store.specs.InstalledJobs.{output_records, ending_before, that_meet, beginning_behind, parts_at, parts_of}
+use Rattle.lsm_store.specs.InstalledJobs.{output_records, ending_before, that_meet, beginning_behind}
 
 abbrev Records : Type 0
 Records = List TableRecord

@@ -1,25 +1,22 @@
 -- The tables around a merge: its inputs, what lies between and behind them, and the newest versions of its inputs.
-use Rattle.std.proofs.Common.{◌≡◌, ◌⊎◌, inl, inr, ⊎_elim, ℕ, zero, suc, ◌+◌, ◌≤◌, ◌<◌, Bool, true, false, List, [], ◌∷◌, ◌++◌, length, map, drop, get_or, Option, Some, None, refl, sym, ap, subst, ◌∙◌, arith}
-use Rattle.std.specs.List.{AllByRecursion}
+use Rattle.std.proofs.Common.{◌≡◌, ◌⊎◌, inl, ⊎_elim, ℕ, zero, suc, ◌≤◌, ◌<◌, Bool, true, false, List, [], ◌∷◌, ◌++◌, drop, get_or, Option, Some, None, refl, sym, ap, subst, ◌∙◌, arith}
 use Rattle.lsm_codec.specs.Keys.{Bytes}
 use Rattle.lsm_codec.specs.Versions.{Version, newest}
-use Rattle.lsm_codec.specs.declared.table_record.TableRecord.{TableRecord}
 use Rattle.lsm_jobs.specs.Gathering.{run_if_some}
 use Rattle.lsm_levels.proofs.HullLaws.{hull_covers}
 use Rattle.lsm_levels.proofs.KeyOrder.{at_most_trans, at_most_itself}
 use Rattle.lsm_levels.proofs.Members.{among_left, among_right, among_either, among_passed, passed_among}
-use Rattle.lsm_levels.proofs.Ranges.{no, all_of, of_all, in_run, run_order, other_apart, apart_left, apart_right}
-use Rattle.lsm_levels.proofs.RunOrders.{stored_ranged}
+use Rattle.lsm_levels.proofs.Ranges.{no, in_run, run_order, other_apart, apart_left, apart_right}
 use Rattle.lsm_levels.proofs.Runs.{run_at}
 use Rattle.lsm_levels.proofs.Surviving.{single_range}
 use Rattle.lsm_levels.proofs.Taking.{in_tables, of_table, covers_meets}
 use Rattle.lsm_levels.specs.Among.{IsAmong}
-use Rattle.lsm_levels.specs.Held.{AreRuns, IsUpper, HasItsTables, IsRanged}
+use Rattle.lsm_levels.specs.Held.{AreRuns, IsUpper, HasItsTables}
 use Rattle.lsm_levels.specs.Levels.{Levels, all_tables, level, last_run}
 use Rattle.lsm_levels.specs.Tables.{Table, KeyRange, range_of, at_most, is_below, spanned, hull, meets, versions_of}
 use Rattle.lsm_merge.specs.Inputs.{joined}
-use Rattle.lsm_store.proofs.NewestAmong.{IsNewest, key_of, newest_is, none_is}
-use Rattle.lsm_store.specs.InstalledJobs.{ending_before, that_meet, beginning_behind}
+use Rattle.lsm_store.proofs.NewestAmong.{key_of, newest_is, none_is}
+use Rattle.lsm_store.specs.InstalledJobs.{that_meet}
 use Rattle.lsm_store.specs.WorkMaps.{IsUnique}
 
 -- ---- lists with the same versions

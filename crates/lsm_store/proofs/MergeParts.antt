@@ -1,56 +1,25 @@
 -- The versions of the parts around a merge, where the tables stand.
-use Rattle.std.proofs.Common.{◌≡◌, ◌⊎◌, inl, inr, ⊎_elim, ℕ, zero, suc, ◌+◌, ◌-◌, ◌≤◌, ◌<◌, ◌^◌, Bool, true, false, List, [], ◌∷◌, ◌++◌, length, map, drop, set, get_or, All, Option, Some, refl, sym, ap, subst, ◌∙◌, option_and_then, arith}
+use Rattle.std.proofs.Common.{◌≡◌, ◌⊎◌, inl, inr, ⊎_elim, ℕ, zero, suc, ◌-◌, ◌<◌, true, false, List, [], ◌∷◌, ◌++◌, length, map, drop, set, get_or, sym, subst, arith}
 use Rattle.std.specs.List.{AllByRecursion}
 use Rattle.lsm_codec.specs.Keys.{Bytes}
-use Rattle.lsm_codec.specs.Pairs.{Pairwise}
-use Rattle.lsm_codec.specs.Versions.{Version, newest}
+use Rattle.lsm_codec.specs.Versions.{Version}
 use Rattle.lsm_codec.specs.declared.table_record.TableRecord.{TableRecord}
-use Rattle.lsm_device.specs.Disk.{Disk, seen}
-use Rattle.lsm_jobs.proofs.Outcomes.{made_versions, made_run}
-use Rattle.lsm_jobs.specs.Outputs.{AreMadeOf}
-use Rattle.lsm_jobs.specs.Slots.{Stage, Slot, Writing, is_writing, outputs_at}
 use Rattle.lsm_levels.proofs.Members.{among_left, among_right, among_either, passed_among}
 use Rattle.lsm_levels.proofs.Parts.{all_append, all_left, all_right}
 use Rattle.lsm_levels.proofs.Ranges.{all_of, of_all, apart_left, apart_right}
 use Rattle.lsm_levels.proofs.RunOrders.{stored_ranged}
-use Rattle.lsm_levels.proofs.Runs.{all_or, all_set, all_take, all_filter, runs_law}
-use Rattle.lsm_levels.proofs.Taking.{in_tables, of_table, merging_law}
+use Rattle.lsm_levels.proofs.Runs.{all_or, all_set, all_take, all_filter}
+use Rattle.lsm_levels.proofs.Taking.{in_tables}
 use Rattle.lsm_levels.specs.Among.{IsAmong}
-use Rattle.lsm_levels.specs.Held.{AreRuns, HasItsTables, IsHeld, AreOutputs, HasVersion}
-use Rattle.lsm_levels.specs.Levels.{Levels, all_tables, level, places, replaced, merged_at}
-use Rattle.lsm_levels.specs.Pick.{Job, Merge}
+use Rattle.lsm_levels.specs.Levels.{Levels, all_tables, level, places, replaced}
 use Rattle.lsm_levels.specs.Stored.{IsStored, AreStored}
-use Rattle.lsm_levels.specs.Tables.{Table, KeyRange, record_of, at_most, is_below, hull, meets, put_at, versions_of}
-use Rattle.lsm_mem.specs.Versions.{NumberedAtMost}
-use Rattle.lsm_merge.proofs.MapLaws.{keep_law}
-use Rattle.lsm_merge.specs.Inputs.{MergeInput, joined, kept_of}
-use Rattle.lsm_merge.specs.Keeping.{keep}
-use Rattle.lsm_merge.specs.Laws.{IsKeptAt, HaveSameMap}
+use Rattle.lsm_levels.specs.Tables.{Table, KeyRange, record_of, at_most, is_below, meets, put_at, versions_of}
 use Rattle.lsm_open.proofs.Flushing.{table_versions-append}
-use Rattle.lsm_open.proofs.FreeWrites.{held_synced}
-use Rattle.lsm_open.proofs.InPlace.{map_of-values}
-use Rattle.lsm_open.proofs.ListPairs.{All-left, All-right}
-use Rattle.lsm_open.proofs.TableFrames.{numbered_tables}
-use Rattle.lsm_open.proofs.VersionOrders.{share_none_back}
-use Rattle.lsm_open.specs.Placements.{Placement}
-use Rattle.lsm_open.specs.Replacing.{AreAmong, MayReplace}
-use Rattle.lsm_open.specs.Switching.{Parts, with_inputs, with_outputs, IsKept, AreMerged}
-use Rattle.lsm_open.specs.Tables.{first_data, table_versions, IsTableAt, AscendInRun}
-use Rattle.lsm_open.specs.ToldTables.{records_of_levels, records_of}
-use Rattle.lsm_open.specs.Writing.{PlacedTable}
-use Rattle.lsm_store.proofs.InstalledMaps.{in_has, runs_tables, kept_input}
-use Rattle.lsm_store.proofs.MergedRecords.{merge_order, merge_inputs, after_parts}
-use Rattle.lsm_store.proofs.MergeInputs.{same_newest, tables_of_runs, uppers_at, IsBeside, upper_in, in_upper, lower_in, in_lower, beside_upper, beside_inputs, beside_bottom, in_dropped}
-use Rattle.lsm_store.proofs.StoredRecords.{versions_run, run_order, records_ascend}
-use Rattle.lsm_store.proofs.WorkSounds.{there}
-use Rattle.lsm_store.proofs.WrittenOutputs.{outputs_stored, outputs_named}
-use Rattle.lsm_store.specs.InstalledJobs.{output_records, placed_for, ending_before, that_meet, beginning_behind, parts_at, parts_if, parts_of}
-use Rattle.lsm_store.specs.State.{State}
-use Rattle.lsm_store.specs.StoredTables.{IsStoredWithJobs}
-use Rattle.lsm_store.specs.Work.{WorkMachine, versions_in}
-use Rattle.lsm_store.specs.WorkMaps.{IsJobOf, MayBePutIn}
-use Rattle.lsm_store.specs.WorkRefusals.{held}
-use Rattle.lsm_store.specs.WorkSound.{IsSound}
+use Rattle.lsm_open.specs.Tables.{first_data, table_versions}
+use Rattle.lsm_open.specs.ToldTables.{records_of_levels}
+use Rattle.lsm_store.proofs.MergeInputs.{uppers_at, IsBeside, in_dropped}
+use Rattle.lsm_store.proofs.StoredRecords.{versions_run}
+use Rattle.lsm_store.specs.InstalledJobs.{ending_before, that_meet, beginning_behind, parts_at}
 use Rattle.lsm_table.specs.Division.{ShareNoKey}
 
 abbrev Versions : Type 0

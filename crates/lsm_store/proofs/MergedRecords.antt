@@ -1,16 +1,15 @@
 -- The records of tables around a merge, and after it.
-use Rattle.std.proofs.Common.{◌≡◌, ℕ, zero, suc, ◌+◌, ◌-◌, ◌<◌, ◌≤◌, Bool, true, List, [], ◌∷◌, ◌++◌, length, map, take, drop, get_or, set, Option, Some, refl, sym, ap, subst, ◌∙◌, append_assoc, arith}
+use Rattle.std.proofs.Common.{◌≡◌, ℕ, zero, suc, ◌+◌, ◌-◌, ◌<◌, ◌≤◌, Bool, true, List, [], ◌∷◌, ◌++◌, length, map, take, drop, get_or, set, Option, refl, sym, ap, subst, ◌∙◌, append_assoc, arith}
 use Rattle.std.proofs.lemmas.List.{length-take-le, get_or-set_other}
 use Rattle.lsm_codec.specs.declared.table_record.TableRecord.{TableRecord}
 use Rattle.lsm_device.specs.Disk.{Disk}
 use Rattle.lsm_levels.specs.Held.{AreRuns, IsUpper, HasItsTables, IsHeld}
 use Rattle.lsm_levels.specs.Levels.{Levels, level, newer_runs, last_run, replaced, merged_at}
 use Rattle.lsm_levels.specs.Pick.{Job, Flush, Merge, installed as installed_levels}
-use Rattle.lsm_levels.specs.Tables.{Table, KeyRange, record_of, at_most, hull, put_at, IsRun}
-use Rattle.lsm_levels.proofs.HullLaws.{hull_order}
+use Rattle.lsm_levels.specs.Tables.{Table, KeyRange, record_of, at_most, put_at}
 use Rattle.lsm_levels.proofs.Runs.{run_at, upper_order}
 use Rattle.lsm_open.specs.Placements.{Placement}
-use Rattle.lsm_open.specs.Switching.{pushed, Parts, with_inputs, with_outputs}
+use Rattle.lsm_open.specs.Switching.{pushed, with_inputs, with_outputs}
 use Rattle.lsm_open.specs.ToldTables.{records_of_runs, records_of_levels, records_of}
 use Rattle.lsm_store.specs.InstalledJobs.{output_records, ending_before, that_meet, beginning_behind, parts_at, parts_if, parts_of, installed_in}
 use Rattle.lsm_store.proofs.InstalledRecords.{flushed_records, levels_append, last_records, four_parts, split_records, put_records}

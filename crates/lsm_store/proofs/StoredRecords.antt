@@ -1,8 +1,8 @@
 -- The versions of tables that stand, by their records, and the order of these.
-use Rattle.std.proofs.Common.{◌≡◌, ℕ, zero, suc, ◌+◌, ◌*◌, ◌≤◌, ◌<◌, true, List, [], ◌∷◌, ◌++◌, length, map, take, All, Option, Some, refl, sym, ap, subst, ◌∙◌, append_assoc, arith}
+use Rattle.std.proofs.Common.{◌≡◌, ℕ, suc, ◌+◌, ◌*◌, ◌≤◌, ◌<◌, true, List, [], ◌∷◌, ◌++◌, map, take, All, refl, sym, ap, subst, ◌∙◌, append_assoc, arith}
 use Rattle.std.specs.List.{AllByRecursion}
 use Rattle.std.specs.declared.cmp.Ordering.TheVariants.{Less}
-use Rattle.std.proofs.lemmas.List.Elements.{All-nil, All-cons, All-head, All-tail, All-append, All-weaker}
+use Rattle.std.proofs.lemmas.List.Elements.{All-nil, All-cons, All-append, All-weaker}
 use Rattle.lsm_codec.specs.Keys.{byte_order}
 use Rattle.lsm_codec.specs.Pairs.{Pairwise}
 use Rattle.lsm_codec.specs.TableRecords.{extent_blocks}
@@ -11,19 +11,19 @@ use Rattle.lsm_codec.specs.declared.table_record.TableRecord.{TableRecord}
 use Rattle.lsm_codec.proofs.KeyOrder.{is_lt_Less}
 use Rattle.lsm_levels.specs.Among.{IsAmong}
 use Rattle.lsm_levels.specs.Asking.{sector_of}
-use Rattle.lsm_levels.specs.Held.{AreRuns, IsRanged}
+use Rattle.lsm_levels.specs.Held.{AreRuns}
 use Rattle.lsm_levels.specs.Levels.{Levels, places}
 use Rattle.lsm_levels.specs.Orders.{IsNewerPlace, IsVersionOrder}
 use Rattle.lsm_levels.specs.Stored.{blocks_from, IsStored, AreStored}
 use Rattle.lsm_levels.specs.Tables.{Table, record_of, at_most, is_below, IsRun, versions_of}
 use Rattle.lsm_levels.proofs.KeyOrder.{below_then, then_below, at_most_itself, below_not}
-use Rattle.lsm_levels.proofs.Ranges.{all_of, of_all}
+use Rattle.lsm_levels.proofs.Ranges.{all_of}
 use Rattle.lsm_levels.proofs.RunOrders.{stored_ranged}
-use Rattle.lsm_open.specs.Tables.{first_data, extent_start, blocks_at, versions_if, versions_at, table_versions, IsSameRun, AscendInRun}
+use Rattle.lsm_open.specs.Tables.{first_data, extent_start, versions_if, versions_at, table_versions, AscendInRun}
 use Rattle.lsm_open.specs.ToldTables.{records_of_runs, records_of_levels, records_of}
 use Rattle.lsm_open.proofs.BlockReads.{extent_is, some_blocks}
 use Rattle.lsm_open.proofs.ListPairs.{pairwise_join}
-use Rattle.lsm_table.specs.Stored.{table_of, table_in}
+use Rattle.lsm_table.specs.Stored.{table_of}
 
 abbrev Records : Type 0
 Records = List TableRecord
