@@ -85,6 +85,13 @@ fn has_four_again<R: Abort>(rt: &R, alloc: Global, stops: [Stop; 2]) -> bool {
     store.is_four(generation) && store.finds_its_keys(alloc) == Ok(true)
 }
 
+/// Whether 28 tables and the batch are there after two openings that were stopped. Their manifest has 570 bytes.
+fn has_many_again<R: Abort>(rt: &R, alloc: Global, stops: [Stop; 2]) -> bool {
+    let device = with_many(rt, alloc, SECTORS, 28);
+    let (store, generation) = reopened(rt, alloc, device, 2, stops);
+    is_many(rt, alloc, &store, generation, &[16, 0, 0, 0])
+}
+
 #[test]
 fn stopped_at_each_change_and_once_more(rt: HostRuntime) {
     // Fuses from 0 to 5, each with both masks of the one write that pends.
@@ -97,17 +104,6 @@ fn stopped_at_each_change_and_once_more(rt: HostRuntime) {
             assert!(rt; has_four_again(&rt, rt.alloc(), stops), "{stops:?}");
         }
     }
-}
-
-/// Whether 28 tables and the batch are there after two openings that were stopped. Their manifest has 570 bytes.
-fn has_many_again<R: Abort>(rt: &R, alloc: Global, stops: [Stop; 2]) -> bool {
-    let device = with_many(rt, alloc, SECTORS, 28);
-    let (store, generation) = reopened(rt, alloc, device, 2, stops);
-    is_many(rt, alloc, &store, generation, &[16, 0, 0, 0])
-}
-
-#[test]
-fn a_manifest_of_two_sectors(rt: HostRuntime) {
     // Fuses from 0 to 6, each with all masks of two writes; the second opening is stopped at some of them.
     for first in 0..28u8 {
         for second in [(2, 2), (3, 1), (5, 1)] {

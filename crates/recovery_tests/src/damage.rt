@@ -2,7 +2,7 @@
 
 use crate::devices::{DATA, SECTORS, crash, formatted, put, put_byte, sync};
 use crate::images::{MANIFEST, Tables, image_of, put_table, with_four, with_root, with_tables};
-use crate::subject::{calls_of, opened, opening, refused};
+use crate::subject::{Subject, calls_of, opened, opening, refused};
 use lsm_device::{MemDevice, Refusal};
 use std::alloc::Global;
 use std::process::Abort;
@@ -44,7 +44,7 @@ fn extent(table: u32) -> u32 {
 }
 
 #[test]
-fn footers_and_indexes_that_are_none(rt: HostRuntime) {
+fn tables_that_are_none(rt: HostRuntime) {
     // The sector is counted from the extent's first. A footer has magic, number, data blocks, entries, the length of the index
     // and the first key; the index has the last key and the number of the last version.
     let cases: [(&str, Change); 19] = [
@@ -75,34 +75,19 @@ fn footers_and_indexes_that_are_none(rt: HostRuntime) {
             assert!(rt; is_refused, "{what} of {table}");
         }
     }
-}
-
-#[test]
-fn records_of_other_tables(rt: HostRuntime) {
     // The last of the four records begins at byte 103: number, level, run, first block, data blocks, index blocks, entries.
-    let cases: [(&str, &[(usize, u8)]); 8] = [
-        ("another number", &[(110, 0)]),
-        ("another data block", &[(117, 2)]),
-        ("another index block", &[(118, 2)]),
-        ("another entry", &[(120, 3)]),
-        ("more entries", &[(119, 1)]),
-        ("the block behind the first", &[(116, 13)]),
-        ("an extent of zeros", &[(116, 20)]),
-        (
-            "the extents of two tables, each in the other's place",
-            &[(98, 12), (116, 8)],
-        ),
+    let records: [(&str, usize, u8); 7] = [
+        ("another number", 110, 0),
+        ("another data block", 117, 2),
+        ("another index block", 118, 2),
+        ("another entry", 120, 3),
+        ("more entries", 119, 1),
+        ("the block behind the first", 116, 13),
+        ("an extent of zeros", 116, 20),
     ];
-    for (what, bytes) in cases {
-        let mut device = with_four(&rt, rt.alloc());
-        for (place, byte) in bytes {
-            put_byte(&rt, &mut device, MANIFEST, *place, *byte);
-        }
-        let device = changed(&rt, device, &[]);
-        assert!(rt;
-            is_refused_with(&rt, rt.alloc(), device, Refusal::BadTable),
-            "{what}"
-        );
+    for (what, place, byte) in records {
+        let is_refused = is_no_table(&rt, rt.alloc(), &[(MANIFEST, place, byte)]);
+        assert!(rt; is_refused, "{what}");
     }
 }
 
@@ -117,20 +102,22 @@ fn is_no_table_without<R: Abort>(rt: &R, alloc: Global, first: u32) -> bool {
 }
 
 #[test]
-fn blocks_of_zeros(rt: HostRuntime) {
+fn blocks_of_zeros_and_of_another_table(rt: HostRuntime) {
     for table in 0..4u32 {
         for block in [16, 24] {
             let first = extent(table).wrapping_add(block);
             assert!(rt; is_no_table_without(&rt, rt.alloc(), first), "{first}");
         }
     }
+    // The extents of the last two tables, each in the other's place.
+    let exchanged = [(MANIFEST, 98, 12), (MANIFEST, 116, 8)];
+    assert!(rt; is_no_table(&rt, rt.alloc(), &exchanged));
 }
 
 /// A device with one table of three data blocks, which has the keys 61, 62 and 63 with 2,048 bytes each.
 fn with_three_blocks<R: Abort>(rt: &R, alloc: Global) -> MemDevice {
     let mut device = formatted(rt, alloc, SECTORS);
-    let keys: [&[u8]; 3] = [b"\x61", b"\x62", b"\x63"];
-    let image = image_of(rt, alloc, 1, &keys, &[7; 2_048]);
+    let image = image_of(rt, alloc, 1, &[b"\x61", b"\x62", b"\x63"], &[7; 2_048]);
     let record = image.table_record(1, 1, 0, 0);
     put_table(rt, &mut device, &image, &record);
     let mut records = Vec::new(alloc);
@@ -155,7 +142,7 @@ fn opens_three_blocks<R: Abort>(rt: &R, alloc: Global, changes: &[Change]) -> bo
 }
 
 #[test]
-fn indexes_out_of_order(rt: HostRuntime) {
+fn indexes_and_runs_out_of_order(rt: HostRuntime) {
     // Three records of ten bytes begin in the first sector of the fifth block: a key and a number.
     let cases: [(&str, &[Change], bool); 6] = [
         ("as it is", &[], true),
@@ -179,10 +166,6 @@ fn indexes_out_of_order(rt: HostRuntime) {
             "{what}"
         );
     }
-}
-
-#[test]
-fn runs_out_of_order(rt: HostRuntime) {
     let runs: [(&str, Tables); 5] = [
         (
             "a key in two tables",
@@ -225,17 +208,24 @@ fn runs_out_of_order(rt: HostRuntime) {
     }
 }
 
+/// Whether the look-up of a key finds a block that is none.
+fn meets_no_block(store: &mut Subject, alloc: Global, key: u8) -> bool {
+    matches!(store.get(alloc, &[key]), Err(Refusal::BadTable))
+}
+
+/// Whether a key has a value of one byte.
+fn finds(store: &mut Subject, alloc: Global, key: u8, value: u8) -> bool {
+    matches!(store.get(alloc, &[key]), Ok(Some(found)) if found == value)
+}
+
 #[test]
 fn blocks_that_an_opening_does_not_read(rt: HostRuntime) {
     // The count of entries in the data block of the newest table, which has key 61, and of the last one, which has key 64.
-    let device = changed(
-        &rt,
-        with_four(&rt, rt.alloc()),
-        &[(DATA, 1, 0), (extent(3), 1, 0)],
-    );
-    let mut store = opened(&rt, rt.alloc(), device);
-    assert!(rt; store.is_four(3));
-    let found = [0x61, 0x62, 0x63, 0x64].map(|key| store.get(rt.alloc(), &[key]));
-    let bad = Err(Refusal::BadTable);
-    assert!(rt; found == [bad, Ok(Some(0x32)), Ok(Some(2)), bad]);
+    let alloc = rt.alloc();
+    let changes = [(DATA, 1, 0), (extent(3), 1, 0)];
+    let device = changed(&rt, with_four(&rt, alloc), &changes);
+    let mut store = opened(&rt, alloc, device);
+    let is_met = meets_no_block(&mut store, alloc, 0x61) && meets_no_block(&mut store, alloc, 0x64);
+    assert!(rt; is_met && store.is_four(3));
+    assert!(rt; finds(&mut store, alloc, 0x62, 0x32) && finds(&mut store, alloc, 0x63, 2));
 }

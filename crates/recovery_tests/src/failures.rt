@@ -35,6 +35,13 @@ fn is_opened_again<R: Abort>(rt: &R, alloc: Global, n: u64, kept: bool) -> bool 
     refusal == Refusal::Io && calls == n.wrapping_add(1) && store.is_four(next_generation(n, kept))
 }
 
+/// Whether the call behind the last one of an opening isn't made.
+fn makes_no_more<R: Abort>(rt: &R, alloc: Global) -> bool {
+    let mut device = with_four(rt, alloc);
+    device.fail(CALLS, false);
+    opened(rt, alloc, device).is_four(3)
+}
+
 #[test]
 fn each_call_fails_in_turn(rt: HostRuntime) {
     for n in 0..CALLS {
@@ -42,12 +49,5 @@ fn each_call_fails_in_turn(rt: HostRuntime) {
             assert!(rt; is_opened_again(&rt, rt.alloc(), n, kept), "{n} {kept}");
         }
     }
-}
-
-#[test]
-fn no_call_fails(rt: HostRuntime) {
-    let mut device = with_four(&rt, rt.alloc());
-    device.fail(CALLS, false);
-    let store = opened(&rt, rt.alloc(), device);
-    assert!(rt; store.is_four(3));
+    assert!(rt; makes_no_more(&rt, rt.alloc()));
 }

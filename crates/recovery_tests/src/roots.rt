@@ -8,74 +8,67 @@ use lsm_device::{MemDevice, Refusal};
 use std::alloc::Global;
 use std::process::Abort;
 
-/// The place of a byte in the manifest, and what stands there.
-type Byte = (usize, u8);
-
-/// Whether the four tables are refused with some bytes of the manifest changed.
-fn is_no_manifest<R: Abort>(rt: &R, alloc: Global, bytes: &[Byte]) -> bool {
-    let mut changes = Vec::new(alloc);
-    for (place, byte) in bytes {
-        changes.push((MANIFEST, *place, *byte)).expect(rt, "memory");
-    }
-    let device = changed(rt, with_four(rt, alloc), &changes);
+/// Whether the four tables are refused with a byte of the manifest changed, or two.
+fn is_no_manifest<R: Abort>(rt: &R, alloc: Global, changes: &[Change]) -> bool {
+    let device = changed(rt, with_four(rt, alloc), changes);
     is_refused_with(rt, alloc, device, Refusal::BadManifest)
 }
 
-#[test]
-fn records_that_are_none(rt: HostRuntime) {
-    // Behind 32 bytes and a log record of 17, each record has 18: number, level, run, first block, data blocks, index
-    // blocks and entries.
-    let cases: [(&str, &[Byte]); 20] = [
-        ("the second extent begins in the first", &[(80, 3)]),
-        ("the first extent ends in the second", &[(63, 2)]),
-        ("one extent twice", &[(116, 8)]),
-        (
-            "an extent that ends behind the data area",
-            &[(115, 3), (116, 188)],
-        ),
-        ("an extent behind the data area", &[(114, 1)]),
-        ("a run that isn't listed", &[(29, 3)]),
-        ("a run above the count", &[(29, 1)]),
-        ("a run that is left out", &[(29, 3), (76, 2)]),
-        ("the later run first", &[(58, 1), (76, 0)]),
-        ("the later level first", &[(57, 1)]),
-        ("a run in level 1", &[(94, 1)]),
-        ("a level above the last", &[(111, 5)]),
-        ("a number twice", &[(74, 1)]),
-        ("the next number", &[(110, 5)]),
-        ("no data block", &[(117, 0)]),
-        ("more data blocks than a table has", &[(117, 65)]),
-        ("no index block", &[(118, 0)]),
-        ("more index blocks than a table has", &[(118, 6)]),
-        ("no entry", &[(120, 0)]),
-        ("more entries than a table has", &[(119, 12), (120, 129)]),
-    ];
-    for (what, bytes) in cases {
-        assert!(rt; is_no_manifest(&rt, rt.alloc(), bytes), "{what}");
-    }
-}
+/// The places of two bytes in the manifest, and what stands there.
+type Two = (usize, u8, usize, u8);
 
 #[test]
-fn headers_that_are_none(rt: HostRuntime) {
-    // Magic, generation, base, next number, and the counts of log records, of runs and of table records. The log record has
-    // region, epoch and first batch. The text ends at byte 121.
-    let cases: [(&str, Byte); 13] = [
-        ("the magic", (0, 0)),
-        ("another generation", (11, 3)),
-        ("a base behind the first batch", (19, 4)),
-        ("the last number is the next", (27, 4)),
-        ("no log record", (28, 0)),
-        ("more runs than may be", (29, 13)),
-        ("three tables", (31, 3)),
-        ("five tables", (31, 5)),
-        ("a region that isn't", (32, 3)),
-        ("epoch 0", (40, 0)),
-        ("an epoch above the generation", (40, 3)),
-        ("a first batch that isn't the next", (48, 5)),
-        ("a byte behind the text", (121, 1)),
+fn manifests_that_are_none(rt: HostRuntime) {
+    // Magic, generation, base, next number, and the counts of log records, of runs and of table records take 32 bytes. A log
+    // record of 17 follows: region, epoch and first batch. Each of the four table records has 18: number, level, run, first
+    // block, data blocks, index blocks and entries. The text ends at byte 121.
+    let cases: [(&str, usize, u8); 27] = [
+        ("the magic", 0, 0),
+        ("another generation", 11, 3),
+        ("a base behind the first batch", 19, 4),
+        ("the last number is the next", 27, 4),
+        ("no log record", 28, 0),
+        ("more runs than may be", 29, 13),
+        ("a run above the count", 29, 1),
+        ("a run that isn't listed", 29, 3),
+        ("three tables", 31, 3),
+        ("five tables", 31, 5),
+        ("a region that isn't", 32, 3),
+        ("epoch 0", 40, 0),
+        ("an epoch above the generation", 40, 3),
+        ("a first batch that isn't the next", 48, 5),
+        ("the first extent ends in the second", 63, 2),
+        ("the second extent begins in the first", 80, 3),
+        ("one extent twice", 116, 8),
+        ("an extent behind the data area", 114, 1),
+        ("a level above the last", 111, 5),
+        ("a number twice", 74, 1),
+        ("the next number", 110, 5),
+        ("no data block", 117, 0),
+        ("more data blocks than a table has", 117, 65),
+        ("no index block", 118, 0),
+        ("more index blocks than a table has", 118, 6),
+        ("no entry", 120, 0),
+        ("a byte behind the text", 121, 1),
     ];
-    for (what, byte) in cases {
-        assert!(rt; is_no_manifest(&rt, rt.alloc(), &[byte]), "{what}");
+    for (what, place, byte) in cases {
+        let is_refused = is_no_manifest(&rt, rt.alloc(), &[(MANIFEST, place, byte)]);
+        assert!(rt; is_refused, "{what}");
+    }
+    let pairs: [(&str, Two); 6] = [
+        (
+            "an extent that ends behind the data area",
+            (115, 3, 116, 188),
+        ),
+        ("a run that is left out", (29, 3, 76, 2)),
+        ("the later run first", (58, 1, 76, 0)),
+        ("the later level first", (57, 1, 75, 0)),
+        ("a run in level 1", (94, 1, 112, 1)),
+        ("more entries than a table has", (119, 12, 120, 129)),
+    ];
+    for (what, (first, byte, second, other)) in pairs {
+        let changes = [(MANIFEST, first, byte), (MANIFEST, second, other)];
+        assert!(rt; is_no_manifest(&rt, rt.alloc(), &changes), "{what}");
     }
 }
 

@@ -76,20 +76,28 @@ pub(crate) fn calls_of(device: &MemDevice) -> (u64, u64, u64) {
 /// Whether a run has just the tables of these numbers.
 fn has_numbers<A: Allocator>(run: &Run<A>, numbers: &[u64]) -> bool {
     let tables = run.tables();
-    tables.len() == numbers.len()
-        && tables
-            .iter()
-            .zip(numbers)
-            .all(|(table, number)| table.number() == *number)
+    if tables.len() != numbers.len() {
+        return false;
+    }
+    for at in 0..tables.len() {
+        if tables[at].number() != numbers[at] {
+            return false;
+        }
+    }
+    true
 }
 
 /// Whether runs have just the tables of these numbers.
 fn have_numbers<A: Allocator>(runs: &[Run<A>], numbers: &[&[u64]]) -> bool {
-    runs.len() == numbers.len()
-        && runs
-            .iter()
-            .zip(numbers)
-            .all(|(run, numbers)| has_numbers(run, numbers))
+    if runs.len() != numbers.len() {
+        return false;
+    }
+    for at in 0..runs.len() {
+        if !has_numbers(&runs[at], numbers[at]) {
+            return false;
+        }
+    }
+    true
 }
 
 impl<A: Allocator> Subject<A> {
@@ -218,7 +226,9 @@ impl Subject {
         if !view.is_within(device.sectors()) {
             return Err(Refusal::BadGeometry);
         }
-        let value = view.find(&alloc, &mut cache, device, key, self.store.count)?;
-        Ok(value.and_then(|value| value.first().copied()))
+        match view.find(&alloc, &mut cache, device, key, self.store.count)? {
+            Some(value) => Ok(value.first().copied()),
+            None => Ok(None),
+        }
     }
 }
