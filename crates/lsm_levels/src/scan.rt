@@ -7,7 +7,7 @@ ghost use Rattle.lsm_mem.specs.Paging.{Page as MapPage};
 ghost use Rattle.lsm_cache.specs.declared.name.BlockName.{BlockName as Name};
 ghost use Rattle.lsm_levels.specs.Cursors.{present, refusal_of};
 ghost use Rattle.lsm_levels.specs.Sources.{head_at};
-ghost use Rattle.lsm_levels.specs.Scans.{Advances, AreEndingWithin, AsksOn, AsksSome, CanGoOn, ComesTo, Goes, HasCome, Takes, blocks_to_come, steps_left};
+ghost use Rattle.lsm_levels.specs.Scans.{Advances, AreEndingWithin, AreReady, AsksOn, AsksSome, CanGoOn, ComesTo, Goes, HasCome, Takes, blocks_to_come, steps_left};
 
 use crate::queue::{Queue, current_at};
 use crate::source::SourceCursor;
@@ -106,4 +106,26 @@ pub(crate) fn gather<D: Device, A: Allocator + Clone>(
             return Ok(());
         }
     }
+}
+
+/// Takes versions of sources until the page has come. It takes memory for their queue.
+pub(crate) fn gather_all<D: Device, A: Allocator + Clone>(
+    sources: &mut [SourceCursor<'_, A>],
+    builder: &mut PageBuilder<'_, A>,
+    alloc: &A,
+    cache: &mut Cache<A>,
+    device: &mut D,
+) -> Result<(), Refusal>
+    requires going { builder.old.next ≡ None }
+    requires ready { AreReady (D.medium device.old).size sources.old }
+    ensures asks { AsksSome (blocks_to_come sources.old) (refusal_of result)
+        (record { cache = cache.old; medium = D.medium device.old }) (record { cache = cache.new; medium = D.medium device.new }) }
+    ensures comes { (place : Name → Option ℕ) (sectors : List (List ℕ)) (page : MapPage)
+        → ComesTo place sectors page builder.old sources.old (record { cache = cache.old; medium = D.medium device.old })
+        → MatchResult result (λ _. HasCome page builder.new) (λ refusal. (refusal ≡ Io) ⊎ (refusal ≡ NoMemory)) }
+    ensures refused { IfErr result (λ refusal. (refusal ≡ Io) ⊎ ((refusal ≡ BadTable) ⊎ (refusal ≡ NoMemory))) }
+{
+    let mut queue = Queue::of(alloc.clone()?, sources)?;
+    gather(sources, &mut queue, builder, alloc, cache, device)?;
+    Ok(())
 }

@@ -23,15 +23,14 @@ ghost use Rattle.lsm_levels.specs.Levels.{places};
 ghost use Rattle.lsm_levels.specs.Orders.{IsVersionOrder};
 ghost use Rattle.lsm_levels.specs.Stored.{AreWithin, AreNumberedBelow, ArePlaced, IsReadable};
 ghost use Rattle.lsm_levels.specs.Cursors.{refusal_of};
-ghost use Rattle.lsm_levels.specs.Scans.{AreReady, AsksOn, AsksSome, ComesTo, ScansRuns, blocks_of_runs, blocks_to_come, memory_places};
+ghost use Rattle.lsm_levels.specs.Scans.{AreReady, AsksOn, AsksSome, ComesTo, HasCome, ScansRuns, blocks_of_runs, blocks_to_come, memory_places};
 ghost use Rattle.lsm_levels.specs.SourceCursors.{cursor_of_versions};
 ghost use Rattle.lsm_levels.specs.Lookups.{IsLookUp, answer_of, sealed_versions, versions_at};
 
 use crate::found::Found;
 use crate::levels::Levels;
 use crate::lookup::{Query, find_in_levels};
-use crate::queue::Queue;
-use crate::scan::gather;
+use crate::scan::gather_all;
 use crate::source::SourceCursor;
 use crate::sources::seek_runs;
 use crate::within::are_within;
@@ -216,6 +215,32 @@ impl<'a, A: Allocator + Clone> ReadView<'a, A> {
         Ok(sources)
     }
 
+    /// Fills a page from the sources of a scan.
+    fn fill<D: Device>(
+        &self,
+        builder: &mut PageBuilder<'_, A>,
+        alloc: &A,
+        cache: &mut Cache<A>,
+        device: &mut D,
+        from: &[u8],
+        at: u64,
+    ) -> Result<(), Refusal>
+        requires within { AreWithin (D.medium device.old).size self.now.area (places self.now.levels.now) }
+        requires going { builder.old.next ≡ None }
+        ensures asks { AsksSome (blocks_of_runs self.now.area from.now (places self.now.levels.now)) (refusal_of result)
+            (record { cache = cache.old; medium = D.medium device.old }) (record { cache = cache.new; medium = D.medium device.new }) }
+        ensures comes { (place : Name → Option ℕ) (to : Option Bytes) (limit : ℕ) → IsReadable place self.now.area (places self.now.levels.now) (record { cache = cache.old; medium = D.medium device.old })
+            → IsVersionOrder (versions_at self.now.mem.now (sealed_versions self.now.sealed) (places self.now.levels.now)) → builder.old ≡ gathering at to limit
+            → MatchResult result
+            (λ _. HasCome (page_of (map_of (joined (versions_at self.now.mem.now (sealed_versions self.now.sealed) (places self.now.levels.now))) at) from.now to limit) builder.new)
+            (λ refusal. (refusal ≡ Io) ⊎ (refusal ≡ NoMemory)) }
+        ensures refused { IfErr result (λ refusal. (refusal ≡ Io) ⊎ ((refusal ≡ BadTable) ⊎ (refusal ≡ NoMemory))) }
+    {
+        let mut sources = self.sources(alloc, cache, device, from, at)?;
+        gather_all(&mut sources, builder, alloc, cache, device)?;
+        Ok(())
+    }
+
     /// The first `limit` pairs of the map at a count of batches from the key `from` on, up to the key `to` where one is given,
     /// and the key of the next. Memory, sealed memory and the runs of the levels are read together in the order of keys, each
     /// from `from` on. Blocks of a run are asked for in turn, each once at most, from the first on that doesn't end before
@@ -249,10 +274,7 @@ impl<'a, A: Allocator + Clone> ReadView<'a, A> {
     {
         let (from, to) = range;
         let mut builder = PageBuilder::new(alloc, to, at, limit)?;
-        let own = alloc.clone()?;
-        let mut sources = self.sources(alloc, cache, device, from, at)?;
-        let mut queue = Queue::of(own, &sources)?;
-        gather(&mut sources, &mut queue, &mut builder, alloc, cache, device)?;
+        self.fill(&mut builder, alloc, cache, device, from, at)?;
         Ok(builder.into_page())
     }
 }
