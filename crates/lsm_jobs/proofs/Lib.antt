@@ -2,6 +2,7 @@ pub mod KeptJobs
 pub mod Numbers
 pub mod Holding
 pub mod Found
+pub mod Walked
 pub mod GoingOn
 pub mod BlockReads
 pub mod Placed
