@@ -42,3 +42,4 @@ pub mod ScanAsking
 pub mod ScanLaws
 pub mod ScanSources
 pub mod ScanViews
+pub mod NamedBlocks

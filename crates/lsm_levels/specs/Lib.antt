@@ -18,3 +18,4 @@ pub mod Passing
 pub mod SourceCursors
 pub mod Queues
 pub mod Scans
+pub mod NamedBlocks

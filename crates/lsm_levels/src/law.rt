@@ -3,6 +3,7 @@
 ghost use Rattle.lsm_levels.specs.Cursors.{CursorLaw};
 ghost use Rattle.lsm_levels.specs.Held.{PickLaw, SurvivalLaw, RunsLaw, MergingLaw, OrderLaw, FlushLaw};
 ghost use Rattle.lsm_levels.specs.Moving.{MovingLaw, LowerLaw};
+ghost use Rattle.lsm_levels.specs.NamedBlocks.{NamedLaw};
 ghost use Rattle.lsm_levels.specs.Sources.{NextLaw, PageLaw};
 
 /// A job that is picked takes tables that no other job has as input, and all that it needs.
@@ -44,4 +45,10 @@ pub fn sources_come_to_a_page()
 pub fn installs_move_tables()
     ensures moved { MovingLaw }
     ensures lower { LowerLaw }
+{}
+
+/// A cache stays fresh for tables whose data blocks stay, and for others that it has no block of; look-ups and scans take in
+/// blocks of their tables alone.
+pub fn caches_stay_fresh()
+    ensures { NamedLaw }
 {}

@@ -28,7 +28,7 @@ mod within;
 
 pub use cursor::RunCursor;
 pub use law::{
-    cursors_give_their_versions, flushes_keep_the_order, installs_move_tables,
+    caches_stay_fresh, cursors_give_their_versions, flushes_keep_the_order, installs_move_tables,
     jobs_keep_their_tables, merges_leave_other_versions, picked_jobs_have_free_tables,
     sources_come_to_a_page,
 };
