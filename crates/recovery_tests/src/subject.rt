@@ -174,7 +174,8 @@ impl<A: Allocator> Subject<A> {
             && open.log.used() == 0
     }
 
-    /// Whether it is the store of the four tables and of batch 4 behind them, in this generation.
+    /// Whether it is the store of the four tables and of batch 4 behind them, in this generation. Of the 959 blocks of the
+    /// small device each of the tables occupies four.
     pub(crate) fn is_four(&self, generation: u64) -> bool {
         let regions = &self.store.regions;
         self.store.count == 4
@@ -182,6 +183,7 @@ impl<A: Allocator> Subject<A> {
             && regions.base == 3
             && regions.next_table == 5
             && are_four(&self.store.records)
+            && self.free_blocks() == 959 - 4 * 4
             && self.has_four_in_levels()
             && self.has_the_batch()
             && self.has_the_regions()
