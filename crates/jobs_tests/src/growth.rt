@@ -16,7 +16,7 @@ use std::process::Abort;
 use std::test::Fail;
 
 /// More growths than any of these calls has.
-const AMPLE: u64 = 1_000_000;
+pub(crate) const AMPLE: u64 = 1_000_000;
 
 /// Whether a flush is taken with so many growths. Otherwise memory is refused, and no slot is held.
 fn is_taken<A: Allocator + Clone>(

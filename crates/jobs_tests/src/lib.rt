@@ -12,6 +12,8 @@ mod growth;
 #[cfg(test)]
 mod merging;
 #[cfg(test)]
+mod read_growth;
+#[cfg(test)]
 mod reading;
 #[cfg(test)]
 mod subject;

@@ -8,7 +8,7 @@ use lsm_jobs::{Slots, TakenJob};
 use lsm_levels::{Levels, PlacedTable, Run, is_run};
 use lsm_merge::Built;
 use lsm_table::Image;
-use std::alloc::Global;
+use std::alloc::{Allocator, Global};
 use table_tests::input::{entry, images_of};
 
 /// Where the blocks of tables begin.
@@ -16,22 +16,26 @@ const AREA: u32 = 16;
 
 /// Tables on a device, in levels, and the jobs that merge them.
 #[derive(Drop)]
-pub(crate) struct Subject {
-    alloc: Global,
-    pub(crate) device: MemDevice,
-    pub(crate) levels: Levels,
-    pub(crate) slots: Slots,
+pub(crate) struct Subject<A: Allocator = Global> {
+    alloc: A,
+    pub(crate) device: MemDevice<A>,
+    pub(crate) levels: Levels<A>,
+    pub(crate) slots: Slots<A>,
     blocks: u32,
     tables: u32,
 }
 
 /// Entries of batch 1 with values of 2,048 bytes, so that each fills a block: so many keys of one byte, from one on.
-pub(crate) fn entries(alloc: Global, first: u8, count: u8) -> Result<Vec<Entry>, Refusal> {
+pub(crate) fn entries<A: Allocator + Clone>(
+    alloc: &A,
+    first: u8,
+    count: u8,
+) -> Result<Vec<Entry<A>, A>, Refusal> {
     let value = [7; 2_048];
-    let mut made = Vec::new(alloc);
+    let mut made = Vec::new(alloc.clone()?);
     for i in 0..count {
         let key = [first.wrapping_add(i)];
-        if let Some(entry) = entry(alloc, &key, Some(&value))? {
+        if let Some(entry) = entry(alloc.clone()?, &key, Some(&value))? {
             made.push(entry)?;
         }
     }
@@ -39,8 +43,8 @@ pub(crate) fn entries(alloc: Global, first: u8, count: u8) -> Result<Vec<Entry>,
 }
 
 /// Writes a block to the eight sectors of a place in the data area.
-pub(crate) fn write_block(
-    device: &mut MemDevice,
+pub(crate) fn write_block<D: Device>(
+    device: &mut D,
     place: u32,
     block: &[u8; 4_096],
 ) -> Result<(), Refusal> {
@@ -60,10 +64,10 @@ pub(crate) fn write_block(
 }
 
 /// Writes the blocks of a table's extent, from a place on.
-fn write_image(
-    device: &mut MemDevice,
+fn write_image<D: Device, A: Allocator>(
+    device: &mut D,
     place: u32,
-    image: &Image,
+    image: &Image<A>,
     number: u32,
 ) -> Result<(), Refusal> {
     let mut next = place;
@@ -75,7 +79,7 @@ fn write_image(
 }
 
 /// The run of one table.
-fn run_of(alloc: Global, table: PlacedTable) -> Result<Run, Refusal> {
+fn run_of<A: Allocator>(alloc: A, table: PlacedTable<A>) -> Result<Run<A>, Refusal> {
     let mut tables = Vec::new(alloc);
     tables.push(table)?;
     if !is_run(&tables) {
@@ -84,37 +88,37 @@ fn run_of(alloc: Global, table: PlacedTable) -> Result<Run, Refusal> {
     Ok(Run::from_tables(tables))
 }
 
-impl Subject {
+impl<A: Allocator + Clone> Subject<A> {
     /// Nothing, on a device of 512 sectors.
-    pub(crate) fn new(alloc: Global) -> Result<Subject, Refusal> {
+    pub(crate) fn new(alloc: A) -> Result<Subject<A>, Refusal> {
         Ok(Subject {
+            device: MemDevice::new(alloc.clone()?, 512)?,
+            levels: Levels::new(alloc.clone()?)?,
+            slots: Slots::new(alloc.clone()?)?,
             alloc,
-            device: MemDevice::new(alloc, 512)?,
-            levels: Levels::new(alloc)?,
-            slots: Slots::new(alloc)?,
             blocks: 0,
             tables: 1,
         })
     }
 
     /// The table of an image, whose blocks are written behind those of other tables.
-    fn place(&mut self, image: &Image) -> Result<PlacedTable, Refusal> {
+    fn place(&mut self, image: &Image<A>) -> Result<PlacedTable<A>, Refusal> {
         let number = self.tables;
         write_image(&mut self.device, self.blocks, image, number)?;
-        let table = PlacedTable::of_image(self.alloc, image, number as u64, self.blocks)?;
+        let table = PlacedTable::of_image(self.alloc.clone()?, image, number as u64, self.blocks)?;
         self.blocks = self.blocks.wrapping_add(table.blocks());
         self.tables = number.wrapping_add(1);
         Ok(table)
     }
 
     /// The run of a table of so many keys, from one on.
-    fn run(&mut self, first: u8, count: u8) -> Result<Run, Refusal> {
-        let images = images_of(self.alloc, entries(self.alloc, first, count)?)?;
+    fn run(&mut self, first: u8, count: u8) -> Result<Run<A>, Refusal> {
+        let images = images_of(self.alloc.clone()?, entries(&self.alloc, first, count)?)?;
         let Some(image) = images.first() else {
             return Err(Refusal::BadTable);
         };
         let table = self.place(image)?;
-        run_of(self.alloc, table)
+        run_of(self.alloc.clone()?, table)
     }
 
     /// Puts a table into level 0, as its newest run.
@@ -136,8 +140,11 @@ impl Subject {
 
     /// Takes the merge that comes next.
     pub(crate) fn take(&mut self) -> Result<Option<TakenJob>, Refusal> {
-        let cuts = one_cut(self.alloc)?;
-        self.slots.take(&self.alloc, &self.levels, None, cuts)
+        let cuts = one_cut(self.alloc.clone()?)?;
+        // Nothing waits sealed: the first of none.
+        let sealed = Vec::new(self.alloc.clone()?);
+        self.slots
+            .take(&self.alloc, &self.levels, sealed.first(), cuts)
     }
 
     /// Reads the next blocks of a job.
@@ -157,8 +164,8 @@ impl Subject {
     }
 
     /// Accepts a result for a job, whose outputs are placed behind the tables of the levels.
-    pub(crate) fn accept(&mut self, job: u64, built: &Built) -> Result<u64, Refusal> {
-        let mut extents = Extents::new(self.alloc, 60);
+    pub(crate) fn accept(&mut self, job: u64, built: &Built<A>) -> Result<u64, Refusal> {
+        let mut extents = Extents::new(self.alloc.clone()?, 60);
         if self.blocks > 0 {
             let _levels = extents.take(self.blocks)?;
         }
@@ -176,7 +183,7 @@ impl Subject {
 
 /// Four runs of level 0, the oldest of them of so many blocks from the key 10 on, and a table of one block in level 1 that it
 /// meets; job 1 merges these two.
-pub(crate) fn one_merge(alloc: Global, blocks: u8) -> Result<Subject, Refusal> {
+pub(crate) fn one_merge<A: Allocator + Clone>(alloc: A, blocks: u8) -> Result<Subject<A>, Refusal> {
     let mut subject = Subject::new(alloc)?;
     subject.add_run(0x10, blocks)?;
     for _run in 0..3 {

@@ -40,7 +40,7 @@ fn a_read_that_fails(rt: HostRuntime) -> Result<(), Fail> {
 /// Whether a step is refused with BadTable where a block is that of another place, or zeros, and goes on once it is not.
 fn is_bad(alloc: Global) -> Result<bool, Refusal> {
     let mut subject = one_merge(alloc, 10)?;
-    let images = images_of(alloc, entries(alloc, 0x10, 10)?)?;
+    let images = images_of(alloc, entries(&alloc, 0x10, 10)?)?;
     let Some(image) = images.first() else {
         return Err(Refusal::BadTable);
     };
