@@ -53,3 +53,6 @@ pub mod TableLimits
 pub mod MergeInputs
 pub mod MergeParts
 pub mod WrittenMerge
+pub mod ManifestRecords
+pub mod InstalledTablesFit
+pub mod InstalledManifests

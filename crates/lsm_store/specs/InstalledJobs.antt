@@ -1,5 +1,6 @@
 -- What jobs place, and what an install of a job's outputs makes of the tables that a manifest names.
-use Rattle.std.specs.Prelude.{◌≡◌, ℕ, zero, suc, ◌-◌, min, List, [], ◌∷◌, ◌++◌, length, map, filter, take, drop, Option, Some, None}
+use Rattle.std.specs.Prelude.{◌≡◌, ◌≢◌, ◌<◌, ℕ, zero, suc, ◌-◌, min, List, [], ◌∷◌, ◌++◌, length, map, filter, take, drop, All, Option, Some, None}
+use Rattle.lsm_codec.specs.Pairs.{Pairwise}
 use Rattle.lsm_codec.specs.Versions.{Version}
 use Rattle.lsm_codec.specs.declared.table_record.TableRecord.{TableRecord}
 use Rattle.lsm_device.specs.Disk.{Disk, seen}
@@ -47,6 +48,12 @@ pub record HasPlaced (slots : Slots) (job : ℕ) (slot : Slot) : Type 0 where
   pub behind : List PlacedTable
   pub own : placed_by slots ≡ before ++ (placed_for slot ++ behind)
   pub others : placed_by (with_held job None slots) ≡ before ++ behind
+
+-- What is placed has numbers below the next table's, and other ones than the tables and than one another.
+pub record HaveNumbers (next_table : ℕ) (p : Placement) (placed : List PlacedTable) : Type 0 where
+  pub below : All (λ x. x.table.number < next_table) placed
+  pub clear : All (λ x. All (λ t. x.table.number ≢ t.number) p.tables) placed
+  pub apart : Pairwise (λ x y. x.table.number ≢ y.table.number) placed
 
 -- sealed versions are those of the batches in the closed regions
 abbrev pub AreSealedIn : Placement → List (List ℕ) → List Version → Type 0

@@ -1,21 +1,25 @@
 // Laws of installs: what a job's outputs and the tables of the levels give of the manifest that comes next.
-ghost use Rattle.std.specs.Prelude.{◌≡◌, ◌≤◌, ℕ, ◌^◌, Bool, List, ◌++◌, length, All, Some};
+ghost use Rattle.std.specs.Prelude.{◌≡◌, ◌≤◌, ℕ, ◌+◌, ◌^◌, Bool, List, ◌++◌, length, All, Some};
 ghost use Rattle.std.specs.List.{AllByRecursion};
+ghost use Rattle.lsm_codec.specs.Manifests.{IsManifest};
 ghost use Rattle.lsm_device.specs.Disk.{Disk, seen};
 ghost use Rattle.lsm_jobs.specs.Outputs.{AreMadeOf};
 ghost use Rattle.lsm_jobs.specs.Slots.{Slot, Slots, Writing, slot_of, outputs_at};
 ghost use Rattle.lsm_levels.specs.Held.{AreRuns, IsHeld};
-ghost use Rattle.lsm_levels.specs.Levels.{Levels, places};
+ghost use Rattle.lsm_levels.specs.Levels.{Levels, all_tables, places};
 ghost use Rattle.lsm_levels.specs.Pick.{Job, Flush, Merge, installed as installed_levels};
 ghost use Rattle.lsm_levels.specs.Stored.{IsStored, AreStored};
 ghost use Rattle.lsm_levels.specs.Tables.{Table, versions_of};
 ghost use Rattle.lsm_mem.specs.Versions.{NumberedAtMost};
-ghost use Rattle.lsm_open.specs.Placements.{Placement};
+ghost use Rattle.lsm_open.specs.CrashState.{last_number};
+ghost use Rattle.lsm_open.specs.Placements.{Placement, contents_for};
 ghost use Rattle.lsm_open.specs.Switching.{AreFlushed, AreMerged};
 ghost use Rattle.lsm_open.specs.Tables.{first_data, IsTableAt};
 ghost use Rattle.lsm_open.specs.ToldTables.{records_of};
 ghost use Rattle.lsm_open.specs.Writing.{PlacedTable, tables_of};
-ghost use Rattle.lsm_store.specs.InstalledJobs.{output_records, placed_for, HasPlaced, AreSealedIn, parts_of, installed_in};
+ghost use Rattle.lsm_store.specs.InstalledJobs.{output_records, placed_for, HasPlaced, AreSealedIn, HaveNumbers, parts_of, installed_in};
+ghost use Rattle.lsm_root.specs.Layout.{LieInside};
+ghost use Rattle.lsm_store.specs.RecoveryPoints.{batch_count};
 ghost use Rattle.lsm_store.specs.State.{State};
 ghost use Rattle.lsm_store.specs.StoredTables.{IsStoredWithJobs};
 ghost use Rattle.lsm_store.specs.Work.{WorkMachine};
@@ -55,4 +59,20 @@ pub fn written_merges_are_merged()
         → IsStoredWithJobs p (xs ++ (placed_for slot ++ ys)) m.state d → records_of m.work.levels ≡ p.tables → AreStored (seen d) (first_data p.logs.log_sectors) (places m.work.levels)
         → held m job ≡ Some slot → slot.job ≡ Merge i upper lower → slot.stage ≡ Writing outputs 0 → AreMadeOf slot.input outputs → AllByRecursion (λ t. t.number ≤ 2 ^ 63) outputs
         → AreMerged p (seen d) (parts_of m.work.levels i upper) (output_records (Merge i upper lower) outputs) }
+{}
+
+/// What a next placement names after an install is a manifest, whose tables lie in the device, where it has at most 12 runs in level
+/// 0 and 1,024 tables, and numbers don't run out. The outputs' numbers are within the limits.
+pub fn installed_manifests_are_manifests()
+    ensures manifest { (m : WorkMachine) (p : Placement) (xs ys : List PlacedTable) (d : Disk) (job : ℕ) (slot : Slot) (outputs : List Table) (next_table : ℕ) → IsSound m → IsStoredWithJobs p (xs ++ (placed_for slot ++ ys)) m.state d
+        → HaveNumbers next_table p (xs ++ (placed_for slot ++ ys)) → records_of m.work.levels ≡ p.tables → length m.work.levels.runs ≡ p.runs → held m job ≡ Some slot → slot.stage ≡ Writing outputs 0 → AreMadeOf slot.input outputs
+        → p.logs.next_table ≤ next_table → next_table ≤ last_number + 1 → batch_count m.state.points ≤ last_number → m.state.generation + 1 ≤ last_number
+        → length (installed_levels m.work.levels slot.job outputs).runs ≤ 12 → length (all_tables (places (installed_levels m.work.levels slot.job outputs))) ≤ 1024
+        → IsManifest (contents_for (installed_in p d m.work.levels slot.job next_table outputs)) }
+    ensures inside { (m : WorkMachine) (p : Placement) (xs ys : List PlacedTable) (d : Disk) (job : ℕ) (slot : Slot) (outputs : List Table) (next_table : ℕ) → IsSound m → IsStoredWithJobs p (xs ++ (placed_for slot ++ ys)) m.state d
+        → HaveNumbers next_table p (xs ++ (placed_for slot ++ ys)) → records_of m.work.levels ≡ p.tables → held m job ≡ Some slot → slot.stage ≡ Writing outputs 0 → AreMadeOf slot.input outputs → p.logs.next_table ≤ next_table
+        → LieInside (length d.stands) p.logs.log_sectors (installed_in p d m.work.levels slot.job next_table outputs).tables }
+    ensures numbers { (p : Placement) (xs ys : List PlacedTable) (s : State) (d : Disk) (slot : Slot) (outputs : List Table) (next_table : ℕ) → IsStoredWithJobs p (xs ++ (placed_for slot ++ ys)) s d
+        → HaveNumbers next_table p (xs ++ (placed_for slot ++ ys)) → slot.stage ≡ Writing outputs 0 → AreMadeOf slot.input outputs → p.logs.next_table ≤ next_table → next_table ≤ last_number + 1
+        → AllByRecursion (λ t. t.number ≤ 2 ^ 63) outputs }
 {}
