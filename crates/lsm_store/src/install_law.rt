@@ -26,7 +26,8 @@ ghost use Rattle.lsm_store.specs.Work.{WorkMachine};
 ghost use Rattle.lsm_store.specs.WorkRefusals.{held};
 ghost use Rattle.lsm_store.specs.WorkSound.{IsSound};
 
-/// The outputs of a job whose blocks are all written stand: in the levels, and each for its record in the manifest that comes next.
+/// The outputs of a job whose blocks are all written stand: in the levels, and each for its record in the manifest that
+/// comes next.
 pub fn written_outputs_stand()
     ensures placed { (slots : Slots) (job : ℕ) (slot : Slot) → slot_of job slots ≡ Some slot → HasPlaced slots job slot }
     ensures records { (slot : Slot) → tables_of (placed_for slot) ≡ output_records slot.job (outputs_at slot.stage) }
@@ -61,8 +62,8 @@ pub fn written_merges_are_merged()
         → AreMerged p (seen d) (parts_of m.work.levels i upper) (output_records (Merge i upper lower) outputs) }
 {}
 
-/// What a next placement names after an install is a manifest, whose tables lie in the device, where it has at most 12 runs in level
-/// 0 and 1,024 tables, and numbers don't run out. The outputs' numbers are within the limits.
+/// What a next placement names after an install is a manifest, whose tables lie in the device, where it has at most 12
+/// runs in level 0 and 1,024 tables, and numbers don't run out. The outputs' numbers are within the limits.
 pub fn installed_manifests_are_manifests()
     ensures manifest { (m : WorkMachine) (p : Placement) (xs ys : List PlacedTable) (d : Disk) (job : ℕ) (slot : Slot) (outputs : List Table) (next_table : ℕ) → IsSound m → IsStoredWithJobs p (xs ++ (placed_for slot ++ ys)) m.state d
         → HaveNumbers next_table p (xs ++ (placed_for slot ++ ys)) → records_of m.work.levels ≡ p.tables → length m.work.levels.runs ≡ p.runs → held m job ≡ Some slot → slot.stage ≡ Writing outputs 0 → AreMadeOf slot.input outputs

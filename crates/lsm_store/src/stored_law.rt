@@ -92,9 +92,10 @@ pub fn free_writes_keep_tables()
     ensures extents { (p : Placement) (d : Disk) (writes : List Write) → All (IsFreeWrite p) writes → KeepsExtents p d (grown writes d) }
 {}
 
-/// The next generation may be installed, and an installation of a placement in which a store may go on leaves at each moment what the state before it may leave, or the
-/// present map of the state after it, also where a fault ended it; and after it the store runs in that placement and state.
-/// Reads give what they gave in all extents. The map that a read asks stays, whatever it asks.
+/// The next generation may be installed. An installation of a placement in which a store may go on leaves at each moment
+/// what the state before it may leave, or the present map of the state after it, also where a fault ended it; and after
+/// it the store runs in that placement and state. Reads give what they gave in all extents. The map that a read asks
+/// stays, whatever it asks.
 pub fn installs_keep_tables()
     ensures ready { (p : Placement) (s : State) (d : Disk) → IsStoredIn p s d → IsReady (length d.stands) p.logs.log_sectors (p.logs.generation + 1) d }
     ensures moments { (p q : Placement) (s t : State) (old new : List Disk) → IsStoredIn p s (present old) → q.logs.log_sectors ≡ p.logs.log_sectors → MayGoOn q t (present old)
