@@ -53,6 +53,7 @@ no_begin = record {
     device = zeroed 0;
     state = reopened 0 (record { count = 0; map = finite.empty; closed = 0; generation = 0 });
     layout = record { log_sectors = 0; generation = 0; base = 0; next_table = 0; closed = []; open_region = None };
+    memory = [];
   };
   limit = 0;
   clients = 0;
