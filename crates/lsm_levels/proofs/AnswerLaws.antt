@@ -1,5 +1,5 @@
 -- What a look-up of memory, sealed memory and runs comes to, whatever it answers.
-use Rattle.std.proofs.Common.{◌≡◌, ◌⊎◌, inl, inr, ⊎_elim, ℕ, List, length, IsTrue, Option, Some, None, Result, Ok, Err, refl, ap, sym, subst, ◌∙◌}
+use Rattle.std.proofs.Common.{◌≡◌, ◌⊎◌, inl, inr, ⊎_elim, ℕ, true, is_some, List, length, IsTrue, Option, Some, None, Result, Ok, Err, refl, ap, sym, subst, ◌∙◌}
 use Rattle.std.specs.Prelude.{IfErr, MatchResult, Vec, option_map}
 use Rattle.std.specs.Option.{option_or}
 use Rattle.std.specs.List.{AllByRecursion}
@@ -108,6 +108,7 @@ module _ {Z : Type 0} (memory sealed : List Version) (runs : List (List Table)) 
 
   pub look_answers : (result : Result (Option (Vec ℕ Z)) Refusal) (old new : Source) → IsLookUp memory sealed runs area key n (answer_of result) old new
       → (place : BlockName → Option ℕ) → AllByRecursion IsRun runs → IsReadable place area runs old → IsVersionOrder (versions_at memory sealed runs)
-      → MatchResult result (λ value. option_map (λ v. v.items) value ≡ finite.get (map_of (joined (versions_at memory sealed runs)) n) key) (λ refusal. (refusal ≡ Io) ⊎ (refusal ≡ NoMemory))
+      → MatchResult result (λ value. option_map (λ v. v.items) value ≡ finite.get (map_of (joined (versions_at memory sealed runs)) n) key)
+      (λ refusal. (refusal ≡ Io) ⊎ ((refusal ≡ NoMemory) × (is_some (finite.get (map_of (joined (versions_at memory sealed runs)) n) key) ≡ true)))
   look_answers (Ok value) old new look place r readable order = value_found place memory sealed runs area key n r (option_map (λ v. v.items) value) old new look readable order
-  look_answers (Err e) old new look place r readable order = refusal_found place memory sealed runs area key n r e old new look readable
+  look_answers (Err e) old new look place r readable order = refusal_found place memory sealed runs area key n r e old new look readable order

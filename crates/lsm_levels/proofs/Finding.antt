@@ -83,45 +83,52 @@ or_both None b c = refl
 or_both (Some v) b c = refl
 
 module _ (place : BlockName → Option ℕ) (memory sealed : List Version) (runs : List (List Table)) (area : ℕ) (key : Bytes) (n : ℕ) (r : AllByRecursion IsRun runs) where
-  found_is : (answer : Result (Option Bytes) Refusal) (old new : Source) → (look : IsLookUp memory sealed runs area key n answer old new) → IsReadable place area runs old
-      → Finds look.found (option_or (option_or (newest key n memory) (newest key n sealed)) (first_found key n runs))
-  found_is answer old new look s =
-      unless_finds place (seen (disk old.medium)) area key n (option_or (newest key n memory) (newest key n sealed)) runs r s.stored s.placed look.found old new (s.tells, refl, s.fresh) look.looks
+  -- the newest version in all places
+  abbrev newest_of_all : Option Version
+  newest_of_all = newest key n (joined (versions_at memory sealed runs))
+
+  -- its value is that of the map
+  value_of_all : value_of newest_of_all ≡ finite.get (map_of (joined (versions_at memory sealed runs)) n) key
+  value_of_all = value-from_newest (joined (versions_at memory sealed runs)) n key newest_of_all refl
+
+  found_is : (answer : Result (Option Bytes) Refusal) (old new : Source) → (look : IsLookUp memory sealed runs area key n answer old new) → IsReadable place area runs old → IsVersionOrder (versions_at memory sealed runs)
+      → Finds look.found newest_of_all
+  found_is answer old new look s order =
+      let all : option_or (option_or (newest key n memory) (newest key n sealed)) (first_found key n runs) ≡ newest_of_all =
+      or_both (newest key n memory) (newest key n sealed) (first_found key n runs)
+      ∙ ap (λ (o : Option Version). option_or (newest key n memory) (option_or (newest key n sealed) o)) (first_newest key n runs order.1.1)
+      ∙ ap (option_or (newest key n memory)) (sym (newest_place key n sealed (map versions_of runs) order.1))
+      ∙ sym (newest_place key n memory (sealed ∷ map versions_of runs) order) in
+      subst (Finds look.found) all
+      (unless_finds place (seen (disk old.medium)) area key n (option_or (newest key n memory) (newest key n sealed)) runs r s.stored s.placed look.found old new (s.tells, refl, s.fresh) look.looks)
 
   -- the value of the map
   pub value_found : (value : Option Bytes) (old new : Source) → IsLookUp memory sealed runs area key n (Ok value) old new → IsReadable place area runs old → IsVersionOrder (versions_at memory sealed runs)
       → value ≡ finite.get (map_of (joined (versions_at memory sealed runs)) n) key
   value_found value old new look s order =
-      let all : option_or (option_or (newest key n memory) (newest key n sealed)) (first_found key n runs) ≡ newest key n (joined (versions_at memory sealed runs)) =
-      or_both (newest key n memory) (newest key n sealed) (first_found key n runs)
-      ∙ ap (λ (o : Option Version). option_or (newest key n memory) (option_or (newest key n sealed) o)) (first_newest key n runs order.1.1)
-      ∙ ap (option_or (newest key n memory)) (sym (newest_place key n sealed (map versions_of runs) order.1))
-      ∙ sym (newest_place key n memory (sealed ∷ map versions_of runs) order) in
       ⊎_elim
       (λ (io : look.found ≡ Err Io). absurd (let no : Ok value ≡ Err Io = subst (λ (f : Outcome). CopiesFound f (Ok value)) io look.answers in cc))
-      (λ (is : look.found ≡ Ok (option_or (option_or (newest key n memory) (newest key n sealed)) (first_found key n runs))).
-      let told = subst (λ (f : Outcome). CopiesFound f (Ok value)) (is ∙ ap (λ (o : Option Version). Ok o) all) look.answers in
+      (λ (is : look.found ≡ Ok newest_of_all).
       ⊎_elim
-      (λ (e : Ok value ≡ Ok (value_of (newest key n (joined (versions_at memory sealed runs))))).
-      let same : value ≡ value_of (newest key n (joined (versions_at memory sealed runs))) = cc in
-      same ∙ value-from_newest (joined (versions_at memory sealed runs)) n key (newest key n (joined (versions_at memory sealed runs))) refl)
-      (λ (e : (Ok value ≡ Err NoMemory) × (is_some (value_of (newest key n (joined (versions_at memory sealed runs)))) ≡ true)). absurd (let no : Ok value ≡ Err NoMemory = e.0 in cc))
-      told)
-      (found_is (Ok value) old new look s)
+      (λ (e : Ok value ≡ Ok (value_of newest_of_all)). let same : value ≡ value_of newest_of_all = cc in same ∙ value_of_all)
+      (λ (e : (Ok value ≡ Err NoMemory) × (is_some (value_of newest_of_all) ≡ true)). absurd (let no : Ok value ≡ Err NoMemory = e.0 in cc))
+      (subst (λ (f : Outcome). CopiesFound f (Ok value)) is look.answers))
+      (found_is (Ok value) old new look s order)
 
-  -- or a read faulted, or memory was refused
-  pub refusal_found : (e : Refusal) (old new : Source) → IsLookUp memory sealed runs area key n (Err e) old new → IsReadable place area runs old → (e ≡ Io) ⊎ (e ≡ NoMemory)
-  refusal_found e old new look s =
+  -- or a read faulted, or memory was refused for the copy of a value that the map has
+  pub refusal_found : (e : Refusal) (old new : Source) → IsLookUp memory sealed runs area key n (Err e) old new → IsReadable place area runs old → IsVersionOrder (versions_at memory sealed runs)
+      → (e ≡ Io) ⊎ ((e ≡ NoMemory) × (is_some (finite.get (map_of (joined (versions_at memory sealed runs)) n) key) ≡ true))
+  refusal_found e old new look s order =
       ⊎_elim
       (λ (io : look.found ≡ Err Io).
       inl (same_refusal e Io (no_answer e) refl (subst (λ (f : Outcome). CopiesFound f (Err e)) io look.answers)))
-      (λ (is : look.found ≡ Ok (option_or (option_or (newest key n memory) (newest key n sealed)) (first_found key n runs))).
+      (λ (is : look.found ≡ Ok newest_of_all).
       ⊎_elim
-      (λ (k : Err e ≡ Ok (value_of (option_or (option_or (newest key n memory) (newest key n sealed)) (first_found key n runs)))). absurd cc)
-      (λ (k : (Err e ≡ Err NoMemory) × (is_some (value_of (option_or (option_or (newest key n memory) (newest key n sealed)) (first_found key n runs))) ≡ true)).
-      inr (same_refusal e NoMemory (no_answer e) refl k.0))
+      (λ (k : Err e ≡ Ok (value_of newest_of_all)). absurd cc)
+      (λ (k : (Err e ≡ Err NoMemory) × (is_some (value_of newest_of_all) ≡ true)).
+      inr (same_refusal e NoMemory (no_answer e) refl k.0, ap (λ (o : Option Bytes). is_some o) (sym value_of_all) ∙ k.1))
       (subst (λ (f : Outcome). CopiesFound f (Err e)) is look.answers))
-      (found_is (Err e) old new look s)
+      (found_is (Err e) old new look s order)
 
 -- ---- where a look-up ends
 

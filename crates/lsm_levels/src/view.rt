@@ -1,6 +1,6 @@
 //! What is read of a store.
 
-ghost use Rattle.std.specs.Prelude.{◌≡◌, ◌⊎◌, ◌↔◌, ◌*◌, ℕ, [], length, map, Option, Some, None, IsTrue, IfOk, IfErr, OnOk, MatchResult, option_map};
+ghost use Rattle.std.specs.Prelude.{◌≡◌, ◌⊎◌, ◌↔◌, ◌*◌, ℕ, true, is_some, [], length, map, Option, Some, None, IsTrue, IfOk, IfErr, OnOk, MatchResult, option_map};
 ghost use Rattle.std.specs.List.{AllByRecursion};
 ghost use Rattle.std.specs.Option.{option_or};
 ghost use Rattle.std.specs.FinMap as finite;
@@ -119,12 +119,13 @@ impl<'a, A: Allocator + Clone> ReadView<'a, A> {
             (record { cache = cache.old; medium = D.medium device.old }) (record { cache = cache.new; medium = D.medium device.new }) }
 
         // Where the tables stand, and the blocks of the cache are those of the device, the answer is that of the map, unless a
-        // read faults or memory is refused.
+        // read faults, or the key has a value and memory for its copy is refused.
         ensures answers { (place : Name → Option ℕ) → IsReadable place self.now.area (places self.now.levels.now) (record { cache = cache.old; medium = D.medium device.old })
             → IsVersionOrder (versions_at self.now.mem.now (sealed_versions self.now.sealed) (places self.now.levels.now))
             → MatchResult result (λ value. option_map (λ v. v.items) value
             ≡ finite.get (map_of (joined (versions_at self.now.mem.now (sealed_versions self.now.sealed) (places self.now.levels.now))) at) key.now)
-            (λ refusal. (refusal ≡ Io) ⊎ (refusal ≡ NoMemory)) }
+            (λ refusal. (refusal ≡ Io) ⊎ ((refusal ≡ NoMemory)
+            × (is_some (finite.get (map_of (joined (versions_at self.now.mem.now (sealed_versions self.now.sealed) (places self.now.levels.now))) at) key.now) ≡ true))) }
 
         // The blocks of the cache go on to be those of the device, of tables with numbers below any that all have been below.
         ensures fresh { (place : Name → Option ℕ) → IsTrue (D.medium device.old).lasting.tells
