@@ -54,7 +54,7 @@ StandForSome log_sectors P sectors = (left : CrashState) × P left × StandFor l
 
 -- ---- what openings serve
 
--- The root that an opening goes by. One whose manifest names a table is as good as unreadable: no store serves tables yet.
+-- The root that `recover` goes by. One whose manifest names a table is as good as unreadable: that opening serves none.
 abbrev pub served : Root → Root
 served Missing = Missing
 served Damaged = Damaged

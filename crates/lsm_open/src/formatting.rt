@@ -10,7 +10,7 @@ ghost use Rattle.lsm_root.specs.Counted.{CallsMade};
 ghost use Rattle.lsm_root.specs.Layout.{IsDeviceSize, IsGeometry};
 ghost use Rattle.lsm_device.specs.Outcomes.{Leaves};
 ghost use Rattle.lsm_open.specs.CrashState.{formatted as empty_store};
-ghost use Rattle.lsm_open.specs.Image.{IsImage};
+ghost use Rattle.lsm_open.specs.Image.{StandFor};
 ghost use Rattle.lsm_open.specs.Formatted.{empty_manifest, IsFormatted, handed_back, without_device};
 
 use lsm_codec::Manifest;
@@ -131,7 +131,7 @@ pub fn format<A: Allocator + Clone, D: Device>(
     ensures formatted { IsTrue (D.medium device).lasting.tells → IfOk result (λ made. IsFormatted log_sectors (disk (D.medium made))) }
 
     // So a crash leaves the empty store of generation 1.
-    ensures leaves { IsTrue (D.medium device).lasting.tells → IfOk result (λ made. Leaves (IsImage log_sectors empty_store) (disk (D.medium made))) }
+    ensures leaves { IsTrue (D.medium device).lasting.tells → IfOk result (λ made. Leaves (StandFor log_sectors empty_store) (disk (D.medium made))) }
     ensures bad_geometry { (without_device result ≡ Err Refusal.BadGeometry) ↔ (IsGeometry (D.medium device).size log_sectors → ⊥) }
 
     // Only a device call that failed refuses once the device was called: all memory is taken before.

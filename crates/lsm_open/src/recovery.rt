@@ -49,7 +49,7 @@ struct Parts<A: Allocator> {
     count: u64,
 }
 
-// Loads the root that an opening goes by. A manifest that names a table is refused: no store serves tables yet.
+// Loads the root that this opening goes by. A manifest that names a table is refused: it serves none.
 fn load_served<A: Allocator + Clone, D: Device>(
     alloc: A,
     device: &mut D,
@@ -175,8 +175,8 @@ fn recover_parts<A: Allocator + Clone, D: Device>(
 ///
 /// It is refused with `BadGeometry` before any device call where the device has fewer than 8,192 sectors or more than
 /// 1,048,576; with `NotAStore`, `BadSuper`, `BadGeometry` or `BadManifest` as the root says; with `BadManifest` where its
-/// manifest names a table, since no store serves tables yet, or a region's first batch is not the next one; with `Exhausted` in the last generation; with `NoMemory`; and with `Io` where
-/// a device call failed, which was its last.
+/// manifest names a table, which this opening doesn't serve, or a region's first batch is not the next one; with
+/// `Exhausted` in the last generation; with `NoMemory`; and with `Io` where a device call failed, which was its last.
 pub fn recover<A: Allocator + Clone, D: Device>(
     alloc: A,
     device: D,

@@ -3,6 +3,7 @@ ghost use Rattle.std.specs.Prelude.{◌≡◌, ◌≤◌, ◌+◌, ◌*◌, leng
 ghost use Rattle.lsm_open.specs.LogRegions.{first_region, region_start};
 ghost use Rattle.lsm_open.specs.Layout.{record_of, layout_of};
 ghost use Rattle.lsm_open.specs.Placements.{contents_for};
+ghost use Rattle.lsm_open.specs.Tables.{first_data};
 
 use lsm_codec::{LogRecord, Manifest, TableRecord};
 use lsm_log::Log;
@@ -52,6 +53,15 @@ impl OpenRegion {
             epoch: self.log.epoch(),
             first_batch: self.log.first(),
         }
+    }
+}
+
+impl<A: Allocator> Regions<A> {
+    /// The first sector of the data area, behind the log regions.
+    pub fn data_start(&self) -> u32
+        ensures { result ≡ first_data self.now.log_sectors }
+    {
+        region_start(self.log_sectors, 3)
     }
 }
 
