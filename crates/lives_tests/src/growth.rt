@@ -73,13 +73,21 @@ fn reached_on(alloc: Global, size: usize) -> Result<Reach, Fail> {
     reach_of(&heap, device, &[life])
 }
 
+// Sizes of heaps: at first for the life and its replies, and then for a store, which takes a cache.
+fn heap_size(step: usize) -> usize {
+    if step < 40 {
+        return 512usize.saturating_add(step.saturating_mul(64));
+    }
+    step.saturating_sub(38).saturating_mul(2_048)
+}
+
 #[test]
 fn without_a_place_for_the_replies_nothing_is_done(rt: HostRuntime) -> Result<(), Fail> {
     let mut refused = false;
     let mut led = false;
     let mut served = false;
     for step in 0..60usize {
-        match reached_on(rt.alloc(), 512 + step * 64)? {
+        match reached_on(rt.alloc(), heap_size(step))? {
             Reach::Unmade => {}
             Reach::Refused => refused = true,
             Reach::Led => led = true,

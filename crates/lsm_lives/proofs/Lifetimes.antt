@@ -9,7 +9,8 @@ use Rattle.lsm_device.specs.Medium.{Medium, disk}
 use Rattle.lsm_device.specs.Outcomes.{Leaves}
 use Rattle.lsm_device.proofs.Outcomes.{seen_outcome}
 use Rattle.lsm_open.specs.CrashState.{CrashState}
-use Rattle.lsm_open.specs.Image.{IsImage, IsImageOfOne}
+use Rattle.lsm_open.specs.Image.{StandFor}
+use Rattle.lsm_open.specs.RecoveredTables.{StandForOne}
 use Rattle.lsm_store.specs.Backing.{StoreView, IsBacked}
 use Rattle.lsm_store.specs.Calls.{Reply}
 use Rattle.lsm_store.specs.Crash.{may_leave, last_crash_state}
@@ -109,9 +110,9 @@ lives_led (life ∷ lives) before [] after led log_sectors opened others holds =
 -- ---- in the words of batches
 
 -- a device of which every crash leaves the same
-pub at_rest_holds : (log_sectors : ℕ) (opened : CrashState) (d : Disk) → Leaves (IsImage log_sectors opened) d → Holds log_sectors opened [] d
+pub at_rest_holds : (log_sectors : ℕ) (opened : CrashState) (d : Disk) → Leaves (StandFor log_sectors opened) d → Holds log_sectors opened [] d
 at_rest_holds log_sectors opened d leaves = record {
-  reads = subst (IsImage log_sectors opened) (seen_outcome d) (leaves (replicate (length d.pending) true));
+  reads = subst (StandFor log_sectors opened) (seen_outcome d) (leaves (replicate (length d.pending) true));
   crashes = λ mask. inl (leaves mask);
 }
 
@@ -122,10 +123,10 @@ running_holds s backed runs = record { reads = backed.reads runs; crashes = λ m
 pub stopped_holds : (s : StoreView) → IsBacked s → (left : CrashState) × Contains (may_leave s.state) left × Holds s.state.log_sectors left (may_leave s.state) (disk s.device)
 stopped_holds s backed =
     let d = disk s.device in
-    let read = subst (IsImageOfOne s.state.log_sectors (may_leave s.state)) (seen_outcome d) (backed.crashes (replicate (length d.pending) true)) in
+    let read = subst (StandForOne s.state.log_sectors (may_leave s.state)) (seen_outcome d) (backed.crashes (replicate (length d.pending) true)) in
     (read.0, read.1, record { reads = read.2; crashes = λ mask. inr (backed.crashes mask) })
 
-one_alone : (log_sectors : ℕ) (left : CrashState) (sectors : List (List ℕ)) → IsImage log_sectors left sectors ⊎ IsImageOfOne log_sectors [] sectors → IsImage log_sectors left sectors
+one_alone : (log_sectors : ℕ) (left : CrashState) (sectors : List (List ℕ)) → StandFor log_sectors left sectors ⊎ StandForOne log_sectors [] sectors → StandFor log_sectors left sectors
 one_alone log_sectors left sectors (inl is) = is
 one_alone log_sectors left sectors (inr (other, found, is)) = absurd (omega (arith, found.1))
 
@@ -148,7 +149,7 @@ steps_of-life [] = refl
 steps_of-life (life ∷ lives) = ap (λ (rest : List (List Step)). map step_of life.steps.items ∷ rest) (steps_of-life lives)
 
 pub led_keep_promise : {A : Type 0} (lives : List (Given A)) (before : Medium) (replies : List (List Reply)) (after : Medium) → AreLed (map life_of lives) before replies after
-    → (log_sectors : ℕ) (batches : List (List Operation)) (opened : CrashState) → IsAfter batches opened → Leaves (IsImage log_sectors opened) (disk before)
+    → (log_sectors : ℕ) (batches : List (List Operation)) (opened : CrashState) → IsAfter batches opened → Leaves (StandFor log_sectors opened) (disk before)
     → KeepPromise log_sectors batches opened (steps_of lives) replies (disk after)
 led_keep_promise {A} lives before replies after led log_sectors batches opened was leaves =
     subst (λ (steps : List (List Step)). KeepPromise log_sectors batches opened steps replies (disk after)) (steps_of-life lives)

@@ -9,8 +9,8 @@ use Rattle.lsm_device.specs.Medium.{Medium, disk}
 use Rattle.lsm_device.specs.Outcomes.{Leaves}
 use Rattle.lsm_device.proofs.Moments.{ended}
 use Rattle.lsm_open.specs.CrashState.{CrashState, left_by_opening}
-use Rattle.lsm_open.specs.Image.{IsImage, IsImageOfOne}
-use Rattle.lsm_open.specs.Opening.{FailsToOpen, CrashesInOpening}
+use Rattle.lsm_open.specs.Image.{StandFor}
+use Rattle.lsm_open.specs.RecoveredTables.{StandForOne, FailsWithTables, CrashesWithTables}
 use Rattle.lsm_open.proofs.Openings.{same_again}
 use Rattle.lsm_store.specs.Backing.{StoreView, machine_of}
 use Rattle.lsm_store.specs.Calls.{Reply}
@@ -36,39 +36,39 @@ disk-with_fuse (Some n) m = refl
 record Ends (log_sectors : ℕ) (opened : CrashState) (others : List CrashState) (steps : List Step) (replies : List Reply) (d : Disk) : Type 0 where
   machine : Machine
   answered : IsAnswered log_sectors opened machine steps replies
-  crashes : Leaves (IsImageOfOne log_sectors (left_by_life opened others machine steps replies)) d
+  crashes : Leaves (StandForOne log_sectors (left_by_life opened others machine steps replies)) d
 
 module _ (log_sectors : ℕ) (opened : CrashState) (others : List CrashState) where
   abbrev IsLeft : List (List ℕ) → Type 0
-  IsLeft sectors = IsImageOfOne log_sectors (others ++ left_by_opening opened) sectors
+  IsLeft sectors = StandForOne log_sectors (others ++ left_by_opening opened) sectors
 
   -- what the device held may be left
-  of_held : (sectors : List (List ℕ)) → IsImage log_sectors opened sectors ⊎ IsImageOfOne log_sectors others sectors → IsLeft sectors
+  of_held : (sectors : List (List ℕ)) → StandFor log_sectors opened sectors ⊎ StandForOne log_sectors others sectors → IsLeft sectors
   of_held sectors (inl same) = (opened, Contains-append_right others (left_by_opening opened) opened (same_again opened), same)
   of_held sectors (inr (left, found, is)) = (left, Contains-append_left others (left_by_opening opened) left found, is)
 
   -- a device whose opening was refused
-  refused : (before after : Medium) (refusal : Refusal) → Holds log_sectors opened others (disk before) → FailsToOpen before log_sectors opened refusal after → Leaves IsLeft (disk after)
+  refused : (before after : Medium) (refusal : Refusal) → Holds log_sectors opened others (disk before) → FailsWithTables before log_sectors opened refusal after → Leaves IsLeft (disk after)
   refused before after refusal holds fails = by fails.crash
     where
       untouched : Leaves IsLeft (disk before)
       untouched = λ mask. of_held (image mask (disk before)) (holds.crashes mask)
 
-      by : (after.history ≡ before.history) ⊎ CrashesInOpening before log_sectors opened after → Leaves IsLeft (disk after)
+      by : (after.history ≡ before.history) ⊎ CrashesWithTables before log_sectors opened after → Leaves IsLeft (disk after)
       by (inl same) = subst (λ (h : List Disk). Leaves IsLeft (present h)) (sym same) untouched
       by (inr crashes) = λ mask.
-          let found = ended (Leaves (IsImageOfOne log_sectors (left_by_opening opened))) crashes.synced_history after.history crashes.crash mask in
+          let found = ended (Leaves (StandForOne log_sectors (left_by_opening opened))) crashes.synced_history after.history crashes.crash mask in
           (found.0, Contains-append_right others (left_by_opening opened) found.0 found.1, found.2)
 
   -- at the end of a life whose opening answered this store
   module _ (before : Medium) (s new : StoreView) (opens : OpensTo before log_sectors opened s) (steps : List Step) (more : List Reply) (runs : GoOn s steps more new) where
     Left : ℕ → State → Type 0
-    Left n t = Leaves (IsImageOfOne n (may_leave t)) (disk new.device)
+    Left n t = Leaves (StandForOne n (may_leave t)) (disk new.device)
 
     same_sectors : new.state.log_sectors ≡ log_sectors
     same_sectors =
         one_format new.state.log_sectors s.state.log_sectors (may_leave new.state) (left_in_run (machine_of s) steps more) (disk new.device) (runs.backed opens.backed).crashes
-        (ended (Leaves (IsImageOfOne s.state.log_sectors (left_in_run (machine_of s) steps more))) s.device.history new.device.history (runs.crash opens.backed))
+        (ended (Leaves (StandForOne s.state.log_sectors (left_in_run (machine_of s) steps more))) s.device.history new.device.history (runs.crash opens.backed))
         ∙ ap (λ (t : State). t.log_sectors) opens.state
 
     left : Left log_sectors (last_machine (machine_of s) steps more).state

@@ -10,8 +10,9 @@ use Rattle.lsm_device.specs.History.{Becomes}
 use Rattle.lsm_device.specs.Medium.{Medium, Lasting, KeepsFuse, disk}
 use Rattle.lsm_device.specs.Refusals.{is_no_fault}
 use Rattle.lsm_open.specs.CrashState.{CrashState}
-use Rattle.lsm_open.specs.Image.{IsImage}
-use Rattle.lsm_open.specs.Opening.{opening_refusal, BeginsWithSync, FailsToOpen}
+use Rattle.lsm_open.specs.Image.{StandFor}
+use Rattle.lsm_open.specs.OpeningTables.{table_refusal}
+use Rattle.lsm_open.specs.RecoveredTables.{BeginsTablesWithSync, FailsWithTables}
 use Rattle.lsm_root.specs.Layout.{IsDeviceSize}
 use Rattle.lsm_open.proofs.Openings.{same_again}
 use Rattle.lsm_store.specs.Backing.{StoreView}
@@ -20,7 +21,7 @@ use Rattle.lsm_store.specs.Calls.{Number, Done, Value, Rows, Refused}
 use Rattle.lsm_store.specs.Lives.{all_stopped}
 use Rattle.lsm_store.specs.Machine.{Step}
 use Rattle.lsm_store.specs.RecoveryPoints.{batch_count}
-use Rattle.lsm_store.specs.Serving.{OpensTo, ReopensTo}
+use Rattle.lsm_store.specs.Serving.{OpensTo, ReopensTo, IsUncalled, IsRefusedBehindSync}
 use Rattle.lsm_lives.specs.Leading.{BeginsOn, FailsOn, IsLed, with_fuse}
 use Rattle.lsm_lives.specs.Replaying.{Replays}
 use Rattle.lsm_lives.proofs.Steps.{go_on}
@@ -64,23 +65,22 @@ module _ {X : Type 0} (medium : X → Medium) (start : X) where
   failed (Err e) = e
 
   -- what an opening answers
-  pub opening : (r : Result StoreView (Refusal × X))
-      → ((IsDeviceSize began.size → ⊥) → r ≡ Err (BadGeometry, start))
-      → (IsDeviceSize began.size → MatchResult r (λ s. opening_refusal held ≡ None) (λ e. (opening_refusal held ≡ Some e.0) ⊎ ((e.0 ≡ NoMemory) ⊎ (e.0 ≡ Io))))
+  pub opening : IsTrue (medium start).lasting.tells → (r : Result StoreView (Refusal × X))
+      → ((IsDeviceSize began.size → ⊥) → (r ≡ Err (BadGeometry, start)) ⊎ (r ≡ Err (NoMemory, start)))
+      → (IsDeviceSize began.size → MatchResult r (λ s. table_refusal held ≡ None) (λ e. (table_refusal held ≡ Some e.0) ⊎ ((e.0 ≡ NoMemory) ⊎ (e.0 ≡ Io))))
       → IfOk r (λ s. ReopensTo began s)
-      → ((log_sectors : ℕ) (left : CrashState) → IsImage log_sectors left held → IfOk r (λ s. OpensTo began log_sectors left s))
-      → ((log_sectors : ℕ) (left : CrashState) → IsImage log_sectors left held → IfErr r (λ e. FailsToOpen began log_sectors left e.0 (medium e.1)))
+      → ((log_sectors : ℕ) (left : CrashState) → StandFor log_sectors left held → IfOk r (λ s. OpensTo began log_sectors left s))
+      → ((log_sectors : ℕ) (left : CrashState) → StandFor log_sectors left held → IfErr r (λ e. FailsWithTables began log_sectors left e.0 (medium e.1)))
       → MatchResult r (λ s. s.device.calls.faults ≡ began.calls.faults) (λ e. (medium e.1).calls.faults ≡ faults_after (is_no_fault e.0) began.calls.faults)
-      → IfOk r (λ s. AtMost 6210 38 3 began.calls s.device.calls)
-      → (IsDeviceSize began.size → MatchResult r (λ s. BeginsWithSync began.calls s.device.calls) (λ e. BeginsWithSync began.calls (medium e.1).calls))
-      → IfErr r (λ e. IsTrue (is_no_fault e.0) → AtMost 6210 0 1 began.calls (medium e.1).calls)
-      → (IsDeviceSize began.size → IfErr r (λ e. IsTrue (is_no_fault e.0) → Becomes (synced (disk began)) began.history (medium e.1).history))
+      → IfOk r (λ s. AtMost 63554 38 3 began.calls s.device.calls)
+      → (IsDeviceSize began.size → MatchResult r (λ s. BeginsTablesWithSync began.calls s.device.calls) (λ e. IsUncalled e.0 began (medium e.1) ⊎ IsRefusedBehindSync began e.0 (medium e.1)))
       → MatchResult r (λ s. s.device.size ≡ began.size) (λ e. (medium e.1).size ≡ began.size)
       → MatchResult r (λ s. s.device.lasting ≡ began.lasting) (λ e. (medium e.1).lasting ≡ began.lasting)
       → MatchResult r (λ s. BeginsOn began s) (λ e. FailsOn began e.0 (medium e.1))
   unfolding failed
-  opening (Ok s) size refusal reopens opens fails faults calls begins unwritten settled same_size lasting =
-      let fits = sized began.size (λ other. subst (λ (r : Result StoreView (Refusal × X)). MatchResult r (λ _. Unit {0}) (λ _. ⊥)) (size other) tt) in
+  opening tells (Ok s) size refusal reopens opens fails faults calls called same_size lasting =
+      let none : (e : Refusal × X) → Ok s ≡ Err e → ⊥ = λ e is. subst (λ (r : Result StoreView (Refusal × X)). MatchResult r (λ _. Unit {0}) (λ _. ⊥)) is tt in
+      let fits = sized began.size (λ other. ⊎_elim (none (BadGeometry, start)) (none (NoMemory, start)) (size other)) in
       record {
         size = fits;
         unrefused = refusal fits;
@@ -91,12 +91,12 @@ module _ {X : Type 0} (medium : X → Medium) (start : X) where
         same_size = same_size;
         same_lasting = lasting;
       }
-  opening (Err e) size refusal reopens opens fails faults calls begins unwritten settled same_size lasting = record {
-    size = λ other. inr (ap (λ (r : Result StoreView (Refusal × X)). (failed r).0) (size other));
+  opening tells (Err e) size refusal reopens opens fails faults calls called same_size lasting = record {
+    size = λ other. ⊎_elim (λ (is : Err e ≡ Err (BadGeometry, start)). inr (ap (λ (r : Result StoreView (Refusal × X)). (failed r).0) is)) (λ (is : Err e ≡ Err (NoMemory, start)). inl (ap (λ (r : Result StoreView (Refusal × X)). (failed r).0) is)) (size other);
     reason = refusal;
     fault = faults;
-    called = ⊎_elim (λ fits. inr (record { size = fits; begins = begins fits; unwritten = unwritten; settled = settled fits }))
-        (λ other. inl (ap (λ (r : Result StoreView (Refusal × X)). medium (failed r).1) (size other))) (sized_or_not began.size);
+    called = ⊎_elim (λ fits. ⊎_elim (λ uncalled. inl uncalled.1) (λ behind. inr (record { size = fits; begins = behind.begins; unwritten = behind.unwritten; settled = behind.settled tells })) (called fits))
+        (λ other. inl (⊎_elim (λ (is : Err e ≡ Err (BadGeometry, start)). ap (λ (r : Result StoreView (Refusal × X)). medium (failed r).1) is) (λ (is : Err e ≡ Err (NoMemory, start)). ap (λ (r : Result StoreView (Refusal × X)). medium (failed r).1) is) (size other))) (sized_or_not began.size);
     fails = fails;
     same_size = same_size;
     same_lasting = lasting;

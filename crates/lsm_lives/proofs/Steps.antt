@@ -10,7 +10,7 @@ use Rattle.lsm_device.specs.Medium.{disk}
 use Rattle.lsm_device.specs.Outcomes.{Leaves}
 use Rattle.lsm_device.proofs.Moments.{started, joined, weaker, ended}
 use Rattle.lsm_open.specs.CrashState.{CrashState}
-use Rattle.lsm_open.specs.Image.{IsImageOfOne}
+use Rattle.lsm_open.specs.RecoveredTables.{StandForOne}
 use Rattle.lsm_open.proofs.OneMeaning.{one_meaning}
 use Rattle.lsm_store.specs.Backing.{StoreView, IsBacked, machine_of}
 use Rattle.lsm_store.specs.Calls.{Reply}
@@ -25,15 +25,15 @@ use Rattle.lsm_lives.specs.declared.calls.Reply.{Reply as Told}
 use Rattle.lsm_lives.specs.Replaying.{Replays, GoOn, faults_told}
 
 -- sectors are an image in one format alone
-same_format : (a b : ℕ) (xs ys : List CrashState) (sectors : List (List ℕ)) → IsImageOfOne a xs sectors → IsImageOfOne b ys sectors → a ≡ b
-same_format a b xs ys sectors (left, in_xs, p) (other, in_ys, q) = (one_meaning a b left other sectors p.stands q.stands).0
+same_format : (a b : ℕ) (xs ys : List CrashState) (sectors : List (List ℕ)) → StandForOne a xs sectors → StandForOne b ys sectors → a ≡ b
+same_format a b xs ys sectors (left, in_xs, p) (other, in_ys, q) = (one_meaning a b left other sectors p q).0
 
 -- so it is of a disk of which each crash leaves some of one format, and some of another
-pub one_format : (a b : ℕ) (xs ys : List CrashState) (d : Disk) → Leaves (IsImageOfOne a xs) d → Leaves (IsImageOfOne b ys) d → a ≡ b
+pub one_format : (a b : ℕ) (xs ys : List CrashState) (d : Disk) → Leaves (StandForOne a xs) d → Leaves (StandForOne b ys) d → a ≡ b
 one_format a b xs ys d p q = same_format a b xs ys (image [] d) (p []) (q [])
 
 -- where one of some is left, one of more is left
-pub more_left : (n : ℕ) (xs ys : List CrashState) → ((left : CrashState) → Contains xs left → Contains ys left) → (d : Disk) → Leaves (IsImageOfOne n xs) d → Leaves (IsImageOfOne n ys) d
+pub more_left : (n : ℕ) (xs ys : List CrashState) → ((left : CrashState) → Contains xs left → Contains ys left) → (d : Disk) → Leaves (StandForOne n xs) d → Leaves (StandForOne n ys) d
 more_left n xs ys among d leaves = λ mask. let found = leaves mask in (found.0, among found.0 found.1, found.2)
 
 -- ---- replies as values
@@ -61,7 +61,7 @@ record StepsTo (old : StoreView) (step : Step) (reply : Reply) (new : StoreView)
   faults : new.device.calls.faults ≡ faults_after (is_faultless reply) old.device.calls.faults
   same_size : new.device.size ≡ old.device.size
   same_lasting : new.device.lasting ≡ old.device.lasting
-  crash : IsBacked old → EachSince (Leaves (IsImageOfOne old.state.log_sectors (left_in_step (machine_of old) step))) old.device.history new.device.history
+  crash : IsBacked old → EachSince (Leaves (StandForOne old.state.log_sectors (left_in_step (machine_of old) step))) old.device.history new.device.history
   backed : IsBacked old → IsBacked new
 
 machine_in : State → Machine
@@ -89,7 +89,7 @@ no_step s = record {
   faults = refl;
   same_size = refl;
   same_lasting = refl;
-  crash = λ backed. started (Leaves (IsImageOfOne s.state.log_sectors (may_leave s.state))) s.device.history backed.crashes;
+  crash = λ backed. started (Leaves (StandForOne s.state.log_sectors (may_leave s.state))) s.device.history backed.crashes;
   backed = λ backed. backed;
 }
 
@@ -97,11 +97,11 @@ no_step s = record {
 module _ (old mid new : StoreView) (step : Step) (reply : Reply) (one : StepsTo old step reply mid) (steps : List Step) (replies : List Reply) (rest : GoOn mid steps replies new) where
   format : IsBacked old → mid.state.log_sectors ≡ old.state.log_sectors
   format backed = one_format mid.state.log_sectors old.state.log_sectors (may_leave mid.state) (left_in_step (machine_of old) step) (disk mid.device) (one.backed backed).crashes
-      (ended (Leaves (IsImageOfOne old.state.log_sectors (left_in_step (machine_of old) step))) old.device.history mid.device.history (one.crash backed))
+      (ended (Leaves (StandForOne old.state.log_sectors (left_in_step (machine_of old) step))) old.device.history mid.device.history (one.crash backed))
 
-  in_rest : IsBacked old → EachSince (Leaves (IsImageOfOne old.state.log_sectors (left_in_run (next_machine (machine_of old) step reply) steps replies))) mid.device.history new.device.history
-  in_rest backed = subst (λ (m : Machine). EachSince (Leaves (IsImageOfOne old.state.log_sectors (left_in_run m steps replies))) mid.device.history new.device.history) one.machine
-      (subst (λ (n : ℕ). EachSince (Leaves (IsImageOfOne n (left_in_run (machine_of mid) steps replies))) mid.device.history new.device.history) (format backed) (rest.crash (one.backed backed)))
+  in_rest : IsBacked old → EachSince (Leaves (StandForOne old.state.log_sectors (left_in_run (next_machine (machine_of old) step reply) steps replies))) mid.device.history new.device.history
+  in_rest backed = subst (λ (m : Machine). EachSince (Leaves (StandForOne old.state.log_sectors (left_in_run m steps replies))) mid.device.history new.device.history) one.machine
+      (subst (λ (n : ℕ). EachSince (Leaves (StandForOne n (left_in_run (machine_of mid) steps replies))) mid.device.history new.device.history) (format backed) (rest.crash (one.backed backed)))
 
   step_first : GoOn old (step ∷ steps) (reply ∷ replies) new
   step_first = record {
@@ -115,10 +115,10 @@ module _ (old mid new : StoreView) (step : Step) (reply : Reply) (one : StepsTo 
         let n = old.state.log_sectors in
         let inside = left_in_step (machine_of old) step in
         let behind = left_in_run (next_machine (machine_of old) step reply) steps replies in
-        let all = Leaves (IsImageOfOne n (inside ++ behind)) in
+        let all = Leaves (StandForOne n (inside ++ behind)) in
         joined all old.device.history mid.device.history new.device.history
-        (weaker (Leaves (IsImageOfOne n inside)) all old.device.history mid.device.history (more_left n inside (inside ++ behind) (λ left found. Contains-append_left inside behind left found)) (one.crash backed))
-        (weaker (Leaves (IsImageOfOne n behind)) all mid.device.history new.device.history (more_left n behind (inside ++ behind) (λ left found. Contains-append_right inside behind left found)) (in_rest backed));
+        (weaker (Leaves (StandForOne n inside)) all old.device.history mid.device.history (more_left n inside (inside ++ behind) (λ left found. Contains-append_left inside behind left found)) (one.crash backed))
+        (weaker (Leaves (StandForOne n behind)) all mid.device.history new.device.history (more_left n behind (inside ++ behind) (λ left found. Contains-append_right inside behind left found)) (in_rest backed));
     backed = λ backed. rest.backed (one.backed backed);
   }
 

@@ -5,7 +5,8 @@ use Rattle.lsm_codec.specs.Map.{Operation}
 use Rattle.lsm_device.specs.Disk.{Disk, seen}
 use Rattle.lsm_device.specs.Outcomes.{Leaves}
 use Rattle.lsm_open.specs.CrashState.{CrashState}
-use Rattle.lsm_open.specs.Image.{IsImage, IsImageOfOne}
+use Rattle.lsm_open.specs.Image.{StandFor}
+use Rattle.lsm_open.specs.RecoveredTables.{StandForOne}
 use Rattle.lsm_store.specs.Calls.{Reply}
 use Rattle.lsm_store.specs.Lives.{Life, Lives, KeepsLives}
 use Rattle.lsm_store.specs.Machine.{Step}
@@ -35,8 +36,8 @@ HavePlaces (life ∷ lives) [] = ⊥
 -- Reads of a disk give the image of what a crash left. A crash of it as it is leaves that, or one of these others, where
 -- writes pend.
 pub record Holds (log_sectors : ℕ) (left : CrashState) (others : List CrashState) (d : Disk) : Type 0 where
-  pub reads : IsImage log_sectors left (seen d)
-  pub crashes : Leaves (λ image. IsImage log_sectors left image ⊎ IsImageOfOne log_sectors others image) d
+  pub reads : StandFor log_sectors left (seen d)
+  pub crashes : Leaves (λ image. StandFor log_sectors left image ⊎ StandForOne log_sectors others image) d
 
 -- a life on such a disk, after its crash
 pub record AfterCrash (log_sectors : ℕ) (opened : CrashState) (others : List CrashState) (steps : List Step) (replies : List Reply) (d : Disk) : Type 0 where
@@ -66,4 +67,4 @@ pub record KeepPromise (log_sectors : ℕ) (before : List (List Operation)) (ope
   -- beginning of these, of those accepted in it and of the one in flight, with every acknowledged one.
   pub keeps : KeepsLives log_sectors before opened lives replies batches left
   -- the device holds that, and a crash of it leaves the same
-  pub device : Leaves (IsImage log_sectors left) d
+  pub device : Leaves (StandFor log_sectors left) d

@@ -3,7 +3,7 @@ use Rattle.std.specs.Prelude.{◌≡◌, ℕ, List, [], ◌∷◌, ◌++◌}
 use Rattle.lsm_device.specs.Calls.{faults_after}
 use Rattle.lsm_device.specs.History.{EachSince}
 use Rattle.lsm_device.specs.Outcomes.{Leaves}
-use Rattle.lsm_open.specs.Image.{IsImageOfOne}
+use Rattle.lsm_open.specs.RecoveredTables.{StandForOne}
 use Rattle.lsm_store.specs.Backing.{StoreView, IsBacked, machine_of}
 use Rattle.lsm_store.specs.Calls.{Reply}
 use Rattle.lsm_store.specs.Machine.{Step}
@@ -40,6 +40,6 @@ pub record GoOn (old : StoreView) (steps : List Step) (replies : List Reply) (ne
   pub same_size : new.device.size ≡ old.device.size
   pub same_lasting : new.device.lasting ≡ old.device.lasting
   -- at every moment of them, every crash leaves what it may
-  pub crash : IsBacked old → EachSince (Leaves (IsImageOfOne old.state.log_sectors (left_in_run (machine_of old) steps replies))) old.device.history new.device.history
+  pub crash : IsBacked old → EachSince (Leaves (StandForOne old.state.log_sectors (left_in_run (machine_of old) steps replies))) old.device.history new.device.history
   -- the device backs the state again
   pub backed : IsBacked old → IsBacked new

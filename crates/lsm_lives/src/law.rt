@@ -7,7 +7,7 @@ ghost use Rattle.lsm_lives.specs.Leading.{LifeView, LeadsTo, AreLed};
 ghost use Rattle.lsm_lives.specs.Living.{steps_in, Holds, AfterCrash, AreLived};
 ghost use Rattle.lsm_lives.specs.Replaying.{Replays, GoOn};
 ghost use Rattle.lsm_open.specs.CrashState.{CrashState};
-ghost use Rattle.lsm_open.specs.Image.{IsImage};
+ghost use Rattle.lsm_open.specs.Image.{StandFor};
 ghost use Rattle.lsm_store.specs.Backing.{StoreView, IsBacked};
 ghost use Rattle.lsm_store.specs.Calls.{Reply};
 ghost use Rattle.lsm_store.specs.Crash.{may_leave, last_crash_state};
@@ -33,7 +33,7 @@ pub fn led_lives_go_on()
 /// A device holds what a crash left where every crash of it leaves the same, as after a format and after other lives; and
 /// where it is taken back of a store, without a crash.
 pub fn devices_hold_what_was_left()
-    ensures at_rest { (log_sectors : ℕ) (left : CrashState) (d : Disk) → Leaves (IsImage log_sectors left) d → Holds log_sectors left [] d }
+    ensures at_rest { (log_sectors : ℕ) (left : CrashState) (d : Disk) → Leaves (StandFor log_sectors left) d → Holds log_sectors left [] d }
     ensures running { (s : StoreView) → IsBacked s → IsNone s.state.stopped
         → Holds s.state.log_sectors (last_crash_state s.state) (may_leave s.state) (disk s.device) }
     ensures stopped { (s : StoreView) → IsBacked s → (left : CrashState) × Contains (may_leave s.state) left

@@ -8,7 +8,7 @@ ghost use Rattle.lsm_lives.specs.Calls.{step_of, reply_of};
 ghost use Rattle.lsm_lives.specs.Leading.{life_of, BeginsOn, FailsOn, IsLed, LeadsTo, AreLed, with_fuse};
 ghost use Rattle.lsm_lives.specs.Living.{steps_of, replies_of, KeepPromise, HavePlaces};
 ghost use Rattle.lsm_open.specs.CrashState.{CrashState};
-ghost use Rattle.lsm_open.specs.Image.{IsImage};
+ghost use Rattle.lsm_open.specs.Image.{StandFor};
 ghost use Rattle.lsm_store.specs.Lives.{IsAfter, all_stopped};
 
 use crate::calls::Reply;
@@ -52,7 +52,7 @@ pub fn lives<A: Allocator + Clone, B: Allocator>(
 
     // The promise over crashes: on a device that holds the map after some batches, as it does after a format and after
     // other lives, each life keeps a beginning of the batches, with every acknowledged one.
-    ensures promise { (log_sectors : ℕ) (before : List (List Operation)) (opened : CrashState) → IsAfter before opened → Leaves (IsImage log_sectors opened) (disk (medium_in device))
+    ensures promise { (log_sectors : ℕ) (before : List (List Operation)) (opened : CrashState) → IsAfter before opened → Leaves (StandFor log_sectors opened) (disk (medium_in device))
         → IfOk result (λ given. KeepPromise log_sectors before opened (steps_of lives.now) (replies_of given.0.items) (disk (medium_in given.1))) }
 {
     let mut replies = match places(&alloc, lives) {

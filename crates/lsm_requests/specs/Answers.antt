@@ -12,7 +12,7 @@ use Rattle.lsm_device.specs.Outcomes.{Leaves}
 use Rattle.lsm_device.specs.declared.file.FileDevice.{FileDevice}
 use Rattle.lsm_root.specs.Counted.{CallsMade}
 use Rattle.lsm_open.specs.CrashState.{formatted as empty_store}
-use Rattle.lsm_open.specs.Image.{IsImage}
+use Rattle.lsm_open.specs.Image.{StandFor}
 use Rattle.lsm_store.specs.declared.asked.At.TheVariants.{Now}
 use Rattle.lsm_store.specs.Calls.{Commit, Get, Scan, Sync, Reply, Done, Number, Rows, Value as Found}
 use Rattle.lsm_store.specs.Backing.{StoreView}
@@ -118,7 +118,7 @@ pub record HasLives (sectors log_sectors : ℕ) (lives : List LifeView) (steps :
   pub left : Medium
   pub replies : List (List Reply)
   pub size : device.size ≡ sectors
-  pub begins : Leaves (IsImage log_sectors empty_store) (disk device)
+  pub begins : Leaves (StandFor log_sectors empty_store) (disk device)
   pub led : AreLed lives device replies left
   pub promise : KeepPromise log_sectors [] empty_store (steps_in lives) replies (disk left)
   pub told : HasLines (lives_text steps replies) output

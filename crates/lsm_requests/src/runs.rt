@@ -6,7 +6,7 @@ ghost use Rattle.lsm_device.specs.Medium.{disk};
 ghost use Rattle.lsm_device.specs.Memory.{medium_in};
 ghost use Rattle.lsm_device.specs.Outcomes.{Leaves};
 ghost use Rattle.lsm_open.specs.CrashState.{formatted as empty_store};
-ghost use Rattle.lsm_open.specs.Image.{IsImage};
+ghost use Rattle.lsm_open.specs.Image.{StandFor};
 ghost use Rattle.lsm_lives.specs.Calls.{step_of};
 ghost use Rattle.lsm_requests.specs.Steps.{lives_said, told_lives};
 ghost use Rattle.lsm_requests.specs.Answers.{HasLives, HasReplies};
@@ -54,7 +54,7 @@ pub fn lives(alloc: Global, geometry: Geometry, script: Vec<Line>) -> Result<Out
 
 // A device in memory with an empty store. Without a fuse it fails only where memory for its writes is refused.
 fn formatted(alloc: Global, geometry: Geometry) -> Result<MemDevice, AllocError>
-    ensures leaves { IfOk result (λ device. Leaves (IsImage geometry.log_sectors empty_store) (disk (medium_in device))) }
+    ensures leaves { IfOk result (λ device. Leaves (StandFor geometry.log_sectors empty_store) (disk (medium_in device))) }
     ensures size { IfOk result (λ device. (medium_in device).size ≡ geometry.sectors) }
 {
     let device = MemDevice::new(alloc, geometry.sectors())?;

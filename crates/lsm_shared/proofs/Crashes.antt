@@ -4,7 +4,7 @@ use Rattle.std.specs.Prelude.{nat_le}
 use Rattle.lsm_device.specs.Medium.{Medium, disk}
 use Rattle.lsm_device.specs.Outcomes.{Leaves}
 use Rattle.lsm_device.specs.declared.refusal.Refusal.TheVariants.{Io}
-use Rattle.lsm_open.specs.Image.{IsImageOfOne}
+use Rattle.lsm_open.specs.RecoveredTables.{StandForOne}
 use Rattle.lsm_store.specs.Backing.{StoreView, machine_of, IsBacked}
 use Rattle.lsm_store.specs.Calls.{Call, Reply}
 use Rattle.lsm_store.specs.Calls.{Commit, Sync, SyncTo, Get, Scan, Snapshot, Release, LogRoom, Number, Done, Value, Rows, Refused}
@@ -56,7 +56,7 @@ history_sectors m (e ∷ log) = history_sectors (next_machine m e.step e.reply) 
 
 -- a crash of this device leaves what this state may leave
 abbrev LeavesOf : Medium → ℕ → State → Type 0
-LeavesOf device sectors s = Leaves (IsImageOfOne sectors (may_leave s)) (disk device)
+LeavesOf device sectors s = Leaves (StandForOne sectors (may_leave s)) (disk device)
 
 in_format : (b : Begin) (log : List Event) (device : Medium) → LeavesOf device (state_after b log).log_sectors (state_after b log) → LeavesOf device b.store.state.log_sectors (state_after b log)
 in_format b log device leaves = subst (λ (n : ℕ). LeavesOf device n (state_after b log)) (history_sectors (first_machine b) log) leaves

@@ -3,7 +3,7 @@ ghost use Rattle.std.specs.Prelude.{◌≡◌, ℕ, List, ◌∷◌};
 ghost use Rattle.atomic_table.specs.declared.shared.Seat.{Seat};
 ghost use Rattle.lsm_device.specs.Medium.{disk};
 ghost use Rattle.lsm_device.specs.Outcomes.{Leaves};
-ghost use Rattle.lsm_open.specs.Image.{IsImageOfOne};
+ghost use Rattle.lsm_open.specs.RecoveredTables.{StandForOne};
 ghost use Rattle.lsm_store.specs.Backing.{StoreView, machine_of, IsBacked};
 ghost use Rattle.lsm_store.specs.Calls.{Snapshot, Number};
 ghost use Rattle.lsm_store.specs.Crash.{may_leave};
@@ -21,8 +21,8 @@ ghost use Rattle.lsm_shared.specs.Sessions.{IsSession, IsEnded};
 /// then: so the promise over crashes holds of it.
 pub fn trail_tells_what_a_crash_leaves()
     ensures free { (id : SessionId) (base : ℕ) (store : StoreView) (trail : TrailView) (keeper : Seat Event View) → IsSession id base store trail keeper → IsBacked id.begin.store
-        → Leaves (IsImageOfOne id.begin.store.state.log_sectors (may_leave (state_after id.begin trail.log))) (disk store.device) }
+        → Leaves (StandForOne id.begin.store.state.log_sectors (may_leave (state_after id.begin trail.log))) (disk store.device) }
     ensures ended { (b : Begin) (clients : List Known) (store : StoreView) (trail : TrailView) → IsEnded b clients store trail → IsBacked b.store
-        → Leaves (IsImageOfOne b.store.state.log_sectors (may_leave (state_after b trail.log))) (disk store.device) }
+        → Leaves (StandForOne b.store.state.log_sectors (may_leave (state_after b trail.log))) (disk store.device) }
     ensures run { (b : Begin) (log : List Event) → IsLegal b log → IsBacked b.store → Run (machine_of b.store) (Called Snapshot ∷ steps_of log) (Number (base_of b) ∷ replies_of log) }
 {}

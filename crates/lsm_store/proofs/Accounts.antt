@@ -30,7 +30,7 @@ use Rattle.lsm_store.specs.WorkEffects.{staged, with_placed, with_installed, wit
 use Rattle.lsm_store.specs.WorkRefusals.{job_given, held, of_slot, placing, work_refusals, running_refusal}
 use Rattle.lsm_store.proofs.ExtentCounts.{count_append, all_out_like, BeginApart, StandAmong, all_back_like, stand_out, partition_apart, placed_in}
 use Rattle.lsm_store.proofs.OpenedAccounts.{opened_accounts}
-use Rattle.lsm_store.proofs.Refusing.{none_taken}
+use Rattle.lsm_store.proofs.Unrefused.{none_taken}
 
 no_slot : (slot : Slot) → None ≡ Some slot → ⊥
 no_slot slot e = cc

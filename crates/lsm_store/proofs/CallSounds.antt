@@ -38,7 +38,7 @@ use Rattle.lsm_store.specs.WorkEffects.{work_called, with_sealed, rotated}
 use Rattle.lsm_store.specs.WorkMaps.{IsUnique}
 use Rattle.lsm_store.specs.WorkSound.{IsSound, CallSoundLaw, RotationSoundLaw}
 use Rattle.lsm_store.proofs.InstalledMaps.{table_versions, in_has, commit_law}
-use Rattle.lsm_store.proofs.Refusing.{unrefused_commit}
+use Rattle.lsm_store.proofs.Unrefused.{unrefused_commit}
 use Rattle.lsm_store.proofs.Remembering.{present_map-points_of, all_synced-points_of, points_of-next}
 use Rattle.lsm_store.proofs.StateMaps.{count_is, synced_is}
 use Rattle.lsm_store.proofs.WorkSounds.{Goes, job_goes, machine}

@@ -31,7 +31,7 @@ use Rattle.lsm_store.specs.WorkEffects.{with_installed, installed, work_after, s
 use Rattle.lsm_store.specs.WorkMaps.{AreVersions, IsAsked, IsJobOf, MayBePutIn}
 use Rattle.lsm_store.specs.WorkSound.{IsSound, IsServed, SoundLaw}
 use Rattle.lsm_store.proofs.InstalledMaps.{table_versions, has_in, in_has, runs_tables, kept_input, front_newer, installed_replacing, install_law}
-use Rattle.lsm_store.proofs.Refusing.{none_taken}
+use Rattle.lsm_store.proofs.Unrefused.{none_taken}
 use Rattle.lsm_store.proofs.Remembering.{all_synced-points_of}
 use Rattle.lsm_store.proofs.Replaced.{IsReplacing}
 use Rattle.lsm_store.proofs.StateMaps.{count_is, synced_is, alone, points_alone}

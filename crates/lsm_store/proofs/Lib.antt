@@ -5,10 +5,9 @@ pub mod CrashStates
 pub mod Promises
 pub mod Lifelong
 pub mod Carrying
-pub mod Syncing
 pub mod Growing
-pub mod Committing
 pub mod Reopening
+pub mod Backed
 pub mod Serving
 pub mod Exits
 pub mod Remembering
@@ -16,7 +15,10 @@ pub mod StateMaps
 mod Walks
 pub mod States
 pub mod Refusing
+pub mod Unrefused
 pub mod Marking
+pub mod ReadViews
+pub mod ReadCalls
 pub mod Snapshotting
 pub mod Checking
 mod WorkedCalls
@@ -40,6 +42,7 @@ pub mod StoredTables
 pub mod KeptJobs
 pub mod RotatedManifests
 pub mod StoredLevels
+pub mod NumberedApart
 pub mod VersionPoints
 pub mod InstalledRecords
 pub mod MergedRecords

@@ -4,12 +4,13 @@ use Rattle.std.specs.List.{AllByRecursion}
 use Rattle.std.proofs.lemmas.List.Elements.{All-head, All-tail}
 use Rattle.lsm_codec.specs.TableRecords.{extent_blocks}
 use Rattle.lsm_codec.specs.declared.table_record.TableRecord.{TableRecord}
-use Rattle.lsm_codec.proofs.Lists.{all_append, all_left, all_right, all_filter}
+use Rattle.lsm_codec.proofs.Lists.{all_append, all_left, all_right, all_filter, all_map}
 use Rattle.lsm_device.specs.Disk.{Disk, seen}
 use Rattle.lsm_levels.specs.Among.{IsAmong}
 use Rattle.lsm_levels.specs.Asking.{sector_of}
 use Rattle.lsm_levels.specs.Held.{IsHeld, IsUpper}
-use Rattle.lsm_levels.specs.Levels.{Levels, level, places, with_level, replaced, merged_at}
+use Rattle.lsm_levels.specs.Levels.{Levels, all_tables, level, places, with_level, replaced, merged_at}
+use Rattle.lsm_levels.specs.NamedBlocks.{HasSameBlocks}
 use Rattle.lsm_levels.specs.Pick.{Job, Flush, Merge, installed}
 use Rattle.lsm_levels.specs.Stored.{blocks_from, IsStored, AreStored}
 use Rattle.lsm_levels.specs.Tables.{Table, KeyRange, hull, is_below, put_at, record_of}
@@ -48,10 +49,13 @@ module _ (n : ℕ) (c e : Sectors) where
       ap (λ (k : ℕ). blocks_from s k (length t.outline.edges)) at ∙ sym (some_blocks s (extent_start n x) (extent_blocks x) 0 (length t.outline.edges) few)
       ∙ ap (take (length t.outline.edges)) (sym (extent_is n s x))
 
+  same_blocks : (t : Table) → SameAt t → HasSameBlocks (first_data n) e c t
+  same_blocks t same = front_blocks c t ∙ ap (λ (s : Sectors). take (length t.outline.edges) (blocks_from s 0 (extent_blocks (record_of 0 0 t)))) same ∙ sym (front_blocks e t)
+
   same_stored : (t : Table) → SameAt t → IsStored e (first_data n) t → IsStored c (first_data n) t
   same_stored t same is = record {
     blocks = is.blocks;
-    spelled = ap table_of (front_blocks c t ∙ ap (λ (s : Sectors). take (length t.outline.edges) (blocks_from s 0 (extent_blocks (record_of 0 0 t)))) same ∙ sym (front_blocks e t)) ∙ is.spelled;
+    spelled = ap table_of (same_blocks t same) ∙ is.spelled;
     sorted = is.sorted;
     told = is.told;
     members = is.members;
@@ -64,6 +68,10 @@ module _ (n : ℕ) (c e : Sectors) where
       one : (ts : List Table) → AllByRecursion SameAt ts → AllByRecursion (IsStored e (first_data n)) ts → AllByRecursion (IsStored c (first_data n)) ts
       one [] same stored = tt
       one (t ∷ ts) same stored = (same_stored t same.0 stored.0, one ts same.1 stored.1)
+
+  all_blocks : (runs : List (List Table)) → AllByRecursion (AllByRecursion SameAt) runs → AllByRecursion (HasSameBlocks (first_data n) e c) (all_tables runs)
+  all_blocks [] same = tt
+  all_blocks (run ∷ rest) same = all_append (HasSameBlocks (first_data n) e c) run (all_tables rest) (all_map same_blocks run same.0) (all_blocks rest same.1)
 
   -- ---- the tables of records
 
@@ -85,19 +93,31 @@ module _ (n : ℕ) (c e : Sectors) where
   of_levels lev (ts ∷ rest) all =
       (of_run lev 0 ts (all_left SameExtent (map (record_of lev 0) ts) (records_of_levels (suc lev) rest) all), of_levels (suc lev) rest (all_right SameExtent (map (record_of lev 0) ts) (records_of_levels (suc lev) rest) all))
 
-  pub same_levels : (levels : Levels) → All SameExtent (records_of levels) → AreStored e (first_data n) (places levels) → AreStored c (first_data n) (places levels)
-  same_levels levels same stored =
+  of_places : (levels : Levels) → All SameExtent (records_of levels) → AllByRecursion (AllByRecursion SameAt) (places levels)
+  of_places levels same =
       let all = by_each (records_of levels) same in
-      all_same (places levels)
-      (all_append (AllByRecursion SameAt) levels.runs levels.deeper
+      all_append (AllByRecursion SameAt) levels.runs levels.deeper
       (of_runs 0 levels.runs (all_left SameExtent (records_of_runs 0 levels.runs) (records_of_levels 1 levels.deeper) all))
-      (of_levels 1 levels.deeper (all_right SameExtent (records_of_runs 0 levels.runs) (records_of_levels 1 levels.deeper) all)))
-      stored
+      (of_levels 1 levels.deeper (all_right SameExtent (records_of_runs 0 levels.runs) (records_of_levels 1 levels.deeper) all))
+
+  pub same_levels : (levels : Levels) → All SameExtent (records_of levels) → AreStored e (first_data n) (places levels) → AreStored c (first_data n) (places levels)
+  same_levels levels same stored = all_same (places levels) (of_places levels same) stored
+
+  pub level_blocks : (levels : Levels) → All SameExtent (records_of levels) → AllByRecursion (HasSameBlocks (first_data n) e c) (all_tables (places levels))
+  level_blocks levels same = all_blocks (places levels) (of_places levels same)
+
+-- the records of levels have what a placement keeps
+extents_kept : (p : Placement) (levels : Levels) (old new : Disk) → records_of levels ≡ p.tables → KeepsExtents p old new → All (SameExtent p.logs.log_sectors (seen new) (seen old)) (records_of levels)
+extents_kept p levels old new named kept = subst (All (SameExtent p.logs.log_sectors (seen new) (seen old))) (sym named) kept
 
 pub levels_kept : (p : Placement) (levels : Levels) (old new : Disk) → records_of levels ≡ p.tables → KeepsExtents p old new → AreStored (seen old) (first_data p.logs.log_sectors) (places levels)
     → AreStored (seen new) (first_data p.logs.log_sectors) (places levels)
 levels_kept p levels old new named kept stored =
-    same_levels p.logs.log_sectors (seen new) (seen old) levels (subst (All (SameExtent p.logs.log_sectors (seen new) (seen old))) (sym named) kept) stored
+    same_levels p.logs.log_sectors (seen new) (seen old) levels (extents_kept p levels old new named kept) stored
+
+pub blocks_kept : (p : Placement) (levels : Levels) (old new : Disk) → records_of levels ≡ p.tables → KeepsExtents p old new
+    → AllByRecursion (HasSameBlocks (first_data p.logs.log_sectors) (seen old) (seen new)) (all_tables (places levels))
+blocks_kept p levels old new named kept = level_blocks p.logs.log_sectors (seen new) (seen old) levels (extents_kept p levels old new named kept)
 
 -- ---- what holds of each table in levels
 

@@ -11,6 +11,7 @@ pub mod Lives
 pub mod Stored
 pub mod StateMaps
 pub mod Backing
+pub mod JustOpened
 pub mod Serving
 pub mod LiveMarks
 pub mod Memory
@@ -27,3 +28,4 @@ pub mod StoredTables
 pub mod InstalledJobs
 pub mod Accounts
 pub mod TableLimits
+pub mod Reading

@@ -1,5 +1,5 @@
 -- The work of a store that has just been opened with its tables.
-use Rattle.std.specs.Prelude.{◌≡◌, ℕ, ◌≤◌, ◌<◌, List, [], Option, is_some}
+use Rattle.std.specs.Prelude.{◌≡◌, ℕ, ◌≤◌, ◌<◌, List, [], ◌∷◌, map, Option, is_some}
 use Rattle.lsm_codec.specs.Geometry.{data_blocks_of}
 use Rattle.lsm_codec.specs.Versions.{Version}
 use Rattle.lsm_device.specs.Disk.{Disk}
@@ -9,13 +9,15 @@ use Rattle.lsm_levels.specs.Among.{IsAmong}
 use Rattle.lsm_levels.specs.Levels.{Levels, places}
 use Rattle.lsm_levels.specs.Held.{HasVersion}
 use Rattle.lsm_levels.specs.Stored.{AreNumberedBelow}
+use Rattle.lsm_levels.specs.Tables.{versions_of}
+use Rattle.lsm_merge.specs.Inputs.{joined}
 use Rattle.lsm_jobs.specs.Slots.{no_jobs}
 use Rattle.lsm_open.specs.CrashState.{CrashState}
 use Rattle.lsm_open.specs.Placements.{Placement}
 use Rattle.lsm_open.specs.RecoveredTables.{sealed_versions, IsRecoveredWithTables, AreWithinLimits}
 use Rattle.lsm_open.specs.ToldTables.{records_of, Held}
 use Rattle.lsm_store.specs.Crash.{reopened}
-use Rattle.lsm_store.specs.Serving.{just_opened}
+use Rattle.lsm_store.specs.JustOpened.{just_opened}
 use Rattle.lsm_store.specs.Work.{WorkView, WorkMachine, Work, versions_in, are_waiting}
 use Rattle.lsm_store.specs.WorkSound.{IsSound, IsServed}
 
@@ -23,6 +25,10 @@ use Rattle.lsm_store.specs.WorkSound.{IsSound, IsServed}
 -- levels, with its extents and its next number. Memory is empty, and no slot is held.
 abbrev pub opened_work : Placement → Option (List Version) → Levels → Area → WorkView
 opened_work p sealed levels extents = record { memory = []; sealed = sealed_versions sealed; levels = levels; jobs = no_jobs; next_table = p.logs.next_table; area = extents }
+
+-- all versions of it
+abbrev pub opened_versions : Option (List Version) → Levels → List Version
+opened_versions sealed levels = joined ([] ∷ (sealed_versions sealed ∷ map versions_of (places levels)))
 
 -- with the state of a store that was just opened, whose map is that of all these versions after so many batches
 abbrev pub opened_machine : Placement → ℕ → Option (List Version) → Levels → Area → WorkMachine

@@ -5,8 +5,8 @@ use Rattle.lsm_extent.specs.Area.{Area}
 use Rattle.lsm_merge.specs.Inputs.{MergeInput, joined}
 use Rattle.lsm_merge.specs.Results.{MergeResult}
 use Rattle.lsm_levels.specs.Tables.{versions_of}
-use Rattle.lsm_levels.specs.Levels.{Levels, places}
-use Rattle.lsm_jobs.specs.Slots.{JobSlots}
+use Rattle.lsm_levels.specs.Levels.{Levels, no_tables, places}
+use Rattle.lsm_jobs.specs.Slots.{JobSlots, no_jobs}
 use Rattle.lsm_store.specs.RecoveryPoints.{batch_count}
 use Rattle.lsm_store.specs.State.{State}
 use Rattle.lsm_store.specs.Calls.{Reply}
@@ -22,6 +22,10 @@ pub record WorkView : Type 0 where
   pub next_table : ℕ
   -- the data area, where the extents of tables and of outputs that are being written are handed out
   pub area : Area
+
+-- no version, no table and no job, in an area without a block
+abbrev pub no_work : WorkView
+no_work = record { memory = []; sealed = []; levels = no_tables; jobs = no_jobs; next_table = 0; area = record { blocks = 0; held = [] } }
 
 -- A store with its tables and jobs: the map machine's state, and the work beside it.
 pub record WorkMachine : Type 0 where

@@ -1,4 +1,4 @@
-//! A store on a device, where all batches are in log regions.
+//! A store on a device, whose batches are in log regions and in tables.
 #![tactic(auto)]
 
 mod asked;
@@ -9,6 +9,7 @@ mod law;
 mod memory;
 mod opened_law;
 mod opening;
+mod reading;
 mod serve;
 mod snapshots;
 mod store;
@@ -17,9 +18,10 @@ mod told;
 mod work_law;
 
 pub use asked::At;
-pub use device_law::{device_reads_on, recovered_is_stored, stored_is_backed, sync_keeps_stored};
+pub use device_law::{device_reads_on, stored_is_backed};
 pub use install_law::{
-    installed_records_are_placed, written_flushes_are_flushed, written_outputs_stand,
+    installed_manifests_are_manifests, installed_records_are_placed, written_flushes_are_flushed,
+    written_merges_are_merged, written_outputs_stand,
 };
 pub use law::{
     allowed_is_admitted, ample_steps_run, crash_keeps_a_beginning, crash_states_go_on,

@@ -12,7 +12,8 @@ ghost use Rattle.lsm_device.specs.Runs.{run_at, grown, HasSomeOf};
 ghost use Rattle.lsm_jobs.specs.Slots.{Slot};
 ghost use Rattle.lsm_jobs.specs.StoredJobs.{HasStored};
 ghost use Rattle.lsm_levels.specs.Held.{IsHeld};
-ghost use Rattle.lsm_levels.specs.Levels.{Levels, places};
+ghost use Rattle.lsm_levels.specs.Levels.{Levels, all_tables, places};
+ghost use Rattle.lsm_levels.specs.NamedBlocks.{AreNumberedApart, HasSameBlocks};
 ghost use Rattle.lsm_levels.specs.Pick.{Job, installed as installed_levels};
 ghost use Rattle.lsm_levels.specs.Stored.{IsStored as IsStoredTable, AreStored};
 ghost use Rattle.lsm_levels.specs.Tables.{Table};
@@ -165,12 +166,15 @@ pub fn recovered_tables_are_stored()
         → IsRecoveredWithTables log_sectors left p count sealed levels d → IsStoredWithJobs p [] (reopened log_sectors left) d }
 {}
 
-/// The tables that levels keep stay on the device, as long as reads give what they gave in the extents of a placement's tables
-/// and the levels have just these. So do those that a job takes in; and after an install those of the levels with its outputs,
-/// where these stand.
+/// The tables that levels keep stay on the device, and their data blocks the same, as long as reads give what they gave in the
+/// extents of a placement's tables and the levels have just these. So do those that a job takes in; and after an install those
+/// of the levels with its outputs, where these stand. No two tables that a manifest names have one number.
 pub fn levels_stay_stored()
     ensures kept { (p : Placement) (levels : Levels) (old new : Disk) → records_of levels ≡ p.tables → KeepsExtents p old new
         → AreStored (seen old) (first_data p.logs.log_sectors) (places levels) → AreStored (seen new) (first_data p.logs.log_sectors) (places levels) }
+    ensures blocks { (p : Placement) (levels : Levels) (old new : Disk) → records_of levels ≡ p.tables → KeepsExtents p old new
+        → AllByRecursion (HasSameBlocks (first_data p.logs.log_sectors) (seen old) (seen new)) (all_tables (places levels)) }
+    ensures numbers { (p : Placement) (levels : Levels) → IsManifest (contents_for p) → records_of levels ≡ p.tables → AreNumberedApart (all_tables (places levels)) }
     ensures jobs { (sectors : List (List ℕ)) (area : ℕ) (levels : Levels) (slot : Slot) → AreStored sectors area (places levels) → IsHeld levels slot.input.bottom slot.job → AreRuns slot.input.runs
         → HasStored sectors area slot }
     ensures installed { (sectors : List (List ℕ)) (area : ℕ) (levels : Levels) (job : Job) (new : List Table) → AreStored sectors area (places levels) → AllByRecursion (IsStoredTable sectors area) new

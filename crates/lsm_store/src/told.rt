@@ -6,10 +6,12 @@ ghost use Rattle.lsm_codec.specs.Map.{map_code};
 ghost use Rattle.lsm_store.specs.State.{State};
 
 use lsm_codec::Batch;
-use lsm_mem::Mem;
+use lsm_levels::Levels;
+use lsm_mem::Sealed;
 use lsm_open::Regions;
 use std::alloc::Allocator;
 use std::marker::Model;
+use std::sync::Arc;
 
 /// Takes no bytes.
 #[derive(Drop)]
@@ -60,7 +62,12 @@ impl Told {
     }
 
     /// One that the parts of a store decide.
-    pub(crate) fn by_parts<A: Allocator>(_regions: &Regions<A>, _mem: &Mem<A>, _count: u64) -> Told
+    pub(crate) fn by_parts<A: Allocator>(
+        _regions: &Regions<A>,
+        _sealed: &Option<Arc<Sealed<A>, A>>,
+        _levels: &Levels<A>,
+        _count: u64,
+    ) -> Told
         ghost state: { State }
         ensures { result.state ≡ state }
     {

@@ -5,6 +5,7 @@ use Rattle.atomic_table.specs.Seated.{TableId}
 use Rattle.atomic_table.specs.declared.shared.Seat.{Seat}
 use Rattle.lsm_device.specs.Medium.{zeroed}
 use Rattle.lsm_store.specs.Crash.{reopened}
+use Rattle.lsm_store.specs.Work.{no_work}
 use Rattle.lsm_trail.specs.Begins.{Begin}
 use Rattle.lsm_trail.specs.History.{Event}
 use Rattle.lsm_trail.specs.declared.numbers.Numbers.{Numbers}
@@ -53,7 +54,8 @@ no_begin = record {
     device = zeroed 0;
     state = reopened 0 (record { count = 0; map = finite.empty; closed = 0; generation = 0 });
     layout = record { log_sectors = 0; generation = 0; base = 0; next_table = 0; closed = []; open_region = None };
-    memory = [];
+    work = no_work;
+    cache = record { blocks = []; capacity = 0; refusals = 0 };
   };
   limit = 0;
   clients = 0;

@@ -13,7 +13,8 @@ use Rattle.lsm_device.specs.Disk.{image}
 use Rattle.lsm_device.specs.Medium.{disk}
 use Rattle.lsm_device.specs.Outcomes.{Leaves}
 use Rattle.lsm_open.specs.CrashState.{CrashState, formatted}
-use Rattle.lsm_open.specs.Image.{IsImage, IsImageOfOne}
+use Rattle.lsm_open.specs.Image.{StandFor}
+use Rattle.lsm_open.specs.RecoveredTables.{StandForOne}
 use Rattle.lsm_store.specs.Backing.{StoreView, IsBacked}
 use Rattle.lsm_store.specs.Calls.{Call, Reply}
 use Rattle.lsm_store.specs.Calls.{Commit, Sync, Snapshot, Number, Done, Value, Rows, Refused}
@@ -148,7 +149,7 @@ module _ (first second : Bytes × Bytes) (apart : first.0 ≢ second.0) (b : Beg
 -- when a session has ended, a crash leaves what the state after its trail may leave
 abbrev TrailTells : Type 0
 TrailTells = (b : Begin) (clients : List Known) (store : StoreView) (trail : TrailView) → IsEnded b clients store trail → IsBacked b.store
-    → Leaves (IsImageOfOne b.store.state.log_sectors (may_leave (state_after b trail.log))) (disk store.device)
+    → Leaves (StandForOne b.store.state.log_sectors (may_leave (state_after b trail.log))) (disk store.device)
 
 -- and so both values outlast crashes
 outlasting : (first second : Bytes × Bytes) → first.0 ≢ second.0 → (b : Begin) (store : StoreView) (trail : TrailView) → b.store.state ≡ reopened 128 formatted → b.clients ≡ 2 → IsBacked b.store
@@ -158,7 +159,7 @@ outlasting first second apart b store trail is two backed tells shared = λ mask
     let strangers : (x : ℕ) → 2 ≤ x → calls_by x trail.log ≡ [] = λ x far. shared.ended.strangers x (subst (λ (n : ℕ). n ≤ x) (sym two) far) in (
       left.0,
       stored_stays first second apart b is trail.log strangers shared.first_stored shared.second_stored left.0 left.1,
-      subst (λ (n : ℕ). IsImage n left.0 (image mask (disk store.device))) (ap (λ (s : State). s.log_sectors) is) left.2,
+      subst (λ (n : ℕ). StandFor n left.0 (image mask (disk store.device))) (ap (λ (s : State). s.log_sectors) is) left.2,
     )
 
 -- the same of the session that was prepared of a new store

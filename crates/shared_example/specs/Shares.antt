@@ -6,7 +6,7 @@ use Rattle.lsm_codec.specs.Map.{Map, Operation}
 use Rattle.lsm_device.specs.Medium.{disk}
 use Rattle.lsm_device.specs.Outcomes.{Leaves}
 use Rattle.lsm_open.specs.CrashState.{CrashState}
-use Rattle.lsm_open.specs.Image.{IsImage}
+use Rattle.lsm_open.specs.Image.{StandFor}
 use Rattle.lsm_store.specs.Backing.{StoreView}
 use Rattle.lsm_store.specs.Calls.{Call, Reply}
 use Rattle.lsm_store.specs.Calls.{Commit, Sync, Refused}
@@ -53,7 +53,7 @@ HasBoth first second m = (finite.get m first.0 ≡ Some first.1) × (finite.get 
 
 -- sectors stand for a map that has both values
 abbrev pub StandsForBoth : (Bytes × Bytes) → (Bytes × Bytes) → List (List ℕ) → Type 0
-StandsForBoth first second sectors = (left : CrashState) × HasBoth first second left.map × IsImage 128 left sectors
+StandsForBoth first second sectors = (left : CrashState) × HasBoth first second left.map × StandFor 128 left sectors
 
 -- whatever a crash leaves of this store has both values
 abbrev pub OutlastCrashes : (Bytes × Bytes) → (Bytes × Bytes) → StoreView → Type 0

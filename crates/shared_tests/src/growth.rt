@@ -46,7 +46,7 @@ fn each_growth_is_refused_in_turn(rt: HostRuntime) {
     let mut begun = 0u32;
     let mut refused = 0u32;
     for step in 0..150usize {
-        if let Some(refusals) = refusals_in(&rt, rt.alloc(), 2_000 + step * 128) {
+        if let Some(refusals) = refusals_in(&rt, rt.alloc(), 2_000 + step * 256) {
             begun = begun.wrapping_add(1);
             refused = refused.wrapping_add(refusals);
         }
@@ -127,12 +127,24 @@ fn get(heap: &LocalHeap) -> Result<Call<&LocalHeap>, Refusal> {
     Ok(Call::Get(At::Now, Vec::from_slice(heap, b"key")?))
 }
 
-// Whether a session begins where others have so many bytes of the memory, unless it was short before that.
-fn begins_where_others_have<R: Abort>(rt: &R, alloc: Global, bytes: usize) -> Option<bool> {
-    let heap = LocalHeap::new(alloc, 6_000).expect(rt, "a heap");
+// The most bytes, in steps of eight, that are left of a heap.
+fn left_of(heap: &LocalHeap) -> usize {
+    for step in 0..4_000usize {
+        let bytes = 32_000usize.saturating_sub(step.saturating_mul(8));
+        if Vec::<u8, _>::with_capacity(heap, bytes).is_ok() {
+            return bytes;
+        }
+    }
+    0
+}
+
+// Whether a session begins where others have all of the memory but so many bytes, unless it was short before that.
+fn begins_where_others_leave<R: Abort>(rt: &R, alloc: Global, bytes: usize) -> Option<bool> {
+    let heap = LocalHeap::new(alloc, 32_000).expect(rt, "a heap");
     let device = formatted(rt, alloc, 8_192, 128);
     let store = given(rt, Store::open(&heap, device, CACHE));
-    let others = Vec::<u8, _>::with_capacity(&heap, bytes).ok()?;
+    let taken = left_of(&heap).saturating_sub(bytes);
+    let others = Vec::<u8, _>::with_capacity(&heap, taken).ok()?;
     let opened = prepare(&heap, store, 1, 1).ok()?;
     Some(begins_beside::<Brand, _>(rt, &heap, opened, others))
 }
@@ -162,7 +174,7 @@ fn each_growth_of_a_begin_is_refused_in_turn(rt: HostRuntime) {
     let mut begun = 0u32;
     let mut refused = 0u32;
     for step in 0..64usize {
-        match begins_where_others_have(&rt, rt.alloc(), 5_500 + step * 8) {
+        match begins_where_others_leave(&rt, rt.alloc(), step * 8) {
             None => (),
             Some(true) => begun = begun.wrapping_add(1),
             Some(false) => refused = refused.wrapping_add(1),

@@ -68,7 +68,7 @@ fn each_growth_is_refused_in_turn(rt: HostRuntime) -> Result<(), Fail> {
     let mut refused = [false; 3];
     let mut given = [false; 3];
     for step in 0..300usize {
-        if let Some(answers) = given_on(rt.alloc(), 1_000 + step * 48)? {
+        if let Some(answers) = given_on(rt.alloc(), 1_000 + step * 192)? {
             for kind in 0..3usize {
                 refused[kind] |= !answers[kind];
                 given[kind] |= answers[kind];

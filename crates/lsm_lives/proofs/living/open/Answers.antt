@@ -6,9 +6,9 @@ use Rattle.lsm_lives.proofs.living.open.Goals as goal
 pub returns-in-Ok : goal.returns-in-Ok
 returns-in-Ok g c =
     let e = c.open.ensures in
-    opening (λ d. medium_in d) c.args.device c.open.result (λ other. e.size refl other) (λ size. e.refusal refl size refl) e.reopens (λ log_sectors left is. e.opens log_sectors left refl is)
+    opening (λ d. medium_in d) c.args.device refl c.open.result (λ other. e.size refl other) (λ size. e.refusal refl size refl) e.reopens (λ log_sectors left is. e.opens log_sectors left refl is)
     (λ log_sectors left is. e.fails refl log_sectors left refl is) e.faults e.calls
-    (λ size. e.begins refl size) (e.unwritten refl) (λ size. e.settled refl refl size) e.same_size e.same_lasting
+    (λ size. e.called refl size) e.same_size e.same_lasting
 
 pub returns-in-Err : goal.returns-in-Err
 returns-in-Err g c = not_opened (medium_in c.args.device)

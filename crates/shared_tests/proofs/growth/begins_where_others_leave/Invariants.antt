@@ -1,4 +1,4 @@
-use Rattle.shared_tests.proofs.growth.begins_where_others_have.Given as goal
+use Rattle.shared_tests.proofs.growth.begins_where_others_leave.Given as goal
 
 -- the session that was just prepared
 abbrev pub ghosts-begins_beside : goal.ghosts-begins_beside

@@ -1,0 +1,150 @@
+-- The device of a running store backs it, and goes on to where nothing but reads, a sync or an append comes.
+use Rattle.std.proofs.Common.{◌≡◌, ◌++◌, ◌∷◌, ℕ, List, [], Bool, length, replicate, Some, true, refl, sym, ◌∙◌, ap, subst, IsTrue}
+use Rattle.std.specs.Prelude.{Option, None, IsNone}
+use Rattle.lsm_cache.specs.Fresh.{IsFresh}
+use Rattle.lsm_cache.specs.Recency.{Cached}
+use Rattle.lsm_cache.specs.declared.name.BlockName.{BlockName}
+use Rattle.lsm_codec.specs.Map.{Operation}
+use Rattle.lsm_device.specs.Disk.{Disk, seen, synced}
+use Rattle.lsm_device.specs.History.{present, EachSince}
+use Rattle.lsm_device.specs.Medium.{Lasting, Medium, disk}
+use Rattle.lsm_device.specs.Outcomes.{Leaves}
+use Rattle.lsm_device.proofs.Moments.{ended}
+use Rattle.lsm_device.proofs.Outcomes.{seen_outcome}
+use Rattle.lsm_levels.specs.Asking.{Source}
+use Rattle.lsm_levels.specs.Levels.{all_tables, places}
+use Rattle.lsm_levels.specs.NamedBlocks.{place_among}
+use Rattle.lsm_levels.specs.Stored.{ArePlaced, AreStored, IsReadable}
+use Rattle.lsm_levels.proofs.NamedBlocks.{named_law}
+use Rattle.lsm_log.specs.Opened.{IsOpen, IsGrownBy, TakesBatch, batches_in}
+use Rattle.lsm_open.specs.Image.{StandFor}
+use Rattle.lsm_open.specs.RecoveredTables.{StandForOne}
+use Rattle.lsm_open.specs.declared.regions.OpenRegion.{OpenRegion}
+use Rattle.lsm_store.specs.Backing.{StoreView, IsRunOn, IsBacked, placement_of, data_start, work_machine_of}
+use Rattle.lsm_store.specs.Calls.{Commit, Sync}
+use Rattle.lsm_store.specs.Crash.{may_leave, last_crash_state}
+use Rattle.lsm_store.specs.Effects.{after}
+use Rattle.lsm_store.specs.Reading.{ReadsThrough}
+use Rattle.lsm_store.specs.Refusals.{refusal}
+use Rattle.lsm_store.specs.State.{LiveSnapshot}
+use Rattle.lsm_store.specs.StoredTables.{IsStoredIn}
+use Rattle.lsm_store.specs.WorkEffects.{work_called}
+use Rattle.lsm_store.specs.WorkSound.{IsSound}
+use Rattle.lsm_store.proofs.AppendedTables.{commit_stored, commit_extents}
+use Rattle.lsm_store.proofs.CallSounds.{call_sound_law}
+use Rattle.lsm_store.proofs.LeftStates.{stored_leaves, stored_reads}
+use Rattle.lsm_store.proofs.StoredLevels.{levels_kept, blocks_kept}
+use Rattle.lsm_store.proofs.StoredTables.{synced_stored}
+
+pub run_backed : (v : StoreView) → IsTrue v.device.lasting.tells → IsRunOn v → IsBacked v
+run_backed v tells runs = record {
+  tells = tells;
+  crashes = stored_leaves (placement_of v) v.state (disk v.device) runs.stored;
+  reads = λ running. stored_reads (placement_of v) v.state (disk v.device) runs.stored;
+  runs = λ running. runs;
+}
+
+-- without a crash reads give what one may leave
+pub reads_left : (v : StoreView) → IsBacked v → StandForOne v.state.log_sectors (may_leave v.state) (seen (disk v.device))
+reads_left v backed = subst (StandForOne v.state.log_sectors (may_leave v.state)) (seen_outcome (disk v.device)) (backed.crashes (replicate (length (disk v.device).pending) true))
+
+-- ---- reads
+
+-- what a read finds
+abbrev pub source_of : StoreView → Source
+source_of v = record { cache = v.cache; medium = v.device }
+
+-- where the data blocks of its tables stand
+abbrev pub place_in : StoreView → BlockName → Option ℕ
+place_in v = place_among (data_start v) (all_tables (places v.work.levels))
+
+-- the same store after one
+abbrev pub read_on : StoreView → Medium → Cached → StoreView
+read_on v new cache = record v { device = new; cache = cache }
+
+module _ (v : StoreView) where
+  pub tables_placed : IsRunOn v → ArePlaced (place_in v) (data_start v) (places v.work.levels)
+  tables_placed runs = named_law.placed (data_start v) (places v.work.levels) runs.apart
+
+  pub readable : IsBacked v → IsNone v.state.stopped → IsReadable (place_in v) (data_start v) (places v.work.levels) (source_of v)
+  readable backed running =
+      let runs = backed.runs running in
+      record { tells = backed.tells; stored = runs.tables; placed = tables_placed runs; fresh = runs.fresh }
+
+  module _ (new : Medium) (cache : Cached) (most : ℕ) (ok : Bool) (reads : ReadsThrough most (data_start v) v.work.levels ok (source_of v) (record { cache = cache; medium = new })) where
+    same_disk : IsTrue v.device.lasting.tells → disk new ≡ disk v.device
+    same_disk tells = ap present (reads.unchanged tells)
+
+    pub runs_on : IsTrue v.device.lasting.tells → IsRunOn v → IsRunOn (read_on v new cache)
+    runs_on tells runs =
+        let same : disk v.device ≡ disk new = sym (same_disk tells) in
+        record {
+          stored = subst (λ (d : Disk). IsStoredIn (placement_of v) v.state d) same runs.stored;
+          sound = runs.sound;
+          tables = subst (λ (d : Disk). AreStored (seen d) (data_start v) (places v.work.levels)) same runs.tables;
+          apart = runs.apart;
+          fresh = reads.fresh (place_in v) tells (tables_placed runs) runs.fresh;
+        }
+
+    pub backed_on : IsBacked v → IsBacked (read_on v new cache)
+    backed_on backed = record {
+      tells = subst (λ (l : Lasting). IsTrue l.tells) (sym reads.same_lasting) backed.tells;
+      crashes = subst (λ (d : Disk). Leaves (StandForOne v.state.log_sectors (may_leave v.state)) d) (sym (same_disk backed.tells)) backed.crashes;
+      reads = λ running. subst (λ (d : Disk). StandFor v.state.log_sectors (last_crash_state v.state) (seen d)) (sym (same_disk backed.tells)) (backed.reads running);
+      runs = λ running. runs_on backed.tells (backed.runs running);
+    }
+
+-- ---- a sync
+
+module _ (v : StoreView) (runs : IsRunOn v) (none : refusal v.state Sync ≡ None) where
+  pub runs_synced : (new : Medium) → disk new ≡ synced (disk v.device) → IsRunOn (record v { device = new; state = after v.state Sync })
+  runs_synced new same = record {
+    stored = subst (λ (d : Disk). IsStoredIn (placement_of v) (after v.state Sync) d) (sym same) (synced_stored (placement_of v) v.state (disk v.device) runs.stored);
+    sound = call_sound_law (work_machine_of v) Sync runs.sound none;
+    tables = subst (λ (d : Disk). AreStored (seen d) (data_start v) (places v.work.levels)) (sym same) runs.tables;
+    apart = runs.apart;
+    fresh = subst (λ (d : Disk). IsFresh (place_in v) (seen d) v.cache) (sym same) runs.fresh;
+  }
+
+-- ---- an append to the open log
+
+-- the store with the batch
+abbrev pub committed_on : StoreView → List Operation → OpenRegion → Medium → StoreView
+committed_on v batch x new = record { device = new; state = after v.state (Commit batch); layout = record v.layout { open_region = Some x }; work = work_called (work_machine_of v) (Commit batch); cache = v.cache }
+
+module _ (v : StoreView) (runs : IsRunOn v) (batch : List Operation) (none : refusal v.state (Commit batch) ≡ None) (o x : OpenRegion) (is_open : v.layout.open_region ≡ Some o) (new : Medium) where
+  pub runs_committed : EachSince (IsGrownBy o.log (disk v.device)) v.device.history new.history → x.region ≡ o.region → TakesBatch batch o.log x.log → IsOpen x.log (disk new)
+      → batches_in x.log (seen (disk new)) ≡ batches_in o.log (seen (disk v.device)) ++ batch ∷ [] → batches_in x.log (disk new).stands ≡ batches_in o.log (disk v.device).stands → IsRunOn (committed_on v batch x new)
+  runs_committed grown region takes opened reads stands =
+      let p = placement_of v in
+      let kept = commit_extents p v.state o (disk v.device) (disk new) runs.stored is_open (ended (IsGrownBy o.log (disk v.device)) v.device.history new.history grown) in
+      record {
+        stored = commit_stored p v.state o x batch v.device.history new.history runs.stored is_open grown region takes opened reads stands;
+        sound = call_sound_law (work_machine_of v) (Commit batch) runs.sound none;
+        tables = levels_kept p v.work.levels (disk v.device) (disk new) refl kept runs.tables;
+        apart = runs.apart;
+        fresh = named_law.kept (data_start v) (seen (disk v.device)) (seen (disk new)) (all_tables (places v.work.levels)) v.cache (blocks_kept p v.work.levels (disk v.device) (disk new) refl kept) runs.fresh;
+      }
+
+-- ---- other snapshots
+
+abbrev pub with_snapshots : StoreView → List LiveSnapshot → ℕ → StoreView
+with_snapshots v snapshots next = record v { state = record v.state { snapshots = snapshots; next_snapshot = next } }
+
+module _ (v : StoreView) (snapshots : List LiveSnapshot) (next : ℕ) (runs : IsRunOn v) where
+  pub runs_marked : IsSound (work_machine_of (with_snapshots v snapshots next)) → IsRunOn (with_snapshots v snapshots next)
+  runs_marked sound =
+      let is = runs.stored in
+      record {
+        stored = record {
+          carried = is.carried;
+          state = record {
+            placed = record { log_sectors = is.state.placed.log_sectors; generation = is.state.placed.generation; closed = is.state.placed.closed; open_log = is.state.placed.open_log; running = is.state.placed.running };
+            points = is.state.points;
+          };
+        };
+        sound = sound;
+        tables = runs.tables;
+        apart = runs.apart;
+        fresh = runs.fresh;
+      }

@@ -1,0 +1,59 @@
+use Rattle.std.proofs.Common.{◌≡◌, ◌⊎◌, ◌∷◌, ◌*◌, ◌≤◌, ℕ, length, map, true, is_some, sym, subst, arith}
+use Rattle.std.specs.Prelude.{option_map, MatchResult}
+use Rattle.std.specs.FinMap as finite
+use Rattle.lsm_cache.specs.declared.name.BlockName.{BlockName}
+use Rattle.std.specs.Prelude.{Option}
+use Rattle.lsm_device.proofs.Counting.{AtMost-wider}
+use Rattle.lsm_device.specs.Refusals.{faultless}
+use Rattle.lsm_device.specs.declared.refusal.Refusal.TheVariants.{Io, NoMemory}
+use Rattle.lsm_levels.specs.Asking.{Source}
+use Rattle.lsm_levels.specs.Levels.{Levels, places}
+use Rattle.lsm_levels.specs.Lookups.{versions_at, sealed_versions as sealed_of}
+use Rattle.lsm_levels.specs.Orders.{IsVersionOrder}
+use Rattle.lsm_levels.specs.Stored.{AreWithin, IsReadable}
+use Rattle.lsm_merge.specs.Inputs.{joined}
+use Rattle.lsm_mem.specs.Versions.{map_of}
+use Rattle.lsm_open.specs.Tables.{first_data}
+use Rattle.lsm_store.specs.Reading.{ReadsThrough}
+use Rattle.lsm_store.proofs.ReadViews.{Parts, same_parts}
+use Rattle.lsm_store.proofs.reading.look_up.Goals as goal
+
+pub find-requires : goal.find-requires
+find-requires g c =
+    let v = c.view_of-view.result in
+    let e = c.view_of-view.ensures in
+    let size = (g.D.Device.medium c.args.device.now).size in
+    subst (λ (a : ℕ). AreWithin size a (places v.levels.now)) (sym e.area) (subst (λ (l : Levels). AreWithin size (first_data c.args.memory.now.regions.log_sectors) (places l)) (sym e.levels) c.requires.tables)
+
+pub returns-clause-answers : goal.returns-clause-answers
+returns-clause-answers g c =
+    let v = c.view_of-view.result in
+    let e = c.view_of-view.ensures in
+    let old : Source = record { cache = c.args.cache.now; medium = g.D.Device.medium c.args.device.now } in
+    let key = c.args.key.now in
+    let n = c.args.count in
+    same_parts (λ (p : Parts). (place : BlockName → Option ℕ) → IsReadable place p.area (places p.levels) old → IsVersionOrder (versions_at p.memory p.sealed (places p.levels))
+    → MatchResult c.find.result (λ value. option_map (λ v. v.items) value ≡ finite.get (map_of (joined (versions_at p.memory p.sealed (places p.levels))) n) key)
+    (λ refusal. (refusal ≡ Io) ⊎ ((refusal ≡ NoMemory) × (is_some (finite.get (map_of (joined (versions_at p.memory p.sealed (places p.levels))) n) key) ≡ true))))
+    v.mem.now _ (sealed_of v.sealed) _ v.levels.now _ v.area _ e.memory e.sealed e.levels e.area c.find.ensures.answers
+
+pub returns-clause-reads : goal.returns-clause-reads
+returns-clause-reads g c =
+    let v = c.view_of-view.result in
+    let e = c.view_of-view.ensures in
+    let f = c.find.ensures in
+    let old : Source = record { cache = c.args.cache.now; medium = g.D.Device.medium c.args.device.now } in
+    let new : Source = record { cache = c.find.new.cache; medium = g.D.Device.medium c.find.new.device } in
+    let few : length (places v.levels.now) ≤ 16 = subst (λ (l : Levels). length (places l) ≤ 16) (sym e.levels) c.requires.few in
+    let most : 8 * length (places v.levels.now) ≤ 128 = omega (arith, few) in
+    let none : 0 ≤ 0 = omega arith in
+    subst (λ (a : ℕ). ReadsThrough 128 a c.args.memory.now.levels (faultless c.find.result) old new) e.area
+    (subst (λ (l : Levels). ReadsThrough 128 v.area l (faultless c.find.result) old new) e.levels
+    (record {
+      calls = AtMost-wider (8 * length (places v.levels.now)) 0 0 128 0 0 old.medium.calls new.medium.calls most none none f.calls;
+      faults = f.faults;
+      unchanged = f.unchanged;
+      same_size = f.same_size;
+      same_lasting = f.same_lasting;
+      fresh = f.fresh;
+    }))

@@ -1,0 +1,20 @@
+-- What a read of a store does with its device, and with the cache in front of it.
+use Rattle.std.specs.Prelude.{◌≡◌, ℕ, Bool, IsTrue, Option}
+use Rattle.lsm_cache.specs.declared.name.BlockName.{BlockName}
+use Rattle.lsm_cache.specs.Fresh.{IsFresh}
+use Rattle.lsm_device.specs.Calls.{AtMost, faults_after}
+use Rattle.lsm_device.specs.Disk.{seen}
+use Rattle.lsm_device.specs.Medium.{disk}
+use Rattle.lsm_levels.specs.Asking.{Source}
+use Rattle.lsm_levels.specs.Levels.{Levels, places}
+use Rattle.lsm_levels.specs.Stored.{ArePlaced}
+
+-- The device is read alone, so many sectors at most, and a read faulted just where it isn't told that all went well. Of tables
+-- that have their places the cache goes on to have what the device has.
+pub record ReadsThrough (most area : ℕ) (levels : Levels) (ok : Bool) (old new : Source) : Type 0 where
+  pub calls : AtMost most 0 0 old.medium.calls new.medium.calls
+  pub faults : new.medium.calls.faults ≡ faults_after ok old.medium.calls.faults
+  pub unchanged : IsTrue old.medium.lasting.tells → new.medium.history ≡ old.medium.history
+  pub same_size : new.medium.size ≡ old.medium.size
+  pub same_lasting : new.medium.lasting ≡ old.medium.lasting
+  pub fresh : (place : BlockName → Option ℕ) → IsTrue old.medium.lasting.tells → ArePlaced place area (places levels) → IsFresh place (seen (disk old.medium)) old.cache → IsFresh place (seen (disk new.medium)) new.cache
