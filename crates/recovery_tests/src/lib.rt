@@ -1,4 +1,4 @@
-//! Tests of openings of devices in memory whose roots name tables.
+//! Tests of openings of devices in memory whose roots name tables, and of stores over them.
 #![tactic(auto)]
 
 #[cfg(test)]
@@ -19,5 +19,7 @@ mod largest;
 mod openings;
 #[cfg(test)]
 mod roots;
+#[cfg(test)]
+mod stores;
 #[cfg(test)]
 mod subject;
