@@ -69,25 +69,24 @@ impl<A: Allocator> NextRoot<A> {
     }
 
     /// Replaces the device's root by this one: the manifest's sectors, which are at most 37, a sync, the superblock, a sync.
-    /// A crash at any moment leaves the old root or this one. It takes no memory.
+    /// A crash at any moment leaves the old root or this one, where its generation comes next. It takes no memory.
     pub fn install<D: Device>(&self, device: &mut D) -> Result<(), Fault>
         requires same_device { (D.medium device.old).size ≡ self.now.size }
-        requires ready { IsTrue (D.medium device.old).lasting.tells → IsReady (D.medium device.old).size self.now.log self.now.manifest.generation (disk (D.medium device.old)) }
 
-        // A crash at any moment leaves the old root, and behind it what a crash may have left when the call began, or this
-        // root, and then all that pended stands.
-        ensures any_moment { IsTrue (D.medium device.old).lasting.tells → EachSince
+        // Where its generation comes next, a crash at any moment leaves the old root, and behind it what a crash may have left
+        // when the call began, or this root, and then all that pended stands.
+        ensures any_moment { IsTrue (D.medium device.old).lasting.tells → IsReady (D.medium device.old).size self.now.log self.now.manifest.generation (disk (D.medium device.old)) → EachSince
             (Leaves (IsOldOrNew (disk (D.medium device.old)) (Stands self.now.log self.now.manifest)))
             (D.medium device.old).history (D.medium device.new).history }
 
         // Behind the root nothing is written, but what pended may stand.
-        ensures behind { IsTrue (D.medium device.old).lasting.tells → EachSince (KeepsBehind (disk (D.medium device.old)))
+        ensures behind { IsTrue (D.medium device.old).lasting.tells → IsReady (D.medium device.old).size self.now.log self.now.manifest.generation (disk (D.medium device.old)) → EachSince (KeepsBehind (disk (D.medium device.old)))
             (D.medium device.old).history (D.medium device.new).history }
-        ensures installed { IsTrue (D.medium device.old).lasting.tells → OnOk result
+        ensures installed { IsTrue (D.medium device.old).lasting.tells → IsReady (D.medium device.old).size self.now.log self.now.manifest.generation (disk (D.medium device.old)) → OnOk result
             (IsInstalled (disk (D.medium device.old)) (Stands self.now.log self.now.manifest) (disk (D.medium device.new))) }
 
         // The next generation may be installed.
-        ensures next { IsTrue (D.medium device.old).lasting.tells → OnOk result
+        ensures next { IsTrue (D.medium device.old).lasting.tells → IsReady (D.medium device.old).size self.now.log self.now.manifest.generation (disk (D.medium device.old)) → OnOk result
             (IsReady (D.medium device.new).size self.now.log (self.now.manifest.generation + 1) (disk (D.medium device.new))) }
         ensures counts { AtMost 0 38 2 (D.medium device.old).calls (D.medium device.new).calls }
         ensures made { OnOk result (CallsMade (sector_count self.now.manifest + 1) 2 (D.medium device.old).calls (D.medium device.new).calls) }
@@ -109,7 +108,8 @@ impl<A: Allocator> NextRoot<A> {
     }
 }
 
-/// Prepares the manifest's root and installs it. A crash at any moment leaves the old root or the new one. `Exhausted` comes before any device call, just where the generation is above 2^63.
+/// Prepares the manifest's root and installs it. A crash at any moment leaves the old root or the new one. `Exhausted` comes
+/// before any device call, just where the generation is above 2^63.
 pub fn install<A: Allocator, D: Device>(
     alloc: A,
     device: &mut D,
