@@ -22,6 +22,7 @@ pub mod FreeWrites
 pub mod Switches
 pub mod NewLogs
 pub mod Rotating
+pub mod RotatedRegions
 pub mod Flushing
 pub mod Merging
 pub mod OpeningSteps

@@ -1,5 +1,5 @@
 -- What may be installed next: after a rotation, a flush, a merge and an opening.
-use Rattle.std.specs.Prelude.{◌≡◌, ◌≤◌, ◌<◌, ◌⊎◌, ℕ, ◌+◌, ◌*◌, ◌==◌, List, [], ◌++◌, length, map, All, Option, Some, IsSome, option_map, if◌then◌else◌}
+use Rattle.std.specs.Prelude.{◌≡◌, ◌≤◌, ◌<◌, ◌⊎◌, ℕ, ◌+◌, ◌*◌, ◌==◌, List, [], ◌++◌, length, map, All, Option, Some, IsSome, option_map, if◌then◌else◌, Some}
 use Rattle.std.specs.List.{AllByRecursion}
 use Rattle.lsm_codec.specs.declared.log_record.LogRecord.{LogRecord}
 use Rattle.lsm_codec.specs.declared.table_record.TableRecord.{TableRecord}
@@ -12,7 +12,7 @@ use Rattle.lsm_mem.specs.EntryOrder.{with_batches}
 use Rattle.lsm_merge.specs.Laws.{HaveSameMap}
 use Rattle.lsm_open.specs.CrashState.{CrashState, last_number}
 use Rattle.lsm_open.specs.LogRegions.{first_region, one_if_some}
-use Rattle.lsm_open.specs.Layout.{open_records, open_batches}
+use Rattle.lsm_open.specs.Layout.{Layout, open_records, open_batches}
 use Rattle.lsm_open.specs.Image.{count_in, StandFor, StandForSome}
 use Rattle.lsm_open.specs.Placements.{Placement, contents_for, closed_in, IsHeld, present_state}
 use Rattle.lsm_open.specs.Reopening.{kept_records, least_free, IsNewIfOpen}
@@ -55,6 +55,12 @@ pub record MayRotate (p : Placement) (d : Disk) : Type 0 where
 pub record IsInLeastFree (log_sectors generation count : ℕ) (closed : List LogRecord) (o : Option OpenRegion) : Type 0 where
   pub least : option_map (λ o. o.region) o ≡ least_free closed
   pub new_log : IsNewIfOpen log_sectors generation count o
+
+-- The layout after a rotation behind so many batches: a new log is open in the least region that is free then.
+pub record IsRotated (l : Layout) (count : ℕ) (next : Layout) : Type 0 where
+  pub new_log : OpenRegion
+  pub least : IsInLeastFree l.log_sectors (l.generation + 1) count (open_records l.open_region) (Some new_log)
+  pub layout : next ≡ record l { generation = l.generation + 1; closed = open_records l.open_region; open_region = Some new_log }
 
 -- ---- a flush
 

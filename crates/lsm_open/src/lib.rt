@@ -6,6 +6,7 @@ mod image_law;
 mod install_law;
 mod job_law;
 mod law;
+mod next;
 mod recovered_tables;
 mod recovery;
 mod regions;
@@ -27,6 +28,7 @@ pub use job_law::{
     installs_take_over, jobs_keep_what_they_place, jobs_write_free_blocks, written_tables_stand,
 };
 pub use law::openings_leave_the_same;
+pub use next::table_records;
 pub use recovered_tables::{RecoveredTables, recover_with_tables};
 pub use recovery::{Recovered, recover};
 pub use regions::{OpenRegion, Regions};

@@ -44,8 +44,8 @@ fn least_free(logs: &[LogRecord]) -> Option<u8>
     }
 }
 
-// A log with no batch yet in the least free region, if one is free.
-fn open_least_free(
+/// A log with no batch yet in the least free region, if one is free.
+pub(crate) fn open_least_free(
     log_sectors: u16,
     closed: &[LogRecord],
     epoch: u64,

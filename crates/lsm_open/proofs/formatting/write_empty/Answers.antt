@@ -12,18 +12,8 @@ use Rattle.lsm_open.specs.Formatted.{empty_manifest}
 use Rattle.lsm_open.proofs.Zeroed.{zeroed_ready, is_formatted, empty_takes_one}
 use Rattle.lsm_open.proofs.formatting.write_empty.Goals as goal
 
-pub install-requires-clause-same_device : goal.install-requires-clause-same_device
-install-requires-clause-same_device g c = c.zero_front.ensures.same_size ∙ ap (λ (p : Planned). p.size) (sym c.requires.root)
-
-pub install-requires-clause-ready : goal.install-requires-clause-ready
-install-requires-clause-ready g c = λ t.
-    let D = g.D.Device in
-    let size = (D.medium c.args.device.now).size in
-    let told = rw c.zero_front.ensures.same_lasting at t in
-    let here = zeroed_ready size (130 + 3 * c.args.log_sectors) (disk (D.medium c.args.device.now)) (g.met.D.Device.sound c.args.device.now told).now (omega (arith, c.requires.geometry.device.low, c.requires.geometry.log_high)) c.args.log_sectors (omega arith) in
-    subst (λ (p : Planned). IsReady (D.medium c.zero_front.new.device).size p.log p.manifest.generation (disk (D.medium c.zero_front.new.device))) (sym c.requires.root)
-    (subst (λ (n : ℕ). IsReady n c.args.log_sectors 1 (disk (D.medium c.zero_front.new.device))) (sym c.zero_front.ensures.same_size)
-    (subst (IsReady size c.args.log_sectors 1) (sym (c.in_ok-zero_front.ensures.zeroed told)) here))
+pub install-requires : goal.install-requires
+install-requires g c = record { same_device = c.zero_front.ensures.same_size ∙ ap (λ (p : Planned). p.size) (sym c.requires.root) }
 
 pub returns-in_err-install-clause-counts : goal.returns-in_err-install-clause-counts
 returns-in_err-install-clause-counts g c =
@@ -44,7 +34,12 @@ pub returns-clause-formatted : goal.returns-clause-formatted
 returns-clause-formatted g c = λ t.
     let D = g.D.Device in
     let size = (D.medium c.args.device.now).size in
+    let here = zeroed_ready size (130 + 3 * c.args.log_sectors) (disk (D.medium c.args.device.now)) (g.met.D.Device.sound c.args.device.now t).now (omega (arith, c.requires.geometry.device.low, c.requires.geometry.log_high)) c.args.log_sectors (omega arith) in
+    let ready : IsReady (D.medium c.zero_front.new.device).size c.args.root.now.log c.args.root.now.manifest.generation (disk (D.medium c.zero_front.new.device)) =
+    subst (λ (p : Planned). IsReady (D.medium c.zero_front.new.device).size p.log p.manifest.generation (disk (D.medium c.zero_front.new.device))) (sym c.requires.root)
+    (subst (λ (n : ℕ). IsReady n c.args.log_sectors 1 (disk (D.medium c.zero_front.new.device))) (sym c.zero_front.ensures.same_size)
+    (subst (IsReady size c.args.log_sectors 1) (sym (c.in_ok-zero_front.ensures.zeroed t)) here)) in
     let installed : IsInstalled (disk (D.medium c.zero_front.new.device)) (Stands c.args.log_sectors empty_manifest) (disk (D.medium c.install.new.device)) =
-    subst (λ (p : Planned). IsInstalled (disk (D.medium c.zero_front.new.device)) (Stands p.log p.manifest) (disk (D.medium c.install.new.device))) c.requires.root (c.in_ok-install.ensures.installed (rw c.zero_front.ensures.same_lasting t)) in
+    subst (λ (p : Planned). IsInstalled (disk (D.medium c.zero_front.new.device)) (Stands p.log p.manifest) (disk (D.medium c.install.new.device))) c.requires.root (c.in_ok-install.ensures.installed (rw c.zero_front.ensures.same_lasting t) ready) in
     is_formatted size (130 + 3 * c.args.log_sectors) (disk (D.medium c.args.device.now)) (g.met.D.Device.sound c.args.device.now t).now (omega (arith, c.requires.geometry.device.low, c.requires.geometry.log_high)) c.args.log_sectors (disk (D.medium c.install.new.device)) refl
     (subst (λ (d : Disk). IsInstalled d (Stands c.args.log_sectors empty_manifest) (disk (D.medium c.install.new.device))) (c.in_ok-zero_front.ensures.zeroed t) installed)
