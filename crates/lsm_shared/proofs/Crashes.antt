@@ -7,7 +7,7 @@ use Rattle.lsm_device.specs.declared.refusal.Refusal.TheVariants.{Io}
 use Rattle.lsm_open.specs.RecoveredTables.{StandForOne}
 use Rattle.lsm_store.specs.Backing.{StoreView, machine_of, IsBacked}
 use Rattle.lsm_store.specs.Calls.{Call, Reply}
-use Rattle.lsm_store.specs.Calls.{Commit, Sync, SyncTo, Get, Scan, Snapshot, Release, LogRoom, Number, Done, Value, Rows, Refused}
+use Rattle.lsm_store.specs.Calls.{Commit, Sync, SyncTo, Get, Scan, Snapshot, Release, Rotate, LogRoom, Number, Done, Value, Rows, Refused}
 use Rattle.lsm_store.specs.Crash.{may_leave}
 use Rattle.lsm_store.specs.Effects.{after, reply_by, Use, use_of}
 use Rattle.lsm_store.specs.Effects.{Untouched, Reads, Changes}
@@ -37,6 +37,7 @@ after_sectors s (Get at key) = refl
 after_sectors s (Scan at from to limit) = refl
 after_sectors s Snapshot = refl
 after_sectors s (Release number) = refl
+after_sectors s Rotate = refl
 after_sectors s LogRoom = refl
 
 next_sectors : (s : State) (call : Call) (reply : Reply) → (next s call reply).log_sectors ≡ s.log_sectors

@@ -8,7 +8,7 @@ use Rattle.lsm_device.specs.declared.refusal.Refusal.{Refusal}
 use Rattle.lsm_device.specs.declared.refusal.Refusal.TheVariants.{NoMemory, TrailFull, NotYours}
 use Rattle.lsm_store.specs.Backing.{StoreView, IsBacked}
 use Rattle.lsm_store.specs.Calls.{Call, Reply}
-use Rattle.lsm_store.specs.Calls.{Commit, Sync, SyncTo, Get, Scan, Snapshot, Release, LogRoom, Number, Done, Value, Rows, Refused}
+use Rattle.lsm_store.specs.Calls.{Commit, Sync, SyncTo, Get, Scan, Snapshot, Release, Rotate, LogRoom, Number, Done, Value, Rows, Refused}
 use Rattle.lsm_store.specs.Effects.{after, takes_memory}
 use Rattle.lsm_store.specs.Machine.{Step, Called}
 use Rattle.lsm_store.specs.RecoveryPoints.{batch_count}
@@ -36,6 +36,7 @@ value_kept s (SyncTo number) is = absurd (cc is)
 value_kept s (Scan at from to limit) is = absurd (cc is)
 value_kept s Snapshot is = absurd (cc is)
 value_kept s (Release number) is = absurd (cc is)
+value_kept s Rotate is = absurd (cc is)
 value_kept s LogRoom is = absurd (cc is)
 
 -- and so does one that asks for a page
@@ -47,6 +48,7 @@ page_kept s (SyncTo number) is = absurd (cc is)
 page_kept s (Get at key) is = absurd (cc is)
 page_kept s Snapshot is = absurd (cc is)
 page_kept s (Release number) is = absurd (cc is)
+page_kept s Rotate is = absurd (cc is)
 page_kept s LogRoom is = absurd (cc is)
 
 -- a reply for which memory was short has changed nothing

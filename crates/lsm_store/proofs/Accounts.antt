@@ -23,7 +23,7 @@ use Rattle.lsm_jobs.specs.Slots.{Stage, Reading, Frozen, Writing, Slot, Slots, s
 use Rattle.lsm_jobs.specs.Taking.{first_stage, slot_for, with_taken}
 use Rattle.lsm_jobs.proofs.Found.{found_there}
 use Rattle.lsm_store.specs.Accounts.{is_same_extent, extents_like, tables_like, outputs_in, tables_placed, AreAccounted, AreOutlined, AccountsLaw, AccountedLaw}
-use Rattle.lsm_store.specs.Calls.{Call, Commit, Sync, SyncTo, Get, Scan, Snapshot, Release, LogRoom}
+use Rattle.lsm_store.specs.Calls.{Call, Commit, Sync, SyncTo, Get, Scan, Snapshot, Release, Rotate, LogRoom}
 use Rattle.lsm_store.specs.Refusals.{first_refusal}
 use Rattle.lsm_store.specs.Work.{WorkView, WorkMachine, Work, Take, Read, Ask, Accept, Write, Install, Drop, cuts_of}
 use Rattle.lsm_store.specs.WorkEffects.{staged, with_placed, with_installed, without_job, work_after, work_called}
@@ -268,6 +268,7 @@ called_accounts m (Get at key) accounts = accounts
 called_accounts m (Scan at from to limit) accounts = accounts
 called_accounts m Snapshot accounts = accounts
 called_accounts m (Release number) accounts = accounts
+called_accounts m Rotate accounts = record { each = accounts.each }
 called_accounts m LogRoom accounts = accounts
 
 -- tables that stand are those of their outlines

@@ -27,18 +27,18 @@ use Rattle.lsm_levels.proofs.Taking.{newer_from}
 use Rattle.lsm_jobs.specs.Slots.{Slot}
 use Rattle.lsm_jobs.specs.Taking.{runs_of}
 use Rattle.lsm_store.specs.RecoveryPoints.{batch_count, present_map, with_batch as points_with, all_synced}
-use Rattle.lsm_store.specs.State.{State, OpenLog, LiveSnapshot, fits_in}
+use Rattle.lsm_store.specs.State.{State, OpenLog, LiveSnapshot, fits_in, are_waiting}
 use Rattle.lsm_store.specs.Calls.{Call}
-use Rattle.lsm_store.specs.Calls.{Commit, Sync, SyncTo, Get, Scan, Snapshot, Release, LogRoom}
+use Rattle.lsm_store.specs.Calls.{Commit, Sync, SyncTo, Get, Scan, Snapshot, Release, Rotate, LogRoom}
 use Rattle.lsm_store.specs.Refusals.{refusal}
-use Rattle.lsm_store.specs.Effects.{with_sectors, next_taken, without, after}
+use Rattle.lsm_store.specs.Effects.{with_sectors, next_taken, without, after, rotated}
 use Rattle.lsm_store.specs.StateMaps.{points_of, HaveMaps}
-use Rattle.lsm_store.specs.Work.{WorkView, WorkMachine, versions_in, are_waiting}
-use Rattle.lsm_store.specs.WorkEffects.{work_called, with_sealed, rotated}
+use Rattle.lsm_store.specs.Work.{WorkView, WorkMachine, versions_in}
+use Rattle.lsm_store.specs.WorkEffects.{work_called, with_sealed}
 use Rattle.lsm_store.specs.WorkMaps.{IsUnique}
 use Rattle.lsm_store.specs.WorkSound.{IsSound, CallSoundLaw, RotationSoundLaw}
 use Rattle.lsm_store.proofs.InstalledMaps.{table_versions, in_has, commit_law}
-use Rattle.lsm_store.proofs.Unrefused.{unrefused_commit}
+use Rattle.lsm_store.proofs.Unrefused.{unrefused_commit, unrefused_rotation}
 use Rattle.lsm_store.proofs.Remembering.{present_map-points_of, all_synced-points_of, points_of-next}
 use Rattle.lsm_store.proofs.StateMaps.{count_is, synced_is}
 use Rattle.lsm_store.proofs.WorkSounds.{Goes, job_goes, machine}
@@ -382,6 +382,7 @@ module _ (m : WorkMachine) (sound : IsSound m) where
   call_sound (Scan at from to limit) none = sound
   call_sound Snapshot none = snapshot_sound
   call_sound (Release number) none = release_sound number
+  call_sound Rotate none = rotate_sound (unrefused_rotation m.state none)
   call_sound LogRoom none = sound
 
 pub call_sound_law : CallSoundLaw

@@ -1,5 +1,5 @@
 -- What a crash may leave, from call to call.
-use Rattle.std.proofs.Common.{◌≡◌, ⊎_elim, ℕ, Bool, true, false, cond, List, [], ◌++◌, Option, Some, None, is_some, refl, ap, sym, subst, ◌∙◌}
+use Rattle.std.proofs.Common.{◌≡◌, ⊎_elim, ℕ, Bool, true, false, cond, List, [], ◌∷◌, ◌++◌, Option, Some, None, is_some, refl, ap, sym, subst, ◌∙◌}
 use Rattle.std.specs.Prelude.{Contains, nat_le, option_map}
 use Rattle.std.proofs.lemmas.List.Elements.{Contains-append_left, Contains-append_right, Contains-append_cases}
 use Rattle.lsm_codec.specs.Map.{Operation}
@@ -9,7 +9,7 @@ use Rattle.lsm_open.specs.CrashState.{CrashState}
 use Rattle.lsm_store.specs.RecoveryPoints.{RecoveryPoint, recovery_points, present_point, with_batch, all_synced}
 use Rattle.lsm_store.specs.State.{OpenLog, State}
 use Rattle.lsm_store.specs.Calls.{Call, Reply}
-use Rattle.lsm_store.specs.Calls.{Commit, Sync, SyncTo, Get, Scan, Snapshot, Release, LogRoom, Number, Done, Value, Rows, Refused}
+use Rattle.lsm_store.specs.Calls.{Commit, Sync, SyncTo, Get, Scan, Snapshot, Release, Rotate, LogRoom, Number, Done, Value, Rows, Refused}
 use Rattle.lsm_store.specs.Refusals.{refusal}
 use Rattle.lsm_store.specs.Effects.{with_sectors, after, decided, reply_by, Use, use_of}
 use Rattle.lsm_store.specs.Effects.{Untouched, Reads, Changes}
@@ -17,7 +17,7 @@ use Rattle.lsm_store.specs.Crash.{closed_with, crash_state_at, left_between, lef
 use Rattle.lsm_store.specs.Machine.{Machine, Step, Called}
 use Rattle.lsm_store.specs.Run.{Admits, after_fault, next, AdmitsStep, next_machine, left_in_step}
 use Rattle.lsm_store.proofs.Membership.{in_head, one_in, in_map, map_cases}
-use Rattle.lsm_store.proofs.Points.{present_in, with_batch_cases}
+use Rattle.lsm_store.proofs.Points.{present_in, with_batch_cases, present_synced}
 
 -- a batch more in the open log closes no other region
 pub closed_same : (closed count : ℕ) (batch : List Operation) (log : Option OpenLog) → closed_with closed count (option_map (with_sectors batch) log) ≡ closed_with closed count log
@@ -51,6 +51,8 @@ between_goes s (Get at key) left found = Contains-append_left (left_between s) [
 between_goes s (Scan at from to limit) left found = Contains-append_left (left_between s) [] left found
 between_goes s Snapshot left found = Contains-append_left (left_between s) [] left found
 between_goes s (Release number) left found = Contains-append_left (left_between s) [] left found
+between_goes s Rotate left found = Contains-append_right (left_between s) (left_besides s Rotate) left
+    (subst (λ (x : CrashState). Contains (x ∷ []) left) (ap (crash_state_at (after s Rotate)) (sym (present_synced s.points))) found)
 between_goes s LogRoom left found = Contains-append_left (left_between s) [] left found
 
 pub stays_stopped : (s : State) (call : Call) → (after s call).stopped ≡ s.stopped
@@ -61,6 +63,7 @@ stays_stopped s (Get at key) = refl
 stays_stopped s (Scan at from to limit) = refl
 stays_stopped s Snapshot = refl
 stays_stopped s (Release number) = refl
+stays_stopped s Rotate = refl
 stays_stopped s LogRoom = refl
 
 with_others : (s t : State) (besides : List CrashState) (left : CrashState) → (Contains (left_between t) left → Contains (left_between s ++ besides) left)

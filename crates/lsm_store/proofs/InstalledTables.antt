@@ -41,7 +41,8 @@ use Rattle.lsm_store.specs.RecoveryPoints.{batch_count, present_map}
 use Rattle.lsm_store.specs.State.{OpenLog, State, map_at}
 use Rattle.lsm_store.specs.Stored.{open_log_of}
 use Rattle.lsm_store.specs.StoredTables.{IsStateOver, IsStoredIn, KeepsExtents, MayGoOn}
-use Rattle.lsm_store.specs.WorkEffects.{installed, rotated}
+use Rattle.lsm_store.specs.Effects.{rotated}
+use Rattle.lsm_store.specs.WorkEffects.{installed}
 use Rattle.lsm_store.specs.declared.asked.At.{At}
 use Rattle.lsm_store.specs.declared.asked.At.TheVariants.{Now, Snap}
 use Rattle.lsm_store.proofs.Carrying.{may_leave_running}

@@ -41,6 +41,9 @@ pub mod InstalledTables
 pub mod StoredTables
 pub mod KeptJobs
 pub mod RotatedManifests
+pub mod RotatedLayouts
+pub mod Rotations
+pub mod RotatedMemory
 pub mod StoredLevels
 pub mod NumberedApart
 pub mod VersionPoints

@@ -36,9 +36,9 @@ use Rattle.lsm_open.specs.ToldTables.{records_of, Held}
 use Rattle.lsm_open.specs.declared.regions.OpenRegion.{OpenRegion}
 use Rattle.lsm_open.proofs.StandingLevels.{all_versions}
 use Rattle.lsm_store.specs.Crash.{reopened}
-use Rattle.lsm_store.specs.State.{OpenLog}
+use Rattle.lsm_store.specs.State.{OpenLog, are_waiting}
 use Rattle.lsm_store.specs.Stored.{open_log_of}
-use Rattle.lsm_store.specs.Work.{WorkView, WorkMachine, Work, Take, Read, Ask, Accept, Write, Install, Drop, versions_in, are_waiting}
+use Rattle.lsm_store.specs.Work.{WorkView, WorkMachine, Work, Take, Read, Ask, Accept, Write, Install, Drop, versions_in}
 use Rattle.lsm_store.specs.WorkMaps.{IsUnique}
 use Rattle.lsm_store.specs.WorkSound.{IsSound, IsServed}
 use Rattle.lsm_store.specs.OpenedWork.{opened_work, opened_machine, OpenedLaw}

@@ -1,6 +1,7 @@
 -- After any steps a store's recovery points are beginnings of the accepted batches.
 use Rattle.std.proofs.Common.{◌≡◌, ◌≤◌, ◌⊎◌, inl, inr, ⊎_elim, ℕ, ◌+◌, Bool, true, false, cond, List, [], ◌∷◌, ◌++◌, length, Option, Some, None, is_some, refl, ap, sym, subst, ◌∙◌, arith}
 use Rattle.std.specs.Prelude.{Contains, nat_le}
+use Rattle.std.specs.List.{AllByRecursion}
 use Rattle.std.proofs.Math.Nat.{add-zero}
 use Rattle.std.proofs.lemmas.Bool.{false≢true}
 use Rattle.std.proofs.lemmas.List.{append_assoc, append-nil, length-append, take-append-le, take_all}
@@ -10,10 +11,10 @@ use Rattle.lsm_device.specs.Refusals.{is_no_fault}
 use Rattle.lsm_device.specs.declared.refusal.Refusal.{Refusal}
 use Rattle.lsm_device.specs.declared.refusal.Refusal.TheVariants.{Io, Stopped}
 use Rattle.lsm_open.specs.CrashState.{CrashState}
-use Rattle.lsm_store.specs.RecoveryPoints.{RecoveryPoints, recovery_points, with_batch, all_synced, batch_count, present_map}
+use Rattle.lsm_store.specs.RecoveryPoints.{RecoveryPoint, RecoveryPoints, recovery_points, with_batch, all_synced, batch_count, present_map}
 use Rattle.lsm_store.specs.State.{State}
 use Rattle.lsm_store.specs.Calls.{Call, Reply}
-use Rattle.lsm_store.specs.Calls.{Commit, Sync, SyncTo, Get, Scan, Snapshot, Release, LogRoom, Number, Done, Value, Rows, Refused}
+use Rattle.lsm_store.specs.Calls.{Commit, Sync, SyncTo, Get, Scan, Snapshot, Release, Rotate, LogRoom, Number, Done, Value, Rows, Refused}
 use Rattle.lsm_store.specs.Refusals.{refusal}
 use Rattle.lsm_store.specs.Effects.{answer, after, decided, reply_by}
 use Rattle.lsm_store.specs.Effects.{Untouched, Changes}
@@ -21,8 +22,8 @@ use Rattle.lsm_store.specs.Crash.{crash_state_at, left_between, left_with, may_l
 use Rattle.lsm_store.specs.Machine.{Machine, Step, Called}
 use Rattle.lsm_store.specs.Run.{stopped_in, after_fault, next, left_in_step, Run, last_machine}
 use Rattle.lsm_store.specs.Promise.{accepted_by, accepted, acknowledged_by, acknowledged_from, acknowledged, in_flight, IsBeginning, beginnings, Promise}
-use Rattle.lsm_store.proofs.Membership.{none_in, one_in, map_cases}
-use Rattle.lsm_store.proofs.Points.{in_beginnings, present_beginnings, count_beginnings, with_batch_beginnings, all_synced_beginnings}
+use Rattle.lsm_store.proofs.Membership.{none_in, one_in, in_cases, map_cases}
+use Rattle.lsm_store.proofs.Points.{present_synced, in_beginnings, present_beginnings, count_beginnings, with_batch_beginnings, all_synced_beginnings}
 use Rattle.lsm_store.proofs.Running.{stopped_answers, stopped_refusal}
 use Rattle.lsm_store.proofs.CrashStates.{IsAnswer}
 
@@ -37,10 +38,18 @@ RunFrom s steps replies = Run (being s) steps replies
 abbrev last_from : State → List Step → List Reply → State
 last_from s steps replies = (last_machine (being s) steps replies).state
 
--- what else a state may leave is what the batch in flight would have made of it
+-- all batches are left
+abbrev IsPresent : State → CrashState → Type 0
+IsPresent s left = (left.count ≡ batch_count s.points) × (left.map ≡ present_map s.points)
+
+-- so a crash behind a rotation leaves it
+rotated_present : (s : State) → IsPresent s (last_crash_state (after s Rotate))
+rotated_present s = (ap (λ (p : RecoveryPoint). p.count) (present_synced s.points), refl)
+
+-- What else a state may leave is what the batch in flight would have made of it. Where none is, all batches are left.
 abbrev IsWithFlight : State → Option (List CrashState) → List (List Operation) → Type 0
 IsWithFlight s None flight = flight ≡ []
-IsWithFlight s (Some others) [] = others ≡ []
+IsWithFlight s (Some others) [] = AllByRecursion (IsPresent s) others
 IsWithFlight s (Some others) (batch ∷ []) = others ≡ last_crash_state (after s (Commit batch)) ∷ []
 IsWithFlight s (Some others) (batch ∷ more ∷ rest) = ⊥
 
@@ -75,6 +84,7 @@ flight_step (Get at key) reply = inl (λ steps replies. refl)
 flight_step (Scan at from to limit) reply = inl (λ steps replies. refl)
 flight_step Snapshot reply = inl (λ steps replies. refl)
 flight_step (Release number) reply = inl (λ steps replies. refl)
+flight_step Rotate reply = inl (λ steps replies. refl)
 flight_step LogRoom reply = inl (λ steps replies. refl)
 
 -- at most one
@@ -87,6 +97,7 @@ one_in_flight (Called (Get at key) ∷ steps) [] = omega arith
 one_in_flight (Called (Scan at from to limit) ∷ steps) [] = omega arith
 one_in_flight (Called Snapshot ∷ steps) [] = omega arith
 one_in_flight (Called (Release number) ∷ steps) [] = omega arith
+one_in_flight (Called Rotate ∷ steps) [] = omega arith
 one_in_flight (Called LogRoom ∷ steps) [] = omega arith
 one_in_flight (Called call ∷ steps) (reply ∷ replies) = ⊎_elim
     (λ same. subst (λ flight. length flight ≤ 1) (sym (same steps replies)) (one_in_flight steps replies))
@@ -126,6 +137,7 @@ nothing_accepted (Get at key) e = refl
 nothing_accepted (Scan at from to limit) e = refl
 nothing_accepted Snapshot e = refl
 nothing_accepted (Release number) e = refl
+nothing_accepted Rotate e = refl
 nothing_accepted LogRoom e = refl
 
 nothing_acknowledged : (k done known : ℕ) (call : Call) (e : Refusal) → acknowledged_by k done known (Called call) (Refused e) ≡ known
@@ -136,6 +148,7 @@ nothing_acknowledged k done known (Get at key) e = refl
 nothing_acknowledged k done known (Scan at from to limit) e = refl
 nothing_acknowledged k done known Snapshot e = refl
 nothing_acknowledged k done known (Release number) e = refl
+nothing_acknowledged k done known Rotate e = refl
 nothing_acknowledged k done known LogRoom e = refl
 
 -- ---- a stopped store
@@ -155,6 +168,7 @@ flight_stopped (Get at key) steps replies = refl
 flight_stopped (Scan at from to limit) steps replies = refl
 flight_stopped Snapshot steps replies = refl
 flight_stopped (Release number) steps replies = refl
+flight_stopped Rotate steps replies = refl
 flight_stopped LogRoom steps replies = refl
 
 quiet : (k : ℕ) (s : State) (others : List CrashState) (steps : List Step) (replies : List Reply) → s.stopped ≡ Some others → RunFrom s steps replies → IsQuiet k s steps replies
@@ -206,6 +220,9 @@ module _ (k : ℕ) (m : Map) where
   answered done known s (Scan at from to limit) runs = same_done done known s runs
   answered done known s Snapshot runs = same_done done known (after s Snapshot) (record { points = runs.points; within = runs.within; runs = runs.runs })
   answered done known s (Release number) runs = same_done done known (after s (Release number)) (record { points = runs.points; within = runs.within; runs = runs.runs })
+  answered done known s Rotate runs =
+      let now = synced_now done known s runs in
+      same_done done (length done) (after s Rotate) (record { points = now.points; within = now.within; runs = now.runs })
   answered done known s LogRoom runs = same_done done known s runs
 
   -- what is to be shown of a call and the steps behind it
@@ -230,6 +247,7 @@ module _ (k : ℕ) (m : Map) where
     answer_step (Scan at from to limit) goes run = regrouped [] _ _ _ (goes run)
     answer_step Snapshot goes run = regrouped [] _ _ _ (goes run)
     answer_step (Release number) goes run = regrouped [] _ _ _ (goes run)
+    answer_step Rotate goes run = regrouped [] _ _ _ (goes run)
     answer_step LogRoom goes run = regrouped [] _ _ _ (goes run)
 
     -- after a call that changed nothing
@@ -261,17 +279,20 @@ module _ (k : ℕ) (m : Map) where
     fault_step : (call : Call) → IsRunning k m done known s → (RunFrom s steps replies → Reaches steps replies done known s) → ((others : List CrashState) → RunFrom (record s { stopped = Some others }) steps replies → IsQuiet k (record s { stopped = Some others }) steps replies)
         → RunFrom (next s call (Refused Io)) steps replies → Reaches (Called call ∷ steps) (Refused Io ∷ replies) done known s
     fault_step (Commit batch) runs goes still run = stopped_step (Commit batch) refl runs (still _ run)
-    fault_step Sync runs goes still run = let silent = still [] run in stopped_step Sync (subst (IsWithFlight (stopped_in s Sync) (Some [])) (sym silent.none_in_flight) refl) runs silent
+    fault_step Sync runs goes still run = let silent = still [] run in stopped_step Sync (subst (IsWithFlight (stopped_in s Sync) (Some [])) (sym silent.none_in_flight) tt) runs silent
     fault_step (SyncTo number) runs goes still run = by (nat_le number s.points.synced) run
       where
         by : (b : Bool) → RunFrom (after_fault s (SyncTo number) (cond b Untouched Changes)) steps replies
             → IsReached k m (done ++ accepted (Called (SyncTo number) ∷ steps) (Refused Io ∷ replies)) (acknowledged_from k (length done) known (Called (SyncTo number) ∷ steps) (Refused Io ∷ replies)) (in_flight (Called (SyncTo number) ∷ steps) (Refused Io ∷ replies)) (last_from (after_fault s (SyncTo number) (cond b Untouched Changes)) steps replies)
         by true more = unchanged_step (SyncTo number) Io refl (goes more)
-        by false more = let silent = still [] more in stopped_step (SyncTo number) (subst (IsWithFlight (stopped_in s (SyncTo number)) (Some [])) (sym silent.none_in_flight) refl) runs silent
+        by false more = let silent = still [] more in stopped_step (SyncTo number) (subst (IsWithFlight (stopped_in s (SyncTo number)) (Some [])) (sym silent.none_in_flight) tt) runs silent
     fault_step (Get at key) runs goes still run = unchanged_step (Get at key) Io refl (goes run)
     fault_step (Scan at from to limit) runs goes still run = unchanged_step (Scan at from to limit) Io refl (goes run)
     fault_step Snapshot runs goes still run = unchanged_step Snapshot Io refl (goes run)
     fault_step (Release number) runs goes still run = unchanged_step (Release number) Io refl (goes run)
+    fault_step Rotate runs goes still run =
+        let silent = still _ run in
+        stopped_step Rotate (subst (IsWithFlight (stopped_in s Rotate) (Some (left_besides s Rotate))) (sym silent.none_in_flight) (rotated_present s, tt)) runs silent
     fault_step LogRoom runs goes still run = unchanged_step LogRoom Io refl (goes run)
 
     flight_refused : (call : Call) (e : Refusal) → is_no_fault e ≡ true → in_flight (Called call ∷ steps) (Refused e ∷ replies) ≡ in_flight steps replies
@@ -283,6 +304,7 @@ module _ (k : ℕ) (m : Map) where
     flight_refused (Scan at from to limit) e safe = refl
     flight_refused Snapshot e safe = refl
     flight_refused (Release number) e safe = refl
+    flight_refused Rotate e safe = refl
     flight_refused LogRoom e safe = refl
 
     -- a reply that is no refusal is the answer
@@ -343,8 +365,26 @@ module _ (opened : CrashState) (done : List (List Operation)) (known : ℕ) (fli
         same_map = ap (λ (c : CrashState). c.map) is ∙ ap present_map points ∙ present_beginnings opened.count opened.map all known ∙ ap (apply_all opened.map) (sym (take_all (length all) all (omega arith)));
       }
 
+  -- all of the batches
+  kept_present : (left : CrashState) → IsPresent t left → IsBeginning opened (done ++ []) known left
+  kept_present left is = subst (λ l. IsBeginning opened l known left) (sym (append-nil done)) (record {
+    holds = length done;
+    at_least = here.within;
+    among = omega arith;
+    count = is.0 ∙ ap batch_count here.points ∙ count_beginnings opened.count opened.map done known here.within;
+    same_map = is.1 ∙ ap present_map here.points ∙ present_beginnings opened.count opened.map done known ∙ ap (apply_all opened.map) (sym (take_all (length done) done (omega arith)));
+  })
+
+  -- so it is with each of these
+  present_among : (others : List CrashState) (left : CrashState) → AllByRecursion (IsPresent t) others → Contains others left → IsPresent t left
+  present_among [] left each found = absurd (none_in left found)
+  present_among (one ∷ rest) left each found = ⊎_elim
+      (λ same. subst (IsPresent t) (sym same) each.0)
+      (λ later. present_among rest left each.1 later)
+      (in_cases one left rest found)
+
   kept_besides : (f : List (List Operation)) (others : List CrashState) (left : CrashState) → IsWithFlight t (Some others) f → Contains others left → IsBeginning opened (done ++ f) known left
-  kept_besides [] others left is found = absurd (none_in left (subst (λ l. Contains l left) is found))
+  kept_besides [] others left is found = kept_present left (present_among others left is found)
   kept_besides (batch ∷ []) others left is found = kept_whole batch left (one_in (last_crash_state (after t (Commit batch))) left (subst (λ l. Contains l left) is found))
   kept_besides (batch ∷ more ∷ rest) others left is found = absurd is
 
@@ -385,6 +425,7 @@ module _ (opened : CrashState) (done : List (List Operation)) (known : ℕ) (fli
   kept_by_call (Scan at from to limit) left found = absurd (none_in left found)
   kept_by_call Snapshot left found = absurd (none_in left found)
   kept_by_call (Release number) left found = absurd (none_in left found)
+  kept_by_call Rotate left found = kept_present left (subst (IsPresent t) (sym (one_in (last_crash_state (after t Rotate)) left found)) (rotated_present t))
   kept_by_call LogRoom left found = absurd (none_in left found)
 
   kept_inside : (call : Call) (longer : List (List Operation)) → IsMore flight (in_flight (Called call ∷ []) []) longer → (left : CrashState) → Contains (left_inside t call) left → IsBeginning opened (done ++ longer) known left

@@ -11,7 +11,7 @@ use Rattle.lsm_codec.specs.Keys.{Bytes}
 use Rattle.lsm_store.specs.State.{State, map_at}
 use Rattle.lsm_mem.specs.Paging.{Page}
 use Rattle.lsm_store.specs.Calls.{Call, Reply}
-use Rattle.lsm_store.specs.Calls.{Commit, Sync, SyncTo, Get, Scan, Snapshot, Release, LogRoom, Number, Done, Value, Rows, Refused}
+use Rattle.lsm_store.specs.Calls.{Commit, Sync, SyncTo, Get, Scan, Snapshot, Release, Rotate, LogRoom, Number, Done, Value, Rows, Refused}
 use Rattle.lsm_store.specs.Refusals.{refusals, first_refusal, refusal}
 use Rattle.lsm_store.specs.Effects.{answer, after, decided, completed, reply_by, state_by, takes_memory, wants_memory}
 use Rattle.lsm_store.specs.Crash.{may_leave}
@@ -92,6 +92,7 @@ refusal_decided s call = by (is_some s.stopped) call
     by false (Scan at from to limit) = first (refusals s (Scan at from to limit)) (tt, (tt, (tt, tt)))
     by false Snapshot = first (refusals s Snapshot) (tt, (tt, tt))
     by false (Release number) = first (refusals s (Release number)) (tt, tt)
+    by false Rotate = first (refusals s Rotate) (tt, (tt, (tt, tt)))
     by false LogRoom = tt
 
 -- what the state decides it allows, and goes on by it
@@ -104,6 +105,7 @@ module _ (s : State) where
   by_answer (Scan at from to limit) is = (ap (reply_by s (Scan at from to limit)) (sym is), refl)
   by_answer Snapshot is = (ap (reply_by s Snapshot) (sym is), refl)
   by_answer (Release number) is = (ap (reply_by s (Release number)) (sym is), refl)
+  by_answer Rotate is = (ap (reply_by s Rotate) (sym is), refl)
   by_answer LogRoom is = (ap (reply_by s LogRoom) (sym is), refl)
 
   pub by_refusal : (call : Call) (e : Refusal) → refusal s call ≡ Some e → IsDecided (Some e) → Allows s call (Refused e) × (next s call (Refused e) ≡ s)
@@ -147,6 +149,7 @@ value_asked s call value is = by (refusal s call) is
     at (Scan a from to limit) e = cc
     at Snapshot e = cc
     at (Release number) e = cc
+    at Rotate e = cc
     at LogRoom e = cc
 
     by : (o : Option Refusal) → Value value ≡ reply_by s call o → IsNone o × IsTrue (asks_value call)
@@ -164,6 +167,7 @@ page_asked s call page is = by (refusal s call) is
     at (Scan a from to limit) e = refl
     at Snapshot e = cc
     at (Release number) e = cc
+    at Rotate e = cc
     at LogRoom e = cc
 
     by : (o : Option Refusal) → Rows page ≡ reply_by s call o → IsNone o × IsTrue (asks_page call)
@@ -182,6 +186,7 @@ value_wanted s call value is = by (refusal s call) is
     at (Scan a from to limit) e = refl
     at Snapshot e = cc
     at (Release number) e = cc
+    at Rotate e = cc
     at LogRoom e = cc
 
     by : (o : Option Refusal) → Value (Some value) ≡ reply_by s call o → IsNone o × IsTrue (wants_memory s call)
@@ -199,6 +204,7 @@ page_wanted s call page is = by (refusal s call) is
     at (Scan a from to limit) e = refl
     at Snapshot e = cc
     at (Release number) e = cc
+    at Rotate e = cc
     at LogRoom e = cc
 
     by : (o : Option Refusal) → Rows page ≡ reply_by s call o → IsNone o × IsTrue (wants_memory s call)
@@ -217,6 +223,7 @@ no_bad_table s call allows = by (refusal s call) (refusal_decided s call) allows
     at (Scan a from to limit) e = cc
     at Snapshot e = cc
     at (Release number) e = cc
+    at Rotate e = cc
     at LogRoom e = cc
 
     by : (o : Option Refusal) → IsDecided o → Refused BadTable ≡ reply_by s call o → ⊥
@@ -235,6 +242,7 @@ wanting s (Get at key) wants = refl
 wanting s (Scan at from to limit) wants = refl
 wanting s Snapshot wants = refl
 wanting s (Release number) wants = wants
+wanting s Rotate wants = refl
 wanting s LogRoom wants = wants
 
 -- what a state allows, memory admits

@@ -1,17 +1,17 @@
 -- Refusals in order, and what is known of a state that doesn't refuse.
-use Rattle.std.proofs.Common.{◌≡◌, ◌≢◌, ◌⊎◌, inl, inr, ⊎_elim, ℕ, Bool, true, false, not, List, [], ◌∷◌, Some, None, is_some, refl, sym, ◌∙◌, ap, subst}
+use Rattle.std.proofs.Common.{◌≡◌, ◌≢◌, ◌⊎◌, inl, inr, ⊎_elim, Bool, true, false, not, List, [], ◌∷◌, Some, None, is_some, refl, sym, ◌∙◌, ap, subst}
 use Rattle.std.specs.Result.{IsErrAnd}
 use Rattle.std.specs.Prelude.{Result, Ok, Err, Option, IsNone, ◌==◌, if◌then◌else◌}
 use Rattle.std.specs.List.{AllByRecursion}
 use Rattle.std.proofs.lemmas.Bool.{eq-eqb}
 use Rattle.lsm_codec.specs.Map.{Operation}
 use Rattle.lsm_device.specs.declared.refusal.Refusal.{Refusal}
-use Rattle.lsm_device.specs.declared.refusal.Refusal.TheVariants.{NoMemory, Io, Stopped, LogFull, NoSuchSnapshot, TooManySnapshots, NoSuchBatch, BadKey, BadRange, Exhausted, BadLimit}
+use Rattle.lsm_device.specs.declared.refusal.Refusal.TheVariants.{NoMemory, Io, Stopped, LogFull, SealedWaiting, NothingToRotate, NoSuchSnapshot, TooManySnapshots, NoSuchBatch, BadKey, BadRange, Exhausted, BadLimit}
 use Rattle.lsm_open.specs.CrashState.{last_number}
 use Rattle.lsm_store.specs.RecoveryPoints.{batch_count}
-use Rattle.lsm_store.specs.State.{State, fits}
+use Rattle.lsm_store.specs.State.{State, are_waiting, fits}
 use Rattle.lsm_store.specs.Calls.{Call}
-use Rattle.lsm_store.specs.Calls.{Commit, Sync, SyncTo, Get, Scan, Snapshot, Release, LogRoom}
+use Rattle.lsm_store.specs.Calls.{Commit, Sync, SyncTo, Get, Scan, Snapshot, Release, Rotate, LogRoom}
 use Rattle.lsm_store.specs.Refusals.{refusals, first_refusal, refusal}
 
 -- a test that doesn't hold
@@ -48,6 +48,12 @@ stopped_decided = record { no_memory = λ e. cc; no_fault = λ e. cc }
 
 full_decided : IsDecided LogFull
 full_decided = record { no_memory = λ e. cc; no_fault = λ e. cc }
+
+waiting_decided : IsDecided SealedWaiting
+waiting_decided = record { no_memory = λ e. cc; no_fault = λ e. cc }
+
+unused_decided : IsDecided NothingToRotate
+unused_decided = record { no_memory = λ e. cc; no_fault = λ e. cc }
 
 exhausted_decided : IsDecided Exhausted
 exhausted_decided = record { no_memory = λ e. cc; no_fault = λ e. cc }
@@ -88,6 +94,7 @@ all_decided s (Get at key) = (key_decided, (snapshot_decided, tt))
 all_decided s (Scan at from to limit) = (limit_decided, (range_decided, (snapshot_decided, tt)))
 all_decided s Snapshot = (snapshots_decided, (exhausted_decided, tt))
 all_decided s (Release number) = (snapshot_decided, tt)
+all_decided s Rotate = (waiting_decided, (unused_decided, (exhausted_decided, tt)))
 all_decided s LogRoom = tt
 
 pub refusal_decided : (s : State) (call : Call) (x : Refusal) → refusal s call ≡ Some x → IsDecided x
@@ -115,6 +122,12 @@ unrefused_commit s batch none =
   where
     no : true ≡ false → ⊥
     no e = cc
+
+-- a rotation that nothing refuses finds no sealed versions that wait
+pub unrefused_rotation : (s : State) → refusal s Rotate ≡ None → are_waiting s ≡ false
+unrefused_rotation s none =
+    let one = none_taken (is_some s.stopped) Stopped _ none in
+    (none_taken (are_waiting s) SealedWaiting _ one.1).0
 
 -- what `?` answers
 pub err_of : {T : Type 0} (r : Result T Refusal) (P : Refusal → Type 0) → IsErrAnd r P → (e : Refusal) × (r ≡ Err e) × P e

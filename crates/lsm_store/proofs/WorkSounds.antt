@@ -21,9 +21,9 @@ use Rattle.lsm_jobs.specs.Taking.{runs_of, first_stage, slot_for, with_taken}
 use Rattle.lsm_jobs.proofs.Found.{found_there, found_number}
 use Rattle.lsm_jobs.proofs.KeptJobs.{taken_cases, held_cases, taking_law, staging_law, freeing_law}
 use Rattle.lsm_store.specs.RecoveryPoints.{batch_count}
-use Rattle.lsm_store.specs.State.{State, LiveSnapshot}
+use Rattle.lsm_store.specs.State.{State, LiveSnapshot, are_waiting}
 use Rattle.lsm_store.specs.StateMaps.{HaveMaps}
-use Rattle.lsm_store.specs.Work.{WorkView, WorkMachine, Take, Read, Accept, Write, Drop, versions_in, are_waiting, cuts_of}
+use Rattle.lsm_store.specs.Work.{WorkView, WorkMachine, Take, Read, Accept, Write, Drop, versions_in, cuts_of}
 use Rattle.lsm_store.specs.WorkRefusals.{job_given, held, of_slot, placing}
 use Rattle.lsm_store.specs.WorkEffects.{staged, with_placed, work_after}
 use Rattle.lsm_store.specs.WorkMaps.{AreVersions, IsJobOf, MayBePutIn}

@@ -21,6 +21,8 @@ pub data Call : Type 0 where
   Snapshot : Call
   -- forgets the snapshot of a number
   Release : ℕ → Call
+  -- closes the open log, opens a new one behind all batches, and makes them outlast a crash
+  Rotate : Call
   -- asks for the free sectors of the open log
   LogRoom : Call
 

@@ -4,7 +4,7 @@ use Rattle.lsm_open.specs.CrashState.{CrashState}
 use Rattle.lsm_store.specs.RecoveryPoints.{RecoveryPoint, recovery_points, present_point}
 use Rattle.lsm_store.specs.State.{OpenLog, State}
 use Rattle.lsm_store.specs.Calls.{Call}
-use Rattle.lsm_store.specs.Calls.{Commit, Sync, SyncTo, Get, Scan, Snapshot, Release, LogRoom}
+use Rattle.lsm_store.specs.Calls.{Commit, Sync, SyncTo, Get, Scan, Snapshot, Release, Rotate, LogRoom}
 use Rattle.lsm_store.specs.Refusals.{refusal}
 use Rattle.lsm_store.specs.Effects.{after}
 
@@ -45,6 +45,7 @@ left_besides s (Get at key) = []
 left_besides s (Scan at from to limit) = []
 left_besides s Snapshot = []
 left_besides s (Release number) = []
+left_besides s Rotate = last_crash_state (after s Rotate) ∷ []
 left_besides s LogRoom = []
 
 -- What a crash inside a call may leave: what the state before it may leave, and what the call adds to that where

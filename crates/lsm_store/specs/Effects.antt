@@ -8,7 +8,7 @@ use Rattle.lsm_store.specs.RecoveryPoints.{batch_count, present_point, with_batc
 use Rattle.lsm_store.specs.State.{OpenLog, LiveSnapshot, State, map_at, log_room}
 use Rattle.lsm_mem.specs.Paging.{page_of}
 use Rattle.lsm_store.specs.Calls.{Call, Reply}
-use Rattle.lsm_store.specs.Calls.{Commit, Sync, SyncTo, Get, Scan, Snapshot, Release, LogRoom, Number, Done, Value, Rows, Refused}
+use Rattle.lsm_store.specs.Calls.{Commit, Sync, SyncTo, Get, Scan, Snapshot, Release, Rotate, LogRoom, Number, Done, Value, Rows, Refused}
 use Rattle.lsm_store.specs.Refusals.{refusal}
 
 abbrev pub answer : State → Call → Reply
@@ -19,6 +19,7 @@ answer s (Get at key) = Value (finite.get (map_at s at) key)
 answer s (Scan at from to limit) = Rows (page_of (map_at s at) from to limit)
 answer s Snapshot = Number s.next_snapshot
 answer s (Release number) = Done
+answer s Rotate = Done
 answer s LogRoom = Number (log_room s)
 
 -- the open log with the sectors of one batch more
@@ -33,6 +34,15 @@ next_taken s = record { number = s.next_snapshot; point = present_point s.points
 abbrev pub without : ℕ → List LiveSnapshot → List LiveSnapshot
 without number snapshots = filter (λ snapshot. not (snapshot.number == number)) snapshots
 
+-- the state after a rotation: the region of the open log is closed, a new log is open behind all batches, and all are synced
+abbrev pub rotated : State → State
+rotated s = record s {
+  points = all_synced s.points;
+  closed = if is_some s.open_log then 1 else 0;
+  open_log = Some (record { first = batch_count s.points + 1; used = 0 });
+  generation = s.generation + 1;
+}
+
 -- the state after that answer
 abbrev pub after : State → Call → State
 after s (Commit batch) = record s { points = with_batch s.points batch; open_log = option_map (with_sectors batch) s.open_log }
@@ -42,6 +52,7 @@ after s (Get at key) = s
 after s (Scan at from to limit) = s
 after s Snapshot = record s { snapshots = s.snapshots ++ next_taken s ∷ []; next_snapshot = s.next_snapshot + 1 }
 after s (Release number) = record s { snapshots = without number s.snapshots }
+after s Rotate = rotated s
 after s LogRoom = s
 
 abbrev pub reply_by : State → Call → Option Refusal → Reply
@@ -69,6 +80,7 @@ takes_memory (Get at key) = true
 takes_memory (Scan at from to limit) = true
 takes_memory Snapshot = true
 takes_memory (Release number) = false
+takes_memory Rotate = true
 takes_memory LogRoom = false
 
 -- whether it takes memory in this state: a look-up takes some for the copy of a value alone
@@ -80,6 +92,7 @@ wants_memory s (Get at key) = is_some (finite.get (map_at s at) key)
 wants_memory s (Scan at from to limit) = true
 wants_memory s Snapshot = true
 wants_memory s (Release number) = false
+wants_memory s Rotate = true
 wants_memory s LogRoom = false
 
 -- what a call that nothing refuses may do with the device
@@ -99,4 +112,5 @@ use_of s (Get at key) = Reads
 use_of s (Scan at from to limit) = Reads
 use_of s Snapshot = Untouched
 use_of s (Release number) = Untouched
+use_of s Rotate = Changes
 use_of s LogRoom = Untouched

@@ -18,7 +18,8 @@ use Rattle.lsm_open.specs.RecoveredTables.{sealed_versions, IsRecoveredWithTable
 use Rattle.lsm_open.specs.ToldTables.{records_of, Held}
 use Rattle.lsm_store.specs.Crash.{reopened}
 use Rattle.lsm_store.specs.JustOpened.{just_opened}
-use Rattle.lsm_store.specs.Work.{WorkView, WorkMachine, Work, versions_in, are_waiting}
+use Rattle.lsm_store.specs.State.{are_waiting}
+use Rattle.lsm_store.specs.Work.{WorkView, WorkMachine, Work, versions_in}
 use Rattle.lsm_store.specs.WorkSound.{IsSound, IsServed}
 
 -- The work of an opening's parts: what was replayed is sealed, where a region is closed, and what the manifest names is in the

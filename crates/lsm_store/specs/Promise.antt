@@ -5,7 +5,7 @@ use Rattle.lsm_device.specs.declared.refusal.Refusal.TheVariants.{Io}
 use Rattle.lsm_open.specs.CrashState.{CrashState}
 use Rattle.lsm_store.specs.RecoveryPoints.{RecoveryPoints, batch_count, present_map}
 use Rattle.lsm_store.specs.Calls.{Reply}
-use Rattle.lsm_store.specs.Calls.{Commit, Sync, SyncTo, Number, Done, Refused}
+use Rattle.lsm_store.specs.Calls.{Commit, Sync, SyncTo, Rotate, Number, Done, Refused}
 use Rattle.lsm_store.specs.Crash.{may_leave, reopened}
 use Rattle.lsm_store.specs.Machine.{Machine, Step, Called}
 use Rattle.lsm_store.specs.Run.{Run, last_machine, left_in_step}
@@ -21,10 +21,12 @@ accepted (step ∷ steps) (reply ∷ replies) = accepted_by step reply ++ accept
 accepted steps replies = []
 
 -- How many of the accepted batches are acknowledged as synced after a step, where so many were accepted before it and so
--- many of them acknowledged, and the store was opened with a count of batches. A sync acknowledges all.
+-- many of them acknowledged, and the store was opened with a count of batches. A sync acknowledges all, and so does a
+-- rotation.
 abbrev pub acknowledged_by : ℕ → ℕ → ℕ → Step → Reply → ℕ
 acknowledged_by opened done known (Called Sync) Done = done
 acknowledged_by opened done known (Called (SyncTo number)) Done = if nat_le number (opened + known) then known else done
+acknowledged_by opened done known (Called Rotate) Done = done
 acknowledged_by opened done known step reply = known
 
 abbrev pub acknowledged_from : ℕ → ℕ → ℕ → List Step → List Reply → ℕ

@@ -2,13 +2,13 @@
 use Rattle.std.specs.Prelude.{ℕ, ◌==◌, nat_le, nat_lt, ◌&&◌, Bool, not, is_some, List, [], ◌∷◌, length, Option, Some, None, if◌then◌else◌}
 use Rattle.lsm_codec.specs.BatchText.{is_key}
 use Rattle.lsm_device.specs.declared.refusal.Refusal.{Refusal}
-use Rattle.lsm_device.specs.declared.refusal.Refusal.TheVariants.{Stopped, LogFull, NoSuchSnapshot, TooManySnapshots, NoSuchBatch, BadKey, BadRange, Exhausted, BadLimit}
+use Rattle.lsm_device.specs.declared.refusal.Refusal.TheVariants.{Stopped, LogFull, SealedWaiting, NothingToRotate, NoSuchSnapshot, TooManySnapshots, NoSuchBatch, BadKey, BadRange, Exhausted, BadLimit}
 use Rattle.lsm_open.specs.CrashState.{last_number}
 use Rattle.lsm_store.specs.RecoveryPoints.{batch_count}
-use Rattle.lsm_store.specs.State.{State, snapshot_of, may_ask, fits}
+use Rattle.lsm_store.specs.State.{State, are_waiting, snapshot_of, may_ask, fits, is_unused}
 use Rattle.lsm_mem.specs.Paging.{is_backwards}
 use Rattle.lsm_store.specs.Calls.{Call}
-use Rattle.lsm_store.specs.Calls.{Commit, Sync, SyncTo, Get, Scan, Snapshot, Release, LogRoom}
+use Rattle.lsm_store.specs.Calls.{Commit, Sync, SyncTo, Get, Scan, Snapshot, Release, Rotate, LogRoom}
 
 -- how many snapshots may be live
 abbrev pub most_snapshots : ℕ
@@ -27,6 +27,7 @@ refusals s (Get at key) = (not (is_key key), BadKey) ∷ (not (may_ask s at), No
 refusals s (Scan at from to limit) = (not (is_limit limit), BadLimit) ∷ (is_backwards from to, BadRange) ∷ (not (may_ask s at), NoSuchSnapshot) ∷ []
 refusals s Snapshot = (nat_le most_snapshots (length s.snapshots), TooManySnapshots) ∷ (nat_lt last_number s.next_snapshot, Exhausted) ∷ []
 refusals s (Release number) = (not (is_some (snapshot_of s number)), NoSuchSnapshot) ∷ []
+refusals s Rotate = (are_waiting s, SealedWaiting) ∷ (is_unused s.open_log, NothingToRotate) ∷ (s.generation == last_number, Exhausted) ∷ []
 refusals s LogRoom = []
 
 -- the first whose condition holds

@@ -33,6 +33,10 @@ pub record State : Type 0 where
   -- none while it runs; else what the call that stopped it may have left beside the recovery points
   pub stopped : Option (List CrashState)
 
+-- sealed versions wait for a flush exactly where closed regions hold batches that are in no table
+abbrev pub are_waiting : State → Bool
+are_waiting s = nat_le 1 s.closed
+
 -- the live snapshot of a number
 abbrev pub snapshot_of : State → ℕ → Option LiveSnapshot
 snapshot_of s number = find (λ snapshot. snapshot.number == number) s.snapshots
@@ -66,3 +70,8 @@ fits_in log_sectors batch None = false
 -- whether a log is open and a batch fits it
 abbrev pub fits : State → List Operation → Bool
 fits s batch = fits_in s.log_sectors batch s.open_log
+
+-- whether a log has no batch yet
+abbrev pub is_unused : Option OpenLog → Bool
+is_unused (Some log) = log.used == 0
+is_unused None = false

@@ -1,5 +1,5 @@
 -- The work beside the map machine: where the versions are, the jobs that move them, and the pieces of work on these.
-use Rattle.std.specs.Prelude.{ℕ, nat_le, ◌==◌, Bool, List, [], ◌∷◌, ◌++◌, map, Option, if◌then◌else◌}
+use Rattle.std.specs.Prelude.{ℕ, ◌==◌, List, [], ◌∷◌, ◌++◌, map, Option, if◌then◌else◌}
 use Rattle.lsm_codec.specs.Versions.{Version}
 use Rattle.lsm_extent.specs.Area.{Area}
 use Rattle.lsm_merge.specs.Inputs.{MergeInput, joined}
@@ -64,10 +64,6 @@ versions_at w = w.memory ∷ (w.sealed ∷ map versions_of (places w.levels))
 -- all versions
 abbrev pub versions_in : WorkView → List Version
 versions_in w = joined (versions_at w)
-
--- sealed versions wait for a flush exactly where closed regions hold batches that are in no table
-abbrev pub are_waiting : State → Bool
-are_waiting s = nat_le 1 s.closed
 
 -- a count before these, but for one that is equal to the first of them
 abbrev pub with_count : ℕ → List ℕ → List ℕ

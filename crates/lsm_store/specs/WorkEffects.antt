@@ -1,5 +1,5 @@
 -- What a piece of work answers that nothing refuses, and what it leaves.
-use Rattle.std.specs.Prelude.{ℕ, ◌+◌, ◌-◌, ◌==◌, Bool, true, false, List, [], length, Option, Some, None, option_map, is_some, if◌then◌else◌}
+use Rattle.std.specs.Prelude.{ℕ, ◌+◌, ◌-◌, ◌==◌, Bool, true, false, List, [], length, Option, Some, None, option_map, if◌then◌else◌}
 use Rattle.lsm_mem.specs.EntryOrder.{with_batch}
 use Rattle.lsm_levels.specs.Tables.{Table}
 use Rattle.lsm_levels.specs.Pick.{inputs, is_flush, installed as installed_levels}
@@ -11,7 +11,7 @@ use Rattle.lsm_jobs.specs.Placing.{all_handed_out, all_given_back}
 use Rattle.lsm_store.specs.RecoveryPoints.{batch_count, all_synced}
 use Rattle.lsm_store.specs.State.{State}
 use Rattle.lsm_store.specs.Calls.{Call}
-use Rattle.lsm_store.specs.Calls.{Commit, Number, Done}
+use Rattle.lsm_store.specs.Calls.{Commit, Rotate, Number, Done}
 use Rattle.lsm_store.specs.Effects.{Use}
 use Rattle.lsm_store.specs.Effects.{Untouched, Reads, Changes}
 use Rattle.lsm_store.specs.Work.{WorkView, WorkMachine, Work, Take, Read, Ask, Accept, Write, Install, Drop, WorkReply, Plain, Given, Handed, cuts_of}
@@ -85,25 +85,17 @@ state_after m (Write job) = m.state
 state_after m (Install job) = of_slot m.state (λ slot. installed (is_flush slot.job) m.state) (held m job)
 state_after m (Drop job) = m.state
 
--- ---- calls, and rotations
+-- ---- calls
 
--- the work after a call's answer: a commit adds its versions to memory
-abbrev pub work_called : WorkMachine → Call → WorkView
-work_called m (Commit batch) = record m.work { memory = with_batch (batch_count m.state.points + 1) batch m.work.memory }
-work_called m other = m.work
-
--- the state after a rotation: the region of the open log is closed, a new log is open behind all batches, and all are synced
-abbrev pub rotated : State → State
-rotated s = record s {
-  points = all_synced s.points;
-  closed = if is_some s.open_log then 1 else 0;
-  open_log = Some (record { first = batch_count s.points + 1; used = 0 });
-  generation = s.generation + 1;
-}
-
--- the work after it: what was in memory is sealed
+-- the work after a rotation: what was in memory is sealed
 abbrev pub with_sealed : WorkView → WorkView
 with_sealed w = record w { memory = []; sealed = w.memory }
+
+-- the work after a call's answer: a commit adds its versions to memory, and a rotation seals those there
+abbrev pub work_called : WorkMachine → Call → WorkView
+work_called m (Commit batch) = record m.work { memory = with_batch (batch_count m.state.points + 1) batch m.work.memory }
+work_called m Rotate = with_sealed m.work
+work_called m other = m.work
 
 -- ---- memory and the device
 

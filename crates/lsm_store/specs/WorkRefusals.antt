@@ -14,7 +14,8 @@ use Rattle.lsm_jobs.specs.Slots.{Slot, slot_of, is_reading, is_frozen, is_writin
 use Rattle.lsm_jobs.specs.Taking.{given_job}
 use Rattle.lsm_store.specs.Refusals.{first_refusal}
 use Rattle.lsm_store.specs.Placings.{place_all}
-use Rattle.lsm_store.specs.Work.{WorkView, WorkMachine, Work, Take, Read, Ask, Accept, Write, Install, Drop, are_waiting}
+use Rattle.lsm_store.specs.State.{are_waiting}
+use Rattle.lsm_store.specs.Work.{WorkView, WorkMachine, Work, Take, Read, Ask, Accept, Write, Install, Drop}
 
 -- the job that a taking gives: the one that comes next, none where no slot is free
 abbrev pub job_given : WorkMachine → Option Job

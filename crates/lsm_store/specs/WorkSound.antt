@@ -9,11 +9,12 @@ use Rattle.lsm_jobs.specs.Slots.{Slot, is_writing, outputs_at}
 use Rattle.lsm_jobs.specs.Keeping.{AreKept}
 use Rattle.lsm_store.specs.Calls.{Call}
 use Rattle.lsm_store.specs.Refusals.{refusal}
-use Rattle.lsm_store.specs.Effects.{after}
+use Rattle.lsm_store.specs.Effects.{after, rotated}
 use Rattle.lsm_store.specs.StateMaps.{HaveMaps}
-use Rattle.lsm_store.specs.Work.{WorkMachine, Work, Take, Read, Ask, Accept, Write, Install, Drop, versions_in, are_waiting}
+use Rattle.lsm_store.specs.State.{are_waiting}
+use Rattle.lsm_store.specs.Work.{WorkMachine, Work, Take, Read, Ask, Accept, Write, Install, Drop, versions_in}
 use Rattle.lsm_store.specs.WorkRefusals.{held, placing, running_refusal}
-use Rattle.lsm_store.specs.WorkEffects.{work_after, state_after, work_called, rotated, with_sealed}
+use Rattle.lsm_store.specs.WorkEffects.{work_after, state_after, work_called, with_sealed}
 use Rattle.lsm_store.specs.WorkMaps.{AreVersions, IsJobOf, MayBePutIn}
 
 -- The versions in their places stand for the state: memory is in the order of entries, no version is of a batch to come, and

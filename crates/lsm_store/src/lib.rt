@@ -10,6 +10,7 @@ mod memory;
 mod opened_law;
 mod opening;
 mod reading;
+mod rotation;
 mod serve;
 mod snapshots;
 mod store;

@@ -34,14 +34,14 @@ ghost use Rattle.lsm_root.specs.Installed.{IsReady, IsOldOrNew, IsInstalled};
 ghost use Rattle.lsm_root.specs.Roots.{Root, Stands};
 ghost use Rattle.lsm_store.specs.Calls.{Commit, Sync};
 ghost use Rattle.lsm_store.specs.Crash.{may_leave, last_crash_state, left_besides, reopened};
-ghost use Rattle.lsm_store.specs.Effects.{after};
+ghost use Rattle.lsm_store.specs.Effects.{after, rotated};
 ghost use Rattle.lsm_store.specs.RecoveryPoints.{batch_count};
 ghost use Rattle.lsm_store.specs.Run.{stopped_in};
 ghost use Rattle.lsm_store.specs.State.{OpenLog, State, map_at};
 ghost use Rattle.lsm_store.specs.StateMaps.{points_of};
 ghost use Rattle.lsm_store.specs.Stored.{IsStored};
 ghost use Rattle.lsm_store.specs.StoredTables.{IsStoredIn, IsStoredWithJobs, KeepsExtents, with_log, with_next, MayGoOn};
-ghost use Rattle.lsm_store.specs.WorkEffects.{installed, rotated};
+ghost use Rattle.lsm_store.specs.WorkEffects.{installed};
 ghost use Rattle.lsm_store.specs.declared.asked.At.{At};
 
 /// Every crash of a running store's device leaves what its state may leave, also where a fault stops it that leaves the device

@@ -5,7 +5,7 @@ use Rattle.std.proofs.lemmas.Bool.Decides.{nat_tests}
 use Rattle.std.proofs.lemmas.List.Elements.{All-head, All-tail}
 use Rattle.lsm_device.specs.declared.refusal.Refusal.TheVariants.{Io}
 use Rattle.lsm_store.specs.Calls.{Call, Reply}
-use Rattle.lsm_store.specs.Calls.{Commit, Sync, SyncTo, Get, Scan, Snapshot, Release, LogRoom, Number, Done, Value, Rows, Refused}
+use Rattle.lsm_store.specs.Calls.{Commit, Sync, SyncTo, Get, Scan, Snapshot, Release, Rotate, LogRoom, Number, Done, Value, Rows, Refused}
 use Rattle.lsm_store.specs.Effects.{after, next_taken, without, Use, use_of}
 use Rattle.lsm_store.specs.Effects.{Untouched, Reads, Changes}
 use Rattle.lsm_store.specs.RecoveryPoints.{present_map, all_synced}
@@ -68,6 +68,7 @@ module _ (n : ℕ) where
     after_keeps s (Scan at from to limit) other is = is
     after_keeps s Snapshot other is = found_before x s.snapshots (next_taken s ∷ []) is
     after_keeps s (Release number) other is = found_without x number s.snapshots (λ same. other (ap Release same)) is
+    after_keeps s Rotate other is = is
     after_keeps s LogRoom other is = is
 
     next_keeps : (s : State) (call : Call) (reply : Reply) → call ≢ Release n → snapshot_of s n ≡ Some x → snapshot_of (next s call reply) n ≡ Some x
