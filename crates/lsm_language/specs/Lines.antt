@@ -7,7 +7,7 @@ use Rattle.lsm_codec.specs.Map.{Operation}
 use Rattle.lsm_codec.specs.Words.{bytes_said}
 use Rattle.lsm_store.specs.declared.asked.At.{At}
 use Rattle.lsm_store.specs.declared.asked.At.TheVariants.{Now, Snap}
-use Rattle.lsm_store.specs.Calls.{Call, Commit, Sync, SyncTo, Get, Scan, Snapshot, Release, LogRoom}
+use Rattle.lsm_store.specs.Calls.{Call, Commit, Sync, SyncTo, Get, Scan, Snapshot, Release, Rotate, LogRoom}
 use Rattle.lsm_lives.specs.Calls.{call_of}
 use Rattle.lsm_language.specs.Numbers.{number_said}
 use Rattle.lsm_language.specs.Words.{read_all, words_in, after}
@@ -74,7 +74,7 @@ crash_said word = if bytes_eq word (codes "all") then Some crash_all else if byt
 -- a line of the one word
 abbrev pub bare_said : List ℕ → Option Said
 bare_said name = if bytes_eq name (codes "sync") then Some (step Sync) else if bytes_eq name (codes "snapshot") then Some (step Snapshot)
-    else if bytes_eq name (codes "room") then Some (step LogRoom) else None
+    else if bytes_eq name (codes "rotate") then Some (step Rotate) else if bytes_eq name (codes "room") then Some (step LogRoom) else None
 
 -- a line of two words
 abbrev pub one_said : List ℕ → List ℕ → Option Said

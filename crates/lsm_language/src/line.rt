@@ -87,6 +87,7 @@ fn read_bare(name: &str) -> Result<Line, Unread>
     match name {
         "sync" => Ok(Line::Call(Call::Sync)),
         "snapshot" => Ok(Line::Call(Call::Snapshot)),
+        "rotate" => Ok(Line::Call(Call::Rotate)),
         "room" => Ok(Line::Call(Call::Room)),
         _ => Err(Unread::Malformed),
     }

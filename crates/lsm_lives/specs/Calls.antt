@@ -6,7 +6,7 @@ use Rattle.lsm_lives.specs.declared.calls.Reply.{Reply as Told}
 use Rattle.lsm_lives.specs.declared.calls.Reply.TheVariants as told
 use Rattle.lsm_store.specs.Calls.{Call, Reply}
 use Rattle.lsm_store.specs.Machine.{Step, Called}
-use Rattle.lsm_store.specs.Calls.{Commit, Sync, SyncTo, Get, Scan, Snapshot, Release, LogRoom, Number, Done, Value, Rows, Refused}
+use Rattle.lsm_store.specs.Calls.{Commit, Sync, SyncTo, Get, Scan, Snapshot, Release, Rotate, LogRoom, Number, Done, Value, Rows, Refused}
 
 abbrev pub call_of : {A : Type 0} → Asked A → Call
 call_of (asked.Commit batch) = Commit batch
@@ -16,6 +16,7 @@ call_of (asked.Get at key) = Get at key.items
 call_of (asked.Scan at from to limit) = Scan at from.items (option_map (λ v. v.items) to) limit
 call_of asked.Snapshot = Snapshot
 call_of (asked.Release number) = Release number
+call_of asked.Rotate = Rotate
 call_of asked.Room = LogRoom
 
 -- a step is a call

@@ -27,6 +27,8 @@ pub enum Call<A: Allocator = Global> {
     Snapshot,
     /// Forgets the snapshot of this number.
     Release(u64),
+    /// Closes the open log, opens a new one behind all batches, and makes them outlast a crash.
+    Rotate,
     /// Asks for the free sectors of the open log.
     Room,
 }

@@ -32,6 +32,7 @@ pub fn serve<D: Device, A: Allocator + Clone>(store: &mut Store<D, A>, call: &Ca
         },
         Call::Snapshot => number(store.snapshot()),
         Call::Release(n) => done(store.release(*n)),
+        Call::Rotate => done(store.rotate()),
         Call::Room => room(store.log_room()),
     }
 }
