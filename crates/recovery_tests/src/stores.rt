@@ -1,7 +1,9 @@
 //! Stores over tables.
 
+use crate::devices::{LOG, put, sync};
 use crate::images::with_four;
-use lsm_device::MemDevice;
+use lsm_codec::{Batch, Op};
+use lsm_device::{MemDevice, Refusal};
 use lsm_store::{At, Page, Store};
 use std::alloc::Global;
 use std::process::Abort;
@@ -12,12 +14,25 @@ struct TableStore {
     store: Store<MemDevice>,
 }
 
-/// The store on the device with the four tables, and with the batch behind them that puts 62 = 32.
-fn with_tables_and_batch<R: Abort>(rt: &R, alloc: Global) -> TableStore {
-    match Store::open(alloc, with_four(rt, alloc), 16) {
+/// The store on a device.
+fn opened<R: Abort>(rt: &R, alloc: Global, device: MemDevice) -> TableStore {
+    match Store::open(alloc, device, 16) {
         Ok(store) => TableStore { store },
         Err((refusal, _)) => rt.panic(refusal.name()),
     }
+}
+
+/// The store on the device with the four tables, and with the batch behind them that puts 62 = 32.
+fn with_tables_and_batch<R: Abort>(rt: &R, alloc: Global) -> TableStore {
+    opened(rt, alloc, with_four(rt, alloc))
+}
+
+/// The store on that device without the batch, and so with no region closed.
+fn with_tables_alone<R: Abort>(rt: &R, alloc: Global) -> TableStore {
+    let mut device = with_four(rt, alloc);
+    put(rt, &mut device, LOG, &[0; 512]);
+    sync(rt, &mut device);
+    opened(rt, alloc, device)
 }
 
 impl TableStore {
@@ -37,6 +52,18 @@ impl TableStore {
         let before = self.store.reads();
         let page = self.store.scan(At::Now, &[from], None, limit).ok()?;
         Some((page, self.store.reads().wrapping_sub(before)))
+    }
+
+    /// Puts 62 = 32, and closes the log.
+    fn put_and_rotate(&mut self, alloc: Global) -> Result<(), Refusal> {
+        let batch = Batch::new(alloc, Op::put(alloc, &[0x62], &[0x32])?)?;
+        self.store.commit(&batch)?;
+        self.store.rotate()
+    }
+
+    /// The device after a crash that keeps nothing.
+    fn crash(self) -> MemDevice {
+        self.store.into_device().crash(&[])
     }
 }
 
@@ -85,4 +112,23 @@ fn a_store_lists_its_tables(rt: HostRuntime) {
     let rows = [(0x61, 3), (0x62, 0x32), (0x63, 2), (0x64, 1)];
     // Each of the four blocks is read once.
     assert!(rt; has_rows(&page, &rows) && reads == 32, "{reads}");
+}
+
+/// Whether the store finds what `FOUND` says, one after another.
+fn finds_all(store: &mut TableStore) -> bool {
+    for (key, wanted) in FOUND {
+        if store.look_up(key) != Some(wanted) {
+            return false;
+        }
+    }
+    true
+}
+
+#[test]
+fn a_rotation_keeps_the_tables(rt: HostRuntime) {
+    let mut store = with_tables_alone(&rt, rt.alloc());
+    let rotated = store.put_and_rotate(rt.alloc());
+    assert!(rt; rotated == Ok(()) && finds_all(&mut store), "{rotated:?}");
+    let mut again = opened(&rt, rt.alloc(), store.crash());
+    assert!(rt; finds_all(&mut again));
 }

@@ -38,12 +38,18 @@ fn a_commit_stays_where_its_failing_write_is_kept(rt: HostRuntime) -> Result<(),
     Ok(())
 }
 
-// A device on which one batch is synced and another was dropped.
-fn with_one_batch(alloc: Global) -> Result<MemDevice, Fail> {
-    let mut store = opened(alloc, formatted(alloc)?)?;
+// Puts a batch that is synced, and one that is not.
+fn fill(store: &mut Subject, alloc: Global) -> Result<(), Refusal> {
     store.commit(&put(alloc, b"a", b"1")?)?;
     store.sync()?;
     store.commit(&put(alloc, b"b", b"2")?)?;
+    Ok(())
+}
+
+// A device on which one batch is synced and another was dropped.
+fn with_one_batch(alloc: Global) -> Result<MemDevice, Fail> {
+    let mut store = opened(alloc, formatted(alloc)?)?;
+    fill(&mut store, alloc)?;
     Ok(store.crash(&[]))
 }
 

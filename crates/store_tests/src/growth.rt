@@ -15,7 +15,7 @@ fn is_accepted<A: Allocator + Clone>(
     let writes = store.writes();
     match store.commit(batch) {
         Ok(1) => Ok(true),
-        Err(Refusal::NoMemory) if store.is_unwritten(writes) => Ok(false),
+        Err(Refusal::NoMemory) if store.is_unwritten(writes, 128) => Ok(false),
         _ => Err(Fail::from("another answer, or a write")),
     }
 }
@@ -43,8 +43,19 @@ fn is_listed<A: Allocator + Clone>(store: &mut Subject<A>, rows: usize) -> Resul
     }
 }
 
-// Whether a commit, snapshots and a page are given on a heap, none where that is too small for the store or the batch.
-fn given_in(heap: &LocalHeap, device: MemDevice) -> Result<Option<[bool; 3]>, Fail> {
+// Whether a rotation after one commit is answered. A refused one has written nothing.
+fn is_rotated<A: Allocator + Clone>(store: &mut Subject<A>) -> Result<bool, Fail> {
+    let writes = store.writes();
+    match store.rotate() {
+        Ok(()) => Ok(true),
+        Err(Refusal::NoMemory) if store.is_unwritten(writes, 127) => Ok(false),
+        _ => Err(Fail::from("another answer, or a write")),
+    }
+}
+
+// Whether a commit, a page, snapshots and a rotation are given on a heap, none where that is too small for the store or the
+// batch. Without the commit there is nothing to rotate.
+fn given_in(heap: &LocalHeap, device: MemDevice) -> Result<Option<[bool; 4]>, Fail> {
     let Ok(mut store) = open(heap, device, CACHE) else {
         return Ok(None);
     };
@@ -53,11 +64,13 @@ fn given_in(heap: &LocalHeap, device: MemDevice) -> Result<Option<[bool; 3]>, Fa
     };
     let accepted = is_accepted(&mut store, &batch)?;
     let listed = is_listed(&mut store, accepted.into())?;
-    Ok(Some([accepted, listed, are_given(&mut store)?]))
+    let given = are_given(&mut store)?;
+    let rotated = accepted && is_rotated(&mut store)?;
+    Ok(Some([accepted, listed, given, rotated]))
 }
 
 // The same on a new heap of this size. The device has a heap of its own, so that its record can grow.
-fn given_on(alloc: Global, size: usize) -> Result<Option<[bool; 3]>, Fail> {
+fn given_on(alloc: Global, size: usize) -> Result<Option<[bool; 4]>, Fail> {
     let device = formatted(alloc)?;
     let heap = LocalHeap::new(alloc, size)?;
     given_in(&heap, device)
@@ -65,18 +78,18 @@ fn given_on(alloc: Global, size: usize) -> Result<Option<[bool; 3]>, Fail> {
 
 #[test]
 fn each_growth_is_refused_in_turn(rt: HostRuntime) -> Result<(), Fail> {
-    let mut refused = [false; 3];
-    let mut given = [false; 3];
+    let mut refused = [false; 4];
+    let mut given = [false; 4];
     for step in 0..300usize {
         if let Some(answers) = given_on(rt.alloc(), 1_000 + step * 192)? {
-            for kind in 0..3usize {
+            for kind in 0..4usize {
                 refused[kind] |= !answers[kind];
                 given[kind] |= answers[kind];
             }
         }
     }
     assert!(rt;
-        refused == [true; 3] && given == [true; 3],
+        refused == [true; 4] && given == [true; 4],
         "{refused:?} {given:?}"
     );
     Ok(())

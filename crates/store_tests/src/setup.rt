@@ -32,6 +32,10 @@ impl<A: Allocator + Clone> Subject<A> {
         self.store.sync()
     }
 
+    pub fn rotate(&mut self) -> Result<(), Refusal> {
+        self.store.rotate()
+    }
+
     pub fn get(&mut self, key: &[u8]) -> Result<Option<Vec<u8, A>>, Refusal> {
         self.store.get(At::Now, key)
     }
@@ -57,9 +61,9 @@ impl<A: Allocator + Clone> Subject<A> {
         self.store.batch_count()
     }
 
-    /// Whether nothing was written to the log.
-    pub fn is_unwritten(&self, writes: u64) -> bool {
-        self.store.writes() == writes && self.store.log_room() == Ok(128)
+    /// Whether nothing was written, and so much room is left in the log.
+    pub fn is_unwritten(&self, writes: u64, room: u32) -> bool {
+        self.store.writes() == writes && self.store.log_room() == Ok(room)
     }
 
     pub fn writes(&self) -> u64 {
