@@ -15,11 +15,21 @@ use std::marker::Model;
 
 /// What a session begins with, its words, which are those of an empty history, and the pass that writes them. The session
 /// has no name yet: a generic function that is called with this gives it one.
-#[derive(Drop)]
 pub struct Opened<D: Device, A: Allocator = Global> {
     start: Start<D, A>,
     board: Board<D, A>,
     keeper: Pass<A>,
+}
+
+// One call at each exit of a caller, in the place of the drops of all fields.
+impl<D: Device + Drop, A: Allocator> Drop for Opened<D, A> {
+    fn drop(self) {
+        let Opened {
+            start: _,
+            board: _,
+            keeper: _,
+        } = self;
+    }
 }
 
 impl<D: Device, A: Allocator> Model for Opened<D, A> {
@@ -76,7 +86,12 @@ impl<D: Device, A: Allocator> Opened<D, A> {
     pub fn into_store(self) -> Store<D, A>
         ensures { result ≡ self.begin.store }
     {
-        self.start.store
+        let Opened {
+            start,
+            board: _,
+            keeper: _,
+        } = self;
+        start.store
     }
 
     /// The parts of the session under its name: the store, the words, and the pass that writes them.
