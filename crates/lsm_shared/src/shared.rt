@@ -17,7 +17,6 @@ use std::alloc::{AllocError, Allocator};
 use std::sync::Mutex;
 
 /// A session: a store behind one lock, with one history of all calls.
-#[derive(Drop)]
 pub struct Shared<D: Device, A: Allocator, B: SessionName> {
     pub(crate) counters: Counters<D, A, B>,
     pub(crate) session: Mutex<Session<D, A, B>>,
@@ -26,6 +25,18 @@ pub struct Shared<D: Device, A: Allocator, B: SessionName> {
     ghost pinned: { base ≡ base_of B.id.begin },
     ghost all: { clients ≡ B.id.begin.clients },
     ghost some: { 0 < clients },
+}
+
+// One call at each exit of a caller, in the place of the drops of all fields.
+impl<D: Device + Drop, A: Allocator, B: SessionName> Drop for Shared<D, A, B> {
+    fn drop(self) {
+        let Shared {
+            counters: _,
+            session: _,
+            clients: _,
+            base: _,
+        } = self;
+    }
 }
 
 // An empty trail with all its places, and places for the clients.
@@ -139,7 +150,8 @@ impl<D: Device, A: Allocator, B: SessionName> Shared<D, A, B> {
         let Shared {
             counters,
             session,
-            ..
+            clients: _,
+            base: _,
         } = self;
         let mut session = session.into_inner();
         let mut left = clients;
