@@ -1,13 +1,16 @@
 -- Slots, and what is kept of their jobs.
-use Rattle.std.proofs.Common.{◌≡◌, ◌≢◌, ◌⊎◌, inl, inr, ⊎_elim, ℕ, ◌<◌, Bool, true, false, cond, eqb, [], ◌∷◌, Option, Some, None, refl, sym, ap, ◌∙◌, subst, arith}
+use Rattle.std.proofs.Common.{◌≡◌, ◌≢◌, ◌⊎◌, inl, inr, ⊎_elim, ℕ, suc, ◌+◌, ◌<◌, Bool, true, false, cond, eqb, List, [], ◌∷◌, Option, Some, None, refl, sym, ap, ◌∙◌, subst, arith}
 use Rattle.std.proofs.lemmas.Bool.{eqb-true, eqb-false, ne_eqb}
+use Rattle.lsm_codec.specs.Versions.{Version}
 use Rattle.lsm_levels.specs.Among.{IsAmong}
-use Rattle.lsm_levels.specs.Pick.{Job}
-use Rattle.lsm_levels.specs.Held.{IsHeld, AreApart}
+use Rattle.lsm_levels.specs.Levels.{Levels}
+use Rattle.lsm_levels.specs.Pick.{Job, pick}
+use Rattle.lsm_levels.specs.Held.{AreRuns, IsHeld, AreApart}
 use Rattle.lsm_levels.proofs.Surviving.{survival_law}
 use Rattle.lsm_levels.proofs.PickLaws.{pick_law}
-use Rattle.lsm_jobs.specs.Slots.{Stage, Slot, Slots, slot_of, held_jobs, with_slot, with_held, at_stage}
-use Rattle.lsm_jobs.specs.Keeping.{AreNumbered, TakingLaw, InstallingLaw, StagingLaw, FreeingLaw}
+use Rattle.lsm_jobs.specs.Slots.{Slot, Slots, slot_of, held_jobs, has_free, with_slot, with_held}
+use Rattle.lsm_jobs.specs.Taking.{given_job, slot_for}
+use Rattle.lsm_jobs.specs.Keeping.{AreNumbered, AreKept, TakingLaw, InstallingLaw, GoingOnLaw, FreeingLaw}
 use Rattle.lsm_jobs.proofs.Found.{found_there}
 
 some_slot : (a b : Slot) → Some a ≡ Some b → a ≡ b
@@ -15,6 +18,9 @@ some_slot a b e = cc
 
 some_none : (a : Slot) → Some a ≡ None → ⊥
 some_none a e = cc
+
+none_job : (job : Job) → None ≡ Some job → ⊥
+none_job job e = cc
 
 pub taken_cases : (new : Slot) (slots : Slots) (s : Slot) → IsAmong (Some s) (with_slot new slots) → (s ≡ new) ⊎ IsAmong (Some s) slots
 taken_cases new [] s a = absurd a
@@ -146,6 +152,22 @@ taking_law waiting levels next slots new runs kept picked number bottom =
       numbered = numbered_taken new slots kept.numbered (λ s a. let below = kept.given s a in omega (arith, below, number));
     }
 
+-- a job that is given is the one that comes next
+pub given_picked : (waiting : Bool) (levels : Levels) (slots : Slots) (job : Job) → given_job waiting levels slots ≡ Some job → pick waiting levels (held_jobs slots) ≡ Some job
+given_picked waiting levels slots job e = by (has_free slots) e
+  where
+    by : (b : Bool) → cond b (pick waiting levels (held_jobs slots)) None ≡ Some job → pick waiting levels (held_jobs slots) ≡ Some job
+    by true f = f
+    by false f = absurd (none_job job f)
+
+-- and it may be taken
+pub given_taken : (waiting : Bool) (levels : Levels) (next : ℕ) (slots : Slots) (sealed : List Version) (cuts : List ℕ) (job : Job) → AreRuns levels → AreKept levels next slots → given_job waiting levels slots ≡ Some job
+    → AreKept levels (next + 1) (with_slot (slot_for next sealed cuts levels job) slots)
+given_taken waiting levels next slots sealed cuts job runs kept given =
+    let more : suc next ≡ next + 1 = omega arith in
+    subst (λ n. AreKept levels n (with_slot (slot_for next sealed cuts levels job) slots)) more
+    (taking_law waiting levels next slots (slot_for next sealed cuts levels job) runs kept (given_picked waiting levels slots job given) refl refl)
+
 none_some : (s : Slot) → None ≡ Some s → ⊥
 none_some s e = cc
 
@@ -173,7 +195,7 @@ installing_law levels next slots one new runs kept found outputs =
       numbered = (freeing_law levels next one.number slots kept).numbered;
     }
 
--- a slot with the job, the input and the number of one that is there
+-- a slot with the job, the bottom flag and the number of one that is there
 record IsLike (slots : Slots) (s : Slot) : Type 0 where
   pub other : Slot
   pub there : IsAmong (Some other) slots
@@ -181,31 +203,33 @@ record IsLike (slots : Slots) (s : Slot) : Type 0 where
   pub bottom : s.input.bottom ≡ other.input.bottom
   pub number : s.number ≡ other.number
 
-staged : (one : Slot) (stage : Stage) (slots : Slots) → AreNumbered slots → IsAmong (Some one) slots → (s : Slot) → IsAmong (Some s) (at_stage one stage slots) → IsLike slots s
-staged one stage slots numbered there s a = ⊎_elim
-    (λ e. let same : record one { stage = stage } ≡ s = some_slot (record one { stage = stage }) s e in
-    record {
-      other = one;
-      there = there;
-      job = sym (ap (λ (x : Slot). x.job) same);
-      bottom = sym (ap (λ (x : Slot). x.input.bottom) same);
-      number = sym (ap (λ (x : Slot). x.number) same);
-    })
-    (λ old. record { other = s; there = old.0; job = refl; bottom = refl; number = refl })
-    (held_cases one.number (Some (record one { stage = stage })) slots s numbered a)
+module _ (one now : Slot) (number : now.number ≡ one.number) (job : now.job ≡ one.job) (bottom : now.input.bottom ≡ one.input.bottom) where
+  went_on : (slots : Slots) → AreNumbered slots → IsAmong (Some one) slots → (s : Slot) → IsAmong (Some s) (with_held one.number (Some now) slots) → IsLike slots s
+  went_on slots numbered there s a = ⊎_elim
+      (λ e. let same : s ≡ now = sym (some_slot now s e) in
+      record {
+        other = one;
+        there = there;
+        job = ap (λ (x : Slot). x.job) same ∙ job;
+        bottom = ap (λ (x : Slot). x.input.bottom) same ∙ bottom;
+        number = ap (λ (x : Slot). x.number) same ∙ number;
+      })
+      (λ old. record { other = s; there = old.0; job = refl; bottom = refl; number = refl })
+      (held_cases one.number (Some now) slots s numbered a)
 
-pub staging_law : StagingLaw
-staging_law levels next slots one stage kept found =
+pub going_on_law : GoingOnLaw
+going_on_law levels next slots one now kept found number job bottom =
     let there : IsAmong (Some one) slots = found_there one.number slots one found in
+    let like = went_on one now number job bottom slots kept.numbered there in
     record {
       held = λ s a.
-          let l = staged one stage slots kept.numbered there s a in
+          let l = like s a in
           subst (λ b. IsHeld levels b s.job) (sym l.bottom) (subst (λ (j : Job). IsHeld levels l.other.input.bottom j) (sym l.job) (kept.held l.other l.there));
       apart = λ a b x y different.
-          let l = staged one stage slots kept.numbered there a x in
-          let m = staged one stage slots kept.numbered there b y in
+          let l = like a x in
+          let m = like b y in
           subst (λ (j : Job). AreApart j b.job) (sym l.job) (subst (λ (j : Job). AreApart l.other.job j) (sym m.job)
           (kept.apart l.other m.other l.there m.there (λ e. different (l.number ∙ e ∙ sym m.number))));
-      given = λ s a. let l = staged one stage slots kept.numbered there s a in subst (λ n. n < next) (sym l.number) (kept.given l.other l.there);
-      numbered = numbered_with one.number (Some (record one { stage = stage })) slots kept.numbered (λ s e. sym (ap (λ (x : Slot). x.number) (some_slot (record one { stage = stage }) s e)));
+      given = λ s a. let l = like s a in subst (λ n. n < next) (sym l.number) (kept.given l.other l.there);
+      numbered = numbered_with one.number (Some now) slots kept.numbered (λ s e. sym (ap (λ (x : Slot). x.number) (some_slot now s e)) ∙ number);
     }

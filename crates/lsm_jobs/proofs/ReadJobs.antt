@@ -1,5 +1,5 @@
 -- A job that is read goes back into its slot.
-use Rattle.std.proofs.Common.{◌≡◌, ◌↔◌, ℕ, zero, suc, ◌+◌, ◌<◌, ◌≤◌, Bool, true, false, IsTrue, Decides, List, [], ◌∷◌, length, set, get_or, Option, Some, None, Result, Ok, Err, refl, sym, ap, subst, ◌∙◌, arith}
+use Rattle.std.proofs.Common.{◌≡◌, ◌↔◌, ℕ, zero, suc, ◌<◌, Bool, IsTrue, Decides, List, [], ◌∷◌, length, set, get_or, Option, Some, None, Result, Ok, Err, refl, sym, ap, subst, ◌∙◌, arith}
 use Rattle.std.specs.Result.{IfOk, OnErr}
 use Rattle.std.specs.List.{AllByRecursion, list_all}
 use Rattle.std.proofs.lemmas.Bool.Decides.{Decides-like}
@@ -14,7 +14,7 @@ use Rattle.lsm_levels.specs.Tables.{Table}
 use Rattle.lsm_levels.specs.Pick.{Job}
 use Rattle.lsm_jobs.specs.Slots.{Slot, Slots, JobSlots, Reading}
 use Rattle.lsm_jobs.specs.Gathering.{Gathered, uppers, lowers, input_ahead, blocks_left, BothGoOn}
-use Rattle.lsm_jobs.specs.Reading.{CanBeRead, JobCanBeRead, SlotReadsOn, IsBadNext, JobReadsOn}
+use Rattle.lsm_jobs.specs.Reading.{SlotReadsOn, IsBadNext, JobReadsOn}
 use Rattle.lsm_jobs.specs.Holding.{IsAt}
 
 abbrev these : ℕ → Slots → JobSlots

@@ -5,7 +5,7 @@ use Rattle.lsm_levels.specs.Tables.{Table}
 use Rattle.lsm_levels.specs.Levels.{Levels}
 use Rattle.lsm_levels.specs.Pick.{pick, is_bottom, installed}
 use Rattle.lsm_levels.specs.Held.{AreRuns, IsHeld, AreApart, AreOutputs}
-use Rattle.lsm_jobs.specs.Slots.{Stage, Slot, Slots, slot_of, held_jobs, with_slot, with_held, at_stage}
+use Rattle.lsm_jobs.specs.Slots.{Slot, Slots, slot_of, held_jobs, with_slot, with_held}
 
 -- no two jobs have one number
 abbrev pub AreNumbered : Slots → Type 0
@@ -30,9 +30,10 @@ abbrev pub InstallingLaw : Type 0
 InstallingLaw = (levels : Levels) (next : ℕ) (slots : Slots) (one : Slot) (new : List Table) → AreRuns levels → AreKept levels next slots → slot_of one.number slots ≡ Some one → AreOutputs one.job new
     → AreKept (installed levels one.job new) next (with_held one.number None slots)
 
--- another stage of one job
-abbrev pub StagingLaw : Type 0
-StagingLaw = (levels : Levels) (next : ℕ) (slots : Slots) (one : Slot) (stage : Stage) → AreKept levels next slots → slot_of one.number slots ≡ Some one → AreKept levels next (at_stage one stage slots)
+-- one job goes on, with its tables and its bottom flag
+abbrev pub GoingOnLaw : Type 0
+GoingOnLaw = (levels : Levels) (next : ℕ) (slots : Slots) (one now : Slot) → AreKept levels next slots → slot_of one.number slots ≡ Some one
+    → now.number ≡ one.number → now.job ≡ one.job → now.input.bottom ≡ one.input.bottom → AreKept levels next (with_held one.number (Some now) slots)
 
 -- one slot is free again
 abbrev pub FreeingLaw : Type 0

@@ -1,6 +1,6 @@
 //! Laws of the definitions.
 
-ghost use Rattle.lsm_jobs.specs.Keeping.{TakingLaw, InstallingLaw, StagingLaw, FreeingLaw, FoundLaw};
+ghost use Rattle.lsm_jobs.specs.Keeping.{TakingLaw, InstallingLaw, GoingOnLaw, FreeingLaw, FoundLaw};
 ghost use Rattle.lsm_jobs.specs.Outcomes.{OutputsLaw};
 ghost use Rattle.lsm_jobs.specs.Installs.{InstallLaw};
 ghost use Rattle.lsm_jobs.specs.Pieces.{PiecesLaw};
@@ -10,7 +10,7 @@ ghost use Rattle.lsm_jobs.specs.StoredJobs.{StoredTakingLaw, StoredReadingLaw, N
 pub fn slots_stay_apart()
     ensures taking { TakingLaw }
     ensures installing { InstallingLaw }
-    ensures staging { StagingLaw }
+    ensures going_on { GoingOnLaw }
     ensures freeing { FreeingLaw }
     ensures found { FoundLaw }
 {}

@@ -176,6 +176,20 @@ impl<A: Allocator> Slots<A> {
         number
     }
 
+    /// Whether a job comes next and a slot is free for it. It is refused with `Exhausted` exactly where that is so and the
+    /// number 2^63 was given out, as [`take`](Slots::take) then is. It takes no memory.
+    pub fn has_next(&self, levels: &Levels<A>, waiting: bool) -> Result<bool, Refusal>
+        ensures given { IfOk result (λ given. given ≡ is_some (given_job waiting levels.now self.now.slots)) }
+        ensures exhausted { (result ≡ Err Exhausted) ↔ ((is_some (given_job waiting levels.now self.now.slots) ≡ true) × (2 ^ 63 < self.now.next)) }
+        ensures refusals { IfErr result (λ refusal. refusal ≡ Exhausted) }
+    {
+        let has_next = self.next_job(levels, waiting).is_some();
+        if has_next && self.next > 1 << 63 {
+            return Err(Refusal::Exhausted);
+        }
+        Ok(has_next)
+    }
+
     /// Takes the job that comes next: it goes into the least free slot, with these cuts and under a number of its own. It
     /// answers that number, and the level of the job's upper tables. None where all slots are held or no job comes next. It
     /// is refused with `Exhausted` exactly where there is such a job and the number 2^63 was given out, or else with

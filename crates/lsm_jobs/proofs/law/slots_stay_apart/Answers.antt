@@ -1,4 +1,4 @@
-use Rattle.lsm_jobs.proofs.KeptJobs.{taking_law, installing_law, staging_law, freeing_law}
+use Rattle.lsm_jobs.proofs.KeptJobs.{taking_law, installing_law, going_on_law, freeing_law}
 use Rattle.lsm_jobs.proofs.Found.{found_law}
 use Rattle.lsm_jobs.proofs.law.slots_stay_apart.Goals as goal
 
@@ -8,8 +8,8 @@ returns-clause-taking c = taking_law
 pub returns-clause-installing : goal.returns-clause-installing
 returns-clause-installing c = installing_law
 
-pub returns-clause-staging : goal.returns-clause-staging
-returns-clause-staging c = staging_law
+pub returns-clause-going_on : goal.returns-clause-going_on
+returns-clause-going_on c = going_on_law
 
 pub returns-clause-freeing : goal.returns-clause-freeing
 returns-clause-freeing c = freeing_law
