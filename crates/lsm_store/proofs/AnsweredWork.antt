@@ -105,18 +105,18 @@ other_input a b other = by (is_same_input a b) refl
 -- ---- a job, and its stage
 
 -- the refusals of work on a job at a stage that passes a test, in order
-abbrev AtStage : (Stage → Bool) → Option Slot → Option Refusal → Option Refusal
+abbrev pub AtStage : (Stage → Bool) → Option Slot → Option Refusal → Option Refusal
 AtStage test o rest = cond (is_none o) (Some NoSuchJob) (cond (is_not_at test o) (Some WrongState) rest)
 
-stage_passes : (test : Stage → Bool) (o : Option Slot) (slot : Slot) (rest : Option Refusal) → o ≡ Some slot → test slot.stage ≡ true → AtStage test o rest ≡ rest
+pub stage_passes : (test : Stage → Bool) (o : Option Slot) (slot : Slot) (rest : Option Refusal) → o ≡ Some slot → test slot.stage ≡ true → AtStage test o rest ≡ rest
 stage_passes test o slot rest is at =
     ap (λ (x : Option Slot). AtStage test x rest) is
     ∙ ap (λ (b : Bool). cond (not b) (Some WrongState) rest) at
 
-no_job : (test : Stage → Bool) (o : Option Slot) (rest : Option Refusal) → o ≡ None → AtStage test o rest ≡ Some NoSuchJob
+pub no_job : (test : Stage → Bool) (o : Option Slot) (rest : Option Refusal) → o ≡ None → AtStage test o rest ≡ Some NoSuchJob
 no_job test o rest is = ap (λ (x : Option Slot). AtStage test x rest) is
 
-other_stage : (test : Stage → Bool) (o : Option Slot) (rest : Option Refusal) → is_not_at test o ≡ true → AtStage test o rest ≡ Some WrongState
+pub other_stage : (test : Stage → Bool) (o : Option Slot) (rest : Option Refusal) → is_not_at test o ≡ true → AtStage test o rest ≡ Some WrongState
 other_stage test None rest h = absurd (false≢true h)
 other_stage test (Some slot) rest h = ap (λ (b : Bool). cond b (Some WrongState) rest) h
 

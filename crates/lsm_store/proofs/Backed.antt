@@ -1,5 +1,5 @@
 -- The device of a running store backs it, and goes on to where nothing but reads, a sync or an append comes.
-use Rattle.std.proofs.Common.{◌≡◌, ◌++◌, ◌∷◌, ℕ, List, [], Bool, length, replicate, Some, true, refl, sym, ◌∙◌, ap, subst, IsTrue}
+use Rattle.std.proofs.Common.{◌≡◌, ◌++◌, ◌∷◌, ℕ, List, [], Bool, length, replicate, Some, true, refl, sym, ap, subst, IsTrue}
 use Rattle.std.specs.Prelude.{Option, None, IsNone}
 use Rattle.lsm_cache.specs.Fresh.{IsFresh}
 use Rattle.lsm_cache.specs.Recency.{Cached}

@@ -1,13 +1,16 @@
 -- The cuts of a job that is taken.
-use Rattle.std.proofs.Common.{◌≡◌, ◌⊎◌, inl, inr, ⊎_elim, ℕ, suc, ◌+◌, ◌<◌, ◌≤◌, Bool, true, false, cond, ◌&&◌, eqb, List, [], ◌∷◌, map, length, refl, ap, ◌∙◌, subst, arith}
+use Rattle.std.proofs.Common.{◌≡◌, ◌⊎◌, inl, inr, ⊎_elim, ℕ, suc, ◌+◌, ◌-◌, ◌<◌, ◌≤◌, ◌==◌, Bool, true, false, cond, ◌&&◌, eqb, List, [], ◌∷◌, ◌++◌, map, length, refl, sym, ap, ◌∙◌, subst, arith}
 use Rattle.std.specs.Prelude.{Contains}
-use Rattle.std.specs.List.{AllByRecursion}
+use Rattle.std.specs.List.{AllByRecursion, slice_get}
 use Rattle.std.proofs.lemmas.Bool.{cases_lt, eqb-true, eqb-false, lt-ltb}
 use Rattle.std.proofs.lemmas.List.{length-append, length-map}
 use Rattle.lsm_merge.specs.Inputs.{is_ascending}
 use Rattle.lsm_levels.specs.Among.{IsAmong}
 use Rattle.lsm_levels.proofs.Members.{among_left, among_right}
 use Rattle.lsm_store.specs.JobAnswers.{AreRising, CutsLaw}
+use Rattle.lsm_store.specs.LiveMarks.{last_count, end_with}
+use Rattle.lsm_store.specs.Memory.{mark_of}
+use Rattle.lsm_store.specs.declared.snapshots.Mark.{Mark}
 use Rattle.lsm_store.specs.RecoveryPoints.{batch_count}
 use Rattle.lsm_store.specs.State.{State, LiveSnapshot}
 use Rattle.lsm_store.specs.Work.{with_count, each_once, counts_of, cuts_of}
@@ -108,3 +111,88 @@ pub snapshot_cut : (s : State) (snapshot : LiveSnapshot) → IsAmong snapshot s.
 snapshot_cut s snapshot a =
     let counts = map (λ (x : LiveSnapshot). x.point.count) s.snapshots in
     among_contained snapshot.point.count (cuts_of s) (in_each_once snapshot.point.count (counts_of s) (among_left snapshot.point.count counts (batch_count s.points ∷ []) (in_mapped snapshot s.snapshots a)))
+
+-- ---- counts that rise
+
+all_above : (k : ℕ) (ns : List ℕ) (n m : ℕ) → n ≤ m → AllByRecursion (λ x. k ≤ x) (ns ++ n ∷ []) → AllByRecursion (λ x. k ≤ x) (ns ++ m ∷ [])
+all_above k [] n m le all = (let low = all.0 in omega (arith, low, le), tt)
+all_above k (x ∷ ns) n m le all = (all.0, all_above k ns n m le all.1)
+
+-- to a greater count at the end
+pub rising_to : (ns : List ℕ) (n m : ℕ) → n ≤ m → AreRising (ns ++ n ∷ []) → AreRising (ns ++ m ∷ [])
+rising_to [] n m le rising = (tt, tt)
+rising_to (x ∷ ns) n m le rising = (all_above x ns n m le rising.0, rising_to ns n m le rising.1)
+
+all_more : (k : ℕ) (ns : List ℕ) (n : ℕ) → AllByRecursion (λ x. k ≤ x) (ns ++ n ∷ []) → AllByRecursion (λ x. k ≤ x) ((ns ++ n ∷ []) ++ n ∷ [])
+all_more k [] n all = (all.0, (all.0, tt))
+all_more k (x ∷ ns) n all = (all.0, all_more k ns n all.1)
+
+-- and with it once more
+pub rising_more : (ns : List ℕ) (n : ℕ) → AreRising (ns ++ n ∷ []) → AreRising ((ns ++ n ∷ []) ++ n ∷ [])
+rising_more [] n rising = ((omega arith, tt), (tt, tt))
+rising_more (x ∷ ns) n rising = (all_more x ns n rising.0, rising_more ns n rising.1)
+
+-- ---- cuts, one count after the other
+
+-- what comes behind a count and others with one more, unless that is the last of them
+abbrev behind : ℕ → List ℕ → ℕ → List ℕ
+behind m [] n = cond (m == n) [] (n ∷ [])
+behind m (x ∷ rest) n = x ∷ behind x rest n
+
+abbrev with_last : List ℕ → ℕ → List ℕ
+with_last [] n = n ∷ []
+with_last (m ∷ rest) n = m ∷ behind m rest n
+
+once_with : (m n : ℕ) (ns : List ℕ) → with_count m (with_last ns n) ≡ with_last (with_count m ns) n
+once_with m n [] = by (eqb m n) refl
+  where
+    by : (b : Bool) → eqb m n ≡ b → cond b (n ∷ []) (m ∷ n ∷ []) ≡ m ∷ cond b [] (n ∷ [])
+    by true e = ap (λ (k : ℕ). k ∷ []) (sym (eqb-true m n e))
+    by false e = refl
+once_with m n (x ∷ rest) = by (eqb m x)
+  where
+    by : (b : Bool) → cond b (x ∷ behind x rest n) (m ∷ x ∷ behind x rest n) ≡ with_last (cond b (x ∷ rest) (m ∷ x ∷ rest)) n
+    by true = refl
+    by false = refl
+
+once_last : (before : List ℕ) (n : ℕ) → each_once (before ++ n ∷ []) ≡ with_last (each_once before) n
+once_last [] n = refl
+once_last (m ∷ ms) n = ap (with_count m) (once_last ms n) ∙ once_with m n (each_once ms)
+
+behind_is : (m n : ℕ) (rest : List ℕ) → behind m rest n ≡ cond (end_with n (m ∷ rest)) rest (rest ++ n ∷ [])
+behind_is m n [] = refl
+behind_is m n (x ∷ rest) = ap (λ (l : List ℕ). x ∷ l) (behind_is x n rest) ∙ by (end_with n (x ∷ rest))
+  where
+    by : (b : Bool) → x ∷ cond b rest (rest ++ n ∷ []) ≡ cond b (x ∷ rest) (x ∷ rest ++ n ∷ [])
+    by true = refl
+    by false = refl
+
+with_last_is : (n : ℕ) (ns : List ℕ) → with_last ns n ≡ cond (end_with n ns) ns (ns ++ n ∷ [])
+with_last_is n [] = refl
+with_last_is n (m ∷ rest) = ap (λ (l : List ℕ). m ∷ l) (behind_is m n rest) ∙ by (end_with n (m ∷ rest))
+  where
+    by : (b : Bool) → m ∷ cond b rest (rest ++ n ∷ []) ≡ cond b (m ∷ rest) (m ∷ rest ++ n ∷ [])
+    by true = refl
+    by false = refl
+
+-- a count that counts end with adds nothing, and another one comes behind them
+pub once_added : (before : List ℕ) (n : ℕ) (b : Bool) → end_with n (each_once before) ≡ b → each_once (before ++ n ∷ []) ≡ cond b (each_once before) (each_once before ++ n ∷ [])
+once_added before n b is =
+    once_last before n ∙ with_last_is n (each_once before) ∙ ap (λ (x : Bool). cond x (each_once before) (each_once before ++ n ∷ [])) is
+
+-- where counts end, at their last place
+pub last_at : (ns : List ℕ) → slice_get ns (length ns - 1) ≡ last_count ns
+last_at [] = refl
+last_at (n ∷ []) = let e : length (n ∷ []) - 1 ≡ 0 = omega arith in ap (slice_get (n ∷ [])) e
+last_at (n ∷ m ∷ rest) = let e : length (n ∷ m ∷ rest) - 1 ≡ suc (length (m ∷ rest) - 1) = omega arith in ap (slice_get (n ∷ m ∷ rest)) e ∙ last_at (m ∷ rest)
+
+-- the counts of the marks are those of the snapshots
+pub marks_counts : (live : List LiveSnapshot) → map (λ (mark : Mark). mark.count) (map mark_of live) ≡ map (λ (x : LiveSnapshot). x.point.count) live
+marks_counts [] = refl
+marks_counts (x ∷ live) = ap (λ (l : List ℕ). x.point.count ∷ l) (marks_counts live)
+
+pub counts_are : (s : State) (kept : List Mark) (count : ℕ) → map mark_of s.snapshots ≡ kept → batch_count s.points ≡ count → map (λ (mark : Mark). mark.count) kept ++ count ∷ [] ≡ counts_of s
+counts_are s kept count live counted =
+    ap (λ (ms : List Mark). map (λ (mark : Mark). mark.count) ms ++ count ∷ []) (sym live)
+    ∙ ap (λ (ns : List ℕ). ns ++ count ∷ []) (marks_counts s.snapshots)
+    ∙ ap (λ (n : ℕ). map (λ (x : LiveSnapshot). x.point.count) s.snapshots ++ n ∷ []) (sym counted)

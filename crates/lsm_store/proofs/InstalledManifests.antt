@@ -1,18 +1,18 @@
 -- The manifest after an install is one.
-use Rattle.std.proofs.Common.{◌≡◌, ◌≢◌, ◌⊎◌, inl, inr, ℕ, zero, suc, ◌+◌, ◌-◌, ◌*◌, ◌≤◌, ◌<◌, ◌^◌, Bool, List, [], ◌∷◌, ◌++◌, length, map, get_or, All, Option, Some, None, refl, sym, ap, subst, ◌∙◌, arith}
+use Rattle.std.proofs.Common.{◌≡◌, ◌≢◌, ℕ, ◌+◌, ◌*◌, ◌≤◌, ◌<◌, ◌^◌, Bool, List, [], ◌∷◌, ◌++◌, length, map, get_or, All, Option, Some, None, refl, sym, ap, subst, ◌∙◌, arith}
 use Rattle.std.specs.Int.{div_ceil}
 use Rattle.std.specs.List.{AllByRecursion}
-use Rattle.std.proofs.lemmas.List.{length-append, length-map}
+use Rattle.std.proofs.lemmas.List.{length-append}
 use Rattle.std.proofs.lemmas.List.Elements.{All-nil, All-cons, All-head, All-tail, All-weaker}
 use Rattle.lsm_codec.specs.Geometry.{data_blocks_of}
-use Rattle.lsm_codec.specs.Indexes.{index_count, index_length}
-use Rattle.lsm_codec.specs.Manifests.{Contents, IsLogRecord, LogsAgree, BeginsAfter, NumbersFit, LogsFit, TablesFit, IsManifest}
+use Rattle.lsm_codec.specs.Indexes.{index_length}
+use Rattle.lsm_codec.specs.Manifests.{IsLogRecord, LogsAgree, BeginsAfter, NumbersFit, LogsFit, TablesFit, IsManifest}
 use Rattle.lsm_codec.specs.Pairs.{Pairwise}
-use Rattle.lsm_codec.specs.TableRecords.{extent_blocks, extent_end, runs_in, HasSizes, HasRuns, IsTableRecord, InOrder, AreApart, TablesAgree}
+use Rattle.lsm_codec.specs.TableRecords.{extent_blocks, extent_end, runs_in, HasSizes, HasRuns, InOrder, AreApart, TablesAgree}
 use Rattle.lsm_codec.specs.declared.log_record.LogRecord.{LogRecord}
 use Rattle.lsm_codec.specs.declared.table_record.TableRecord.{TableRecord}
-use Rattle.lsm_device.specs.Disk.{Disk, seen, synced}
-use Rattle.lsm_jobs.specs.Outputs.{IsTableOf, AreTablesOf, AreMadeOf}
+use Rattle.lsm_device.specs.Disk.{Disk, seen}
+use Rattle.lsm_jobs.specs.Outputs.{AreTablesOf, AreMadeOf}
 use Rattle.lsm_jobs.specs.Slots.{Stage, Slot, Writing, is_writing, outputs_at}
 use Rattle.lsm_levels.proofs.Runs.{runs_law}
 use Rattle.lsm_levels.specs.Held.{AreRuns, IsHeld, AreOutputs}
@@ -29,7 +29,7 @@ use Rattle.lsm_open.specs.Layout.{open_records, open_batches}
 use Rattle.lsm_open.specs.Placements.{Placement, contents_for, closed_in, table_map}
 use Rattle.lsm_open.specs.Switching.{pushed}
 use Rattle.lsm_open.specs.ToldTables.{records_of}
-use Rattle.lsm_open.specs.Writing.{PlacedTable, tables_of, IsWritten, CarriesJobs}
+use Rattle.lsm_open.specs.Writing.{PlacedTable, tables_of, IsWritten}
 use Rattle.lsm_open.specs.declared.regions.OpenRegion.{OpenRegion}
 use Rattle.lsm_root.proofs.Standing.{standing}
 use Rattle.lsm_root.specs.Layout.{IsGeometry, LieInside}

@@ -62,3 +62,8 @@ pub mod WrittenMerge
 pub mod ManifestRecords
 pub mod InstalledTablesFit
 pub mod InstalledManifests
+pub mod Works
+pub mod HeldTables
+pub mod WorkedReads
+pub mod WorkingMemory
+pub mod WorkAnswers

@@ -1,11 +1,11 @@
 -- The records of levels, as a manifest wants them.
-use Rattle.std.proofs.Common.{◌≡◌, ◌⊎◌, inl, inr, ℕ, zero, suc, ◌+◌, ◌≤◌, ◌<◌, Bool, cond, List, [], ◌∷◌, ◌++◌, length, map, All, refl, sym, ap, subst, ◌∙◌, append_assoc, arith}
+use Rattle.std.proofs.Common.{◌≡◌, ◌⊎◌, inl, inr, ℕ, zero, suc, ◌+◌, ◌≤◌, ◌<◌, Bool, cond, List, [], ◌∷◌, ◌++◌, length, map, All, refl, sym, ap, subst, append_assoc, arith}
 use Rattle.std.specs.List.{AllByRecursion}
 use Rattle.std.proofs.lemmas.Bool.{eq-eqb, ne_eqb}
 use Rattle.std.proofs.lemmas.List.{length-append, length-map}
 use Rattle.std.proofs.lemmas.List.Elements.{All-nil, All-cons, All-append}
 use Rattle.lsm_codec.specs.Pairs.{Pairwise}
-use Rattle.lsm_codec.specs.TableRecords.{runs_in, InOrder, IsOfRun, HasRun, HasRuns}
+use Rattle.lsm_codec.specs.TableRecords.{runs_in, InOrder, HasRun, HasRuns}
 use Rattle.lsm_codec.specs.declared.table_record.TableRecord.{TableRecord}
 use Rattle.lsm_levels.specs.Held.{AreRuns}
 use Rattle.lsm_levels.specs.Levels.{Levels, all_tables, places}

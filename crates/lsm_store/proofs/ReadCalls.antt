@@ -1,5 +1,5 @@
 -- What a read of a store's memory and tables does, by what it finds there.
-use Rattle.std.proofs.Common.{◌≡◌, ◌⊎◌, ⊎_elim, ◌≤◌, ℕ, zero, suc, Bool, true, cond, List, Some, None, is_some, refl, sym, ◌∙◌, ap, subst, arith, Vec}
+use Rattle.std.proofs.Common.{◌≡◌, ◌⊎◌, ⊎_elim, ◌≤◌, ℕ, zero, suc, Bool, true, cond, None, is_some, refl, sym, ◌∙◌, ap, subst, arith, Vec}
 use Rattle.std.specs.Prelude.{Result, Ok, Err, Option, option_map, IfErr, MatchResult}
 use Rattle.std.specs.FinMap as finite
 use Rattle.lsm_cache.specs.Recency.{Cached}
@@ -35,13 +35,13 @@ use Rattle.lsm_store.specs.Work.{versions_at, versions_in}
 use Rattle.lsm_store.specs.declared.asked.At.{At}
 use Rattle.lsm_store.proofs.Backed.{source_of, place_in, read_on, readable, backed_on}
 use Rattle.lsm_store.proofs.Unrefused.{unrefused_runs}
-use Rattle.lsm_store.proofs.Serving.{answered, reads_no_change, now_inside}
+use Rattle.lsm_store.proofs.Serving.{answered, now_inside}
 
-none_more : (k n m : ℕ) → k ≤ 0 → m ≡ more k n → m ≡ n
+pub none_more : (k n m : ℕ) → k ≤ 0 → m ≡ more k n → m ≡ n
 none_more zero n m few is = is
 none_more (suc k) n m few is = absurd (omega (arith, few))
 
-no_use : Reads ≡ Untouched → ⊥
+pub no_use : Reads ≡ Untouched → ⊥
 no_use e = cc
 
 no_fault_here : BadTable ≡ Io → ⊥

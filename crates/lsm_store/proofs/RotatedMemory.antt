@@ -1,11 +1,12 @@
 -- A store's memory after a rotation.
-use Rattle.std.proofs.Common.{◌≡◌, ◌≢◌, ◌≤◌, ◌<◌, ◌+◌, ◌^◌, ℕ, cond, false, List, [], length, Some, None, is_some, refl, sym, ◌∙◌, ap, subst, arith, IsTrue}
+use Rattle.std.proofs.Common.{◌≡◌, ◌≢◌, ◌≤◌, ◌<◌, ◌+◌, ℕ, cond, false, List, [], length, Some, None, is_some, refl, sym, ◌∙◌, ap, subst, arith, IsTrue}
 use Rattle.std.specs.Prelude.{Option, option_map}
+use Rattle.std.specs.List.{AllByRecursion}
 use Rattle.std.specs.Arc.{arc_value}
 use Rattle.std.specs.declared.sync.Arc.{Arc}
 use Rattle.std.proofs.Math.Nat.{add-zero}
 use Rattle.lsm_cache.specs.Recency.{Cached}
-use Rattle.lsm_codec.specs.Versions.{Version}
+use Rattle.lsm_codec.specs.Versions.{Version, IsEntry}
 use Rattle.lsm_codec.proofs.Lists.{none_length}
 use Rattle.lsm_device.specs.Calls.{AtMost, faults_after}
 use Rattle.lsm_device.specs.declared.refusal.Refusal.TheVariants.{Io}
@@ -25,12 +26,12 @@ use Rattle.lsm_root.specs.Planned.{Planned}
 use Rattle.lsm_root.specs.Roots.{Stands}
 use Rattle.lsm_store.specs.declared.memory.Memory.{Memory}
 use Rattle.lsm_store.specs.declared.memory.Status.TheVariants.{Running, Stopped}
-use Rattle.lsm_store.specs.Backing.{StoreView, placement_of}
+use Rattle.lsm_store.specs.Backing.{placement_of}
 use Rattle.lsm_store.specs.Calls.{Rotate, Done, Refused}
 use Rattle.lsm_store.specs.Crash.{left_besides}
 use Rattle.lsm_store.specs.Effects.{after, rotated}
 use Rattle.lsm_store.specs.LiveMarks.{marks}
-use Rattle.lsm_store.specs.Memory.{AreConsistent, Agrees, IsInside, LieWithin, IsOpenIn, state_of, view_of, work_of}
+use Rattle.lsm_store.specs.Memory.{AreConsistent, CanTake, Agrees, IsInside, LieWithin, IsOpenIn, state_of, view_of, work_of}
 use Rattle.lsm_store.specs.RecoveryPoints.{batch_count}
 use Rattle.lsm_store.specs.Refusals.{refusal}
 use Rattle.lsm_store.specs.Run.{stopped_in}
@@ -112,11 +113,21 @@ module _ {A : Type 0} (m : Memory A) (kept : AreConsistent m) (none : refusal (s
       -- ---- where the root was installed
 
       module _ (sealed : Option (Arc (List Version) A)) where
+        -- what was in memory is sealed
+        sealed_taking : (closed : ℕ) → option_map arc_value sealed ≡ Some m.mem → CanTake (marks m.snapshots) m.count [] (option_map arc_value sealed) closed
+        sealed_taking closed taken = record {
+          few = kept.taking.few;
+          rising = kept.taking.rising;
+          entries = tt;
+          sealed_entries = subst (λ (x : Option (List Version)). AllByRecursion IsEntry (sealed_versions x)) (sym taken) kept.taking.entries;
+          waits = λ some. ap is_some taken;
+        }
+
         abbrev after_rotation : Memory A
         after_rotation = record m { regions = regions; mem = []; sealed = sealed; synced = m.count; told = record { state = after (state_of m) Rotate } }
 
-        pub rotation_kept : AreConsistent after_rotation
-        rotation_kept = record {
+        pub rotation_kept : option_map arc_value sealed ≡ Some m.mem → AreConsistent after_rotation
+        rotation_kept taken = record {
           synced = omega arith;
           count = kept.count;
           snapshots = kept.snapshots;
@@ -137,6 +148,8 @@ module _ {A : Type 0} (m : Memory A) (kept : AreConsistent m) (none : refusal (s
             opened = subst (λ (l : Layout). IsOpenIn l.log_sectors m.count l.open_region) (sym is.layout) (rotated_log m.regions.log_sectors (m.regions.generation + 1) m.count (open_records m.regions.open_region) is.new_log is.least);
             tabled = λ closed. absurd (no (sym closed ∙ ap (λ (l : Layout). l.open_region) is.layout));
           };
+          taking = sealed_taking (length regions.closed.items) taken;
+          jobs = kept.jobs;
         }
           where
             no : None ≡ Some is.new_log → ⊥
@@ -174,12 +187,14 @@ module _ {A : Type 0} (m : Memory A) (kept : AreConsistent m) (none : refusal (s
         fault_serves medium new cache sized wrote faults =
             rotate_io (view_of medium m cache) none low is.new_log least (view_of new after_fault cache) sized wrote refl faults
 
-        pub fault_kept : AreConsistent after_fault
-        fault_kept = record {
+        pub fault_kept : option_map arc_value sealed ≡ Some m.mem → AreConsistent after_fault
+        fault_kept taken = record {
           synced = kept.synced;
           count = kept.count;
           snapshots = kept.snapshots;
           numbers = kept.numbers;
           agrees = agrees_stopped (state_of m) (layout_of m.regions) m.count m.synced (marks m.snapshots) m.snapshots.next m.status kept.agrees (left_besides (state_of m) Rotate);
           current = λ running. absurd (not_running running);
+          taking = sealed_taking (length m.regions.closed.items) taken;
+          jobs = kept.jobs;
         }

@@ -1,11 +1,11 @@
 -- A rotation that nothing refuses: what the installation of its root tells, and what the store then does.
-use Rattle.std.proofs.Common.{◌≡◌, ◌≢◌, ◌≤◌, ◌+◌, ℕ, Bool, true, false, List, [], ◌∷◌, ◌++◌, length, Some, None, is_some, refl, sym, ◌∙◌, ap, subst, arith, IsTrue}
-use Rattle.std.specs.Prelude.{Option, IsNone, nat_le, ◌==◌}
+use Rattle.std.proofs.Common.{◌≡◌, ◌≢◌, ◌≤◌, ◌+◌, ℕ, false, ◌++◌, length, Some, None, is_some, refl, sym, ◌∙◌, ap, subst, arith, IsTrue}
+use Rattle.std.specs.Prelude.{IsNone, ◌==◌}
 use Rattle.std.proofs.lemmas.Bool.{eqb-false, leb-false}
 use Rattle.lsm_codec.specs.Manifests.{Contents}
 use Rattle.lsm_device.specs.Calls.{AtMost, faults_after}
 use Rattle.lsm_device.specs.declared.refusal.Refusal.TheVariants.{Io, Stopped, SealedWaiting, NothingToRotate, Exhausted}
-use Rattle.lsm_device.specs.Disk.{Disk, seen}
+use Rattle.lsm_device.specs.Disk.{seen}
 use Rattle.lsm_device.specs.History.{EachSince}
 use Rattle.lsm_device.specs.Medium.{Lasting, Medium, disk}
 use Rattle.lsm_device.specs.Outcomes.{Leaves}
@@ -13,7 +13,7 @@ use Rattle.lsm_device.proofs.Moments.{weaker}
 use Rattle.lsm_levels.specs.Levels.{all_tables, places}
 use Rattle.lsm_levels.proofs.NamedBlocks.{named_law}
 use Rattle.lsm_open.specs.CrashState.{last_number}
-use Rattle.lsm_open.specs.Layout.{Layout, open_records}
+use Rattle.lsm_open.specs.Layout.{open_records}
 use Rattle.lsm_open.specs.Placements.{Placement, contents_for}
 use Rattle.lsm_open.specs.RecoveredTables.{StandForOne}
 use Rattle.lsm_open.specs.Switching.{rotated as rotated_placement, IsInLeastFree}
@@ -22,7 +22,7 @@ use Rattle.lsm_root.specs.Installed.{IsReady, IsOldOrNew, IsInstalled}
 use Rattle.lsm_root.specs.Roots.{Stands}
 use Rattle.lsm_store.specs.Backing.{StoreView, IsRunOn, IsBacked, placement_of, data_start, work_machine_of}
 use Rattle.lsm_store.specs.Calls.{Rotate, Done, Refused}
-use Rattle.lsm_store.specs.Crash.{may_leave, left_besides, left_inside, last_crash_state}
+use Rattle.lsm_store.specs.Crash.{may_leave, left_besides, left_inside}
 use Rattle.lsm_store.specs.Effects.{rotated}
 use Rattle.lsm_store.specs.RecoveryPoints.{batch_count}
 use Rattle.lsm_store.specs.Refusals.{refusal}
@@ -38,7 +38,7 @@ use Rattle.lsm_store.proofs.InstalledTables.{next_ready, install_moments, instal
 use Rattle.lsm_store.proofs.Running.{admits}
 use Rattle.lsm_store.proofs.Serving.{answered, uses, serves_fault}
 use Rattle.lsm_store.proofs.StoredLevels.{levels_kept, blocks_kept}
-use Rattle.lsm_store.proofs.Unrefused.{none_taken, passes_by, is_taken}
+use Rattle.lsm_store.proofs.Unrefused.{none_taken}
 
 -- ---- what is known of a state that doesn't refuse a rotation
 

@@ -72,27 +72,27 @@ IsDecided (Some Io) = ⊥
 IsDecided (Some BadTable) = ⊥
 IsDecided other = Unit {0}
 
+pub first_decided : (tests : List (Bool × Refusal)) → AllByRecursion (λ test. IsDecided (Some test.1)) tests → IsDecided (first_refusal tests)
+first_decided [] each = tt
+first_decided (test ∷ rest) each = one test.0 (first_decided rest each.1)
+  where
+    one : (b : Bool) → IsDecided (first_refusal rest) → IsDecided (cond b (Some test.1) (first_refusal rest))
+    one true later = each.0
+    one false later = later
+
 pub refusal_decided : (s : State) (call : Call) → IsDecided (refusal s call)
 refusal_decided s call = by (is_some s.stopped) call
   where
-    first : (tests : List (Bool × Refusal)) → AllByRecursion (λ test. IsDecided (Some test.1)) tests → IsDecided (first_refusal tests)
-    first [] each = tt
-    first (test ∷ rest) each = one test.0 (first rest each.1)
-      where
-        one : (b : Bool) → IsDecided (first_refusal rest) → IsDecided (cond b (Some test.1) (first_refusal rest))
-        one true later = each.0
-        one false later = later
-
     by : (b : Bool) (c : Call) → IsDecided (cond b (Some Stopped) (first_refusal (refusals s c)))
     by true c = tt
-    by false (Commit batch) = first (refusals s (Commit batch)) (tt, (tt, tt))
+    by false (Commit batch) = first_decided (refusals s (Commit batch)) (tt, (tt, tt))
     by false Sync = tt
-    by false (SyncTo number) = first (refusals s (SyncTo number)) (tt, tt)
-    by false (Get at key) = first (refusals s (Get at key)) (tt, (tt, tt))
-    by false (Scan at from to limit) = first (refusals s (Scan at from to limit)) (tt, (tt, (tt, tt)))
-    by false Snapshot = first (refusals s Snapshot) (tt, (tt, tt))
-    by false (Release number) = first (refusals s (Release number)) (tt, tt)
-    by false Rotate = first (refusals s Rotate) (tt, (tt, (tt, tt)))
+    by false (SyncTo number) = first_decided (refusals s (SyncTo number)) (tt, tt)
+    by false (Get at key) = first_decided (refusals s (Get at key)) (tt, (tt, tt))
+    by false (Scan at from to limit) = first_decided (refusals s (Scan at from to limit)) (tt, (tt, (tt, tt)))
+    by false Snapshot = first_decided (refusals s Snapshot) (tt, (tt, tt))
+    by false (Release number) = first_decided (refusals s (Release number)) (tt, tt)
+    by false Rotate = first_decided (refusals s Rotate) (tt, (tt, (tt, tt)))
     by false LogRoom = tt
 
 -- what the state decides it allows, and goes on by it

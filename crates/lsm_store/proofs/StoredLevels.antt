@@ -169,7 +169,7 @@ module _ (P : Table → Type 0) (new : List Table) (made : AllByRecursion P new)
 pub levels_installed : (sectors : Sectors) (area : ℕ) (levels : Levels) (job : Job) (new : List Table) → AreStored sectors area (places levels) → AllByRecursion (IsStored sectors area) new → AreStored sectors area (places (installed levels job new))
 levels_installed sectors area levels job new stored made = installed_have (IsStored sectors area) new made levels job stored
 
-jobs_have : (P : Table → Type 0) (levels : Levels) (bottom : Bool) (job : Job) → AllByRecursion (AllByRecursion P) (places levels) → IsHeld levels bottom job → AllByRecursion P (uppers job) × AllByRecursion P (lowers job)
+pub jobs_have : (P : Table → Type 0) (levels : Levels) (bottom : Bool) (job : Job) → AllByRecursion (AllByRecursion P) (places levels) → IsHeld levels bottom job → AllByRecursion P (uppers job) × AllByRecursion P (lowers job)
 jobs_have P levels bottom Flush all held = (tt, tt)
 jobs_have P levels bottom (Merge i upper lower) all held = (uppers_have P levels all i upper held.uppers, lowers_have P levels all i lower held.lowers)
 

@@ -68,7 +68,7 @@ levels_counted lev [] = refl
 levels_counted lev (ts ∷ rest) =
     omega (arith, length-append (map (record_of lev 0) ts) (records_of_levels (suc lev) rest), length-map ts (record_of lev 0), levels_counted (suc lev) rest, length-append ts (all_tables rest))
 
-records_counted : (levels : Levels) → length (records_of levels) ≡ length (all_tables (places levels))
+pub records_counted : (levels : Levels) → length (records_of levels) ≡ length (all_tables (places levels))
 records_counted levels =
     omega (
       arith,

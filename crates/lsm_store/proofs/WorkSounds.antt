@@ -1,5 +1,5 @@
 -- Takings, and what is done with a job in its slot, leave the work standing for the state, and each job ready for its install.
-use Rattle.std.proofs.Common.{◌≡◌, ◌≢◌, ◌⊎◌, inl, inr, ⊎_elim, ℕ, zero, suc, ◌+◌, ◌-◌, ◌≤◌, Bool, true, false, cond, List, [], ◌++◌, length, Option, Some, None, refl, sym, ap, ◌∙◌, subst, arith}
+use Rattle.std.proofs.Common.{◌≡◌, ◌≢◌, ◌⊎◌, inl, inr, ⊎_elim, ℕ, zero, suc, ◌+◌, ◌-◌, ◌≤◌, true, false, List, [], ◌++◌, length, Option, Some, None, refl, sym, ap, ◌∙◌, subst, arith}
 use Rattle.std.proofs.lemmas.Bool.{false≢true}
 use Rattle.lsm_codec.specs.Versions.{Version}
 use Rattle.lsm_extent.specs.Area.{Area}
@@ -7,19 +7,19 @@ use Rattle.lsm_merge.specs.Inputs.{MergeInput, joined}
 use Rattle.lsm_merge.specs.Results.{MergeResult}
 use Rattle.lsm_levels.specs.Among.{IsAmong}
 use Rattle.lsm_levels.specs.Tables.{Table}
-use Rattle.lsm_levels.specs.Pick.{Job, Flush, Merge, is_flush, is_bottom, pick}
+use Rattle.lsm_levels.specs.Pick.{Job, Flush, Merge, is_flush, is_bottom}
 use Rattle.lsm_levels.specs.Held.{IsHeld}
 use Rattle.lsm_levels.proofs.Members.{among_either}
 use Rattle.lsm_levels.proofs.PickLaws.{flush_waits, pick_law}
 use Rattle.lsm_levels.proofs.Taking.{in_tables, merging_law}
-use Rattle.lsm_jobs.specs.Slots.{Stage, Slot, JobSlots, Reading, Frozen, Writing, slot_of, held_jobs, has_free, with_slot, with_held, is_writing, left_at, less_left, outputs_at}
+use Rattle.lsm_jobs.specs.Slots.{Stage, Slot, JobSlots, Reading, Frozen, Writing, slot_of, held_jobs, with_slot, with_held, is_writing, left_at, less_left, outputs_at}
 use Rattle.lsm_jobs.specs.Keeping.{AreKept}
 use Rattle.lsm_jobs.specs.Outputs.{placed_blocks}
 use Rattle.lsm_jobs.specs.Placing.{all_handed_out}
 use Rattle.lsm_jobs.specs.Reading.{stage_with}
 use Rattle.lsm_jobs.specs.Taking.{runs_of, first_stage, slot_for, with_taken}
 use Rattle.lsm_jobs.proofs.Found.{found_there, found_number}
-use Rattle.lsm_jobs.proofs.KeptJobs.{taken_cases, held_cases, taking_law, staging_law, freeing_law}
+use Rattle.lsm_jobs.proofs.KeptJobs.{taken_cases, held_cases, given_picked, given_taken, going_on_law, freeing_law}
 use Rattle.lsm_store.specs.RecoveryPoints.{batch_count}
 use Rattle.lsm_store.specs.State.{State, LiveSnapshot, are_waiting}
 use Rattle.lsm_store.specs.StateMaps.{HaveMaps}
@@ -37,9 +37,6 @@ some_slot a b e = cc
 
 no_slot : (a : Slot) → None ≡ Some a → ⊥
 no_slot a e = cc
-
-none_job : (job : Job) → None ≡ Some job → ⊥
-none_job job e = cc
 
 -- ---- jobs go on
 
@@ -128,7 +125,7 @@ module _ (m : WorkMachine) (sound : IsSound m) where
     stage_sound stage table area outputs =
         jobs_sound (record { next = m.work.jobs.next; slots = with_held job (Some (record slot { stage = stage })) m.work.jobs.slots }) table area
         (subst (λ (n : ℕ). AreKept m.work.levels m.work.jobs.next (with_held n (Some (record slot { stage = stage })) m.work.jobs.slots)) numbered
-        (staging_law m.work.levels m.work.jobs.next m.work.jobs.slots slot stage sound.ready.kept found))
+        (going_on_law m.work.levels m.work.jobs.next m.work.jobs.slots slot (record slot { stage = stage }) sound.ready.kept found refl refl refl))
         (like (λ s. is_flush s.job ≡ true → are_waiting m.state ≡ true) (sound.waiting.flush_waits slot there) sound.waiting.flush_waits)
         (like (λ s. IsJobOf m.state m.work.sealed s.job s.input) (sound.ready.jobs slot there) sound.ready.jobs)
         (like (λ s. is_writing s.stage ≡ true → MayBePutIn s.job s.input (outputs_at s.stage)) outputs sound.ready.outputs)
@@ -207,22 +204,13 @@ module _ (m : WorkMachine) (sound : IsSound m) where
         asked = λ snapshot a. inl (snapshot_cut m.state snapshot a);
       }
 
-  given_next : (job : Job) → job_given m ≡ Some job → pick (are_waiting m.state) m.work.levels (held_jobs m.work.jobs.slots) ≡ Some job
-  given_next job e = by (has_free m.work.jobs.slots) e
-    where
-      by : (b : Bool) → cond b (pick (are_waiting m.state) m.work.levels (held_jobs m.work.jobs.slots)) None ≡ Some job → pick (are_waiting m.state) m.work.levels (held_jobs m.work.jobs.slots) ≡ Some job
-      by true f = f
-      by false f = absurd (none_job job f)
-
   take_one : (job : Job) → job_given m ≡ Some job → IsSound (machine m.state (record m.work { jobs = with_taken m.work.sealed (cuts_of m.state) m.work.levels (Some job) m.work.jobs }))
   take_one job e =
-      let picked = given_next job e in
+      let picked = given_picked (are_waiting m.state) m.work.levels m.work.jobs.slots job e in
       let is = pick_law (are_waiting m.state) m.work.levels (held_jobs m.work.jobs.slots) job good.runs picked in
-      let more : suc m.work.jobs.next ≡ m.work.jobs.next + 1 = omega arith in
       let slots = with_slot (taken job) m.work.jobs.slots in
       jobs_sound (record { next = m.work.jobs.next + 1; slots = slots }) m.work.next_table m.work.area
-      (subst (λ n. AreKept m.work.levels n slots) more
-      (taking_law (are_waiting m.state) m.work.levels m.work.jobs.next m.work.jobs.slots (taken job) good.runs sound.ready.kept picked refl refl))
+      (given_taken (are_waiting m.state) m.work.levels m.work.jobs.next m.work.jobs.slots m.work.sealed (cuts_of m.state) job good.runs sound.ready.kept e)
       (λ s a flush. ⊎_elim
       (λ f. flush_waits (are_waiting m.state) m.work.levels (held_jobs m.work.jobs.slots) job picked (sym (ap (λ (x : Slot). is_flush x.job) f) ∙ flush))
       (λ old. sound.waiting.flush_waits s old flush)

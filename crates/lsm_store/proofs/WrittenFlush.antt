@@ -7,12 +7,10 @@ use Rattle.lsm_codec.proofs.Lists.{all_map}
 use Rattle.lsm_codec.specs.Keys.{Bytes}
 use Rattle.lsm_codec.specs.Map.{Operation}
 use Rattle.lsm_codec.specs.Versions.{Version, newest}
-use Rattle.lsm_codec.specs.declared.table_record.TableRecord.{TableRecord}
 use Rattle.lsm_device.specs.Disk.{Disk, seen}
 use Rattle.lsm_jobs.proofs.Outcomes.{made_versions, made_run}
 use Rattle.lsm_jobs.specs.Outputs.{AreMadeOf}
 use Rattle.lsm_jobs.specs.Slots.{Slot, Writing}
-use Rattle.lsm_jobs.specs.Taking.{runs_of}
 use Rattle.lsm_levels.proofs.Ranges.{all_of, of_all}
 use Rattle.lsm_levels.specs.Among.{IsAmong}
 use Rattle.lsm_levels.specs.Held.{IsHeld}
@@ -28,7 +26,6 @@ use Rattle.lsm_merge.specs.Keeping.{keep}
 use Rattle.lsm_merge.specs.Laws.{IsKeptAt}
 use Rattle.lsm_open.proofs.ReadPlaces.{batches_later}
 use Rattle.lsm_open.specs.Placements.{Placement, closed_in}
-use Rattle.lsm_open.specs.Replacing.{HaveSameNewest}
 use Rattle.lsm_open.specs.Switching.{IsNewestRun, AreFlushed}
 use Rattle.lsm_open.specs.Tables.{first_data, table_versions, IsTableAt}
 use Rattle.lsm_open.specs.Writing.{PlacedTable}

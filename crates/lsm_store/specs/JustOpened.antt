@@ -1,5 +1,5 @@
 -- The state of a store that was just opened.
-use Rattle.std.specs.Prelude.{ℕ, List, [], length, None, option_map}
+use Rattle.std.specs.Prelude.{ℕ, [], length, None, option_map}
 use Rattle.lsm_codec.specs.Map.{Map}
 use Rattle.lsm_open.specs.Layout.{Layout}
 use Rattle.lsm_store.specs.State.{State}

@@ -20,6 +20,7 @@ pub mod Placings
 pub mod Work
 pub mod WorkRefusals
 pub mod WorkEffects
+pub mod Working
 pub mod JobAnswers
 pub mod WorkMaps
 pub mod WorkSound

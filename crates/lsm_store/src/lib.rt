@@ -3,6 +3,7 @@
 
 mod asked;
 mod checks;
+mod counted;
 mod device_law;
 mod install_law;
 mod law;
@@ -17,6 +18,7 @@ mod store;
 mod stored_law;
 mod told;
 mod work_law;
+mod working;
 
 pub use asked::At;
 pub use device_law::{device_reads_on, stored_is_backed};
@@ -28,6 +30,7 @@ pub use law::{
     allowed_is_admitted, ample_steps_run, crash_keeps_a_beginning, crash_states_go_on,
     crashes_keep_beginnings, runs_join, stopped_refuses,
 };
+pub use lsm_jobs::TakenJob;
 pub use lsm_mem::{Page, Row};
 pub use opened_law::opened_work_is_sound;
 pub use store::Store;

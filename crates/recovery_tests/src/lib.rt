@@ -14,6 +14,8 @@ mod growth;
 #[cfg(test)]
 mod images;
 #[cfg(test)]
+mod jobs;
+#[cfg(test)]
 mod largest;
 #[cfg(test)]
 mod openings;

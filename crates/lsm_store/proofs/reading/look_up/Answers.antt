@@ -1,4 +1,4 @@
-use Rattle.std.proofs.Common.{◌≡◌, ◌⊎◌, ◌∷◌, ◌*◌, ◌≤◌, ℕ, length, map, true, is_some, sym, subst, arith}
+use Rattle.std.proofs.Common.{◌≡◌, ◌⊎◌, ◌*◌, ◌≤◌, ℕ, length, true, is_some, sym, subst, arith}
 use Rattle.std.specs.Prelude.{option_map, MatchResult}
 use Rattle.std.specs.FinMap as finite
 use Rattle.lsm_cache.specs.declared.name.BlockName.{BlockName}

@@ -1,4 +1,4 @@
-use Rattle.std.proofs.Common.{◌≡◌, ◌⊎◌, ◌∷◌, ◌*◌, ℕ, map, refl, sym, ◌∙◌, ap, subst}
+use Rattle.std.proofs.Common.{◌≡◌, ◌⊎◌, ◌*◌, ℕ, sym, ◌∙◌, ap, subst}
 use Rattle.std.specs.Prelude.{Option, option_map, MatchResult}
 use Rattle.lsm_cache.specs.declared.name.BlockName.{BlockName}
 use Rattle.lsm_device.specs.Calls.{faults_after}

@@ -1,4 +1,4 @@
-use Rattle.std.proofs.Common.{◌≡◌, ℕ, [], Some, None, refl, sym, ◌∙◌, ap, subst}
+use Rattle.std.proofs.Common.{◌≡◌, ℕ, Some, None, refl, sym, ◌∙◌, ap, subst}
 use Rattle.std.specs.Prelude.{Result}
 use Rattle.lsm_device.specs.declared.refusal.Refusal.{Refusal}
 use Rattle.lsm_device.specs.declared.refusal.Refusal.TheVariants.{NoMemory, Io}
@@ -78,7 +78,7 @@ pub returns-in-Ok-clause-kept : goal.returns-in-Ok-clause-kept
 returns-in-Ok-clause-kept g c =
     let regions = c.in_ok-regions.regions in
     subst (λ (x : Memory g.row.A.Denot). AreConsistent x) (sym (c.rotate_to.ensures ∙ ap (λ (x : Memory g.row.A.Denot). record x { regions = regions; synced = x.count; told = record { state = after x.told.state Rotate } }) c.in_ok-seal.ensures.begun))
-    (rotation_kept c.args.memory.now c.requires.kept c.in_ok-check_rotate.ensures (g.D.Device.medium c.args.device.now).size c.requires.inside regions c.in_ok-regions.ensures.regions c.seal.new.self.sealed)
+    (rotation_kept c.args.memory.now c.requires.kept c.in_ok-check_rotate.ensures (g.D.Device.medium c.args.device.now).size c.requires.inside regions c.in_ok-regions.ensures.regions c.seal.new.self.sealed c.in_ok-seal.ensures.sealed)
 
 pub returns-in-Ok-clause-inside : goal.returns-in-Ok-clause-inside
 returns-in-Ok-clause-inside g c =
@@ -105,4 +105,4 @@ returns-in-Err-clause-serves g c = λ cache.
 pub returns-in-Err-clause-kept : goal.returns-in-Err-clause-kept
 returns-in-Err-clause-kept g c =
     subst (λ (x : Memory g.row.A.Denot). AreConsistent x) (sym (c.stop_in_rotation.ensures ∙ ap (λ (x : Memory g.row.A.Denot). record x { status = Stopped; told = record { state = stopped_in x.told.state Rotate } }) c.in_ok-seal.ensures.begun))
-    (fault_kept c.args.memory.now c.requires.kept c.in_ok-check_rotate.ensures (g.D.Device.medium c.args.device.now).size c.requires.inside c.in_ok-regions.regions c.in_ok-regions.ensures.regions c.seal.new.self.sealed)
+    (fault_kept c.args.memory.now c.requires.kept c.in_ok-check_rotate.ensures (g.D.Device.medium c.args.device.now).size c.requires.inside c.in_ok-regions.regions c.in_ok-regions.ensures.regions c.seal.new.self.sealed c.in_ok-seal.ensures.sealed)

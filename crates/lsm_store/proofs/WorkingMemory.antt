@@ -1,0 +1,130 @@
+-- The memory of a store whose jobs go on.
+use Rattle.std.proofs.Common.{◌≡◌, ℕ, zero, suc, ◌==◌, ◌∷◌, ◌++◌, Bool, true, false, cond, not, nat_le, List, [], length, map, Option, Some, None, is_some, refl, sym, ◌∙◌, ap, subst, arith}
+use Rattle.std.specs.Prelude.{option_map, Result, Ok, Err, IfOk, OnOk, OnErr}
+use Rattle.std.specs.List.{AllByRecursion}
+use Rattle.std.specs.Arc.{arc_value}
+use Rattle.std.proofs.lemmas.Bool.{leb-true, le-leb, ne_eqb}
+use Rattle.std.proofs.lemmas.List.{length-map}
+use Rattle.lsm_codec.specs.Versions.{Version, IsEntry}
+use Rattle.lsm_codec.specs.declared.log_record.LogRecord.{LogRecord}
+use Rattle.lsm_device.specs.Medium.{Medium}
+use Rattle.lsm_device.specs.declared.refusal.Refusal.{Refusal}
+use Rattle.lsm_extent.specs.Area.{Area}
+use Rattle.lsm_levels.specs.Held.{AreRuns}
+use Rattle.lsm_jobs.specs.Reading.{JobCanBeRead, JobReadsOn}
+use Rattle.lsm_jobs.specs.Slots.{JobSlots, with_held}
+use Rattle.lsm_jobs.specs.Taking.{given_job, sealed_versions, with_taken}
+use Rattle.lsm_jobs.specs.declared.taking.TakenJob.{TakenJob}
+use Rattle.lsm_open.specs.RecoveredTables.{sealed_versions as sealed_of}
+use Rattle.lsm_open.specs.Tables.{first_data}
+use Rattle.lsm_store.specs.declared.memory.Memory.{Memory}
+use Rattle.lsm_store.specs.declared.snapshots.Mark.{Mark}
+use Rattle.lsm_store.specs.JobAnswers.{AreRising}
+use Rattle.lsm_store.specs.LiveMarks.{marks}
+use Rattle.lsm_store.specs.Memory.{AreConsistent, HaveTables, IsInside, mark_of, state_of, work_of}
+use Rattle.lsm_store.specs.Work.{each_once, cuts_of}
+use Rattle.lsm_store.specs.State.{are_waiting}
+use Rattle.lsm_merge.specs.Inputs.{IsCuts}
+use Rattle.lsm_store.proofs.Cuts.{cuts_law, counts_are}
+use Rattle.lsm_store.proofs.HeldTables.{job_can_be_read, dropped_tables, read_tables, taken_tables}
+use Rattle.lsm_store.proofs.TableLimits.{records_counted}
+
+module _ {A : Type 0} (m : Memory A) (kept : AreConsistent m) where
+  abbrev pub with_jobs : JobSlots → Area → Memory A
+  with_jobs js extents = record m { jobs = js; extents = extents }
+
+  pub jobs_kept : (js : JobSlots) (extents : Area) → HaveTables m.levels js → AreConsistent (with_jobs js extents)
+  jobs_kept js extents are = record {
+    synced = kept.synced;
+    count = kept.count;
+    snapshots = kept.snapshots;
+    numbers = kept.numbers;
+    agrees = kept.agrees;
+    current = λ runs. let is = kept.current runs in record { numbered = is.numbered; opened = is.opened; tabled = is.tabled };
+    taking = kept.taking;
+    jobs = are;
+  }
+
+  -- each job can be read
+  pub can_be_read : (size job : ℕ) → AreRuns m.levels → IsInside size m → JobCanBeRead size (first_data m.regions.log_sectors) job m.jobs.slots
+  can_be_read size job runs inside =
+      job_can_be_read size (first_data m.regions.log_sectors) job (work_of m) m.jobs runs kept.jobs.kept inside.tables
+      (omega (arith, inside.manifest.numbers.tables, records_counted m.levels))
+
+  -- a job was given up
+  pub dropped_kept : (job : ℕ) (r : Result (Unit {0}) Refusal) (js : JobSlots) (extents : Area) → OnOk r (js ≡ record { next = m.jobs.next; slots = with_held job None m.jobs.slots }) → OnErr r ((js ≡ m.jobs) × (extents ≡ m.extents))
+      → AreConsistent (with_jobs js extents)
+  dropped_kept job (Ok x) js extents freed same =
+      let are = dropped_tables m.levels job m.jobs kept.jobs.kept kept.jobs.unwritten in
+      jobs_kept js extents (subst (HaveTables m.levels) (sym freed) (record { kept = are.0; unwritten = are.1 }))
+  dropped_kept job (Err e) js extents freed same = jobs_kept js extents (subst (HaveTables m.levels) (sym same.0) kept.jobs)
+
+  -- blocks of a job were read
+  pub read_kept : (area job : ℕ) (medium : Medium) (r : Result ℕ Refusal) (js : JobSlots) → IfOk r (λ left. JobReadsOn area medium job left m.jobs js) → OnErr r (js ≡ m.jobs) → AreConsistent (with_jobs js m.extents)
+  read_kept area job medium (Ok left) js read same =
+      let are = read_tables m.levels area job left medium m.jobs js kept.jobs.kept kept.jobs.unwritten read in
+      jobs_kept js m.extents (record { kept = are.0; unwritten = are.1 })
+  read_kept area job medium (Err e) js read same = jobs_kept js m.extents (subst (HaveTables m.levels) (sym same) kept.jobs)
+
+  -- a job was taken, or none
+  pub take_kept : (waiting : Bool) (sealed : List Version) (cuts : List ℕ) (r : Result (Option TakenJob) Refusal) (js : JobSlots) → AreRuns m.levels
+      → OnOk r (js ≡ with_taken sealed cuts m.levels (given_job waiting m.levels m.jobs.slots) m.jobs) → OnErr r (js ≡ m.jobs) → AreConsistent (with_jobs js m.extents)
+  take_kept waiting sealed cuts (Ok taken) js runs moved same =
+      let are = taken_tables waiting m.levels sealed cuts m.jobs runs kept.jobs.kept kept.jobs.unwritten in
+      jobs_kept js m.extents (subst (HaveTables m.levels) (sym moved) (record { kept = are.0; unwritten = are.1 }))
+  take_kept waiting sealed cuts (Err e) js runs moved same = jobs_kept js m.extents (subst (HaveTables m.levels) (sym same) kept.jobs)
+
+  -- ---- what waits for a flush
+
+  -- whether sealed versions wait, as closed regions tell
+  pub waits_told : (b : Bool) → b ≡ (length m.regions.closed.items == 0) → not b ≡ are_waiting (state_of m)
+  waits_told b is = ap not is ∙ by (length m.regions.closed.items) ∙ ap (nat_le 1) (sym kept.agrees.closed)
+    where
+      by : (n : ℕ) → not (n == 0) ≡ nat_le 1 n
+      by zero = refl
+      by (suc n) = ap not (ne_eqb (suc n) 0 (λ e. omega (arith, e))) ∙ sym (le-leb 1 (suc n) (omega arith))
+
+  -- what is told of them
+  abbrev pub waiting_told : Option (List Version)
+  waiting_told = cond (nat_le 1 (length m.regions.closed.items)) (option_map arc_value m.sealed) None
+
+  pub told_is : (closed : List LogRecord) → closed ≡ m.regions.closed.items → (told : Option (List Version)) → told ≡ cond (nat_le 1 (length closed)) (option_map arc_value m.sealed) None → told ≡ waiting_told
+  told_is closed same told is = is ∙ ap (λ (l : List LogRecord). cond (nat_le 1 (length l)) (option_map arc_value m.sealed) None) same
+
+  pub told_waits : is_some waiting_told ≡ are_waiting (state_of m)
+  told_waits = by (nat_le 1 (length m.regions.closed.items)) refl ∙ ap (nat_le 1) (sym kept.agrees.closed)
+    where
+      by : (b : Bool) → nat_le 1 (length m.regions.closed.items) ≡ b → is_some (cond b (option_map arc_value m.sealed) None) ≡ nat_le 1 (length m.regions.closed.items)
+      by true is = kept.taking.waits (leb-true 1 (length m.regions.closed.items) is) ∙ sym is
+      by false is = sym is
+
+  pub told_entries : AllByRecursion IsEntry (sealed_versions waiting_told)
+  told_entries = by (nat_le 1 (length m.regions.closed.items))
+    where
+      same : (o : Option (List Version)) → AllByRecursion IsEntry (sealed_of o) → AllByRecursion IsEntry (sealed_versions o)
+      same None all = tt
+      same (Some versions) all = all
+
+      by : (b : Bool) → AllByRecursion IsEntry (sealed_versions (cond b (option_map arc_value m.sealed) None))
+      by true = same (option_map arc_value m.sealed) kept.taking.sealed_entries
+      by false = tt
+
+  pub told_sealed : are_waiting (state_of m) ≡ true → sealed_versions waiting_told ≡ (work_of m).sealed
+  told_sealed waits = ap (λ (b : Bool). sealed_versions (cond b (option_map arc_value m.sealed) None)) (ap (nat_le 1) (sym kept.agrees.closed) ∙ waits) ∙ same (option_map arc_value m.sealed)
+    where
+      same : (o : Option (List Version)) → sealed_versions o ≡ sealed_of o
+      same None = refl
+      same (Some versions) = refl
+
+  -- ---- the cuts of a job
+
+  -- the marks that live are few, and their counts rise
+  pub cuts_made : (cuts : List ℕ) → cuts ≡ cuts_of (state_of m) → IsCuts cuts
+  cuts_made cuts is =
+      let s = state_of m in
+      subst IsCuts (sym is)
+      (cuts_law s (omega (arith, kept.taking.few, ap length kept.agrees.snapshots, length-map s.snapshots mark_of))
+      (subst AreRising (counts_are s (marks m.snapshots) m.count kept.agrees.snapshots kept.agrees.counted) kept.taking.rising))
+
+  pub cuts_counted : (cuts : List ℕ) → cuts ≡ each_once (map (λ (mark : Mark). mark.count) (marks m.snapshots) ++ m.count ∷ []) → cuts ≡ cuts_of (state_of m)
+  cuts_counted cuts is = is ∙ ap each_once (counts_are (state_of m) (marks m.snapshots) m.count kept.agrees.snapshots kept.agrees.counted)

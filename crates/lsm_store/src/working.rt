@@ -1,0 +1,91 @@
+// The pieces of work on jobs, over the parts of a store.
+ghost use Rattle.std.specs.Prelude.{◌≡◌, ℕ, length, Option, None, nat_le, option_map, if◌then◌else◌};
+ghost use Rattle.std.specs.Arc.{arc_value};
+ghost use Rattle.lsm_cache.specs.Recency.{Cached};
+ghost use Rattle.lsm_device.specs.Medium.{Medium};
+ghost use Rattle.lsm_store.specs.Calls.{Number, Done};
+ghost use Rattle.lsm_store.specs.Memory.{AreConsistent, IsInside, view_of};
+ghost use Rattle.lsm_store.specs.Work.{Take, Read, Ask, Drop, Plain, Handed};
+ghost use Rattle.lsm_store.specs.Working.{Works, taken_reply, work_reply_of};
+
+use crate::memory::Memory;
+use lsm_codec::LogRecord;
+use lsm_device::{Device, Refusal};
+use lsm_jobs::TakenJob;
+use lsm_mem::Sealed;
+use lsm_merge::Input;
+use std::alloc::Allocator;
+use std::sync::Arc;
+
+// What waits for a flush, where a region is closed.
+fn waiting<'a, A: Allocator>(
+    closed: &[LogRecord],
+    sealed: &'a Option<Arc<Sealed<A>, A>>,
+) -> Option<&'a Sealed<A>>
+    ensures { option_map (λ s. s.now) result ≡ (if nat_le 1 (length closed.now) then option_map arc_value sealed.now else None) }
+{
+    if closed.is_empty() {
+        return None;
+    }
+    sealed.as_deref()
+}
+
+/// Takes the job that comes next.
+pub(crate) fn take<A: Allocator + Clone>(
+    memory: &mut Memory<A>,
+) -> Result<Option<TakenJob>, Refusal>
+    requires { AreConsistent memory.old }
+    ensures works { (medium : Medium) (cache : Cached) → Works (view_of medium memory.old cache) Take (work_reply_of taken_reply result) (view_of medium memory.new cache) }
+    ensures kept { AreConsistent memory.new }
+    ensures inside { (size : ℕ) → IsInside size memory.old → IsInside size memory.new }
+{
+    memory.check_running()?;
+    let _runs = memory.levels.runs();
+    let waits = !memory.regions.closed.is_empty();
+    if !memory.jobs.has_next(&memory.levels, waits)? {
+        return Ok(None);
+    }
+    let cuts = memory.cuts()?;
+    let alloc = memory.regions.closed.allocator();
+    let sealed = waiting(&memory.regions.closed, &memory.sealed);
+    memory.jobs.take(alloc, &memory.levels, sealed, cuts)
+}
+
+/// Reads the next data blocks of a job's tables.
+pub(crate) fn read<D: Device, A: Allocator + Clone>(
+    device: &mut D,
+    memory: &mut Memory<A>,
+    job: u64,
+) -> Result<usize, Refusal>
+    requires kept { AreConsistent memory.old }
+    requires inside { IsInside (D.medium device.old).size memory.old }
+    ensures works { (cache : Cached) → Works (view_of (D.medium device.old) memory.old cache) (Read job) (work_reply_of (λ left. Plain (Number left)) result) (view_of (D.medium device.new) memory.new cache) }
+    ensures kept { AreConsistent memory.new }
+    ensures inside { IsInside (D.medium device.new).size memory.new }
+{
+    memory.check_running()?;
+    let _runs = memory.levels.runs();
+    let area = memory.regions.data_start();
+    let alloc = memory.regions.closed.allocator();
+    memory.jobs.read(alloc, job, area, device)
+}
+
+/// What a job's merge is given.
+pub(crate) fn input<A: Allocator>(memory: &Memory<A>, job: u64) -> Result<Arc<Input<A>, A>, Refusal>
+    requires { AreConsistent memory.now }
+    ensures { (medium : Medium) (cache : Cached) → Works (view_of medium memory.now cache) (Ask job) (work_reply_of (λ input. Handed (arc_value input)) result) (view_of medium memory.now cache) }
+{
+    memory.check_running()?;
+    memory.jobs.input(job)
+}
+
+/// Gives a job up.
+pub(crate) fn drop<A: Allocator>(memory: &mut Memory<A>, job: u64) -> Result<(), Refusal>
+    requires { AreConsistent memory.old }
+    ensures works { (medium : Medium) (cache : Cached) → Works (view_of medium memory.old cache) (Drop job) (work_reply_of (λ _. Plain Done) result) (view_of medium memory.new cache) }
+    ensures kept { AreConsistent memory.new }
+    ensures inside { (size : ℕ) → IsInside size memory.old → IsInside size memory.new }
+{
+    memory.check_running()?;
+    memory.jobs.drop(job, &mut memory.extents)
+}

@@ -1,0 +1,138 @@
+//! Jobs of a store over tables.
+
+use crate::images::{Tables, with_tables};
+use lsm_device::{MemDevice, Refusal};
+use lsm_store::{Store, TakenJob};
+use std::alloc::Global;
+use std::process::Abort;
+
+/// Four runs of level 0, the oldest of which meets both tables of level 1.
+const FOUR_RUNS: Tables = (
+    4,
+    5,
+    &[
+        (0, 0, 5, &[b"\x61"]),
+        (0, 1, 4, &[b"\x61"]),
+        (0, 2, 3, &[b"\x62"]),
+        (0, 3, 2, &[b"\x61", b"\x63"]),
+        (1, 0, 1, &[b"\x61"]),
+        (1, 0, 1, &[b"\x63", b"\x64"]),
+    ],
+);
+
+/// A piece of work on jobs.
+#[derive(Clone, Copy, Debug, PartialEq, Eq)]
+enum Piece {
+    Take,
+    Read(u64),
+    Ask(u64),
+    Drop(u64),
+}
+
+/// What is answered.
+#[derive(Clone, Copy, Debug, PartialEq, Eq)]
+enum Answer {
+    Taken(u64),
+    TakenAt(u64, usize),
+    NoJob,
+    Left(usize),
+    Done,
+    Refused(Refusal),
+}
+
+/// A store on a device with tables. Its calls tell the prover nothing.
+#[derive(Drop)]
+struct WorkingStore {
+    store: Store<MemDevice>,
+}
+
+fn opened<R: Abort>(rt: &R, alloc: Global) -> WorkingStore {
+    match Store::open(alloc, with_tables(rt, alloc, FOUR_RUNS), 16) {
+        Ok(store) => WorkingStore { store },
+        Err((refusal, _)) => rt.panic(refusal.name()),
+    }
+}
+
+/// Of a job that was taken, its number, and the level of its upper tables where it is a merge.
+fn told(taken: Option<TakenJob>) -> Answer {
+    let Some(job) = taken else {
+        return Answer::NoJob;
+    };
+    match job.level {
+        Some(level) => Answer::TakenAt(job.number, level),
+        None => Answer::Taken(job.number),
+    }
+}
+
+impl WorkingStore {
+    fn work(&mut self, piece: Piece) -> Result<Answer, Refusal> {
+        match piece {
+            Piece::Take => Ok(told(self.store.job_take()?)),
+            Piece::Read(job) => Ok(Answer::Left(self.store.job_read(job)?)),
+            Piece::Ask(job) => {
+                self.store.job_input(job)?;
+                Ok(Answer::Done)
+            }
+            Piece::Drop(job) => {
+                self.store.job_drop(job)?;
+                Ok(Answer::Done)
+            }
+        }
+    }
+
+    fn answer(&mut self, piece: Piece) -> Answer {
+        match self.work(piece) {
+            Ok(answer) => answer,
+            Err(refusal) => Answer::Refused(refusal),
+        }
+    }
+
+    fn reads(&self) -> u64 {
+        self.store.reads()
+    }
+}
+
+/// The batch in the log waits for a flush; then the oldest run of level 0 is merged; and no other job comes while these two hold
+/// slots. What is dropped can be taken again, under the next number.
+const PIECES: [(Piece, Answer); 15] = [
+    (Piece::Take, Answer::Taken(1)),
+    (Piece::Ask(1), Answer::Done),
+    (Piece::Read(1), Answer::Refused(Refusal::WrongState)),
+    (Piece::Take, Answer::TakenAt(2, 0)),
+    (Piece::Take, Answer::NoJob),
+    (Piece::Ask(2), Answer::Refused(Refusal::WrongState)),
+    (Piece::Read(2), Answer::Left(0)),
+    (Piece::Read(2), Answer::Refused(Refusal::WrongState)),
+    (Piece::Ask(2), Answer::Done),
+    (Piece::Drop(1), Answer::Done),
+    (Piece::Drop(1), Answer::Refused(Refusal::NoSuchJob)),
+    (Piece::Ask(1), Answer::Refused(Refusal::NoSuchJob)),
+    (Piece::Read(9), Answer::Refused(Refusal::NoSuchJob)),
+    (Piece::Take, Answer::Taken(3)),
+    (Piece::Drop(2), Answer::Done),
+];
+
+#[test]
+fn jobs_are_taken_and_dropped(rt: HostRuntime) {
+    let mut store = opened(&rt, rt.alloc());
+    for (piece, wanted) in PIECES {
+        let answer = store.answer(piece);
+        assert!(rt; answer == wanted, "{piece:?}: {answer:?}");
+    }
+}
+
+#[test]
+fn the_blocks_of_a_merge_are_read(rt: HostRuntime) {
+    let mut store = opened(&rt, rt.alloc());
+    let flush = store.answer(Piece::Take);
+    let merge = store.answer(Piece::Take);
+    let before = store.reads();
+    let left = store.answer(Piece::Read(2));
+    let reads = store.reads().wrapping_sub(before);
+    // Each of the three tables has one data block of eight sectors.
+    let taken = flush == Answer::Taken(1) && merge == Answer::TakenAt(2, 0);
+    assert!(rt;
+        taken && left == Answer::Left(0) && reads == 24,
+        "{left:?} {reads}"
+    );
+}
