@@ -1,4 +1,5 @@
-//! Tests of openings on devices in memory. Those of files are runs of the program (`tests/runs.sh`).
+//! Tests of formats and openings on devices in memory, without tables. Those of files are runs of the program
+//! (`tests/runs.sh`), and those of roots that name tables stand in `recovery_tests`.
 #![tactic(auto)]
 
 #[cfg(test)]
@@ -6,10 +7,8 @@ mod devices;
 #[cfg(test)]
 mod format;
 #[cfg(test)]
-mod images;
-#[cfg(test)]
 mod refusals;
 #[cfg(test)]
-mod roots;
+mod subject;
 #[cfg(test)]
 mod tests;
