@@ -6,7 +6,7 @@ mod openings;
 mod tables;
 
 use crate::devices::formatted;
-use crate::openings::{Call, opened, told, with_batches};
+use crate::openings::{opened, told, with_batches};
 use crate::tables::with_tables;
 use anyhow::Result;
 use lsm_device::MemDevice;
@@ -34,21 +34,21 @@ fn median(mut times: Vec<u128>) -> Result<u128> {
 }
 
 /// Opens a device again and again, and prints what each opening finds, and the middle one of their times.
-fn measure(rt: &HostRuntime, call: Call, device: MemDevice, openings: u32) -> Result<()> {
+fn measure(rt: &HostRuntime, device: MemDevice, openings: u32) -> Result<()> {
     let mut device = device;
     let mut times = Vec::new(rt.alloc());
     let mut found = (0, 0);
     for _ in 0..openings {
-        let opened = opened(rt, call, device)?;
+        let opened = opened(rt, device)?;
         times.push(opened.time)?;
         found = (opened.batches, opened.tables);
         device = opened.device;
     }
     let (batches, tables) = found;
-    println!(rt; "{call:?}: {batches} batches, {tables} tables")?;
+    println!(rt; "{batches} batches, {tables} tables")?;
     let time = median(times)?.max(1);
     let rate = 1_000_000_000 / time;
-    eprintln!(rt; "{call:?}, {tables} tables: {time} ns, {rate} openings a second")?;
+    eprintln!(rt; "{tables} tables: {time} ns, {rate} openings a second")?;
     Ok(())
 }
 
@@ -57,13 +57,11 @@ fn main(rt: HostRuntime) -> Result<()> {
     let batches = number(words.next(), BATCHES)?;
     let openings = number(words.next(), OPENINGS)?;
     let alloc = rt.alloc();
-    for call in [Call::Recover, Call::RecoverWithTables] {
-        let empty = formatted(alloc).map_err(told)?;
-        let device = with_batches(alloc, empty, batches).map_err(told)?;
-        measure(&rt, call, device, openings)?;
-    }
+    let empty = formatted(alloc).map_err(told)?;
+    let device = with_batches(alloc, empty, batches).map_err(told)?;
+    measure(&rt, device, openings)?;
     let tables = with_tables(alloc).map_err(told)?;
     let device = with_batches(alloc, tables, batches).map_err(told)?;
-    measure(&rt, Call::RecoverWithTables, device, openings)?;
+    measure(&rt, device, openings)?;
     Ok(())
 }

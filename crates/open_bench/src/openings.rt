@@ -2,16 +2,9 @@
 use crate::devices::add_batches;
 use anyhow::{Error, Result};
 use lsm_device::{MemDevice, Refusal};
-use lsm_open::{Recovered, RecoveredTables, recover, recover_with_tables};
+use lsm_open::{RecoveredTables, recover_with_tables};
 use std::alloc::Global;
 use std::time::Instant;
-
-/// A call that opens a device.
-#[derive(Clone, Copy, Debug)]
-pub(crate) enum Call {
-    Recover,
-    RecoverWithTables,
-}
 
 /// What an opening found, and the nanoseconds that it took.
 #[derive(Drop)]
@@ -27,17 +20,7 @@ pub(crate) fn told(refusal: Refusal) -> Error {
     Error::msg(refusal.name())
 }
 
-fn recovered(alloc: Global, device: MemDevice) -> Result<Recovered<MemDevice>, Refusal> {
-    match recover(alloc, device) {
-        Ok(recovered) => Ok(recovered),
-        Err((refusal, _)) => Err(refusal),
-    }
-}
-
-fn recovered_with_tables(
-    alloc: Global,
-    device: MemDevice,
-) -> Result<RecoveredTables<MemDevice>, Refusal> {
+fn recovered(alloc: Global, device: MemDevice) -> Result<RecoveredTables<MemDevice>, Refusal> {
     match recover_with_tables(alloc, device) {
         Ok(recovered) => Ok(recovered),
         Err((refusal, _)) => Err(refusal),
@@ -50,28 +33,15 @@ pub(crate) fn with_batches(
     device: MemDevice,
     count: u32,
 ) -> Result<MemDevice, Refusal> {
-    let mut recovered = recovered_with_tables(alloc, device)?;
+    let mut recovered = recovered(alloc, device)?;
     add_batches(alloc, &mut recovered.device, &mut recovered.regions, count)?;
     Ok(recovered.device)
 }
 
-/// Opens a device with `recover`.
-fn timed(rt: &HostRuntime, device: MemDevice) -> Result<Measured> {
+/// Opens a device. What the opening keeps in memory is let go once its time is taken.
+pub(crate) fn opened(rt: &HostRuntime, device: MemDevice) -> Result<Measured> {
     let start = Instant::now(rt)?;
     let recovered = recovered(rt.alloc(), device).map_err(told)?;
-    let time = start.elapsed(rt)?.as_nanos();
-    Ok(Measured {
-        device: recovered.device,
-        batches: recovered.count,
-        tables: 0,
-        time,
-    })
-}
-
-/// Opens a device with `recover_with_tables`.
-fn timed_with_tables(rt: &HostRuntime, device: MemDevice) -> Result<Measured> {
-    let start = Instant::now(rt)?;
-    let recovered = recovered_with_tables(rt.alloc(), device).map_err(told)?;
     let time = start.elapsed(rt)?.as_nanos();
     Ok(Measured {
         device: recovered.device,
@@ -79,12 +49,4 @@ fn timed_with_tables(rt: &HostRuntime, device: MemDevice) -> Result<Measured> {
         tables: recovered.records.len(),
         time,
     })
-}
-
-/// Opens a device. What the opening keeps in memory is let go once its time is taken.
-pub(crate) fn opened(rt: &HostRuntime, call: Call, device: MemDevice) -> Result<Measured> {
-    match call {
-        Call::Recover => timed(rt, device),
-        Call::RecoverWithTables => timed_with_tables(rt, device),
-    }
 }
