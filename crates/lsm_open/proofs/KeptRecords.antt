@@ -43,14 +43,6 @@ module _ (n : ℕ) (s : Sectors) where
   same_batches [] = refl
   same_batches (r ∷ rest) = kept_batches (batches_at n s r) r (kept_records n s rest) refl ∙ ap (λ (l : Batches). batches_at n s r ++ l) (same_batches rest)
 
-  kept_regions : (bs : Batches) (r : LogRecord) (rest : List LogRecord) → batches_at n s r ≡ bs → regions_with_batches n s (kept_before bs r rest) ≡ one_if_some bs + regions_with_batches n s rest
-  kept_regions [] r rest is = omega arith
-  kept_regions (b ∷ bs) r rest is = ap (λ (l : Batches). one_if_some l + regions_with_batches n s rest) is
-
-  pub same_regions : (logs : List LogRecord) → regions_with_batches n s (kept_records n s logs) ≡ regions_with_batches n s logs
-  same_regions [] = refl
-  same_regions (r ∷ rest) = kept_regions (batches_at n s r) r (kept_records n s rest) refl ∙ ap (λ (k : ℕ). one_if_some (batches_at n s r) + k) (same_regions rest)
-
   kept_length : (bs : Batches) (r : LogRecord) (rest : List LogRecord) → length (kept_before bs r rest) ≡ one_if_some bs + length rest
   kept_length [] r rest = omega arith
   kept_length (b ∷ bs) r rest = omega arith
@@ -80,20 +72,3 @@ module _ (n : ℕ) (s : Sectors) where
   pub all_hold : (logs : List LogRecord) → All Holds (kept_records n s logs)
   all_hold [] = All-nil Holds
   all_hold (r ∷ rest) = kept_hold (batches_at n s r) r (kept_records n s rest) refl (all_hold rest)
-
--- ---- regions that replay to the same in other sectors
-
-module _ (n : ℕ) (c e : Sectors) (same : (r : LogRecord) → batches_at n c r ≡ batches_at n e r) where
-  pub batches_agree : (logs : List LogRecord) → all_batches n c logs ≡ all_batches n e logs
-  batches_agree [] = refl
-  batches_agree (r ∷ rest) = ap (λ (l : Batches). l ++ all_batches n c rest) (same r) ∙ ap (λ (l : Batches). batches_at n e r ++ l) (batches_agree rest)
-
-  pub regions_agree : (logs : List LogRecord) → regions_with_batches n c logs ≡ regions_with_batches n e logs
-  regions_agree [] = refl
-  regions_agree (r ∷ rest) = ap (λ (l : Batches). one_if_some l + regions_with_batches n c rest) (same r) ∙ ap (λ (k : ℕ). one_if_some (batches_at n e r) + k) (regions_agree rest)
-
-  pub follow_agree : (k : ℕ) (logs : List LogRecord) → follow_on n c k logs ≡ follow_on n e k logs
-  follow_agree k [] = refl
-  follow_agree k (r ∷ rest) =
-      ap (λ (l : Batches). (r.first_batch == k) && follow_on n c (k + length l) rest) (same r)
-      ∙ ap (λ (b : Bool). (r.first_batch == k) && b) (follow_agree (k + length (batches_at n e r)) rest)

@@ -1,16 +1,11 @@
 pub mod Openings
 pub mod KeptRecords
-pub mod Served
-pub mod PlainImages
-pub mod NextImages
 pub mod NextManifests
 pub mod ReplaySteps
-pub mod Recovering
-pub mod OpeningMoments
+pub mod NextLayouts
 pub mod Zeroed
 pub mod EmptyStores
 pub mod OpeningRefusals
-pub mod CountedCalls
 pub mod HeldRegions
 pub mod ListPairs
 pub mod NewestFound
@@ -31,7 +26,6 @@ pub mod Beginnings
 pub mod Writing
 pub mod TableTexts
 pub mod Taking
-pub mod OpenedImages
 pub mod BlockReads
 pub mod ToldRuns
 pub mod Claims

@@ -1,13 +1,14 @@
 -- A new log behind closed regions.
-use Rattle.std.proofs.Common.{◌≡◌, ℕ, ◌+◌, ◌*◌, ◌≤◌, ◌<◌, ◌&&◌, Bool, true, false, List, [], length, get_or, Some, None, refl, sym, ◌∙◌, ap, subst, arith, All}
+use Rattle.std.proofs.Common.{◌≡◌, ℕ, suc, ◌+◌, ◌*◌, ◌≤◌, ◌<◌, ◌&&◌, Bool, true, false, List, [], length, get_or, Some, None, refl, sym, ◌∙◌, ap, subst, arith, All}
 use Rattle.std.specs.Prelude.{Option, option_map}
+use Rattle.std.proofs.Math.Nat.{mul-le-mul_right}
 use Rattle.std.proofs.lemmas.Bool.{eq-eqb}
 use Rattle.std.proofs.lemmas.List.Elements.{All-nil}
 use Rattle.lsm_codec.specs.declared.log_record.LogRecord.{LogRecord}
 use Rattle.lsm_device.specs.Areas.{area}
 use Rattle.lsm_device.specs.Disk.{Write, at_rest}
 use Rattle.lsm_log.specs.Opened.{AreNumbers, HasNoneAbove, IsFree, is_above}
-use Rattle.lsm_log.proofs.Epochs.{none_above_more}
+use Rattle.lsm_log.proofs.Epochs.{later_is_free, none_above_more}
 use Rattle.lsm_log.proofs.Logs.{none_read, new_open}
 use Rattle.lsm_open.specs.CrashState.{last_number}
 use Rattle.lsm_open.specs.LogRegions.{first_region, region_start, batches_at, all_batches, follow_on}
@@ -18,11 +19,16 @@ use Rattle.lsm_open.specs.Switching.{IsInLeastFree}
 use Rattle.lsm_open.specs.Tables.{AreTables}
 use Rattle.lsm_open.specs.declared.regions.OpenRegion.{OpenRegion}
 use Rattle.lsm_open.proofs.KeptRecords.{follow_on-append}
-use Rattle.lsm_open.proofs.NextImages.{free_for_next, least_low}
-use Rattle.lsm_open.proofs.NextManifests.{least_elsewhere}
+use Rattle.lsm_open.proofs.NextManifests.{least_low, least_elsewhere}
 
 abbrev Sectors : Type 0
 Sectors = List (List ℕ)
+
+-- no log sector of the regions is above a generation, so of the next generation none is in one of them
+pub free_for_next : (generation n region : ℕ) (sectors : Sectors) → region ≤ 2 → first_region + 3 * n ≤ length sectors → HasNoneAbove generation (area first_region (3 * n) sectors) → IsFree (region_start n region) n (generation + 1) (at_rest sectors)
+free_for_next generation n region sectors low inside none =
+    let fits : suc region * n ≤ 3 * n = mul-le-mul_right n (omega arith) in
+    later_is_free generation first_region (3 * n) (region_start n region) n (generation + 1) (at_rest sectors) none (omega arith) (omega (arith, fits)) (omega arith) refl (omega (arith, fits, inside))
 
 -- a closed region's record: it is one of three, and it holds batches
 pub record HoldsBatches (n : ℕ) (c : List (List ℕ)) (r : LogRecord) : Type 0 where

@@ -1,5 +1,5 @@
 -- The manifest of the next generation is within the limits.
-use Rattle.std.proofs.Common.{◌≡◌, ◌≢◌, ◌⊎◌, inl, inr, ⊎_elim, ℕ, zero, suc, ◌+◌, ◌≤◌, ◌<◌, ◌==◌, not, Bool, true, false, cond, List, [], ◌∷◌, ◌++◌, length, Some, None, refl, sym, ap, subst, arith, append_assoc, All}
+use Rattle.std.proofs.Common.{◌≡◌, ◌≢◌, ◌⊎◌, inl, inr, ⊎_elim, ℕ, ◌+◌, ◌≤◌, ◌<◌, ◌==◌, not, Bool, true, false, cond, List, [], ◌∷◌, ◌++◌, length, Some, None, refl, sym, ap, subst, arith, append_assoc, All}
 use Rattle.std.specs.Prelude.{Option, unwrap_or}
 use Rattle.std.proofs.lemmas.Bool.{and_parts, and_cases, eqb-true, eqb-false, not-true, not-false}
 use Rattle.std.proofs.lemmas.List.{append-nil, length-append}
@@ -7,11 +7,8 @@ use Rattle.std.proofs.lemmas.List.Elements.{All-nil, All-cons, All-head, All-tai
 use Rattle.lsm_codec.specs.declared.log_record.LogRecord.{LogRecord}
 use Rattle.lsm_codec.specs.Pairs.{Pairwise}
 use Rattle.lsm_codec.specs.Manifests.{Contents, IsLogRecord, LogsAgree, BeginsAfter, LogsFit, IsManifest}
-use Rattle.lsm_codec.specs.TableRecords.{HasRun}
-use Rattle.lsm_codec.specs.declared.table_record.TableRecord.{TableRecord}
 use Rattle.lsm_open.specs.CrashState.{last_number}
 use Rattle.lsm_open.specs.Reopening.{is_free, least_free, new_records, next_contents, BeginsAt, HasCome}
-use Rattle.lsm_open.proofs.NextImages.{least_low}
 
 abbrev Records : Type 0
 Records = List LogRecord
@@ -31,6 +28,16 @@ pairwise_push R [] y all last = (All-nil (R y), tt)
 pairwise_push R (x ∷ xs) y all last = (All-push (R x) xs y all.0 (All-head (λ z. R z y) x xs last), pairwise_push R xs y all.1 (All-tail (λ z. R z y) x xs last))
 
 -- ---- the regions that are free
+
+-- a region that may be free is one of three
+pub least_low : (closed : List LogRecord) (region : ℕ) → least_free closed ≡ Some region → region ≤ 2
+least_low closed region is = by (is_free 0 closed) (is_free 1 closed) (is_free 2 closed) is
+  where
+    by : (a b c : Bool) → cond a (Some 0) (cond b (Some 1) (cond c (Some 2) None)) ≡ Some region → region ≤ 2
+    by true b c e = let same : 0 ≡ region = ap (λ (o : Option ℕ). unwrap_or o 3) e in omega (arith, same)
+    by false true c e = let same : 1 ≡ region = ap (λ (o : Option ℕ). unwrap_or o 3) e in omega (arith, same)
+    by false false true e = let same : 2 ≡ region = ap (λ (o : Option ℕ). unwrap_or o 3) e in omega (arith, same)
+    by false false false e = absurd (cc)
 
 abbrev IsElsewhere : ℕ → LogRecord → Type 0
 IsElsewhere region r = r.region ≢ region
@@ -153,14 +160,6 @@ come_kept m count more closed r rest come first up high =
       before = All-push (λ (a : LogRecord). a.first_batch ≤ more) closed r (All-weaker (λ (a : LogRecord). a.first_batch ≤ count) (λ (a : LogRecord). a.first_batch ≤ more) (λ a le. omega (arith, le, up)) closed come.before) (omega (arith, first, up));
       begins = begins_kept m.base count more closed r come.begins first;
     }
-
--- a manifest without tables has no run of level 0
-pub no_runs : (m : Contents) → IsManifest m → m.tables ≡ [] → m.runs ≡ 0
-no_runs m is none = by m.runs (λ run lt. (subst (λ (ts : List TableRecord). HasRun ts run) none (is.tables.runs.each run lt)))
-  where
-    by : (runs : ℕ) → ((run : ℕ) → run < runs → HasRun [] run) → runs ≡ 0
-    by zero all = refl
-    by (suc runs) all = absurd (let found = all 0 (omega arith) in omega (arith, found.1))
 
 -- ---- the next manifest
 

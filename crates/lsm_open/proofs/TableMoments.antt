@@ -1,4 +1,4 @@
--- What an opening that serves tables leaves at each moment of the whole call.
+-- What an opening leaves at each moment of the whole call.
 use Rattle.std.proofs.Common.{◌≡◌, ◌⊎◌, inl, inr, ℕ, Bool, true, List, length, replicate, sym, subst}
 use Rattle.lsm_codec.specs.Manifests.{Contents, IsManifest}
 use Rattle.lsm_device.specs.Disk.{Disk, seen, synced}

@@ -1,4 +1,4 @@
--- An opening that serves tables: from what it has read and installed to what it promises.
+-- An opening: from what it has read and installed to what it promises.
 use Rattle.std.proofs.Common.{◌≡◌, ◌≢◌, ◌⊎◌, inl, inr, true, false, IsTrue, ℕ, ◌+◌, ◌<◌, ◌≤◌, List, [], ◌∷◌, ◌++◌, length, map, Some, None, refl, sym, ◌∙◌, ap, subst, arith}
 use Rattle.std.specs.Prelude.{◌↔◌, Contains, Option, option_map}
 use Rattle.std.specs.List.{AllByRecursion}
@@ -35,13 +35,12 @@ use Rattle.lsm_open.specs.Tables.{first_data, table_versions}
 use Rattle.lsm_open.specs.ToldTables.{AreThose}
 use Rattle.lsm_open.specs.declared.regions.OpenRegion.{OpenRegion}
 use Rattle.lsm_open.proofs.KeptRecords.{count_kept}
+use Rattle.lsm_open.proofs.NextLayouts.{layout_says, opened_in}
 use Rattle.lsm_open.proofs.NextManifests.{none_free, closed_few, next_fits}
+use Rattle.lsm_open.proofs.OneMeaning.{same_stands}
 use Rattle.lsm_open.proofs.Openings.{same_again, next_again}
-use Rattle.lsm_open.proofs.OpeningMoments.{opened_in}
 use Rattle.lsm_open.proofs.OpeningSteps.{opening_installs, may_reopen, rests_stand, settled_at_rest}
 use Rattle.lsm_open.proofs.ReadPlaces.{batches_later, batches_newer, stored_behind}
-use Rattle.lsm_open.proofs.Recovering.{layout_says}
-use Rattle.lsm_open.proofs.Served.{same_stands}
 use Rattle.lsm_open.proofs.Switches.{switch_moments, installed_carried, installed_present}
 use Rattle.lsm_root.specs.Installed.{IsReady, IsOldOrNew, IsInstalled}
 use Rattle.lsm_root.specs.Loaded.{refusal_of}

@@ -1,5 +1,5 @@
 -- What the sectors of a device stand for.
-use Rattle.std.specs.Prelude.{◌≡◌, ℕ, ◌+◌, ◌*◌, ◌==◌, true, List, [], ◌++◌, length, Contains, if◌then◌else◌}
+use Rattle.std.specs.Prelude.{◌≡◌, ℕ, ◌+◌, ◌*◌, true, List, [], ◌++◌, length}
 use Rattle.lsm_codec.specs.Manifests.{Contents}
 use Rattle.lsm_codec.specs.Map.{Map}
 use Rattle.lsm_codec.specs.Versions.{Version}
@@ -10,7 +10,7 @@ use Rattle.lsm_mem.specs.Versions.{map_of}
 use Rattle.lsm_open.specs.CrashState.{CrashState}
 use Rattle.lsm_open.specs.LogRegions.{first_region, all_batches, follow_on, regions_with_batches}
 use Rattle.lsm_open.specs.Tables.{table_versions, AreTables}
-use Rattle.lsm_root.specs.Roots.{Root, Missing, Damaged, OtherSize, Unreadable, Stands, root_of}
+use Rattle.lsm_root.specs.Roots.{Stands, root_of}
 
 -- how many batches there are: those in tables, and those that the regions replay to
 abbrev pub count_in : ℕ → List (List ℕ) → Contents → ℕ
@@ -51,22 +51,3 @@ pub record StandFor (log_sectors : ℕ) (left : CrashState) (sectors : List (Lis
 -- sectors stand for some crash state of these
 abbrev pub StandForSome : ℕ → (CrashState → Type 0) → List (List ℕ) → Type 0
 StandForSome log_sectors P sectors = (left : CrashState) × P left × StandFor log_sectors left sectors
-
--- ---- what openings serve
-
--- The root that `recover` goes by. One whose manifest names a table is as good as unreadable: that opening serves none.
-abbrev pub served : Root → Root
-served Missing = Missing
-served Damaged = Damaged
-served OtherSize = OtherSize
-served Unreadable = Unreadable
-served (Stands log_sectors manifest) = if length manifest.tables == 0 then Stands log_sectors manifest else Unreadable
-
--- Sectors stand for what a crash left, and an opening goes by their root.
-pub record IsImage (log_sectors : ℕ) (left : CrashState) (sectors : List (List ℕ)) : Type 0 where
-  pub stands : StandFor log_sectors left sectors
-  pub root : served (root_of sectors) ≡ Stands log_sectors stands.manifest
-
--- sectors stand for one of these
-abbrev pub IsImageOfOne : ℕ → List CrashState → List (List ℕ) → Type 0
-IsImageOfOne log_sectors all sectors = (left : CrashState) × Contains all left × IsImage log_sectors left sectors

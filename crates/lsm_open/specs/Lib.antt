@@ -4,7 +4,6 @@ pub mod Tables
 pub mod Image
 pub mod Opening
 pub mod Layout
-pub mod Recovered
 pub mod Reopening
 pub mod Answered
 pub mod Formatted

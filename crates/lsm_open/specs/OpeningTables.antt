@@ -1,6 +1,5 @@
--- When an opening that serves tables is refused for what the device holds.
+-- When an opening is refused for what the device holds.
 use Rattle.std.specs.Prelude.{ℕ, List, Option, Some, None}
-use Rattle.lsm_codec.specs.Manifests.{Contents}
 use Rattle.lsm_device.specs.declared.refusal.Refusal.{Refusal}
 use Rattle.lsm_device.specs.declared.refusal.Refusal.TheVariants.{BadTable}
 use Rattle.lsm_levels.specs.Levels.{Levels}
@@ -21,7 +20,7 @@ named_refusal sectors OtherSize = refusal_of OtherSize
 named_refusal sectors Unreadable = refusal_of Unreadable
 named_refusal sectors (Stands log_sectors manifest) = refusal_behind (told_levels log_sectors sectors manifest) (manifest_refusal log_sectors sectors manifest)
 
--- The refusal of an opening that serves tables, of a device that reads give these sectors of, if it is refused for what it
+-- The refusal of an opening of a device that reads give these sectors of, if it is refused for what it
 -- holds: the root doesn't stand, a table that the manifest names is none, a region's first batch doesn't come next, or there is
 -- no next generation.
 abbrev pub table_refusal : List (List ℕ) → Option Refusal

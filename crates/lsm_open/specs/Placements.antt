@@ -22,10 +22,6 @@ pub record Placement : Type 0 where
   pub runs : ℕ
   pub tables : List TableRecord
 
--- the placement of a layout without tables
-abbrev pub without_tables : Layout → Placement
-without_tables l = record { logs = l; runs = 0; tables = [] }
-
 -- the manifest that says so
 abbrev pub contents_for : Placement → Contents
 contents_for p = record { generation = p.logs.generation; base = p.logs.base; next_table = p.logs.next_table; runs = p.runs; logs = p.logs.closed ++ open_records p.logs.open_region; tables = p.tables }

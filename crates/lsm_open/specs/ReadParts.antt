@@ -1,4 +1,4 @@
--- What an opening that serves tables has read before it writes.
+-- What an opening has read before it writes.
 use Rattle.std.specs.Prelude.{◌≡◌, ◌≢◌, ◌↔◌, ℕ, ◌+◌, Bool, false, IsTrue, List, [], length, Option, Some, None}
 use Rattle.std.specs.List.{AllByRecursion}
 use Rattle.lsm_codec.specs.Geometry.{data_blocks_of}

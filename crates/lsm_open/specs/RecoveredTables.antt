@@ -1,4 +1,4 @@
--- What an opening that serves tables makes of sectors, and of what a crash left.
+-- What an opening makes of sectors, and of what a crash left.
 use Rattle.std.specs.Prelude.{◌≡◌, ◌≢◌, ◌<◌, ◌≤◌, ◌⊎◌, ◌↔◌, ℕ, ◌+◌, Bool, List, [], ◌∷◌, ◌++◌, length, map, Contains, Option, Some, None, option_map}
 use Rattle.std.specs.List.{AllByRecursion}
 use Rattle.lsm_codec.specs.Geometry.{data_blocks_of}

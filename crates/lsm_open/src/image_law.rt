@@ -1,6 +1,5 @@
 // Laws of what sectors stand for, tables and all.
-ghost use Rattle.std.specs.Prelude.{◌≡◌, ◌≤◌, ◌↔◌, ℕ, ◌+◌, ◌==◌, List, [], ◌++◌, length, drop, All, Some, None, if◌then◌else◌};
-ghost use Rattle.std.specs.FinMap as finite;
+ghost use Rattle.std.specs.Prelude.{◌≡◌, ℕ, ◌+◌, List, [], ◌++◌, length, drop, All};
 ghost use Rattle.lsm_codec.specs.Map.{Operation, apply_all};
 ghost use Rattle.lsm_codec.specs.Versions.{Version};
 ghost use Rattle.lsm_device.specs.Disk.{Disk, Write, seen, synced};
@@ -9,13 +8,9 @@ ghost use Rattle.lsm_device.specs.Outcomes.{Leaves};
 ghost use Rattle.lsm_device.specs.Runs.{grown, HasSomeOf};
 ghost use Rattle.lsm_mem.specs.EntryOrder.{with_batches};
 ghost use Rattle.lsm_mem.specs.Versions.{NumberedAtMost, map_of};
-ghost use Rattle.lsm_open.specs.CrashState.{CrashState, last_number};
-ghost use Rattle.lsm_device.specs.declared.refusal.Refusal.TheVariants.{BadManifest, Exhausted};
-ghost use Rattle.lsm_open.specs.Image.{StandFor, StandForSome, IsImage};
-ghost use Rattle.lsm_open.specs.Layout.{Layout, IsCarriedBy};
-ghost use Rattle.lsm_open.specs.LogRegions.{all_batches, regions_with_batches};
-ghost use Rattle.lsm_open.specs.Opening.{opening_refusal};
-ghost use Rattle.lsm_open.specs.Placements.{Placement, without_tables, Carries, present_state, MayBeLeft, IsFreeWrite};
+ghost use Rattle.lsm_open.specs.CrashState.{CrashState};
+ghost use Rattle.lsm_open.specs.Image.{StandFor, StandForSome};
+ghost use Rattle.lsm_open.specs.Placements.{Placement, Carries, present_state, MayBeLeft, IsFreeWrite};
 ghost use Rattle.lsm_open.specs.Tables.{extent_at};
 ghost use Rattle.lsm_root.specs.Roots.{root_of};
 
@@ -31,25 +26,6 @@ pub fn sectors_have_one_meaning()
         → (log_sectors ≡ other_log) × (left ≡ other) }
     ensures decided { (log_sectors : ℕ) (left : CrashState) (sectors others : List (List ℕ)) → drop 130 sectors ≡ drop 130 others → root_of sectors ≡ root_of others
         → StandFor log_sectors left others → StandFor log_sectors left sectors }
-{}
-
-/// Sectors without tables stand for the batches in their regions, applied in order to the empty map; they are an image, and a
-/// layout without tables is carried as a placement without tables.
-pub fn no_tables_leave_the_batches()
-    ensures left { (log_sectors : ℕ) (left : CrashState) (sectors : List (List ℕ)) → (is : StandFor log_sectors left sectors) → is.manifest.tables ≡ []
-        → left ≡ record { count = is.manifest.base + length (all_batches log_sectors sectors is.manifest.logs); map = apply_all finite.empty (all_batches log_sectors sectors is.manifest.logs); closed = regions_with_batches log_sectors sectors is.manifest.logs; generation = is.manifest.generation } }
-    ensures image { (log_sectors : ℕ) (left : CrashState) (sectors : List (List ℕ)) → (is : StandFor log_sectors left sectors) → is.manifest.tables ≡ [] → IsImage log_sectors left sectors }
-    ensures none { (log_sectors : ℕ) (left : CrashState) (sectors : List (List ℕ)) → (is : IsImage log_sectors left sectors) → is.stands.manifest.tables ≡ [] }
-    ensures carried { (l : Layout) (d : Disk) → IsCarriedBy d l ↔ Carries d (without_tables l) }
-{}
-
-/// An image is opened, but in the last generation; and sectors whose manifest names a table are refused with BadManifest, since no
-/// store serves tables yet.
-pub fn images_are_opened()
-    ensures opened { (log_sectors : ℕ) (left : CrashState) (sectors : List (List ℕ)) → IsImage log_sectors left sectors
-        → opening_refusal sectors ≡ (if left.generation == last_number then Some Exhausted else None) }
-    ensures tables { (log_sectors : ℕ) (left : CrashState) (sectors : List (List ℕ)) → (is : StandFor log_sectors left sectors) → 1 ≤ length is.manifest.tables
-        → opening_refusal sectors ≡ Some BadManifest }
 {}
 
 /// Each crash of a disk that carries a placement leaves sectors that stand for the map after a beginning of its batches, which

@@ -8,7 +8,6 @@ mod job_law;
 mod law;
 mod next;
 mod recovered_tables;
-mod recovery;
 mod regions;
 mod reopened;
 mod replayed;
@@ -17,8 +16,7 @@ mod tables;
 pub use formatting::format;
 pub use image_law::{
     batches_apply_to_tables, crashes_leave_beginnings, free_writes_change_nothing,
-    images_are_opened, no_tables_leave_the_batches, sectors_have_one_meaning,
-    syncs_keep_placements,
+    sectors_have_one_meaning, syncs_keep_placements,
 };
 pub use install_law::{
     flushes_may_be_installed, installs_switch, merges_may_be_installed, openings_may_be_installed,
@@ -30,5 +28,4 @@ pub use job_law::{
 pub use law::openings_leave_the_same;
 pub use next::table_records;
 pub use recovered_tables::{RecoveredTables, recover_with_tables};
-pub use recovery::{Recovered, recover};
 pub use regions::{OpenRegion, Regions};

@@ -19,7 +19,7 @@ ghost use Rattle.lsm_open.specs.ReadParts.{AreRead, AreToldBy, ReadsAtMost};
 ghost use Rattle.lsm_open.specs.RecoveredTables.{placed_in, sealed_versions, IsReopenedWithTables, IsRecoveredWithTables, AreWithinLimits, IsTableOpeningRefusal, BeginsTablesWithSync, HasWritten, StandForOne, CrashesWithTables, FailsWithTables};
 ghost use Rattle.lsm_root.specs.Layout.{IsDeviceSize};
 
-use crate::recovery::{LAST_GENERATION, begin};
+use crate::formatting::is_device_size;
 use crate::regions::Regions;
 use crate::reopened::reopen;
 use crate::replayed::{Replayed, replay_regions};
@@ -32,6 +32,8 @@ use lsm_mem::{Mem, Sealed};
 use lsm_root::{Loaded, load, root_laws};
 use std::alloc::{Allocator, Global};
 use std::sync::Arc;
+
+const LAST_GENERATION: u64 = 1 << 63;
 
 /// A store's parts, tables and all, as an opening recovers them.
 #[derive(Drop)]
@@ -192,6 +194,28 @@ fn recover_tables_settled<A: Allocator + Clone, D: Device>(
         sealed: kept.sealed,
         count: kept.count,
     })
+}
+
+// The first call of an opening, a sync, on a device of a fair size.
+fn begin<D: Device>(device: &mut D) -> Result<(), Refusal>
+    ensures size { (IsDeviceSize (D.medium device.old).size → ⊥) → (result ≡ Err Refusal.BadGeometry) × (device.new ≡ device.old) }
+    ensures stands { IsTrue (D.medium device.old).lasting.tells → OnOk result
+        (Becomes (synced (disk (D.medium device.old))) (D.medium device.old).history (D.medium device.new).history) }
+    ensures unchanged { IsTrue (D.medium device.old).lasting.tells → OnErr result ((D.medium device.new).history ≡ (D.medium device.old).history) }
+    ensures refused { IfErr result (λ refusal. ((refusal ≡ Refusal.BadGeometry) × (IsDeviceSize (D.medium device.old).size → ⊥)) ⊎ (refusal ≡ Refusal.Io)) }
+    ensures counted { IsDeviceSize (D.medium device.old).size → (D.medium device.new).calls ≡ after_sync (is_ok result) (D.medium device.old).calls }
+    ensures made { OnOk result ((D.medium device.new).calls ≡ after_sync true (D.medium device.old).calls) }
+    ensures calls { AtMost 0 0 1 (D.medium device.old).calls (D.medium device.new).calls }
+    ensures faults { (D.medium device.new).calls.faults ≡ faults_after (faultless result) (D.medium device.old).calls.faults }
+    ensures stops { IfErr result (λ refusal. refusal ≡ Refusal.Io → IsTrue (D.medium device.new).calls.last_faulted) }
+    ensures same_size { (D.medium device.new).size ≡ (D.medium device.old).size }
+    ensures same_lasting { (D.medium device.new).lasting ≡ (D.medium device.old).lasting }
+{
+    if !is_device_size(device.sectors()) {
+        return Err(Refusal::BadGeometry);
+    }
+    device.sync()?;
+    Ok(())
 }
 
 // Recovers the parts.

@@ -82,7 +82,7 @@ module _ (p : Placement) (d : Disk) (held : IsHeld p d) (o : OpenRegion) (is_ope
   closed_log : (r : LogRecord) → IsClosed p.logs d r → (disk_in (region_start p.logs.log_sectors r.region) p.logs.log_sectors (grown ws d)).pending ≡ []
   closed_log r is =
       let other : r.region ≢ o.region = subst (λ (x : Option OpenRegion). IsOther x r) is_open is.other in
-      let outside = All-weaker (IsOfLog o.log) (IsOutside (region_start p.logs.log_sectors r.region) p.logs.log_sectors) (outside_region p.logs d o log_at ws of_log r other) ws of_log in
+      let outside = All-weaker (IsOfLog o.log) (IsOutside (region_start p.logs.log_sectors r.region) p.logs.log_sectors) (outside_region p.logs d o log_at r other) ws of_log in
       ap (λ (e : Disk). e.pending) (disk_in_elsewhere (region_start p.logs.log_sectors r.region) p.logs.log_sectors ws d outside) ∙ is.settled
 
   above_log : NoneAboveIn p.logs.generation first_region (3 * p.logs.log_sectors) (grown ws d)

@@ -13,8 +13,7 @@ use Rattle.lsm_open.specs.Reopening.{least_free, new_records, HasCome}
 use Rattle.lsm_open.specs.Switching.{IsInLeastFree}
 use Rattle.lsm_open.specs.ToldTables.{records_of}
 use Rattle.lsm_open.specs.declared.regions.OpenRegion.{OpenRegion}
-use Rattle.lsm_open.proofs.NextImages.{least_low}
-use Rattle.lsm_open.proofs.NextManifests.{next_fits}
+use Rattle.lsm_open.proofs.NextManifests.{least_low, next_fits}
 use Rattle.lsm_store.specs.Memory.{IsLogIn, IsOpenIn, LieWithin}
 
 -- the layout after a rotation, where no region was closed: the open log's is, if one was open, and a new log is open

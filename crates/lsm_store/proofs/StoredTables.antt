@@ -20,16 +20,15 @@ use Rattle.lsm_levels.specs.Levels.{Levels}
 use Rattle.lsm_mem.specs.Versions.{map_of}
 use Rattle.lsm_open.specs.CrashState.{CrashState}
 use Rattle.lsm_open.specs.Image.{StandForSome}
-use Rattle.lsm_open.specs.Layout.{Layout, open_records, open_batches}
+use Rattle.lsm_open.specs.Layout.{open_records, open_batches}
 use Rattle.lsm_open.specs.LogRegions.{one_if_some}
-use Rattle.lsm_open.specs.Placements.{Placement, without_tables, contents_for, table_map, closed_in, IsHeld, MayBeLeft, IsFreeWrite}
+use Rattle.lsm_open.specs.Placements.{Placement, contents_for, table_map, closed_in, IsHeld, MayBeLeft, IsFreeWrite}
 use Rattle.lsm_open.specs.RecoveredTables.{StandForOne, IsRecoveredWithTables}
 use Rattle.lsm_open.specs.Tables.{extent_start, extent_length}
 use Rattle.lsm_open.specs.Writing.{IsClear, IsWritten}
 use Rattle.lsm_open.proofs.FreeWrites.{reads_elsewhere, carried_elsewhere, free_moments, tables_seen, carried_synced}
 use Rattle.lsm_open.proofs.HeldPlacements.{same_closed}
 use Rattle.lsm_open.proofs.HeldRegions.{Same, same_all}
-use Rattle.lsm_open.proofs.PlainImages.{carries_layout, layout_carried}
 use Rattle.lsm_open.proofs.TableFrames.{same_all_versions}
 use Rattle.lsm_root.proofs.Standing.{standing}
 use Rattle.lsm_store.specs.Calls.{Sync}
@@ -38,7 +37,6 @@ use Rattle.lsm_store.specs.Effects.{after}
 use Rattle.lsm_store.specs.Promise.{beginnings}
 use Rattle.lsm_store.specs.RecoveryPoints.{all_synced, batch_count, present_map, last_map}
 use Rattle.lsm_store.specs.State.{State}
-use Rattle.lsm_store.specs.Stored.{IsStored}
 use Rattle.lsm_store.specs.StoredTables.{IsStateIn, IsStateOver, IsStoredIn, IsStoredWithJobs, KeepsExtents}
 use Rattle.lsm_store.proofs.AppendedTables.{area_elsewhere}
 use Rattle.lsm_store.proofs.LeftStates.{begins_at, all_within, one_of_state, stored_leaves}
@@ -205,25 +203,3 @@ module _ (log_sectors : ℕ) (left : CrashState) (p : Placement) (count : ℕ) (
       written = All-nil (IsWritten p.logs.log_sectors d);
     };
   }
-
--- ---- a store without tables
-
-module _ (l : Layout) (s : State) (d : Disk) where
-  pub layout_stored : IsStored l s d → IsStoredIn (without_tables l) s d
-  layout_stored stored =
-      let is = stored.state in
-      record {
-        carried = carries_layout l d stored.carried;
-        state = record {
-          placed = record { log_sectors = is.log_sectors; generation = is.generation; closed = is.closed; open_log = is.open_log; running = is.running };
-          points = is.points;
-        };
-      }
-
-  pub stored_layout : IsStoredIn (without_tables l) s d → IsStored l s d
-  stored_layout stored =
-      let is = stored.state.placed in
-      record {
-        carried = layout_carried l d stored.carried;
-        state = record { points = stored.state.points; log_sectors = is.log_sectors; generation = is.generation; closed = is.closed; open_log = is.open_log; running = is.running };
-      }

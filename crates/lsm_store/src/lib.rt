@@ -36,8 +36,8 @@ pub use opened_law::opened_work_is_sound;
 pub use store::Store;
 pub use stored_law::{
     commits_keep_tables, free_writes_keep_tables, installs_keep_tables, jobs_keep_tables,
-    jobs_may_go_on, layouts_are_placements, levels_stay_stored, recovered_tables_are_stored,
-    rotations_keep_tables, stored_tables_leave, syncs_keep_tables,
+    jobs_may_go_on, levels_stay_stored, recovered_tables_are_stored, rotations_keep_tables,
+    stored_tables_leave, syncs_keep_tables,
 };
 pub use work_law::{
     extents_stay_accounted_for, maps_stay, slots_answer_the_work, tables_stay_few, work_stays_sound,

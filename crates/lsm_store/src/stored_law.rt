@@ -1,5 +1,5 @@
 // Laws of a store with tables: what its own writes leave of them.
-ghost use Rattle.std.specs.Prelude.{◌≡◌, ◌≤◌, ◌↔◌, ℕ, ◌+◌, Bool, true, false, List, [], ◌∷◌, ◌++◌, length, take, drop, All, Option, Some};
+ghost use Rattle.std.specs.Prelude.{◌≡◌, ◌≤◌, ℕ, ◌+◌, Bool, true, false, List, [], ◌∷◌, ◌++◌, length, take, drop, All, Option, Some};
 ghost use Rattle.std.specs.List.{AllByRecursion};
 ghost use Rattle.lsm_codec.specs.Manifests.{IsManifest};
 ghost use Rattle.lsm_codec.specs.Map.{Operation};
@@ -21,8 +21,8 @@ ghost use Rattle.lsm_log.specs.Batches.{IsBetween};
 ghost use Rattle.lsm_log.specs.Opened.{IsOpen, IsGrownBy, TakesBatch, batches_in};
 ghost use Rattle.lsm_open.specs.CrashState.{CrashState, last_number};
 ghost use Rattle.lsm_open.specs.Image.{StandFor, versions_in};
-ghost use Rattle.lsm_open.specs.Layout.{Layout, open_records};
-ghost use Rattle.lsm_open.specs.Placements.{Placement, without_tables, contents_for, closed_in, IsFreeWrite};
+ghost use Rattle.lsm_open.specs.Layout.{open_records};
+ghost use Rattle.lsm_open.specs.Placements.{Placement, contents_for, closed_in, IsFreeWrite};
 ghost use Rattle.lsm_open.specs.RecoveredTables.{StandForOne, IsRecoveredWithTables};
 ghost use Rattle.lsm_open.specs.Switching.{rotated as rotated_placement, flushed, AreFlushed, merged, Parts, with_outputs, AreMerged, IsInLeastFree};
 ghost use Rattle.lsm_merge.specs.Inputs.{AreRuns};
@@ -39,7 +39,6 @@ ghost use Rattle.lsm_store.specs.RecoveryPoints.{batch_count};
 ghost use Rattle.lsm_store.specs.Run.{stopped_in};
 ghost use Rattle.lsm_store.specs.State.{OpenLog, State, map_at};
 ghost use Rattle.lsm_store.specs.StateMaps.{points_of};
-ghost use Rattle.lsm_store.specs.Stored.{IsStored};
 ghost use Rattle.lsm_store.specs.StoredTables.{IsStoredIn, IsStoredWithJobs, KeepsExtents, with_log, with_next, MayGoOn};
 ghost use Rattle.lsm_store.specs.WorkEffects.{installed};
 ghost use Rattle.lsm_store.specs.declared.asked.At.{At};
@@ -52,11 +51,6 @@ pub fn stored_tables_leave()
     ensures stopped { (p : Placement) (s : State) (d : Disk) (besides : List CrashState) → IsStoredIn p s d → Leaves (StandForOne s.log_sectors (may_leave (record s { stopped = Some besides }))) d }
     ensures maps { (p : Placement) (s : State) (d : Disk) → IsStoredIn p s d
         → s.points ≡ points_of (versions_in p.logs.log_sectors (seen d) (contents_for p)) (batch_count s.points) s.points.synced }
-{}
-
-/// A store whose batches are all in log regions is one without tables.
-pub fn layouts_are_placements()
-    ensures { (l : Layout) (s : State) (d : Disk) → IsStored l s d ↔ IsStoredIn (without_tables l) s d }
 {}
 
 /// An append to the open log keeps a running store, in the state after the commit. At each moment of it a crash leaves what

@@ -14,7 +14,7 @@ use Rattle.lsm_open.specs.Layout.{layout_of}
 use Rattle.lsm_open.specs.Placements.{Placement, contents_for}
 use Rattle.lsm_open.specs.RecoveredTables.{placed_in, IsReopenedWithTables, IsRecoveredWithTables, AreWithinLimits}
 use Rattle.lsm_open.specs.Reopening.{next_contents}
-use Rattle.lsm_open.proofs.OpeningMoments.{least_kept}
+use Rattle.lsm_open.proofs.NextLayouts.{least_kept}
 use Rattle.lsm_open.proofs.OpeningRefusals.{from_memory}
 use Rattle.lsm_open.proofs.TableOpenings.{placed_kept, contents_kept, within_kept, reopened_kept, rests_stay_standing, installing_kept, recovered_kept, ready_kept, memory_fair}
 use Rattle.lsm_open.proofs.TableReads.{written_once}

@@ -6,7 +6,7 @@ use Rattle.lsm_device.specs.Outcomes.{Leaves}
 use Rattle.lsm_device.proofs.Moments.{started}
 use Rattle.lsm_open.specs.Layout.{layout_of}
 use Rattle.lsm_open.proofs.NextManifests.{next_fits}
-use Rattle.lsm_open.proofs.OpeningMoments.{installs, least_kept}
+use Rattle.lsm_open.proofs.NextLayouts.{installs, least_kept}
 use Rattle.lsm_root.specs.Counted.{CallsMade}
 use Rattle.lsm_root.specs.Installed.{IsOldOrNew, IsInstalled}
 use Rattle.lsm_root.specs.Roots.{Stands}
