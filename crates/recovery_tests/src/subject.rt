@@ -36,9 +36,15 @@ fn are_four(records: &[TableRecord]) -> bool {
 
 /// A store that was opened. Its calls tell the prover nothing, so that it has nothing to carry from one line of a test to the
 /// next.
-#[derive(Drop)]
 pub(crate) struct Subject<A: Allocator = Global> {
     store: RecoveredTables<MemDevice, A>,
+}
+
+// One call at each exit of a test, in the place of all that a store is made of.
+impl<A: Allocator> Drop for Subject<A> {
+    fn drop(self) {
+        let Subject { store: _ } = self;
+    }
 }
 
 /// What an opening answers.
@@ -190,7 +196,8 @@ impl<A: Allocator> Subject<A> {
     }
 
     pub(crate) fn into_device(self) -> MemDevice {
-        self.store.device
+        let Subject { store } = self;
+        store.device
     }
 }
 
