@@ -97,17 +97,7 @@ work_called m (Commit batch) = record m.work { memory = with_batch (batch_count 
 work_called m Rotate = with_sealed m.work
 work_called m other = m.work
 
--- ---- memory and the device
-
--- whether a piece of work takes memory, for want of which it may be refused
-abbrev pub work_takes_memory : Work → Bool
-work_takes_memory Take = true
-work_takes_memory (Read job) = true
-work_takes_memory (Ask job) = true
-work_takes_memory (Accept job result) = true
-work_takes_memory (Write job) = false
-work_takes_memory (Install job) = true
-work_takes_memory (Drop job) = false
+-- ---- the device
 
 -- what is used for the blocks of a job that are left: nothing where none is
 abbrev pub use_for : Use → Option Slot → Use
