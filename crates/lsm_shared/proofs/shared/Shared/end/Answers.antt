@@ -1,9 +1,12 @@
-use Rattle.std.proofs.Common.{rules, List, ap, sym, ◌∙◌, subst}
+use Rattle.std.proofs.Common.{rules, List, refl, ap, sym, ◌∙◌, subst, arith}
 use Rattle.lsm_trail.specs.History.{Event, calls_by}
 use Rattle.lsm_shared.specs.Clients.{Told}
 use Rattle.lsm_shared.specs.Sessions.{SessionView}
 use Rattle.lsm_shared.proofs.Endings.{told_more, ended}
 use Rattle.lsm_shared.proofs.shared.Shared.end.Goals as goal
+
+pub loop-client-init : goal.loop-client-init
+loop-client-init g c = (refl, λ told. told, λ less x far. absurd (omega (arith, less)))
 
 pub loop-client-preserved : goal.loop-client-preserved
 loop-client-preserved g c =
