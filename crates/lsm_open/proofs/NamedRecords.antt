@@ -139,7 +139,7 @@ rerecorded level run (t ∷ ts) [] same named = absurd named
 rerecorded level run (t ∷ ts) (u ∷ us) same named =
     ap (λ (l : ℕ). record_of l run u ∷ map (record_of level run) us) (sym same.0.0)
     ∙ ap (λ (r : ℕ). record_of t.level r u ∷ map (record_of level run) us) (sym same.0.1)
-    ∙ ap (λ (x : TableRecord). x ∷ map (record_of level run) us) named.0
+    ∙ ap (λ (x : TableRecord). x ∷ map (record_of level run) us) named.0.listed
     ∙ ap (λ (l : List TableRecord). t ∷ l) (rerecorded level run ts us same.1 named.1)
 
 -- records of which a test passes alone those with a property

@@ -15,7 +15,7 @@ use Rattle.lsm_levels.specs.Asking.{OnlyReads}
 use Rattle.lsm_levels.specs.Stored.{LiesWithin, AreWithin, AreNumberedBelow}
 use Rattle.lsm_levels.specs.Tables.{Table}
 use Rattle.lsm_open.specs.Tables.{first_data}
-use Rattle.lsm_open.specs.ToldTables.{is_in_run, run_records, told_run, told_levels, IsRefusedFor, IsReadable, IsNamedBy, AreNamedBy, IsRunRead, AreRunsRead}
+use Rattle.lsm_open.specs.ToldTables.{is_in_run, run_records, told_run, told_levels, IsRefusedFor, IsReadable, IsOutlined, AreOutlined, IsNamedBy, AreNamedBy, IsRunRead, AreRunsRead}
 use Rattle.lsm_open.proofs.RunCounts.{run_before}
 use Rattle.lsm_root.specs.Layout.{IsGeometry, LieInside}
 
@@ -57,17 +57,20 @@ module _ (P : TableRecord → Type 0) (Q : Table → Type 0) (each : (t : TableR
 -- a table that a record names lies where the record's extent does
 table_within : (n size : ℕ) (t : TableRecord) (x : Table) → IsNamedBy t x → IsReadable n size t → LiesWithin size (first_data n) x
 table_within n size t x named is =
-    let start : x.start ≡ t.first_block = ap (λ (r : TableRecord). r.first_block) named in
-    let blocks : length x.outline.edges ≡ t.data_blocks = ap (λ (r : TableRecord). r.data_blocks) named in
+    let start : x.start ≡ t.first_block = ap (λ (r : TableRecord). r.first_block) named.listed in
+    let blocks : length x.outline.edges ≡ t.data_blocks = ap (λ (r : TableRecord). r.data_blocks) named.listed in
     let inside : first_data n + 8 * extent_end t ≤ size = is.inside in
     record { ends = omega (arith, start, blocks, inside) }
 
 pub all_within : (n size : ℕ) (tells : Bool) (S : List (List ℕ)) (m : Contents) (k : ℕ) (runs : List (List Table)) → All (IsReadable n size) m.tables → AreRunsRead n tells S m k runs → AreWithin size (first_data n) runs
 all_within n size tells S m k runs all read = runs_are (IsReadable n size) (LiesWithin size (first_data n)) (table_within n size) n tells S m k runs read all
 
+pub all_outlined : (n size : ℕ) (tells : Bool) (S : List (List ℕ)) (m : Contents) (k : ℕ) (runs : List (List Table)) → All (IsReadable n size) m.tables → AreRunsRead n tells S m k runs → AreOutlined runs
+all_outlined n size tells S m k runs all read = runs_are (IsReadable n size) IsOutlined (λ t x named is. named.outlined) n tells S m k runs read all
+
 table_numbered : (next runs : ℕ) (t : TableRecord) (x : Table) → IsNamedBy t x → IsTableRecord next runs t → x.number < next
 table_numbered next runs t x named is =
-    let number : x.number ≡ t.number = ap (λ (r : TableRecord). r.number) named in
+    let number : x.number ≡ t.number = ap (λ (r : TableRecord). r.number) named.listed in
     omega (arith, number, is.number)
 
 pub all_numbered : (n : ℕ) (tells : Bool) (S : List (List ℕ)) (m : Contents) (k : ℕ) (runs : List (List Table)) → All (IsTableRecord m.next_table m.runs) m.tables → AreRunsRead n tells S m k runs → AreNumberedBelow m.next_table runs

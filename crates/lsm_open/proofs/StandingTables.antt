@@ -65,9 +65,9 @@ module _ (n base : ℕ) (s : Sectors) where
   one_recorded : (t : TableRecord) (is : IsTableAt n base s t) → IsNamedBy t (standing t is) → IsRecordOf t (standing t is).outline
   one_recorded t is named = record {
     number = refl;
-    data_blocks = ap (λ (x : TableRecord). x.data_blocks) (sym named);
-    index_blocks = ap (λ (x : TableRecord). x.index_blocks) (sym named);
-    entries = ap (λ (x : TableRecord). x.entries) (sym named);
+    data_blocks = ap (λ (x : TableRecord). x.data_blocks) (sym named.listed);
+    index_blocks = ap (λ (x : TableRecord). x.index_blocks) (sym named.listed);
+    entries = ap (λ (x : TableRecord). x.entries) (sym named.listed);
   }
 
   none_standing : (us : List Table) → Some [] ≡ Some us → AllByRecursion (IsStored s (first_data n)) us × (versions_of us ≡ [])

@@ -98,6 +98,7 @@ module _ (n count : ℕ) (m : Contents) (closed : List LogRecord) (o : Option Op
     runs = read.runs;
     named = read.named.records;
     within = read.within;
+    outlined = read.outlined;
     numbers = read.numbers;
     held = read.held;
   }

@@ -31,7 +31,7 @@ use Rattle.lsm_open.specs.OpeningTables.{named_refusal, refusal_behind, table_re
 use Rattle.lsm_open.specs.ReadParts.{AreRead, AreToldBy, ReadsAtMost}
 use Rattle.lsm_open.specs.RecoveredTables.{sealed_versions, HasWritten, IsTableOpeningRefusal}
 use Rattle.lsm_open.specs.Reopening.{kept_records, HasCome, GoesOn}
-use Rattle.lsm_open.specs.ToldTables.{told_levels, IsRefusedFor, IsTableRefusal, HaveNamed, Held, AreThose}
+use Rattle.lsm_open.specs.ToldTables.{told_levels, IsRefusedFor, IsTableRefusal, AreOutlined, HaveNamed, Held, AreThose}
 use Rattle.lsm_open.specs.declared.replayed.Replayed.{Replayed}
 use Rattle.lsm_open.proofs.KeptRecords.{same_batches}
 use Rattle.lsm_open.proofs.OpeningRefusals.{from_memory}
@@ -196,8 +196,8 @@ module _ (size n count now_count : ℕ) (m : Contents) (closed now_closed : List
   is_now = is ∙ ap (λ (x : List LogRecord). cond (length x == 0) None (Some mem)) (sym same)
 
   pub all_read : (extents : Area) → IsGeometry size n → IsManifest m → LieInside size n m.tables → m.generation ≢ last_number → HasCome m count closed [] → NumberedBelow (count + 1) mem → AllByRecursion IsEntry mem → AreOrdered (sealed_versions sealed) → HaveNamed m levels → AreRuns levels
-      → AreWithin size (first_data n) (places levels) → AreNumberedBelow m.next_table (places levels) → Held (data_blocks_of size n) m.tables extents → AreRead size n m now_closed now_count sealed levels extents
-  all_read extents geometry fits inside has_next come numbered entries ordered named runs within numbers held = record {
+      → AreWithin size (first_data n) (places levels) → AreOutlined (places levels) → AreNumberedBelow m.next_table (places levels) → Held (data_blocks_of size n) m.tables extents → AreRead size n m now_closed now_count sealed levels extents
+  all_read extents geometry fits inside has_next come numbered entries ordered named runs within outlined numbers held = record {
     geometry = geometry;
     fits = fits;
     inside = inside;
@@ -210,6 +210,7 @@ module _ (size n count now_count : ℕ) (m : Contents) (closed now_closed : List
     runs = runs;
     named = named;
     within = within;
+    outlined = outlined;
     numbers = numbers;
     held = held;
   }

@@ -17,11 +17,14 @@ use Rattle.lsm_table.specs.Outlines.{Outline, IsRecordOf}
 -- ---- one table
 
 pub named_by : (t : TableRecord) (o : Outline) (versions : List Version) → IsRecordOf t o → IsNamedBy t (table_at o t.first_block versions)
-named_by t o versions is =
-    ap (λ (k : ℕ). let r : TableRecord = record { number = k; level = t.level; run = t.run; first_block = t.first_block; data_blocks = length o.edges; index_blocks = index_count o.edges; entries = o.entries } in r) (sym is.number)
-    ∙ ap (λ (k : ℕ). let r : TableRecord = record { number = t.number; level = t.level; run = t.run; first_block = t.first_block; data_blocks = k; index_blocks = index_count o.edges; entries = o.entries } in r) (sym is.data_blocks)
-    ∙ ap (λ (k : ℕ). let r : TableRecord = record { number = t.number; level = t.level; run = t.run; first_block = t.first_block; data_blocks = t.data_blocks; index_blocks = k; entries = o.entries } in r) (sym is.index_blocks)
-    ∙ ap (λ (k : ℕ). let r : TableRecord = record { number = t.number; level = t.level; run = t.run; first_block = t.first_block; data_blocks = t.data_blocks; index_blocks = t.index_blocks; entries = k } in r) (sym is.entries)
+named_by t o versions is = record {
+  listed =
+      ap (λ (k : ℕ). let r : TableRecord = record { number = k; level = t.level; run = t.run; first_block = t.first_block; data_blocks = length o.edges; index_blocks = index_count o.edges; entries = o.entries } in r) (sym is.number)
+      ∙ ap (λ (k : ℕ). let r : TableRecord = record { number = t.number; level = t.level; run = t.run; first_block = t.first_block; data_blocks = k; index_blocks = index_count o.edges; entries = o.entries } in r) (sym is.data_blocks)
+      ∙ ap (λ (k : ℕ). let r : TableRecord = record { number = t.number; level = t.level; run = t.run; first_block = t.first_block; data_blocks = t.data_blocks; index_blocks = k; entries = o.entries } in r) (sym is.index_blocks)
+      ∙ ap (λ (k : ℕ). let r : TableRecord = record { number = t.number; level = t.level; run = t.run; first_block = t.first_block; data_blocks = t.data_blocks; index_blocks = t.index_blocks; entries = k } in r) (sym is.entries);
+  outlined = refl;
+}
 
 -- a table that can't be opened is refused so
 pub not_opened : {X Y : Type 0} (told : Option X) (f : X → Y) (e : Refusal) → (e ≡ NoMemory) ⊎ ((e ≡ BadTable) × (told ≡ None)) → IsRefusedFor (option_map f told) e

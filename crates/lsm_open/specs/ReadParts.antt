@@ -19,7 +19,7 @@ use Rattle.lsm_open.specs.LogRegions.{all_batches}
 use Rattle.lsm_open.specs.RecoveredTables.{sealed_versions}
 use Rattle.lsm_open.specs.Reopening.{kept_records, HasCome}
 use Rattle.lsm_open.specs.Tables.{first_data, AreTables}
-use Rattle.lsm_open.specs.ToldTables.{told_levels, HaveNamed, Held, AreThose}
+use Rattle.lsm_open.specs.ToldTables.{told_levels, AreOutlined, HaveNamed, Held, AreThose}
 use Rattle.lsm_root.specs.Installed.{IsNext}
 use Rattle.lsm_root.specs.Layout.{IsGeometry, LieInside}
 use Rattle.lsm_root.specs.Roots.{Stands, superblock_in, root_of}
@@ -40,6 +40,7 @@ pub record AreRead (size log_sectors : ℕ) (m : Contents) (closed : List LogRec
   pub runs : AreRuns levels
   pub named : HaveNamed m levels
   pub within : AreWithin size (first_data log_sectors) (places levels)
+  pub outlined : AreOutlined (places levels)
   pub numbers : AreNumberedBelow m.next_table (places levels)
   pub held : Held (data_blocks_of size log_sectors) m.tables extents
 

@@ -31,7 +31,7 @@ use Rattle.lsm_open.specs.Placements.{Placement, contents_for, Carries, present_
 use Rattle.lsm_open.specs.Reopening.{least_free}
 use Rattle.lsm_open.specs.Switching.{IsInLeastFree, reopened_at}
 use Rattle.lsm_open.specs.Tables.{first_data}
-use Rattle.lsm_open.specs.ToldTables.{told_levels, records_of, Held}
+use Rattle.lsm_open.specs.ToldTables.{told_levels, records_of, AreOutlined, Held}
 use Rattle.lsm_root.specs.Layout.{IsGeometry, LieInside, behind}
 use Rattle.lsm_root.specs.Roots.{Stands, root_of}
 
@@ -102,6 +102,7 @@ pub record AreWithinLimits (size : ℕ) (p : Placement) (count : ℕ) (sealed : 
   pub runs : AreRuns levels
   pub named : records_of levels ≡ p.tables
   pub within : AreWithin size (first_data p.logs.log_sectors) (places levels)
+  pub outlined : AreOutlined (places levels)
   pub numbers : AreNumberedBelow p.logs.next_table (places levels)
   pub held : Held (data_blocks_of size p.logs.log_sectors) p.tables extents
 

@@ -105,9 +105,18 @@ pub record HaveNamed (m : Contents) (levels : Levels) : Type 0 where
   pub runs : length levels.runs ≡ m.runs
   pub records : records_of levels ≡ m.tables
 
--- a table has this record in its level and run
-abbrev pub IsNamedBy : TableRecord → Table → Type 0
-IsNamedBy t table = record_of t.level t.run table ≡ t
+-- a table is that of its outline
+abbrev pub IsOutlined : Table → Type 0
+IsOutlined t = t ≡ table_at t.outline t.start t.versions
+
+-- so are all tables of runs
+abbrev pub AreOutlined : List (List Table) → Type 0
+AreOutlined runs = AllByRecursion (AllByRecursion IsOutlined) runs
+
+-- A table has this record in its level and run, and is that of its outline.
+pub record IsNamedBy (t : TableRecord) (table : Table) : Type 0 where
+  pub listed : record_of t.level t.run table ≡ t
+  pub outlined : IsOutlined table
 
 -- tables are those of these records, one after the other
 abbrev pub AreNamedBy : List TableRecord → List Table → Type 0

@@ -15,7 +15,7 @@ ghost use Rattle.lsm_levels.specs.Held.{AreRuns};
 ghost use Rattle.lsm_levels.specs.Levels.{places};
 ghost use Rattle.lsm_levels.specs.Stored.{AreWithin, AreNumberedBelow, blocks_from};
 ghost use Rattle.lsm_open.specs.Tables.{first_data, blocks_at, AreTables};
-ghost use Rattle.lsm_open.specs.ToldTables.{told_with, told_tables, told_run, told_levels, run_place, run_records, tables_from, IsRefusedFor, IsTableRefusal, IsReadable, IsNamedBy, AreNamedBy, IsRunRead, AreRunsRead, HaveNamed, Held, AreThose, ReadsBlocks};
+ghost use Rattle.lsm_open.specs.ToldTables.{told_with, told_tables, told_run, told_levels, run_place, run_records, tables_from, IsRefusedFor, IsTableRefusal, IsReadable, IsNamedBy, AreOutlined, AreNamedBy, IsRunRead, AreRunsRead, HaveNamed, Held, AreThose, ReadsBlocks};
 ghost use Rattle.lsm_root.specs.Layout.{IsGeometry, LieInside};
 ghost use Rattle.lsm_table.specs.Outlines.{outline_of};
 ghost use Rattle.lsm_table.specs.Stored.{outline_at};
@@ -318,10 +318,11 @@ pub(crate) fn read_tables<A: Allocator + Clone, D: Device>(
         (IsRefusedFor (told_levels log_sectors (seen (disk (D.medium device.old))) manifest.now)) }
 
     // Whatever the device holds, and whether it tells so or not, levels have just the tables that the manifest names, in runs,
-    // these lie within the device, and their extents are handed out alone.
+    // these lie within the device, each is that of its outline, and their extents are handed out alone.
     ensures named { IfOk result (λ t. HaveNamed manifest.now t.levels) }
     ensures runs { IfOk result (λ t. AreRuns t.levels) }
     ensures within { IfOk result (λ t. AreWithin (D.medium device.old).size (first_data log_sectors) (places t.levels)) }
+    ensures outlined { IfOk result (λ t. AreOutlined (places t.levels)) }
     ensures numbered { IfOk result (λ t. AreNumberedBelow manifest.now.next_table (places t.levels)) }
     ensures extents { IfOk result (λ t. Held (data_blocks_of (D.medium device.old).size log_sectors) manifest.now.tables t.extents) }
 

@@ -117,7 +117,7 @@ returns-clause-read g c =
     let size = c.load.ensures.same_size in
     all_read (D.medium c.args.device.now).size l.log_sectors r.count k.count l.manifest r.closed.items k.closed.items r.mem (option_map arc_value k.sealed) x.levels c.in_ok-kept.ensures.closed c.in_ok-kept.ensures.count c.in_ok-kept.ensures.sealed
     x.extents c.in_ok-loaded.ensures.fits.0 c.in_ok-loaded.ensures.fits.1 c.in_ok-loaded.ensures.inside c.in_ok-kept.ensures.has_next c.in_ok-replayed.ensures.come c.in_ok-replayed.ensures.numbered c.in_ok-replayed.ensures.entries c.in_ok-kept.ensures.ordered c.in_ok-tables.ensures.named c.in_ok-tables.ensures.runs
-    (subst (λ (z : ℕ). AreWithin z (first_data l.log_sectors) (places x.levels)) size c.in_ok-tables.ensures.within) c.in_ok-tables.ensures.numbered
+    (subst (λ (z : ℕ). AreWithin z (first_data l.log_sectors) (places x.levels)) size c.in_ok-tables.ensures.within) c.in_ok-tables.ensures.outlined c.in_ok-tables.ensures.numbered
     (subst (λ (z : ℕ). Held (data_blocks_of z l.log_sectors) l.manifest.tables x.extents) size c.in_ok-tables.ensures.extents)
 
 pub returns-clause-told : goal.returns-clause-told

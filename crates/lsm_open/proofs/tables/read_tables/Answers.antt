@@ -12,7 +12,7 @@ use Rattle.lsm_open.specs.ToldTables.{tables_from, IsReadable}
 use Rattle.lsm_open.proofs.BlockReads.{nothing_read, reads_then, calls_of_tables}
 use Rattle.lsm_open.proofs.LevelsTold.{levels_told}
 use Rattle.lsm_open.proofs.NamedRecords.{read_have_named}
-use Rattle.lsm_open.proofs.ReadLevels.{levels_refused_before, runs_behind, runs_before, all_within, all_numbered, all_readable, tables_apart}
+use Rattle.lsm_open.proofs.ReadLevels.{levels_refused_before, runs_behind, runs_before, all_within, all_outlined, all_numbered, all_readable, tables_apart}
 use Rattle.lsm_open.proofs.RunCounts.{few_tables}
 use Rattle.lsm_open.proofs.StandingLevels.{levels_those}
 use Rattle.lsm_open.proofs.StandingRuns.{other_refusal}
@@ -56,6 +56,16 @@ returns-clause-within g c =
     let old = D.medium c.args.device.now in
     let mid = D.medium c.read_deeper.new.device in
     all_within n old.size mid.lasting.tells (seen (disk mid)) m 0 (places c.read_newer.new.levels)
+    (all_readable old.size n c.requires.geometry m.next_table m.runs m.tables c.requires.fits.tables.each c.requires.inside) c.in_ok-read_newer.ensures.read
+
+pub returns-clause-outlined : goal.returns-clause-outlined
+returns-clause-outlined g c =
+    let D = g.D.Device in
+    let m = c.args.manifest.now in
+    let n = c.args.log_sectors in
+    let old = D.medium c.args.device.now in
+    let mid = D.medium c.read_deeper.new.device in
+    all_outlined n old.size mid.lasting.tells (seen (disk mid)) m 0 (places c.read_newer.new.levels)
     (all_readable old.size n c.requires.geometry m.next_table m.runs m.tables c.requires.fits.tables.each c.requires.inside) c.in_ok-read_newer.ensures.read
 
 pub returns-clause-numbered : goal.returns-clause-numbered
