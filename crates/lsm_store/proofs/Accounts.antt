@@ -9,11 +9,7 @@ use Rattle.lsm_merge.specs.Results.{MergeResult}
 use Rattle.lsm_levels.specs.Held.{AreRuns, IsHeld}
 use Rattle.lsm_levels.specs.Levels.{Levels, all_tables, places}
 use Rattle.lsm_levels.specs.Pick.{Job, Flush, Merge, inputs, installed as installed_levels}
-use Rattle.lsm_levels.specs.Tables.{Table, table_at}
-use Rattle.lsm_levels.specs.Stored.{IsStored, AreStored}
-use Rattle.lsm_table.specs.Division.{entries_of}
-use Rattle.lsm_table.specs.Outlines.{Outline, outline_in}
-use Rattle.lsm_codec.proofs.Lists.{all_append, all_map}
+use Rattle.lsm_levels.specs.Tables.{Table}
 use Rattle.lsm_levels.proofs.Moving.{moving_law}
 use Rattle.lsm_jobs.specs.Keeping.{AreKept}
 use Rattle.lsm_jobs.specs.Outputs.{placed_blocks}
@@ -22,11 +18,11 @@ use Rattle.lsm_jobs.specs.Reading.{stage_with}
 use Rattle.lsm_jobs.specs.Slots.{Stage, Reading, Frozen, Writing, Slot, Slots, slot_of, with_slot, with_held, is_reading, is_frozen, is_not_at, left_at, less_left, outputs_at, outputs_of, inputs_of}
 use Rattle.lsm_jobs.specs.Taking.{first_stage, slot_for, with_taken}
 use Rattle.lsm_jobs.proofs.Found.{found_there}
-use Rattle.lsm_store.specs.Accounts.{is_same_extent, extents_like, tables_like, outputs_in, tables_placed, AreAccounted, AreOutlined, AccountsLaw, AccountedLaw}
+use Rattle.lsm_store.specs.Accounts.{is_same_extent, extents_like, tables_like, outputs_in, tables_placed, AreAccounted, AccountsLaw, AccountedLaw}
 use Rattle.lsm_store.specs.Calls.{Call, Commit, Sync, SyncTo, Get, Scan, Snapshot, Release, Rotate, LogRoom}
 use Rattle.lsm_store.specs.Refusals.{first_refusal}
 use Rattle.lsm_store.specs.Work.{WorkView, WorkMachine, Work, Take, Read, Ask, Accept, Write, Install, Drop, cuts_of}
-use Rattle.lsm_store.specs.WorkEffects.{staged, with_placed, with_installed, without_job, work_after, work_called}
+use Rattle.lsm_store.specs.WorkEffects.{with_slot_of, staged, with_placed, with_installed, without_job, work_after, work_called}
 use Rattle.lsm_store.specs.WorkRefusals.{job_given, held, of_slot, placing, work_refusals, running_refusal}
 use Rattle.lsm_store.proofs.ExtentCounts.{count_append, all_out_like, BeginApart, StandAmong, all_back_like, stand_out, partition_apart, placed_in}
 use Rattle.lsm_store.proofs.OpenedAccounts.{opened_accounts}
@@ -43,10 +39,20 @@ some_slot a b e = cc
 joined : (e : Extent) (xs ys : List Table) → tables_like e (xs ++ ys) ≡ tables_like e xs + tables_like e ys
 joined e xs ys = count_append (λ (t : Table). is_same_extent e (extent_of t)) xs ys
 
-taken_outputs : (new : Slot) (slots : Slots) → outputs_at new.stage ≡ [] → outputs_in (with_slot new slots) ≡ outputs_in slots
+pub taken_outputs : (new : Slot) (slots : Slots) → outputs_at new.stage ≡ [] → outputs_in (with_slot new slots) ≡ outputs_in slots
 taken_outputs new [] none = refl
 taken_outputs new (None ∷ rest) none = ap (λ (ts : List Table). ts ++ outputs_in rest) none
 taken_outputs new (Some one ∷ rest) none = ap (λ (ts : List Table). outputs_at one.stage ++ ts) (taken_outputs new rest none)
+
+-- where no slot has a number, the slots stay
+pub unheld : (number : ℕ) (now : Option Slot) (slots : Slots) → slot_of number slots ≡ None → with_held number now slots ≡ slots
+unheld number now [] none = refl
+unheld number now (None ∷ rest) none = ap (λ (l : Slots). None ∷ l) (unheld number now rest none)
+unheld number now (Some one ∷ rest) none = by (unheld number now rest) (one.number == number) none
+  where
+    by : (slot_of number rest ≡ None → with_held number now rest ≡ rest) → (b : Bool) → cond b (Some one) (slot_of number rest) ≡ None → cond b (now ∷ rest) (Some one ∷ with_held number now rest) ≡ Some one ∷ rest
+    by more true f = absurd (no_slot one (sym f))
+    by more false f = ap (λ (l : Slots). Some one ∷ l) (more f)
 
 -- the outputs of one job are gone, and those of what comes in its place are there
 held_outputs : (e : Extent) (number : ℕ) (now : Option Slot) (slots : Slots) (old : Slot) → slot_of number slots ≡ Some old
@@ -76,11 +82,11 @@ one_outputs e number (Some one ∷ rest) = by (one_outputs e number rest) (one.n
 
 -- ---- stages
 
-read_none : (n : ℕ) → outputs_at (stage_with n) ≡ []
+pub read_none : (n : ℕ) → outputs_at (stage_with n) ≡ []
 read_none zero = refl
 read_none (suc n) = refl
 
-first_none : (job : Job) → outputs_at (first_stage job) ≡ []
+pub first_none : (job : Job) → outputs_at (first_stage job) ≡ []
 first_none Flush = refl
 first_none (Merge i upper lower) = refl
 
@@ -89,7 +95,7 @@ same_outputs n (Reading left) = refl
 same_outputs n Frozen = refl
 same_outputs n (Writing tables left) = refl
 
-reading_none : (stage : Stage) → is_reading stage ≡ true → outputs_at stage ≡ []
+pub reading_none : (stage : Stage) → is_reading stage ≡ true → outputs_at stage ≡ []
 reading_none (Reading left) is = refl
 reading_none Frozen is = refl
 reading_none (Writing tables left) is = absurd (false≢true is)
@@ -114,12 +120,16 @@ module _ (w : WorkView) (accounts : AreAccounted w) where
   moved job old now levels area is all e =
       omega (arith, split e, all e, held_outputs e job now w.jobs.slots old is, joined e (all_tables (places levels)) (outputs_in (with_held job now w.jobs.slots)))
 
-  staged_accounts : (job : ℕ) (old : Slot) (stage : Stage) → slot_of job w.jobs.slots ≡ Some old → outputs_at stage ≡ outputs_at old.stage → AreAccounted (staged w job stage old)
-  staged_accounts job old stage is same = record {
-    each = moved job old (Some (record old { stage = stage })) w.levels w.area is (λ e. omega (arith, ap (tables_like e) same));
+  -- a slot that has the same outputs comes in its place
+  pub held_accounts : (job : ℕ) (old now : Slot) → slot_of job w.jobs.slots ≡ Some old → outputs_at now.stage ≡ outputs_at old.stage → AreAccounted (with_slot_of w job (Some now))
+  held_accounts job old now is same = record {
+    each = moved job old (Some now) w.levels w.area is (λ e. omega (arith, ap (tables_like e) same));
   }
 
-  placed_accounts : (job : ℕ) (old : Slot) (o : Option (List Table)) → slot_of job w.jobs.slots ≡ Some old → outputs_at old.stage ≡ [] → AreAccounted (with_placed w job o old)
+  staged_accounts : (job : ℕ) (old : Slot) (stage : Stage) → slot_of job w.jobs.slots ≡ Some old → outputs_at stage ≡ outputs_at old.stage → AreAccounted (staged w job stage old)
+  staged_accounts job old stage is same = held_accounts job old (record old { stage = stage }) is same
+
+  pub placed_accounts : (job : ℕ) (old : Slot) (o : Option (List Table)) → slot_of job w.jobs.slots ≡ Some old → outputs_at old.stage ≡ [] → AreAccounted (with_placed w job o old)
   placed_accounts job old None is none = accounts
   placed_accounts job old (Some tables) is none = record {
     each = moved job old (Some (record old { stage = Writing tables (length (placed_blocks tables)) })) w.levels (all_handed_out tables w.area) is (λ e. omega (arith, all_out_like e tables w.area, ap (tables_like e) none));
@@ -135,7 +145,7 @@ module _ (w : WorkView) (accounts : AreAccounted w) where
     pub outputs_out : (job : ℕ) → AreHandedOut (outputs_of (slot_of job w.jobs.slots)) w.area
     outputs_out job = stand_out (outputs_of (slot_of job w.jobs.slots)) w.area apart (outputs_stand job)
 
-    dropped_accounts : (job : ℕ) (old : Slot) → slot_of job w.jobs.slots ≡ Some old → AreAccounted (without_job w job (Some old))
+    pub dropped_accounts : (job : ℕ) (old : Slot) → slot_of job w.jobs.slots ≡ Some old → AreAccounted (without_job w job (Some old))
     dropped_accounts job old is = record {
       each = moved job old None w.levels (all_given_back (outputs_at old.stage) w.area) is
           (λ e. omega (arith, (all_back_like (outputs_at old.stage) w.area apart (subst (λ (o : Option Slot). StandAmong (outputs_of o) w.area.held) is (outputs_stand job))).0 e));
@@ -271,22 +281,8 @@ called_accounts m (Release number) accounts = accounts
 called_accounts m Rotate accounts = record { each = accounts.each }
 called_accounts m LogRoom accounts = accounts
 
--- tables that stand are those of their outlines
-one_outlined : (sectors : List (List ℕ)) (area : ℕ) (t : Table) → IsStored sectors area t → t ≡ table_at t.outline t.start t.versions
-one_outlined sectors area t is =
-    let o = outline_in t.number t.outline.filter is.blocks in
-    let same_outline : t.outline ≡ o = ap (λ (u : Table). u.outline) is.told in
-    let same_versions : t.versions ≡ entries_of is.blocks = ap (λ (u : Table). u.versions) is.told in
-    is.told ∙ ap (λ (x : Outline). table_at x t.start (entries_of is.blocks)) (sym same_outline) ∙ ap (table_at t.outline t.start) (sym same_versions)
-
-stored_outlined : (sectors : List (List ℕ)) (area : ℕ) (runs : List (List Table)) → AreStored sectors area runs → AreOutlined (all_tables runs)
-stored_outlined sectors area [] stored = tt
-stored_outlined sectors area (run ∷ rest) stored =
-    all_append (λ t. t ≡ table_at t.outline t.start t.versions) run (all_tables rest) (all_map (λ t is. one_outlined sectors area t is) run stored.0) (stored_outlined sectors area rest stored.1)
-
 pub accounted_law : AccountedLaw
 accounted_law = record {
-  outlined = λ sectors area levels. stored_outlined sectors area (places levels);
   opened = opened_accounts;
   worked = worked_accounts;
   called = called_accounts;

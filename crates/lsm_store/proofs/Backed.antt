@@ -24,15 +24,17 @@ use Rattle.lsm_store.specs.Backing.{StoreView, IsRunOn, IsBacked, placement_of, 
 use Rattle.lsm_store.specs.Calls.{Commit, Sync}
 use Rattle.lsm_store.specs.Crash.{may_leave, last_crash_state}
 use Rattle.lsm_store.specs.Effects.{after}
+use Rattle.lsm_store.specs.InstalledJobs.{AreSealedIn, AreLoggedIn}
 use Rattle.lsm_store.specs.Reading.{ReadsThrough}
 use Rattle.lsm_store.specs.Refusals.{refusal}
 use Rattle.lsm_store.specs.State.{LiveSnapshot}
-use Rattle.lsm_store.specs.StoredTables.{IsStoredIn}
+use Rattle.lsm_store.specs.StoredTables.{IsStoredIn, with_log}
 use Rattle.lsm_store.specs.WorkEffects.{work_called}
 use Rattle.lsm_store.specs.WorkSound.{IsSound}
 use Rattle.lsm_store.proofs.AppendedTables.{commit_stored, commit_extents}
 use Rattle.lsm_store.proofs.CallSounds.{call_sound_law}
 use Rattle.lsm_store.proofs.LeftStates.{stored_leaves, stored_reads}
+use Rattle.lsm_store.proofs.LoggedVersions.{appended_sealed, appended_logged}
 use Rattle.lsm_store.proofs.StoredLevels.{levels_kept, blocks_kept}
 use Rattle.lsm_store.proofs.StoredTables.{synced_stored}
 
@@ -81,6 +83,8 @@ module _ (v : StoreView) where
         record {
           stored = subst (λ (d : Disk). IsStoredIn (placement_of v) v.state d) same runs.stored;
           sound = runs.sound;
+          sealed = subst (λ (d : Disk). AreSealedIn (placement_of v) (seen d) v.work.sealed) same runs.sealed;
+          logged = subst (λ (d : Disk). AreLoggedIn (placement_of v) (seen d) v.work.memory) same runs.logged;
           tables = subst (λ (d : Disk). AreStored (seen d) (data_start v) (places v.work.levels)) same runs.tables;
           apart = runs.apart;
           fresh = reads.fresh (place_in v) tells (tables_placed runs) runs.fresh;
@@ -101,6 +105,8 @@ module _ (v : StoreView) (runs : IsRunOn v) (none : refusal v.state Sync ≡ Non
   runs_synced new same = record {
     stored = subst (λ (d : Disk). IsStoredIn (placement_of v) (after v.state Sync) d) (sym same) (synced_stored (placement_of v) v.state (disk v.device) runs.stored);
     sound = call_sound_law (work_machine_of v) Sync runs.sound none;
+    sealed = subst (λ (d : Disk). AreSealedIn (placement_of v) (seen d) v.work.sealed) (sym same) runs.sealed;
+    logged = subst (λ (d : Disk). AreLoggedIn (placement_of v) (seen d) v.work.memory) (sym same) runs.logged;
     tables = subst (λ (d : Disk). AreStored (seen d) (data_start v) (places v.work.levels)) (sym same) runs.tables;
     apart = runs.apart;
     fresh = subst (λ (d : Disk). IsFresh (place_in v) (seen d) v.cache) (sym same) runs.fresh;
@@ -117,10 +123,15 @@ module _ (v : StoreView) (runs : IsRunOn v) (batch : List Operation) (none : ref
       → batches_in x.log (seen (disk new)) ≡ batches_in o.log (seen (disk v.device)) ++ batch ∷ [] → batches_in x.log (disk new).stands ≡ batches_in o.log (disk v.device).stands → IsRunOn (committed_on v batch x new)
   runs_committed grown region takes opened reads stands =
       let p = placement_of v in
-      let kept = commit_extents p v.state o (disk v.device) (disk new) runs.stored is_open (ended (IsGrownBy o.log (disk v.device)) v.device.history new.history grown) in
+      let last = ended (IsGrownBy o.log (disk v.device)) v.device.history new.history grown in
+      let kept = commit_extents p v.state o (disk v.device) (disk new) runs.stored is_open last in
+      let next : IsStoredIn (with_log p x) (after v.state (Commit batch)) (disk new) = commit_stored p v.state o x batch v.device.history new.history runs.stored is_open grown region takes opened reads stands in
+      let same : (disk new).stands ≡ (disk v.device).stands = ap (λ (d : Disk). d.stands) last.2 in
       record {
-        stored = commit_stored p v.state o x batch v.device.history new.history runs.stored is_open grown region takes opened reads stands;
+        stored = next;
         sound = call_sound_law (work_machine_of v) (Commit batch) runs.sound none;
+        sealed = appended_sealed p v.state o x (disk v.device) (disk new) runs.stored next.carried.held same v.work.sealed runs.sealed;
+        logged = appended_logged p v.state o x (disk v.device) (disk new) runs.stored next.carried.held same batch is_open reads v.work.memory runs.logged;
         tables = levels_kept p v.work.levels (disk v.device) (disk new) refl kept runs.tables;
         apart = runs.apart;
         fresh = named_law.kept (data_start v) (seen (disk v.device)) (seen (disk new)) (all_tables (places v.work.levels)) v.cache (blocks_kept p v.work.levels (disk v.device) (disk new) refl kept) runs.fresh;
@@ -144,6 +155,8 @@ module _ (v : StoreView) (snapshots : List LiveSnapshot) (next : ℕ) (runs : Is
           };
         };
         sound = sound;
+        sealed = runs.sealed;
+        logged = runs.logged;
         tables = runs.tables;
         apart = runs.apart;
         fresh = runs.fresh;

@@ -1,88 +1,85 @@
 -- Jobs in slots have their tables, whatever the device holds, and can be read; and where these stand they are read as they are.
-use Rattle.std.proofs.Common.{◌≡◌, ℕ, zero, suc, ◌+◌, ◌≤◌, ◌==◌, Bool, true, false, cond, List, [], ◌∷◌, length, Option, Some, None, refl, sym, ◌∙◌, ap, subst, arith}
+use Rattle.std.proofs.Common.{◌≡◌, ℕ, zero, suc, ◌+◌, ◌++◌, ◌≤◌, ◌==◌, Bool, true, false, cond, List, [], ◌∷◌, length, Option, Some, None, refl, sym, ◌∙◌, ap, subst, arith}
 use Rattle.std.proofs.lemmas.Bool.{false≢true}
 use Rattle.std.proofs.lemmas.List.{length-append}
 use Rattle.lsm_codec.specs.Versions.{Version}
 use Rattle.lsm_device.specs.Medium.{Medium}
 use Rattle.lsm_merge.specs.Inputs.{MergeInput, AreRuns as AreEntryRuns}
 use Rattle.lsm_levels.specs.Held.{AreRuns, IsHeld}
-use Rattle.lsm_levels.specs.Levels.{Levels, places}
+use Rattle.lsm_extent.specs.Area.{Area, IsPartition}
+use Rattle.lsm_extent.specs.declared.extent.Extent.{Extent}
+use Rattle.lsm_levels.specs.Levels.{Levels, all_tables, places}
 use Rattle.lsm_levels.specs.Pick.{Job, Flush, Merge, inputs, is_flush}
 use Rattle.lsm_levels.specs.Stored.{LiesWithin, AreWithin, AreStored, IsStored}
 use Rattle.lsm_levels.specs.Tables.{Table}
 use Rattle.lsm_levels.proofs.Merging.{upper_run}
 use Rattle.lsm_jobs.specs.Gathering.{Gathered, uppers, lowers}
 use Rattle.lsm_jobs.specs.Keeping.{AreKept}
-use Rattle.lsm_jobs.specs.Reading.{CanBeRead, JobCanBeRead, JobReadsOn, SlotReadsOn, stage_with, input_with}
-use Rattle.lsm_jobs.specs.Slots.{Slot, Slots, JobSlots, slot_of, with_slot, with_held, is_reading, outputs_at, outputs_of}
+use Rattle.lsm_jobs.specs.Reading.{CanBeRead, JobCanBeRead, JobReadsOn, SlotReadsOn, input_with}
+use Rattle.lsm_jobs.specs.Outputs.{placed_blocks}
+use Rattle.lsm_jobs.specs.Placing.{all_handed_out, all_given_back}
+use Rattle.lsm_jobs.specs.Slots.{Frozen, Writing, Slot, Slots, JobSlots, slot_of, with_slot, with_held, is_reading, outputs_at, outputs_of}
 use Rattle.lsm_jobs.specs.StoredJobs.{HasStored}
 use Rattle.lsm_jobs.specs.Taking.{runs_of, first_stage, given_job, slot_for, with_taken}
 use Rattle.lsm_jobs.proofs.Found.{found_there, found_number}
 use Rattle.lsm_jobs.proofs.KeptJobs.{given_taken, going_on_law, freeing_law}
 use Rattle.lsm_jobs.proofs.RunOrders.{stored_taking_law}
-use Rattle.lsm_store.specs.Memory.{IsUnwritten, AreUnwritten}
+use Rattle.lsm_store.specs.Accounts.{extents_like, tables_like, outputs_in, AreAccounted}
+use Rattle.lsm_store.specs.Memory.{IsReadAsMerge, AreReadAsMerges, HaveTables}
 use Rattle.lsm_store.specs.Work.{WorkView}
 use Rattle.lsm_store.specs.WorkRefusals.{live_tables}
+use Rattle.lsm_store.proofs.Accounts.{unheld, first_none, read_none, reading_none, taken_outputs, held_accounts, placed_accounts, dropped_accounts}
 use Rattle.lsm_store.proofs.StoredLevels.{jobs_have, jobs_stored}
 use Rattle.lsm_store.proofs.TableLimits.{install_counts}
 
 -- ---- slots
 
--- a job that is just taken has no outputs, and a flush is whole
-first_unwritten : (job : Job) → (outputs_at (first_stage job) ≡ []) × (is_reading (first_stage job) ≡ true → is_flush job ≡ false)
-first_unwritten Flush = (refl, λ h. absurd (false≢true h))
-first_unwritten (Merge i upper lower) = (refl, λ h. refl)
+-- a job that is just taken is read only where it is a merge
+first_merges : (job : Job) → is_reading (first_stage job) ≡ true → is_flush job ≡ false
+first_merges Flush = λ h. absurd (false≢true h)
+first_merges (Merge i upper lower) = λ h. refl
 
-with_slot_unwritten : (new : Slot) (slots : Slots) → IsUnwritten (Some new) → AreUnwritten slots → AreUnwritten (with_slot new slots)
-with_slot_unwritten new [] one all = tt
-with_slot_unwritten new (None ∷ rest) one all = (one, all.1)
-with_slot_unwritten new (Some held ∷ rest) one all = (all.0, with_slot_unwritten new rest one all.1)
+with_slot_merges : (new : Slot) (slots : Slots) → IsReadAsMerge (Some new) → AreReadAsMerges slots → AreReadAsMerges (with_slot new slots)
+with_slot_merges new [] one all = tt
+with_slot_merges new (None ∷ rest) one all = (one, all.1)
+with_slot_merges new (Some held ∷ rest) one all = (all.0, with_slot_merges new rest one all.1)
 
-with_held_unwritten : (number : ℕ) (now : Option Slot) (slots : Slots) → IsUnwritten now → AreUnwritten slots → AreUnwritten (with_held number now slots)
-with_held_unwritten number now [] one all = tt
-with_held_unwritten number now (None ∷ rest) one all = (tt, with_held_unwritten number now rest one all.1)
-with_held_unwritten number now (Some held ∷ rest) one all = by (held.number == number) (with_held_unwritten number now rest one all.1)
+pub with_held_merges : (number : ℕ) (now : Option Slot) (slots : Slots) → IsReadAsMerge now → AreReadAsMerges slots → AreReadAsMerges (with_held number now slots)
+with_held_merges number now [] one all = tt
+with_held_merges number now (None ∷ rest) one all = (tt, with_held_merges number now rest one all.1)
+with_held_merges number now (Some held ∷ rest) one all = by (held.number == number) (with_held_merges number now rest one all.1)
   where
-    by : (b : Bool) → AreUnwritten (with_held number now rest) → AreUnwritten (cond b (now ∷ rest) (Some held ∷ with_held number now rest))
+    by : (b : Bool) → AreReadAsMerges (with_held number now rest) → AreReadAsMerges (cond b (now ∷ rest) (Some held ∷ with_held number now rest))
     by true later = (one, all.1)
     by false later = (all.0, later)
 
-pub unwritten_at : (number : ℕ) (slots : Slots) (slot : Slot) → AreUnwritten slots → slot_of number slots ≡ Some slot → IsUnwritten (Some slot)
-unwritten_at number [] slot all is = absurd (none_slot is)
+pub merges_at : (number : ℕ) (slots : Slots) (slot : Slot) → AreReadAsMerges slots → slot_of number slots ≡ Some slot → IsReadAsMerge (Some slot)
+merges_at number [] slot all is = absurd (none_slot is)
   where
     none_slot : None ≡ Some slot → ⊥
     none_slot e = cc
-unwritten_at number (None ∷ rest) slot all is = unwritten_at number rest slot all.1 is
-unwritten_at number (Some held ∷ rest) slot all is = by (λ e. unwritten_at number rest slot all.1 e) (held.number == number) is
+merges_at number (None ∷ rest) slot all is = merges_at number rest slot all.1 is
+merges_at number (Some held ∷ rest) slot all is = by (λ e. merges_at number rest slot all.1 e) (held.number == number) is
   where
-    by : (slot_of number rest ≡ Some slot → IsUnwritten (Some slot)) → (b : Bool) → cond b (Some held) (slot_of number rest) ≡ Some slot → IsUnwritten (Some slot)
-    by later true e = subst IsUnwritten e all.0
+    by : (slot_of number rest ≡ Some slot → IsReadAsMerge (Some slot)) → (b : Bool) → cond b (Some held) (slot_of number rest) ≡ Some slot → IsReadAsMerge (Some slot)
+    by later true e = subst IsReadAsMerge e all.0
     by later false e = later e
-
--- so none is placed
-pub none_placed : (number : ℕ) (slots : Slots) → AreUnwritten slots → outputs_of (slot_of number slots) ≡ []
-none_placed number [] all = refl
-none_placed number (None ∷ rest) all = none_placed number rest all.1
-none_placed number (Some held ∷ rest) all = by (held.number == number) (none_placed number rest all.1)
-  where
-    by : (b : Bool) → outputs_of (slot_of number rest) ≡ [] → outputs_of (cond b (Some held) (slot_of number rest)) ≡ []
-    by true later = all.0.0
-    by false later = later
 
 -- ---- a taking
 
-module _ (waiting : Bool) (levels : Levels) (sealed : List Version) (cuts : List ℕ) (js : JobSlots) (runs : AreRuns levels) (kept : AreKept levels js.next js.slots) (unwritten : AreUnwritten js.slots) where
+module _ (waiting : Bool) (levels : Levels) (sealed : List Version) (cuts : List ℕ) (js : JobSlots) (runs : AreRuns levels) (area : Area) (have : HaveTables levels js area) where
   abbrev after : Option Job → JobSlots
   after o = with_taken sealed cuts levels o js
 
-  taken_by : (o : Option Job) → given_job waiting levels js.slots ≡ o → AreKept levels (after o).next (after o).slots × AreUnwritten (after o).slots
-  taken_by None given = (kept, unwritten)
-  taken_by (Some job) given = (
-    given_taken waiting levels js.next js.slots sealed cuts job runs kept given,
-    with_slot_unwritten (slot_for js.next sealed cuts levels job) js.slots (first_unwritten job) unwritten,
-  )
+  taken_by : (o : Option Job) → given_job waiting levels js.slots ≡ o → HaveTables levels (after o) area
+  taken_by None given = have
+  taken_by (Some job) given = record {
+    kept = given_taken waiting levels js.next js.slots sealed cuts job runs have.kept given;
+    merges = with_slot_merges (slot_for js.next sealed cuts levels job) js.slots (first_merges job) have.merges;
+    accounted = λ e. have.accounted e ∙ ap (λ (ts : List Table). tables_like e (all_tables (places levels) ++ ts)) (sym (taken_outputs (slot_for js.next sealed cuts levels job) js.slots (first_none job)));
+  }
 
-  pub taken_tables : AreKept levels (after (given_job waiting levels js.slots)).next (after (given_job waiting levels js.slots)).slots × AreUnwritten (after (given_job waiting levels js.slots)).slots
+  pub taken_tables : HaveTables levels (after (given_job waiting levels js.slots)) area
   taken_tables = taken_by (given_job waiting levels js.slots) refl
 
 -- it is the same with other sealed versions, where the job is no flush
@@ -93,8 +90,33 @@ same_taken sealed others cuts levels (Some (Merge i upper lower)) js same = refl
 
 -- ---- a job is dropped
 
-pub dropped_tables : (levels : Levels) (number : ℕ) (js : JobSlots) → AreKept levels js.next js.slots → AreUnwritten js.slots → AreKept levels js.next (with_held number None js.slots) × AreUnwritten (with_held number None js.slots)
-dropped_tables levels number js kept unwritten = (freeing_law levels js.next number js.slots kept, with_held_unwritten number None js.slots tt unwritten)
+pub dropped_tables : (w : WorkView) (number : ℕ) → HaveTables w.levels w.jobs w.area → IsPartition w.area → HaveTables w.levels (record { next = w.jobs.next; slots = with_held number None w.jobs.slots }) (all_given_back (outputs_of (slot_of number w.jobs.slots)) w.area)
+dropped_tables w number have whole = record {
+  kept = freeing_law w.levels w.jobs.next number w.jobs.slots have.kept;
+  merges = with_held_merges number None w.jobs.slots tt have.merges;
+  accounted = by (slot_of number w.jobs.slots) refl;
+}
+  where
+    accounts : AreAccounted w
+    accounts = record { each = have.accounted }
+
+    by : (o : Option Slot) → slot_of number w.jobs.slots ≡ o → (e : Extent) → extents_like e (all_given_back (outputs_of o) w.area).held ≡ tables_like e (all_tables (places w.levels) ++ outputs_in (with_held number None w.jobs.slots))
+    by None is = λ e. have.accounted e ∙ ap (λ (slots : Slots). tables_like e (all_tables (places w.levels) ++ outputs_in slots)) (sym (unheld number None w.jobs.slots is))
+    by (Some slot) is = (dropped_accounts w accounts whole number slot is).each
+
+-- ---- a job's outputs are placed
+
+pub placed_tables : (w : WorkView) (job : ℕ) (slot : Slot) (tables : List Table) → HaveTables w.levels w.jobs w.area → slot_of job w.jobs.slots ≡ Some slot → slot.stage ≡ Frozen
+    → HaveTables w.levels (record { next = w.jobs.next; slots = with_held job (Some (record slot { stage = Writing tables (length (placed_blocks tables)) })) w.jobs.slots }) (all_handed_out tables w.area)
+placed_tables w job slot tables have is frozen =
+    let now : Slot = record slot { stage = Writing tables (length (placed_blocks tables)) } in
+    let number : slot.number ≡ job = found_number job w.jobs.slots slot is in
+    record {
+      kept = subst (λ (n : ℕ). AreKept w.levels w.jobs.next (with_held n (Some now) w.jobs.slots)) number
+          (going_on_law w.levels w.jobs.next w.jobs.slots slot now have.kept (ap (λ (n : ℕ). slot_of n w.jobs.slots) number ∙ is) refl refl refl);
+      merges = with_held_merges job (Some now) w.jobs.slots (λ h. absurd (false≢true h)) have.merges;
+      accounted = (placed_accounts w (record { each = have.accounted }) job slot (Some tables) is (ap outputs_at frozen)).each;
+    }
 
 -- ---- a job is read
 
@@ -113,15 +135,11 @@ job_can_be_read size area job w js runs kept within few = record { is = by }
         let taken_in = (install_counts w job slot runs held).taken_in in
         record { few = omega (arith, taken_in, few, counted slot.job); upper = both.0; lower = both.1 }
 
-stage_unwritten : (n : ℕ) → outputs_at (stage_with n) ≡ []
-stage_unwritten zero = refl
-stage_unwritten (suc n) = refl
-
 same_flag : (left : ℕ) (upper lower : List Table) (g : Gathered) → (input_with left upper lower g).bottom ≡ g.bottom
 same_flag zero upper lower g = refl
 same_flag (suc left) upper lower g = refl
 
-module _ (levels : Levels) (area job left : ℕ) (m : Medium) (js after : JobSlots) (kept : AreKept levels js.next js.slots) (unwritten : AreUnwritten js.slots) (read : JobReadsOn area m job left js after) where
+module _ (w : WorkView) (area job left : ℕ) (m : Medium) (after : JobSlots) (have : HaveTables w.levels w.jobs w.area) (read : JobReadsOn area m job left w.jobs after) where
   reads : SlotReadsOn area m left read.slot read.now
   reads = read.reads
 
@@ -139,21 +157,26 @@ module _ (levels : Levels) (area job left : ℕ) (m : Medium) (js after : JobSlo
       ∙ sym (ap (λ (i : MergeInput). i.bottom) reads.shows.input)
 
   numbered : read.slot.number ≡ job
-  numbered = found_number job js.slots read.slot read.is
+  numbered = found_number job w.jobs.slots read.slot read.is
 
-  now_unwritten : IsUnwritten (Some read.now)
-  now_unwritten = (
-    ap (λ (s : Slot). outputs_at s.stage) reads.becomes ∙ stage_unwritten left,
-    λ h. ap is_flush same_job ∙ (unwritten_at job js.slots read.slot unwritten read.is).1 reading,
-  )
+  now_merges : IsReadAsMerge (Some read.now)
+  now_merges = λ h. ap is_flush same_job ∙ merges_at job w.jobs.slots read.slot have.merges read.is reading
 
-  now_kept : AreKept levels js.next (with_held job (Some read.now) js.slots)
+  now_kept : AreKept w.levels w.jobs.next (with_held job (Some read.now) w.jobs.slots)
   now_kept =
-      subst (λ (n : ℕ). AreKept levels js.next (with_held n (Some read.now) js.slots)) numbered
-      (going_on_law levels js.next js.slots read.slot read.now kept (ap (λ (n : ℕ). slot_of n js.slots) numbered ∙ read.is) (ap (λ (s : Slot). s.number) reads.becomes) same_job same_bottom)
+      subst (λ (n : ℕ). AreKept w.levels w.jobs.next (with_held n (Some read.now) w.jobs.slots)) numbered
+      (going_on_law w.levels w.jobs.next w.jobs.slots read.slot read.now have.kept (ap (λ (n : ℕ). slot_of n w.jobs.slots) numbered ∙ read.is) (ap (λ (s : Slot). s.number) reads.becomes) same_job same_bottom)
 
-  pub read_tables : AreKept levels after.next after.slots × AreUnwritten after.slots
-  read_tables = subst (λ (x : JobSlots). AreKept levels x.next x.slots × AreUnwritten x.slots) (sym read.becomes) (now_kept, with_held_unwritten job (Some read.now) js.slots now_unwritten unwritten)
+  -- what is being read has no outputs
+  none_yet : outputs_at read.now.stage ≡ outputs_at read.slot.stage
+  none_yet = ap (λ (s : Slot). outputs_at s.stage) reads.becomes ∙ read_none left ∙ sym (reading_none read.slot.stage reading)
+
+  pub read_tables : HaveTables w.levels after w.area
+  read_tables = subst (λ (x : JobSlots). HaveTables w.levels x w.area) (sym read.becomes) (record {
+    kept = now_kept;
+    merges = with_held_merges job (Some read.now) w.jobs.slots now_merges have.merges;
+    accounted = (held_accounts w (record { each = have.accounted }) job read.slot read.now read.is none_yet).each;
+  })
 
 -- ---- where tables stand
 

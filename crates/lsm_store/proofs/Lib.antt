@@ -38,6 +38,7 @@ pub mod OpenedWorks
 pub mod LeftStates
 pub mod AppendedTables
 pub mod InstalledTables
+pub mod LoggedVersions
 pub mod StoredTables
 pub mod KeptJobs
 pub mod RotatedManifests
@@ -52,6 +53,7 @@ pub mod MergedRecords
 pub mod StoredRecords
 pub mod WrittenOutputs
 pub mod WrittenFlush
+pub mod RunningFlush
 pub mod ExtentCounts
 pub mod OpenedAccounts
 pub mod Accounts
@@ -67,3 +69,5 @@ pub mod HeldTables
 pub mod WorkedReads
 pub mod WorkingMemory
 pub mod WorkAnswers
+pub mod ServedResults
+pub mod AcceptedResults

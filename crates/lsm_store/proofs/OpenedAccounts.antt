@@ -18,8 +18,8 @@ use Rattle.lsm_levels.specs.Tables.{Table, record_of}
 use Rattle.lsm_jobs.specs.Placing.{extent_of}
 use Rattle.lsm_open.specs.Placements.{Placement}
 use Rattle.lsm_open.specs.RecoveredTables.{AreWithinLimits}
-use Rattle.lsm_open.specs.ToldTables.{extent_of as record_extent, records_of_runs, records_of_levels, records_of}
-use Rattle.lsm_store.specs.Accounts.{extents_like, tables_like, AreAccounted, AreOutlined}
+use Rattle.lsm_open.specs.ToldTables.{IsOutlined, AreOutlined, extent_of as record_extent, records_of_runs, records_of_levels, records_of}
+use Rattle.lsm_store.specs.Accounts.{extents_like, tables_like, AreAccounted}
 use Rattle.lsm_store.specs.OpenedWork.{opened_work}
 use Rattle.lsm_store.proofs.ExtentCounts.{BeginApart, among_contains, same_counts, tables_extents}
 
@@ -29,35 +29,34 @@ pub tables_joined : (xs ys : List (List Table)) → all_tables (xs ++ ys) ≡ al
 tables_joined [] ys = refl
 tables_joined (x ∷ xs) ys = ap (λ (l : List Table). x ++ l) (tables_joined xs ys) ∙ sym (append_assoc x (all_tables xs) (all_tables ys))
 
-run_extents : (lev run : ℕ) (ts : List Table) → AreOutlined ts → map record_extent (map (record_of lev run) ts) ≡ map extent_of ts
+run_extents : (lev run : ℕ) (ts : List Table) → AllByRecursion IsOutlined ts → map record_extent (map (record_of lev run) ts) ≡ map extent_of ts
 run_extents lev run [] all = refl
 run_extents lev run (t ∷ rest) all =
     let blocks : length t.outline.edges + index_count t.outline.edges + 2 ≡ t.blocks = sym (ap (λ (u : Table). u.blocks) all.0) in
     ap (λ (n : ℕ). let e : Extent = record { first = t.start; blocks = n } in e ∷ map record_extent (map (record_of lev run) rest)) blocks
     ∙ ap (λ (l : List Extent). extent_of t ∷ l) (run_extents lev run rest all.1)
 
-runs_extents : (run : ℕ) (runs : List (List Table)) → AreOutlined (all_tables runs) → map record_extent (records_of_runs run runs) ≡ map extent_of (all_tables runs)
+runs_extents : (run : ℕ) (runs : List (List Table)) → AreOutlined runs → map record_extent (records_of_runs run runs) ≡ map extent_of (all_tables runs)
 runs_extents run [] all = refl
 runs_extents run (ts ∷ rest) all =
     map-append record_extent (map (record_of 0 run) ts) (records_of_runs (suc run) rest)
-    ∙ ap (λ (l : List Extent). l ++ map record_extent (records_of_runs (suc run) rest)) (run_extents 0 run ts (all_left _ ts (all_tables rest) all))
-    ∙ ap (λ (l : List Extent). map extent_of ts ++ l) (runs_extents (suc run) rest (all_right _ ts (all_tables rest) all))
+    ∙ ap (λ (l : List Extent). l ++ map record_extent (records_of_runs (suc run) rest)) (run_extents 0 run ts all.0)
+    ∙ ap (λ (l : List Extent). map extent_of ts ++ l) (runs_extents (suc run) rest all.1)
     ∙ sym (map-append extent_of ts (all_tables rest))
 
-levels_extents : (lev : ℕ) (runs : List (List Table)) → AreOutlined (all_tables runs) → map record_extent (records_of_levels lev runs) ≡ map extent_of (all_tables runs)
+levels_extents : (lev : ℕ) (runs : List (List Table)) → AreOutlined runs → map record_extent (records_of_levels lev runs) ≡ map extent_of (all_tables runs)
 levels_extents lev [] all = refl
 levels_extents lev (ts ∷ rest) all =
     map-append record_extent (map (record_of lev 0) ts) (records_of_levels (suc lev) rest)
-    ∙ ap (λ (l : List Extent). l ++ map record_extent (records_of_levels (suc lev) rest)) (run_extents lev 0 ts (all_left _ ts (all_tables rest) all))
-    ∙ ap (λ (l : List Extent). map extent_of ts ++ l) (levels_extents (suc lev) rest (all_right _ ts (all_tables rest) all))
+    ∙ ap (λ (l : List Extent). l ++ map record_extent (records_of_levels (suc lev) rest)) (run_extents lev 0 ts all.0)
+    ∙ ap (λ (l : List Extent). map extent_of ts ++ l) (levels_extents (suc lev) rest all.1)
     ∙ sym (map-append extent_of ts (all_tables rest))
 
-pub named_extents : (levels : Levels) → AreOutlined (all_tables (places levels)) → map record_extent (records_of levels) ≡ map extent_of (all_tables (places levels))
+pub named_extents : (levels : Levels) → AreOutlined (places levels) → map record_extent (records_of levels) ≡ map extent_of (all_tables (places levels))
 named_extents levels all =
-    let parts : AreOutlined (all_tables levels.runs ++ all_tables levels.deeper) = subst AreOutlined (tables_joined levels.runs levels.deeper) all in
     map-append record_extent (records_of_runs 0 levels.runs) (records_of_levels 1 levels.deeper)
-    ∙ ap (λ (l : List Extent). l ++ map record_extent (records_of_levels 1 levels.deeper)) (runs_extents 0 levels.runs (all_left _ (all_tables levels.runs) (all_tables levels.deeper) parts))
-    ∙ ap (λ (l : List Extent). map extent_of (all_tables levels.runs) ++ l) (levels_extents 1 levels.deeper (all_right _ (all_tables levels.runs) (all_tables levels.deeper) parts))
+    ∙ ap (λ (l : List Extent). l ++ map record_extent (records_of_levels 1 levels.deeper)) (runs_extents 0 levels.runs (all_left _ levels.runs levels.deeper all))
+    ∙ ap (λ (l : List Extent). map extent_of (all_tables levels.runs) ++ l) (levels_extents 1 levels.deeper (all_right _ levels.runs levels.deeper all))
     ∙ sym (map-append extent_of (all_tables levels.runs) (all_tables levels.deeper))
     ∙ ap (map extent_of) (sym (tables_joined levels.runs levels.deeper))
 
@@ -82,11 +81,11 @@ any_named : (k : ℕ) (ts : List TableRecord) → list_any (λ t. covers k (reco
 any_named k [] = refl
 any_named k (t ∷ rest) = ap (λ (b : Bool). covers k (record_extent t) || b) (any_named k rest)
 
-pub opened_accounts : (size count : ℕ) (p : Placement) (sealed : Option (List Version)) (levels : Levels) (extents : Area) → AreWithinLimits size p count sealed levels extents → AreOutlined (all_tables (places levels)) → IsPartition extents
+pub opened_accounts : (size count : ℕ) (p : Placement) (sealed : Option (List Version)) (levels : Levels) (extents : Area) → AreWithinLimits size p count sealed levels extents → IsPartition extents
     → AreAccounted (opened_work p sealed levels extents)
-opened_accounts size count p sealed levels extents within outlined whole =
+opened_accounts size count p sealed levels extents within whole =
     let ts = all_tables (places levels) in
-    let named : map record_extent p.tables ≡ map extent_of ts = ap (map record_extent) (sym within.named) ∙ named_extents levels outlined in
+    let named : map record_extent p.tables ≡ map extent_of ts = ap (map record_extent) (sym within.named) ∙ named_extents levels within.outlined in
     record {
       each = λ e.
           same_counts extents whole (map record_extent p.tables) (begin_named p.tables within.manifest.tables.agree) (among_named extents.held p.tables within.held.each) (λ k. within.held.only k ∙ any_named k p.tables) e

@@ -31,15 +31,17 @@ use Rattle.lsm_store.specs.Calls.{Rotate, Done, Refused}
 use Rattle.lsm_store.specs.Crash.{left_besides}
 use Rattle.lsm_store.specs.Effects.{after, rotated}
 use Rattle.lsm_store.specs.LiveMarks.{marks}
-use Rattle.lsm_store.specs.Memory.{AreConsistent, CanTake, Agrees, IsInside, LieWithin, IsOpenIn, state_of, view_of, work_of}
+use Rattle.lsm_store.specs.Memory.{AreConsistent, CanTake, Agrees, IsInside, LieWithin, IsOpenIn, numbered_layout, state_of, view_of, work_of}
 use Rattle.lsm_store.specs.RecoveryPoints.{batch_count}
 use Rattle.lsm_store.specs.Refusals.{refusal}
 use Rattle.lsm_store.specs.Run.{stopped_in}
 use Rattle.lsm_store.specs.Serving.{Serves}
 use Rattle.lsm_store.specs.State.{OpenLog}
 use Rattle.lsm_store.specs.Stored.{open_log_of}
+use Rattle.lsm_store.specs.StoredTables.{with_next}
 use Rattle.lsm_store.specs.WorkEffects.{with_sealed}
 use Rattle.lsm_store.proofs.RotatedLayouts.{rotated_within, rotated_log}
+use Rattle.lsm_store.proofs.RotatedManifests.{next_number}
 use Rattle.lsm_store.proofs.Rotations.{MayRotate, unrefused_rotate, none_closed, log_used, IsInstalling, rotated_on, rotate_done, rotate_io}
 use Rattle.lsm_store.proofs.States.{runs_by, not_running, agrees_stopped}
 
@@ -74,13 +76,24 @@ module _ {A : Type 0} (m : Memory A) (kept : AreConsistent m) (none : refusal (s
     low : (state_of m).generation ≤ last_number
     low = omega (arith, high, kept.agrees.generation)
 
-    module _ (regions : Regions A) (is : IsRotated (layout_of m.regions) m.count (layout_of regions)) where
+    -- the manifest may have the present number of the next table
+    numbered_inside : LieWithin size (numbered_layout m) m.levels
+    numbered_inside = record {
+      geometry = inside.geometry;
+      manifest = next_number (contents_for (placed_in (layout_of m.regions) m.levels (records_of m.levels))) m.next_table kept.next.low (omega (arith, kept.next.high)) inside.manifest;
+      inside = inside.inside;
+      regions = inside.regions;
+      tables = inside.tables;
+      few = inside.few;
+    }
+
+    module _ (regions : Regions A) (is : IsRotated (numbered_layout m) m.count (layout_of regions)) where
       -- the next manifest is one
       pub next_within : LieWithin size (layout_of regions) m.levels
       next_within =
           let up : m.regions.generation + 1 ≤ last_number = omega (arith, has_next high) in
           subst (λ (l : Layout). LieWithin size l m.levels) (sym is.layout)
-          (rotated_within size m.count (layout_of m.regions) m.levels is.new_log inside no_region_closed (kept.current runs).opened used_here
+          (rotated_within size m.count (numbered_layout m) m.levels is.new_log numbered_inside no_region_closed (kept.current runs).opened used_here
           (λ closed. (kept.current runs).tabled closed no_region_closed) kept.count up is.least)
 
       least : IsInLeastFree m.regions.log_sectors ((state_of m).generation + 1) (batch_count (state_of m).points) (open_records m.regions.open_region) (Some is.new_log)
@@ -92,12 +105,12 @@ module _ {A : Type 0} (m : Memory A) (kept : AreConsistent m) (none : refusal (s
 
       module _ (n : ℕ) (root : Planned) (prepared : root ≡ record { size = n; log = regions.log_sectors; manifest = contents_for (placed_in (layout_of regions) m.levels (records_of m.levels)) }) (medium new : Medium) (cache : Cached) where
         -- it is that of the placement after the rotation
-        planned_is : root ≡ record { size = n; log = m.regions.log_sectors; manifest = contents_for (rotated_placement (placement_of (view_of medium m cache)) is.new_log) }
+        planned_is : root ≡ record { size = n; log = m.regions.log_sectors; manifest = contents_for (with_next m.next_table (rotated_placement (placement_of (view_of medium m cache)) is.new_log)) }
         planned_is = prepared ∙ (λ i. record { size = n; log = (is.layout i).log_sectors; manifest = contents_for (placed_in (is.layout i) m.levels (records_of m.levels)) })
 
         pub installing_next : (IsTrue medium.lasting.tells → IsReady medium.size root.log root.manifest.generation (disk medium) → EachSince (Leaves (IsOldOrNew (disk medium) (Stands root.log root.manifest))) medium.history new.history)
             → AtMost 0 38 2 medium.calls new.calls → new.size ≡ medium.size → new.lasting ≡ medium.lasting
-            → IsInstalling m.regions.log_sectors (m.regions.generation + 1) (contents_for (rotated_placement (placement_of (view_of medium m cache)) is.new_log)) medium new
+            → IsInstalling m.regions.log_sectors (m.regions.generation + 1) (contents_for (with_next m.next_table (rotated_placement (placement_of (view_of medium m cache)) is.new_log))) medium new
         installing_next moments calls same_size same_lasting = record {
           moments = λ tells. subst (λ (p : Planned). IsReady medium.size p.log p.manifest.generation (disk medium) → EachSince (Leaves (IsOldOrNew (disk medium) (Stands p.log p.manifest))) medium.history new.history) planned_is (moments tells);
           calls = calls;
@@ -107,7 +120,7 @@ module _ {A : Type 0} (m : Memory A) (kept : AreConsistent m) (none : refusal (s
 
         pub installed_next : (IsTrue medium.lasting.tells → IsReady medium.size root.log root.manifest.generation (disk medium) → IsInstalled (disk medium) (Stands root.log root.manifest) (disk new))
             → IsTrue medium.lasting.tells → IsReady medium.size m.regions.log_sectors (m.regions.generation + 1) (disk medium)
-            → IsInstalled (disk medium) (Stands m.regions.log_sectors (contents_for (rotated_placement (placement_of (view_of medium m cache)) is.new_log))) (disk new)
+            → IsInstalled (disk medium) (Stands m.regions.log_sectors (contents_for (with_next m.next_table (rotated_placement (placement_of (view_of medium m cache)) is.new_log)))) (disk new)
         installed_next installed tells = subst (λ (p : Planned). IsReady medium.size p.log p.manifest.generation (disk medium) → IsInstalled (disk medium) (Stands p.log p.manifest) (disk new)) planned_is (installed tells)
 
       -- ---- where the root was installed
@@ -150,6 +163,7 @@ module _ {A : Type 0} (m : Memory A) (kept : AreConsistent m) (none : refusal (s
           };
           taking = sealed_taking (length regions.closed.items) taken;
           jobs = kept.jobs;
+          next = record { low = omega (arith, ap (λ (l : Layout). l.next_table) is.layout); high = kept.next.high };
         }
           where
             no : None ≡ Some is.new_log → ⊥
@@ -161,17 +175,17 @@ module _ {A : Type 0} (m : Memory A) (kept : AreConsistent m) (none : refusal (s
             device = new;
             state = rotated (state_of m);
             layout = is.layout i;
-            work = record (work_of m) { memory = []; sealed = sealed_versions (taken i); next_table = (is.layout i).next_table };
+            work = record (work_of m) { memory = []; sealed = sealed_versions (taken i) };
             cache = cache;
           }
 
           pub rotation_work : work_of after_rotation ≡ with_sealed (work_of m)
-          rotation_work = λ i. record (work_of m) { memory = []; sealed = sealed_versions (taken i); next_table = (is.layout i).next_table }
+          rotation_work = λ i. record (work_of m) { memory = []; sealed = sealed_versions (taken i) }
 
           pub rotation_serves : (IsTrue medium.lasting.tells → length (disk medium).stands ≡ medium.size)
-              → IsInstalling m.regions.log_sectors (m.regions.generation + 1) (contents_for (rotated_placement (placement_of (view_of medium m cache)) is.new_log)) medium new
+              → IsInstalling m.regions.log_sectors (m.regions.generation + 1) (contents_for (with_next m.next_table (rotated_placement (placement_of (view_of medium m cache)) is.new_log))) medium new
               → (IsTrue medium.lasting.tells → IsReady medium.size m.regions.log_sectors (m.regions.generation + 1) (disk medium)
-              → IsInstalled (disk medium) (Stands m.regions.log_sectors (contents_for (rotated_placement (placement_of (view_of medium m cache)) is.new_log))) (disk new))
+              → IsInstalled (disk medium) (Stands m.regions.log_sectors (contents_for (with_next m.next_table (rotated_placement (placement_of (view_of medium m cache)) is.new_log)))) (disk new))
               → new.calls.faults ≡ medium.calls.faults → Serves (view_of medium m cache) Rotate Done (view_of new after_rotation cache)
           rotation_serves sized wrote installed faults =
               rotate_done (view_of medium m cache) none low is.new_log least (view_of new after_rotation cache) sized wrote installed faults view_is
@@ -182,7 +196,7 @@ module _ {A : Type 0} (m : Memory A) (kept : AreConsistent m) (none : refusal (s
         after_fault = record m { mem = []; sealed = sealed; status = Stopped; told = record { state = stopped_in (state_of m) Rotate } }
 
         pub fault_serves : (medium new : Medium) (cache : Cached) → (IsTrue medium.lasting.tells → length (disk medium).stands ≡ medium.size)
-            → IsInstalling m.regions.log_sectors (m.regions.generation + 1) (contents_for (rotated_placement (placement_of (view_of medium m cache)) is.new_log)) medium new
+            → IsInstalling m.regions.log_sectors (m.regions.generation + 1) (contents_for (with_next m.next_table (rotated_placement (placement_of (view_of medium m cache)) is.new_log))) medium new
             → new.calls.faults ≡ faults_after false medium.calls.faults → Serves (view_of medium m cache) Rotate (Refused Io) (view_of new after_fault cache)
         fault_serves medium new cache sized wrote faults =
             rotate_io (view_of medium m cache) none low is.new_log least (view_of new after_fault cache) sized wrote refl faults
@@ -197,4 +211,5 @@ module _ {A : Type 0} (m : Memory A) (kept : AreConsistent m) (none : refusal (s
           current = λ running. absurd (not_running running);
           taking = sealed_taking (length m.regions.closed.items) taken;
           jobs = kept.jobs;
+          next = kept.next;
         }

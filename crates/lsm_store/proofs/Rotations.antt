@@ -1,11 +1,11 @@
 -- A rotation that nothing refuses: what the installation of its root tells, and what the store then does.
-use Rattle.std.proofs.Common.{◌≡◌, ◌≢◌, ◌≤◌, ◌+◌, ℕ, false, ◌++◌, length, Some, None, is_some, refl, sym, ◌∙◌, ap, subst, arith, IsTrue}
+use Rattle.std.proofs.Common.{◌≡◌, ◌≢◌, ◌≤◌, ◌+◌, ℕ, false, List, [], ◌++◌, length, Some, None, is_some, refl, sym, ◌∙◌, ap, subst, arith, IsTrue}
 use Rattle.std.specs.Prelude.{IsNone, ◌==◌}
 use Rattle.std.proofs.lemmas.Bool.{eqb-false, leb-false}
 use Rattle.lsm_codec.specs.Manifests.{Contents}
 use Rattle.lsm_device.specs.Calls.{AtMost, faults_after}
 use Rattle.lsm_device.specs.declared.refusal.Refusal.TheVariants.{Io, Stopped, SealedWaiting, NothingToRotate, Exhausted}
-use Rattle.lsm_device.specs.Disk.{seen}
+use Rattle.lsm_device.specs.Disk.{seen, written}
 use Rattle.lsm_device.specs.History.{EachSince}
 use Rattle.lsm_device.specs.Medium.{Lasting, Medium, disk}
 use Rattle.lsm_device.specs.Outcomes.{Leaves}
@@ -19,6 +19,7 @@ use Rattle.lsm_open.specs.RecoveredTables.{StandForOne}
 use Rattle.lsm_open.specs.Switching.{rotated as rotated_placement, IsInLeastFree}
 use Rattle.lsm_open.specs.declared.regions.OpenRegion.{OpenRegion}
 use Rattle.lsm_root.specs.Installed.{IsReady, IsOldOrNew, IsInstalled}
+use Rattle.lsm_root.specs.Layout.{behind}
 use Rattle.lsm_root.specs.Roots.{Stands}
 use Rattle.lsm_store.specs.Backing.{StoreView, IsRunOn, IsBacked, placement_of, data_start, work_machine_of}
 use Rattle.lsm_store.specs.Calls.{Rotate, Done, Refused}
@@ -29,12 +30,14 @@ use Rattle.lsm_store.specs.Refusals.{refusal}
 use Rattle.lsm_store.specs.Run.{stopped_in}
 use Rattle.lsm_store.specs.Serving.{Serves}
 use Rattle.lsm_store.specs.State.{OpenLog, State, are_waiting, is_unused}
-use Rattle.lsm_store.specs.StoredTables.{KeepsExtents, MayGoOn}
+use Rattle.lsm_store.specs.StoredTables.{IsStoredIn, KeepsExtents, MayGoOn, with_next}
 use Rattle.lsm_store.specs.WorkEffects.{with_sealed}
 use Rattle.lsm_store.proofs.Backed.{run_backed}
 use Rattle.lsm_store.proofs.CallSounds.{rotation_sound_law}
 use Rattle.lsm_store.proofs.CrashStates.{inside_unrefused}
-use Rattle.lsm_store.proofs.InstalledTables.{next_ready, install_moments, install_stopped, install_stored, install_extents, rotate_goes_on}
+use Rattle.lsm_store.proofs.InstalledTables.{next_ready, install_moments, install_stopped, install_stored, install_extents, no_records, rotate_goes_on}
+use Rattle.lsm_store.proofs.LoggedVersions.{rotated_sealed, rotated_logged}
+use Rattle.lsm_store.proofs.RotatedManifests.{goes_on_numbered}
 use Rattle.lsm_store.proofs.Running.{admits}
 use Rattle.lsm_store.proofs.Serving.{answered, uses, serves_fault}
 use Rattle.lsm_store.proofs.StoredLevels.{levels_kept, blocks_kept}
@@ -77,7 +80,7 @@ abbrev pub rotated_on : StoreView → OpenRegion → Medium → StoreView
 rotated_on v o new = record {
   device = new;
   state = rotated v.state;
-  layout = record v.layout { generation = v.layout.generation + 1; closed = open_records v.layout.open_region; open_region = Some o };
+  layout = record v.layout { generation = v.layout.generation + 1; next_table = v.work.next_table; closed = open_records v.layout.open_region; open_region = Some o };
   work = with_sealed v.work;
   cache = v.cache;
 }
@@ -91,21 +94,28 @@ module _ (v : StoreView) (none : refusal v.state Rotate ≡ None) (below : v.sta
   now = placement_of v
 
   abbrev next : Placement
-  next = rotated_placement (placement_of v) o
+  next = with_next v.work.next_table (rotated_placement (placement_of v) o)
 
   has_next : v.state.generation + 1 ≤ last_number
   has_next = let other = may.generation in omega (arith, below, other)
 
   module _ (runs : IsRunOn v) where
     goes_on : MayGoOn next (rotated v.state) (disk v.device)
-    goes_on = rotate_goes_on now v.state (disk v.device) runs.stored (none_closed v.state may) (log_used v.state may) has_next o least
+    goes_on =
+        goes_on_numbered (rotated_placement now o) (rotated v.state) (disk v.device) v.work.next_table
+        (rotate_goes_on now v.state (disk v.device) runs.stored (none_closed v.state may) (log_used v.state may) has_next o least)
 
     pub runs_rotated : (new : Medium) → IsInstalled (disk v.device) (Stands v.layout.log_sectors (contents_for next)) (disk new) → IsRunOn (rotated_on v o new)
     runs_rotated new is =
         let kept : KeepsExtents now (disk v.device) (disk new) = install_extents now (Stands v.layout.log_sectors (contents_for next)) (disk v.device) (disk new) is in
+        let stored : IsStoredIn next (rotated v.state) (disk new) = install_stored now next v.state (rotated v.state) (disk v.device) (disk new) runs.stored refl goes_on is in
+        let none : v.layout.closed ≡ [] = no_records now v.state (disk v.device) runs.stored (none_closed v.state may) in
+        let same : behind (seen (disk new)) ≡ behind (seen (disk v.device)) = ap (λ (c : List (List ℕ)). behind c) (ap (written (disk new).stands) is.settled) ∙ is.stands.all in
         record {
-          stored = install_stored now next v.state (rotated v.state) (disk v.device) (disk new) runs.stored refl goes_on is;
+          stored = stored;
           sound = rotation_sound_law (work_machine_of v) runs.sound may.none_waits;
+          sealed = rotated_sealed v.work.next_table now o (disk v.device) (disk new) runs.stored.carried.held stored.carried.held none same v.work.memory runs.logged;
+          logged = rotated_logged v.work.next_table now o (disk v.device) (disk new) runs.stored.carried.held stored.carried.held none same least.new_log.next;
           tables = levels_kept now v.work.levels (disk v.device) (disk new) refl kept runs.tables;
           apart = runs.apart;
           fresh = named_law.kept (data_start v) (seen (disk v.device)) (seen (disk new)) (all_tables (places v.work.levels)) v.cache (blocks_kept now v.work.levels (disk v.device) (disk new) refl kept) runs.fresh;

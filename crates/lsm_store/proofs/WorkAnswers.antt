@@ -26,9 +26,9 @@ use Rattle.lsm_store.specs.Calls.{Done, Refused}
 use Rattle.lsm_store.specs.Memory.{view_of, state_of, work_of}
 use Rattle.lsm_store.specs.State.{are_waiting}
 use Rattle.lsm_store.specs.Work.{WorkMachine, Work, Take, Ask, Drop, Plain, Given, Handed, cuts_of}
-use Rattle.lsm_store.specs.WorkEffects.{work_answer}
+use Rattle.lsm_store.specs.WorkEffects.{work_answer, work_after}
 use Rattle.lsm_store.specs.WorkRefusals.{job_given, held, running_refusal, work_refusal}
-use Rattle.lsm_store.specs.Working.{work_reply_of, work_reply_by, work_decided, taken_reply, Works}
+use Rattle.lsm_store.specs.Working.{work_reply_of, work_reply_by, work_decided, taken_reply, Works, next_worked}
 use Rattle.lsm_store.proofs.AnsweredWork.{ask_answers}
 use Rattle.lsm_store.proofs.HeldTables.{same_taken}
 use Rattle.lsm_store.proofs.WorkSounds.{take_sound, drop_sound}
@@ -59,7 +59,7 @@ module _ {A : Type 0} (m : Memory A) (medium : Medium) (cache : Cached) (running
   input_works job (Ok x) is refused =
       let none = (ask_answers w job).unrefused (arc_value x) is in
       let reply : Handed (arc_value x) ≡ work_decided w (Ask job) = sym ((ask_answers w job).answer (arc_value x) is) ∙ decides (Ask job) none in
-      works_still v (Ask job) (Handed (arc_value x)) (record { admitted = reply; next = refl; faultless = refl; unchanging = none_used (is_some (work_refusal w (Ask job))) (Handed (arc_value x)) }) (λ backed. reply)
+      works_still v (Ask job) (Handed (arc_value x)) (record { admitted = reply; next = refl; faultless = refl; unchanging = none_used (is_some (work_refusal w (Ask job))) (Handed (arc_value x)) }) refl (λ backed. reply)
   input_works job (Err e) is refused =
       ⊎_elim
       (λ decided. works_refused v (Ask job) e (running_refuses w (Ask job) running ∙ decided))
@@ -81,8 +81,8 @@ module _ {A : Type 0} (m : Memory A) (medium : Medium) (cache : Cached) (running
   drop_works job (Ok x) js area absent refusals freed back same =
       let none : running_refusal w (Drop job) ≡ None = no_slot job (held w job) (λ is. not_err x NoSuchJob (absent.1 is)) in
       let reply : Plain Done ≡ work_decided w (Drop job) = decides (Drop job) none in
-      works_moved v (Drop job) js area (Plain Done) (record { allowed = reply; admitted = reply; next = refl; faultless = refl; state = refl; alone = refl })
-      (λ i. record (work_of m) { jobs = freed i; area = back i }) (λ _ sound. drop_sound w sound job)
+      let is : record (work_of m) { jobs = js; area = area } ≡ work_after w (Drop job) = λ i. record (work_of m) { jobs = freed i; area = back i } in
+      works_moved v (Drop job) js m.next_table area (Plain Done) (record { allowed = reply; admitted = reply; next = refl; faultless = refl; state = refl; alone = refl }) is is (λ runs. drop_sound w runs.sound job)
   drop_works job (Err e) js area absent refusals freed back same =
       let is : held w job ≡ None = absent.0 (ap (λ (r : Refusal). Err r) refusals) in
       let none : running_refusal w (Drop job) ≡ Some NoSuchJob = ap (λ (o : Option Slot). cond (is_none o) (Some NoSuchJob) None) is in
@@ -123,12 +123,9 @@ module _ {A : Type 0} (m : Memory A) (medium : Medium) (cache : Cached) (running
       let free = take_unrefused (λ both. false≢true (sym none ∙ both.0)) in
       let answer : work_answer w Take ≡ Given None = ap (λ (o : Option Job). Given (option_map (λ (job : Job). (m.jobs.next, level_of job)) o)) is in
       let reply : Given None ≡ work_decided w Take = sym answer ∙ decides Take free in
-      works_still v Take (Given None) (record {
-        admitted = reply;
-        next = ap (λ (o : Option Job). record { state = state_of m; work = record (work_of m) { jobs = with_taken (work_of m).sealed (cuts_of (state_of m)) m.levels o m.jobs } }) is;
-        faultless = refl;
-        unchanging = none_used (is_some (work_refusal w Take)) (Given None);
-      }) (λ backed. reply)
+      let same : next_worked w Take (Given None) ≡ w = ap (λ (o : Option Job). record { state = state_of m; work = record (work_of m) { jobs = with_taken (work_of m).sealed (cuts_of (state_of m)) m.levels o m.jobs } }) is in
+      works_still v Take (Given None) (record { admitted = reply; next = same; faultless = refl; unchanging = none_used (is_some (work_refusal w Take)) (Given None) })
+      (ap (λ (x : WorkMachine). x.work) (sym same)) (λ backed. reply)
 
   -- memory was refused where there is one
   pub take_want : is_some given ≡ true → running_refusal w Take ≡ None → Works v Take (Plain (Refused NoMemory)) v
@@ -144,9 +141,9 @@ module _ {A : Type 0} (m : Memory A) (medium : Medium) (cache : Cached) (running
       → Works v Take (work_reply_of taken_reply r) (worked_on v js m.extents medium)
   take_works some none sealed cuts counts flush (Ok taken) js told moved refusals past same =
       let reply : taken_reply taken ≡ work_decided w Take = ap taken_reply told ∙ told_reply given ∙ decides Take none in
-      works_moved v Take js m.extents (taken_reply taken) (record { allowed = reply; admitted = reply; next = refl; faultless = refl; state = refl; alone = refl })
-      (ap (λ (x : JobSlots). record (work_of m) { jobs = x }) (moved ∙ ap (λ (c : List ℕ). with_taken sealed c m.levels given m.jobs) counts ∙ same_taken sealed (work_of m).sealed (cuts_of (state_of m)) m.levels given m.jobs flush))
-      (λ _ sound. take_sound w sound)
+      let is : record (work_of m) { jobs = js } ≡ work_after w Take =
+      ap (λ (x : JobSlots). record (work_of m) { jobs = x }) (moved ∙ ap (λ (c : List ℕ). with_taken sealed c m.levels given m.jobs) counts ∙ same_taken sealed (work_of m).sealed (cuts_of (state_of m)) m.levels given m.jobs flush) in
+      works_moved v Take js m.next_table m.extents (taken_reply taken) (record { allowed = reply; admitted = reply; next = refl; faultless = refl; state = refl; alone = refl }) is is (λ runs. take_sound w runs.sound)
   take_works some none sealed cuts counts flush (Err e) js told moved refusals past same =
       ⊎_elim
       (λ is. absurd (past (ap (λ (r : Refusal). Err r) is)))

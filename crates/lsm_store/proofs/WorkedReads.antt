@@ -26,13 +26,13 @@ use Rattle.lsm_store.specs.Work.{WorkView, WorkMachine, Work, Read, WorkReply, P
 use Rattle.lsm_store.specs.WorkEffects.{work_after, use_for, work_use, staged}
 use Rattle.lsm_store.specs.WorkRefusals.{held, of_slot, work_refusal}
 use Rattle.lsm_store.specs.WorkSound.{IsSound}
-use Rattle.lsm_store.specs.Working.{is_faultless_work, work_reply_of, work_reply_by, work_decided, WorkAllows, WorkAdmits, work_left_inside, next_worked, work_use_before, work_use_by, IsWorkUsed, IsTold, Works, after_work_fault}
+use Rattle.lsm_store.specs.Working.{is_faultless_work, work_reply_of, work_reply_by, work_decided, WorkAllows, WorkAdmits, work_left_inside, next_worked, work_use_before, work_use_by, IsWorkUsed, WorksTo, Works, after_work_fault}
 use Rattle.lsm_store.proofs.AnsweredWork.{stage_passes, no_job, other_stage, read_answers}
-use Rattle.lsm_store.specs.Memory.{AreUnwritten}
-use Rattle.lsm_store.proofs.HeldTables.{reading_stored, unwritten_at}
+use Rattle.lsm_store.specs.Memory.{AreReadAsMerges}
+use Rattle.lsm_store.proofs.HeldTables.{reading_stored, merges_at}
 use Rattle.lsm_store.proofs.ReadCalls.{none_more, no_use}
 use Rattle.lsm_store.proofs.WorkSounds.{read_sound}
-use Rattle.lsm_store.proofs.Works.{running_refuses, backed_worked, worked_on, now_within, works_refused}
+use Rattle.lsm_store.proofs.Works.{running_refuses, backed_moved, worked_on, now_within, works_refused}
 
 -- What a step of the slots tells of the device, where it answered Ok or not.
 pub record IsReadStep (slot : Option Slot) (ok : Bool) (old new : Medium) : Type 0 where
@@ -150,7 +150,7 @@ module _ (v : StoreView) (job : ℕ) (new : Medium) (running : IsNone v.state.st
 
       -- such a step, with what it answers
       works_step : (reply : WorkReply) (js : JobSlots) → WorkAdmits m piece reply → (IsBacked v → WorkAllows m piece reply) → (next_worked m piece reply).state ≡ v.state
-          → (IsTold v piece reply → record v.work { jobs = js } ≡ (next_worked m piece reply).work) → is_faultless_work reply ≡ ok
+          → WorksTo reply v piece (record v.work { jobs = js }) → is_faultless_work reply ≡ ok
           → (IsBacked v → IsSound m → IsSound (record { state = v.state; work = record v.work { jobs = js } })) → Works v piece reply (on_new js)
       works_step reply js admitted allowed state worked faultless sound = record {
         admitted = admitted;
@@ -163,7 +163,7 @@ module _ (v : StoreView) (job : ℕ) (new : Medium) (running : IsNone v.state.st
         same_size = step.same_size;
         same_lasting = step.same_lasting;
         crash = λ backed. unchanged (Leaves (StandForOne v.state.log_sectors (work_left_inside m piece))) v.device.history new.history (step.unchanged backed.tells) (now_within v piece backed);
-        backed = λ backed. backed_worked v js v.work.area new step.unchanged step.same_lasting (λ running before. sound backed before) backed;
+        backed = λ backed. backed_moved v js v.work.next_table v.work.area new step.unchanged step.same_lasting (λ runs. sound backed runs.sound) backed;
       }
 
   -- ---- where the tables of the job stand
@@ -196,7 +196,7 @@ module _ (v : StoreView) (job : ℕ) (new : Medium) (running : IsNone v.state.st
 
       pub read_done : Works v piece (Plain (Number left)) (on_new js)
       read_done =
-          works_step now_being true step (Plain (Number left)) js answer_is (λ backed. answer_is) refl work_is refl
+          works_step now_being true step (Plain (Number left)) js answer_is (λ backed. answer_is) refl (record { others = refl; reads = read; kept = work_is }) refl
           (λ backed sound. subst (λ (w : WorkView). IsSound (record { state = v.state; work = w })) (sym (work_is backed)) (read_sound m sound job))
 
     -- ---- it was refused
@@ -229,13 +229,13 @@ module _ (v : StoreView) (job : ℕ) (new : Medium) (running : IsNone v.state.st
         read_want : IsReadStep (held m job) true v.device new → Works v piece (Plain (Refused NoMemory)) (on_new v.work.jobs)
         read_want step =
             let may = ap is_some (none being) in
-            works_step being true step (Plain (Refused NoMemory)) v.work.jobs may (λ backed. may) refl (λ told. refl) refl (λ backed sound. sound)
+            works_step being true step (Plain (Refused NoMemory)) v.work.jobs may (λ backed. may) refl refl refl (λ backed sound. sound)
 
         read_io : 0 < to_read (held m job) → IsReadStep (held m job) false v.device new → Works v piece (Plain (Refused Io)) (on_new v.work.jobs)
         read_io some step =
             let still = fault_by m piece (work_use m piece) (no_changes being) in
             let may : WorkAllows m piece (Plain (Refused Io)) = (ap is_some (none being), λ alone. no_reads (reads_here some) (sym (uses being) ∙ alone)) in
-            works_step being false step (Plain (Refused Io)) v.work.jobs may (λ backed. may) (ap (λ (x : WorkMachine). x.state) still) (λ told. sym (ap (λ (x : WorkMachine). x.work) still)) refl (λ backed sound. sound)
+            works_step being false step (Plain (Refused Io)) v.work.jobs may (λ backed. may) (ap (λ (x : WorkMachine). x.state) still) (sym (ap (λ (x : WorkMachine). x.work) still)) refl (λ backed sound. sound)
           where
             reads_here : 0 < to_read (held m job) → is_whole being ≡ false
             reads_here some = let same = ap to_read being.is ∙ reads_left being.slot.stage being.reading in ne_eqb (left_at being.slot.stage) 0 (λ zero. omega (arith, some, same, zero))
@@ -247,7 +247,7 @@ module _ (v : StoreView) (job : ℕ) (new : Medium) (running : IsNone v.state.st
             → Works v piece (Plain (Refused BadTable)) (on_new v.work.jobs)
         read_bad bad step =
             works_step being true step (Plain (Refused BadTable)) v.work.jobs (ap is_some (none being), refl)
-            (λ backed. absurd (never_bad_law (data_start v) v.device being.slot (stored being backed) (bad being.slot backed.tells being.is))) refl (λ told. refl) refl (λ backed sound. sound)
+            (λ backed. absurd (never_bad_law (data_start v) v.device being.slot (stored being backed) (bad being.slot backed.tells being.is))) refl refl refl (λ backed sound. sound)
 
       -- The refusals of a step, each with what it tells.
       abbrev pub IsWhy : Bool → Type 0
@@ -272,20 +272,20 @@ err_of_number e = Err e
 err_same : (a b : Refusal) → err_of_number a ≡ err_of_number b → a ≡ b
 err_same a b e = cc
 
-pub read_works : (v : StoreView) (job : ℕ) (new : Medium) → IsNone v.state.stopped → AreUnwritten v.work.jobs.slots → (area : ℕ) → area ≡ data_start v → (r : Result ℕ Refusal) (js : JobSlots)
+pub read_works : (v : StoreView) (job : ℕ) (new : Medium) → IsNone v.state.stopped → AreReadAsMerges v.work.jobs.slots → (area : ℕ) → area ≡ data_start v → (r : Result ℕ Refusal) (js : JobSlots)
     → IfOk r (λ left. JobReadsOn area v.device job left v.work.jobs js) → (r ≡ Err NoSuchJob) ↔ (slot_of job v.work.jobs.slots ≡ None) → (r ≡ Err WrongState) ↔ (is_not_at is_reading (slot_of job v.work.jobs.slots) ≡ true)
     → (IsTrue v.device.lasting.tells → r ≡ Err BadTable → (slot : Slot) → slot_of job v.work.jobs.slots ≡ Some slot → IsBadNext area v.device slot)
     → IfErr r (λ e. (e ≡ NoSuchJob) ⊎ ((e ≡ WrongState) ⊎ ((e ≡ Io) ⊎ ((e ≡ BadTable) ⊎ (e ≡ NoMemory))))) → OnErr r (js ≡ v.work.jobs)
     → new.calls.faults ≡ faults_after (faultless r) v.device.calls.faults → (r ≡ Err Io → 0 < to_read (slot_of job v.work.jobs.slots)) → AtMost (8 * min 8 (to_read (slot_of job v.work.jobs.slots))) 0 0 v.device.calls new.calls
     → (to_read (slot_of job v.work.jobs.slots) ≡ 0 → new ≡ v.device) → (IsTrue v.device.lasting.tells → new.history ≡ v.device.history) → new.size ≡ v.device.size → new.lasting ≡ v.device.lasting
     → Works v (Read job) (work_reply_of (λ left. Plain (Number left)) r) (worked_on v js v.work.area new)
-read_works v job new running unwritten area at_area (Ok left) js reads absent wrong bad refused same faults some calls untouched unchanged size lasting =
-    read_done v job new running (λ slot is reading. (unwritten_at job v.work.jobs.slots slot unwritten is).1 reading) left js
+read_works v job new running merges area at_area (Ok left) js reads absent wrong bad refused same faults some calls untouched unchanged size lasting =
+    read_done v job new running (λ slot is reading. merges_at job v.work.jobs.slots slot merges is reading) left js
     (subst (λ (n : ℕ). JobReadsOn n v.device job left v.work.jobs js) at_area reads)
     (record { calls = calls; untouched = untouched; unchanged = unchanged; faults = faults; same_size = size; same_lasting = lasting })
-read_works v job new running unwritten area at_area (Err e) js reads absent wrong bad refused same faults some calls untouched unchanged size lasting =
+read_works v job new running merges area at_area (Err e) js reads absent wrong bad refused same faults some calls untouched unchanged size lasting =
     subst (λ (x : JobSlots). Works v (Read job) (Plain (Refused e)) (worked_on v x v.work.area new)) (sym same)
-    (read_refused v job new running (λ slot is reading. (unwritten_at job v.work.jobs.slots slot unwritten is).1 reading) e
+    (read_refused v job new running (λ slot is reading. merges_at job v.work.jobs.slots slot merges is reading) e
     (λ is. absent.0 (ap err_of_number is), λ is. err_same e NoSuchJob (absent.1 is))
     (λ is. wrong.0 (ap err_of_number is), λ is. err_same e WrongState (wrong.1 is))
     refused (λ is. some (ap err_of_number is))

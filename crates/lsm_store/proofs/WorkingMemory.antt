@@ -1,5 +1,5 @@
 -- The memory of a store whose jobs go on.
-use Rattle.std.proofs.Common.{◌≡◌, ℕ, zero, suc, ◌==◌, ◌∷◌, ◌++◌, Bool, true, false, cond, not, nat_le, List, [], length, map, Option, Some, None, is_some, refl, sym, ◌∙◌, ap, subst, arith}
+use Rattle.std.proofs.Common.{◌≡◌, ℕ, zero, suc, ◌+◌, ◌==◌, ◌∷◌, ◌++◌, Bool, true, false, cond, not, nat_le, List, [], length, map, Option, Some, None, is_some, refl, sym, ◌∙◌, ap, subst, arith}
 use Rattle.std.specs.Prelude.{option_map, Result, Ok, Err, IfOk, OnOk, OnErr}
 use Rattle.std.specs.List.{AllByRecursion}
 use Rattle.std.specs.Arc.{arc_value}
@@ -9,10 +9,13 @@ use Rattle.lsm_codec.specs.Versions.{Version, IsEntry}
 use Rattle.lsm_codec.specs.declared.log_record.LogRecord.{LogRecord}
 use Rattle.lsm_device.specs.Medium.{Medium}
 use Rattle.lsm_device.specs.declared.refusal.Refusal.{Refusal}
-use Rattle.lsm_extent.specs.Area.{Area}
+use Rattle.lsm_extent.specs.Area.{Area, IsPartition}
 use Rattle.lsm_levels.specs.Held.{AreRuns}
 use Rattle.lsm_jobs.specs.Reading.{JobCanBeRead, JobReadsOn}
-use Rattle.lsm_jobs.specs.Slots.{JobSlots, with_held}
+use Rattle.lsm_jobs.specs.Outputs.{placed_blocks}
+use Rattle.lsm_jobs.specs.Placing.{all_given_back, AreHandedOut, IsAccepted}
+use Rattle.lsm_jobs.specs.Slots.{Writing, JobSlots, slot_of, with_held, outputs_of}
+use Rattle.lsm_table.specs.Division.{TableBlocks}
 use Rattle.lsm_jobs.specs.Taking.{given_job, sealed_versions, with_taken}
 use Rattle.lsm_jobs.specs.declared.taking.TakenJob.{TakenJob}
 use Rattle.lsm_open.specs.RecoveredTables.{sealed_versions as sealed_of}
@@ -24,16 +27,17 @@ use Rattle.lsm_store.specs.LiveMarks.{marks}
 use Rattle.lsm_store.specs.Memory.{AreConsistent, HaveTables, IsInside, mark_of, state_of, work_of}
 use Rattle.lsm_store.specs.Work.{each_once, cuts_of}
 use Rattle.lsm_store.specs.State.{are_waiting}
-use Rattle.lsm_merge.specs.Inputs.{IsCuts}
+use Rattle.lsm_merge.specs.Inputs.{IsCuts, MergeInput}
 use Rattle.lsm_store.proofs.Cuts.{cuts_law, counts_are}
-use Rattle.lsm_store.proofs.HeldTables.{job_can_be_read, dropped_tables, read_tables, taken_tables}
+use Rattle.lsm_store.proofs.Accounts.{accounts_law}
+use Rattle.lsm_store.proofs.HeldTables.{job_can_be_read, dropped_tables, placed_tables, read_tables, taken_tables}
 use Rattle.lsm_store.proofs.TableLimits.{records_counted}
 
 module _ {A : Type 0} (m : Memory A) (kept : AreConsistent m) where
   abbrev pub with_jobs : JobSlots → Area → Memory A
   with_jobs js extents = record m { jobs = js; extents = extents }
 
-  pub jobs_kept : (js : JobSlots) (extents : Area) → HaveTables m.levels js → AreConsistent (with_jobs js extents)
+  pub jobs_kept : (js : JobSlots) (extents : Area) → HaveTables m.levels js extents → AreConsistent (with_jobs js extents)
   jobs_kept js extents are = record {
     synced = kept.synced;
     count = kept.count;
@@ -43,7 +47,12 @@ module _ {A : Type 0} (m : Memory A) (kept : AreConsistent m) where
     current = λ runs. let is = kept.current runs in record { numbered = is.numbered; opened = is.opened; tabled = is.tabled };
     taking = kept.taking;
     jobs = are;
+    next = kept.next;
   }
+
+  -- where they are what they were
+  same_kept : (js : JobSlots) (extents : Area) → js ≡ m.jobs → extents ≡ m.extents → AreConsistent (with_jobs js extents)
+  same_kept js extents same back = jobs_kept js extents (subst (λ (x : JobSlots). HaveTables m.levels x extents) (sym same) (subst (HaveTables m.levels m.jobs) (sym back) kept.jobs))
 
   -- each job can be read
   pub can_be_read : (size job : ℕ) → AreRuns m.levels → IsInside size m → JobCanBeRead size (first_data m.regions.log_sectors) job m.jobs.slots
@@ -52,27 +61,50 @@ module _ {A : Type 0} (m : Memory A) (kept : AreConsistent m) where
       (omega (arith, inside.manifest.numbers.tables, records_counted m.levels))
 
   -- a job was given up
-  pub dropped_kept : (job : ℕ) (r : Result (Unit {0}) Refusal) (js : JobSlots) (extents : Area) → OnOk r (js ≡ record { next = m.jobs.next; slots = with_held job None m.jobs.slots }) → OnErr r ((js ≡ m.jobs) × (extents ≡ m.extents))
-      → AreConsistent (with_jobs js extents)
-  dropped_kept job (Ok x) js extents freed same =
-      let are = dropped_tables m.levels job m.jobs kept.jobs.kept kept.jobs.unwritten in
-      jobs_kept js extents (subst (HaveTables m.levels) (sym freed) (record { kept = are.0; unwritten = are.1 }))
-  dropped_kept job (Err e) js extents freed same = jobs_kept js extents (subst (HaveTables m.levels) (sym same.0) kept.jobs)
+  pub dropped_kept : (job : ℕ) (r : Result (Unit {0}) Refusal) (js : JobSlots) (extents : Area) → IsPartition m.extents → OnOk r (js ≡ record { next = m.jobs.next; slots = with_held job None m.jobs.slots })
+      → OnOk r (extents ≡ all_given_back (outputs_of (slot_of job m.jobs.slots)) m.extents) → OnErr r ((js ≡ m.jobs) × (extents ≡ m.extents)) → AreConsistent (with_jobs js extents)
+  dropped_kept job (Ok x) js extents whole freed back same =
+      jobs_kept js extents (subst (λ (x : JobSlots). HaveTables m.levels x extents) (sym freed) (subst (HaveTables m.levels (record { next = m.jobs.next; slots = with_held job None m.jobs.slots })) (sym back) (dropped_tables (work_of m) job kept.jobs whole)))
+  dropped_kept job (Err e) js extents whole freed back same = same_kept js extents same.0 same.1
+
+  -- what it has placed may be given back
+  pub outputs_held : (job : ℕ) → IsPartition m.extents → AreHandedOut (outputs_of (slot_of job m.jobs.slots)) m.extents
+  outputs_held job whole = accounts_law.outputs (work_of m) job (record { each = kept.jobs.accounted }) whole
 
   -- blocks of a job were read
   pub read_kept : (area job : ℕ) (medium : Medium) (r : Result ℕ Refusal) (js : JobSlots) → IfOk r (λ left. JobReadsOn area medium job left m.jobs js) → OnErr r (js ≡ m.jobs) → AreConsistent (with_jobs js m.extents)
-  read_kept area job medium (Ok left) js read same =
-      let are = read_tables m.levels area job left medium m.jobs js kept.jobs.kept kept.jobs.unwritten read in
-      jobs_kept js m.extents (record { kept = are.0; unwritten = are.1 })
-  read_kept area job medium (Err e) js read same = jobs_kept js m.extents (subst (HaveTables m.levels) (sym same) kept.jobs)
+  read_kept area job medium (Ok left) js read same = jobs_kept js m.extents (read_tables (work_of m) area job left medium js kept.jobs read)
+  read_kept area job medium (Err e) js read same = same_kept js m.extents same refl
 
   -- a job was taken, or none
   pub take_kept : (waiting : Bool) (sealed : List Version) (cuts : List ℕ) (r : Result (Option TakenJob) Refusal) (js : JobSlots) → AreRuns m.levels
       → OnOk r (js ≡ with_taken sealed cuts m.levels (given_job waiting m.levels m.jobs.slots) m.jobs) → OnErr r (js ≡ m.jobs) → AreConsistent (with_jobs js m.extents)
   take_kept waiting sealed cuts (Ok taken) js runs moved same =
-      let are = taken_tables waiting m.levels sealed cuts m.jobs runs kept.jobs.kept kept.jobs.unwritten in
-      jobs_kept js m.extents (subst (HaveTables m.levels) (sym moved) (record { kept = are.0; unwritten = are.1 }))
-  take_kept waiting sealed cuts (Err e) js runs moved same = jobs_kept js m.extents (subst (HaveTables m.levels) (sym same) kept.jobs)
+      jobs_kept js m.extents (subst (λ (x : JobSlots). HaveTables m.levels x m.extents) (sym moved) (taken_tables waiting m.levels sealed cuts m.jobs runs m.extents kept.jobs))
+  take_kept waiting sealed cuts (Err e) js runs moved same = same_kept js m.extents same refl
+
+  -- a result was accepted
+  pub accepted_kept : (job next : ℕ) (input : MergeInput) (images : List TableBlocks) (js : JobSlots) (extents : Area) → next ≡ m.next_table + length images → IsAccepted job m.next_table input images m.extents extents m.jobs js
+      → AreConsistent (record m { jobs = js; extents = extents; next_table = next })
+  accepted_kept job next input images js extents counted is =
+      let is_kept = jobs_kept js extents (subst (λ (x : JobSlots). HaveTables m.levels x extents) (sym is.staged)
+      (subst (HaveTables m.levels (record { next = m.jobs.next; slots = with_held job (Some (record is.slot { stage = Writing is.tables (length (placed_blocks is.tables)) })) m.jobs.slots })) (sym is.placing.taken)
+      (placed_tables (work_of m) job is.slot is.tables kept.jobs is.found is.frozen))) in
+      record {
+        synced = is_kept.synced;
+        count = is_kept.count;
+        snapshots = is_kept.snapshots;
+        numbers = is_kept.numbers;
+        agrees = is_kept.agrees;
+        current = λ runs. let current = is_kept.current runs in record { numbered = current.numbered; opened = current.opened; tabled = current.tabled };
+        taking = is_kept.taking;
+        jobs = is_kept.jobs;
+        next = record { low = omega (arith, kept.next.low, counted); high = omega (arith, is.numbers, counted) };
+      }
+
+  -- or refused
+  pub unaccepted_kept : (js : JobSlots) (extents : Area) → (js ≡ m.jobs) × (extents ≡ m.extents) → AreConsistent (with_jobs js extents)
+  unaccepted_kept js extents same = same_kept js extents same.0 same.1
 
   -- ---- what waits for a flush
 

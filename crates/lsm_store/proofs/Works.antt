@@ -1,5 +1,5 @@
 -- What pieces of work do that leave the device as it was, or only read it.
-use Rattle.std.proofs.Common.{◌≡◌, ◌≢◌, Bool, true, false, cond, [], ◌∷◌, Some, None, is_some, refl, sym, ◌∙◌, ap, subst, IsTrue}
+use Rattle.std.proofs.Common.{◌≡◌, ℕ, ◌≢◌, Bool, true, false, cond, [], ◌∷◌, Some, None, is_some, refl, sym, ◌∙◌, ap, subst, IsTrue}
 use Rattle.std.specs.Prelude.{Option, IsNone}
 use Rattle.std.proofs.lemmas.List.Elements.{Contains-append_left}
 use Rattle.lsm_cache.specs.Fresh.{IsFresh}
@@ -23,13 +23,14 @@ use Rattle.lsm_store.specs.Calls.{Refused}
 use Rattle.lsm_store.specs.Crash.{may_leave, last_crash_state}
 use Rattle.lsm_store.specs.Effects.{Use}
 use Rattle.lsm_store.specs.Effects.{Untouched, Reads, Changes}
+use Rattle.lsm_store.specs.InstalledJobs.{AreSealedIn, AreLoggedIn}
 use Rattle.lsm_store.specs.Refusals.{first_refusal}
 use Rattle.lsm_store.specs.StoredTables.{IsStoredIn}
 use Rattle.lsm_store.specs.Work.{WorkMachine, Work, Take, Read, Ask, Accept, Write, Install, Drop, WorkReply, Plain}
 use Rattle.lsm_store.specs.WorkEffects.{work_after, state_after, work_use}
 use Rattle.lsm_store.specs.WorkRefusals.{work_refusals, running_refusal, work_refusal}
 use Rattle.lsm_store.specs.WorkSound.{IsSound}
-use Rattle.lsm_store.specs.Working.{is_faultless_work, work_reply_by, WorkAllows, WorkAdmits, work_left_inside, next_worked, work_use_before, work_use_by, IsWorkUsed, Works}
+use Rattle.lsm_store.specs.Working.{is_faultless_work, work_reply_by, WorkAllows, WorkAdmits, work_left_inside, next_worked, work_use_before, work_use_by, IsWorkUsed, Works, WorksTo}
 use Rattle.lsm_store.proofs.Backed.{place_in}
 use Rattle.lsm_store.proofs.Running.{IsDecided, first_decided}
 use Rattle.lsm_store.proofs.Serving.{untouched_no_change}
@@ -116,30 +117,37 @@ want_still m piece may = record { allowed = may; still = record { admitted = may
 
 -- ---- the store with other jobs
 
-module _ (v : StoreView) (js : JobSlots) (area : Area) (new : Medium) where
-  abbrev pub worked_on : StoreView
-  worked_on = record v { device = new; work = record v.work { jobs = js; area = area } }
+module _ (v : StoreView) (js : JobSlots) (number : ℕ) (area : Area) (new : Medium) where
+  -- and another number of the next table
+  abbrev pub moved_on : StoreView
+  moved_on = record v { device = new; work = record v.work { jobs = js; next_table = number; area = area } }
 
   module _ (same : IsTrue v.device.lasting.tells → new.history ≡ v.device.history) (lasting : new.lasting ≡ v.device.lasting) where
     same_disk : IsTrue v.device.lasting.tells → disk v.device ≡ disk new
     same_disk tells = sym (ap present (same tells))
 
-    runs_worked : IsTrue v.device.lasting.tells → IsSound (work_machine_of worked_on) → IsRunOn v → IsRunOn worked_on
-    runs_worked tells sound runs = record {
+    runs_moved : IsTrue v.device.lasting.tells → IsSound (work_machine_of moved_on) → IsRunOn v → IsRunOn moved_on
+    runs_moved tells sound runs = record {
       stored = subst (λ (d : Disk). IsStoredIn (placement_of v) v.state d) (same_disk tells) runs.stored;
       sound = sound;
+      sealed = subst (λ (d : Disk). AreSealedIn (placement_of v) (seen d) v.work.sealed) (same_disk tells) runs.sealed;
+      logged = subst (λ (d : Disk). AreLoggedIn (placement_of v) (seen d) v.work.memory) (same_disk tells) runs.logged;
       tables = subst (λ (d : Disk). AreStored (seen d) (data_start v) (places v.work.levels)) (same_disk tells) runs.tables;
       apart = runs.apart;
       fresh = subst (λ (d : Disk). IsFresh (place_in v) (seen d) v.cache) (same_disk tells) runs.fresh;
     }
 
-    pub backed_worked : (IsNone v.state.stopped → IsSound (work_machine_of v) → IsSound (work_machine_of worked_on)) → IsBacked v → IsBacked worked_on
-    backed_worked goes backed = record {
+    pub backed_moved : (IsRunOn v → IsSound (work_machine_of moved_on)) → IsBacked v → IsBacked moved_on
+    backed_moved goes backed = record {
       tells = subst (λ (l : Lasting). IsTrue l.tells) (sym lasting) backed.tells;
       crashes = subst (λ (d : Disk). Leaves (StandForOne v.state.log_sectors (may_leave v.state)) d) (same_disk backed.tells) backed.crashes;
       reads = λ running. subst (λ (d : Disk). StandFor v.state.log_sectors (last_crash_state v.state) (seen d)) (same_disk backed.tells) (backed.reads running);
-      runs = λ running. let runs = backed.runs running in runs_worked backed.tells (goes running runs.sound) runs;
+      runs = λ running. let runs = backed.runs running in runs_moved backed.tells (goes runs) runs;
     }
+
+-- with other jobs alone
+abbrev pub worked_on : StoreView → JobSlots → Area → Medium → StoreView
+worked_on v js area new = moved_on v js v.work.next_table area new
 
 -- ---- one piece
 
@@ -156,12 +164,12 @@ module _ (v : StoreView) (piece : Work) where
   m = work_machine_of v
 
   -- one that leaves the store as it was
-  pub works_still : (reply : WorkReply) → IsStill m piece reply → (IsBacked v → WorkAllows m piece reply) → Works v piece reply v
-  works_still reply still allowed = record {
+  pub works_still : (reply : WorkReply) → IsStill m piece reply → WorksTo reply v piece v.work → (IsBacked v → WorkAllows m piece reply) → Works v piece reply v
+  works_still reply still worked allowed = record {
     admitted = still.admitted;
     allowed = allowed;
     state = ap (λ (x : WorkMachine). x.state) (sym still.next);
-    worked = λ told. ap (λ (x : WorkMachine). x.work) (sym still.next);
+    worked = worked;
     same_cache = refl;
     used = unused piece (work_use_by m piece reply) v.device still.unchanging;
     fault = ap (λ (b : Bool). faults_after b v.device.calls.faults) (sym still.faultless);
@@ -172,10 +180,10 @@ module _ (v : StoreView) (piece : Work) where
   }
 
   pub works_refused : (e : Refusal) → work_refusal m piece ≡ Some e → Works v piece (Plain (Refused e)) v
-  works_refused e is = let goes = refused_still m piece e is in works_still (Plain (Refused e)) goes.still (λ backed. goes.allowed)
+  works_refused e is = let goes = refused_still m piece e is in works_still (Plain (Refused e)) goes.still (ap (λ (x : WorkMachine). x.work) (sym goes.still.next)) (λ backed. goes.allowed)
 
   pub works_want : WorkAllows m piece (Plain (Refused NoMemory)) → Works v piece (Plain (Refused NoMemory)) v
-  works_want may = let goes = want_still m piece may in works_still (Plain (Refused NoMemory)) goes.still (λ backed. goes.allowed)
+  works_want may = let goes = want_still m piece may in works_still (Plain (Refused NoMemory)) goes.still refl (λ backed. goes.allowed)
 
 -- What is known of an answer to a piece that nothing refuses, and that has no hand on the device.
 pub record IsAnsweredAlone (m : WorkMachine) (piece : Work) (reply : WorkReply) : Type 0 where
@@ -190,27 +198,26 @@ pub none_used : (b : Bool) (reply : WorkReply) → cond b Untouched (work_use_be
 none_used true reply changes = untouched_no_change changes
 none_used false reply changes = untouched_no_change changes
 
-module _ (v : StoreView) (piece : Work) (js : JobSlots) (area : Area) (reply : WorkReply) (answer : IsAnsweredAlone (work_machine_of v) piece reply)
-    (is : record v.work { jobs = js; area = area } ≡ work_after (work_machine_of v) piece) where
+module _ (v : StoreView) (piece : Work) (js : JobSlots) (number : ℕ) (area : Area) (reply : WorkReply) (answer : IsAnsweredAlone (work_machine_of v) piece reply)
+    (is : record v.work { jobs = js; next_table = number; area = area } ≡ work_after (work_machine_of v) piece) where
   none_changed : work_use_by (work_machine_of v) piece reply ≢ Changes
   none_changed changes =
       none_used (is_some (work_refusal (work_machine_of v) piece)) reply
       (sym (ap (λ (u : Use). cond (is_some (work_refusal (work_machine_of v) piece)) Untouched (work_use_before u reply)) answer.alone) ∙ changes)
 
   -- one that changes the jobs alone
-  pub works_moved : (IsNone v.state.stopped → IsSound (work_machine_of v) → IsSound (record { state = state_after (work_machine_of v) piece; work = work_after (work_machine_of v) piece }))
-      → Works v piece reply (worked_on v js area v.device)
-  works_moved sound = record {
+  pub works_moved : WorksTo reply v piece (record v.work { jobs = js; next_table = number; area = area }) → (IsRunOn v → IsSound (record { state = state_after (work_machine_of v) piece; work = work_after (work_machine_of v) piece }))
+      → Works v piece reply (moved_on v js number area v.device)
+  works_moved worked sound = record {
     admitted = answer.admitted;
     allowed = λ backed. answer.allowed;
     state = sym answer.state ∙ sym (ap (λ (x : WorkMachine). x.state) answer.next);
-    worked = λ told. is ∙ sym (ap (λ (x : WorkMachine). x.work) answer.next);
+    worked = worked;
     same_cache = refl;
     used = unused piece (work_use_by (work_machine_of v) piece reply) v.device none_changed;
     fault = ap (λ (b : Bool). faults_after b v.device.calls.faults) (sym answer.faultless);
     same_size = refl;
     same_lasting = refl;
     crash = λ backed. unchanged (Leaves (StandForOne v.state.log_sectors (work_left_inside (work_machine_of v) piece))) v.device.history v.device.history refl (now_within v piece backed);
-    backed = backed_worked v js area v.device (λ tells. refl) refl
-        (λ running before. subst IsSound (λ i. record { state = answer.state i; work = sym is i }) (sound running before));
+    backed = backed_moved v js number area v.device (λ tells. refl) refl (λ runs. subst IsSound (λ i. record { state = answer.state i; work = sym is i }) (sound runs));
   }

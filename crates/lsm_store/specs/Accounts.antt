@@ -4,10 +4,9 @@ use Rattle.std.specs.List.{AllByRecursion, list_any}
 use Rattle.lsm_codec.specs.Versions.{Version}
 use Rattle.lsm_extent.specs.declared.extent.Extent.{Extent}
 use Rattle.lsm_extent.specs.Area.{Area, IsPartition, covers, is_held}
-use Rattle.lsm_levels.specs.Tables.{Table, table_at}
+use Rattle.lsm_levels.specs.Tables.{Table}
 use Rattle.lsm_levels.specs.Levels.{Levels, all_tables, places}
 use Rattle.lsm_levels.specs.Held.{AreRuns}
-use Rattle.lsm_levels.specs.Stored.{AreStored}
 use Rattle.lsm_jobs.specs.Keeping.{AreKept}
 use Rattle.lsm_jobs.specs.Placing.{extent_of, AreHandedOut}
 use Rattle.lsm_jobs.specs.Slots.{Slots, slot_of, inputs_of, outputs_of}
@@ -64,15 +63,10 @@ pub record AccountsLaw : Type 0 where
   pub outputs : (w : WorkView) (job : ℕ) → AreAccounted w → IsPartition w.area → AreHandedOut (outputs_of (slot_of job w.jobs.slots)) w.area
   pub inputs : (w : WorkView) (job : ℕ) → AreAccounted w → IsPartition w.area → AreRuns w.levels → AreKept w.levels w.jobs.next w.jobs.slots → AreHandedOut (inputs_of (slot_of job w.jobs.slots)) w.area
 
--- each table is that of its outline
-abbrev pub AreOutlined : List Table → Type 0
-AreOutlined tables = AllByRecursion (λ t. t ≡ table_at t.outline t.start t.versions) tables
-
--- Just the extents of tables are handed out after an opening, where each is that of its outline, as are all that stand. Each piece
--- of work that nothing refuses keeps it so, each call, and a rotation.
+-- Just the extents of tables are handed out after an opening. Each piece of work that nothing refuses keeps it so, each call,
+-- and a rotation.
 pub record AccountedLaw : Type 0 where
-  pub outlined : (sectors : List (List ℕ)) (area : ℕ) (levels : Levels) → AreStored sectors area (places levels) → AreOutlined (all_tables (places levels))
-  pub opened : (size count : ℕ) (p : Placement) (sealed : Option (List Version)) (levels : Levels) (extents : Area) → AreWithinLimits size p count sealed levels extents → AreOutlined (all_tables (places levels)) → IsPartition extents
+  pub opened : (size count : ℕ) (p : Placement) (sealed : Option (List Version)) (levels : Levels) (extents : Area) → AreWithinLimits size p count sealed levels extents → IsPartition extents
       → AreAccounted (opened_work p sealed levels extents)
   pub worked : (m : WorkMachine) (work : Work) → AreAccounted m.work → IsPartition m.work.area → AreRuns m.work.levels → AreKept m.work.levels m.work.jobs.next m.work.jobs.slots → running_refusal m work ≡ None → AreAccounted (work_after m work)
   pub called : (m : WorkMachine) (call : Call) → AreAccounted m.work → AreAccounted (work_called m call)

@@ -1,5 +1,5 @@
 -- What jobs place, and what an install of a job's outputs makes of the tables that a manifest names.
-use Rattle.std.specs.Prelude.{◌≡◌, ◌≢◌, ◌<◌, ℕ, zero, suc, ◌-◌, min, List, [], ◌∷◌, ◌++◌, length, map, filter, take, drop, All, Option, Some, None}
+use Rattle.std.specs.Prelude.{◌≡◌, ◌≢◌, ◌<◌, ℕ, zero, suc, ◌+◌, ◌-◌, min, List, [], ◌∷◌, ◌++◌, length, map, filter, take, drop, All, Option, Some, None}
 use Rattle.lsm_codec.specs.Pairs.{Pairwise}
 use Rattle.lsm_codec.specs.Versions.{Version}
 use Rattle.lsm_codec.specs.declared.table_record.TableRecord.{TableRecord}
@@ -10,6 +10,7 @@ use Rattle.lsm_levels.specs.Tables.{Table, KeyRange, record_of, hull, is_below, 
 use Rattle.lsm_jobs.specs.Pieces.{sectors_of, sector_count, written_of}
 use Rattle.lsm_jobs.specs.Slots.{Slot, Slots, with_held, outputs_at, left_at}
 use Rattle.lsm_mem.specs.EntryOrder.{with_batches}
+use Rattle.lsm_open.specs.Layout.{open_batches}
 use Rattle.lsm_open.specs.Placements.{Placement, closed_in}
 use Rattle.lsm_open.specs.Switching.{flushed, merged, Parts, with_outputs}
 use Rattle.lsm_open.specs.ToldTables.{records_of_runs, records_of_levels}
@@ -58,6 +59,10 @@ pub record HaveNumbers (next_table : ℕ) (p : Placement) (placed : List PlacedT
 -- sealed versions are those of the batches in the closed regions
 abbrev pub AreSealedIn : Placement → List (List ℕ) → List Version → Type 0
 AreSealedIn p sectors sealed = sealed ≡ with_batches p.logs.base (closed_in p sectors) []
+
+-- versions in memory are those of the batches of the open log, numbered behind those in the closed regions
+abbrev pub AreLoggedIn : Placement → List (List ℕ) → List Version → Type 0
+AreLoggedIn p sectors memory = memory ≡ with_batches (p.logs.base + length (closed_in p sectors)) (open_batches p.logs.open_region sectors) []
 
 -- ---- the parts of a manifest's list around a merge
 

@@ -1,5 +1,5 @@
 -- What a piece of work answers that nothing refuses, and what it leaves.
-use Rattle.std.specs.Prelude.{ℕ, ◌+◌, ◌-◌, ◌==◌, Bool, true, false, List, [], length, Option, Some, None, option_map, if◌then◌else◌}
+use Rattle.std.specs.Prelude.{ℕ, ◌+◌, ◌-◌, ◌==◌, Bool, List, [], length, Option, Some, None, option_map, if◌then◌else◌}
 use Rattle.lsm_mem.specs.EntryOrder.{with_batch}
 use Rattle.lsm_levels.specs.Tables.{Table}
 use Rattle.lsm_levels.specs.Pick.{inputs, is_flush, installed as installed_levels}

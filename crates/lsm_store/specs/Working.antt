@@ -1,11 +1,12 @@
 -- What a store replies to a piece of work on its jobs, and what that does to it.
-use Rattle.std.specs.Prelude.{◌≡◌, ◌≢◌, ◌⊎◌, Bool, true, false, is_some, List, [], ◌∷◌, ◌++◌, Option, Some, None, IsNone, IsTrue, option_map, Result, Ok, Err, if◌then◌else◌}
+use Rattle.std.specs.Prelude.{◌≡◌, ◌≢◌, ◌⊎◌, ℕ, Bool, true, false, is_some, List, [], ◌∷◌, ◌++◌, Option, Some, None, IsNone, IsTrue, option_map, Result, Ok, Err, if◌then◌else◌}
 use Rattle.lsm_device.specs.Calls.{AtMost, faults_after}
 use Rattle.lsm_device.specs.History.{EachSince}
 use Rattle.lsm_device.specs.Medium.{Medium}
 use Rattle.lsm_device.specs.Outcomes.{Leaves}
 use Rattle.lsm_device.specs.declared.refusal.Refusal.{Refusal}
 use Rattle.lsm_device.specs.declared.refusal.Refusal.TheVariants.{NoMemory, Io, BadTable, NoSpace}
+use Rattle.lsm_jobs.specs.Reading.{JobReadsOn}
 use Rattle.lsm_jobs.specs.declared.taking.TakenJob.{TakenJob}
 use Rattle.lsm_open.specs.CrashState.{CrashState}
 use Rattle.lsm_open.specs.RecoveredTables.{StandForOne}
@@ -13,9 +14,9 @@ use Rattle.lsm_store.specs.Calls.{Number, Refused}
 use Rattle.lsm_store.specs.Effects.{Use}
 use Rattle.lsm_store.specs.Effects.{Untouched, Reads, Changes}
 use Rattle.lsm_store.specs.Crash.{may_leave, last_crash_state}
-use Rattle.lsm_store.specs.Backing.{StoreView, IsBacked, work_machine_of}
+use Rattle.lsm_store.specs.Backing.{StoreView, IsBacked, data_start, work_machine_of}
 use Rattle.lsm_store.specs.Serving.{is_faultless, IsOnlyRead}
-use Rattle.lsm_store.specs.Work.{WorkMachine, Work, Take, Read, Ask, Accept, Write, Install, Drop, WorkReply, Plain, Given, Handed}
+use Rattle.lsm_store.specs.Work.{WorkView, WorkMachine, Work, Take, Read, Ask, Accept, Write, Install, Drop, WorkReply, Plain, Given, Handed}
 use Rattle.lsm_store.specs.WorkRefusals.{job_given, work_refusal}
 use Rattle.lsm_store.specs.WorkEffects.{work_answer, work_after, state_after, work_use}
 
@@ -128,10 +129,17 @@ IsWorkUsed piece Changes old new = IsChangedBy piece old new
 
 -- ---- one piece of work
 
--- What tells the work after a reply: memory, but what a step of reading has read is the device's.
-abbrev pub IsTold : StoreView → Work → WorkReply → Type 0
-IsTold old (Read job) (Plain (Number left)) = IsBacked old
-IsTold old piece reply = Unit {0}
+-- A step of reading that was answered goes on with what the device holds, and changes nothing else of the work. Where the
+-- device backs the state, that is what the job was taken with.
+pub record ReadsTo (old : StoreView) (job left : ℕ) (new : WorkView) : Type 0 where
+  pub others : new ≡ record old.work { jobs = new.jobs }
+  pub reads : JobReadsOn (data_start old) old.device job left old.work.jobs new.jobs
+  pub kept : IsBacked old → new ≡ work_after (work_machine_of old) (Read job)
+
+-- The work after a reply: memory tells it, but for what a step of reading has read.
+abbrev pub WorksTo : WorkReply → StoreView → Work → WorkView → Type 0
+WorksTo (Plain (Number left)) old (Read job) new = ReadsTo old job left new
+WorksTo reply old piece new = new ≡ (next_worked (work_machine_of old) piece reply).work
 
 -- What one piece of work does.
 pub record Works (old : StoreView) (piece : Work) (reply : WorkReply) (new : StoreView) : Type 0 where
@@ -140,7 +148,7 @@ pub record Works (old : StoreView) (piece : Work) (reply : WorkReply) (new : Sto
   pub allowed : IsBacked old → WorkAllows (work_machine_of old) piece reply
   -- the machine goes on by the reply
   pub state : new.state ≡ (next_worked (work_machine_of old) piece reply).state
-  pub worked : IsTold old piece reply → new.work ≡ (next_worked (work_machine_of old) piece reply).work
+  pub worked : WorksTo reply old piece new.work
   -- its blocks stay out of the cache
   pub same_cache : new.cache ≡ old.cache
   -- the device is used as the piece may use it, and it had a fault exactly where the reply tells of one

@@ -10,7 +10,7 @@ ghost use Rattle.lsm_open.specs.RecoveredTables.{placed_in};
 ghost use Rattle.lsm_open.specs.Switching.{IsRotated};
 ghost use Rattle.lsm_open.specs.ToldTables.{records_of};
 ghost use Rattle.lsm_store.specs.Calls.{Rotate, Done, reply_of};
-ghost use Rattle.lsm_store.specs.Memory.{AreConsistent, IsInside, LieWithin, state_of, view_of, work_of};
+ghost use Rattle.lsm_store.specs.Memory.{AreConsistent, IsInside, LieWithin, numbered_layout, state_of, view_of, work_of};
 ghost use Rattle.lsm_store.specs.Refusals.{refusal};
 ghost use Rattle.lsm_store.specs.Serving.{Serves};
 ghost use Rattle.lsm_store.specs.WorkEffects.{with_sealed};
@@ -47,17 +47,19 @@ fn next_root<A: Allocator + Clone>(
 }
 
 impl<A: Allocator + Clone> Memory<A> {
-    // The regions after a rotation.
+    // The regions after a rotation. The next manifest has the present number of the next table.
     fn rotated_regions(&self) -> Result<Regions<A>, Refusal>
         requires waits { self.now.regions.closed.items ≡ [] }
         requires log_high { self.now.regions.log_sectors ≤ 2048 }
         requires generation_high { self.now.regions.generation < 2 ^ 63 }
         requires count_high { self.now.count ≤ 2 ^ 63 }
-        ensures regions { IfOk result (λ next. IsRotated (layout_of self.now.regions) self.now.count (layout_of next)) }
+        ensures regions { IfOk result (λ next. IsRotated (numbered_layout self.now) self.now.count (layout_of next)) }
         ensures refused { IfErr result (λ e. e ≡ Refusal.NoMemory) }
     {
         let alloc = self.allocator().clone()?;
-        Ok(self.regions.rotated(alloc, self.count)?)
+        let mut next = self.regions.rotated(alloc, self.count)?;
+        next.next_table = self.next_table;
+        Ok(next)
     }
 
     // Seals memory, and begins an empty one. Where memory is refused, nothing has changed.

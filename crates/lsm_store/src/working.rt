@@ -1,11 +1,11 @@
 // The pieces of work on jobs, over the parts of a store.
-ghost use Rattle.std.specs.Prelude.{◌≡◌, ℕ, length, Option, None, nat_le, option_map, if◌then◌else◌};
+ghost use Rattle.std.specs.Prelude.{◌≡◌, ℕ, length, Option, Some, None, nat_le, option_map, if◌then◌else◌};
 ghost use Rattle.std.specs.Arc.{arc_value};
 ghost use Rattle.lsm_cache.specs.Recency.{Cached};
 ghost use Rattle.lsm_device.specs.Medium.{Medium};
 ghost use Rattle.lsm_store.specs.Calls.{Number, Done};
 ghost use Rattle.lsm_store.specs.Memory.{AreConsistent, IsInside, view_of};
-ghost use Rattle.lsm_store.specs.Work.{Take, Read, Ask, Drop, Plain, Handed};
+ghost use Rattle.lsm_store.specs.Work.{Take, Read, Ask, Accept, Drop, Plain, Handed};
 ghost use Rattle.lsm_store.specs.Working.{Works, taken_reply, work_reply_of};
 
 use crate::memory::Memory;
@@ -13,7 +13,7 @@ use lsm_codec::LogRecord;
 use lsm_device::{Device, Refusal};
 use lsm_jobs::TakenJob;
 use lsm_mem::Sealed;
-use lsm_merge::Input;
+use lsm_merge::{Built, Input};
 use std::alloc::Allocator;
 use std::sync::Arc;
 
@@ -79,6 +79,28 @@ pub(crate) fn input<A: Allocator>(memory: &Memory<A>, job: u64) -> Result<Arc<In
     memory.jobs.input(job)
 }
 
+/// Places the tables of a result.
+pub(crate) fn accept<A: Allocator + Clone>(
+    memory: &mut Memory<A>,
+    job: u64,
+    built: &Built<A>,
+) -> Result<(), Refusal>
+    requires { AreConsistent memory.old }
+    ensures works { (medium : Medium) (cache : Cached) → Works (view_of medium memory.old cache) (Accept job (Some built.now)) (work_reply_of (λ _. Plain Done) result) (view_of medium memory.new cache) }
+    ensures kept { AreConsistent memory.new }
+    ensures inside { (size : ℕ) → IsInside size memory.old → IsInside size memory.new }
+{
+    memory.check_running()?;
+    let _images = built.images();
+    let alloc = memory.regions.closed.allocator();
+    let number = memory.next_table;
+    let next = memory
+        .jobs
+        .accept(alloc, job, built, &mut memory.extents, number)?;
+    memory.next_table = next;
+    Ok(())
+}
+
 /// Gives a job up.
 pub(crate) fn drop<A: Allocator>(memory: &mut Memory<A>, job: u64) -> Result<(), Refusal>
     requires { AreConsistent memory.old }
@@ -87,5 +109,6 @@ pub(crate) fn drop<A: Allocator>(memory: &mut Memory<A>, job: u64) -> Result<(),
     ensures inside { (size : ℕ) → IsInside size memory.old → IsInside size memory.new }
 {
     memory.check_running()?;
+    memory.extents.partition();
     memory.jobs.drop(job, &mut memory.extents)
 }

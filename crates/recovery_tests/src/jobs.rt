@@ -2,9 +2,11 @@
 
 use crate::images::{Tables, with_tables};
 use lsm_device::{MemDevice, Refusal};
+use lsm_merge::{Built, build};
 use lsm_store::{Store, TakenJob};
 use std::alloc::Global;
 use std::process::Abort;
+use std::thread::Threads;
 
 /// Four runs of level 0, the oldest of which meets both tables of level 1.
 const FOUR_RUNS: Tables = (
@@ -26,6 +28,9 @@ enum Piece {
     Take,
     Read(u64),
     Ask(u64),
+    Build(u64),
+    /// For the job of a number, the result of that place in the order of builds, from 0 on.
+    Accept(u64, usize),
     Drop(u64),
 }
 
@@ -40,15 +45,21 @@ enum Answer {
     Refused(Refusal),
 }
 
-/// A store on a device with tables. Its calls tell the prover nothing.
+/// A store on a device with tables, and the results that were built of its jobs. Its calls tell the prover nothing.
 #[derive(Drop)]
 struct WorkingStore {
+    alloc: Global,
     store: Store<MemDevice>,
+    results: Vec<Built>,
 }
 
 fn opened<R: Abort>(rt: &R, alloc: Global) -> WorkingStore {
     match Store::open(alloc, with_tables(rt, alloc, FOUR_RUNS), 16) {
-        Ok(store) => WorkingStore { store },
+        Ok(store) => WorkingStore {
+            alloc,
+            store,
+            results: Vec::new(alloc),
+        },
         Err((refusal, _)) => rt.panic(refusal.name()),
     }
 }
@@ -65,7 +76,24 @@ fn told(taken: Option<TakenJob>) -> Answer {
 }
 
 impl WorkingStore {
-    fn work(&mut self, piece: Piece) -> Result<Answer, Refusal> {
+    fn build<R: Threads + Sync>(&mut self, rt: &R, job: u64) -> Result<Answer, Refusal> {
+        let input = self.store.job_input(job)?;
+        let built = build(rt, self.alloc, input, 1)?;
+        self.results.push(built)?;
+        Ok(Answer::Done)
+    }
+
+    fn accept(&mut self, job: u64, place: usize) -> Result<Answer, Refusal> {
+        match self.results.get(place) {
+            Some(built) => {
+                self.store.job_accept(job, built)?;
+                Ok(Answer::Done)
+            }
+            None => Ok(Answer::NoJob),
+        }
+    }
+
+    fn work<R: Threads + Sync>(&mut self, rt: &R, piece: Piece) -> Result<Answer, Refusal> {
         match piece {
             Piece::Take => Ok(told(self.store.job_take()?)),
             Piece::Read(job) => Ok(Answer::Left(self.store.job_read(job)?)),
@@ -73,6 +101,8 @@ impl WorkingStore {
                 self.store.job_input(job)?;
                 Ok(Answer::Done)
             }
+            Piece::Build(job) => self.build(rt, job),
+            Piece::Accept(job, place) => self.accept(job, place),
             Piece::Drop(job) => {
                 self.store.job_drop(job)?;
                 Ok(Answer::Done)
@@ -80,8 +110,8 @@ impl WorkingStore {
         }
     }
 
-    fn answer(&mut self, piece: Piece) -> Answer {
-        match self.work(piece) {
+    fn answer<R: Threads + Sync>(&mut self, rt: &R, piece: Piece) -> Answer {
+        match self.work(rt, piece) {
             Ok(answer) => answer,
             Err(refusal) => Answer::Refused(refusal),
         }
@@ -116,7 +146,37 @@ const PIECES: [(Piece, Answer); 15] = [
 fn jobs_are_taken_and_dropped(rt: HostRuntime) {
     let mut store = opened(&rt, rt.alloc());
     for (piece, wanted) in PIECES {
-        let answer = store.answer(piece);
+        let answer = store.answer(&rt, piece);
+        assert!(rt; answer == wanted, "{piece:?}: {answer:?}");
+    }
+}
+
+/// Both jobs are whole, and each has a result. The one of the flush isn't the merge's; each job accepts its own, once, and is
+/// written then. What is given up goes with its outputs.
+const RESULTS: [(Piece, Answer); 16] = [
+    (Piece::Take, Answer::Taken(1)),
+    (Piece::Take, Answer::TakenAt(2, 0)),
+    (Piece::Build(1), Answer::Done),
+    (Piece::Accept(2, 0), Answer::Refused(Refusal::WrongState)),
+    (Piece::Read(2), Answer::Left(0)),
+    (Piece::Build(2), Answer::Done),
+    (Piece::Accept(9, 0), Answer::Refused(Refusal::NoSuchJob)),
+    (Piece::Accept(2, 0), Answer::Refused(Refusal::ForeignResult)),
+    (Piece::Accept(1, 0), Answer::Done),
+    (Piece::Accept(1, 0), Answer::Refused(Refusal::WrongState)),
+    (Piece::Ask(1), Answer::Refused(Refusal::WrongState)),
+    (Piece::Accept(2, 1), Answer::Done),
+    (Piece::Read(2), Answer::Refused(Refusal::WrongState)),
+    (Piece::Drop(1), Answer::Done),
+    (Piece::Drop(2), Answer::Done),
+    (Piece::Take, Answer::Taken(3)),
+];
+
+#[test]
+fn results_are_accepted_once_for_their_own_jobs(rt: HostRuntime) {
+    let mut store = opened(&rt, rt.alloc());
+    for (piece, wanted) in RESULTS {
+        let answer = store.answer(&rt, piece);
         assert!(rt; answer == wanted, "{piece:?}: {answer:?}");
     }
 }
@@ -124,10 +184,10 @@ fn jobs_are_taken_and_dropped(rt: HostRuntime) {
 #[test]
 fn the_blocks_of_a_merge_are_read(rt: HostRuntime) {
     let mut store = opened(&rt, rt.alloc());
-    let flush = store.answer(Piece::Take);
-    let merge = store.answer(Piece::Take);
+    let flush = store.answer(&rt, Piece::Take);
+    let merge = store.answer(&rt, Piece::Take);
     let before = store.reads();
-    let left = store.answer(Piece::Read(2));
+    let left = store.answer(&rt, Piece::Read(2));
     let reads = store.reads().wrapping_sub(before);
     // Each of the three tables has one data block of eight sectors.
     let taken = flush == Answer::Taken(1) && merge == Answer::TakenAt(2, 0);

@@ -1,17 +1,14 @@
-use Rattle.std.proofs.Common.{List, Some, sym, ◌∙◌, ap, subst}
+use Rattle.std.proofs.Common.{Some, sym, ◌∙◌, ap, subst}
 use Rattle.std.specs.Prelude.{Result}
 use Rattle.lsm_device.specs.declared.refusal.Refusal.{Refusal}
-use Rattle.lsm_levels.specs.Tables.{Table}
-use Rattle.lsm_jobs.specs.Placing.{AreHandedOut}
 use Rattle.lsm_store.specs.Backing.{work_machine_of}
 use Rattle.lsm_store.specs.Calls.{Done}
 use Rattle.lsm_store.specs.Memory.{view_of}
 use Rattle.lsm_store.specs.Work.{Drop, Plain}
 use Rattle.lsm_store.specs.Working.{Works, work_reply_of}
-use Rattle.lsm_store.proofs.HeldTables.{none_placed}
 use Rattle.lsm_store.proofs.Unrefused.{err_of}
 use Rattle.lsm_store.proofs.WorkAnswers.{drop_works}
-use Rattle.lsm_store.proofs.WorkingMemory.{dropped_kept}
+use Rattle.lsm_store.proofs.WorkingMemory.{outputs_held, dropped_kept}
 use Rattle.lsm_store.proofs.Works.{stopped_refuses, runs_then, works_refused}
 use Rattle.lsm_store.proofs.working.drop.Goals as goal
 
@@ -24,7 +21,7 @@ returns-in_err-check_running-clause-works g c = λ medium cache.
     (works_refused old piece found.0 (stopped_refuses (work_machine_of old) piece found.0 (c.in_err-check_running.ensures.refused ∙ ap Some (sym found.2))))
 
 pub drop-requires : goal.drop-requires
-drop-requires g c = subst (λ (ts : List Table). AreHandedOut ts c.args.memory.now.extents) (sym (none_placed c.args.job c.args.memory.now.jobs.slots c.requires.jobs.unwritten)) tt
+drop-requires g c = outputs_held c.args.memory.now c.requires c.args.job c.partition.ensures
 
 pub returns-clause-works : goal.returns-clause-works
 returns-clause-works g c = λ medium cache.
@@ -35,4 +32,4 @@ returns-clause-works g c = λ medium cache.
 pub returns-clause-kept : goal.returns-clause-kept
 returns-clause-kept g c =
     let e = c.drop.ensures in
-    dropped_kept c.args.memory.now c.requires c.args.job c.drop.result c.drop.new.self c.drop.new.extents e.freed e.unchanged
+    dropped_kept c.args.memory.now c.requires c.args.job c.drop.result c.drop.new.self c.drop.new.extents c.partition.ensures e.freed e.given_back e.unchanged

@@ -32,7 +32,7 @@ returns-clause-works g c = λ cache.
     let medium = g.D.Device.medium c.args.device.now in
     let old = view_of medium c.args.memory.now cache in
     let e = c.read.ensures in
-    read_works old c.args.job (g.D.Device.medium c.read.new.device) (runs_then (work_machine_of old) c.in_ok-check_running.ensures.refused) c.requires.kept.jobs.unwritten c.data_start-area.result c.data_start-area.ensures
+    read_works old c.args.job (g.D.Device.medium c.read.new.device) (runs_then (work_machine_of old) c.in_ok-check_running.ensures.refused) c.requires.kept.jobs.merges c.data_start-area.result c.data_start-area.ensures
     c.read.result c.read.new.self e.reads e.absent e.wrong e.bad e.refused e.same e.faults e.io e.calls e.untouched e.unchanged e.same_size e.same_lasting
 
 pub returns-clause-kept : goal.returns-clause-kept

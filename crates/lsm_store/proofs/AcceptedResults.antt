@@ -1,0 +1,90 @@
+-- What a store answers where it accepts a result, and where it doesn't.
+use Rattle.std.proofs.Common.{◌≡◌, ◌⊎◌, inl, inr, ⊎_elim, ℕ, ◌+◌, length, Some, None, refl, sym, ◌∙◌, ap, subst}
+use Rattle.std.specs.Prelude.{IsNone, List}
+use Rattle.lsm_device.specs.Medium.{Medium}
+use Rattle.lsm_device.specs.declared.refusal.Refusal.{Refusal}
+use Rattle.lsm_device.specs.declared.refusal.Refusal.TheVariants.{NoMemory, NoSpace}
+use Rattle.lsm_extent.specs.Area.{Area}
+use Rattle.lsm_cache.specs.Recency.{Cached}
+use Rattle.lsm_table.specs.Division.{IsTables}
+use Rattle.lsm_merge.specs.Inputs.{kept_of}
+use Rattle.lsm_merge.specs.Results.{MergeResult}
+use Rattle.lsm_levels.specs.Tables.{Table}
+use Rattle.lsm_jobs.specs.Placing.{IsAccepted}
+use Rattle.lsm_jobs.specs.Refusing.{RefusesResult}
+use Rattle.lsm_jobs.specs.Slots.{Slot, JobSlots, slot_of}
+use Rattle.lsm_jobs.proofs.Outcomes.{outputs_law}
+use Rattle.lsm_store.specs.declared.memory.Memory.{Memory}
+use Rattle.lsm_store.specs.Backing.{StoreView, IsRunOn, work_machine_of}
+use Rattle.lsm_store.specs.Calls.{Done, Refused}
+use Rattle.lsm_store.specs.Memory.{state_of, work_of, view_of}
+use Rattle.lsm_store.specs.Work.{WorkMachine, Work, Accept, Plain}
+use Rattle.lsm_store.specs.WorkEffects.{work_after}
+use Rattle.lsm_store.specs.WorkRefusals.{running_refusal, work_refusal}
+use Rattle.lsm_store.specs.WorkMaps.{MayBePutIn}
+use Rattle.lsm_store.specs.WorkSound.{IsServed}
+use Rattle.lsm_store.specs.Working.{Works, work_decided, work_reply_by}
+use Rattle.lsm_store.proofs.AnsweredWork.{accept_answers}
+use Rattle.lsm_store.proofs.PlacedImages.{all_placed}
+use Rattle.lsm_store.proofs.ServedResults.{served}
+use Rattle.lsm_store.proofs.WorkSounds.{accept_sound}
+use Rattle.lsm_store.proofs.Works.{moved_on, running_refuses, works_refused, works_want, works_moved}
+
+same_slot : (a b : Slot) → Some a ≡ Some b → a ≡ b
+same_slot a b e = cc
+
+same_tables : (a b : List Table) → Some a ≡ Some b → a ≡ b
+same_tables a b e = cc
+
+module _ {A : Type 0} (m : Memory A) (medium : Medium) (cache : Cached) (running : IsNone (state_of m).stopped) (job : ℕ) (result : MergeResult) where
+  abbrev v : StoreView
+  v = view_of medium m cache
+
+  abbrev w : WorkMachine
+  w = work_machine_of v
+
+  abbrev piece : Work
+  piece = Accept job (Some result)
+
+  -- ---- it was refused
+
+  pub accept_refused : (e : Refusal) → RefusesResult m.next_table result.input result.images m.extents (slot_of job m.jobs.slots) e → Works v piece (Plain (Refused e)) v
+  accept_refused e is = ⊎_elim
+      (λ one. ⊎_elim
+      (λ decided. works_refused v piece e (running_refuses w piece running ∙ decided))
+      (λ want. short (want.0) (inl (running_refuses w piece running ∙ want.1))) one)
+      (λ want. short want.0 (inr (running_refuses w piece running ∙ want.1)))
+      ((accept_answers w job result).refused e is)
+    where
+      short : e ≡ NoMemory → (work_refusal w piece ≡ None) ⊎ (work_refusal w piece ≡ Some NoSpace) → Works v piece (Plain (Refused e)) v
+      short is may = subst (λ (r : Refusal). Works v piece (Plain (Refused r)) v) (sym is) (works_want v piece may)
+
+  -- where slots and extents are as they were
+  pub accept_unchanged : (e : Refusal) (js : JobSlots) (area : Area) → (js ≡ m.jobs) × (area ≡ m.extents) → RefusesResult m.next_table result.input result.images m.extents (slot_of job m.jobs.slots) e
+      → Works v piece (Plain (Refused e)) (moved_on v js m.next_table area medium)
+  accept_unchanged e js area same is =
+      subst (λ (x : JobSlots). Works v piece (Plain (Refused e)) (moved_on v x m.next_table area medium)) (sym same.0)
+      (subst (λ (x : Area). Works v piece (Plain (Refused e)) (moved_on v m.jobs m.next_table x medium)) (sym same.1) (accept_refused e is))
+
+  -- ---- its tables were placed
+
+  module _ (js : JobSlots) (area : Area) (is : IsAccepted job m.next_table result.input result.images m.extents area m.jobs js) (whole : IsTables (kept_of result.input) result.images) where
+    none : running_refusal w piece ≡ None
+    none = (accept_answers w job result).unrefused area js is
+
+    -- they are those that the work places, and may be put in
+    is_served : IsRunOn v → IsServed w piece
+    is_served runs slot new found placed =
+        let one : is.slot ≡ slot = same_slot is.slot slot (sym is.found ∙ found) in
+        let tables : is.tables ≡ new = same_tables is.tables new (sym (all_placed m.next_table m.extents result.images is.tables is.placing.placed) ∙ placed) in
+        let made = outputs_law.accepted job m.next_table result.input result.images m.extents area m.jobs js is whole in
+        subst (λ (s : Slot). MayBePutIn s.job s.input new) one
+        (subst (MayBePutIn is.slot.job is.slot.input) tables (served v runs job is.slot is.found is.tables made))
+
+    pub accept_done : (next : ℕ) → next ≡ m.next_table + length result.images → Works v piece (Plain Done) (moved_on v js next area medium)
+    accept_done next counted =
+        let reply : Plain Done ≡ work_decided w piece = sym (ap (work_reply_by w piece) (running_refuses w piece running ∙ none)) in
+        let after : record (work_of m) { jobs = js; next_table = next; area = area } ≡ work_after w piece =
+        (λ i. record (work_of m) { jobs = js; next_table = counted i; area = area }) ∙ (accept_answers w job result).after area js is in
+        works_moved v piece js next area (Plain Done) (record { allowed = reply; admitted = reply; next = refl; faultless = refl; state = refl; alone = refl }) after after
+        (λ runs. accept_sound w runs.sound job (Some result) (is_served runs))
