@@ -1,5 +1,5 @@
 -- The block of a run that is asked for, and what it says.
-use Rattle.std.proofs.Common.{◌≡◌, ℕ, ◌+◌, ◌<◌, ◌≤◌, true, false, cond, ◌||◌, eqb, List, [], ◌∷◌, length, Some, None, refl, subst, arith}
+use Rattle.std.proofs.Common.{◌≡◌, ℕ, ◌+◌, ◌*◌, ◌<◌, ◌≤◌, Bool, true, false, cond, ◌||◌, eqb, List, [], ◌∷◌, length, Some, None, refl, sym, ap, ◌∙◌, subst, arith}
 use Rattle.std.specs.Prelude.{option_map, option_and_then}
 use Rattle.std.specs.List.{AllByRecursion}
 use Rattle.std.specs.Ordering.{is_gt}
@@ -7,8 +7,10 @@ use Rattle.std.proofs.lemmas.Option.{same_Some}
 use Rattle.lsm_codec.specs.Keys.{Bytes, byte_order}
 use Rattle.lsm_codec.specs.Indexes.{Edge}
 use Rattle.lsm_filter.specs.Bits.{is_perhaps}
+use Rattle.lsm_table.specs.Outlines.{Outline}
 use Rattle.lsm_table.specs.Places.{stands_before, place_from, place_of}
 use Rattle.lsm_levels.specs.Tables.{Table}
+use Rattle.lsm_cache.specs.declared.name.BlockName.{BlockName}
 use Rattle.lsm_levels.specs.Asking.{covers, covering, placed_block, asked_of_table, asked_of_run}
 use Rattle.lsm_levels.specs.Stored.{LiesWithin}
 use Rattle.lsm_levels.specs.declared.placed.PlacedBlock.{PlacedBlock}
@@ -62,3 +64,21 @@ block_within size area key n run b all e = of_run area key n (LiesWithin size ar
 pub within_more : (size more area : ℕ) (run : List Table) → size ≤ more → AllByRecursion (LiesWithin size area) run → AllByRecursion (LiesWithin more area) run
 within_more size more area [] le all = tt
 within_more size more area (t ∷ rest) le all = (record { ends = omega (arith, all.0.ends, le) }, within_more size more area rest le all.1)
+
+-- the block at a place in a table of this number, which begins there
+abbrev block_of : ℕ → ℕ → ℕ → ℕ → PlacedBlock
+block_of area place number start = record { name = record { table = number; block = place }; sector = area + 8 * (start + place) }
+
+module _ (area : ℕ) (key : Bytes) (n : ℕ) (t : Table) (told : Outline) (perhaps : Bool) (same : told ≡ t.outline) (tested : perhaps ≡ is_perhaps told.filter key) where
+  -- no block, where the filter says that the table lacks the key
+  pub filtered_out : perhaps ≡ false → None ≡ asked_of_table area key n t
+  filtered_out lacks = ap (λ b. cond b (option_map (placed_block area t) (place_of t.outline.first t.outline.edges key n)) None) (sym lacks ∙ tested ∙ ap (λ (o : Outline). is_perhaps o.filter key) same)
+
+  -- else the one at the place that the index tells
+  pub let_through : (place number start : ℕ) → perhaps ≡ true → Some place ≡ place_of told.first told.edges key n → number ≡ t.number → start ≡ t.start
+      → Some (record { name = record { table = number; block = place }; sector = area + 8 * (start + place) }) ≡ asked_of_table area key n t
+  let_through place number start has found numbered starts =
+      ap (λ (x : ℕ). Some (block_of area place x start)) numbered
+      ∙ ap (λ (x : ℕ). Some (block_of area place t.number x)) starts
+      ∙ ap (option_map (placed_block area t)) (found ∙ ap (λ (o : Outline). place_of o.first o.edges key n) same)
+      ∙ ap (λ b. cond b (option_map (placed_block area t) (place_of t.outline.first t.outline.edges key n)) None) (sym has ∙ tested ∙ ap (λ (o : Outline). is_perhaps o.filter key) same)

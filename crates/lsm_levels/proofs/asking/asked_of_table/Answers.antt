@@ -1,6 +1,6 @@
 use Rattle.std.proofs.Common.{◌<◌, length, sym, ap, arith}
 use Rattle.lsm_table.specs.Outlines.{Outline}
-use Rattle.lsm_levels.proofs.AskedLaws.{place_within}
+use Rattle.lsm_levels.proofs.AskedLaws.{place_within, filtered_out, let_through}
 use Rattle.lsm_levels.proofs.asking.asked_of_table.Goals as goal
 
 pub overflow_cast-name : goal.overflow_cast-name
@@ -32,3 +32,11 @@ overflow_add-result-2 g c =
     let t = c.args.table.now.outline in
     let within : c.in_ok-place.place < length t.edges = place_within t.first t.edges c.args.key.now c.args.at c.in_ok-place.place (sym (rw c.table-told.ensures.same at c.in_ok-place.ensures.place)) in
     omega (arith, within, c.requires.ends, c.first_block.ensures)
+
+pub returns-then-not-perhaps : goal.returns-then-not-perhaps
+returns-then-not-perhaps g c = filtered_out c.args.area c.args.key.now c.args.at c.args.table.now c.table-told.result.now c.perhaps.result c.table-told.ensures.same c.perhaps.ensures c.if-not-perhaps.true
+
+pub returns : goal.returns
+returns g c =
+    let_through c.args.area c.args.key.now c.args.at c.args.table.now c.table-told.result.now c.perhaps.result c.table-told.ensures.same c.perhaps.ensures
+    c.in_ok-place.place c.number.result c.first_block.result c.if-not-perhaps.false c.in_ok-place.ensures.place c.number.ensures c.first_block.ensures
