@@ -190,7 +190,7 @@ more_reads a b c one two = record {
   unchanged = λ t. two.unchanged (ap (λ l. l.tells) one.same_lasting ∙ t) ∙ one.unchanged t;
 }
 
-says_only_reads : (key : Bytes) (n : ℕ) (o : Option PlacedBlock) (found : Outcome) (old new : Source) → Says key n o found old new → OnlyReads old.medium new.medium
+pub says_only_reads : (key : Bytes) (n : ℕ) (o : Option PlacedBlock) (found : Outcome) (old new : Source) → Says key n o found old new → OnlyReads old.medium new.medium
 says_only_reads key n None found old new h = subst (λ (s : Source). OnlyReads old.medium s.medium) (sym h.1) (no_reads old.medium)
 says_only_reads key n (Some b) found old new (inl s) = s.given.only_reads
 says_only_reads key n (Some b) found old new (inr d) = d.1.only_reads

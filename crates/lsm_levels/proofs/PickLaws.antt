@@ -61,6 +61,53 @@ waits false had next w h = absurd (no (sym w))
 pub flush_first : (waiting had : Bool) (levels : Levels) (jobs : List Job) → waiting ≡ true → had ≡ list_any is_flush jobs → had ≡ false → Some Flush ≡ pick waiting levels jobs
 flush_first waiting had levels jobs w h none = waits waiting (list_any is_flush jobs) _ w (sym h ∙ none)
 
+waits_not : (waiting had : Bool) → waiting ≡ false → cond (waiting && not had) (Some Flush) None ≡ None
+waits_not true had w = absurd (no w)
+waits_not false had w = refl
+
+had_one : (waiting had : Bool) → had ≡ true → cond (waiting && not had) (Some Flush) None ≡ None
+had_one true true h = refl
+had_one true false h = absurd (no (sym h))
+had_one false had h = refl
+
+-- no flush comes next: nothing waits, or a flush holds a slot
+pub no_flush_waits : (waiting : Bool) (jobs : List Job) → waiting ≡ false → flush_job waiting jobs ≡ None
+no_flush_waits waiting jobs w = waits_not waiting (list_any is_flush jobs) w
+
+pub flush_held : (waiting had : Bool) (jobs : List Job) → had ≡ list_any is_flush jobs → had ≡ true → flush_job waiting jobs ≡ None
+flush_held waiting had jobs h held = had_one waiting (list_any is_flush jobs) (sym h ∙ held)
+
+-- the first of two is passed, or taken
+pub passed_first : (a next : Option Job) → a ≡ None → next ≡ or_next a next
+passed_first None next e = refl
+passed_first (Some j) next e = absurd (none_job j (sym e))
+
+pub took_first : (a : Option Job) (j : Job) (next : Option Job) → a ≡ Some j → Some j ≡ or_next a next
+took_first a j next e = ap (λ (o : Option Job). or_next o next) (sym e)
+
+module _ (waiting : Bool) (levels : Levels) (jobs : List Job) (no_flush : flush_job waiting jobs ≡ None) (runs deeper : List (List Table)) (runs_are : runs ≡ levels.runs) (deeper_are : deeper ≡ levels.deeper) (long : 4 ≤ length deeper)
+    (l1 l2 l3 l4 : List Table) (first : l1 ≡ get_or deeper 0 l1) (second : l2 ≡ get_or deeper 1 l2) (third : l3 ≡ get_or deeper 2 l3) (fourth : l4 ≡ get_or deeper 3 l4) where
+  level_is : (m : ℕ) (l : List Table) → m < length deeper → l ≡ get_or deeper m l → l ≡ level levels (suc m)
+  level_is m l lt is = is ∙ get_or_any deeper m l [] lt ∙ ap (λ (xs : List (List Table)). get_or xs m []) deeper_are
+
+  -- where no flush comes next, it is the first of the four merges
+  pub first_merge : (a b c d : Option Job) → a ≡ level_0_job runs l1 jobs → b ≡ level_job l1 l2 jobs 1 256 → c ≡ level_job l2 l3 jobs 2 2048 → d ≡ level_job l3 l4 jobs 3 16384
+      → or_next a (or_next b (or_next c d)) ≡ pick waiting levels jobs
+  first_merge a b c d ea eb ec ed =
+      let e1 = level_is 0 l1 (omega (arith, long)) first in
+      let e2 = level_is 1 l2 (omega (arith, long)) second in
+      let e3 = level_is 2 l3 (omega (arith, long)) third in
+      let e4 = level_is 3 l4 (omega (arith, long)) fourth in
+      let fa : a ≡ level_0_job levels.runs (level levels 1) jobs = ea ∙ ap (λ (r : List (List Table)). level_0_job r l1 jobs) runs_are ∙ ap (λ (l : List Table). level_0_job levels.runs l jobs) e1 in
+      let fb : b ≡ level_job (level levels 1) (level levels 2) jobs 1 256 = eb ∙ ap (λ (l : List Table). level_job l l2 jobs 1 256) e1 ∙ ap (λ (l : List Table). level_job (level levels 1) l jobs 1 256) e2 in
+      let fc : c ≡ level_job (level levels 2) (level levels 3) jobs 2 2048 = ec ∙ ap (λ (l : List Table). level_job l l3 jobs 2 2048) e2 ∙ ap (λ (l : List Table). level_job (level levels 2) l jobs 2 2048) e3 in
+      let fd : d ≡ level_job (level levels 3) (level levels 4) jobs 3 16384 = ed ∙ ap (λ (l : List Table). level_job l l4 jobs 3 16384) e3 ∙ ap (λ (l : List Table). level_job (level levels 3) l jobs 3 16384) e4 in
+      ap (λ (o : Option Job). or_next o (or_next b (or_next c d))) fa
+      ∙ ap (λ (o : Option Job). or_next (level_0_job levels.runs (level levels 1) jobs) (or_next o (or_next c d))) fb
+      ∙ ap (λ (o : Option Job). or_next (level_0_job levels.runs (level levels 1) jobs) (or_next (level_job (level levels 1) (level levels 2) jobs 1 256) (or_next o d))) fc
+      ∙ ap (λ (o : Option Job). or_next (level_0_job levels.runs (level levels 1) jobs) (or_next (level_job (level levels 1) (level levels 2) jobs 1 256) (or_next (level_job (level levels 2) (level levels 3) jobs 2 2048) o))) fd
+      ∙ passed_first (flush_job waiting jobs) _ no_flush
+
 -- ---- free tables
 
 free_apart : (jobs : List Job) (t : Table) → is_free jobs t ≡ true → (other : Job) → IsAmong other jobs → (u : Table) → IsAmong u (inputs other) → t.number ≢ u.number

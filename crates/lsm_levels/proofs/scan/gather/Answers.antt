@@ -26,3 +26,8 @@ pub returns-then-not-goes_on-clause-comes : goal.returns-then-not-goes_on-clause
 returns-then-not-goes_on-clause-comes g c = λ place sectors page h.
     let new : Source = record { cache = c.step.new.cache; medium = g.D.Device.medium c.step.new.device } in
     subst (λ (b : Bool). Goes place sectors page c.step.new.builder c.step.new.sources new b) c.if-not-goes_on.true (c.in_ok-goes_on.ensures.comes place sectors page (c.versions.invariant.comes place sectors page h))
+
+pub returns-in_err-goes_on-clause-refused : goal.returns-in_err-goes_on-clause-refused
+returns-in_err-goes_on-clause-refused g c =
+    let p = err_from_is_err_and c.from_residual.result c.from_residual.ensures.1 in
+    rw (p.1, p.2) c.in_err-goes_on.ensures.refused
