@@ -1,11 +1,12 @@
 -- A result is accepted.
-use Rattle.std.proofs.Common.{◌≡◌, ◌≢◌, inl, inr, ℕ, ◌+◌, ◌-◌, ◌<◌, ◌≤◌, not, List, [], ◌∷◌, ◌++◌, length, map, Option, refl, sym, ap, ◌∙◌, subst, arith}
+use Rattle.std.proofs.Common.{◌≡◌, ◌≢◌, inl, inr, ℕ, ◌+◌, ◌-◌, ◌<◌, ◌≤◌, ◌^◌, ◌⊎◌, ◌↔◌, not, Bool, true, IsTrue, List, [], ◌∷◌, ◌++◌, length, map, Option, refl, sym, ap, ◌∙◌, subst, arith}
 use Rattle.std.specs.Prelude.{sum_by, ltb}
 use Rattle.std.specs.List.{AllByRecursion}
 use Rattle.std.proofs.lemmas.Bool.{and_parts, ltb-true}
 use Rattle.std.proofs.lemmas.List.{length-append, length-map}
 use Rattle.std.proofs.lemmas.List.Sums.{sum_by-cons}
 use Rattle.lsm_device.specs.declared.refusal.Refusal.{Refusal}
+use Rattle.lsm_device.specs.declared.refusal.Refusal.TheVariants.{NoMemory, NoSpace}
 use Rattle.lsm_device.specs.Runs.{run_at}
 use Rattle.lsm_device.proofs.Runs.{length-run_at}
 use Rattle.lsm_codec.specs.Indexes.{index_count, index_blocks}
@@ -14,14 +15,14 @@ use Rattle.lsm_extent.specs.declared.extent.Extent.{Extent}
 use Rattle.lsm_extent.specs.Area.{Area, is_held, handed_out, free_count, IsPartition}
 use Rattle.lsm_extent.proofs.ExtentLaws.{blocks-with}
 use Rattle.lsm_filter.specs.Bits.{filter_of}
-use Rattle.lsm_table.specs.Division.{TableBlocks, entries_of, blocks}
+use Rattle.lsm_table.specs.Division.{TableBlocks, IsTables, entries_of, blocks}
 use Rattle.lsm_table.specs.BlockEdges.{edges_of}
 use Rattle.lsm_table.specs.Extents.{extent_size, index_in_blocks, footer_in, keys_of}
 use Rattle.lsm_table.specs.Extents as laid
 use Rattle.lsm_table.proofs.Blocks.{only_blocks}
 use Rattle.lsm_table.proofs.Blocked.{length-in_pieces}
 use Rattle.lsm_table.proofs.Outlines.{edge_count}
-use Rattle.lsm_merge.specs.Inputs.{MergeInput}
+use Rattle.lsm_merge.specs.Inputs.{MergeInput, kept_of}
 use Rattle.lsm_levels.specs.Tables.{Table}
 use Rattle.lsm_jobs.specs.Slots.{Slot, Slots, slot_of}
 use Rattle.lsm_jobs.specs.Outputs.{IsTableOf, AreTablesOf, blocks_of, placed_blocks}
@@ -128,3 +129,20 @@ has_own job place slots mine input f same = subst (HasInput input) (sym f.at.is)
 
 pub has_other : (job place : ℕ) (slots : Slots) (mine input : MergeInput) → IsFrozenAt job slots place mine → mine ≢ input → HasOtherInput input (slot_of job slots)
 has_other job place slots mine input f other = subst (HasOtherInput input) (sym f.at.is) (f.frozen, λ same. other (sym f.own ∙ same))
+
+-- ---- the call
+
+-- a result is of the job's own input
+pub same_input : (b : Bool) (x y own given : MergeInput) → b ≡ true → IsTrue b ↔ (x ≡ y) → x ≡ own → y ≡ given → own ≡ given
+same_input b x y own given t is p q = sym p ∙ is.0 t ∙ q
+
+pub found_input : (job place : ℕ) (slots : Slots) (own given : MergeInput) → IsFrozenAt job slots place own → own ≡ given → HasInput given (slot_of job slots)
+found_input job place slots own given at same = subst (HasInput given) (sym at.at.is) (at.frozen, at.own ∙ same)
+
+pub kept_same : (own given : MergeInput) (images told : List TableBlocks) → own ≡ given → images ≡ told → IsTables (kept_of given) told → IsTables (kept_of own) images
+kept_same own given images told same list kept = subst (λ (i : MergeInput). IsTables (kept_of i) images) (sym same) (subst (IsTables (kept_of given)) (sym list) kept)
+
+-- why it is refused once the input is known
+pub refused_so : (next : ℕ) (input : MergeInput) (images told : List TableBlocks) (area : Area) (held : Option Slot) (refusal : Refusal) → HasInput input held → next + length images ≤ 2 ^ 63 + 1 → told ≡ images → (refusal ≡ NoSpace → FindNoRoom area told) → (refusal ≡ NoSpace) ⊎ (refusal ≡ NoMemory) → RefusesResult next input images area held refusal
+refused_so next input images told area held refusal has fits list room (inl e) = subst (λ (r : Refusal). RefusesResult next input images area held r) (sym e) (has, fits, subst (FindNoRoom area) list (room e))
+refused_so next input images told area held refusal has fits list room (inr e) = subst (λ (r : Refusal). RefusesResult next input images area held r) (sym e) (has, fits)

@@ -7,6 +7,8 @@ use Rattle.lsm_extent.specs.declared.extent.Extent.{Extent}
 use Rattle.lsm_extent.specs.Area.{Area, given_back, without_extent}
 use Rattle.lsm_levels.specs.Tables.{Table}
 use Rattle.lsm_levels.specs.Pick.{Job, Flush, Merge, inputs}
+use Rattle.lsm_jobs.specs.Slots.{Slot, Slots, slot_of, outputs_at, outputs_of}
+use Rattle.lsm_jobs.specs.Holding.{IsAt}
 use Rattle.lsm_jobs.specs.Gathering.{uppers, lowers}
 use Rattle.lsm_jobs.specs.Placing.{extent_of, all_given_back, AreHandedOut}
 
@@ -64,3 +66,10 @@ module _ (job mine : Job) (upper lower : List Table) (same : mine ≡ job) (firs
 
   pub both_back : (old mid new : Area) → mid ≡ all_given_back lower old → new ≡ all_given_back upper mid → new ≡ all_given_back (inputs job) old
   both_back old mid new given then = then ∙ ap (all_given_back upper) given ∙ sym (back_joined upper lower old) ∙ sym (ap (λ (ts : List Table). all_given_back ts old) told)
+
+-- the outputs of a job that was found, by its number
+pub outputs_are : (job : ℕ) (slots : Slots) (place : ℕ) (slot : Slot) (outputs : List Table) → IsAt job slots place slot → outputs ≡ outputs_at slot.stage → outputs ≡ outputs_of (slot_of job slots)
+outputs_are job slots place slot outputs at same = same ∙ ap outputs_of (sym at.is)
+
+pub outputs_out : (job : ℕ) (slots : Slots) (place : ℕ) (slot : Slot) (outputs : List Table) (area : Area) → IsAt job slots place slot → outputs ≡ outputs_at slot.stage → AreHandedOut (outputs_of (slot_of job slots)) area → AreHandedOut outputs area
+outputs_out job slots place slot outputs area at same out = subst (λ (ts : List Table). AreHandedOut ts area) (sym (outputs_are job slots place slot outputs at same)) out

@@ -1,4 +1,4 @@
-use Rattle.std.proofs.Common.{Some, sym}
+use Rattle.std.proofs.Common.{Some, None, sym}
 use Rattle.lsm_levels.specs.Picks.{job_of}
 use Rattle.lsm_levels.proofs.PickLaws.{flush_waits}
 use Rattle.lsm_jobs.specs.Slots.{held_jobs}
@@ -14,3 +14,7 @@ returns-in-Some-pick-clause-given g c =
 
 pub returns-in-Some-pick-clause-waits : goal.returns-in-Some-pick-clause-waits
 returns-in-Some-pick-clause-waits g c = λ flush. flush_waits c.args.waiting c.args.levels.now (held_jobs c.args.self.now.slots) (job_of c.in-Some-pick.job) (sym c.in-Some-pick.ensures) flush
+
+pub returns-in-None-clause-given : goal.returns-in-None-clause-given
+returns-in-None-clause-given g c =
+    next_given c.args.waiting c.args.levels.now c.deref.result.now c.self.inside.slots.items c.self.inside.next c.in-Some.place c.args.self.now None c.in-Some.ensures c.deref.ensures.value c.self.view_is c.in-None.ensures
