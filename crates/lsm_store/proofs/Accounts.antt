@@ -1,5 +1,5 @@
 -- Each piece of work keeps it that just the extents of the tables in levels and of placed outputs are handed out.
-use Rattle.std.proofs.Common.{◌≡◌, ℕ, zero, suc, ◌+◌, ◌-◌, ◌≤◌, Bool, true, false, cond, List, [], ◌∷◌, ◌++◌, length, Option, Some, None, is_none, refl, sym, ap, ◌∙◌, subst, arith}
+use Rattle.std.proofs.Common.{◌≡◌, ℕ, zero, suc, ◌+◌, ◌-◌, ◌≤◌, Bool, true, false, cond, List, [], ◌∷◌, ◌++◌, length, filter, Option, Some, None, is_none, refl, sym, ap, ◌∙◌, subst, arith}
 use Rattle.std.specs.Prelude.{◌==◌}
 use Rattle.std.proofs.lemmas.Bool.{not-false, false≢true}
 use Rattle.lsm_device.specs.declared.refusal.Refusal.{Refusal}
@@ -54,21 +54,27 @@ unheld number now (Some one ∷ rest) none = by (unheld number now rest) (one.nu
     by more true f = absurd (no_slot one (sym f))
     by more false f = ap (λ (l : Slots). Some one ∷ l) (more f)
 
--- the outputs of one job are gone, and those of what comes in its place are there
+-- The outputs of one job are gone, and those of what comes in its place are there, counted by any test.
+module _ (p : Table → Bool) where
+  abbrev counted : List Table → ℕ
+  counted tables = length (filter p tables)
+
+  pub held_counted : (number : ℕ) (now : Option Slot) (slots : Slots) (old : Slot) → slot_of number slots ≡ Some old
+      → length (filter p (outputs_in (with_held number now slots))) + length (filter p (outputs_at old.stage)) ≡ length (filter p (outputs_in slots)) + length (filter p (outputs_of now))
+  held_counted number now [] old is = absurd (no_slot old is)
+  held_counted number now (None ∷ rest) old is = held_counted number now rest old is
+  held_counted number now (Some one ∷ rest) old is = by (held_counted number now rest old) (one.number == number) is
+    where
+      by : (slot_of number rest ≡ Some old → counted (outputs_in (with_held number now rest)) + counted (outputs_at old.stage) ≡ counted (outputs_in rest) + counted (outputs_of now))
+          → (b : Bool) → cond b (Some one) (slot_of number rest) ≡ Some old → counted (outputs_in (cond b (now ∷ rest) (Some one ∷ with_held number now rest))) + counted (outputs_at old.stage)
+          ≡ counted (outputs_at one.stage ++ outputs_in rest) + counted (outputs_of now)
+      by more true f = omega (arith, count_append p (outputs_of now) (outputs_in rest), count_append p (outputs_at one.stage) (outputs_in rest), ap (λ (s : Slot). counted (outputs_at s.stage)) (some_slot one old f))
+      by more false f = omega (arith, count_append p (outputs_at one.stage) (outputs_in (with_held number now rest)), count_append p (outputs_at one.stage) (outputs_in rest), more f)
+
+-- so it is of those at an extent
 held_outputs : (e : Extent) (number : ℕ) (now : Option Slot) (slots : Slots) (old : Slot) → slot_of number slots ≡ Some old
     → tables_like e (outputs_in (with_held number now slots)) + tables_like e (outputs_at old.stage) ≡ tables_like e (outputs_in slots) + tables_like e (outputs_of now)
-held_outputs e number now [] old is = absurd (no_slot old is)
-held_outputs e number now (None ∷ rest) old is = held_outputs e number now rest old is
-held_outputs e number now (Some one ∷ rest) old is = by (held_outputs e number now rest old) (one.number == number) is
-  where
-    Goal : List Table → Type 0
-    Goal after = tables_like e after + tables_like e (outputs_at old.stage) ≡ tables_like e (outputs_at one.stage ++ outputs_in rest) + tables_like e (outputs_of now)
-
-    by : (slot_of number rest ≡ Some old → tables_like e (outputs_in (with_held number now rest)) + tables_like e (outputs_at old.stage) ≡ tables_like e (outputs_in rest) + tables_like e (outputs_of now))
-        → (b : Bool) → cond b (Some one) (slot_of number rest) ≡ Some old → tables_like e (outputs_in (cond b (now ∷ rest) (Some one ∷ with_held number now rest))) + tables_like e (outputs_at old.stage)
-        ≡ tables_like e (outputs_at one.stage ++ outputs_in rest) + tables_like e (outputs_of now)
-    by more true f = omega (arith, joined e (outputs_of now) (outputs_in rest), joined e (outputs_at one.stage) (outputs_in rest), ap (λ (s : Slot). tables_like e (outputs_at s.stage)) (some_slot one old f))
-    by more false f = omega (arith, joined e (outputs_at one.stage) (outputs_in (with_held number now rest)), joined e (outputs_at one.stage) (outputs_in rest), more f)
+held_outputs e number now slots old is = held_counted (λ (t : Table). is_same_extent e (extent_of t)) number now slots old is
 
 -- those of one job are among them
 one_outputs : (e : Extent) (number : ℕ) (slots : Slots) → tables_like e (outputs_of (slot_of number slots)) ≤ tables_like e (outputs_in slots)
@@ -90,7 +96,7 @@ pub first_none : (job : Job) → outputs_at (first_stage job) ≡ []
 first_none Flush = refl
 first_none (Merge i upper lower) = refl
 
-same_outputs : (n : ℕ) (stage : Stage) → outputs_at (less_left n stage) ≡ outputs_at stage
+pub same_outputs : (n : ℕ) (stage : Stage) → outputs_at (less_left n stage) ≡ outputs_at stage
 same_outputs n (Reading left) = refl
 same_outputs n Frozen = refl
 same_outputs n (Writing tables left) = refl
@@ -165,7 +171,7 @@ module _ (w : WorkView) (accounts : AreAccounted w) where
       left_by new e =
           omega (arith, (all_back_like (inputs job) w.area apart inputs_stand).0 e, (moving_law w.levels bottom job new runs has).passed (λ (t : Table). is_same_extent e (extent_of t)))
 
-    installed_accounts : AreRuns w.levels → (number : ℕ) (old : Slot) → slot_of number w.jobs.slots ≡ Some old → IsHeld w.levels old.input.bottom old.job → AreAccounted (with_installed w number old)
+    pub installed_accounts : AreRuns w.levels → (number : ℕ) (old : Slot) → slot_of number w.jobs.slots ≡ Some old → IsHeld w.levels old.input.bottom old.job → AreAccounted (with_installed w number old)
     installed_accounts runs number old is has = record {
       each = moved number old None (installed_levels w.levels old.job (outputs_at old.stage)) (all_given_back (inputs old.job) w.area) is (left_by runs old.job old.input.bottom has (outputs_at old.stage));
     }

@@ -295,10 +295,10 @@ module _ (area : Area) (whole : IsPartition area) where
     there : (t : Table) → IsAmong t ts → IsAmong (extent_of t) area.held
     there t a = among_like (extent_of t) area.held (omega (arith, all (extent_of t), like_table t ts a))
 
-    tables_inside : AllByRecursion (λ t. (0 < t.blocks) × (t.start + t.blocks ≤ area.blocks)) ts
+    pub tables_inside : AllByRecursion (λ t. (0 < t.blocks) × (t.start + t.blocks ≤ area.blocks)) ts
     tables_inside = all_of (λ t. (0 < t.blocks) × (t.start + t.blocks ≤ area.blocks)) ts (λ t a. of_all (IsInside area.blocks) area.held each_inside (extent_of t) (there t a))
 
-  tables_apart : (ts : List Table) → StandAmong ts area.held → AllLieApart ts
+  pub tables_apart : (ts : List Table) → StandAmong ts area.held → AllLieApart ts
   tables_apart [] all = tt
   tables_apart (t ∷ rest) all = (
     all_of (LieApart t) rest (λ u a.
@@ -375,3 +375,13 @@ tables_extents e [] = refl
 tables_extents e (t ∷ rest) =
     count_cons (λ (u : Table). is_same_extent e (extent_of u)) t rest ∙ ap (λ (n : ℕ). one_if (is_same_extent e (extent_of t)) + n) (tables_extents e rest)
     ∙ sym (count_cons (is_same_extent e) (extent_of t) (map extent_of rest))
+
+-- ---- the size of the area
+
+pub out_blocks : (tables : List Table) (area : Area) → (all_handed_out tables area).blocks ≡ area.blocks
+out_blocks [] area = refl
+out_blocks (t ∷ rest) area = out_blocks rest (handed_out (extent_of t) area)
+
+pub back_blocks : (tables : List Table) (area : Area) → (all_given_back tables area).blocks ≡ area.blocks
+back_blocks [] area = refl
+back_blocks (t ∷ rest) area = back_blocks rest area

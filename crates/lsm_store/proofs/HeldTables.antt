@@ -1,5 +1,6 @@
 -- Jobs in slots have their tables, whatever the device holds, and can be read; and where these stand they are read as they are.
 use Rattle.std.proofs.Common.{◌≡◌, ℕ, zero, suc, ◌+◌, ◌++◌, ◌≤◌, ◌==◌, Bool, true, false, cond, List, [], ◌∷◌, length, Option, Some, None, refl, sym, ◌∙◌, ap, subst, arith}
+use Rattle.std.specs.List.{AllByRecursion}
 use Rattle.std.proofs.lemmas.Bool.{false≢true}
 use Rattle.std.proofs.lemmas.List.{length-append}
 use Rattle.lsm_codec.specs.Versions.{Version}
@@ -24,11 +25,14 @@ use Rattle.lsm_jobs.specs.Taking.{runs_of, first_stage, given_job, slot_for, wit
 use Rattle.lsm_jobs.proofs.Found.{found_there, found_number}
 use Rattle.lsm_jobs.proofs.KeptJobs.{given_taken, going_on_law, freeing_law}
 use Rattle.lsm_jobs.proofs.RunOrders.{stored_taking_law}
+use Rattle.lsm_codec.proofs.Lists.{all_left, all_right, all_append}
+use Rattle.lsm_open.specs.ToldTables.{IsOutlined}
 use Rattle.lsm_store.specs.Accounts.{extents_like, tables_like, outputs_in, AreAccounted}
 use Rattle.lsm_store.specs.Memory.{IsReadAsMerge, AreReadAsMerges, HaveTables}
 use Rattle.lsm_store.specs.Work.{WorkView}
 use Rattle.lsm_store.specs.WorkRefusals.{live_tables}
 use Rattle.lsm_store.proofs.Accounts.{unheld, first_none, read_none, reading_none, taken_outputs, held_accounts, placed_accounts, dropped_accounts}
+use Rattle.lsm_store.proofs.PlacedJobs.{all_held}
 use Rattle.lsm_store.proofs.StoredLevels.{jobs_have, jobs_stored}
 use Rattle.lsm_store.proofs.TableLimits.{install_counts}
 
@@ -65,6 +69,10 @@ merges_at number (Some held ∷ rest) slot all is = by (λ e. merges_at number r
     by later true e = subst IsReadAsMerge e all.0
     by later false e = later e
 
+pub held_outlined : (ts : List Table) (job : ℕ) (now : Option Slot) (slots : Slots) → AllByRecursion IsOutlined (outputs_of now) → AllByRecursion IsOutlined (ts ++ outputs_in slots) → AllByRecursion IsOutlined (ts ++ outputs_in (with_held job now slots))
+held_outlined ts job now slots one all =
+    all_append IsOutlined ts (outputs_in (with_held job now slots)) (all_left IsOutlined ts (outputs_in slots) all) (all_held IsOutlined job now slots one (all_right IsOutlined ts (outputs_in slots) all))
+
 -- ---- a taking
 
 module _ (waiting : Bool) (levels : Levels) (sealed : List Version) (cuts : List ℕ) (js : JobSlots) (runs : AreRuns levels) (area : Area) (have : HaveTables levels js area) where
@@ -77,6 +85,7 @@ module _ (waiting : Bool) (levels : Levels) (sealed : List Version) (cuts : List
     kept = given_taken waiting levels js.next js.slots sealed cuts job runs have.kept given;
     merges = with_slot_merges (slot_for js.next sealed cuts levels job) js.slots (first_merges job) have.merges;
     accounted = λ e. have.accounted e ∙ ap (λ (ts : List Table). tables_like e (all_tables (places levels) ++ ts)) (sym (taken_outputs (slot_for js.next sealed cuts levels job) js.slots (first_none job)));
+    outlined = subst (λ (ts : List Table). AllByRecursion IsOutlined (all_tables (places levels) ++ ts)) (sym (taken_outputs (slot_for js.next sealed cuts levels job) js.slots (first_none job))) have.outlined;
   }
 
   pub taken_tables : HaveTables levels (after (given_job waiting levels js.slots)) area
@@ -95,6 +104,7 @@ dropped_tables w number have whole = record {
   kept = freeing_law w.levels w.jobs.next number w.jobs.slots have.kept;
   merges = with_held_merges number None w.jobs.slots tt have.merges;
   accounted = by (slot_of number w.jobs.slots) refl;
+  outlined = held_outlined (all_tables (places w.levels)) number None w.jobs.slots tt have.outlined;
 }
   where
     accounts : AreAccounted w
@@ -106,9 +116,9 @@ dropped_tables w number have whole = record {
 
 -- ---- a job's outputs are placed
 
-pub placed_tables : (w : WorkView) (job : ℕ) (slot : Slot) (tables : List Table) → HaveTables w.levels w.jobs w.area → slot_of job w.jobs.slots ≡ Some slot → slot.stage ≡ Frozen
+pub placed_tables : (w : WorkView) (job : ℕ) (slot : Slot) (tables : List Table) → AllByRecursion IsOutlined tables → HaveTables w.levels w.jobs w.area → slot_of job w.jobs.slots ≡ Some slot → slot.stage ≡ Frozen
     → HaveTables w.levels (record { next = w.jobs.next; slots = with_held job (Some (record slot { stage = Writing tables (length (placed_blocks tables)) })) w.jobs.slots }) (all_handed_out tables w.area)
-placed_tables w job slot tables have is frozen =
+placed_tables w job slot tables each have is frozen =
     let now : Slot = record slot { stage = Writing tables (length (placed_blocks tables)) } in
     let number : slot.number ≡ job = found_number job w.jobs.slots slot is in
     record {
@@ -116,6 +126,7 @@ placed_tables w job slot tables have is frozen =
           (going_on_law w.levels w.jobs.next w.jobs.slots slot now have.kept (ap (λ (n : ℕ). slot_of n w.jobs.slots) number ∙ is) refl refl refl);
       merges = with_held_merges job (Some now) w.jobs.slots (λ h. absurd (false≢true h)) have.merges;
       accounted = (placed_accounts w (record { each = have.accounted }) job slot (Some tables) is (ap outputs_at frozen)).each;
+      outlined = held_outlined (all_tables (places w.levels)) job (Some now) w.jobs.slots each have.outlined;
     }
 
 -- ---- a job is read
@@ -168,14 +179,21 @@ module _ (w : WorkView) (area job left : ℕ) (m : Medium) (after : JobSlots) (h
       (going_on_law w.levels w.jobs.next w.jobs.slots read.slot read.now have.kept (ap (λ (n : ℕ). slot_of n w.jobs.slots) numbered ∙ read.is) (ap (λ (s : Slot). s.number) reads.becomes) same_job same_bottom)
 
   -- what is being read has no outputs
+  pub no_outputs : outputs_at read.now.stage ≡ []
+  no_outputs = ap (λ (s : Slot). outputs_at s.stage) reads.becomes ∙ read_none left
+
+  pub none_before : outputs_at read.slot.stage ≡ []
+  none_before = reading_none read.slot.stage reading
+
   none_yet : outputs_at read.now.stage ≡ outputs_at read.slot.stage
-  none_yet = ap (λ (s : Slot). outputs_at s.stage) reads.becomes ∙ read_none left ∙ sym (reading_none read.slot.stage reading)
+  none_yet = no_outputs ∙ sym none_before
 
   pub read_tables : HaveTables w.levels after w.area
   read_tables = subst (λ (x : JobSlots). HaveTables w.levels x w.area) (sym read.becomes) (record {
     kept = now_kept;
     merges = with_held_merges job (Some read.now) w.jobs.slots now_merges have.merges;
     accounted = (held_accounts w (record { each = have.accounted }) job read.slot read.now read.is none_yet).each;
+    outlined = held_outlined (all_tables (places w.levels)) job (Some read.now) w.jobs.slots (subst (AllByRecursion IsOutlined) (sym no_outputs) tt) have.outlined;
   })
 
 -- ---- where tables stand

@@ -1,6 +1,6 @@
 -- The versions that are sealed and those in memory stay those of the batches in the log regions.
-use Rattle.std.proofs.Common.{◌≡◌, ℕ, ◌+◌, List, [], ◌∷◌, ◌++◌, length, get_or, Some, sym, ◌∙◌, ap, arith}
-use Rattle.std.specs.Prelude.{Option}
+use Rattle.std.proofs.Common.{◌≡◌, ℕ, ◌+◌, List, [], ◌∷◌, ◌++◌, length, get_or, Some, refl, sym, ◌∙◌, ap, arith}
+use Rattle.std.specs.Prelude.{Option, if◌then◌else◌}
 use Rattle.std.proofs.Math.Nat.{add-zero}
 use Rattle.std.proofs.lemmas.List.{length-append}
 use Rattle.lsm_codec.specs.Map.{Operation}
@@ -9,6 +9,8 @@ use Rattle.lsm_codec.specs.declared.log_record.LogRecord.{LogRecord}
 use Rattle.lsm_codec.proofs.Lists.{none_length}
 use Rattle.lsm_device.specs.Disk.{Disk, seen, written}
 use Rattle.lsm_levels.specs.Levels.{Levels}
+use Rattle.lsm_levels.specs.Pick.{Job, Flush, Merge, is_flush}
+use Rattle.lsm_levels.specs.Tables.{Table}
 use Rattle.lsm_log.specs.Opened.{batches_in}
 use Rattle.lsm_log.specs.Replay.{replay}
 use Rattle.lsm_log.proofs.Logs.{open_next}
@@ -24,7 +26,7 @@ use Rattle.lsm_open.proofs.HeldRegions.{all_open, placed, same_all}
 use Rattle.lsm_open.proofs.KeptRecords.{same_batches}
 use Rattle.lsm_open.proofs.TableFrames.{area_behind}
 use Rattle.lsm_root.specs.Layout.{behind}
-use Rattle.lsm_store.specs.InstalledJobs.{AreSealedIn, AreLoggedIn}
+use Rattle.lsm_store.specs.InstalledJobs.{AreSealedIn, AreLoggedIn, installed_in}
 use Rattle.lsm_store.specs.RecoveryPoints.{batch_count}
 use Rattle.lsm_store.specs.State.{State}
 use Rattle.lsm_store.specs.StoredTables.{IsStoredIn, with_log, with_next}
@@ -107,6 +109,35 @@ module _ (number : ℕ) (p : Placement) (o : OpenRegion) (old new : Disk) (held 
 
   pub rotated_logged : o.log.next ≡ o.log.first → AreLoggedIn (with_next number (rotated p o)) (seen new) []
   rotated_logged unused = sym (ap (λ (t : Batches). with_batches (p.logs.base + length (closed_in (with_next number (rotated p o)) (seen new))) t []) (none_new unused))
+
+-- ---- an install of a job's outputs
+
+module _ (p : Placement) (levels : Levels) (next_table : ℕ) (outputs : List Table) (old new : Disk) (held : IsHeld p old) (same : behind (seen new) ≡ behind (seen old)) where
+  still_closed : closed_in p (seen new) ≡ closed_in p (seen old)
+  still_closed = batches_behind p.logs.log_sectors (seen new) (seen old) same p.logs.closed
+
+  still_open : open_batches p.logs.open_region (seen new) ≡ open_batches p.logs.open_region (seen old)
+  still_open =
+      let place = placed p.logs old p.logs.open_region held.opened in
+      sym (all_open p.logs.log_sectors (seen new) p.logs.open_region place)
+      ∙ batches_behind p.logs.log_sectors (seen new) (seen old) same (open_records p.logs.open_region)
+      ∙ all_open p.logs.log_sectors (seen old) p.logs.open_region place
+
+  -- after a flush nothing is sealed, and no region is closed
+  pub installed_sealed : (job : Job) (sealed : List Version) → AreSealedIn p (seen old) sealed → AreSealedIn (installed_in p old levels job next_table outputs) (seen new) (if is_flush job then [] else sealed)
+  installed_sealed Flush sealed are = refl
+  installed_sealed (Merge i upper lower) sealed are = are ∙ ap (λ (t : Batches). with_batches p.logs.base t []) (sym still_closed)
+
+  -- memory is that of the same log
+  pub installed_logged : (job : Job) (memory : List Version) → AreLoggedIn p (seen old) memory → AreLoggedIn (installed_in p old levels job next_table outputs) (seen new) memory
+  installed_logged Flush memory are =
+      are
+      ∙ ap (λ (k : ℕ). with_batches k (open_batches p.logs.open_region (seen old)) []) (sym (add-zero (p.logs.base + length (closed_in p (seen old)))))
+      ∙ ap (λ (t : Batches). with_batches (p.logs.base + length (closed_in p (seen old)) + 0) t []) (sym still_open)
+  installed_logged (Merge i upper lower) memory are =
+      are
+      ∙ ap (λ (t : Batches). with_batches (p.logs.base + length t) (open_batches p.logs.open_region (seen old)) []) (sym still_closed)
+      ∙ ap (λ (t : Batches). with_batches (p.logs.base + length (closed_in p (seen new))) t []) (sym still_open)
 
 -- ---- an opening
 

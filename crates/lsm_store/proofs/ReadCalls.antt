@@ -19,7 +19,8 @@ use Rattle.lsm_levels.specs.Stored.{IsReadable}
 use Rattle.lsm_mem.specs.Paging.{Page, page_of}
 use Rattle.lsm_mem.specs.Versions.{map_of}
 use Rattle.lsm_open.specs.RecoveredTables.{StandForOne}
-use Rattle.lsm_store.specs.Backing.{StoreView, IsBacked, data_start}
+use Rattle.lsm_store.specs.Accounts.{tables_placed, AreNumbered}
+use Rattle.lsm_store.specs.Backing.{StoreView, IsBacked, data_start, work_machine_of}
 use Rattle.lsm_store.specs.Calls.{Call, Reply}
 use Rattle.lsm_store.specs.Calls.{Get, Scan, Value, Rows, Refused, reply_of}
 use Rattle.lsm_store.specs.Crash.{left_inside}
@@ -28,7 +29,7 @@ use Rattle.lsm_store.specs.Effects.{Untouched, Reads}
 use Rattle.lsm_store.specs.Reading.{ReadsThrough}
 use Rattle.lsm_store.specs.Refusals.{refusal}
 use Rattle.lsm_store.specs.Run.{Allows, Admits, next}
-use Rattle.lsm_store.specs.Serving.{is_faultless, use_before, use_by, IsUsed, Serves}
+use Rattle.lsm_store.specs.Serving.{is_faultless, work_by, use_before, use_by, IsUsed, Serves}
 use Rattle.lsm_store.specs.State.{map_at}
 use Rattle.lsm_store.specs.StateMaps.{HaveMaps}
 use Rattle.lsm_store.specs.Work.{versions_at, versions_in}
@@ -64,7 +65,7 @@ has_one = ⊎_elim (λ e. absurd (no_fault_there e)) (λ x. x.1)
 
 -- ---- a call that reads
 
-module _ (v : StoreView) (new : Medium) (cache : Cached) (most : ℕ) (ok : Bool) (reads : ReadsThrough most (data_start v) v.work.levels ok (source_of v) (record { cache = cache; medium = new })) where
+module _ (v : StoreView) (numbered : AreNumbered v.work.next_table (tables_placed v.work)) (new : Medium) (cache : Cached) (most : ℕ) (ok : Bool) (reads : ReadsThrough most (data_start v) v.work.levels ok (source_of v) (record { cache = cache; medium = new })) where
   module _ (call : Call) (reply : Reply) (uses : use_of v.state call ≡ Reads) (none : refusal v.state call ≡ None) where
     only_read : IsUsed call reply (use_by v.state call reply) v.device new
     only_read =
@@ -76,22 +77,23 @@ module _ (v : StoreView) (new : Medium) (cache : Cached) (most : ℕ) (ok : Bool
           same_history = reads.unchanged;
         })
 
-    pub serves_on : Admits v.state call reply → (IsBacked v → Allows v.state call reply) → next v.state call reply ≡ v.state → is_faultless reply ≡ ok → Serves v call reply (read_on v new cache)
-    serves_on admitted allowed state faultless = record {
+    pub serves_on : Admits v.state call reply → (IsBacked v → Allows v.state call reply) → next v.state call reply ≡ v.state → is_faultless reply ≡ ok → v.work ≡ work_by (work_machine_of v) call reply → Serves v call reply (read_on v new cache)
+    serves_on admitted allowed state faultless stays = record {
       admitted = admitted;
       allowed = allowed;
       state = sym state;
+      worked = λ running. stays;
       used = only_read;
       fault = reads.faults ∙ sym (ap (λ (b : Bool). faults_after b v.device.calls.faults) faultless);
       same_size = reads.same_size;
       same_lasting = reads.same_lasting;
       crash = λ backed. unchanged (Leaves (StandForOne v.state.log_sectors (left_inside v.state call))) v.device.history new.history (reads.unchanged backed.tells) (now_inside v call backed);
-      backed = backed_on v new cache most ok reads;
+      backed = backed_on v new cache most ok reads numbered;
     }
 
 -- ---- of the map that the versions have at a count
 
-module _ (v : StoreView) (at : At) (count : ℕ) (same : HaveMaps (versions_in v.work) v.state → map_of (versions_in v.work) count ≡ map_at v.state at) where
+module _ (v : StoreView) (numbered : AreNumbered v.work.next_table (tables_placed v.work)) (at : At) (count : ℕ) (same : HaveMaps (versions_in v.work) v.state → map_of (versions_in v.work) count ≡ map_at v.state at) where
   map_is : (call : Call) → refusal v.state call ≡ None → IsBacked v → map_of (versions_in v.work) count ≡ map_at v.state at
   map_is call none backed = same (backed.runs (unrefused_runs v.state call none)).sound.tied.maps
 
@@ -118,22 +120,22 @@ module _ (v : StoreView) (at : At) (count : ℕ) (same : HaveMaps (versions_in v
             → Answers r (λ value. option_map (λ v. v.items) value ≡ finite.get (map_of (versions_in v.work) count) key) (λ refusal. (refusal ≡ Io) ⊎ ((refusal ≡ NoMemory) × (is_some (finite.get (map_of (versions_in v.work) count) key) ≡ true)))
             → IfErr r IsRefusal → Serves v (Get at key) (reply_of (λ value. Value (option_map (λ v. v.items) value)) r) (read_on v new cache)
         serves_get (Ok value) through answers refused =
-            serves_on v new cache most true through (Get at key) (Value (option_map (λ v. v.items) value)) refl none (ap is_some none, refl)
+            serves_on v numbered new cache most true through (Get at key) (Value (option_map (λ v. v.items) value)) refl none (ap is_some none, refl)
             (λ backed. subst (Allows v.state (Get at key)) (sym (ap Value (answers (place_in v) (readable v backed (unrefused_runs v.state (Get at key) none)) (order_is (Get at key) none backed) ∙ asked backed))) (answered v.state (Get at key) none).0)
-            refl refl
+            refl refl refl
         serves_get (Err e) through answers refused =
             ⊎_elim
             (λ io. subst (λ (x : Refusal). Serves v (Get at key) (Refused x) (read_on v new cache)) (sym io)
-            (serves_on v new cache most _ (subst (λ (x : Refusal). Through {T = Option (Vec ℕ Z)} (Err x)) io through) (Get at key) (Refused Io) refl none (ap is_some none, λ (u : Reads ≡ Untouched). no_use u) (λ backed. (ap is_some none, λ u. no_use u)) refl refl))
+            (serves_on v numbered new cache most _ (subst (λ (x : Refusal). Through {T = Option (Vec ℕ Z)} (Err x)) io through) (Get at key) (Refused Io) refl none (ap is_some none, λ (u : Reads ≡ Untouched). no_use u) (λ backed. (ap is_some none, λ u. no_use u)) refl refl refl))
             (⊎_elim
             (λ bad. subst (λ (x : Refusal). Serves v (Get at key) (Refused x) (read_on v new cache)) (sym bad)
-            (serves_on v new cache most _ (subst (λ (x : Refusal). Through {T = Option (Vec ℕ Z)} (Err x)) bad through) (Get at key) (Refused BadTable) refl none (ap is_some none, refl)
+            (serves_on v numbered new cache most _ (subst (λ (x : Refusal). Through {T = Option (Vec ℕ Z)} (Err x)) bad through) (Get at key) (Refused BadTable) refl none (ap is_some none, refl)
             (λ backed. absurd (never_bad (subst (λ (x : Refusal). (x ≡ Io) ⊎ ((x ≡ NoMemory) × (is_some (finite.get (map_of (versions_in v.work) count) key) ≡ true))) bad (answers (place_in v) (readable v backed (unrefused_runs v.state (Get at key) none)) (order_is (Get at key) none backed)))))
-            refl refl))
+            refl refl refl))
             (λ want. subst (λ (x : Refusal). Serves v (Get at key) (Refused x) (read_on v new cache)) (sym want)
-            (serves_on v new cache most _ (subst (λ (x : Refusal). Through {T = Option (Vec ℕ Z)} (Err x)) want through) (Get at key) (Refused NoMemory) refl none (ap is_some none, refl)
+            (serves_on v numbered new cache most _ (subst (λ (x : Refusal). Through {T = Option (Vec ℕ Z)} (Err x)) want through) (Get at key) (Refused NoMemory) refl none (ap is_some none, refl)
             (λ backed. (ap is_some none, ap is_some (sym (asked backed)) ∙ has_one (subst (λ (x : Refusal). (x ≡ Io) ⊎ ((x ≡ NoMemory) × (is_some (finite.get (map_of (versions_in v.work) count) key) ≡ true))) want (answers (place_in v) (readable v backed (unrefused_runs v.state (Get at key) none)) (order_is (Get at key) none backed)))))
-            refl refl)))
+            refl refl refl)))
             refused
 
     -- a page, or why there is none
@@ -142,19 +144,19 @@ module _ (v : StoreView) (at : At) (count : ℕ) (same : HaveMaps (versions_in v
           → IfErr r IsRefusal → Serves v (Scan at from to limit) (reply_of Rows r) (read_on v new cache)
       serves_scan (Ok page) through answers refused =
           let call = Scan at from to limit in
-          serves_on v new cache most true through call (Rows page) refl none (ap is_some none, refl)
+          serves_on v numbered new cache most true through call (Rows page) refl none (ap is_some none, refl)
           (λ backed. subst (Allows v.state call) (sym (ap Rows (answers (place_in v) (readable v backed (unrefused_runs v.state call none)) (order_is call none backed) ∙ ap (λ (m : Map). page_of m from to limit) (map_is call none backed)))) (answered v.state call none).0)
-          refl refl
+          refl refl refl
       serves_scan (Err e) through answers refused =
           let call = Scan at from to limit in
           ⊎_elim
           (λ io. subst (λ (x : Refusal). Serves v call (Refused x) (read_on v new cache)) (sym io)
-          (serves_on v new cache most _ (subst (λ (x : Refusal). Through {T = Page} (Err x)) io through) call (Refused Io) refl none (ap is_some none, λ (u : Reads ≡ Untouched). no_use u) (λ backed. (ap is_some none, λ u. no_use u)) refl refl))
+          (serves_on v numbered new cache most _ (subst (λ (x : Refusal). Through {T = Page} (Err x)) io through) call (Refused Io) refl none (ap is_some none, λ (u : Reads ≡ Untouched). no_use u) (λ backed. (ap is_some none, λ u. no_use u)) refl refl refl))
           (⊎_elim
           (λ bad. subst (λ (x : Refusal). Serves v call (Refused x) (read_on v new cache)) (sym bad)
-          (serves_on v new cache most _ (subst (λ (x : Refusal). Through {T = Page} (Err x)) bad through) call (Refused BadTable) refl none (ap is_some none, refl)
+          (serves_on v numbered new cache most _ (subst (λ (x : Refusal). Through {T = Page} (Err x)) bad through) call (Refused BadTable) refl none (ap is_some none, refl)
           (λ backed. absurd (never_bad_page (subst (λ (x : Refusal). (x ≡ Io) ⊎ (x ≡ NoMemory)) bad (answers (place_in v) (readable v backed (unrefused_runs v.state call none)) (order_is call none backed)))))
-          refl refl))
+          refl refl refl))
           (λ want. subst (λ (x : Refusal). Serves v call (Refused x) (read_on v new cache)) (sym want)
-          (serves_on v new cache most _ (subst (λ (x : Refusal). Through {T = Page} (Err x)) want through) call (Refused NoMemory) refl none (ap is_some none, refl) (λ backed. (ap is_some none, refl)) refl refl)))
+          (serves_on v numbered new cache most _ (subst (λ (x : Refusal). Through {T = Page} (Err x)) want through) call (Refused NoMemory) refl none (ap is_some none, refl) (λ backed. (ap is_some none, refl)) refl refl refl)))
           refused

@@ -20,8 +20,8 @@ no_fault_is e other = refl
 pub serves_refused : (v : StoreView) (call : Call) (e : Refusal) → refusal v.state call ≡ Some e → Serves v call (Refused e) v
 serves_refused v call e is =
     let both = refused v.state call e is in
-    serves_still v call (Refused e) both.0 both.1 (no_fault_is e (refusal_decided v.state call e is).no_fault) (refused_use v.state call (Refused e) e is)
+    serves_still v call (Refused e) both.0 both.1 (no_fault_is e (refusal_decided v.state call e is).no_fault) (refused_use v.state call (Refused e) e is) refl
 
 -- a call that wants memory, and has none
 pub serves_no_memory : (v : StoreView) (call : Call) → refusal v.state call ≡ None → wants_memory v.state call ≡ true → Serves v call (Refused NoMemory) v
-serves_no_memory v call none wants = serves_still v call (Refused NoMemory) (ap is_some none, wants) refl refl (no_memory_use v.state call none)
+serves_no_memory v call none wants = serves_still v call (Refused NoMemory) (ap is_some none, wants) refl refl (no_memory_use v.state call none) refl

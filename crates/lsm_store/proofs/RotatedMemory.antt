@@ -8,6 +8,7 @@ use Rattle.std.proofs.Math.Nat.{add-zero}
 use Rattle.lsm_cache.specs.Recency.{Cached}
 use Rattle.lsm_codec.specs.Versions.{Version, IsEntry}
 use Rattle.lsm_codec.proofs.Lists.{none_length}
+use Rattle.lsm_codec.specs.Geometry.{data_blocks_of}
 use Rattle.lsm_device.specs.Calls.{AtMost, faults_after}
 use Rattle.lsm_device.specs.declared.refusal.Refusal.TheVariants.{Io}
 use Rattle.lsm_device.specs.History.{EachSince}
@@ -31,7 +32,7 @@ use Rattle.lsm_store.specs.Calls.{Rotate, Done, Refused}
 use Rattle.lsm_store.specs.Crash.{left_besides}
 use Rattle.lsm_store.specs.Effects.{after, rotated}
 use Rattle.lsm_store.specs.LiveMarks.{marks}
-use Rattle.lsm_store.specs.Memory.{AreConsistent, CanTake, Agrees, IsInside, LieWithin, IsOpenIn, numbered_layout, state_of, view_of, work_of}
+use Rattle.lsm_store.specs.Memory.{AreConsistent, CanTake, Agrees, IsInside, GoWith, LieWithin, IsOpenIn, numbered_layout, state_of, view_of, work_of}
 use Rattle.lsm_store.specs.RecoveryPoints.{batch_count}
 use Rattle.lsm_store.specs.Refusals.{refusal}
 use Rattle.lsm_store.specs.Run.{stopped_in}
@@ -42,7 +43,8 @@ use Rattle.lsm_store.specs.StoredTables.{with_next}
 use Rattle.lsm_store.specs.WorkEffects.{with_sealed}
 use Rattle.lsm_store.proofs.RotatedLayouts.{rotated_within, rotated_log}
 use Rattle.lsm_store.proofs.RotatedManifests.{next_number}
-use Rattle.lsm_store.proofs.Rotations.{MayRotate, unrefused_rotate, none_closed, log_used, IsInstalling, rotated_on, rotate_done, rotate_io}
+use Rattle.lsm_store.proofs.Installations.{IsInstalling}
+use Rattle.lsm_store.proofs.Rotations.{MayRotate, unrefused_rotate, none_closed, log_used, rotated_on, rotate_done, rotate_io}
 use Rattle.lsm_store.proofs.States.{runs_by, not_running, agrees_stopped}
 
 abbrev log_at : ℕ → ℕ → Option OpenLog
@@ -71,7 +73,7 @@ module _ {A : Type 0} (m : Memory A) (kept : AreConsistent m) (none : refusal (s
 
   module _ (size : ℕ) (inside : IsInside size m) where
     high : m.regions.generation ≤ last_number
-    high = inside.manifest.numbers.generation_high
+    high = inside.lie.manifest.numbers.generation_high
 
     low : (state_of m).generation ≤ last_number
     low = omega (arith, high, kept.agrees.generation)
@@ -79,12 +81,12 @@ module _ {A : Type 0} (m : Memory A) (kept : AreConsistent m) (none : refusal (s
     -- the manifest may have the present number of the next table
     numbered_inside : LieWithin size (numbered_layout m) m.levels
     numbered_inside = record {
-      geometry = inside.geometry;
-      manifest = next_number (contents_for (placed_in (layout_of m.regions) m.levels (records_of m.levels))) m.next_table kept.next.low (omega (arith, kept.next.high)) inside.manifest;
-      inside = inside.inside;
-      regions = inside.regions;
-      tables = inside.tables;
-      few = inside.few;
+      geometry = inside.lie.geometry;
+      manifest = next_number (contents_for (placed_in (layout_of m.regions) m.levels (records_of m.levels))) m.next_table kept.next.low (omega (arith, kept.next.high)) inside.lie.manifest;
+      inside = inside.lie.inside;
+      regions = inside.lie.regions;
+      tables = inside.lie.tables;
+      few = inside.lie.few;
     }
 
     module _ (regions : Regions A) (is : IsRotated (numbered_layout m) m.count (layout_of regions)) where
@@ -95,6 +97,9 @@ module _ {A : Type 0} (m : Memory A) (kept : AreConsistent m) (none : refusal (s
           subst (λ (l : Layout). LieWithin size l m.levels) (sym is.layout)
           (rotated_within size m.count (numbered_layout m) m.levels is.new_log numbered_inside no_region_closed (kept.current runs).opened used_here
           (λ closed. (kept.current runs).tabled closed no_region_closed) kept.count up is.least)
+
+      pub next_inside : (n : ℕ) → n ≡ size → GoWith n (layout_of regions) m.levels m.extents.blocks
+      next_inside n same = subst (λ (k : ℕ). GoWith k (layout_of regions) m.levels m.extents.blocks) (sym same) (record { lie = next_within; area = inside.area ∙ ap (data_blocks_of size) (sym (ap (λ (l : Layout). l.log_sectors) is.layout)) })
 
       least : IsInLeastFree m.regions.log_sectors ((state_of m).generation + 1) (batch_count (state_of m).points) (open_records m.regions.open_region) (Some is.new_log)
       least =
@@ -164,6 +169,7 @@ module _ {A : Type 0} (m : Memory A) (kept : AreConsistent m) (none : refusal (s
           taking = sealed_taking (length regions.closed.items) taken;
           jobs = kept.jobs;
           next = record { low = omega (arith, ap (λ (l : Layout). l.next_table) is.layout); high = kept.next.high };
+          numbered = kept.numbered;
         }
           where
             no : None ≡ Some is.new_log → ⊥
@@ -212,4 +218,5 @@ module _ {A : Type 0} (m : Memory A) (kept : AreConsistent m) (none : refusal (s
           taking = sealed_taking (length m.regions.closed.items) taken;
           jobs = kept.jobs;
           next = kept.next;
+          numbered = kept.numbered;
         }

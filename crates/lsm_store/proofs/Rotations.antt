@@ -2,8 +2,7 @@
 use Rattle.std.proofs.Common.{◌≡◌, ◌≢◌, ◌≤◌, ◌+◌, ℕ, false, List, [], ◌++◌, length, Some, None, is_some, refl, sym, ◌∙◌, ap, subst, arith, IsTrue}
 use Rattle.std.specs.Prelude.{IsNone, ◌==◌}
 use Rattle.std.proofs.lemmas.Bool.{eqb-false, leb-false}
-use Rattle.lsm_codec.specs.Manifests.{Contents}
-use Rattle.lsm_device.specs.Calls.{AtMost, faults_after}
+use Rattle.lsm_device.specs.Calls.{faults_after}
 use Rattle.lsm_device.specs.declared.refusal.Refusal.TheVariants.{Io, Stopped, SealedWaiting, NothingToRotate, Exhausted}
 use Rattle.lsm_device.specs.Disk.{seen, written}
 use Rattle.lsm_device.specs.History.{EachSince}
@@ -18,7 +17,7 @@ use Rattle.lsm_open.specs.Placements.{Placement, contents_for}
 use Rattle.lsm_open.specs.RecoveredTables.{StandForOne}
 use Rattle.lsm_open.specs.Switching.{rotated as rotated_placement, IsInLeastFree}
 use Rattle.lsm_open.specs.declared.regions.OpenRegion.{OpenRegion}
-use Rattle.lsm_root.specs.Installed.{IsReady, IsOldOrNew, IsInstalled}
+use Rattle.lsm_root.specs.Installed.{IsReady, IsInstalled}
 use Rattle.lsm_root.specs.Layout.{behind}
 use Rattle.lsm_root.specs.Roots.{Stands}
 use Rattle.lsm_store.specs.Backing.{StoreView, IsRunOn, IsBacked, placement_of, data_start, work_machine_of}
@@ -35,9 +34,11 @@ use Rattle.lsm_store.specs.WorkEffects.{with_sealed}
 use Rattle.lsm_store.proofs.Backed.{run_backed}
 use Rattle.lsm_store.proofs.CallSounds.{rotation_sound_law}
 use Rattle.lsm_store.proofs.CrashStates.{inside_unrefused}
+use Rattle.lsm_store.proofs.Installations.{IsInstalling}
 use Rattle.lsm_store.proofs.InstalledTables.{next_ready, install_moments, install_stopped, install_stored, install_extents, no_records, rotate_goes_on}
 use Rattle.lsm_store.proofs.LoggedVersions.{rotated_sealed, rotated_logged}
-use Rattle.lsm_store.proofs.RotatedManifests.{goes_on_numbered}
+use Rattle.lsm_store.proofs.RotatedManifests.{goes_on_numbered, rotate_keeps_numbered}
+use Rattle.lsm_store.specs.InstalledJobs.{placed_by}
 use Rattle.lsm_store.proofs.Running.{admits}
 use Rattle.lsm_store.proofs.Serving.{answered, uses, serves_fault}
 use Rattle.lsm_store.proofs.StoredLevels.{levels_kept, blocks_kept}
@@ -65,15 +66,6 @@ module _ (s : State) (may : MayRotate s) where
 
   pub log_used : (log : OpenLog) → s.open_log ≡ Some log → 1 ≤ log.used
   log_used log is = let other = eqb-false log.used 0 (ap is_unused (sym is) ∙ may.used) in omega (arith, other)
-
--- ---- the installation
-
--- What the installation of a root tells, whether it is answered Ok or with a fault.
-pub record IsInstalling (log generation : ℕ) (c : Contents) (old new : Medium) : Type 0 where
-  pub moments : IsTrue old.lasting.tells → IsReady old.size log generation (disk old) → EachSince (Leaves (IsOldOrNew (disk old) (Stands log c))) old.history new.history
-  pub calls : AtMost 0 38 2 old.calls new.calls
-  pub same_size : new.size ≡ old.size
-  pub same_lasting : new.lasting ≡ old.lasting
 
 -- the store after a rotation to a new log
 abbrev pub rotated_on : StoreView → OpenRegion → Medium → StoreView
@@ -103,22 +95,23 @@ module _ (v : StoreView) (none : refusal v.state Rotate ≡ None) (below : v.sta
     goes_on : MayGoOn next (rotated v.state) (disk v.device)
     goes_on =
         goes_on_numbered (rotated_placement now o) (rotated v.state) (disk v.device) v.work.next_table
-        (rotate_goes_on now v.state (disk v.device) runs.stored (none_closed v.state may) (log_used v.state may) has_next o least)
+        (rotate_goes_on now v.state (disk v.device) runs.stored.stored (none_closed v.state may) (log_used v.state may) has_next o least)
 
     pub runs_rotated : (new : Medium) → IsInstalled (disk v.device) (Stands v.layout.log_sectors (contents_for next)) (disk new) → IsRunOn (rotated_on v o new)
     runs_rotated new is =
         let kept : KeepsExtents now (disk v.device) (disk new) = install_extents now (Stands v.layout.log_sectors (contents_for next)) (disk v.device) (disk new) is in
-        let stored : IsStoredIn next (rotated v.state) (disk new) = install_stored now next v.state (rotated v.state) (disk v.device) (disk new) runs.stored refl goes_on is in
-        let none : v.layout.closed ≡ [] = no_records now v.state (disk v.device) runs.stored (none_closed v.state may) in
+        let stored : IsStoredIn next (rotated v.state) (disk new) = install_stored now next v.state (rotated v.state) (disk v.device) (disk new) runs.stored.stored refl goes_on is in
+        let none : v.layout.closed ≡ [] = no_records now v.state (disk v.device) runs.stored.stored (none_closed v.state may) in
         let same : behind (seen (disk new)) ≡ behind (seen (disk v.device)) = ap (λ (c : List (List ℕ)). behind c) (ap (written (disk new).stands) is.settled) ∙ is.stands.all in
         record {
-          stored = stored;
+          stored = rotate_keeps_numbered now (placed_by v.work.jobs.slots) v.state (rotated v.state) o v.work.next_table (disk v.device) (disk new) runs.stored is stored;
           sound = rotation_sound_law (work_machine_of v) runs.sound may.none_waits;
-          sealed = rotated_sealed v.work.next_table now o (disk v.device) (disk new) runs.stored.carried.held stored.carried.held none same v.work.memory runs.logged;
-          logged = rotated_logged v.work.next_table now o (disk v.device) (disk new) runs.stored.carried.held stored.carried.held none same least.new_log.next;
+          sealed = rotated_sealed v.work.next_table now o (disk v.device) (disk new) runs.stored.stored.carried.held stored.carried.held none same v.work.memory runs.logged;
+          logged = rotated_logged v.work.next_table now o (disk v.device) (disk new) runs.stored.stored.carried.held stored.carried.held none same least.new_log.next;
           tables = levels_kept now v.work.levels (disk v.device) (disk new) refl kept runs.tables;
           apart = runs.apart;
           fresh = named_law.kept (data_start v) (seen (disk v.device)) (seen (disk new)) (all_tables (places v.work.levels)) v.cache (blocks_kept now v.work.levels (disk v.device) (disk new) refl kept) runs.fresh;
+          unasked = runs.unasked;
         }
 
   module _ (new : StoreView) (sized : IsTrue v.device.lasting.tells → length (disk v.device).stands ≡ v.device.size) (wrote : IsInstalling v.layout.log_sectors (v.layout.generation + 1) (contents_for next) v.device new.device) where
@@ -126,7 +119,7 @@ module _ (v : StoreView) (none : refusal v.state Rotate ≡ None) (below : v.sta
     runs_here backed = backed.runs may.running
 
     ready : IsBacked v → IsReady v.device.size v.layout.log_sectors (v.layout.generation + 1) (disk v.device)
-    ready backed = subst (λ (n : ℕ). IsReady n v.layout.log_sectors (v.layout.generation + 1) (disk v.device)) (sized backed.tells) (next_ready now v.state (disk v.device) (runs_here backed).stored)
+    ready backed = subst (λ (n : ℕ). IsReady n v.layout.log_sectors (v.layout.generation + 1) (disk v.device)) (sized backed.tells) (next_ready now v.state (disk v.device) (runs_here backed).stored.stored)
 
     -- at every moment a crash leaves what it may
     inside : IsBacked v → EachSince (Leaves (StandForOne v.state.log_sectors (left_inside v.state Rotate))) v.device.history new.device.history
@@ -134,7 +127,7 @@ module _ (v : StoreView) (none : refusal v.state Rotate ≡ None) (below : v.sta
         let s = v.state in
         weaker (Leaves (StandForOne s.log_sectors (may_leave s ++ left_besides s Rotate))) (Leaves (StandForOne s.log_sectors (left_inside s Rotate))) v.device.history new.device.history
         (λ d leaves mask. let one = leaves mask in (one.0, inside_unrefused s Rotate one.0 (ap is_some none) one.1, one.2))
-        (install_moments now next s (rotated s) v.device.history new.device.history (runs_here backed).stored refl (goes_on (runs_here backed)) (wrote.moments backed.tells (ready backed)))
+        (install_moments now next s (rotated s) v.device.history new.device.history (runs_here backed).stored.stored refl (goes_on (runs_here backed)) (wrote.moments backed.tells (ready backed)))
 
     pub rotate_done : (IsTrue v.device.lasting.tells → IsReady v.device.size v.layout.log_sectors (v.layout.generation + 1) (disk v.device) → IsInstalled (disk v.device) (Stands v.layout.log_sectors (contents_for next)) (disk new.device))
         → new.device.calls.faults ≡ v.device.calls.faults → new ≡ rotated_on v o new.device → Serves v Rotate Done new
@@ -144,6 +137,7 @@ module _ (v : StoreView) (none : refusal v.state Rotate ≡ None) (below : v.sta
           admitted = admits v.state Rotate Done goes.0;
           allowed = λ backed. goes.0;
           state = ap (λ (x : StoreView). x.state) is;
+          worked = λ running. ap (λ (x : StoreView). x.work) is;
           used = uses v.state Rotate Done v.device new.device none refl refl wrote.calls;
           fault = faults;
           same_size = wrote.same_size;
@@ -155,5 +149,5 @@ module _ (v : StoreView) (none : refusal v.state Rotate ≡ None) (below : v.sta
 
     pub rotate_io : new.state ≡ stopped_in v.state Rotate → new.device.calls.faults ≡ faults_after false v.device.calls.faults → Serves v Rotate (Refused Io) new
     rotate_io state faults = serves_fault v new Rotate none refl state faults wrote.same_size wrote.same_lasting inside
-        (λ backed. install_stopped now next v.state (rotated v.state) v.device.history new.device.history (runs_here backed).stored refl (goes_on (runs_here backed)) (wrote.moments backed.tells (ready backed)))
+        (λ backed. install_stopped now next v.state (rotated v.state) v.device.history new.device.history (runs_here backed).stored.stored refl (goes_on (runs_here backed)) (wrote.moments backed.tells (ready backed)))
         wrote.calls

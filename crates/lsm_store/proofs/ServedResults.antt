@@ -102,11 +102,11 @@ module _ (v : StoreView) (runs : IsRunOn v) (job : ℕ) (slot : Slot) (is : held
   some_sealed : is_flush slot.job ≡ true → 0 < length v.work.sealed
   some_sealed flush =
       let waits : 1 ≤ v.state.closed = leb-true 1 v.state.closed (runs.sound.waiting.flush_waits slot there flush) in
-      let closed : 1 ≤ length p.logs.closed = omega (arith, waits, runs.stored.state.placed.closed) in
+      let closed : 1 ≤ length p.logs.closed = omega (arith, waits, runs.stored.stored.state.placed.closed) in
       let stands = (disk v.device).stands in
-      subst (λ (vs : List Version). 0 < length vs) (sym (runs.sealed ∙ ap (λ (bs : List (List Operation)). with_batches p.logs.base bs []) (closed_seen p (disk v.device) runs.stored.carried.held)))
+      subst (λ (vs : List Version). 0 < length vs) (sym (runs.sealed ∙ ap (λ (bs : List (List Operation)). with_batches p.logs.base bs []) (closed_seen p (disk v.device) runs.stored.stored.carried.held)))
       (closed_some p.logs.log_sectors stands p.logs.base p.logs.closed closed
-      (All-weaker (IsClosed p.logs (disk v.device)) (λ r. 1 ≤ length (batches_at p.logs.log_sectors stands r)) (λ r one. one.some) p.logs.closed runs.stored.carried.held.closed))
+      (All-weaker (IsClosed p.logs (disk v.device)) (λ r. 1 ≤ length (batches_at p.logs.log_sectors stands r)) (λ r one. one.some) p.logs.closed runs.stored.stored.carried.held.closed))
 
   -- so the job's cut sees one of them
   sees : (sealed : List Version) → v.work.sealed ≡ sealed → 0 < length sealed → slot.input.runs ≡ sealed ∷ [] → SeesSome slot.input

@@ -1,12 +1,12 @@
 -- What each piece of work does, by what the slots answer.
-use Rattle.std.proofs.Common.{◌≡◌, ◌⊎◌, ⊎_elim, ℕ, ◌<◌, ◌^◌, ◌&&◌, ltb, Bool, true, false, cond, List, Option, Some, None, is_some, is_none, refl, sym, ◌∙◌, ap, subst}
+use Rattle.std.proofs.Common.{◌≡◌, ◌⊎◌, ⊎_elim, ℕ, ◌<◌, ◌^◌, ◌&&◌, ltb, Bool, true, false, cond, List, Option, Some, None, is_some, is_none, refl, sym, ◌∙◌, ap, subst, arith}
 use Rattle.std.specs.Prelude.{◌↔◌, option_map, IsNone, Result, Ok, Err, IfOk, IfErr, OnOk, OnErr}
 use Rattle.std.specs.Arc.{arc_value}
 use Rattle.std.specs.declared.sync.Arc.{Arc}
 use Rattle.std.proofs.lemmas.Bool.{false≢true, lt-ltb, ltb-true}
 use Rattle.lsm_cache.specs.Recency.{Cached}
 use Rattle.lsm_codec.specs.Versions.{Version}
-use Rattle.lsm_device.specs.Medium.{Medium}
+use Rattle.lsm_device.specs.Medium.{Medium, disk}
 use Rattle.lsm_device.specs.declared.refusal.Refusal.{Refusal}
 use Rattle.lsm_device.specs.declared.refusal.Refusal.TheVariants.{NoMemory, NoSuchJob, Exhausted}
 use Rattle.lsm_extent.specs.Area.{Area}
@@ -16,12 +16,20 @@ use Rattle.lsm_merge.specs.Inputs.{MergeInput}
 use Rattle.lsm_jobs.specs.Placing.{all_given_back}
 use Rattle.lsm_jobs.specs.Refusing.{HasInput, RefusesInput}
 use Rattle.lsm_jobs.specs.Slots.{Slot, JobSlots, slot_of, held_jobs, with_held, outputs_of}
-use Rattle.lsm_jobs.specs.Taking.{given_job, level_of, told_of, with_taken}
+use Rattle.lsm_jobs.specs.Taking.{given_job, level_of, told_of, slot_for, with_taken}
 use Rattle.lsm_jobs.specs.declared.taking.TakenJob.{TakenJob}
 use Rattle.lsm_jobs.proofs.KeptJobs.{given_picked}
 use Rattle.lsm_open.specs.CrashState.{last_number}
 use Rattle.lsm_store.specs.declared.memory.Memory.{Memory}
-use Rattle.lsm_store.specs.Backing.{StoreView, work_machine_of}
+use Rattle.lsm_store.specs.Accounts.{outputs_in}
+use Rattle.lsm_store.specs.Backing.{StoreView, HasNoneOf, placement_of, work_machine_of}
+use Rattle.lsm_store.specs.InstalledJobs.{placed_by}
+use Rattle.lsm_store.specs.StoredTables.{IsStoredWithJobs}
+use Rattle.lsm_store.proofs.Accounts.{first_none, taken_outputs}
+use Rattle.lsm_store.proofs.PlacedJobs.{taken_placed, none_of_held}
+use Rattle.lsm_store.proofs.PlacedOutputs.{gone_stored}
+use Rattle.lsm_open.specs.Writing.{PlacedTable}
+use Rattle.lsm_levels.specs.Tables.{Table}
 use Rattle.lsm_store.specs.Calls.{Done, Refused}
 use Rattle.lsm_store.specs.Memory.{view_of, state_of, work_of}
 use Rattle.lsm_store.specs.State.{are_waiting}
@@ -32,7 +40,7 @@ use Rattle.lsm_store.specs.Working.{work_reply_of, work_reply_by, work_decided, 
 use Rattle.lsm_store.proofs.AnsweredWork.{ask_answers}
 use Rattle.lsm_store.proofs.HeldTables.{same_taken}
 use Rattle.lsm_store.proofs.WorkSounds.{take_sound, drop_sound}
-use Rattle.lsm_store.proofs.Works.{worked_on, running_refuses, works_still, works_refused, works_want, works_moved, none_used}
+use Rattle.lsm_store.proofs.Works.{IsAnsweredAlone, worked_on, running_refuses, works_still, works_refused, works_want, works_moved, sound_moved, none_used}
 
 module _ {A : Type 0} (m : Memory A) (medium : Medium) (cache : Cached) (running : IsNone (state_of m).stopped) where
   abbrev v : StoreView
@@ -82,7 +90,13 @@ module _ {A : Type 0} (m : Memory A) (medium : Medium) (cache : Cached) (running
       let none : running_refusal w (Drop job) ≡ None = no_slot job (held w job) (λ is. not_err x NoSuchJob (absent.1 is)) in
       let reply : Plain Done ≡ work_decided w (Drop job) = decides (Drop job) none in
       let is : record (work_of m) { jobs = js; area = area } ≡ work_after w (Drop job) = λ i. record (work_of m) { jobs = freed i; area = back i } in
-      works_moved v (Drop job) js m.next_table area (Plain Done) (record { allowed = reply; admitted = reply; next = refl; faultless = refl; state = refl; alone = refl }) is is (λ runs. drop_sound w runs.sound job)
+      let answer : IsAnsweredAlone w (Drop job) (Plain Done) = record { allowed = reply; admitted = reply; next = refl; faultless = refl; state = refl; alone = refl } in
+      works_moved v (Drop job) js m.next_table area (Plain Done) answer is is
+      (λ tells runs. record {
+        sound = sound_moved v (Drop job) js m.next_table area (Plain Done) answer is (drop_sound w runs.sound job);
+        stored = subst (λ (x : JobSlots). IsStoredWithJobs (placement_of v) (placed_by x.slots) v.state (disk medium)) (sym freed) (gone_stored (placement_of v) job m.jobs.slots v.state (disk medium) runs.stored);
+        unasked = subst (λ (x : JobSlots). HasNoneOf m.next_table (outputs_in x.slots) cache) (sym freed) (none_of_held m.next_table m.next_table job None m.jobs.slots cache (omega arith) tt runs.unasked);
+      })
   drop_works job (Err e) js area absent refusals freed back same =
       let is : held w job ≡ None = absent.0 (ap (λ (r : Refusal). Err r) refusals) in
       let none : running_refusal w (Drop job) ≡ Some NoSuchJob = ap (λ (o : Option Slot). cond (is_none o) (Some NoSuchJob) None) is in
@@ -143,7 +157,25 @@ module _ {A : Type 0} (m : Memory A) (medium : Medium) (cache : Cached) (running
       let reply : taken_reply taken ≡ work_decided w Take = ap taken_reply told ∙ told_reply given ∙ decides Take none in
       let is : record (work_of m) { jobs = js } ≡ work_after w Take =
       ap (λ (x : JobSlots). record (work_of m) { jobs = x }) (moved ∙ ap (λ (c : List ℕ). with_taken sealed c m.levels given m.jobs) counts ∙ same_taken sealed (work_of m).sealed (cuts_of (state_of m)) m.levels given m.jobs flush) in
-      works_moved v Take js m.next_table m.extents (taken_reply taken) (record { allowed = reply; admitted = reply; next = refl; faultless = refl; state = refl; alone = refl }) is is (λ runs. take_sound w runs.sound)
+      let answer : IsAnsweredAlone w Take (taken_reply taken) = record { allowed = reply; admitted = reply; next = refl; faultless = refl; state = refl; alone = refl } in
+      works_moved v Take js m.next_table m.extents (taken_reply taken) answer is is
+      (λ tells runs. record {
+        sound = sound_moved v Take js m.next_table m.extents (taken_reply taken) answer is (take_sound w runs.sound);
+        stored = subst (λ (x : JobSlots). IsStoredWithJobs (placement_of v) (placed_by x.slots) v.state (disk medium)) (sym moved) (stored_with given runs.stored);
+        unasked = subst (λ (x : JobSlots). HasNoneOf m.next_table (outputs_in x.slots) cache) (sym moved) (unasked_with given runs.unasked);
+      })
+    where
+      with_one : Option Job → JobSlots
+      with_one o = with_taken sealed cuts m.levels o m.jobs
+
+      stored_with : (o : Option Job) → IsStoredWithJobs (placement_of v) (placed_by m.jobs.slots) v.state (disk medium) → IsStoredWithJobs (placement_of v) (placed_by (with_one o).slots) v.state (disk medium)
+      stored_with None stored = stored
+      stored_with (Some job) stored =
+          subst (λ (l : List PlacedTable). IsStoredWithJobs (placement_of v) l v.state (disk medium)) (sym (taken_placed (slot_for m.jobs.next sealed cuts m.levels job) m.jobs.slots (first_none job))) stored
+
+      unasked_with : (o : Option Job) → HasNoneOf m.next_table (outputs_in m.jobs.slots) cache → HasNoneOf m.next_table (outputs_in (with_one o).slots) cache
+      unasked_with None none = none
+      unasked_with (Some job) none = subst (λ (l : List Table). HasNoneOf m.next_table l cache) (sym (taken_outputs (slot_for m.jobs.next sealed cuts m.levels job) m.jobs.slots (first_none job))) none
   take_works some none sealed cuts counts flush (Err e) js told moved refusals past same =
       ⊎_elim
       (λ is. absurd (past (ap (λ (r : Refusal). Err r) is)))

@@ -1,5 +1,5 @@
 -- What a step of reading does, by what the slots answer.
-use Rattle.std.proofs.Common.{◌≡◌, ◌≢◌, ◌⊎◌, inl, inr, ⊎_elim, ◌≤◌, ◌<◌, ℕ, ◌*◌, ◌-◌, min, Bool, true, false, cond, not, ◌==◌, Some, None, is_some, refl, sym, ◌∙◌, ap, subst, arith, IsTrue}
+use Rattle.std.proofs.Common.{◌≡◌, ◌≢◌, ◌⊎◌, inl, inr, ⊎_elim, ◌≤◌, ◌<◌, ℕ, ◌*◌, ◌-◌, min, Bool, true, false, cond, not, ◌==◌, List, [], Some, None, is_some, refl, sym, ◌∙◌, ap, subst, arith, IsTrue}
 use Rattle.std.specs.Prelude.{◌↔◌, Option, IsNone, Result, Ok, Err, IfErr, IfOk, OnErr}
 use Rattle.std.proofs.lemmas.Bool.{false≢true, eqb-true, ne_eqb}
 use Rattle.lsm_device.specs.Calls.{AtMost, faults_after}
@@ -12,13 +12,13 @@ use Rattle.lsm_device.specs.declared.refusal.Refusal.TheVariants.{NoMemory, Io, 
 use Rattle.lsm_device.proofs.Counting.{AtMost-wider}
 use Rattle.lsm_device.proofs.Moments.{unchanged}
 use Rattle.lsm_jobs.specs.Reading.{IsBadNext, JobReadsOn, stage_with}
-use Rattle.lsm_jobs.specs.Slots.{Stage, Slot, Reading, Frozen, Writing, JobSlots, with_held, is_reading, is_not_at, slot_of, left_at, left_to_read, to_read}
+use Rattle.lsm_jobs.specs.Slots.{Stage, Slot, Reading, Frozen, Writing, JobSlots, with_held, is_reading, is_not_at, slot_of, left_at, left_to_read, to_read, outputs_at}
 use Rattle.lsm_jobs.specs.StoredJobs.{HasStored}
 use Rattle.lsm_levels.specs.Pick.{is_flush}
 use Rattle.lsm_jobs.proofs.Found.{found_there, found_number}
 use Rattle.lsm_jobs.proofs.StoredJobs.{stored_reading_law, never_bad_law}
 use Rattle.lsm_open.specs.RecoveredTables.{StandForOne}
-use Rattle.lsm_store.specs.Backing.{StoreView, IsBacked, data_start, work_machine_of}
+use Rattle.lsm_store.specs.Backing.{StoreView, HasNoneOf, IsRunOn, IsBacked, placement_of, data_start, work_machine_of}
 use Rattle.lsm_store.specs.Calls.{Number, Refused}
 use Rattle.lsm_store.specs.Effects.{Use}
 use Rattle.lsm_store.specs.Effects.{Untouched, Reads, Changes}
@@ -32,7 +32,15 @@ use Rattle.lsm_store.specs.Memory.{AreReadAsMerges}
 use Rattle.lsm_store.proofs.HeldTables.{reading_stored, merges_at}
 use Rattle.lsm_store.proofs.ReadCalls.{none_more, no_use}
 use Rattle.lsm_store.proofs.WorkSounds.{read_sound}
-use Rattle.lsm_store.proofs.Works.{running_refuses, backed_moved, worked_on, now_within, works_refused}
+use Rattle.lsm_store.proofs.Works.{GoesOn, running_refuses, backed_moved, worked_on, now_within, works_refused}
+use Rattle.lsm_store.proofs.Accounts.{read_none}
+use Rattle.lsm_store.proofs.PlacedJobs.{held_placed, none_of_held}
+use Rattle.lsm_store.specs.Accounts.{outputs_in}
+use Rattle.lsm_store.specs.InstalledJobs.{placed_by}
+use Rattle.lsm_store.specs.StoredTables.{IsStoredWithJobs}
+use Rattle.lsm_levels.specs.NamedBlocks.{HasNoBlock}
+use Rattle.lsm_open.specs.Writing.{PlacedTable}
+use Rattle.std.specs.List.{AllByRecursion}
 
 -- What a step of the slots tells of the device, where it answered Ok or not.
 pub record IsReadStep (slot : Option Slot) (ok : Bool) (old new : Medium) : Type 0 where
@@ -151,8 +159,8 @@ module _ (v : StoreView) (job : ℕ) (new : Medium) (running : IsNone v.state.st
       -- such a step, with what it answers
       works_step : (reply : WorkReply) (js : JobSlots) → WorkAdmits m piece reply → (IsBacked v → WorkAllows m piece reply) → (next_worked m piece reply).state ≡ v.state
           → WorksTo reply v piece (record v.work { jobs = js }) → is_faultless_work reply ≡ ok
-          → (IsBacked v → IsSound m → IsSound (record { state = v.state; work = record v.work { jobs = js } })) → Works v piece reply (on_new js)
-      works_step reply js admitted allowed state worked faultless sound = record {
+          → (IsBacked v → IsRunOn v → GoesOn v js v.work.next_table v.work.area) → Works v piece reply (on_new js)
+      works_step reply js admitted allowed state worked faultless goes = record {
         admitted = admitted;
         allowed = allowed;
         state = sym state;
@@ -163,7 +171,7 @@ module _ (v : StoreView) (job : ℕ) (new : Medium) (running : IsNone v.state.st
         same_size = step.same_size;
         same_lasting = step.same_lasting;
         crash = λ backed. unchanged (Leaves (StandForOne v.state.log_sectors (work_left_inside m piece))) v.device.history new.history (step.unchanged backed.tells) (now_within v piece backed);
-        backed = λ backed. backed_moved v js v.work.next_table v.work.area new step.unchanged step.same_lasting (λ runs. sound backed runs.sound) backed;
+        backed = λ backed. backed_moved v js v.work.next_table v.work.area new step.unchanged step.same_lasting (λ tells. goes backed) backed;
       }
 
   -- ---- where the tables of the job stand
@@ -194,10 +202,19 @@ module _ (v : StoreView) (job : ℕ) (new : Medium) (running : IsNone v.state.st
           ∙ ap (λ (n : ℕ). staged w job (stage_with n) read.slot) keeps.eight_less
           ∙ sym (ap (of_slot w (λ slot. staged w job (stage_with (left_at slot.stage - 8)) slot)) read.is)
 
+      none_now : outputs_at read.now.stage ≡ []
+      none_now = ap (λ (s : Slot). outputs_at s.stage) read.reads.becomes ∙ read_none left
+
       pub read_done : Works v piece (Plain (Number left)) (on_new js)
       read_done =
           works_step now_being true step (Plain (Number left)) js answer_is (λ backed. answer_is) refl (record { others = refl; reads = read; kept = work_is }) refl
-          (λ backed sound. subst (λ (w : WorkView). IsSound (record { state = v.state; work = w })) (sym (work_is backed)) (read_sound m sound job))
+          (λ backed runs. record {
+            sound = subst (λ (w : WorkView). IsSound (record { state = v.state; work = w })) (sym (work_is backed)) (read_sound m runs.sound job);
+            stored = subst (λ (x : JobSlots). IsStoredWithJobs (placement_of v) (placed_by x.slots) v.state (disk v.device)) (sym read.becomes)
+                (subst (λ (l : List PlacedTable). IsStoredWithJobs (placement_of v) l v.state (disk v.device)) (sym (held_placed job read.slot read.now v.work.jobs.slots read.is (ap outputs_at read.reads.shows.stage) none_now)) runs.stored);
+            unasked = subst (λ (x : JobSlots). HasNoneOf v.work.next_table (outputs_in x.slots) v.cache) (sym read.becomes)
+                (none_of_held v.work.next_table v.work.next_table job (Some read.now) v.work.jobs.slots v.cache (omega arith) (subst (AllByRecursion (λ t. HasNoBlock t.number v.cache)) (sym none_now) tt) runs.unasked);
+          })
 
     -- ---- it was refused
 
@@ -229,13 +246,13 @@ module _ (v : StoreView) (job : ℕ) (new : Medium) (running : IsNone v.state.st
         read_want : IsReadStep (held m job) true v.device new → Works v piece (Plain (Refused NoMemory)) (on_new v.work.jobs)
         read_want step =
             let may = ap is_some (none being) in
-            works_step being true step (Plain (Refused NoMemory)) v.work.jobs may (λ backed. may) refl refl refl (λ backed sound. sound)
+            works_step being true step (Plain (Refused NoMemory)) v.work.jobs may (λ backed. may) refl refl refl (λ backed runs. record { sound = runs.sound; stored = runs.stored; unasked = runs.unasked })
 
         read_io : 0 < to_read (held m job) → IsReadStep (held m job) false v.device new → Works v piece (Plain (Refused Io)) (on_new v.work.jobs)
         read_io some step =
             let still = fault_by m piece (work_use m piece) (no_changes being) in
             let may : WorkAllows m piece (Plain (Refused Io)) = (ap is_some (none being), λ alone. no_reads (reads_here some) (sym (uses being) ∙ alone)) in
-            works_step being false step (Plain (Refused Io)) v.work.jobs may (λ backed. may) (ap (λ (x : WorkMachine). x.state) still) (sym (ap (λ (x : WorkMachine). x.work) still)) refl (λ backed sound. sound)
+            works_step being false step (Plain (Refused Io)) v.work.jobs may (λ backed. may) (ap (λ (x : WorkMachine). x.state) still) (sym (ap (λ (x : WorkMachine). x.work) still)) refl (λ backed runs. record { sound = runs.sound; stored = runs.stored; unasked = runs.unasked })
           where
             reads_here : 0 < to_read (held m job) → is_whole being ≡ false
             reads_here some = let same = ap to_read being.is ∙ reads_left being.slot.stage being.reading in ne_eqb (left_at being.slot.stage) 0 (λ zero. omega (arith, some, same, zero))
@@ -247,7 +264,7 @@ module _ (v : StoreView) (job : ℕ) (new : Medium) (running : IsNone v.state.st
             → Works v piece (Plain (Refused BadTable)) (on_new v.work.jobs)
         read_bad bad step =
             works_step being true step (Plain (Refused BadTable)) v.work.jobs (ap is_some (none being), refl)
-            (λ backed. absurd (never_bad_law (data_start v) v.device being.slot (stored being backed) (bad being.slot backed.tells being.is))) refl refl refl (λ backed sound. sound)
+            (λ backed. absurd (never_bad_law (data_start v) v.device being.slot (stored being backed) (bad being.slot backed.tells being.is))) refl refl refl (λ backed runs. record { sound = runs.sound; stored = runs.stored; unasked = runs.unasked })
 
       -- The refusals of a step, each with what it tells.
       abbrev pub IsWhy : Bool → Type 0

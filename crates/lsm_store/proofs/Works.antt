@@ -18,14 +18,15 @@ use Rattle.lsm_levels.specs.Levels.{places}
 use Rattle.lsm_levels.specs.Stored.{AreStored}
 use Rattle.lsm_open.specs.Image.{StandFor}
 use Rattle.lsm_open.specs.RecoveredTables.{StandForOne}
-use Rattle.lsm_store.specs.Backing.{StoreView, IsRunOn, IsBacked, placement_of, data_start, work_machine_of}
+use Rattle.lsm_store.specs.Accounts.{outputs_in}
+use Rattle.lsm_store.specs.Backing.{StoreView, HasNoneOf, IsRunOn, IsBacked, placement_of, data_start, work_machine_of}
 use Rattle.lsm_store.specs.Calls.{Refused}
 use Rattle.lsm_store.specs.Crash.{may_leave, last_crash_state}
 use Rattle.lsm_store.specs.Effects.{Use}
 use Rattle.lsm_store.specs.Effects.{Untouched, Reads, Changes}
-use Rattle.lsm_store.specs.InstalledJobs.{AreSealedIn, AreLoggedIn}
+use Rattle.lsm_store.specs.InstalledJobs.{AreSealedIn, AreLoggedIn, placed_by}
 use Rattle.lsm_store.specs.Refusals.{first_refusal}
-use Rattle.lsm_store.specs.StoredTables.{IsStoredIn}
+use Rattle.lsm_store.specs.StoredTables.{IsStoredWithJobs}
 use Rattle.lsm_store.specs.Work.{WorkMachine, Work, Take, Read, Ask, Accept, Write, Install, Drop, WorkReply, Plain}
 use Rattle.lsm_store.specs.WorkEffects.{work_after, state_after, work_use}
 use Rattle.lsm_store.specs.WorkRefusals.{work_refusals, running_refusal, work_refusal}
@@ -117,32 +118,40 @@ want_still m piece may = record { allowed = may; still = record { admitted = may
 
 -- ---- the store with other jobs
 
-module _ (v : StoreView) (js : JobSlots) (number : ℕ) (area : Area) (new : Medium) where
+module _ (v : StoreView) (js : JobSlots) (number : ℕ) (area : Area) where
   -- and another number of the next table
-  abbrev pub moved_on : StoreView
-  moved_on = record v { device = new; work = record v.work { jobs = js; next_table = number; area = area } }
+  abbrev pub moved_on : Medium → StoreView
+  moved_on new = record v { device = new; work = record v.work { jobs = js; next_table = number; area = area } }
 
-  module _ (same : IsTrue v.device.lasting.tells → new.history ≡ v.device.history) (lasting : new.lasting ≡ v.device.lasting) where
+  -- What a running store asks of that: it is sound, its device carries what these jobs have placed, and its cache has no block
+  -- of a table that is still to come.
+  pub record GoesOn : Type 0 where
+    pub sound : IsSound (work_machine_of (moved_on v.device))
+    pub stored : IsStoredWithJobs (placement_of v) (placed_by js.slots) v.state (disk v.device)
+    pub unasked : HasNoneOf number (outputs_in js.slots) v.cache
+
+  module _ (new : Medium) (same : IsTrue v.device.lasting.tells → new.history ≡ v.device.history) (lasting : new.lasting ≡ v.device.lasting) where
     same_disk : IsTrue v.device.lasting.tells → disk v.device ≡ disk new
     same_disk tells = sym (ap present (same tells))
 
-    runs_moved : IsTrue v.device.lasting.tells → IsSound (work_machine_of moved_on) → IsRunOn v → IsRunOn moved_on
-    runs_moved tells sound runs = record {
-      stored = subst (λ (d : Disk). IsStoredIn (placement_of v) v.state d) (same_disk tells) runs.stored;
-      sound = sound;
+    runs_moved : IsTrue v.device.lasting.tells → GoesOn → IsRunOn v → IsRunOn (moved_on new)
+    runs_moved tells goes runs = record {
+      stored = subst (λ (d : Disk). IsStoredWithJobs (placement_of v) (placed_by js.slots) v.state d) (same_disk tells) goes.stored;
+      sound = goes.sound;
       sealed = subst (λ (d : Disk). AreSealedIn (placement_of v) (seen d) v.work.sealed) (same_disk tells) runs.sealed;
       logged = subst (λ (d : Disk). AreLoggedIn (placement_of v) (seen d) v.work.memory) (same_disk tells) runs.logged;
       tables = subst (λ (d : Disk). AreStored (seen d) (data_start v) (places v.work.levels)) (same_disk tells) runs.tables;
       apart = runs.apart;
       fresh = subst (λ (d : Disk). IsFresh (place_in v) (seen d) v.cache) (same_disk tells) runs.fresh;
+      unasked = goes.unasked;
     }
 
-    pub backed_moved : (IsRunOn v → IsSound (work_machine_of moved_on)) → IsBacked v → IsBacked moved_on
+    pub backed_moved : (IsTrue v.device.lasting.tells → IsRunOn v → GoesOn) → IsBacked v → IsBacked (moved_on new)
     backed_moved goes backed = record {
       tells = subst (λ (l : Lasting). IsTrue l.tells) (sym lasting) backed.tells;
       crashes = subst (λ (d : Disk). Leaves (StandForOne v.state.log_sectors (may_leave v.state)) d) (same_disk backed.tells) backed.crashes;
       reads = λ running. subst (λ (d : Disk). StandFor v.state.log_sectors (last_crash_state v.state) (seen d)) (same_disk backed.tells) (backed.reads running);
-      runs = λ running. let runs = backed.runs running in runs_moved backed.tells (goes runs) runs;
+      runs = λ running. let runs = backed.runs running in runs_moved backed.tells (goes backed.tells runs) runs;
     }
 
 -- with other jobs alone
@@ -206,9 +215,8 @@ module _ (v : StoreView) (piece : Work) (js : JobSlots) (number : ℕ) (area : A
       (sym (ap (λ (u : Use). cond (is_some (work_refusal (work_machine_of v) piece)) Untouched (work_use_before u reply)) answer.alone) ∙ changes)
 
   -- one that changes the jobs alone
-  pub works_moved : WorksTo reply v piece (record v.work { jobs = js; next_table = number; area = area }) → (IsRunOn v → IsSound (record { state = state_after (work_machine_of v) piece; work = work_after (work_machine_of v) piece }))
-      → Works v piece reply (moved_on v js number area v.device)
-  works_moved worked sound = record {
+  pub works_moved : WorksTo reply v piece (record v.work { jobs = js; next_table = number; area = area }) → (IsTrue v.device.lasting.tells → IsRunOn v → GoesOn v js number area) → Works v piece reply (moved_on v js number area v.device)
+  works_moved worked goes = record {
     admitted = answer.admitted;
     allowed = λ backed. answer.allowed;
     state = sym answer.state ∙ sym (ap (λ (x : WorkMachine). x.state) answer.next);
@@ -219,5 +227,9 @@ module _ (v : StoreView) (piece : Work) (js : JobSlots) (number : ℕ) (area : A
     same_size = refl;
     same_lasting = refl;
     crash = λ backed. unchanged (Leaves (StandForOne v.state.log_sectors (work_left_inside (work_machine_of v) piece))) v.device.history v.device.history refl (now_within v piece backed);
-    backed = backed_moved v js number area v.device (λ tells. refl) refl (λ runs. subst IsSound (λ i. record { state = answer.state i; work = sym is i }) (sound runs));
+    backed = backed_moved v js number area v.device (λ tells. refl) refl goes;
   }
+
+  -- the machine then is that after the piece
+  pub sound_moved : IsSound (record { state = state_after (work_machine_of v) piece; work = work_after (work_machine_of v) piece }) → IsSound (work_machine_of (moved_on v js number area v.device))
+  sound_moved sound = subst IsSound (λ i. record { state = answer.state i; work = sym is i }) sound

@@ -234,7 +234,7 @@ module _ (p : Placement) (xs ys : List PlacedTable) (s : State) (d : Disk) (slot
 
 pub has_placed : (slots : Slots) (job : ℕ) (slot : Slot) → slot_of job slots ≡ Some slot → HasPlaced slots job slot
 has_placed [] job slot is = absurd cc
-has_placed (None ∷ rest) job slot is = let more = has_placed rest job slot is in record { before = more.before; behind = more.behind; own = more.own; others = more.others }
+has_placed (None ∷ rest) job slot is = let more = has_placed rest job slot is in record { before = more.before; behind = more.behind; own = more.own; others = more.others; changed = more.changed }
 has_placed (Some one ∷ rest) job slot is = by (one.number == job) refl is (λ later. has_placed rest job slot later)
   where
     by : (b : Bool) → (one.number == job) ≡ b → cond b (Some one) (slot_of job rest) ≡ Some slot → (slot_of job rest ≡ Some slot → HasPlaced rest job slot) → HasPlaced (Some one ∷ rest) job slot
@@ -243,6 +243,7 @@ has_placed (Some one ∷ rest) job slot is = by (one.number == job) refl is (λ 
       behind = placed_by rest;
       own = ap (λ (x : Slot). placed_for x ++ placed_by rest) (same_Some one slot here);
       others = ap (λ (b : Bool). placed_by (cond b (None ∷ rest) (Some one ∷ with_held job None rest))) e;
+      changed = λ now. ap (λ (b : Bool). placed_by (cond b (Some now ∷ rest) (Some one ∷ with_held job (Some now) rest))) e;
     }
     by false e there later =
         let more = later there in
@@ -251,4 +252,6 @@ has_placed (Some one ∷ rest) job slot is = by (one.number == job) refl is (λ 
           behind = more.behind;
           own = ap (λ (l : List PlacedTable). placed_for one ++ l) more.own ∙ sym (append_assoc (placed_for one) more.before (placed_for slot ++ more.behind));
           others = ap (λ (b : Bool). placed_by (cond b (None ∷ rest) (Some one ∷ with_held job None rest))) e ∙ ap (λ (l : List PlacedTable). placed_for one ++ l) more.others ∙ sym (append_assoc (placed_for one) more.before more.behind);
+          changed = λ now. ap (λ (b : Bool). placed_by (cond b (Some now ∷ rest) (Some one ∷ with_held job (Some now) rest))) e ∙ ap (λ (l : List PlacedTable). placed_for one ++ l) (more.changed now)
+              ∙ sym (append_assoc (placed_for one) more.before (placed_for now ++ more.behind));
         }

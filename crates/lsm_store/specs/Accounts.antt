@@ -42,6 +42,15 @@ tables_placed w = all_tables (places w.levels) ++ outputs_in w.jobs.slots
 pub record AreAccounted (w : WorkView) : Type 0 where
   pub each : (e : Extent) → extents_like e w.area.held ≡ tables_like e (tables_placed w)
 
+-- how many of these tables have this number
+abbrev pub tables_numbered : ℕ → List Table → ℕ
+tables_numbered n tables = length (filter (λ t. t.number == n) tables)
+
+-- No two of these tables have one number, and each number is below the next table's.
+pub record AreNumbered (next_table : ℕ) (tables : List Table) : Type 0 where
+  pub once : (n : ℕ) → tables_numbered n tables ≤ 1
+  pub below : (n : ℕ) → next_table ≤ n → tables_numbered n tables ≡ 0
+
 -- two tables have no block in common
 abbrev pub LieApart : Table → Table → Type 0
 LieApart t u = (t.start + t.blocks ≤ u.start) ⊎ (u.start + u.blocks ≤ t.start)

@@ -1,16 +1,16 @@
 -- What jobs place, and what an install of a job's outputs makes of the tables that a manifest names.
-use Rattle.std.specs.Prelude.{◌≡◌, ◌≢◌, ◌<◌, ℕ, zero, suc, ◌+◌, ◌-◌, min, List, [], ◌∷◌, ◌++◌, length, map, filter, take, drop, All, Option, Some, None}
-use Rattle.lsm_codec.specs.Pairs.{Pairwise}
+use Rattle.std.specs.Prelude.{◌≡◌, ℕ, zero, suc, ◌+◌, ◌-◌, min, Bool, true, false, List, [], ◌∷◌, ◌++◌, length, map, filter, take, drop, Option, Some, None}
 use Rattle.lsm_codec.specs.Versions.{Version}
 use Rattle.lsm_codec.specs.declared.table_record.TableRecord.{TableRecord}
 use Rattle.lsm_device.specs.Disk.{Disk, seen}
 use Rattle.lsm_levels.specs.Levels.{Levels, level, newer_runs, last_run}
-use Rattle.lsm_levels.specs.Pick.{Job, Flush, Merge, installed as installed_levels}
+use Rattle.lsm_levels.specs.Pick.{Job, Flush, Merge, is_flush, installed as installed_levels}
 use Rattle.lsm_levels.specs.Tables.{Table, KeyRange, record_of, hull, is_below, meets}
 use Rattle.lsm_jobs.specs.Pieces.{sectors_of, sector_count, written_of}
 use Rattle.lsm_jobs.specs.Slots.{Slot, Slots, with_held, outputs_at, left_at}
 use Rattle.lsm_mem.specs.EntryOrder.{with_batches}
-use Rattle.lsm_open.specs.Layout.{open_batches}
+use Rattle.lsm_open.specs.declared.regions.OpenRegion.{OpenRegion}
+use Rattle.lsm_open.specs.Layout.{Layout, open_batches}
 use Rattle.lsm_open.specs.Placements.{Placement, closed_in}
 use Rattle.lsm_open.specs.Switching.{flushed, merged, Parts, with_outputs}
 use Rattle.lsm_open.specs.ToldTables.{records_of_runs, records_of_levels}
@@ -42,19 +42,14 @@ placed_by [] = []
 placed_by (None ∷ rest) = placed_by rest
 placed_by (Some slot ∷ rest) = placed_for slot ++ placed_by rest
 
--- What jobs have placed is what stands before that of one of them, this, and what stands behind it; and without the job the
--- rest of it.
+-- What jobs have placed is what stands before that of one of them, this, and what stands behind it; as the job goes on its own
+-- is another, and without the job there is the rest.
 pub record HasPlaced (slots : Slots) (job : ℕ) (slot : Slot) : Type 0 where
   pub before : List PlacedTable
   pub behind : List PlacedTable
   pub own : placed_by slots ≡ before ++ (placed_for slot ++ behind)
   pub others : placed_by (with_held job None slots) ≡ before ++ behind
-
--- What is placed has numbers below the next table's, and other ones than the tables and than one another.
-pub record HaveNumbers (next_table : ℕ) (p : Placement) (placed : List PlacedTable) : Type 0 where
-  pub below : All (λ x. x.table.number < next_table) placed
-  pub clear : All (λ x. All (λ t. x.table.number ≢ t.number) p.tables) placed
-  pub apart : Pairwise (λ x y. x.table.number ≢ y.table.number) placed
+  pub changed : (now : Slot) → placed_by (with_held job (Some now) slots) ≡ before ++ (placed_for now ++ behind)
 
 -- sealed versions are those of the batches in the closed regions
 abbrev pub AreSealedIn : Placement → List (List ℕ) → List Version → Type 0
@@ -110,3 +105,17 @@ abbrev pub installed_in : Placement → Disk → Levels → Job → ℕ → List
 installed_in p d levels Flush next_table new = flushed p (length (closed_in p (seen d))) next_table (output_records Flush new)
 installed_in p d levels (Merge i upper lower) next_table new =
     merged p next_table (length (installed_levels levels (Merge i upper lower) new).runs) (with_outputs (parts_of levels i upper) (output_records (Merge i upper lower) new))
+
+-- the first batch of the open log, or the next batch where no log is open
+abbrev pub first_open : ℕ → Option OpenRegion → ℕ
+first_open count (Some o) = o.log.first
+first_open count None = count + 1
+
+-- The layout after an install of a flush, or of a merge, behind so many batches, where the next table has this number: after a
+-- flush all batches before the open log are in tables, and no region is closed.
+abbrev pub layout_after : Bool → Layout → ℕ → ℕ → Layout
+layout_after true l count next_table = record l { generation = l.generation + 1; base = first_open count l.open_region - 1; next_table = next_table; closed = [] }
+layout_after false l count next_table = record l { generation = l.generation + 1; next_table = next_table }
+
+abbrev pub installed_layout : Layout → ℕ → ℕ → Job → Layout
+installed_layout l count next_table job = layout_after (is_flush job) l count next_table

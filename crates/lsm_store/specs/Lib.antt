@@ -29,4 +29,5 @@ pub mod StoredTables
 pub mod InstalledJobs
 pub mod Accounts
 pub mod TableLimits
+pub mod InstalledMemory
 pub mod Reading

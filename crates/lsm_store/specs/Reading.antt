@@ -7,10 +7,11 @@ use Rattle.lsm_device.specs.Disk.{seen}
 use Rattle.lsm_device.specs.Medium.{disk}
 use Rattle.lsm_levels.specs.Asking.{Source}
 use Rattle.lsm_levels.specs.Levels.{Levels, places}
+use Rattle.lsm_levels.specs.NamedBlocks.{HaveNone, HasNoBlock}
 use Rattle.lsm_levels.specs.Stored.{ArePlaced}
 
 -- The device is read alone, so many sectors at most, and a read faulted just where it isn't told that all went well. Of tables
--- that have their places the cache goes on to have what the device has.
+-- that have their places the cache goes on to have what the device has, and no blocks of others come into it.
 pub record ReadsThrough (most area : ℕ) (levels : Levels) (ok : Bool) (old new : Source) : Type 0 where
   pub calls : AtMost most 0 0 old.medium.calls new.medium.calls
   pub faults : new.medium.calls.faults ≡ faults_after ok old.medium.calls.faults
@@ -18,3 +19,5 @@ pub record ReadsThrough (most area : ℕ) (levels : Levels) (ok : Bool) (old new
   pub same_size : new.medium.size ≡ old.medium.size
   pub same_lasting : new.medium.lasting ≡ old.medium.lasting
   pub fresh : (place : BlockName → Option ℕ) → IsTrue old.medium.lasting.tells → ArePlaced place area (places levels) → IsFresh place (seen (disk old.medium)) old.cache → IsFresh place (seen (disk new.medium)) new.cache
+  -- it takes in blocks of these tables alone
+  pub others : (number : ℕ) → HaveNone number (places levels) → HasNoBlock number old.cache → HasNoBlock number new.cache

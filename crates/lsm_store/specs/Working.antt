@@ -63,14 +63,14 @@ WorkAllows m piece (Plain (Refused NoMemory)) = MayWant m piece
 WorkAllows m piece (Plain (Refused Io)) = IsNone (work_refusal m piece) × (work_use m piece ≢ Untouched)
 WorkAllows m piece reply = reply ≡ work_decided m piece
 
--- whether a piece of work reads tables
+-- whether a piece of work rests on what tables hold
 abbrev pub reads_tables : Work → Bool
 reads_tables Take = false
 reads_tables (Read job) = true
 reads_tables (Ask job) = false
 reads_tables (Accept job result) = false
 reads_tables (Write job) = false
-reads_tables (Install job) = false
+reads_tables (Install job) = true
 reads_tables (Drop job) = false
 
 -- What a store's memory decides of it, whatever its device holds: all of that, but that what is read may be no table.
@@ -108,9 +108,10 @@ next_worked m piece reply = record { state = state_after m piece; work = work_af
 
 -- ---- the device
 
--- a piece of work that changes the device grows all its memory before it touches it
+-- a piece of work that changes the device takes all its memory, and tests the outputs that it puts in, before it touches it
 abbrev pub work_use_before : Use → WorkReply → Use
 work_use_before Changes (Plain (Refused NoMemory)) = Untouched
+work_use_before Changes (Plain (Refused BadTable)) = Untouched
 work_use_before most reply = most
 
 -- what a piece of work may do with the device that was so answered: nothing where it is refused

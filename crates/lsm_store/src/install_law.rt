@@ -1,28 +1,33 @@
 // Laws of installs: what a job's outputs and the tables of the levels give of the manifest that comes next.
 ghost use Rattle.std.specs.Prelude.{◌≡◌, ◌≤◌, ℕ, ◌+◌, ◌^◌, Bool, List, ◌++◌, length, All, Some};
 ghost use Rattle.std.specs.List.{AllByRecursion};
-ghost use Rattle.lsm_codec.specs.Manifests.{IsManifest};
+ghost use Rattle.lsm_codec.specs.Geometry.{data_blocks_of};
 ghost use Rattle.lsm_device.specs.Disk.{Disk, seen};
+ghost use Rattle.lsm_extent.specs.Area.{IsPartition};
 ghost use Rattle.lsm_jobs.specs.Outputs.{AreMadeOf};
 ghost use Rattle.lsm_jobs.specs.Slots.{Slot, Slots, Writing, slot_of, outputs_at};
-ghost use Rattle.lsm_levels.specs.Held.{AreRuns, IsHeld};
+ghost use Rattle.lsm_levels.specs.Held.{AreRuns, IsHeld, AreOutputs};
 ghost use Rattle.lsm_levels.specs.Levels.{Levels, all_tables, places};
+ghost use Rattle.lsm_levels.specs.NamedBlocks.{AreNumberedApart};
 ghost use Rattle.lsm_levels.specs.Pick.{Job, Flush, Merge, installed as installed_levels};
 ghost use Rattle.lsm_levels.specs.Stored.{IsStored, AreStored};
 ghost use Rattle.lsm_levels.specs.Tables.{Table, versions_of};
 ghost use Rattle.lsm_mem.specs.Versions.{NumberedAtMost};
 ghost use Rattle.lsm_open.specs.CrashState.{last_number};
-ghost use Rattle.lsm_open.specs.Placements.{Placement, contents_for};
+ghost use Rattle.lsm_open.specs.Layout.{Layout};
+ghost use Rattle.lsm_open.specs.Placements.{Placement};
 ghost use Rattle.lsm_open.specs.Switching.{AreFlushed, AreMerged};
 ghost use Rattle.lsm_open.specs.Tables.{first_data, IsTableAt};
 ghost use Rattle.lsm_open.specs.ToldTables.{records_of};
 ghost use Rattle.lsm_open.specs.Writing.{PlacedTable, tables_of};
-ghost use Rattle.lsm_store.specs.InstalledJobs.{output_records, placed_for, HasPlaced, AreSealedIn, HaveNumbers, parts_of, installed_in};
-ghost use Rattle.lsm_root.specs.Layout.{LieInside};
-ghost use Rattle.lsm_store.specs.RecoveryPoints.{batch_count};
+ghost use Rattle.lsm_store.specs.InstalledJobs.{output_records, placed_for, HasPlaced, AreSealedIn, parts_of, installed_in, installed_layout};
+ghost use Rattle.lsm_store.specs.Accounts.{AreNumbered, tables_placed};
+ghost use Rattle.lsm_store.specs.Memory.{HaveTables, LieWithin};
 ghost use Rattle.lsm_store.specs.State.{State};
 ghost use Rattle.lsm_store.specs.StoredTables.{IsStoredWithJobs};
-ghost use Rattle.lsm_store.specs.Work.{WorkMachine};
+ghost use Rattle.lsm_store.specs.TableLimits.{AreFew};
+ghost use Rattle.lsm_store.specs.Work.{WorkMachine, WorkView};
+ghost use Rattle.lsm_store.specs.WorkEffects.{with_installed};
 ghost use Rattle.lsm_store.specs.WorkRefusals.{held};
 ghost use Rattle.lsm_store.specs.WorkSound.{IsSound};
 
@@ -62,18 +67,16 @@ pub fn written_merges_are_merged()
         → AreMerged p (seen d) (parts_of m.work.levels i upper) (output_records (Merge i upper lower) outputs) }
 {}
 
-/// What a next placement names after an install is a manifest, whose tables lie in the device, where it has at most 12
-/// runs in level 0 and 1,024 tables, and numbers don't run out. The outputs' numbers are within the limits.
+/// What the next manifest says after an install is within the limits, whatever the device holds: where there are at most 12
+/// runs of level 0 and 1,024 tables then, and numbers don't run out. The tables in levels have numbers of their own then, and
+/// the outputs' are within the limits.
 pub fn installed_manifests_are_manifests()
-    ensures manifest { (m : WorkMachine) (p : Placement) (xs ys : List PlacedTable) (d : Disk) (job : ℕ) (slot : Slot) (outputs : List Table) (next_table : ℕ) → IsSound m → IsStoredWithJobs p (xs ++ (placed_for slot ++ ys)) m.state d
-        → HaveNumbers next_table p (xs ++ (placed_for slot ++ ys)) → records_of m.work.levels ≡ p.tables → length m.work.levels.runs ≡ p.runs → held m job ≡ Some slot → slot.stage ≡ Writing outputs 0 → AreMadeOf slot.input outputs
-        → p.logs.next_table ≤ next_table → next_table ≤ last_number + 1 → batch_count m.state.points ≤ last_number → m.state.generation + 1 ≤ last_number
-        → length (installed_levels m.work.levels slot.job outputs).runs ≤ 12 → length (all_tables (places (installed_levels m.work.levels slot.job outputs))) ≤ 1024
-        → IsManifest (contents_for (installed_in p d m.work.levels slot.job next_table outputs)) }
-    ensures inside { (m : WorkMachine) (p : Placement) (xs ys : List PlacedTable) (d : Disk) (job : ℕ) (slot : Slot) (outputs : List Table) (next_table : ℕ) → IsSound m → IsStoredWithJobs p (xs ++ (placed_for slot ++ ys)) m.state d
-        → HaveNumbers next_table p (xs ++ (placed_for slot ++ ys)) → records_of m.work.levels ≡ p.tables → held m job ≡ Some slot → slot.stage ≡ Writing outputs 0 → AreMadeOf slot.input outputs → p.logs.next_table ≤ next_table
-        → LieInside (length d.stands) p.logs.log_sectors (installed_in p d m.work.levels slot.job next_table outputs).tables }
-    ensures numbers { (p : Placement) (xs ys : List PlacedTable) (s : State) (d : Disk) (slot : Slot) (outputs : List Table) (next_table : ℕ) → IsStoredWithJobs p (xs ++ (placed_for slot ++ ys)) s d
-        → HaveNumbers next_table p (xs ++ (placed_for slot ++ ys)) → slot.stage ≡ Writing outputs 0 → AreMadeOf slot.input outputs → p.logs.next_table ≤ next_table → next_table ≤ last_number + 1
-        → AllByRecursion (λ t. t.number ≤ 2 ^ 63) outputs }
+    ensures within { (size count : ℕ) (l : Layout) (w : WorkView) (number : ℕ) (slot : Slot) → AreRuns w.levels → HaveTables w.levels w.jobs w.area → AreNumbered w.next_table (tables_placed w) → slot_of number w.jobs.slots ≡ Some slot
+        → AreMadeOf slot.input (outputs_at slot.stage) → AreOutputs slot.job (outputs_at slot.stage) → IsPartition w.area → LieWithin size l w.levels → w.area.blocks ≡ data_blocks_of size l.log_sectors
+        → count ≤ last_number → l.generation + 1 ≤ last_number → l.next_table ≤ w.next_table → w.next_table ≤ last_number + 1 → AreFew (with_installed w number slot).levels
+        → LieWithin size (installed_layout l count w.next_table slot.job) (with_installed w number slot).levels }
+    ensures apart { (w : WorkView) (number : ℕ) (slot : Slot) → AreRuns w.levels → HaveTables w.levels w.jobs w.area → AreNumbered w.next_table (tables_placed w) → slot_of number w.jobs.slots ≡ Some slot
+        → AreMadeOf slot.input (outputs_at slot.stage) → AreOutputs slot.job (outputs_at slot.stage) → AreNumberedApart (all_tables (places (with_installed w number slot).levels)) }
+    ensures numbers { (w : WorkView) (number : ℕ) (slot : Slot) → AreNumbered w.next_table (tables_placed w) → slot_of number w.jobs.slots ≡ Some slot → w.next_table ≤ last_number + 1
+        → AllByRecursion (λ t. t.number ≤ 2 ^ 63) (outputs_at slot.stage) }
 {}

@@ -10,10 +10,9 @@ ghost use Rattle.lsm_open.specs.RecoveredTables.{placed_in};
 ghost use Rattle.lsm_open.specs.Switching.{IsRotated};
 ghost use Rattle.lsm_open.specs.ToldTables.{records_of};
 ghost use Rattle.lsm_store.specs.Calls.{Rotate, Done, reply_of};
-ghost use Rattle.lsm_store.specs.Memory.{AreConsistent, IsInside, LieWithin, numbered_layout, state_of, view_of, work_of};
+ghost use Rattle.lsm_store.specs.Memory.{AreConsistent, IsInside, LieWithin, numbered_layout, state_of, view_of};
 ghost use Rattle.lsm_store.specs.Refusals.{refusal};
 ghost use Rattle.lsm_store.specs.Serving.{Serves};
-ghost use Rattle.lsm_store.specs.WorkEffects.{with_sealed};
 
 use crate::memory::Memory;
 use lsm_device::{Device, Refusal};
@@ -92,7 +91,7 @@ pub(crate) fn rotate<D: Device, A: Allocator + Clone>(
     requires kept { AreConsistent memory.old }
     requires inside { IsInside (D.medium device.old).size memory.old }
     ensures serves { (cache : Cached) → Serves (view_of (D.medium device.old) memory.old cache) Rotate (reply_of (λ _. Done) result) (view_of (D.medium device.new) memory.new cache) }
-    ensures work { OnOk result (work_of memory.new ≡ with_sealed (work_of memory.old)) }
+    ensures numbered { OnOk result (memory.new.regions.next_table ≡ memory.old.next_table) }
 
     // Unless a call of the device failed, nothing has changed: all memory is taken before.
     ensures untouched { IfErr result (λ e. IsTrue (is_no_fault e) → (memory.new ≡ memory.old) × (device.new ≡ device.old)) }

@@ -61,6 +61,14 @@ impl Told {
         Told::of()
     }
 
+    /// One that the present state and a flag decide.
+    pub(crate) fn then_by_flag(&self, _flag: bool) -> Told
+        ghost state: { State }
+        ensures { result.state ≡ state }
+    {
+        Told::of()
+    }
+
     /// One that the parts of a store decide.
     pub(crate) fn by_parts<A: Allocator>(
         _regions: &Regions<A>,

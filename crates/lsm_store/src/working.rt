@@ -1,11 +1,11 @@
 // The pieces of work on jobs, over the parts of a store.
-ghost use Rattle.std.specs.Prelude.{◌≡◌, ℕ, length, Option, Some, None, nat_le, option_map, if◌then◌else◌};
+ghost use Rattle.std.specs.Prelude.{◌≡◌, ℕ, length, Option, Some, None, nat_le, option_map, if◌then◌else◌, IsTrue};
 ghost use Rattle.std.specs.Arc.{arc_value};
 ghost use Rattle.lsm_cache.specs.Recency.{Cached};
-ghost use Rattle.lsm_device.specs.Medium.{Medium};
+ghost use Rattle.lsm_device.specs.Medium.{Medium, disk};
 ghost use Rattle.lsm_store.specs.Calls.{Number, Done};
 ghost use Rattle.lsm_store.specs.Memory.{AreConsistent, IsInside, view_of};
-ghost use Rattle.lsm_store.specs.Work.{Take, Read, Ask, Accept, Drop, Plain, Handed};
+ghost use Rattle.lsm_store.specs.Work.{Take, Read, Ask, Accept, Write, Drop, Plain, Handed};
 ghost use Rattle.lsm_store.specs.Working.{Works, taken_reply, work_reply_of};
 
 use crate::memory::Memory;
@@ -70,6 +70,33 @@ pub(crate) fn read<D: Device, A: Allocator + Clone>(
     memory.jobs.read(alloc, job, area, device)
 }
 
+/// Writes the next blocks of a job's outputs.
+pub(crate) fn write<D: Device, A: Allocator>(
+    device: &mut D,
+    memory: &mut Memory<A>,
+    job: u64,
+) -> Result<u32, Refusal>
+    requires kept { AreConsistent memory.old }
+    requires inside { IsInside (D.medium device.old).size memory.old }
+    ensures works { (cache : Cached) → Works (view_of (D.medium device.old) memory.old cache) (Write job) (work_reply_of (λ left. Plain (Number left)) result) (view_of (D.medium device.new) memory.new cache) }
+    ensures kept { AreConsistent memory.new }
+    ensures inside { IsInside (D.medium device.new).size memory.new }
+{
+    memory.check_running()?;
+    memory.extents.partition();
+    let area = memory.regions.data_start();
+    match memory.jobs.write(job, device, area) {
+        Ok(left) => Ok(left),
+        Err(refusal) => match refusal {
+            Refusal::Io => {
+                memory.stop_in_write();
+                Err(Refusal::Io)
+            }
+            other => Err(other),
+        },
+    }
+}
+
 /// What a job's merge is given.
 pub(crate) fn input<A: Allocator>(memory: &Memory<A>, job: u64) -> Result<Arc<Input<A>, A>, Refusal>
     requires { AreConsistent memory.now }
@@ -86,7 +113,8 @@ pub(crate) fn accept<A: Allocator + Clone>(
     built: &Built<A>,
 ) -> Result<(), Refusal>
     requires { AreConsistent memory.old }
-    ensures works { (medium : Medium) (cache : Cached) → Works (view_of medium memory.old cache) (Accept job (Some built.now)) (work_reply_of (λ _. Plain Done) result) (view_of medium memory.new cache) }
+    ensures works { (medium : Medium) (cache : Cached) → IsInside medium.size memory.old → (IsTrue medium.lasting.tells → length (disk medium).stands ≡ medium.size)
+        → Works (view_of medium memory.old cache) (Accept job (Some built.now)) (work_reply_of (λ _. Plain Done) result) (view_of medium memory.new cache) }
     ensures kept { AreConsistent memory.new }
     ensures inside { (size : ℕ) → IsInside size memory.old → IsInside size memory.new }
 {
@@ -98,6 +126,7 @@ pub(crate) fn accept<A: Allocator + Clone>(
         .jobs
         .accept(alloc, job, built, &mut memory.extents, number)?;
     memory.next_table = next;
+    memory.extents.partition();
     Ok(())
 }
 

@@ -14,6 +14,7 @@ use Rattle.lsm_levels.specs.Stored.{AreWithin, IsReadable}
 use Rattle.lsm_merge.specs.Inputs.{joined}
 use Rattle.lsm_mem.specs.Versions.{map_of}
 use Rattle.lsm_open.specs.Tables.{first_data}
+use Rattle.lsm_levels.proofs.NamedBlocks.{named_law}
 use Rattle.lsm_store.specs.Reading.{ReadsThrough}
 use Rattle.lsm_store.proofs.ReadViews.{Parts, same_parts}
 use Rattle.lsm_store.proofs.reading.look_up.Goals as goal
@@ -23,7 +24,7 @@ find-requires g c =
     let v = c.view_of-view.result in
     let e = c.view_of-view.ensures in
     let size = (g.D.Device.medium c.args.device.now).size in
-    subst (λ (a : ℕ). AreWithin size a (places v.levels.now)) (sym e.area) (subst (λ (l : Levels). AreWithin size (first_data c.args.memory.now.regions.log_sectors) (places l)) (sym e.levels) c.requires.tables)
+    subst (λ (a : ℕ). AreWithin size a (places v.levels.now)) (sym e.area) (subst (λ (l : Levels). AreWithin size (first_data c.args.memory.now.regions.log_sectors) (places l)) (sym e.levels) c.requires.lie.tables)
 
 pub returns-clause-answers : goal.returns-clause-answers
 returns-clause-answers g c =
@@ -44,7 +45,7 @@ returns-clause-reads g c =
     let f = c.find.ensures in
     let old : Source = record { cache = c.args.cache.now; medium = g.D.Device.medium c.args.device.now } in
     let new : Source = record { cache = c.find.new.cache; medium = g.D.Device.medium c.find.new.device } in
-    let few : length (places v.levels.now) ≤ 16 = subst (λ (l : Levels). length (places l) ≤ 16) (sym e.levels) c.requires.few in
+    let few : length (places v.levels.now) ≤ 16 = subst (λ (l : Levels). length (places l) ≤ 16) (sym e.levels) c.requires.lie.few in
     let most : 8 * length (places v.levels.now) ≤ 128 = omega (arith, few) in
     let none : 0 ≤ 0 = omega arith in
     subst (λ (a : ℕ). ReadsThrough 128 a c.args.memory.now.levels (faultless c.find.result) old new) e.area
@@ -56,4 +57,5 @@ returns-clause-reads g c =
       same_size = f.same_size;
       same_lasting = f.same_lasting;
       fresh = f.fresh;
+      others = λ number none before. named_law.looked v.mem.now (sealed_of v.sealed) (places v.levels.now) v.area c.args.key.now c.args.count number _ old new f.looks none before;
     }))

@@ -14,6 +14,7 @@ use Rattle.lsm_merge.specs.Inputs.{joined}
 use Rattle.lsm_mem.specs.Paging.{page_of}
 use Rattle.lsm_mem.specs.Versions.{map_of}
 use Rattle.lsm_open.specs.Tables.{first_data}
+use Rattle.lsm_levels.proofs.NamedBlocks.{named_law}
 use Rattle.lsm_store.specs.Reading.{ReadsThrough}
 use Rattle.lsm_store.proofs.ReadViews.{Parts, same_parts, same_faults}
 use Rattle.lsm_store.proofs.reading.page.Goals as goal
@@ -23,7 +24,7 @@ scan-requires g c =
     let v = c.view_of-view.result in
     let e = c.view_of-view.ensures in
     let size = (g.D.Device.medium c.args.device.now).size in
-    subst (λ (a : ℕ). AreWithin size a (places v.levels.now)) (sym e.area) (subst (λ (l : Levels). AreWithin size (first_data c.args.memory.now.regions.log_sectors) (places l)) (sym e.levels) c.requires.tables)
+    subst (λ (a : ℕ). AreWithin size a (places v.levels.now)) (sym e.area) (subst (λ (l : Levels). AreWithin size (first_data c.args.memory.now.regions.log_sectors) (places l)) (sym e.levels) c.requires.lie.tables)
 
 pub returns-clause-answers : goal.returns-clause-answers
 returns-clause-answers g c =
@@ -55,4 +56,5 @@ returns-clause-reads g c =
       same_size = f.reads.same_size;
       same_lasting = f.reads.same_lasting;
       fresh = f.fresh;
+      others = λ number none before. named_law.scanned v.area from (places v.levels.now) number _ old new f none before;
     }))

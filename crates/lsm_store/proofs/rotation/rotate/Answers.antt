@@ -12,7 +12,7 @@ use Rattle.lsm_store.specs.Refusals.{refusal}
 use Rattle.lsm_store.specs.Run.{stopped_in}
 use Rattle.lsm_store.specs.Serving.{Serves}
 use Rattle.lsm_store.proofs.Refusing.{serves_refused, serves_no_memory}
-use Rattle.lsm_store.proofs.RotatedMemory.{next_within, installing_next, installed_next, rotation_kept, rotation_serves, fault_kept, fault_serves}
+use Rattle.lsm_store.proofs.RotatedMemory.{next_within, next_inside, installing_next, installed_next, rotation_kept, rotation_serves, fault_kept, fault_serves}
 use Rattle.lsm_store.proofs.Unrefused.{err_of}
 use Rattle.lsm_store.proofs.rotation.rotate.Goals as goal
 
@@ -85,8 +85,7 @@ returns-in-Ok-clause-inside g c =
     let regions = c.in_ok-regions.regions in
     let new = g.D.Device.medium c.install.new.device in
     subst (λ (x : Memory g.row.A.Denot). IsInside new.size x) (sym (c.rotate_to.ensures ∙ ap (λ (x : Memory g.row.A.Denot). record x { regions = regions; synced = x.count; told = record { state = after x.told.state Rotate } }) c.in_ok-seal.ensures.begun))
-    (subst (λ (n : ℕ). LieWithin n (layout_of regions) c.args.memory.now.levels) (sym c.in-Ok.ensures.same_size)
-    (next_within c.args.memory.now c.requires.kept c.in_ok-check_rotate.ensures (g.D.Device.medium c.args.device.now).size c.requires.inside regions c.in_ok-regions.ensures.regions))
+    (next_inside c.args.memory.now c.requires.kept c.in_ok-check_rotate.ensures (g.D.Device.medium c.args.device.now).size c.requires.inside regions c.in_ok-regions.ensures.regions new.size c.in-Ok.ensures.same_size)
 
 pub returns-in-Err-clause-serves : goal.returns-in-Err-clause-serves
 returns-in-Err-clause-serves g c = λ cache.

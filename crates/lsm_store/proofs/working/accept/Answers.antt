@@ -10,10 +10,12 @@ use Rattle.lsm_store.proofs.AcceptedResults.{accept_unchanged, accept_done}
 use Rattle.lsm_store.proofs.Unrefused.{err_of}
 use Rattle.lsm_store.proofs.WorkingMemory.{accepted_kept, unaccepted_kept}
 use Rattle.lsm_store.proofs.Works.{moved_on, stopped_refuses, runs_then, works_refused}
+use Rattle.lsm_extent.specs.Area.{Area}
+use Rattle.lsm_store.proofs.ExtentCounts.{out_blocks}
 use Rattle.lsm_store.proofs.working.accept.Goals as goal
 
 pub returns-in_err-check_running-clause-works : goal.returns-in_err-check_running-clause-works
-returns-in_err-check_running-clause-works g c = λ medium cache.
+returns-in_err-check_running-clause-works g c = λ medium cache within sized.
     let old = view_of medium c.args.memory.now cache in
     let piece = Accept c.args.job (Some c.args.built.now) in
     let found = err_of c.from_residual.result _ c.from_residual.ensures.1 in
@@ -21,7 +23,7 @@ returns-in_err-check_running-clause-works g c = λ medium cache.
     (works_refused old piece found.0 (stopped_refuses (work_machine_of old) piece found.0 (c.in_err-check_running.ensures.refused ∙ ap Some (sym found.2))))
 
 pub returns-in_err-next-clause-works : goal.returns-in_err-next-clause-works
-returns-in_err-next-clause-works g c = λ medium cache.
+returns-in_err-next-clause-works g c = λ medium cache within sized.
     let m = c.args.memory.now in
     let old = view_of medium m cache in
     let piece = Accept c.args.job (Some c.args.built.now) in
@@ -36,12 +38,20 @@ pub returns-in_err-next-clause-kept : goal.returns-in_err-next-clause-kept
 returns-in_err-next-clause-kept g c = unaccepted_kept c.args.memory.now c.requires c.accept.new.self c.accept.new.extents c.in_err-next.ensures.unchanged
 
 pub returns-clause-works : goal.returns-clause-works
-returns-clause-works g c = λ medium cache.
+returns-clause-works g c = λ medium cache within sized.
     let m = c.args.memory.now in
     let old = view_of medium m cache in
-    accept_done m medium cache (runs_then (work_machine_of old) c.in_ok-check_running.ensures.refused) c.args.job c.args.built.now c.accept.new.self c.accept.new.extents c.in_ok-next.ensures.accepted c.images-images.ensures.kept c.in_ok-next.next c.in_ok-next.ensures.next
+    let result = c.args.built.now in
+    let kept = accepted_kept m c.requires c.args.job c.in_ok-next.next result.input result.images c.accept.new.self c.accept.new.extents c.in_ok-next.ensures.next c.in_ok-next.ensures.accepted in
+    accept_done m medium cache (runs_then (work_machine_of old) c.in_ok-check_running.ensures.refused) c.args.job c.args.built.now c.accept.new.self c.accept.new.extents c.in_ok-next.ensures.accepted c.images-images.ensures.kept kept.jobs c.partition.ensures within.area sized
+    c.in_ok-next.next c.in_ok-next.ensures.next
 
 pub returns-clause-kept : goal.returns-clause-kept
 returns-clause-kept g c =
     let result = c.args.built.now in
     accepted_kept c.args.memory.now c.requires c.args.job c.in_ok-next.next result.input result.images c.accept.new.self c.accept.new.extents c.in_ok-next.ensures.next c.in_ok-next.ensures.accepted
+
+pub returns-clause-inside : goal.returns-clause-inside
+returns-clause-inside g c = λ size within.
+    let placing = c.in_ok-next.ensures.accepted.placing in
+    record { lie = within.lie; area = ap (λ (x : Area). x.blocks) placing.taken ∙ out_blocks c.in_ok-next.ensures.accepted.tables c.args.memory.now.extents ∙ within.area }

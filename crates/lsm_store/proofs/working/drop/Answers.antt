@@ -8,7 +8,7 @@ use Rattle.lsm_store.specs.Work.{Drop, Plain}
 use Rattle.lsm_store.specs.Working.{Works, work_reply_of}
 use Rattle.lsm_store.proofs.Unrefused.{err_of}
 use Rattle.lsm_store.proofs.WorkAnswers.{drop_works}
-use Rattle.lsm_store.proofs.WorkingMemory.{outputs_held, dropped_kept}
+use Rattle.lsm_store.proofs.WorkingMemory.{outputs_held, dropped_kept, dropped_blocks}
 use Rattle.lsm_store.proofs.Works.{stopped_refuses, runs_then, works_refused}
 use Rattle.lsm_store.proofs.working.drop.Goals as goal
 
@@ -33,3 +33,6 @@ pub returns-clause-kept : goal.returns-clause-kept
 returns-clause-kept g c =
     let e = c.drop.ensures in
     dropped_kept c.args.memory.now c.requires c.args.job c.drop.result c.drop.new.self c.drop.new.extents c.partition.ensures e.freed e.given_back e.unchanged
+
+pub returns-clause-inside : goal.returns-clause-inside
+returns-clause-inside g c = λ size within. record { lie = within.lie; area = dropped_blocks c.args.memory.now c.args.job c.drop.result c.drop.new.self c.drop.new.extents c.drop.ensures.given_back c.drop.ensures.unchanged ∙ within.area }

@@ -13,5 +13,5 @@ pub returns : goal.returns
 returns g c = record {
   works =
       let medium = g.D.Device.medium c.self.inside.device in
-      subst (λ (v : StoreView). Works v (Accept c.args.job (Some c.args.built.now)) (work_reply_of (λ x. Plain Done) c.accept.result) (view_of medium c.accept.new.memory c.self.inside.cache)) c.self.view_is (c.accept.ensures.works medium c.self.inside.cache);
+      subst (λ (v : StoreView). Works v (Accept c.args.job (Some c.args.built.now)) (work_reply_of (λ x. Plain Done) c.accept.result) (view_of medium c.accept.new.memory c.self.inside.cache)) c.self.view_is (c.accept.ensures.works medium c.self.inside.cache c.self.invariant.1 (λ tells. (g.met.D.Device.sound c.self.inside.device tells).now.size));
 }
