@@ -1,0 +1,301 @@
+//! Stores that scripts work on.
+
+use lsm_codec::{Batch, Op};
+use lsm_device::{MemDevice, Refusal};
+use lsm_merge::{Built, build};
+use lsm_open::format;
+use lsm_store::{At, Page, Store, TakenJob};
+use std::alloc::{Allocator, Global};
+use std::process::Abort;
+use std::thread::Threads;
+
+pub(crate) const CACHE: u32 = 256;
+
+/// The sectors of a device.
+pub(crate) const SECTORS: u32 = 8_192;
+
+/// A call of a store, or a piece of work on a job of it. Keys and values have one byte, but for `PutLong`.
+#[derive(Clone, Copy, Debug)]
+pub(crate) enum Piece {
+    Put(u8, u8),
+    /// Puts a value of 2,048 bytes.
+    PutLong(u8),
+    Delete(u8),
+    Sync,
+    Rotate,
+    Snapshot,
+    Get(At, u8),
+    /// Scans from a key on, for one row.
+    Scan(At, u8),
+    Room,
+    Take,
+    Read(u64),
+    Build(u64),
+    /// For the job of a number, the result that was built last.
+    Accept(u64),
+    Write(u64),
+    Install(u64),
+    /// What comes of a job whose input is whole: builds, accepts, writes until nothing is left, and installs.
+    Finish(u64),
+    /// A put of 61 = 31, or 62 = 32, and so on, and its flush, from the rotation to the install, as the job of that number.
+    Run(u8, u64),
+}
+
+/// What is answered.
+#[derive(Clone, Copy, Debug, PartialEq, Eq)]
+pub(crate) enum Answer {
+    Done,
+    Number(u64),
+    /// A value of one byte, or 0 in the place of a longer one.
+    Found(u8),
+    Absent,
+    /// A key, its value, and the next key, 0 where there is none.
+    Row(u8, u8, u8),
+    /// Another page than of one row.
+    OtherPage,
+    /// The number of a job, and the level of its upper tables where it is a merge.
+    Taken(u64, Option<usize>),
+    NoJob,
+    /// How many blocks are left.
+    Left(usize),
+    /// How many tables a result has.
+    Built(usize),
+    /// No result was built.
+    NoResult,
+    Refused(Refusal),
+}
+
+/// A piece with its wanted answer.
+pub(crate) type Line = (Piece, Answer);
+
+/// A store, and the result that was built last of a job of it. Its calls tell the prover nothing.
+pub(crate) struct Working<A: Allocator = Global> {
+    alloc: A,
+    store: Store<MemDevice<A>, A>,
+    result: Option<Built<A>>,
+}
+
+// One call at each exit of a test, in the place of all that a store is made of.
+impl<A: Allocator> Drop for Working<A> {
+    fn drop(self) {
+        let Working {
+            alloc: _,
+            store: _,
+            result: _,
+        } = self;
+    }
+}
+
+/// A formatted device.
+pub(crate) fn formatted<R: Abort, A: Allocator + Clone>(rt: &R, alloc: &A) -> MemDevice<A> {
+    let own = alloc.clone().expect(rt, "an allocator");
+    let device = MemDevice::new(own, SECTORS).expect(rt, "a device");
+    match format(alloc.clone().expect(rt, "an allocator"), device, 128) {
+        Ok(device) => device,
+        Err((refusal, _)) => rt.panic(refusal.name()),
+    }
+}
+
+/// The store on a formatted device.
+pub(crate) fn begun<R: Abort>(rt: &R, alloc: Global) -> Working {
+    Working::open(rt, alloc, formatted(rt, &alloc), CACHE)
+}
+
+/// The store after a crash that keeps nothing that pends.
+pub(crate) fn reopened<R: Abort>(rt: &R, alloc: Global, store: Working) -> Working {
+    Working::open(rt, alloc, store.crash(&[]), CACHE)
+}
+
+/// The only byte, or 0, which no key and no value is.
+fn only(bytes: &[u8]) -> u8 {
+    match bytes {
+        [byte] => *byte,
+        _ => 0,
+    }
+}
+
+fn told_page<A: Allocator>(page: &Page<A>) -> Answer {
+    let next = page.next_key().map_or(0, only);
+    match page.rows() {
+        [row] => Answer::Row(only(row.key()), only(row.value()), next),
+        _ => Answer::OtherPage,
+    }
+}
+
+fn told_end(answer: Result<(), Refusal>) -> Result<Answer, Refusal> {
+    match answer {
+        Ok(()) => Ok(Answer::Done),
+        Err(refusal) => Err(refusal),
+    }
+}
+
+fn told_job(taken: Option<TakenJob>) -> Answer {
+    match taken {
+        Some(job) => Answer::Taken(job.number, job.level),
+        None => Answer::NoJob,
+    }
+}
+
+impl<A: Allocator + Clone> Working<A> {
+    /// Opens the store on a device.
+    pub(crate) fn open<R: Abort>(rt: &R, alloc: A, device: MemDevice<A>, cache: u32) -> Working<A> {
+        match Store::open(alloc.clone().expect(rt, "an allocator"), device, cache) {
+            Ok(store) => Working {
+                alloc,
+                store,
+                result: None,
+            },
+            Err((refusal, _)) => rt.panic(refusal.name()),
+        }
+    }
+
+    fn commit(&mut self, op: Op<A>) -> Result<Answer, Refusal> {
+        let batch = Batch::new(self.alloc.clone()?, op)?;
+        Ok(Answer::Number(self.store.commit(&batch)?))
+    }
+
+    fn put(&mut self, key: u8, value: &[u8]) -> Result<Answer, Refusal> {
+        let op = Op::put(self.alloc.clone()?, &[key], value)?;
+        self.commit(op)
+    }
+
+    fn delete(&mut self, key: u8) -> Result<Answer, Refusal> {
+        let op = Op::delete(self.alloc.clone()?, &[key])?;
+        self.commit(op)
+    }
+
+    fn get(&mut self, at: At, key: u8) -> Result<Answer, Refusal> {
+        match self.store.get(at, &[key])? {
+            Some(value) => Ok(Answer::Found(only(&value))),
+            None => Ok(Answer::Absent),
+        }
+    }
+
+    fn scan(&mut self, at: At, from: u8) -> Result<Answer, Refusal> {
+        let page = self.store.scan(at, &[from], None, 1)?;
+        Ok(told_page(&page))
+    }
+
+    fn accept(&mut self, job: u64) -> Result<Answer, Refusal> {
+        match &self.result {
+            Some(built) => told_end(self.store.job_accept(job, built)),
+            None => Ok(Answer::NoResult),
+        }
+    }
+
+    fn write_all(&mut self, job: u64) -> Result<(), Refusal> {
+        for _ in 0..16 {
+            if self.store.job_write(job)? == 0 {
+                return Ok(());
+            }
+        }
+        Err(Refusal::WrongState)
+    }
+
+    pub(crate) fn batch_count(&self) -> u64 {
+        self.store.batch_count()
+    }
+
+    /// The reads of the device so far.
+    pub(crate) fn reads(&self) -> u64 {
+        self.store.reads()
+    }
+
+    /// Sets the fuse of the device.
+    pub(crate) fn fuse(&mut self, n: u64) {
+        self.store.fuse(n);
+    }
+
+    /// The device after a crash that keeps these pending writes.
+    pub(crate) fn crash(self, keep: &[bool]) -> MemDevice<A> {
+        let Working {
+            alloc: _,
+            store,
+            result: _,
+        } = self;
+        store.into_device().crash(keep)
+    }
+}
+
+impl<A: Allocator + Clone + Send + Sync> Working<A> {
+    fn build<R: Threads + Sync>(&mut self, rt: &R, job: u64) -> Result<Answer, Refusal> {
+        let input = self.store.job_input(job)?;
+        let built = build(rt, self.alloc.clone()?, input, 1)?;
+        let tables = built.images().len();
+        self.result = Some(built);
+        Ok(Answer::Built(tables))
+    }
+
+    fn finish<R: Threads + Sync>(&mut self, rt: &R, job: u64) -> Result<Answer, Refusal> {
+        self.build(rt, job)?;
+        self.accept(job)?;
+        self.write_all(job)?;
+        told_end(self.store.job_install(job))
+    }
+
+    fn run<R: Threads + Sync>(&mut self, rt: &R, key: u8, job: u64) -> Result<Answer, Refusal> {
+        self.put(key, &[key ^ 0x50])?;
+        self.store.rotate()?;
+        let taken = told_job(self.store.job_take()?);
+        if taken != Answer::Taken(job, None) {
+            return Ok(taken);
+        }
+        self.finish(rt, job)
+    }
+
+    fn work<R: Threads + Sync>(&mut self, rt: &R, piece: Piece) -> Result<Answer, Refusal> {
+        match piece {
+            Piece::Put(key, value) => self.put(key, &[value]),
+            Piece::PutLong(key) => self.put(key, &[key; 2_048]),
+            Piece::Delete(key) => self.delete(key),
+            Piece::Sync => told_end(self.store.sync()),
+            Piece::Rotate => told_end(self.store.rotate()),
+            Piece::Snapshot => Ok(Answer::Number(self.store.snapshot()?)),
+            Piece::Get(at, key) => self.get(at, key),
+            Piece::Scan(at, from) => self.scan(at, from),
+            Piece::Room => Ok(Answer::Number(self.store.log_room()?.into())),
+            Piece::Take => Ok(told_job(self.store.job_take()?)),
+            Piece::Read(job) => Ok(Answer::Left(self.store.job_read(job)?)),
+            Piece::Build(job) => self.build(rt, job),
+            Piece::Accept(job) => self.accept(job),
+            Piece::Write(job) => Ok(Answer::Left(self.store.job_write(job)? as usize)),
+            Piece::Install(job) => told_end(self.store.job_install(job)),
+            Piece::Finish(job) => self.finish(rt, job),
+            Piece::Run(key, job) => self.run(rt, key, job),
+        }
+    }
+
+    /// What a piece answers.
+    pub(crate) fn answer<R: Threads + Sync>(&mut self, rt: &R, piece: Piece) -> Answer {
+        match self.work(rt, piece) {
+            Ok(answer) => answer,
+            Err(refusal) => Answer::Refused(refusal),
+        }
+    }
+
+    /// Plays a script, each line of which has to be answered as it says.
+    pub(crate) fn play<R: Threads + Sync + Abort>(&mut self, rt: &R, lines: &[Line]) {
+        for (piece, wanted) in lines {
+            let answer = self.answer(rt, *piece);
+            assert!(rt; answer == *wanted, "{piece:?}: {answer:?}");
+        }
+    }
+
+    /// Whether there are so many batches, and just their keys, where batch 1 put 61 = 31, batch 2 62 = 32, and so on.
+    pub(crate) fn has_just<R: Threads + Sync>(&mut self, rt: &R, batches: u64) -> bool {
+        for n in 1..=15_u8 {
+            let found = self.answer(rt, Piece::Get(At::Now, 0x60 | n));
+            let is_put = u64::from(n) <= batches;
+            if found
+                != (if is_put {
+                    Answer::Found(0x30 | n)
+                } else {
+                    Answer::Absent
+                })
+            {
+                return false;
+            }
+        }
+        self.store.batch_count() == batches
+    }
+}
