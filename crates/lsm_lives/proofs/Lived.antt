@@ -14,14 +14,16 @@ use Rattle.lsm_open.specs.RecoveredTables.{StandForOne, FailsWithTables, Crashes
 use Rattle.lsm_open.proofs.Openings.{same_again}
 use Rattle.lsm_store.specs.Backing.{StoreView, machine_of}
 use Rattle.lsm_store.specs.Calls.{Reply}
-use Rattle.lsm_store.specs.Calls.{Number, Done, Value, Rows, Refused}
+use Rattle.lsm_store.specs.Calls.{Number, Done, Value, Rows, Given, Handed, Refused}
 use Rattle.lsm_store.specs.Crash.{reopened, may_leave}
 use Rattle.lsm_store.specs.Lives.{IsAnswered, left_by_life}
 use Rattle.lsm_store.specs.Machine.{Machine, Step}
 use Rattle.lsm_store.specs.RecoveryPoints.{batch_count}
 use Rattle.lsm_store.specs.Run.{last_machine, left_in_run}
-use Rattle.lsm_store.specs.Serving.{OpensTo}
+use Rattle.lsm_store.specs.Serving.{OpensTo, ReopensTo}
 use Rattle.lsm_store.specs.State.{State}
+use Rattle.lsm_store.specs.Work.{no_work}
+use Rattle.lsm_store.proofs.OpenedMachines.{opened as store_opened}
 use Rattle.lsm_lives.specs.Leading.{LifeView, IsLed, LeadsTo, with_fuse}
 use Rattle.lsm_lives.specs.Living.{Holds, AfterCrash}
 use Rattle.lsm_lives.specs.Replaying.{GoOn}
@@ -61,7 +63,7 @@ module _ (log_sectors : ℕ) (opened : CrashState) (others : List CrashState) wh
           (found.0, Contains-append_right others (left_by_opening opened) found.0 found.1, found.2)
 
   -- at the end of a life whose opening answered this store
-  module _ (before : Medium) (s new : StoreView) (opens : OpensTo before log_sectors opened s) (steps : List Step) (more : List Reply) (runs : GoOn s steps more new) where
+  module _ (before : Medium) (s new : StoreView) (opens : OpensTo before log_sectors opened s) (reopens : ReopensTo before s) (steps : List Step) (more : List Reply) (runs : GoOn s steps more new) where
     Left : ℕ → State → Type 0
     Left n t = Leaves (StandForOne n (may_leave t)) (disk new.device)
 
@@ -73,13 +75,13 @@ module _ (log_sectors : ℕ) (opened : CrashState) (others : List CrashState) wh
 
     left : Left log_sectors (last_machine (machine_of s) steps more).state
     unfolding Left
-    left = subst (Left log_sectors) (ap (λ (m : Machine). m.state) runs.machine) (subst (λ (n : ℕ). Left n new.state) same_sectors (runs.backed opens.backed).crashes)
+    left = subst (Left log_sectors) (runs.state opens.backed) (subst (λ (n : ℕ). Left n new.state) same_sectors (runs.backed opens.backed).crashes)
 
     ends_opened : (n : ℕ) → n ≡ batch_count s.state.points → Ends log_sectors opened others steps (Number n ∷ more) (disk new.device)
     unfolding Left
     ends_opened n counted = record {
       machine = machine_of s;
-      answered = (opens.fair, counted ∙ ap (λ (t : State). batch_count t.points) opens.state ∙ add-zero opened.count, record { state = opens.state }, runs.run opens.backed);
+      answered = (opens.fair, counted ∙ ap (λ (t : State). batch_count t.points) opens.state ∙ add-zero opened.count, store_opened before log_sectors opened s opens reopens, runs.run opens.backed);
       crashes = left;
     }
 
@@ -87,13 +89,15 @@ module _ (log_sectors : ℕ) (opened : CrashState) (others : List CrashState) wh
   at_end : (before : Medium) (steps : List Step) (replies : List Reply) (after : Medium) → IsLed before steps replies after → Holds log_sectors opened others (disk before) → Ends log_sectors opened others steps replies (disk after)
   at_end before steps (Number n ∷ more) after (s, begins, counted, end, replays, into) holds =
       subst (λ (m : Medium). Ends log_sectors opened others steps (Number n ∷ more) (disk m)) (sym into)
-      (ends_opened before s end (begins.opens log_sectors opened holds.reads) steps more (go_on s steps more end replays) n counted)
+      (ends_opened before s end (begins.opens log_sectors opened holds.reads) begins.reopens steps more (go_on s steps more end replays) n counted)
   at_end before steps (Refused e ∷ more) after (refuses, stopped) holds =
       let fails = refuses.fails log_sectors opened holds.reads in
-      record { machine = record { state = reopened log_sectors opened }; answered = (fails.fair, stopped); crashes = refused before after e holds fails }
+      record { machine = record { state = reopened log_sectors opened; work = no_work }; answered = (fails.fair, stopped); crashes = refused before after e holds fails }
   at_end before steps (Done ∷ more) after led holds = absurd led
   at_end before steps (Value v ∷ more) after led holds = absurd led
   at_end before steps (Rows page ∷ more) after led holds = absurd led
+  at_end before steps (Given job ∷ more) after led holds = absurd led
+  at_end before steps (Handed input ∷ more) after led holds = absurd led
   at_end before steps [] after led holds = absurd led
 
   -- after the crash

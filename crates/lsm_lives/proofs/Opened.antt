@@ -5,8 +5,7 @@ use Rattle.std.specs.Prelude.{IsTrue, IfOk, IfErr, MatchResult}
 use Rattle.lsm_device.specs.declared.refusal.Refusal.{Refusal}
 use Rattle.lsm_device.specs.declared.refusal.Refusal.TheVariants.{NoMemory, Io, BadGeometry}
 use Rattle.lsm_device.specs.Calls.{AtMost, faults_after}
-use Rattle.lsm_device.specs.Disk.{seen, synced}
-use Rattle.lsm_device.specs.History.{Becomes}
+use Rattle.lsm_device.specs.Disk.{seen}
 use Rattle.lsm_device.specs.Medium.{Medium, Lasting, KeepsFuse, disk}
 use Rattle.lsm_device.specs.Refusals.{is_no_fault}
 use Rattle.lsm_open.specs.CrashState.{CrashState}
@@ -17,7 +16,7 @@ use Rattle.lsm_root.specs.Layout.{IsDeviceSize}
 use Rattle.lsm_open.proofs.Openings.{same_again}
 use Rattle.lsm_store.specs.Backing.{StoreView}
 use Rattle.lsm_store.specs.Calls.{Reply}
-use Rattle.lsm_store.specs.Calls.{Number, Done, Value, Rows, Refused}
+use Rattle.lsm_store.specs.Calls.{Number, Done, Value, Rows, Given, Handed, Refused}
 use Rattle.lsm_store.specs.Lives.{all_stopped}
 use Rattle.lsm_store.specs.Machine.{Step}
 use Rattle.lsm_store.specs.RecoveryPoints.{batch_count}
@@ -124,6 +123,8 @@ lasting_in before steps (Refused e ∷ more) after (fails, stopped) = fails.same
 lasting_in before steps (Done ∷ more) after led = absurd led
 lasting_in before steps (Value v ∷ more) after led = absurd led
 lasting_in before steps (Rows page ∷ more) after led = absurd led
+lasting_in before steps (Given job ∷ more) after led = absurd led
+lasting_in before steps (Handed input ∷ more) after led = absurd led
 lasting_in before steps [] after led = absurd led
 
 none_set : (n : ℕ) → None ≡ Some n → ⊥

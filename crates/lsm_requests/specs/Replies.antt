@@ -4,7 +4,7 @@ use Rattle.std.specs.List.{flat_map}
 use Rattle.lsm_codec.specs.Words.{word_of}
 use Rattle.lsm_codec.specs.Keys.{Bytes}
 use Rattle.lsm_mem.specs.Paging.{Page}
-use Rattle.lsm_store.specs.Calls.{Reply, Number, Done, Value, Rows, Refused}
+use Rattle.lsm_store.specs.Calls.{Reply, Number, Done, Value, Rows, Given, Handed, Refused}
 use Rattle.lsm_language.specs.Faults.{refusal_line}
 use Rattle.lsm_requests.specs.declared.steps.Counted.{Counted}
 use Rattle.lsm_requests.specs.declared.steps.Counted.TheVariants as counted
@@ -41,6 +41,12 @@ rows_line page = codes "rows " ++ flat_map row_pair page.rows ++ next_line page
 abbrev pub page_lines : Page → List ℕ
 page_lines page = flat_map row_line page.rows ++ next_line page
 
+-- a job that was taken, if there was one: a flush, or by the level of its upper tables
+abbrev pub job_line : Option (ℕ × Option ℕ) → List ℕ
+job_line None = codes "none" ++ 10 ∷ []
+job_line (Some (number, None)) = codes "job " ++ decimal number ++ codes " flush" ++ 10 ∷ []
+job_line (Some (number, Some level)) = codes "job " ++ decimal number ++ codes " level " ++ decimal level ++ 10 ∷ []
+
 -- a store's reply
 abbrev pub reply_line : Counted → Reply → List ℕ
 reply_line counted (Number number) = counted_word counted ++ codes " " ++ decimal number ++ 10 ∷ []
@@ -48,6 +54,8 @@ reply_line counted Done = codes "ok" ++ 10 ∷ []
 reply_line counted (Value (Some value)) = codes "value " ++ word_of value ++ 10 ∷ []
 reply_line counted (Value None) = codes "absent" ++ 10 ∷ []
 reply_line counted (Rows page) = rows_line page
+reply_line counted (Given job) = job_line job
+reply_line counted (Handed input) = []
 reply_line counted (Refused refusal) = refusal_line refusal
 
 -- a line for each step

@@ -7,14 +7,15 @@ use Rattle.lsm_device.specs.declared.refusal.Refusal.TheVariants.{Io}
 use Rattle.lsm_open.specs.RecoveredTables.{StandForOne}
 use Rattle.lsm_store.specs.Backing.{StoreView, machine_of, IsBacked}
 use Rattle.lsm_store.specs.Calls.{Call, Reply}
-use Rattle.lsm_store.specs.Calls.{Commit, Sync, SyncTo, Get, Scan, Snapshot, Release, Rotate, LogRoom, Number, Done, Value, Rows, Refused}
+use Rattle.lsm_store.specs.Calls.{Commit, Sync, SyncTo, Get, Scan, Snapshot, Release, Rotate, LogRoom, Number, Done, Value, Rows, Given, Handed, Refused}
 use Rattle.lsm_store.specs.Crash.{may_leave}
 use Rattle.lsm_store.specs.Effects.{after, reply_by, Use, use_of}
 use Rattle.lsm_store.specs.Effects.{Untouched, Reads, Changes}
 use Rattle.lsm_store.specs.RecoveryPoints.{all_synced}
-use Rattle.lsm_store.specs.Machine.{Machine, Step, Called}
+use Rattle.lsm_store.specs.Machine.{Machine, Step, Called, Worked}
 use Rattle.lsm_store.specs.Run.{after_fault, next, next_machine, last_machine, Run}
 use Rattle.lsm_store.specs.State.{State}
+use Rattle.lsm_store.proofs.WorkReplies.{work_keeps}
 use Rattle.lsm_trail.specs.Begins.{Begin, base_of, first_machine}
 use Rattle.lsm_trail.specs.History.{Event, steps_of, replies_of, IsLegal, state_after}
 use Rattle.lsm_shared.specs.Sessions.{ended_state}
@@ -47,9 +48,12 @@ next_sectors s call (Number k) = after_sectors s call
 next_sectors s call Done = after_sectors s call
 next_sectors s call (Value v) = after_sectors s call
 next_sectors s call (Rows page) = after_sectors s call
+next_sectors s call (Given job) = after_sectors s call
+next_sectors s call (Handed input) = after_sectors s call
 
 step_sectors : (m : Machine) (step : Step) (reply : Reply) → (next_machine m step reply).state.log_sectors ≡ m.state.log_sectors
 step_sectors m (Called call) reply = next_sectors m.state call reply
+step_sectors m (Worked piece) reply = work_keeps (λ s. s.log_sectors) (λ s o. refl) (λ flush s. refl) m piece reply
 
 history_sectors : (m : Machine) (log : List Event) → (last_machine m (steps_of log) (replies_of log)).state.log_sectors ≡ m.state.log_sectors
 history_sectors m [] = refl

@@ -8,9 +8,9 @@ use Rattle.lsm_device.specs.declared.refusal.Refusal.{Refusal}
 use Rattle.lsm_device.specs.declared.refusal.Refusal.TheVariants.{NoMemory, TrailFull, NotYours}
 use Rattle.lsm_store.specs.Backing.{StoreView, IsBacked}
 use Rattle.lsm_store.specs.Calls.{Call, Reply}
-use Rattle.lsm_store.specs.Calls.{Commit, Sync, SyncTo, Get, Scan, Snapshot, Release, Rotate, LogRoom, Number, Done, Value, Rows, Refused}
+use Rattle.lsm_store.specs.Calls.{Commit, Sync, SyncTo, Get, Scan, Snapshot, Release, Rotate, LogRoom, Number, Done, Value, Rows, Given, Handed, Refused}
 use Rattle.lsm_store.specs.Effects.{after, takes_memory}
-use Rattle.lsm_store.specs.Machine.{Step, Called}
+use Rattle.lsm_store.specs.Machine.{Step, Called, Worked}
 use Rattle.lsm_store.specs.RecoveryPoints.{batch_count}
 use Rattle.lsm_store.specs.Run.{Allows, Admits, asks_value, asks_page, next}
 use Rattle.lsm_store.specs.Serving.{Serves}
@@ -59,6 +59,8 @@ lost s call (Number n) admitted short = absurd short
 lost s call Done admitted short = absurd short
 lost s call (Value None) admitted short = absurd short
 lost s call (Value (Some v)) admitted short = let k = value_kept s call admitted.1 in (k.0, (admitted.0, k.1))
+lost s call (Given job) admitted short = absurd short
+lost s call (Handed input) admitted short = absurd short
 lost s call (Rows page) admitted short = let k = page_kept s call admitted.1 in (k.0, (admitted.0, k.1))
 
 -- where the state allows the reply, it allows that memory was short
@@ -69,10 +71,14 @@ lost_allowed s call (Number n) allowed short = absurd short
 lost_allowed s call Done allowed short = absurd short
 lost_allowed s call (Value (Some v)) allowed short = value_wanted s call v allowed
 lost_allowed s call (Value None) allowed short = absurd short
+lost_allowed s call (Given job) allowed short = absurd short
+lost_allowed s call (Handed input) allowed short = absurd short
 lost_allowed s call (Rows page) allowed short = page_wanted s call page allowed
 
+-- the call of a step, or any where it is a piece of work
 abbrev call_in : Step → Call
 call_in (Called call) = call
+call_in (Worked piece) = Sync
 
 module _ (id : SessionId) (base : ℕ) (store new : StoreView) (trail : TrailView) (keeper : Seat Event View) (session : IsSession id base store trail keeper) (call : Call) (reply : Reply) (serves : Serves store call reply new) where
   admitted_after : Admits (state_after id.begin trail.log) call reply

@@ -28,7 +28,7 @@ use Rattle.lsm_open.specs.ToldTables.{IsOutlined}
 use Rattle.lsm_table.specs.Division.{TableBlocks}
 use Rattle.std.specs.List.{AllByRecursion}
 use Rattle.lsm_store.specs.Accounts.{outputs_in, AllLieApart, ArePlacedIn}
-use Rattle.lsm_store.specs.Backing.{StoreView, HasNoneOf, IsRunOn, placement_of, work_machine_of}
+use Rattle.lsm_store.specs.Backing.{StoreView, HasNoneOf, IsRunOn, placement_of, machine_of}
 use Rattle.lsm_store.specs.InstalledJobs.{placed_by}
 use Rattle.lsm_store.specs.Memory.{HaveTables}
 use Rattle.lsm_store.specs.StoredTables.{IsStoredWithJobs}
@@ -39,12 +39,14 @@ use Rattle.lsm_store.proofs.PlacedJobs.{none_of_held}
 use Rattle.lsm_store.proofs.PlacedOutputs.{newly_stored}
 use Rattle.lsm_store.specs.Calls.{Done, Refused}
 use Rattle.lsm_store.specs.Memory.{state_of, work_of, view_of}
-use Rattle.lsm_store.specs.Work.{WorkMachine, Work, Accept, Plain}
+use Rattle.lsm_store.specs.Work.{Work, Accept}
 use Rattle.lsm_store.specs.WorkEffects.{work_after}
 use Rattle.lsm_store.specs.WorkRefusals.{running_refusal, work_refusal}
 use Rattle.lsm_store.specs.WorkMaps.{MayBePutIn}
 use Rattle.lsm_store.specs.WorkSound.{IsServed}
-use Rattle.lsm_store.specs.Working.{Works, work_decided, work_reply_by}
+use Rattle.lsm_store.specs.Working.{Works}
+use Rattle.lsm_store.specs.Machine.{Machine}
+use Rattle.lsm_store.specs.WorkReplies.{work_decided, work_reply_by}
 use Rattle.lsm_store.proofs.AnsweredWork.{accept_answers}
 use Rattle.lsm_store.proofs.PlacedImages.{all_placed}
 use Rattle.lsm_store.proofs.ServedResults.{served}
@@ -61,15 +63,15 @@ module _ {A : Type 0} (m : Memory A) (medium : Medium) (cache : Cached) (running
   abbrev v : StoreView
   v = view_of medium m cache
 
-  abbrev w : WorkMachine
-  w = work_machine_of v
+  abbrev w : Machine
+  w = machine_of v
 
   abbrev piece : Work
   piece = Accept job (Some result)
 
   -- ---- it was refused
 
-  pub accept_refused : (e : Refusal) → RefusesResult m.next_table result.input result.images m.extents (slot_of job m.jobs.slots) e → Works v piece (Plain (Refused e)) v
+  pub accept_refused : (e : Refusal) → RefusesResult m.next_table result.input result.images m.extents (slot_of job m.jobs.slots) e → Works v piece (Refused e) v
   accept_refused e is = ⊎_elim
       (λ one. ⊎_elim
       (λ decided. works_refused v piece e (running_refuses w piece running ∙ decided))
@@ -77,15 +79,15 @@ module _ {A : Type 0} (m : Memory A) (medium : Medium) (cache : Cached) (running
       (λ want. short want.0 (inr (running_refuses w piece running ∙ want.1)))
       ((accept_answers w job result).refused e is)
     where
-      short : e ≡ NoMemory → (work_refusal w piece ≡ None) ⊎ (work_refusal w piece ≡ Some NoSpace) → Works v piece (Plain (Refused e)) v
-      short is may = subst (λ (r : Refusal). Works v piece (Plain (Refused r)) v) (sym is) (works_want v piece may)
+      short : e ≡ NoMemory → (work_refusal w piece ≡ None) ⊎ (work_refusal w piece ≡ Some NoSpace) → Works v piece (Refused e) v
+      short is may = subst (λ (r : Refusal). Works v piece (Refused r) v) (sym is) (works_want v piece may)
 
   -- where slots and extents are as they were
   pub accept_unchanged : (e : Refusal) (js : JobSlots) (area : Area) → (js ≡ m.jobs) × (area ≡ m.extents) → RefusesResult m.next_table result.input result.images m.extents (slot_of job m.jobs.slots) e
-      → Works v piece (Plain (Refused e)) (moved_on v js m.next_table area medium)
+      → Works v piece (Refused e) (moved_on v js m.next_table area medium)
   accept_unchanged e js area same is =
-      subst (λ (x : JobSlots). Works v piece (Plain (Refused e)) (moved_on v x m.next_table area medium)) (sym same.0)
-      (subst (λ (x : Area). Works v piece (Plain (Refused e)) (moved_on v m.jobs m.next_table x medium)) (sym same.1) (accept_refused e is))
+      subst (λ (x : JobSlots). Works v piece (Refused e) (moved_on v x m.next_table area medium)) (sym same.0)
+      (subst (λ (x : Area). Works v piece (Refused e) (moved_on v m.jobs m.next_table x medium)) (sym same.1) (accept_refused e is))
 
   -- ---- its tables were placed
 
@@ -118,7 +120,7 @@ module _ {A : Type 0} (m : Memory A) (medium : Medium) (cache : Cached) (running
       ends : IsTrue medium.lasting.tells → AllByRecursion (λ t. t.start + t.blocks ≤ data_blocks_of (length (disk medium).stands) m.regions.log_sectors) is.tables
       ends tells = subst (λ (n : ℕ). AllByRecursion (λ t. t.start + t.blocks ≤ n) is.tables) (blocks ∙ ap (λ (n : ℕ). data_blocks_of n m.regions.log_sectors) (sym (sized tells))) is.placing.inside
 
-      goes_on : (next : ℕ) → m.next_table ≤ next → IsTrue medium.lasting.tells → IsRunOn v → IsSound (work_machine_of (moved_on v js next area medium)) → GoesOn v js next area
+      goes_on : (next : ℕ) → m.next_table ≤ next → IsTrue medium.lasting.tells → IsRunOn v → IsSound (machine_of (moved_on v js next area medium)) → GoesOn v js next area
       goes_on next later tells runs sound = record {
         sound = sound;
         stored = subst (λ (x : JobSlots). IsStoredWithJobs (placement_of v) (placed_by x.slots) v.state (disk medium)) (sym is.staged)
@@ -137,11 +139,11 @@ module _ {A : Type 0} (m : Memory A) (medium : Medium) (cache : Cached) (running
           none_newly number a (image ∷ images) (t ∷ tables) (one, more) low =
               (runs.unasked.later t.number (omega (arith, low, one.number_is)), none_newly (number + 1) _ images tables more (omega (arith, low)))
 
-      pub accept_done : (next : ℕ) → next ≡ m.next_table + length result.images → Works v piece (Plain Done) (moved_on v js next area medium)
+      pub accept_done : (next : ℕ) → next ≡ m.next_table + length result.images → Works v piece Done (moved_on v js next area medium)
       accept_done next counted =
-          let reply : Plain Done ≡ work_decided w piece = sym (ap (work_reply_by w piece) (running_refuses w piece running ∙ none)) in
+          let reply : Done ≡ work_decided w piece = sym (ap (work_reply_by w piece) (running_refuses w piece running ∙ none)) in
           let after : record (work_of m) { jobs = js; next_table = next; area = area } ≡ work_after w piece =
           (λ i. record (work_of m) { jobs = js; next_table = counted i; area = area }) ∙ (accept_answers w job result).after area js is in
-          let answer : IsAnsweredAlone w piece (Plain Done) = record { allowed = reply; admitted = reply; next = refl; faultless = refl; state = refl; alone = refl } in
-          works_moved v piece js next area (Plain Done) answer after after
-          (λ tells runs. goes_on next (omega (arith, counted)) tells runs (sound_moved v piece js next area (Plain Done) answer after (accept_sound w runs.sound job (Some result) (is_served runs))))
+          let answer : IsAnsweredAlone w piece Done = record { allowed = reply; admitted = reply; next = refl; faultless = refl; state = refl; alone = refl } in
+          works_moved v piece js next area Done answer after after
+          (λ tells runs. goes_on next (omega (arith, counted)) tells runs (sound_moved v piece js next area Done answer after (accept_sound w runs.sound job (Some result) (is_served runs))))

@@ -21,9 +21,10 @@ use Rattle.lsm_jobs.proofs.Found.{found_there}
 use Rattle.lsm_store.specs.Accounts.{is_same_extent, extents_like, tables_like, outputs_in, tables_placed, AreAccounted, AccountsLaw, AccountedLaw}
 use Rattle.lsm_store.specs.Calls.{Call, Commit, Sync, SyncTo, Get, Scan, Snapshot, Release, Rotate, LogRoom}
 use Rattle.lsm_store.specs.Refusals.{first_refusal}
-use Rattle.lsm_store.specs.Work.{WorkView, WorkMachine, Work, Take, Read, Ask, Accept, Write, Install, Drop, cuts_of}
+use Rattle.lsm_store.specs.Work.{WorkView, Work, Take, Read, Ask, Accept, Write, Install, Drop, cuts_of}
 use Rattle.lsm_store.specs.WorkEffects.{with_slot_of, staged, with_placed, with_installed, without_job, work_after, work_called}
 use Rattle.lsm_store.specs.WorkRefusals.{job_given, held, of_slot, placing, work_refusals, running_refusal}
+use Rattle.lsm_store.specs.Machine.{Machine}
 use Rattle.lsm_store.proofs.ExtentCounts.{count_append, all_out_like, BeginApart, StandAmong, all_back_like, stand_out, partition_apart, placed_in}
 use Rattle.lsm_store.proofs.OpenedAccounts.{opened_accounts}
 use Rattle.lsm_store.proofs.Unrefused.{none_taken}
@@ -210,7 +211,7 @@ behind_not (suc n) (test ∷ rest) none = behind_not n rest (none_taken test.0 t
 
 -- ---- each piece of work
 
-module _ (m : WorkMachine) (accounts : AreAccounted m.work) where
+module _ (m : Machine) (accounts : AreAccounted m.work) where
   taken_accounts : (o : Option Job) → AreAccounted (record m.work { jobs = with_taken m.work.sealed (cuts_of m.state) m.work.levels o m.work.jobs })
   taken_accounts None = record { each = accounts.each }
   taken_accounts (Some job) = record {
@@ -267,7 +268,7 @@ module _ (m : WorkMachine) (accounts : AreAccounted m.work) where
         by None is = absurd (false≢true (sym there ∙ ap (λ (o : Option Slot). is_none o) is))
         by (Some slot) is = dropped_accounts m.work accounts whole job slot is
 
-worked_accounts : (m : WorkMachine) (work : Work) → AreAccounted m.work → IsPartition m.work.area → AreRuns m.work.levels → AreKept m.work.levels m.work.jobs.next m.work.jobs.slots → running_refusal m work ≡ None → AreAccounted (work_after m work)
+worked_accounts : (m : Machine) (work : Work) → AreAccounted m.work → IsPartition m.work.area → AreRuns m.work.levels → AreKept m.work.levels m.work.jobs.next m.work.jobs.slots → running_refusal m work ≡ None → AreAccounted (work_after m work)
 worked_accounts m Take accounts whole runs kept none = taken_accounts m accounts (job_given m)
 worked_accounts m (Read job) accounts whole runs kept none = read_accounts m accounts job none
 worked_accounts m (Ask job) accounts whole runs kept none = accounts
@@ -276,7 +277,7 @@ worked_accounts m (Write job) accounts whole runs kept none = write_accounts m a
 worked_accounts m (Install job) accounts whole runs kept none = install_accounts m accounts whole runs kept job
 worked_accounts m (Drop job) accounts whole runs kept none = drop_accounts m accounts whole job none
 
-called_accounts : (m : WorkMachine) (call : Call) → AreAccounted m.work → AreAccounted (work_called m call)
+called_accounts : (m : Machine) (call : Call) → AreAccounted m.work → AreAccounted (work_called m call)
 called_accounts m (Commit batch) accounts = record { each = accounts.each }
 called_accounts m Sync accounts = accounts
 called_accounts m (SyncTo number) accounts = accounts

@@ -19,11 +19,12 @@ use Rattle.lsm_jobs.specs.Gathering.{uppers, lowers}
 use Rattle.lsm_jobs.specs.Outputs.{placed_blocks}
 use Rattle.lsm_jobs.specs.Refusing.{HasInput, HasOtherInput, RefusesInput, RefusesResult, RefusesWrite}
 use Rattle.lsm_jobs.specs.Placing.{ArePlaced, FindNoRoom}
-use Rattle.lsm_store.specs.Calls.{Number, Done}
-use Rattle.lsm_store.specs.Work.{WorkView, WorkMachine, Plain, Handed}
+use Rattle.lsm_store.specs.Calls.{Number, Done, Handed}
+use Rattle.lsm_store.specs.Work.{WorkView}
 use Rattle.lsm_store.specs.WorkRefusals.{held, of_slot, is_same_list, is_same_value, is_same_version, is_same_input, placing}
 use Rattle.lsm_store.specs.WorkEffects.{left_then, staged, with_placed}
 use Rattle.lsm_store.specs.JobAnswers.{LendsInput, AcceptsResult, WritesSome, ReadsSome, EndsWritten, JobsLaw}
+use Rattle.lsm_store.specs.Machine.{Machine}
 use Rattle.lsm_store.proofs.PlacedImages.{all_placed, none_placed}
 
 -- ---- whether two inputs are the same
@@ -130,7 +131,7 @@ frozen_stage (Some slot) rest input h = stage_passes is_frozen (Some slot) slot 
 
 -- ---- asking
 
-handed_input : (o : Option Slot) (input : MergeInput) → HasInput input o → of_slot (Plain Done) (λ slot. Handed slot.input) o ≡ Handed input
+handed_input : (o : Option Slot) (input : MergeInput) → HasInput input o → of_slot Done (λ slot. Handed slot.input) o ≡ Handed input
 handed_input None input h = absurd h
 handed_input (Some slot) input h = ap (λ (i : MergeInput). Handed i) h.1
 
@@ -141,7 +142,7 @@ asked_refusal None NoMemory h = absurd h
 asked_refusal (Some slot) NoMemory h = inr (refl, stage_passes is_frozen (Some slot) slot None refl h)
 asked_refusal o other h = absurd h
 
-pub ask_answers : (m : WorkMachine) (job : ℕ) → LendsInput m job
+pub ask_answers : (m : Machine) (job : ℕ) → LendsInput m job
 ask_answers m job = record {
   unrefused = λ input h. frozen_stage (held m job) None input h;
   answer = λ input h. handed_input (held m job) input h;
@@ -162,10 +163,10 @@ written_refusal None Io h = absurd (omega (arith, h))
 written_refusal (Some slot) Io h = inr (refl, stage_passes is_writing (Some slot) slot None refl (some_to_write slot.stage h))
 written_refusal o other h = absurd h
 
-pub write_answers : (m : WorkMachine) (job : ℕ) → WritesSome m job
+pub write_answers : (m : Machine) (job : ℕ) → WritesSome m job
 write_answers m job = record {
   unrefused = λ left jobs h. stage_passes is_writing (held m job) h.slot None h.found h.writing;
-  answer = λ left jobs h. ap (λ (o : Option Slot). Plain (Number (left_then o))) h.found ∙ ap (λ (n : ℕ). Plain (Number n)) (sym h.left_is);
+  answer = λ left jobs h. ap (λ (o : Option Slot). Number (left_then o)) h.found ∙ ap (λ (n : ℕ). Number n) (sym h.left_is);
   after = λ left jobs h.
       ap (λ (js : JobSlots). let w : WorkView = record m.work { jobs = js } in w) h.staged
       ∙ sym (ap (λ (o : Option Slot). of_slot m.work (λ slot. staged m.work job (less_left 8 slot.stage) slot) o) h.found);
@@ -174,12 +175,12 @@ write_answers m job = record {
 
 -- ---- reading
 
-pub read_answers : (m : WorkMachine) (job : ℕ) → ReadsSome m job
+pub read_answers : (m : Machine) (job : ℕ) → ReadsSome m job
 read_answers m job = record {
   unrefused = λ area left medium jobs h. stage_passes is_reading (held m job) h.slot None h.is (ap is_reading h.reads.shows.stage);
   answer = λ area left medium jobs h.
-      ap (λ (o : Option Slot). Plain (Number (left_then o))) h.is
-      ∙ ap (λ (n : ℕ). Plain (Number n)) (left_is area left medium jobs h);
+      ap (λ (o : Option Slot). Number (left_then o)) h.is
+      ∙ ap (λ (n : ℕ). Number n) (left_is area left medium jobs h);
   after = λ area left medium jobs h stays.
       ap (λ (js : JobSlots). let w : WorkView = record m.work { jobs = js } in w) h.becomes
       ∙ ap (λ (s : Slot). let w : WorkView = record m.work { jobs = record { next = m.work.jobs.next; slots = with_held job (Some s) m.work.jobs.slots } } in w) (now_is area left medium jobs h stays)
@@ -247,7 +248,7 @@ as_many number area [] (t ∷ tables) h = absurd h
 as_many number area (image ∷ images) [] h = absurd h
 as_many number area (image ∷ images) (t ∷ tables) (one, later) = ap (λ (n : ℕ). suc n) (as_many (number + 1) _ images tables later)
 
-pub accept_answers : (m : WorkMachine) (job : ℕ) (result : MergeResult) → AcceptsResult m job result
+pub accept_answers : (m : Machine) (job : ℕ) (result : MergeResult) → AcceptsResult m job result
 accept_answers m job result = record {
   unrefused = λ area jobs h.
       own_result (held m job) m.work.next_table result (placing m.work (Some result)) (subst (HasInput result.input) (sym h.found) (h.frozen, h.own)) h.numbers
@@ -265,7 +266,7 @@ accept_answers m job result = record {
 
 -- ---- an install
 
-pub install_answers : (m : WorkMachine) (job : ℕ) → EndsWritten m job
+pub install_answers : (m : Machine) (job : ℕ) → EndsWritten m job
 install_answers m job = record {
   refused = λ e h. ⊎_elim
       (λ none. no_job is_written (held m job) _ none.1 ∙ ap (λ (x : Refusal). Some x) (sym none.0))

@@ -25,7 +25,7 @@ use Rattle.lsm_levels.specs.Tables.{Table}
 use Rattle.lsm_levels.proofs.Ranges.{all_of, of_all}
 use Rattle.lsm_store.specs.Accounts.{outputs_in, tables_placed, AreNumbered}
 use Rattle.lsm_store.proofs.TableNumbers.{none_to_come, none_of_others}
-use Rattle.lsm_store.specs.Backing.{StoreView, HasNoneOf, IsRunOn, IsBacked, placement_of, data_start, work_machine_of}
+use Rattle.lsm_store.specs.Backing.{StoreView, HasNoneOf, IsRunOn, IsBacked, placement_of, data_start, machine_of}
 use Rattle.lsm_store.specs.Calls.{Commit, Sync}
 use Rattle.lsm_store.specs.Crash.{may_leave, last_crash_state}
 use Rattle.lsm_store.specs.Effects.{after}
@@ -118,7 +118,7 @@ module _ (v : StoreView) (runs : IsRunOn v) (none : refusal v.state Sync ≡ Non
   pub runs_synced : (new : Medium) → disk new ≡ synced (disk v.device) → IsRunOn (record v { device = new; state = after v.state Sync })
   runs_synced new same = record {
     stored = subst (λ (d : Disk). IsStoredWithJobs (placement_of v) (placed_by v.work.jobs.slots) (after v.state Sync) d) (sym same) (sync_keeps (placement_of v) (placed_by v.work.jobs.slots) v.state (disk v.device) runs.stored);
-    sound = call_sound_law (work_machine_of v) Sync runs.sound none;
+    sound = call_sound_law (machine_of v) Sync runs.sound none;
     sealed = subst (λ (d : Disk). AreSealedIn (placement_of v) (seen d) v.work.sealed) (sym same) runs.sealed;
     logged = subst (λ (d : Disk). AreLoggedIn (placement_of v) (seen d) v.work.memory) (sym same) runs.logged;
     tables = subst (λ (d : Disk). AreStored (seen d) (data_start v) (places v.work.levels)) (sym same) runs.tables;
@@ -131,7 +131,7 @@ module _ (v : StoreView) (runs : IsRunOn v) (none : refusal v.state Sync ≡ Non
 
 -- the store with the batch
 abbrev pub committed_on : StoreView → List Operation → OpenRegion → Medium → StoreView
-committed_on v batch x new = record { device = new; state = after v.state (Commit batch); layout = record v.layout { open_region = Some x }; work = work_called (work_machine_of v) (Commit batch); cache = v.cache }
+committed_on v batch x new = record { device = new; state = after v.state (Commit batch); layout = record v.layout { open_region = Some x }; work = work_called (machine_of v) (Commit batch); cache = v.cache }
 
 module _ (v : StoreView) (runs : IsRunOn v) (batch : List Operation) (none : refusal v.state (Commit batch) ≡ None) (o x : OpenRegion) (is_open : v.layout.open_region ≡ Some o) (new : Medium) where
   pub runs_committed : EachSince (IsGrownBy o.log (disk v.device)) v.device.history new.history → x.region ≡ o.region → TakesBatch batch o.log x.log → IsOpen x.log (disk new)
@@ -144,7 +144,7 @@ module _ (v : StoreView) (runs : IsRunOn v) (batch : List Operation) (none : ref
       let same : (disk new).stands ≡ (disk v.device).stands = ap (λ (d : Disk). d.stands) last.2 in
       record {
         stored = commit_keeps p (placed_by v.work.jobs.slots) v.state (after v.state (Commit batch)) o x (disk v.device) (disk new) runs.stored is_open last next;
-        sound = call_sound_law (work_machine_of v) (Commit batch) runs.sound none;
+        sound = call_sound_law (machine_of v) (Commit batch) runs.sound none;
         sealed = appended_sealed p v.state o x (disk v.device) (disk new) runs.stored.stored next.carried.held same v.work.sealed runs.sealed;
         logged = appended_logged p v.state o x (disk v.device) (disk new) runs.stored.stored next.carried.held same batch is_open reads v.work.memory runs.logged;
         tables = levels_kept p v.work.levels (disk v.device) (disk new) refl kept runs.tables;
@@ -159,7 +159,7 @@ abbrev pub with_snapshots : StoreView → List LiveSnapshot → ℕ → StoreVie
 with_snapshots v snapshots next = record v { state = record v.state { snapshots = snapshots; next_snapshot = next } }
 
 module _ (v : StoreView) (snapshots : List LiveSnapshot) (next : ℕ) (runs : IsRunOn v) where
-  pub runs_marked : IsSound (work_machine_of (with_snapshots v snapshots next)) → IsRunOn (with_snapshots v snapshots next)
+  pub runs_marked : IsSound (machine_of (with_snapshots v snapshots next)) → IsRunOn (with_snapshots v snapshots next)
   runs_marked sound =
       let is = runs.stored.stored in
       record {

@@ -33,10 +33,11 @@ use Rattle.lsm_store.specs.Calls.{Commit, Sync, SyncTo, Get, Scan, Snapshot, Rel
 use Rattle.lsm_store.specs.Refusals.{refusal}
 use Rattle.lsm_store.specs.Effects.{with_sectors, next_taken, without, after, rotated}
 use Rattle.lsm_store.specs.StateMaps.{points_of, HaveMaps}
-use Rattle.lsm_store.specs.Work.{WorkView, WorkMachine, versions_in}
+use Rattle.lsm_store.specs.Work.{WorkView, versions_in}
 use Rattle.lsm_store.specs.WorkEffects.{work_called, with_sealed}
 use Rattle.lsm_store.specs.WorkMaps.{IsUnique}
 use Rattle.lsm_store.specs.WorkSound.{IsSound, CallSoundLaw, RotationSoundLaw}
+use Rattle.lsm_store.specs.Machine.{Machine}
 use Rattle.lsm_store.proofs.InstalledMaps.{table_versions, in_has, commit_law}
 use Rattle.lsm_store.proofs.Unrefused.{unrefused_commit, unrefused_rotation}
 use Rattle.lsm_store.proofs.Remembering.{present_map-points_of, all_synced-points_of, points_of-next}
@@ -101,7 +102,7 @@ with_cases n (operation ∷ rest) vs u a = ⊎_elim
 some_none : (x : OpenLog) → Some x ≡ None → ⊥
 some_none x e = cc
 
-module _ (m : WorkMachine) (sound : IsSound m) where
+module _ (m : Machine) (sound : IsSound m) where
   abbrev d : HaveMaps (versions_in m.work) m.state
   d = sound.tied.maps
 

@@ -9,13 +9,12 @@ use Rattle.lsm_open.specs.CrashState.{CrashState}
 use Rattle.lsm_store.specs.RecoveryPoints.{RecoveryPoint, recovery_points, present_point, with_batch, all_synced}
 use Rattle.lsm_store.specs.State.{OpenLog, State}
 use Rattle.lsm_store.specs.Calls.{Call, Reply}
-use Rattle.lsm_store.specs.Calls.{Commit, Sync, SyncTo, Get, Scan, Snapshot, Release, Rotate, LogRoom, Number, Done, Value, Rows, Refused}
+use Rattle.lsm_store.specs.Calls.{Commit, Sync, SyncTo, Get, Scan, Snapshot, Release, Rotate, LogRoom, Number, Done, Value, Rows, Given, Handed, Refused}
 use Rattle.lsm_store.specs.Refusals.{refusal}
 use Rattle.lsm_store.specs.Effects.{with_sectors, after, decided, reply_by, Use, use_of}
 use Rattle.lsm_store.specs.Effects.{Untouched, Reads, Changes}
 use Rattle.lsm_store.specs.Crash.{closed_with, crash_state_at, left_between, left_with, may_leave, last_crash_state, left_besides, left_inside}
-use Rattle.lsm_store.specs.Machine.{Machine, Step, Called}
-use Rattle.lsm_store.specs.Run.{Admits, after_fault, next, AdmitsStep, next_machine, left_in_step}
+use Rattle.lsm_store.specs.Run.{Admits, after_fault, next}
 use Rattle.lsm_store.proofs.Membership.{in_head, one_in, in_map, map_cases}
 use Rattle.lsm_store.proofs.Points.{present_in, with_batch_cases, present_synced}
 
@@ -66,7 +65,7 @@ stays_stopped s (Release number) = refl
 stays_stopped s Rotate = refl
 stays_stopped s LogRoom = refl
 
-with_others : (s t : State) (besides : List CrashState) (left : CrashState) → (Contains (left_between t) left → Contains (left_between s ++ besides) left)
+pub with_others : (s t : State) (besides : List CrashState) (left : CrashState) → (Contains (left_between t) left → Contains (left_between s ++ besides) left)
     → (o : Option (List CrashState)) → Contains (left_with t o) left → Contains (left_with s o ++ besides) left
 with_others s t besides left goes None found = goes found
 with_others s t besides left goes (Some others) found = ⊎_elim
@@ -122,6 +121,5 @@ goes_inside s call (Number n) left may found = inside_unrefused s call left (ans
 goes_inside s call Done left may found = inside_unrefused s call left (answer_unrefused s call Done tt may) (after_goes s call left found)
 goes_inside s call (Value v) left may found = inside_unrefused s call left may.0 (after_goes s call left found)
 goes_inside s call (Rows page) left may found = inside_unrefused s call left may.0 (after_goes s call left found)
-
-pub goes_in_step : (m : Machine) (step : Step) (reply : Reply) (left : CrashState) → AdmitsStep m step reply → Contains (may_leave (next_machine m step reply).state) left → Contains (left_in_step m step) left
-goes_in_step m (Called call) reply left may found = goes_inside m.state call reply left may found
+goes_inside s call (Given job) left may found = inside_unrefused s call left (answer_unrefused s call (Given job) tt may) (after_goes s call left found)
+goes_inside s call (Handed input) left may found = inside_unrefused s call left (answer_unrefused s call (Handed input) tt may) (after_goes s call left found)

@@ -9,8 +9,9 @@ use Rattle.lsm_jobs.specs.Refusing.{IsNotWritten}
 use Rattle.lsm_jobs.specs.Slots.{Stage, Slot, Writing, is_written, is_not_at, outputs_at}
 use Rattle.lsm_levels.specs.Levels.{Levels, all_tables, places}
 use Rattle.lsm_open.specs.CrashState.{last_number}
-use Rattle.lsm_store.specs.Work.{WorkMachine, Install}
+use Rattle.lsm_store.specs.Work.{Install}
 use Rattle.lsm_store.specs.WorkRefusals.{held, of_slot, has_too_many_runs, has_too_many_tables, running_refusal}
+use Rattle.lsm_store.specs.Machine.{Machine}
 use Rattle.lsm_store.proofs.OpenedAccounts.{tables_joined}
 use Rattle.lsm_store.proofs.Unrefused.{passes_by, is_taken}
 
@@ -18,7 +19,7 @@ use Rattle.lsm_store.proofs.Unrefused.{passes_by, is_taken}
 pub is_whole : (stage : Stage) → stage ≡ Writing (outputs_at stage) 0 → is_written stage ≡ true
 is_whole stage is = ap is_written is ∙ eq-eqb 0 0 refl
 
-module _ (m : WorkMachine) (job : ℕ) where
+module _ (m : Machine) (job : ℕ) where
   -- there is no such job, or it isn't written
   pub not_written : (e : Refusal) → IsNotWritten (held m job) e → running_refusal m (Install job) ≡ Some e
   not_written e (inl is) = is_taken (is_none (held m job)) NoSuchJob _ (ap (λ (o : Option Slot). is_none o) is.1) ∙ ap Some (sym is.0)

@@ -23,18 +23,20 @@ use Rattle.lsm_root.specs.Installed.{IsReady, IsOldOrNew, IsInstalled}
 use Rattle.lsm_root.specs.Planned.{Planned}
 use Rattle.lsm_root.specs.Roots.{Stands}
 use Rattle.lsm_store.specs.declared.memory.Memory.{Memory}
-use Rattle.lsm_store.specs.Backing.{StoreView, placement_of, work_machine_of}
+use Rattle.lsm_store.specs.Backing.{StoreView, placement_of, machine_of}
 use Rattle.lsm_store.specs.Calls.{Done, Refused}
 use Rattle.lsm_store.specs.Crash.{last_crash_state}
 use Rattle.lsm_store.specs.InstalledJobs.{installed_layout}
-use Rattle.lsm_store.specs.InstalledMemory.{next_layout, IsUnfit, IsNext, IsInstalledTo, after_install_fault}
+use Rattle.lsm_store.specs.InstalledMemory.{next_layout, IsNext, IsInstalledTo, after_install_fault}
 use Rattle.lsm_store.specs.Memory.{AreConsistent, state_of, view_of, work_of}
 use Rattle.lsm_store.specs.RecoveryPoints.{batch_count}
 use Rattle.lsm_store.specs.State.{State}
-use Rattle.lsm_store.specs.Work.{WorkMachine, Install, Plain}
+use Rattle.lsm_store.specs.Work.{Install}
 use Rattle.lsm_store.specs.WorkEffects.{installed}
 use Rattle.lsm_store.specs.WorkRefusals.{held, of_slot, work_refusals, running_refusal, work_refusal}
+use Rattle.lsm_store.specs.WorkReplies.{IsUnfit}
 use Rattle.lsm_store.specs.Working.{Works}
+use Rattle.lsm_store.specs.Machine.{Machine}
 use Rattle.lsm_store.proofs.Accounts.{first_not, behind_not, tests_behind}
 use Rattle.lsm_store.proofs.InstallWorks.{install_bad_table, install_done, install_io}
 use Rattle.lsm_store.proofs.Installations.{IsInstalling}
@@ -47,11 +49,11 @@ use Rattle.lsm_store.proofs.Works.{works_want}
 -- ---- before the device is reached
 
 -- what nothing refuses runs
-pub unrefused_install : (m : WorkMachine) (job : ℕ) → work_refusal m (Install job) ≡ None → (is_some m.state.stopped ≡ false) × (running_refusal m (Install job) ≡ None)
+pub unrefused_install : (m : Machine) (job : ℕ) → work_refusal m (Install job) ≡ None → (is_some m.state.stopped ≡ false) × (running_refusal m (Install job) ≡ None)
 unrefused_install m job none = none_taken (is_some m.state.stopped) Stopped (running_refusal m (Install job)) none
 
 -- and its job is written
-pub written_held : (m : WorkMachine) (job : ℕ) → running_refusal m (Install job) ≡ None → IsAtStage is_written (held m job)
+pub written_held : (m : Machine) (job : ℕ) → running_refusal m (Install job) ≡ None → IsAtStage is_written (held m job)
 written_held m job none = by (held m job) (first_not (work_refusals m (Install job)) none) (first_not (tests_behind 1 (work_refusals m (Install job))) (behind_not 1 (work_refusals m (Install job)) none))
   where
     by : (o : Option Slot) → is_none o ≡ false → is_not_at is_written o ≡ false → IsAtStage is_written o
@@ -64,15 +66,15 @@ written_writes Frozen is = absurd (false≢true is)
 written_writes (Writing tables left) is = refl
 
 -- want of memory, or outputs that may not be put in
-pub not_installed : (v : StoreView) (job : ℕ) (e : Refusal) → work_refusal (work_machine_of v) (Install job) ≡ None → (e ≡ NoMemory) ⊎ ((e ≡ BadTable) × IsUnfit (held (work_machine_of v) job)) → Works v (Install job) (Plain (Refused e)) v
-not_installed v job e none (inl is) = subst (λ (x : Refusal). Works v (Install job) (Plain (Refused x)) v) (sym is) (works_want v (Install job) (ap is_some none))
+pub not_installed : (v : StoreView) (job : ℕ) (e : Refusal) → work_refusal (machine_of v) (Install job) ≡ None → (e ≡ NoMemory) ⊎ ((e ≡ BadTable) × IsUnfit (held (machine_of v) job)) → Works v (Install job) (Refused e) v
+not_installed v job e none (inl is) = subst (λ (x : Refusal). Works v (Install job) (Refused x) v) (sym is) (works_want v (Install job) (ap is_some none))
 not_installed v job e none (inr is) =
-    let both = unrefused_install (work_machine_of v) job none in
-    subst (λ (x : Refusal). Works v (Install job) (Plain (Refused x)) v) (sym is.0) (by (held (work_machine_of v) job) refl (written_held (work_machine_of v) job both.1) is.1 both.1 both.0)
+    let both = unrefused_install (machine_of v) job none in
+    subst (λ (x : Refusal). Works v (Install job) (Refused x) v) (sym is.0) (by (held (machine_of v) job) refl (written_held (machine_of v) job both.1) is.1 both.1 both.0)
   where
-    by : (o : Option Slot) → held (work_machine_of v) job ≡ o → IsAtStage is_written o → IsUnfit o → running_refusal (work_machine_of v) (Install job) ≡ None → is_some v.state.stopped ≡ false → Works v (Install job) (Plain (Refused BadTable)) v
+    by : (o : Option Slot) → held (machine_of v) job ≡ o → IsAtStage is_written o → IsUnfit o → running_refusal (machine_of v) (Install job) ≡ None → is_some v.state.stopped ≡ false → Works v (Install job) (Refused BadTable) v
     by None found at unfit running runs = absurd at
-    by (Some slot) found at unfit running runs = install_bad_table v job running runs slot found (written_writes slot.stage at) unfit refl
+    by (Some slot) found at unfit running runs = install_bad_table v job running runs slot found (written_writes slot.stage at) unfit
 
 -- ---- the root that was prepared
 
@@ -121,9 +123,9 @@ module _ {A : Type 0} (m : Memory A) (kept : AreConsistent m) (runs : AreRuns m.
         (wrote : IsInstalling m.regions.log_sectors (m.regions.generation + 1) (contents_for (placement_of (installed_on (view_of medium m cache) job n.slot new))) medium new) where
       -- where it was installed
       pub install_works : (IsTrue medium.lasting.tells → IsReady medium.size root.log root.manifest.generation (disk medium) → IsInstalled (disk medium) (Stands root.log root.manifest) (disk new)) → new.calls.faults ≡ medium.calls.faults
-          → (then : Memory A) → IsInstalledTo m job n.slot levels then → Works (view_of medium m cache) (Install job) (Plain Done) (view_of new then cache)
+          → (then : Memory A) → IsInstalledTo m job n.slot levels then → Works (view_of medium m cache) (Install job) Done (view_of new then cache)
       install_works stands faults then to =
-          let both = unrefused_install (work_machine_of v) job none in
+          let both = unrefused_install (machine_of v) job none in
           let work_is = install_work m kept runs job n.slot n.is n.made n.fit whole then.regions then.sealed to.layout to.waits in
           let lay : layout_of then.regions ≡ installed_layout (layout_of m.regions) (batch_count (state_of m).points) m.next_table n.slot.job = to.layout ∙ layout_is in
           let is : view_of new then cache ≡ installed_on (view_of medium m cache) job n.slot new =
@@ -133,10 +135,10 @@ module _ {A : Type 0} (m : Memory A) (kept : AreConsistent m) (runs : AreRuns m.
           (view_of new then cache) sized wrote (installed_root stands) faults is
 
       -- where a fault stopped the store
-      pub install_fault_works : new.calls.faults ≡ faults_after false medium.calls.faults → Works (view_of medium m cache) (Install job) (Plain (Refused Io)) (view_of new (after_install_fault flush m) cache)
+      pub install_fault_works : new.calls.faults ≡ faults_after false medium.calls.faults → Works (view_of medium m cache) (Install job) (Refused Io) (view_of new (after_install_fault flush m) cache)
       install_fault_works faults =
-          let both = unrefused_install (work_machine_of v) job none in
-          let then : installed flush (state_of m) ≡ of_slot (state_of m) (λ (s : Slot). installed (is_flush s.job) (state_of m)) (held (work_machine_of v) job) =
+          let both = unrefused_install (machine_of v) job none in
+          let then : installed flush (state_of m) ≡ of_slot (state_of m) (λ (s : Slot). installed (is_flush s.job) (state_of m)) (held (machine_of v) job) =
           ap (λ (b : Bool). installed b (state_of m)) n.flushes ∙ sym (ap (of_slot (state_of m) (λ (s : Slot). installed (is_flush s.job) (state_of m))) n.is) in
           install_io v job n.slot (outputs_at n.slot.stage) n.is n.stage n.made both.1 both.0 (outputs_low (work_of m) job n.slot kept.numbered n.is (omega (arith, kept.next.high))) kept.numbered
           (view_of new (after_install_fault flush m) cache) sized wrote (ap (λ (t : State). record (state_of m) { stopped = Some (last_crash_state t ∷ []) }) then) refl refl faults

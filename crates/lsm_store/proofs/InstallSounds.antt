@@ -25,11 +25,12 @@ use Rattle.lsm_jobs.proofs.KeptJobs.{installing_law}
 use Rattle.lsm_store.specs.RecoveryPoints.{batch_count, all_synced}
 use Rattle.lsm_store.specs.State.{State}
 use Rattle.lsm_store.specs.StateMaps.{points_of, HaveMaps}
-use Rattle.lsm_store.specs.Work.{WorkView, WorkMachine, Work, Take, Read, Ask, Accept, Write, Install, Drop, versions_in}
+use Rattle.lsm_store.specs.Work.{WorkView, Work, Take, Read, Ask, Accept, Write, Install, Drop, versions_in}
 use Rattle.lsm_store.specs.WorkRefusals.{held, of_slot, running_refusal}
 use Rattle.lsm_store.specs.WorkEffects.{with_installed, installed, work_after, state_after}
 use Rattle.lsm_store.specs.WorkMaps.{AreVersions, IsAsked, IsJobOf, MayBePutIn}
 use Rattle.lsm_store.specs.WorkSound.{IsSound, IsServed, SoundLaw}
+use Rattle.lsm_store.specs.Machine.{Machine}
 use Rattle.lsm_store.proofs.InstalledMaps.{table_versions, has_in, in_has, runs_tables, kept_input, front_newer, installed_replacing, install_law}
 use Rattle.lsm_store.proofs.Unrefused.{none_taken}
 use Rattle.lsm_store.proofs.Remembering.{all_synced-points_of}
@@ -46,7 +47,7 @@ not_not : (b : Bool) → not b ≡ false → b ≡ true
 not_not true h = refl
 not_not false h = absurd (false≢true (sym h))
 
-module _ (m : WorkMachine) (sound : IsSound m) where
+module _ (m : Machine) (sound : IsSound m) where
   abbrev good : AreVersions m.work
   good = sound.tied.versions
 

@@ -20,8 +20,9 @@ use Rattle.lsm_store.specs.Accounts.{outputs_in}
 use Rattle.lsm_store.specs.InstalledMemory.{IsNext}
 use Rattle.lsm_store.specs.Memory.{AreConsistent, state_of, work_of}
 use Rattle.lsm_store.specs.Refusals.{first_refusal}
-use Rattle.lsm_store.specs.Work.{WorkMachine, Install}
+use Rattle.lsm_store.specs.Work.{Install}
 use Rattle.lsm_store.specs.WorkRefusals.{live_tables, has_too_many_runs, has_too_many_tables, running_refusal, work_refusal}
+use Rattle.lsm_store.specs.Machine.{Machine}
 use Rattle.lsm_store.proofs.FewNumbers.{few_numbered}
 use Rattle.lsm_store.proofs.InstallRefusals.{not_written, many_runs, many_tables, at_last, none_refuses, is_whole}
 use Rattle.lsm_store.proofs.TableLimits.{install_counts}
@@ -85,7 +86,7 @@ next_told m job written told flush levels flushes next fit = record {
 }
 
 module _ {A : Type 0} (m : Memory A) (kept : AreConsistent m) where
-  abbrev w : WorkMachine
+  abbrev w : Machine
   w = record { state = state_of m; work = work_of m }
 
   -- there are few tables

@@ -23,18 +23,20 @@ use Rattle.lsm_open.specs.RecoveredTables.{StandForOne}
 use Rattle.lsm_root.specs.Installed.{IsReady, IsInstalled}
 use Rattle.lsm_root.specs.Roots.{Stands}
 use Rattle.lsm_store.specs.Accounts.{outputs_in, tables_placed, AreNumbered}
-use Rattle.lsm_store.specs.Backing.{StoreView, IsRunOn, IsBacked, placement_of, work_machine_of}
-use Rattle.lsm_store.specs.Calls.{Done, Refused}
+use Rattle.lsm_store.specs.Backing.{StoreView, IsRunOn, IsBacked, placement_of, machine_of}
+use Rattle.lsm_store.specs.Calls.{Done, Refused, Reply}
 use Rattle.lsm_store.specs.Crash.{may_leave, last_crash_state}
 use Rattle.lsm_store.specs.Effects.{Use}
 use Rattle.lsm_store.specs.Effects.{Untouched, Changes}
 use Rattle.lsm_store.specs.RecoveryPoints.{batch_count}
 use Rattle.lsm_store.specs.State.{State}
 use Rattle.lsm_store.specs.StoredTables.{MayGoOn}
-use Rattle.lsm_store.specs.Work.{WorkMachine, Install, WorkReply, Plain}
+use Rattle.lsm_store.specs.Work.{Install}
 use Rattle.lsm_store.specs.WorkEffects.{installed, with_installed, work_after, state_after}
 use Rattle.lsm_store.specs.WorkRefusals.{held, of_slot, running_refusal, work_refusal}
-use Rattle.lsm_store.specs.Working.{reads_tables, work_reply_by, work_left_besides, work_left_inside, next_worked, work_use_before, work_use_by, IsWorkUsed, Works}
+use Rattle.lsm_store.specs.Working.{work_use_before, work_use_by, IsWorkUsed, Works}
+use Rattle.lsm_store.specs.Machine.{Machine}
+use Rattle.lsm_store.specs.WorkReplies.{IsUnfit, work_reply_by, work_left_besides, work_left_inside, next_worked}
 use Rattle.lsm_store.proofs.Accounts.{held_counted}
 use Rattle.lsm_store.proofs.Backed.{run_backed}
 use Rattle.lsm_store.proofs.Installations.{IsInstalling}
@@ -46,31 +48,31 @@ use Rattle.lsm_store.proofs.WorkSounds.{there}
 use Rattle.lsm_store.proofs.Works.{running_refuses, now_within}
 
 -- after an install no two tables have one number, where none of the tables and outputs before have
-pub apart_installed : (v : StoreView) (job : ℕ) (slot : Slot) → held (work_machine_of v) job ≡ Some slot → AreNumbered v.work.next_table (tables_placed v.work) → IsRunOn v
+pub apart_installed : (v : StoreView) (job : ℕ) (slot : Slot) → held (machine_of v) job ≡ Some slot → AreNumbered v.work.next_table (tables_placed v.work) → IsRunOn v
     → AreNumberedApart (all_tables (places (installed_levels v.work.levels slot.job (outputs_at slot.stage))))
 apart_installed v job slot found numbered runs =
-    let kept = runs.sound.ready.kept.held slot (there (work_machine_of v) runs.sound job slot found) in
+    let kept = runs.sound.ready.kept.held slot (there (machine_of v) runs.sound job slot found) in
     let moves = moving_law v.work.levels slot.input.bottom slot.job (outputs_at slot.stage) runs.sound.tied.versions.runs kept in
     numbered_apart (all_tables (places (installed_levels v.work.levels slot.job (outputs_at slot.stage))))
     (λ n. omega (arith, numbered.once n, numbered_append n (all_tables (places v.work.levels)) (outputs_in v.work.jobs.slots), moves.passed (λ (t : Table). t.number == n), held_counted (λ (t : Table). t.number == n) job None v.work.jobs.slots slot found))
 
 -- ---- where nothing refuses it
 
-module _ (v : StoreView) (job : ℕ) (none : running_refusal (work_machine_of v) (Install job) ≡ None) (running : IsNone v.state.stopped) where
-  unrefused : work_refusal (work_machine_of v) (Install job) ≡ None
-  unrefused = running_refuses (work_machine_of v) (Install job) running ∙ none
+module _ (v : StoreView) (job : ℕ) (none : running_refusal (machine_of v) (Install job) ≡ None) (running : IsNone v.state.stopped) where
+  unrefused : work_refusal (machine_of v) (Install job) ≡ None
+  unrefused = running_refuses (machine_of v) (Install job) running ∙ none
 
   -- the device is used as an install may use it
-  used_so : (reply : WorkReply) → work_use_before Changes reply ≡ Changes → (new : Medium) → AtMost 0 38 2 v.device.calls new.calls → IsWorkUsed (Install job) (work_use_by (work_machine_of v) (Install job) reply) v.device new
+  used_so : (reply : Reply) → work_use_before Changes reply ≡ Changes → (new : Medium) → AtMost 0 38 2 v.device.calls new.calls → IsWorkUsed (Install job) (work_use_by (machine_of v) (Install job) reply) v.device new
   used_so reply changes new calls =
-      let is : work_use_by (work_machine_of v) (Install job) reply ≡ Changes = ap (λ (o : Option Refusal). cond (is_some o) Untouched (work_use_before Changes reply)) unrefused ∙ changes in
+      let is : work_use_by (machine_of v) (Install job) reply ≡ Changes = ap (λ (o : Option Refusal). cond (is_some o) Untouched (work_use_before Changes reply)) unrefused ∙ changes in
       subst (λ (u : Use). IsWorkUsed (Install job) u v.device new) (sym is) calls
 
   -- outputs that may not be put in are of a device that doesn't back the state, where an install may tell so
-  pub install_bad_table : (slot : Slot) → held (work_machine_of v) job ≡ Some slot → is_writing slot.stage ≡ true → (AreOutputs slot.job (outputs_at slot.stage) → ⊥) → IsTrue (reads_tables (Install job)) → Works v (Install job) (Plain (Refused BadTable)) v
-  install_bad_table slot found writes unfit tells = record {
-    admitted = (ap is_some unrefused, tells);
-    allowed = λ backed. let sound = (backed.runs running).sound in absurd (unfit (sound.ready.outputs slot (there (work_machine_of v) sound job slot found) writes).fit);
+  pub install_bad_table : (slot : Slot) → held (machine_of v) job ≡ Some slot → is_writing slot.stage ≡ true → (AreOutputs slot.job (outputs_at slot.stage) → ⊥) → Works v (Install job) (Refused BadTable) v
+  install_bad_table slot found writes unfit = record {
+    admitted = (ap is_some unrefused, subst IsUnfit (sym found) unfit);
+    allowed = λ backed. let sound = (backed.runs running).sound in absurd (unfit (sound.ready.outputs slot (there (machine_of v) sound job slot found) writes).fit);
     state = refl;
     worked = refl;
     same_cache = refl;
@@ -78,19 +80,19 @@ module _ (v : StoreView) (job : ℕ) (none : running_refusal (work_machine_of v)
     fault = refl;
     same_size = refl;
     same_lasting = refl;
-    crash = λ backed. unchanged (Leaves (StandForOne v.state.log_sectors (work_left_inside (work_machine_of v) (Install job)))) v.device.history v.device.history refl (now_within v (Install job) backed);
+    crash = λ backed. unchanged (Leaves (StandForOne v.state.log_sectors (work_left_inside (machine_of v) (Install job)))) v.device.history v.device.history refl (now_within v (Install job) backed);
     backed = λ backed. backed;
   }
     where
-      untouched : work_use_by (work_machine_of v) (Install job) (Plain (Refused BadTable)) ≡ Untouched
-      untouched = ap (λ (o : Option Refusal). cond (is_some o) Untouched (work_use_before Changes (Plain (Refused BadTable)))) unrefused
+      untouched : work_use_by (machine_of v) (Install job) (Refused BadTable) ≡ Untouched
+      untouched = ap (λ (o : Option Refusal). cond (is_some o) Untouched (work_use_before Changes (Refused BadTable))) unrefused
 
 -- ---- an install of a job whose outputs are all written
 
-module _ (v : StoreView) (job : ℕ) (slot : Slot) (outputs : List Table) (found : held (work_machine_of v) job ≡ Some slot) (stage : slot.stage ≡ Writing outputs 0) (made : AreMadeOf slot.input outputs)
-    (none : running_refusal (work_machine_of v) (Install job) ≡ None) (running : IsNone v.state.stopped) (high : AllByRecursion (λ t. t.number ≤ 2 ^ 63) outputs) (numbered : AreNumbered v.work.next_table (tables_placed v.work)) where
-  abbrev m : WorkMachine
-  m = work_machine_of v
+module _ (v : StoreView) (job : ℕ) (slot : Slot) (outputs : List Table) (found : held (machine_of v) job ≡ Some slot) (stage : slot.stage ≡ Writing outputs 0) (made : AreMadeOf slot.input outputs)
+    (none : running_refusal (machine_of v) (Install job) ≡ None) (running : IsNone v.state.stopped) (high : AllByRecursion (λ t. t.number ≤ 2 ^ 63) outputs) (numbered : AreNumbered v.work.next_table (tables_placed v.work)) where
+  abbrev m : Machine
+  m = machine_of v
 
   abbrev p : Placement
   p = placement_of v
@@ -117,13 +119,13 @@ module _ (v : StoreView) (job : ℕ) (slot : Slot) (outputs : List Table) (found
 
   -- ---- what the machine says
 
-  state_then : state_after (work_machine_of v) (Install job) ≡ installed (is_flush slot.job) v.state
+  state_then : state_after (machine_of v) (Install job) ≡ installed (is_flush slot.job) v.state
   state_then = ap (λ (o : Option Slot). of_slot v.state (λ (s : Slot). installed (is_flush s.job) v.state) o) found
 
-  work_then : work_after (work_machine_of v) (Install job) ≡ with_installed v.work job slot
+  work_then : work_after (machine_of v) (Install job) ≡ with_installed v.work job slot
   work_then = ap (λ (o : Option Slot). of_slot v.work (with_installed v.work job) o) found
 
-  left_is : work_left_inside (work_machine_of v) (Install job) ≡ may_leave v.state ++ last_crash_state (installed (is_flush slot.job) v.state) ∷ []
+  left_is : work_left_inside (machine_of v) (Install job) ≡ may_leave v.state ++ last_crash_state (installed (is_flush slot.job) v.state) ∷ []
   left_is =
       ap (λ (o : Option Refusal). may_leave v.state ++ cond (is_some o) [] (work_left_besides m (Install job))) (unrefused v job none running)
       ∙ ap (λ (t : State). may_leave v.state ++ last_crash_state t ∷ []) state_then
@@ -140,7 +142,7 @@ module _ (v : StoreView) (job : ℕ) (slot : Slot) (outputs : List Table) (found
     ready backed = subst (λ (n : ℕ). IsReady n v.layout.log_sectors (v.layout.generation + 1) (disk v.device)) (sized backed.tells) (next_ready p v.state (disk v.device) (backed.runs running).stored.stored)
 
     -- at every moment a crash leaves what it may
-    inside : IsBacked v → EachSince (Leaves (StandForOne v.state.log_sectors (work_left_inside (work_machine_of v) (Install job)))) v.device.history new.device.history
+    inside : IsBacked v → EachSince (Leaves (StandForOne v.state.log_sectors (work_left_inside (machine_of v) (Install job)))) v.device.history new.device.history
     inside backed =
         let runs = backed.runs running in
         subst (λ (all : List CrashState). EachSince (Leaves (StandForOne v.state.log_sectors all)) v.device.history new.device.history) (sym left_is)
@@ -151,7 +153,7 @@ module _ (v : StoreView) (job : ℕ) (slot : Slot) (outputs : List Table) (found
 
     pub install_done : (IsTrue v.device.lasting.tells → IsReady v.device.size v.layout.log_sectors (v.layout.generation + 1) (disk v.device)
         → IsInstalled (disk v.device) (Stands v.layout.log_sectors (contents_for (placement_of (installed_on v job slot new.device)))) (disk new.device))
-        → new.device.calls.faults ≡ v.device.calls.faults → new ≡ installed_on v job slot new.device → Works v (Install job) (Plain Done) new
+        → new.device.calls.faults ≡ v.device.calls.faults → new ≡ installed_on v job slot new.device → Works v (Install job) Done new
     install_done stands faults is =
         let reply = sym (ap (work_reply_by m (Install job)) (unrefused v job none running)) in
         record {
@@ -160,7 +162,7 @@ module _ (v : StoreView) (job : ℕ) (slot : Slot) (outputs : List Table) (found
           state = ap (λ (x : StoreView). x.state) is ∙ sym state_then;
           worked = ap (λ (x : StoreView). x.work) is ∙ sym work_then;
           same_cache = ap (λ (x : StoreView). x.cache) is;
-          used = used_so v job none running (Plain Done) refl new.device wrote.calls;
+          used = used_so v job none running Done refl new.device wrote.calls;
           fault = faults;
           same_size = wrote.same_size;
           same_lasting = wrote.same_lasting;
@@ -172,21 +174,21 @@ module _ (v : StoreView) (job : ℕ) (slot : Slot) (outputs : List Table) (found
         }
 
     -- a fault has stopped the store, and what it may leave then a crash leaves
-    left_stopped : IsBacked v → Leaves (StandForOne v.state.log_sectors (may_leave (next_worked (work_machine_of v) (Install job) (Plain (Refused Io))).state)) (disk new.device)
+    left_stopped : IsBacked v → Leaves (StandForOne v.state.log_sectors (may_leave (next_worked (machine_of v) (Install job) (Refused Io)).state)) (disk new.device)
     left_stopped backed =
         let runs = backed.runs running in
         subst (λ (t : State). Leaves (StandForOne v.state.log_sectors (may_leave (record v.state { stopped = Some (last_crash_state t ∷ []) }))) (disk new.device)) (sym state_then)
         (install_stopped p q v.state then v.device.history new.device.history runs.stored.stored same_log (goes_on runs) (wrote.moments backed.tells (ready backed)))
 
-    pub install_io : new.state ≡ (next_worked (work_machine_of v) (Install job) (Plain (Refused Io))).state → new.work ≡ v.work → new.cache ≡ v.cache → new.device.calls.faults ≡ faults_after false v.device.calls.faults
-        → Works v (Install job) (Plain (Refused Io)) new
+    pub install_io : new.state ≡ (next_worked (machine_of v) (Install job) (Refused Io)).state → new.work ≡ v.work → new.cache ≡ v.cache → new.device.calls.faults ≡ faults_after false v.device.calls.faults
+        → Works v (Install job) (Refused Io) new
     install_io state work cache faults = record {
       admitted = (ap is_some (unrefused v job none running), λ e. untouched_no_change (sym e));
       allowed = λ backed. (ap is_some (unrefused v job none running), λ e. untouched_no_change (sym e));
       state = state;
       worked = work;
       same_cache = cache;
-      used = used_so v job none running (Plain (Refused Io)) refl new.device wrote.calls;
+      used = used_so v job none running (Refused Io) refl new.device wrote.calls;
       fault = faults;
       same_size = wrote.same_size;
       same_lasting = wrote.same_lasting;

@@ -28,9 +28,10 @@ use Rattle.lsm_jobs.specs.Taking.{runs_of}
 use Rattle.lsm_open.proofs.NewestFound.{newer_found, newest-append, map_of_batches}
 use Rattle.lsm_store.specs.RecoveryPoints.{batch_count}
 use Rattle.lsm_store.specs.State.{State}
-use Rattle.lsm_store.specs.Work.{WorkView, WorkMachine, versions_in}
+use Rattle.lsm_store.specs.Work.{WorkView, versions_in}
 use Rattle.lsm_store.specs.WorkEffects.{with_installed}
 use Rattle.lsm_store.specs.WorkMaps.{AreVersions, IsAsked, IsJobOf, MayBePutIn, InstallLaw, RotationLaw, CommitLaw}
+use Rattle.lsm_store.specs.Machine.{Machine}
 use Rattle.lsm_store.proofs.Replaced.{IsReplacing, replaced_maps}
 
 -- ---- the versions of runs of tables
@@ -248,7 +249,7 @@ kept_at_asked t sealed job input is n (inr (snapshot, there, same)) = ⊎_elim
     (is.asked snapshot there)
 
 -- the versions after an install replace those before
-pub installed_replacing : (m : WorkMachine) (job : ℕ) (slot : Slot) → AreVersions m.work → IsHeld m.work.levels slot.input.bottom slot.job → IsJobOf m.state m.work.sealed slot.job slot.input
+pub installed_replacing : (m : Machine) (job : ℕ) (slot : Slot) → AreVersions m.work → IsHeld m.work.levels slot.input.bottom slot.job → IsJobOf m.state m.work.sealed slot.job slot.input
     → MayBePutIn slot.job slot.input (outputs_at slot.stage) → IsReplacing slot.input (versions_in m.work) (versions_in (with_installed m.work job slot))
 installed_replacing m job slot good held is outputs = any_replacing m.work good slot.input slot.job (outputs_at slot.stage) held is.runs outputs.versions
 

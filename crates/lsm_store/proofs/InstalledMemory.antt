@@ -29,9 +29,10 @@ use Rattle.lsm_store.specs.LiveMarks.{marks}
 use Rattle.lsm_store.specs.Memory.{AreConsistent, CanTake, Agrees, IsInside, LieWithin, IsOpenIn, state_of, work_of}
 use Rattle.lsm_store.specs.RecoveryPoints.{batch_count}
 use Rattle.lsm_store.specs.TableLimits.{AreFew}
-use Rattle.lsm_store.specs.Work.{WorkMachine, Install}
+use Rattle.lsm_store.specs.Work.{Install}
 use Rattle.lsm_store.specs.WorkEffects.{installed, with_installed}
 use Rattle.lsm_store.specs.WorkRefusals.{work_refusals, running_refusal, work_refusal, of_slot}
+use Rattle.lsm_store.specs.Machine.{Machine}
 use Rattle.lsm_store.proofs.Accounts.{accounts_law, first_not, behind_not, tests_behind}
 use Rattle.lsm_store.proofs.ExtentCounts.{back_blocks}
 use Rattle.lsm_store.proofs.InstalledWork.{installed_have, installed_lie, installed_numbered}
@@ -56,7 +57,7 @@ module _ {A : Type 0} (m : Memory A) (kept : AreConsistent m) (runs : AreRuns m.
   -- ---- the manifest then
 
   module _ (none : work_refusal (record { state = state_of m; work = work_of m }) (Install job) ≡ None) (size : ℕ) (inside : IsInside size m) (whole : IsPartition m.extents) where
-    abbrev w : WorkMachine
+    abbrev w : Machine
     w = record { state = state_of m; work = work_of m }
 
     running : running_refusal w (Install job) ≡ None

@@ -36,15 +36,16 @@ use Rattle.lsm_root.specs.Installed.{IsInstalled}
 use Rattle.lsm_root.specs.Layout.{behind}
 use Rattle.lsm_root.specs.Roots.{Stands}
 use Rattle.lsm_store.specs.Accounts.{outputs_in}
-use Rattle.lsm_store.specs.Backing.{StoreView, IsRunOn, placement_of, data_start, work_machine_of}
+use Rattle.lsm_store.specs.Backing.{StoreView, IsRunOn, placement_of, data_start, machine_of}
 use Rattle.lsm_store.specs.InstalledJobs.{output_records, placed_for, HasPlaced, parts_of, installed_in, first_open, installed_layout, AreSealedIn, AreLoggedIn}
 use Rattle.lsm_store.specs.RecoveryPoints.{batch_count}
 use Rattle.lsm_store.specs.State.{State}
 use Rattle.lsm_store.specs.StoredTables.{IsStoredIn, IsStoredWithJobs, KeepsExtents, MayGoOn}
-use Rattle.lsm_store.specs.Work.{WorkMachine, Install}
+use Rattle.lsm_store.specs.Work.{Install}
 use Rattle.lsm_store.specs.WorkEffects.{installed, with_installed}
 use Rattle.lsm_store.specs.WorkRefusals.{held, of_slot, running_refusal}
 use Rattle.lsm_store.specs.WorkSound.{IsSound}
+use Rattle.lsm_store.specs.Machine.{Machine}
 use Rattle.lsm_store.proofs.InstallSounds.{sound_law}
 use Rattle.lsm_store.proofs.InstalledTables.{count_is, flush_goes_on, merge_goes_on, install_extents}
 use Rattle.lsm_store.proofs.KeptJobs.{flush_taken, merge_taken}
@@ -166,10 +167,10 @@ table_before levels job new c none =
 
 -- ---- in a running store
 
-module _ (v : StoreView) (job : ℕ) (slot : Slot) (found : held (work_machine_of v) job ≡ Some slot) (stage : slot.stage ≡ Writing (outputs_at slot.stage) 0) (made : AreMadeOf slot.input (outputs_at slot.stage))
+module _ (v : StoreView) (job : ℕ) (slot : Slot) (found : held (machine_of v) job ≡ Some slot) (stage : slot.stage ≡ Writing (outputs_at slot.stage) 0) (made : AreMadeOf slot.input (outputs_at slot.stage))
     (high : AllByRecursion (λ t. t.number ≤ 2 ^ 63) (outputs_at slot.stage)) (runs : IsRunOn v) where
-  abbrev m : WorkMachine
-  m = work_machine_of v
+  abbrev m : Machine
+  m = machine_of v
 
   abbrev p : Placement
   p = placement_of v
@@ -209,7 +210,7 @@ module _ (v : StoreView) (job : ℕ) (slot : Slot) (found : held (work_machine_o
       subst (λ (x : Placement). MayGoOn x (installed (is_flush slot.job) v.state) d) (sym installed_placement)
       (job_goes_on p v.state d v.work.levels v.work.next_table new runs.stored.stored slot.job (written_then slot.job refl))
 
-  module _ (none : running_refusal (work_machine_of v) (Install job) ≡ None) (apart : AreNumberedApart (all_tables (places (installed_levels v.work.levels slot.job (outputs_at slot.stage))))) where
+  module _ (none : running_refusal (machine_of v) (Install job) ≡ None) (apart : AreNumberedApart (all_tables (places (installed_levels v.work.levels slot.job (outputs_at slot.stage))))) where
     sound_then : IsSound (record { state = installed (is_flush slot.job) v.state; work = with_installed v.work job slot })
     sound_then =
         subst (λ (o : Option Slot). IsSound (record { state = of_slot v.state (λ (s : Slot). installed (is_flush s.job) v.state) o; work = of_slot v.work (with_installed v.work job) o })) found

@@ -2,6 +2,10 @@ pub mod Membership
 pub mod Points
 pub mod Running
 pub mod CrashStates
+pub mod WorkReplies
+pub mod Steps
+pub mod Flights
+mod Reached
 pub mod Promises
 pub mod Lifelong
 pub mod Carrying
@@ -89,3 +93,5 @@ pub mod WrittenWorks
 pub mod WrittenMemory
 pub mod ServedResults
 pub mod AcceptedResults
+pub mod ServedSteps
+pub mod OpenedMachines

@@ -38,10 +38,11 @@ use Rattle.lsm_open.proofs.StandingLevels.{all_versions}
 use Rattle.lsm_store.specs.Crash.{reopened}
 use Rattle.lsm_store.specs.State.{OpenLog, are_waiting}
 use Rattle.lsm_store.specs.Stored.{open_log_of}
-use Rattle.lsm_store.specs.Work.{WorkView, WorkMachine, Work, Take, Read, Ask, Accept, Write, Install, Drop, versions_in}
+use Rattle.lsm_store.specs.Work.{WorkView, Work, Take, Read, Ask, Accept, Write, Install, Drop, versions_in}
 use Rattle.lsm_store.specs.WorkMaps.{IsUnique}
 use Rattle.lsm_store.specs.WorkSound.{IsSound, IsServed}
 use Rattle.lsm_store.specs.OpenedWork.{opened_work, opened_machine, OpenedLaw}
+use Rattle.lsm_store.specs.Machine.{Machine}
 use Rattle.lsm_store.proofs.CallSounds.{unique_ordered}
 use Rattle.lsm_store.proofs.InstalledMaps.{table_versions, in_has}
 use Rattle.lsm_store.proofs.States.{made_same}
@@ -125,7 +126,7 @@ module _ (size log_sectors count : ℕ) (left : CrashState) (p : Placement) (sea
   abbrev w : WorkView
   w = opened_work p sealed levels extents
 
-  abbrev m : WorkMachine
+  abbrev m : Machine
   m = opened_machine p count sealed levels extents
 
   -- ---- what was left

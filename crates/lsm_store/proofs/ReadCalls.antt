@@ -20,7 +20,7 @@ use Rattle.lsm_mem.specs.Paging.{Page, page_of}
 use Rattle.lsm_mem.specs.Versions.{map_of}
 use Rattle.lsm_open.specs.RecoveredTables.{StandForOne}
 use Rattle.lsm_store.specs.Accounts.{tables_placed, AreNumbered}
-use Rattle.lsm_store.specs.Backing.{StoreView, IsBacked, data_start, work_machine_of}
+use Rattle.lsm_store.specs.Backing.{StoreView, IsBacked, data_start, machine_of}
 use Rattle.lsm_store.specs.Calls.{Call, Reply}
 use Rattle.lsm_store.specs.Calls.{Get, Scan, Value, Rows, Refused, reply_of}
 use Rattle.lsm_store.specs.Crash.{left_inside}
@@ -29,10 +29,11 @@ use Rattle.lsm_store.specs.Effects.{Untouched, Reads}
 use Rattle.lsm_store.specs.Reading.{ReadsThrough}
 use Rattle.lsm_store.specs.Refusals.{refusal}
 use Rattle.lsm_store.specs.Run.{Allows, Admits, next}
-use Rattle.lsm_store.specs.Serving.{is_faultless, work_by, use_before, use_by, IsUsed, Serves}
+use Rattle.lsm_store.specs.Serving.{is_faultless, use_before, use_by, IsUsed, Serves}
 use Rattle.lsm_store.specs.State.{map_at}
 use Rattle.lsm_store.specs.StateMaps.{HaveMaps}
 use Rattle.lsm_store.specs.Work.{versions_at, versions_in}
+use Rattle.lsm_store.specs.WorkEffects.{work_by}
 use Rattle.lsm_store.specs.declared.asked.At.{At}
 use Rattle.lsm_store.proofs.Backed.{source_of, place_in, read_on, readable, backed_on}
 use Rattle.lsm_store.proofs.Unrefused.{unrefused_runs}
@@ -77,7 +78,7 @@ module _ (v : StoreView) (numbered : AreNumbered v.work.next_table (tables_place
           same_history = reads.unchanged;
         })
 
-    pub serves_on : Admits v.state call reply → (IsBacked v → Allows v.state call reply) → next v.state call reply ≡ v.state → is_faultless reply ≡ ok → v.work ≡ work_by (work_machine_of v) call reply → Serves v call reply (read_on v new cache)
+    pub serves_on : Admits v.state call reply → (IsBacked v → Allows v.state call reply) → next v.state call reply ≡ v.state → is_faultless reply ≡ ok → v.work ≡ work_by (machine_of v) call reply → Serves v call reply (read_on v new cache)
     serves_on admitted allowed state faultless stays = record {
       admitted = admitted;
       allowed = allowed;

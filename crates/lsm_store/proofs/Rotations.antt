@@ -20,7 +20,7 @@ use Rattle.lsm_open.specs.declared.regions.OpenRegion.{OpenRegion}
 use Rattle.lsm_root.specs.Installed.{IsReady, IsInstalled}
 use Rattle.lsm_root.specs.Layout.{behind}
 use Rattle.lsm_root.specs.Roots.{Stands}
-use Rattle.lsm_store.specs.Backing.{StoreView, IsRunOn, IsBacked, placement_of, data_start, work_machine_of}
+use Rattle.lsm_store.specs.Backing.{StoreView, IsRunOn, IsBacked, placement_of, data_start, machine_of}
 use Rattle.lsm_store.specs.Calls.{Rotate, Done, Refused}
 use Rattle.lsm_store.specs.Crash.{may_leave, left_besides, left_inside}
 use Rattle.lsm_store.specs.Effects.{rotated}
@@ -105,7 +105,7 @@ module _ (v : StoreView) (none : refusal v.state Rotate ≡ None) (below : v.sta
         let same : behind (seen (disk new)) ≡ behind (seen (disk v.device)) = ap (λ (c : List (List ℕ)). behind c) (ap (written (disk new).stands) is.settled) ∙ is.stands.all in
         record {
           stored = rotate_keeps_numbered now (placed_by v.work.jobs.slots) v.state (rotated v.state) o v.work.next_table (disk v.device) (disk new) runs.stored is stored;
-          sound = rotation_sound_law (work_machine_of v) runs.sound may.none_waits;
+          sound = rotation_sound_law (machine_of v) runs.sound may.none_waits;
           sealed = rotated_sealed v.work.next_table now o (disk v.device) (disk new) runs.stored.stored.carried.held stored.carried.held none same v.work.memory runs.logged;
           logged = rotated_logged v.work.next_table now o (disk v.device) (disk new) runs.stored.stored.carried.held stored.carried.held none same least.new_log.next;
           tables = levels_kept now v.work.levels (disk v.device) (disk new) refl kept runs.tables;

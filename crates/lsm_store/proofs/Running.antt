@@ -1,7 +1,6 @@
--- Laws of steps one after another.
-use Rattle.std.proofs.Common.{◌≡◌, ⊎_elim, Bool, true, false, cond, List, [], ◌∷◌, ◌++◌, ◌≢◌, Option, Some, None, is_some, refl, ap, sym, subst, ◌∙◌}
-use Rattle.std.specs.Prelude.{Contains, IsNone, IsSome, IsTrue}
-use Rattle.std.proofs.lemmas.List.Elements.{Contains-append_left, Contains-append_right, Contains-append_cases}
+-- What a state decides of a call, and what memory admits.
+use Rattle.std.proofs.Common.{◌≡◌, Bool, true, false, cond, List, [], ◌∷◌, Option, Some, None, is_some, refl, ap, sym, subst, ◌∙◌}
+use Rattle.std.specs.Prelude.{IsNone, IsTrue}
 use Rattle.std.specs.List.{AllByRecursion}
 use Rattle.std.specs.FinMap as finite
 use Rattle.lsm_device.specs.declared.refusal.Refusal.{Refusal}
@@ -11,57 +10,10 @@ use Rattle.lsm_codec.specs.Keys.{Bytes}
 use Rattle.lsm_store.specs.State.{State, map_at}
 use Rattle.lsm_mem.specs.Paging.{Page}
 use Rattle.lsm_store.specs.Calls.{Call, Reply}
-use Rattle.lsm_store.specs.Calls.{Commit, Sync, SyncTo, Get, Scan, Snapshot, Release, Rotate, LogRoom, Number, Done, Value, Rows, Refused}
+use Rattle.lsm_store.specs.Calls.{Commit, Sync, SyncTo, Get, Scan, Snapshot, Release, Rotate, LogRoom, Number, Done, Value, Rows, Given, Handed, Refused}
 use Rattle.lsm_store.specs.Refusals.{refusals, first_refusal, refusal}
 use Rattle.lsm_store.specs.Effects.{answer, after, decided, completed, reply_by, state_by, takes_memory, wants_memory}
-use Rattle.lsm_store.specs.Crash.{may_leave}
-use Rattle.lsm_store.specs.Machine.{Machine, Step, Called}
-use Rattle.lsm_store.specs.Run.{Allows, Admits, asks_value, asks_page, next, AllowsStep, AdmitsStep, next_machine, left_in_step, RunBy, Run, Course, last_machine, left_in_run, decided_step, completed_step, ample_replies, ample_machine}
-
--- ---- joining
-
-module _ (more : List Step) (others : List Reply) where
-  pub run_join : (May : Machine → Step → Reply → Type 0) (m : Machine) (steps : List Step) (replies : List Reply) → RunBy May m steps replies → RunBy May (last_machine m steps replies) more others
-      → RunBy May m (steps ++ more) (replies ++ others)
-  run_join May m [] [] run rest = rest
-  run_join May m (step ∷ steps) (reply ∷ replies) run rest = (run.0, run_join May (next_machine m step reply) steps replies run.1 rest)
-  run_join May m [] (reply ∷ replies) run rest = absurd run
-  run_join May m (step ∷ steps) [] run rest = absurd run
-
-  pub last_join : (m : Machine) (steps : List Step) (replies : List Reply) → Course m steps replies → last_machine m (steps ++ more) (replies ++ others) ≡ last_machine (last_machine m steps replies) more others
-  last_join m [] [] run = refl
-  last_join m (step ∷ steps) (reply ∷ replies) run = last_join (next_machine m step reply) steps replies run.1
-  last_join m [] (reply ∷ replies) run = absurd run
-  last_join m (step ∷ steps) [] run = absurd run
-
-  pub left_behind : (left : CrashState) (m : Machine) (steps : List Step) (replies : List Reply) → Course m steps replies
-      → Contains (left_in_run (last_machine m steps replies) more others) left → Contains (left_in_run m (steps ++ more) (replies ++ others)) left
-  left_behind left m [] [] run found = found
-  left_behind left m (step ∷ steps) (reply ∷ replies) run found = Contains-append_right (left_in_step m step) _ left (left_behind left (next_machine m step reply) steps replies run.1 found)
-  left_behind left m [] (reply ∷ replies) run found = absurd run
-  left_behind left m (step ∷ steps) [] run found = absurd run
-
--- what a crash may leave before a step, it may leave inside it
-pub before_step : (left : CrashState) (m : Machine) (step : Step) → Contains (may_leave m.state) left → Contains (left_in_step m step) left
-before_step left m (Called call) found = Contains-append_left (may_leave m.state) _ left found
-
--- what a state may leave is left in each run from it
-pub left_now : (left : CrashState) (m : Machine) (steps : List Step) (replies : List Reply) → Contains (may_leave m.state) left → Contains (left_in_run m steps replies) left
-left_now left m [] [] found = found
-left_now left m [] (reply ∷ replies) found = found
-left_now left m (step ∷ steps) [] found = found
-left_now left m (step ∷ steps) (reply ∷ replies) found = Contains-append_left (left_in_step m step) _ left (before_step left m step found)
-
-module _ (more : List Step) (others : List Reply) where
-  pub left_before : (left : CrashState) (m : Machine) (steps : List Step) (replies : List Reply) → Course m steps replies
-      → Contains (left_in_run m steps replies) left → Contains (left_in_run m (steps ++ more) (replies ++ others)) left
-  left_before left m [] [] run found = left_now left m more others found
-  left_before left m (step ∷ steps) (reply ∷ replies) run found = ⊎_elim
-      (λ here. Contains-append_left (left_in_step m step) _ left here)
-      (λ later. Contains-append_right (left_in_step m step) _ left (left_before left (next_machine m step reply) steps replies run.1 later))
-      (Contains-append_cases (left_in_step m step) (left_in_run (next_machine m step reply) steps replies) left found)
-  left_before left m [] (reply ∷ replies) run found = absurd run
-  left_before left m (step ∷ steps) [] run found = absurd run
+use Rattle.lsm_store.specs.Run.{Allows, Admits, asks_value, asks_page, next}
 
 -- ---- ample memory, and no fault
 
@@ -119,21 +71,6 @@ module _ (s : State) where
 
   pub decided_goes : (call : Call) → Allows s call (decided s call) × (next s call (decided s call) ≡ completed s call)
   decided_goes call = by_either call (refusal s call) refl (refusal_decided s call)
-
--- the same of a step
-pub step_goes : (m : Machine) (step : Step) → AllowsStep m step (decided_step m step) × (next_machine m step (decided_step m step) ≡ completed_step m step)
-step_goes m (Called call) = let goes = decided_goes m.state call in (goes.0, λ i. record { state = goes.1 i })
-
-pub ample_run : (m : Machine) (steps : List Step) → Run m steps (ample_replies m steps)
-ample_run m [] = tt
-ample_run m (step ∷ steps) =
-    let goes = step_goes m step in
-    (goes.0, subst (λ (n : Machine). Run n steps (ample_replies (completed_step m step) steps)) (sym goes.1) (ample_run (completed_step m step) steps))
-
-pub ample_last : (m : Machine) (steps : List Step) → last_machine m steps (ample_replies m steps) ≡ ample_machine m steps
-ample_last m [] = refl
-ample_last m (step ∷ steps) =
-    ap (λ (n : Machine). last_machine n steps (ample_replies (completed_step m step) steps)) (step_goes m step).1 ∙ ample_last (completed_step m step) steps
 
 -- ---- what memory admits
 
@@ -230,9 +167,6 @@ no_bad_table s call allows = by (refusal s call) (refusal_decided s call) allows
     by None h e = at call e
     by (Some refused) h e = let same : BadTable ≡ refused = cc in subst (λ (r : Refusal). IsDecided (Some r)) (sym same) h
 
-pub no_bad_table_in : (m : Machine) (step : Step) → AllowsStep m step (Refused BadTable) → ⊥
-no_bad_table_in m (Called call) allows = no_bad_table m.state call allows
-
 -- a call that takes memory in a state takes some in each
 wanting : (s : State) (call : Call) → IsTrue (wants_memory s call) → IsTrue (takes_memory call)
 wanting s (Commit batch) wants = refl
@@ -255,22 +189,15 @@ admits s call (Number n) allows = allows
 admits s call Done allows = allows
 admits s call (Value value) allows = value_asked s call value allows
 admits s call (Rows page) allows = page_asked s call page allows
-
-pub admits_step : (m : Machine) (step : Step) (reply : Reply) → AllowsStep m step reply → AdmitsStep m step reply
-admits_step m (Called call) reply allows = admits m.state call reply allows
-
-pub course_of : (m : Machine) (steps : List Step) (replies : List Reply) → Run m steps replies → Course m steps replies
-course_of m [] [] run = tt
-course_of m (step ∷ steps) (reply ∷ replies) run = (admits_step m step reply run.0, course_of (next_machine m step reply) steps replies run.1)
-course_of m [] (reply ∷ replies) run = absurd run
-course_of m (step ∷ steps) [] run = absurd run
+admits s call (Given job) allows = allows
+admits s call (Handed input) allows = allows
 
 -- ---- a stopped store
 
 pub stopped_refusal : (s : State) (call : Call) (others : List CrashState) → s.stopped ≡ Some others → refusal s call ≡ Some Stopped
 stopped_refusal s call others is = ap (λ (o : Option (List CrashState)). first_refusal ((is_some o, Stopped) ∷ refusals s call)) is
 
-no_none : IsNone (Some Stopped) → ⊥
+pub no_none : IsNone (Some Stopped) → ⊥
 no_none h = cc
 
 -- a reply that memory admits where the state refuses
@@ -283,24 +210,11 @@ stopped_reply s call (Number n) is admits = admits ∙ ap (reply_by s call) is
 stopped_reply s call Done is admits = admits ∙ ap (reply_by s call) is
 stopped_reply s call (Value v) is admits = absurd (no_none (subst IsNone is admits.0))
 stopped_reply s call (Rows page) is admits = absurd (no_none (subst IsNone is admits.0))
+stopped_reply s call (Given job) is admits = admits ∙ ap (reply_by s call) is
+stopped_reply s call (Handed input) is admits = admits ∙ ap (reply_by s call) is
 
 pub stopped_admits : (s : State) (call : Call) (reply : Reply) (others : List CrashState) → s.stopped ≡ Some others → Admits s call reply → reply ≡ Refused Stopped
 stopped_admits s call reply others is admits = stopped_reply s call reply (stopped_refusal s call others is) admits
 
 pub stopped_answers : (s : State) (call : Call) (reply : Reply) (others : List CrashState) → s.stopped ≡ Some others → Allows s call reply → reply ≡ Refused Stopped
 stopped_answers s call reply others is allows = stopped_admits s call reply others is (admits s call reply allows)
-
-some_of : {X : Type 0} (o : Option X) → IsSome o → (x : X) × (o ≡ Some x)
-some_of (Some x) is = (x, refl)
-some_of None is = cc
-
-pub step_stopped : (m : Machine) (step : Step) (reply : Reply) → IsSome m.state.stopped → AdmitsStep m step reply → reply ≡ Refused Stopped
-step_stopped m (Called call) reply stopped may = let others = some_of m.state.stopped stopped in stopped_admits m.state call reply others.0 others.1 may
-
--- a refusal that tells of no fault changes nothing
-pub step_refused : (m : Machine) (step : Step) (e : Refusal) → e ≢ Io → next_machine m step (Refused e) ≡ m
-step_refused m (Called call) Io other = absurd (other refl)
-step_refused m (Called call) e other = refl
-
-pub step_stays : (m : Machine) (step : Step) (reply : Reply) → IsSome m.state.stopped → AdmitsStep m step reply → next_machine m step reply ≡ m
-step_stays m step reply stopped may = ap (next_machine m step) (step_stopped m step reply stopped may) ∙ step_refused m step Stopped (λ e. cc)

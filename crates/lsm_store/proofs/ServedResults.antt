@@ -32,7 +32,7 @@ use Rattle.lsm_jobs.proofs.Outcomes.{outputs_law}
 use Rattle.lsm_open.specs.Layout.{IsClosed}
 use Rattle.lsm_open.specs.LogRegions.{batches_at, all_batches}
 use Rattle.lsm_open.specs.Placements.{Placement}
-use Rattle.lsm_store.specs.Backing.{StoreView, IsRunOn, placement_of, work_machine_of}
+use Rattle.lsm_store.specs.Backing.{StoreView, IsRunOn, placement_of, machine_of}
 use Rattle.lsm_store.specs.WorkMaps.{IsJobOf, MayBePutIn}
 use Rattle.lsm_store.specs.WorkRefusals.{held}
 use Rattle.lsm_store.proofs.StoredTables.{closed_seen}
@@ -88,7 +88,7 @@ closed_some n sectors base (r ∷ rest) some each = by (batches_at n sectors r) 
 
 -- ---- a job of a store
 
-module _ (v : StoreView) (runs : IsRunOn v) (job : ℕ) (slot : Slot) (is : held (work_machine_of v) job ≡ Some slot) where
+module _ (v : StoreView) (runs : IsRunOn v) (job : ℕ) (slot : Slot) (is : held (machine_of v) job ≡ Some slot) where
   abbrev p : Placement
   p = placement_of v
 

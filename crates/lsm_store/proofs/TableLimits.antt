@@ -18,9 +18,10 @@ use Rattle.lsm_open.specs.Placements.{Placement}
 use Rattle.lsm_open.specs.RecoveredTables.{AreWithinLimits}
 use Rattle.lsm_open.specs.ToldTables.{records_of_runs, records_of_levels, records_of}
 use Rattle.lsm_store.specs.TableLimits.{AreFew, InstallCounts, FewLaw}
-use Rattle.lsm_store.specs.Work.{WorkView, WorkMachine, Work, Take, Read, Ask, Accept, Write, Install, Drop}
+use Rattle.lsm_store.specs.Work.{WorkView, Work, Take, Read, Ask, Accept, Write, Install, Drop}
 use Rattle.lsm_store.specs.WorkEffects.{staged, with_placed, with_installed, work_after}
 use Rattle.lsm_store.specs.WorkRefusals.{held, of_slot, placing, has_too_many_runs, has_too_many_tables, work_refusals, running_refusal}
+use Rattle.lsm_store.specs.Machine.{Machine}
 use Rattle.lsm_store.proofs.Accounts.{tests_behind, first_not, behind_not}
 use Rattle.lsm_store.proofs.OpenedAccounts.{tables_joined}
 
@@ -87,7 +88,7 @@ opened_few size count p sealed levels extents within same = record {
 
 -- ---- each piece of work
 
-module _ (m : WorkMachine) (few : AreFew m.work.levels) where
+module _ (m : Machine) (few : AreFew m.work.levels) where
   abbrev HasFew : WorkView → Type 0
   HasFew w = AreFew w.levels
 
@@ -125,7 +126,7 @@ module _ (m : WorkMachine) (few : AreFew m.work.levels) where
             tables = counts.few_tables (sym (ap (of_slot false (has_too_many_tables m.work)) is) ∙ many_tables);
           }
 
-kept_few : (m : WorkMachine) (work : Work) → AreRuns m.work.levels → AreKept m.work.levels m.work.jobs.next m.work.jobs.slots → running_refusal m work ≡ None → AreFew m.work.levels → AreFew (work_after m work).levels
+kept_few : (m : Machine) (work : Work) → AreRuns m.work.levels → AreKept m.work.levels m.work.jobs.next m.work.jobs.slots → running_refusal m work ≡ None → AreFew m.work.levels → AreFew (work_after m work).levels
 kept_few m Take runs kept none few = few
 kept_few m (Read job) runs kept none few = read_few m few job (held m job)
 kept_few m (Ask job) runs kept none few = few

@@ -22,7 +22,7 @@ use Rattle.lsm_jobs.proofs.KeptJobs.{given_picked}
 use Rattle.lsm_open.specs.CrashState.{last_number}
 use Rattle.lsm_store.specs.declared.memory.Memory.{Memory}
 use Rattle.lsm_store.specs.Accounts.{outputs_in}
-use Rattle.lsm_store.specs.Backing.{StoreView, HasNoneOf, placement_of, work_machine_of}
+use Rattle.lsm_store.specs.Backing.{StoreView, HasNoneOf, placement_of, machine_of}
 use Rattle.lsm_store.specs.InstalledJobs.{placed_by}
 use Rattle.lsm_store.specs.StoredTables.{IsStoredWithJobs}
 use Rattle.lsm_store.proofs.Accounts.{first_none, taken_outputs}
@@ -30,13 +30,15 @@ use Rattle.lsm_store.proofs.PlacedJobs.{taken_placed, none_of_held}
 use Rattle.lsm_store.proofs.PlacedOutputs.{gone_stored}
 use Rattle.lsm_open.specs.Writing.{PlacedTable}
 use Rattle.lsm_levels.specs.Tables.{Table}
-use Rattle.lsm_store.specs.Calls.{Done, Refused}
+use Rattle.lsm_store.specs.Calls.{Done, Refused, Given, Handed, reply_of}
 use Rattle.lsm_store.specs.Memory.{view_of, state_of, work_of}
 use Rattle.lsm_store.specs.State.{are_waiting}
-use Rattle.lsm_store.specs.Work.{WorkMachine, Work, Take, Ask, Drop, Plain, Given, Handed, cuts_of}
+use Rattle.lsm_store.specs.Work.{Work, Take, Ask, Drop, cuts_of}
 use Rattle.lsm_store.specs.WorkEffects.{work_answer, work_after}
 use Rattle.lsm_store.specs.WorkRefusals.{job_given, held, running_refusal, work_refusal}
-use Rattle.lsm_store.specs.Working.{work_reply_of, work_reply_by, work_decided, taken_reply, Works, next_worked}
+use Rattle.lsm_store.specs.Working.{taken_reply, Works}
+use Rattle.lsm_store.specs.Machine.{Machine}
+use Rattle.lsm_store.specs.WorkReplies.{work_reply_by, work_decided, next_worked}
 use Rattle.lsm_store.proofs.AnsweredWork.{ask_answers}
 use Rattle.lsm_store.proofs.HeldTables.{same_taken}
 use Rattle.lsm_store.proofs.WorkSounds.{take_sound, drop_sound}
@@ -46,8 +48,8 @@ module _ {A : Type 0} (m : Memory A) (medium : Medium) (cache : Cached) (running
   abbrev v : StoreView
   v = view_of medium m cache
 
-  abbrev w : WorkMachine
-  w = work_machine_of v
+  abbrev w : Machine
+  w = machine_of v
 
   unrefused : (piece : Work) → running_refusal w piece ≡ None → work_refusal w piece ≡ None
   unrefused piece none = running_refuses w piece running ∙ none
@@ -55,15 +57,15 @@ module _ {A : Type 0} (m : Memory A) (medium : Medium) (cache : Cached) (running
   decides : (piece : Work) → running_refusal w piece ≡ None → work_answer w piece ≡ work_decided w piece
   decides piece none = sym (ap (work_reply_by w piece) (unrefused piece none))
 
-  refused_same : (piece : Work) (e : Refusal) (js : JobSlots) (area : Area) → running_refusal w piece ≡ Some e → js ≡ m.jobs → area ≡ m.extents → Works v piece (Plain (Refused e)) (worked_on v js area medium)
+  refused_same : (piece : Work) (e : Refusal) (js : JobSlots) (area : Area) → running_refusal w piece ≡ Some e → js ≡ m.jobs → area ≡ m.extents → Works v piece (Refused e) (worked_on v js area medium)
   refused_same piece e js area is same kept =
-      subst (λ (x : JobSlots). Works v piece (Plain (Refused e)) (worked_on v x area medium)) (sym same)
-      (subst (λ (x : Area). Works v piece (Plain (Refused e)) (worked_on v m.jobs x medium)) (sym kept) (works_refused v piece e (running_refuses w piece running ∙ is)))
+      subst (λ (x : JobSlots). Works v piece (Refused e) (worked_on v x area medium)) (sym same)
+      (subst (λ (x : Area). Works v piece (Refused e) (worked_on v m.jobs x medium)) (sym kept) (works_refused v piece e (running_refuses w piece running ∙ is)))
 
   -- ---- what a merge is given
 
   pub input_works : (job : ℕ) (r : Result (Arc MergeInput A) Refusal) → IfOk r (λ (input : Arc MergeInput A). HasInput (arc_value input) (slot_of job m.jobs.slots)) → IfErr r (RefusesInput (slot_of job m.jobs.slots))
-      → Works v (Ask job) (work_reply_of (λ (input : Arc MergeInput A). Handed (arc_value input)) r) v
+      → Works v (Ask job) (reply_of (λ (input : Arc MergeInput A). Handed (arc_value input)) r) v
   input_works job (Ok x) is refused =
       let none = (ask_answers w job).unrefused (arc_value x) is in
       let reply : Handed (arc_value x) ≡ work_decided w (Ask job) = sym ((ask_answers w job).answer (arc_value x) is) ∙ decides (Ask job) none in
@@ -71,7 +73,7 @@ module _ {A : Type 0} (m : Memory A) (medium : Medium) (cache : Cached) (running
   input_works job (Err e) is refused =
       ⊎_elim
       (λ decided. works_refused v (Ask job) e (running_refuses w (Ask job) running ∙ decided))
-      (λ want. subst (λ (r : Refusal). Works v (Ask job) (Plain (Refused r)) v) (sym want.0) (works_want v (Ask job) (ap is_some (unrefused (Ask job) want.1))))
+      (λ want. subst (λ (r : Refusal). Works v (Ask job) (Refused r) v) (sym want.0) (works_want v (Ask job) (ap is_some (unrefused (Ask job) want.1))))
       ((ask_answers w job).refused e refused)
 
   -- ---- a job is given up
@@ -85,22 +87,22 @@ module _ {A : Type 0} (m : Memory A) (medium : Medium) (cache : Cached) (running
 
   pub drop_works : (job : ℕ) (r : Result (Unit {0}) Refusal) (js : JobSlots) (area : Area) → (r ≡ Err NoSuchJob) ↔ (slot_of job m.jobs.slots ≡ None) → IfErr r (λ e. e ≡ NoSuchJob)
       → OnOk r (js ≡ record { next = m.jobs.next; slots = with_held job None m.jobs.slots }) → OnOk r (area ≡ all_given_back (outputs_of (slot_of job m.jobs.slots)) m.extents) → OnErr r ((js ≡ m.jobs) × (area ≡ m.extents))
-      → Works v (Drop job) (work_reply_of (λ _. Plain Done) r) (worked_on v js area medium)
+      → Works v (Drop job) (reply_of (λ _. Done) r) (worked_on v js area medium)
   drop_works job (Ok x) js area absent refusals freed back same =
       let none : running_refusal w (Drop job) ≡ None = no_slot job (held w job) (λ is. not_err x NoSuchJob (absent.1 is)) in
-      let reply : Plain Done ≡ work_decided w (Drop job) = decides (Drop job) none in
+      let reply : Done ≡ work_decided w (Drop job) = decides (Drop job) none in
       let is : record (work_of m) { jobs = js; area = area } ≡ work_after w (Drop job) = λ i. record (work_of m) { jobs = freed i; area = back i } in
-      let answer : IsAnsweredAlone w (Drop job) (Plain Done) = record { allowed = reply; admitted = reply; next = refl; faultless = refl; state = refl; alone = refl } in
-      works_moved v (Drop job) js m.next_table area (Plain Done) answer is is
+      let answer : IsAnsweredAlone w (Drop job) Done = record { allowed = reply; admitted = reply; next = refl; faultless = refl; state = refl; alone = refl } in
+      works_moved v (Drop job) js m.next_table area Done answer is is
       (λ tells runs. record {
-        sound = sound_moved v (Drop job) js m.next_table area (Plain Done) answer is (drop_sound w runs.sound job);
+        sound = sound_moved v (Drop job) js m.next_table area Done answer is (drop_sound w runs.sound job);
         stored = subst (λ (x : JobSlots). IsStoredWithJobs (placement_of v) (placed_by x.slots) v.state (disk medium)) (sym freed) (gone_stored (placement_of v) job m.jobs.slots v.state (disk medium) runs.stored);
         unasked = subst (λ (x : JobSlots). HasNoneOf m.next_table (outputs_in x.slots) cache) (sym freed) (none_of_held m.next_table m.next_table job None m.jobs.slots cache (omega arith) tt runs.unasked);
       })
   drop_works job (Err e) js area absent refusals freed back same =
       let is : held w job ≡ None = absent.0 (ap (λ (r : Refusal). Err r) refusals) in
       let none : running_refusal w (Drop job) ≡ Some NoSuchJob = ap (λ (o : Option Slot). cond (is_none o) (Some NoSuchJob) None) is in
-      subst (λ (r : Refusal). Works v (Drop job) (Plain (Refused r)) (worked_on v js area medium)) (sym refusals)
+      subst (λ (r : Refusal). Works v (Drop job) (Refused r) (worked_on v js area medium)) (sym refusals)
       (refused_same (Drop job) NoSuchJob js area none same.0 same.1)
 
   -- ---- a taking
@@ -139,10 +141,10 @@ module _ {A : Type 0} (m : Memory A) (medium : Medium) (cache : Cached) (running
       let reply : Given None ≡ work_decided w Take = sym answer ∙ decides Take free in
       let same : next_worked w Take (Given None) ≡ w = ap (λ (o : Option Job). record { state = state_of m; work = record (work_of m) { jobs = with_taken (work_of m).sealed (cuts_of (state_of m)) m.levels o m.jobs } }) is in
       works_still v Take (Given None) (record { admitted = reply; next = same; faultless = refl; unchanging = none_used (is_some (work_refusal w Take)) (Given None) })
-      (ap (λ (x : WorkMachine). x.work) (sym same)) (λ backed. reply)
+      (ap (λ (x : Machine). x.work) (sym same)) (λ backed. reply)
 
   -- memory was refused where there is one
-  pub take_want : is_some given ≡ true → running_refusal w Take ≡ None → Works v Take (Plain (Refused NoMemory)) v
+  pub take_want : is_some given ≡ true → running_refusal w Take ≡ None → Works v Take (Refused NoMemory) v
   take_want some none = works_want v Take (ap is_some (unrefused Take none), some)
 
   told_reply : (o : Option Job) → taken_reply (option_map (told_of m.jobs.next) o) ≡ Given (option_map (λ (job : Job). (m.jobs.next, level_of job)) o)
@@ -152,7 +154,7 @@ module _ {A : Type 0} (m : Memory A) (medium : Medium) (cache : Cached) (running
   pub take_works : is_some given ≡ true → running_refusal w Take ≡ None → (sealed : List Version) (cuts : List ℕ) → cuts ≡ cuts_of (state_of m) → (given ≡ Some Flush → sealed ≡ (work_of m).sealed)
       → (r : Result (Option TakenJob) Refusal) (js : JobSlots) → IfOk r (λ (taken : Option TakenJob). taken ≡ option_map (told_of m.jobs.next) given) → OnOk r (js ≡ with_taken sealed cuts m.levels given m.jobs)
       → IfErr r (λ e. (e ≡ Exhausted) ⊎ (e ≡ NoMemory)) → (r ≡ Err Exhausted → ⊥) → OnErr r (js ≡ m.jobs)
-      → Works v Take (work_reply_of taken_reply r) (worked_on v js m.extents medium)
+      → Works v Take (reply_of taken_reply r) (worked_on v js m.extents medium)
   take_works some none sealed cuts counts flush (Ok taken) js told moved refusals past same =
       let reply : taken_reply taken ≡ work_decided w Take = ap taken_reply told ∙ told_reply given ∙ decides Take none in
       let is : record (work_of m) { jobs = js } ≡ work_after w Take =
@@ -179,8 +181,8 @@ module _ {A : Type 0} (m : Memory A) (medium : Medium) (cache : Cached) (running
   take_works some none sealed cuts counts flush (Err e) js told moved refusals past same =
       ⊎_elim
       (λ is. absurd (past (ap (λ (r : Refusal). Err r) is)))
-      (λ is. subst (λ (r : Refusal). Works v Take (Plain (Refused r)) (worked_on v js m.extents medium)) (sym is)
-      (subst (λ (x : JobSlots). Works v Take (Plain (Refused NoMemory)) (worked_on v x m.extents medium)) (sym same) (take_want some none))) refusals
+      (λ is. subst (λ (r : Refusal). Works v Take (Refused r) (worked_on v js m.extents medium)) (sym is)
+      (subst (λ (x : JobSlots). Works v Take (Refused NoMemory) (worked_on v x m.extents medium)) (sym same) (take_want some none))) refusals
 
   -- as the slots tell it, which are told whether sealed versions wait
   abbrev Taken : Bool → Type 0
@@ -188,7 +190,7 @@ module _ {A : Type 0} (m : Memory A) (medium : Medium) (cache : Cached) (running
       → IfOk r (λ (taken : Option TakenJob). taken ≡ option_map (told_of m.jobs.next) (given_job waiting m.levels m.jobs.slots))
       → OnOk r (js ≡ with_taken sealed cuts m.levels (given_job waiting m.levels m.jobs.slots) m.jobs)
       → (r ≡ Err Exhausted) ↔ ((is_some (given_job waiting m.levels m.jobs.slots) ≡ true) × (2 ^ 63 < m.jobs.next))
-      → IfErr r (λ e. (e ≡ Exhausted) ⊎ (e ≡ NoMemory)) → OnErr r (js ≡ m.jobs) → Works v Take (work_reply_of taken_reply r) (worked_on v js m.extents medium)
+      → IfErr r (λ e. (e ≡ Exhausted) ⊎ (e ≡ NoMemory)) → OnErr r (js ≡ m.jobs) → Works v Take (reply_of taken_reply r) (worked_on v js m.extents medium)
 
   module _ (before : Bool) (first : before ≡ are_waiting (state_of m)) (some_before : is_some (given_job before m.levels m.jobs.slots) ≡ true) (left_before : (is_some (given_job before m.levels m.jobs.slots) ≡ true) × (2 ^ 63 < m.jobs.next) → ⊥) where
     some : is_some given ≡ true
@@ -207,7 +209,7 @@ module _ {A : Type 0} (m : Memory A) (medium : Medium) (cache : Cached) (running
     take_told waiting is = subst Taken (sym is) taken_here
 
   -- where the number 2^63 was given out
-  pub take_past : (waiting : Bool) → waiting ≡ are_waiting (state_of m) → (is_some (given_job waiting m.levels m.jobs.slots) ≡ true) × (2 ^ 63 < m.jobs.next) → Works v Take (Plain (Refused Exhausted)) v
+  pub take_past : (waiting : Bool) → waiting ≡ are_waiting (state_of m) → (is_some (given_job waiting m.levels m.jobs.slots) ≡ true) × (2 ^ 63 < m.jobs.next) → Works v Take (Refused Exhausted) v
   take_past waiting is both =
       works_refused v Take Exhausted (running_refuses w Take running ∙ take_exhausted (subst (λ (b : Bool). is_some (given_job b m.levels m.jobs.slots) ≡ true) is both.0) both.1)
 
@@ -215,7 +217,7 @@ module _ {A : Type 0} (m : Memory A) (medium : Medium) (cache : Cached) (running
   take_free waiting is none = take_none (subst (λ (b : Bool). is_some (given_job b m.levels m.jobs.slots) ≡ false) is none)
 
   pub take_short : (waiting : Bool) → waiting ≡ are_waiting (state_of m) → is_some (given_job waiting m.levels m.jobs.slots) ≡ true → ((is_some (given_job waiting m.levels m.jobs.slots) ≡ true) × (2 ^ 63 < m.jobs.next) → ⊥)
-      → Works v Take (Plain (Refused NoMemory)) v
+      → Works v Take (Refused NoMemory) v
   take_short waiting is some left =
       take_want (subst (λ (b : Bool). is_some (given_job b m.levels m.jobs.slots) ≡ true) is some)
       (take_unrefused (subst (λ (b : Bool). (is_some (given_job b m.levels m.jobs.slots) ≡ true) × (2 ^ 63 < m.jobs.next) → ⊥) is left))

@@ -23,11 +23,12 @@ use Rattle.lsm_jobs.proofs.KeptJobs.{taken_cases, held_cases, given_picked, give
 use Rattle.lsm_store.specs.RecoveryPoints.{batch_count}
 use Rattle.lsm_store.specs.State.{State, LiveSnapshot, are_waiting}
 use Rattle.lsm_store.specs.StateMaps.{HaveMaps}
-use Rattle.lsm_store.specs.Work.{WorkView, WorkMachine, Take, Read, Accept, Write, Drop, versions_in, cuts_of}
+use Rattle.lsm_store.specs.Work.{WorkView, Take, Read, Accept, Write, Drop, versions_in, cuts_of}
 use Rattle.lsm_store.specs.WorkRefusals.{job_given, held, of_slot, placing}
 use Rattle.lsm_store.specs.WorkEffects.{staged, with_placed, work_after}
 use Rattle.lsm_store.specs.WorkMaps.{AreVersions, IsJobOf, MayBePutIn}
 use Rattle.lsm_store.specs.WorkSound.{IsSound, IsServed}
+use Rattle.lsm_store.specs.Machine.{Machine}
 use Rattle.lsm_store.proofs.Cuts.{present_cut, snapshot_cut}
 use Rattle.lsm_store.proofs.InstalledMaps.{runs_tables}
 use Rattle.lsm_store.proofs.StateMaps.{count_is, synced_is}
@@ -76,10 +77,10 @@ same_outputs n (Reading left) = refl
 same_outputs n Frozen = refl
 same_outputs n (Writing tables left) = refl
 
-abbrev pub machine : State → WorkView → WorkMachine
+abbrev pub machine : State → WorkView → Machine
 machine s w = record { state = s; work = w }
 
-module _ (m : WorkMachine) (sound : IsSound m) where
+module _ (m : Machine) (sound : IsSound m) where
   abbrev good : AreVersions m.work
   good = sound.tied.versions
 

@@ -18,15 +18,15 @@ use Rattle.lsm_levels.specs.Pick.{is_flush}
 use Rattle.lsm_jobs.proofs.Found.{found_there, found_number}
 use Rattle.lsm_jobs.proofs.StoredJobs.{stored_reading_law, never_bad_law}
 use Rattle.lsm_open.specs.RecoveredTables.{StandForOne}
-use Rattle.lsm_store.specs.Backing.{StoreView, HasNoneOf, IsRunOn, IsBacked, placement_of, data_start, work_machine_of}
-use Rattle.lsm_store.specs.Calls.{Number, Refused}
+use Rattle.lsm_store.specs.Backing.{StoreView, HasNoneOf, IsRunOn, IsBacked, placement_of, data_start, machine_of}
+use Rattle.lsm_store.specs.Calls.{Number, Refused, Reply, reply_of}
 use Rattle.lsm_store.specs.Effects.{Use}
 use Rattle.lsm_store.specs.Effects.{Untouched, Reads, Changes}
-use Rattle.lsm_store.specs.Work.{WorkView, WorkMachine, Work, Read, WorkReply, Plain}
+use Rattle.lsm_store.specs.Work.{WorkView, Work, Read}
 use Rattle.lsm_store.specs.WorkEffects.{work_after, use_for, work_use, staged}
 use Rattle.lsm_store.specs.WorkRefusals.{held, of_slot, work_refusal}
 use Rattle.lsm_store.specs.WorkSound.{IsSound}
-use Rattle.lsm_store.specs.Working.{is_faultless_work, work_reply_of, work_reply_by, work_decided, WorkAllows, WorkAdmits, work_left_inside, next_worked, work_use_before, work_use_by, IsWorkUsed, WorksTo, Works, after_work_fault}
+use Rattle.lsm_store.specs.Working.{work_use_before, work_use_by, IsWorkUsed, WorksTo, Works}
 use Rattle.lsm_store.proofs.AnsweredWork.{stage_passes, no_job, other_stage, read_answers}
 use Rattle.lsm_store.specs.Memory.{AreReadAsMerges}
 use Rattle.lsm_store.proofs.HeldTables.{reading_stored, merges_at}
@@ -38,6 +38,9 @@ use Rattle.lsm_store.proofs.PlacedJobs.{held_placed, none_of_held}
 use Rattle.lsm_store.specs.Accounts.{outputs_in}
 use Rattle.lsm_store.specs.InstalledJobs.{placed_by}
 use Rattle.lsm_store.specs.StoredTables.{IsStoredWithJobs}
+use Rattle.lsm_store.specs.Machine.{Machine}
+use Rattle.lsm_store.specs.Serving.{is_faultless}
+use Rattle.lsm_store.specs.WorkReplies.{work_reply_by, work_decided, WorkAllows, WorkAdmits, work_left_inside, next_worked, after_work_fault}
 use Rattle.lsm_levels.specs.NamedBlocks.{HasNoBlock}
 use Rattle.lsm_open.specs.Writing.{PlacedTable}
 use Rattle.std.specs.List.{AllByRecursion}
@@ -52,7 +55,7 @@ pub record IsReadStep (slot : Option Slot) (ok : Bool) (old new : Medium) : Type
   pub same_lasting : new.lasting ≡ old.lasting
 
 -- a job that is being read
-pub record IsBeingRead (m : WorkMachine) (job : ℕ) : Type 0 where
+pub record IsBeingRead (m : Machine) (job : ℕ) : Type 0 where
   pub slot : Slot
   pub is : held m job ≡ Some slot
   pub reading : is_reading slot.stage ≡ true
@@ -62,7 +65,7 @@ reads_left (Reading left) is = refl
 reads_left Frozen is = absurd (false≢true is)
 reads_left (Writing tables left) is = absurd (false≢true is)
 
-use_kept : (u : Use) (reply : WorkReply) → u ≢ Changes → work_use_before u reply ≡ u
+use_kept : (u : Use) (reply : Reply) → u ≢ Changes → work_use_before u reply ≡ u
 use_kept Untouched reply other = refl
 use_kept Reads reply other = refl
 use_kept Changes reply other = absurd (other refl)
@@ -72,7 +75,7 @@ by_left true e = cc
 by_left false e = cc
 
 -- with no hand on more than reads, a fault leaves the machine as it was
-fault_by : (m : WorkMachine) (piece : Work) (u : Use) → u ≢ Changes → after_work_fault m piece u ≡ m
+fault_by : (m : Machine) (piece : Work) (u : Use) → u ≢ Changes → after_work_fault m piece u ≡ m
 fault_by m piece Untouched other = refl
 fault_by m piece Reads other = refl
 fault_by m piece Changes other = absurd (other refl)
@@ -109,8 +112,8 @@ none_to_read (Some slot) h = by slot.stage (⊎_elim (λ none. absurd (no_none n
     by (Writing tables left) h = refl
 
 module _ (v : StoreView) (job : ℕ) (new : Medium) (running : IsNone v.state.stopped) where
-  abbrev m : WorkMachine
-  m = work_machine_of v
+  abbrev m : Machine
+  m = machine_of v
 
   abbrev piece : Work
   piece = Read job
@@ -129,7 +132,7 @@ module _ (v : StoreView) (job : ℕ) (new : Medium) (running : IsNone v.state.st
     uses : work_use m piece ≡ cond is_whole Untouched Reads
     uses = ap (use_for Reads) being.is
 
-    used_by : (reply : WorkReply) → work_use_by m piece reply ≡ cond is_whole Untouched Reads
+    used_by : (reply : Reply) → work_use_by m piece reply ≡ cond is_whole Untouched Reads
     used_by reply =
         ap (λ (o : Option Refusal). cond (is_some o) Untouched (work_use_before (work_use m piece) reply)) none
         ∙ ap (λ (u : Use). work_use_before u reply) uses
@@ -139,7 +142,7 @@ module _ (v : StoreView) (job : ℕ) (new : Medium) (running : IsNone v.state.st
     no_changes e = by_left is_whole (sym uses ∙ e)
 
     module _ (ok : Bool) (step : IsReadStep (held m job) ok v.device new) where
-      used : (reply : WorkReply) → IsWorkUsed piece (work_use_by m piece reply) v.device new
+      used : (reply : Reply) → IsWorkUsed piece (work_use_by m piece reply) v.device new
       used reply = subst (λ (u : Use). IsWorkUsed piece u v.device new) (sym (used_by reply)) (by is_whole refl)
         where
           small : 8 * min 8 (to_read (held m job)) ≤ 64
@@ -157,8 +160,8 @@ module _ (v : StoreView) (job : ℕ) (new : Medium) (running : IsNone v.state.st
           )
 
       -- such a step, with what it answers
-      works_step : (reply : WorkReply) (js : JobSlots) → WorkAdmits m piece reply → (IsBacked v → WorkAllows m piece reply) → (next_worked m piece reply).state ≡ v.state
-          → WorksTo reply v piece (record v.work { jobs = js }) → is_faultless_work reply ≡ ok
+      works_step : (reply : Reply) (js : JobSlots) → WorkAdmits m piece reply → (IsBacked v → WorkAllows m piece reply) → (next_worked m piece reply).state ≡ v.state
+          → WorksTo reply v piece (record v.work { jobs = js }) → is_faultless reply ≡ ok
           → (IsBacked v → IsRunOn v → GoesOn v js v.work.next_table v.work.area) → Works v piece reply (on_new js)
       works_step reply js admitted allowed state worked faultless goes = record {
         admitted = admitted;
@@ -190,7 +193,7 @@ module _ (v : StoreView) (job : ℕ) (new : Medium) (running : IsNone v.state.st
       abbrev now_being : IsBeingRead m job
       now_being = record { slot = read.slot; is = read.is; reading = ap is_reading read.reads.shows.stage }
 
-      answer_is : Plain (Number left) ≡ work_decided m piece
+      answer_is : Number left ≡ work_decided m piece
       answer_is = sym ((read_answers m job).answer (data_start v) left v.device js read) ∙ sym (ap (work_reply_by m piece) (none now_being))
 
       work_is : IsBacked v → record v.work { jobs = js } ≡ work_after m piece
@@ -205,9 +208,9 @@ module _ (v : StoreView) (job : ℕ) (new : Medium) (running : IsNone v.state.st
       none_now : outputs_at read.now.stage ≡ []
       none_now = ap (λ (s : Slot). outputs_at s.stage) read.reads.becomes ∙ read_none left
 
-      pub read_done : Works v piece (Plain (Number left)) (on_new js)
+      pub read_done : Works v piece (Number left) (on_new js)
       read_done =
-          works_step now_being true step (Plain (Number left)) js answer_is (λ backed. answer_is) refl (record { others = refl; reads = read; kept = work_is }) refl
+          works_step now_being true step (Number left) js answer_is (λ backed. answer_is) refl (record { others = refl; reads = read; kept = work_is }) refl
           (λ backed runs. record {
             sound = subst (λ (w : WorkView). IsSound (record { state = v.state; work = w })) (sym (work_is backed)) (read_sound m runs.sound job);
             stored = subst (λ (x : JobSlots). IsStoredWithJobs (placement_of v) (placed_by x.slots) v.state (disk v.device)) (sym read.becomes)
@@ -230,29 +233,29 @@ module _ (v : StoreView) (job : ℕ) (new : Medium) (running : IsNone v.state.st
           by None is = absurd (there (absent.1 is))
           by (Some slot) is = at_stage slot is (is_reading slot.stage) refl
 
-      at : {r : Refusal} → e ≡ r → Works v piece (Plain (Refused r)) (on_new v.work.jobs) → Works v piece (Plain (Refused e)) (on_new v.work.jobs)
-      at is works = subst (λ (r : Refusal). Works v piece (Plain (Refused r)) (on_new v.work.jobs)) (sym is) works
+      at : {r : Refusal} → e ≡ r → Works v piece (Refused r) (on_new v.work.jobs) → Works v piece (Refused e) (on_new v.work.jobs)
+      at is works = subst (λ (r : Refusal). Works v piece (Refused r) (on_new v.work.jobs)) (sym is) works
 
-      refused_same : (r : Refusal) → work_refusal m piece ≡ Some r → new ≡ v.device → Works v piece (Plain (Refused r)) (on_new v.work.jobs)
-      refused_same r is same = subst (λ (d : Medium). Works v piece (Plain (Refused r)) (record v { device = d })) (sym same) (works_refused v piece r is)
+      refused_same : (r : Refusal) → work_refusal m piece ≡ Some r → new ≡ v.device → Works v piece (Refused r) (on_new v.work.jobs)
+      refused_same r is same = subst (λ (d : Medium). Works v piece (Refused r) (record v { device = d })) (sym same) (works_refused v piece r is)
 
-      read_absent : IsReadStep (held m job) true v.device new → held m job ≡ None → Works v piece (Plain (Refused NoSuchJob)) (on_new v.work.jobs)
+      read_absent : IsReadStep (held m job) true v.device new → held m job ≡ None → Works v piece (Refused NoSuchJob) (on_new v.work.jobs)
       read_absent step is = refused_same NoSuchJob (running_refuses m piece running ∙ no_job is_reading (held m job) None is) (step.untouched (none_to_read (held m job) (inl is)))
 
-      read_wrong : IsReadStep (held m job) true v.device new → is_not_at is_reading (held m job) ≡ true → Works v piece (Plain (Refused WrongState)) (on_new v.work.jobs)
+      read_wrong : IsReadStep (held m job) true v.device new → is_not_at is_reading (held m job) ≡ true → Works v piece (Refused WrongState) (on_new v.work.jobs)
       read_wrong step is = refused_same WrongState (running_refuses m piece running ∙ other_stage is_reading (held m job) None is) (step.untouched (none_to_read (held m job) (inr is)))
 
       module _ (being : IsBeingRead m job) where
-        read_want : IsReadStep (held m job) true v.device new → Works v piece (Plain (Refused NoMemory)) (on_new v.work.jobs)
+        read_want : IsReadStep (held m job) true v.device new → Works v piece (Refused NoMemory) (on_new v.work.jobs)
         read_want step =
             let may = ap is_some (none being) in
-            works_step being true step (Plain (Refused NoMemory)) v.work.jobs may (λ backed. may) refl refl refl (λ backed runs. record { sound = runs.sound; stored = runs.stored; unasked = runs.unasked })
+            works_step being true step (Refused NoMemory) v.work.jobs may (λ backed. may) refl refl refl (λ backed runs. record { sound = runs.sound; stored = runs.stored; unasked = runs.unasked })
 
-        read_io : 0 < to_read (held m job) → IsReadStep (held m job) false v.device new → Works v piece (Plain (Refused Io)) (on_new v.work.jobs)
+        read_io : 0 < to_read (held m job) → IsReadStep (held m job) false v.device new → Works v piece (Refused Io) (on_new v.work.jobs)
         read_io some step =
             let still = fault_by m piece (work_use m piece) (no_changes being) in
-            let may : WorkAllows m piece (Plain (Refused Io)) = (ap is_some (none being), λ alone. no_reads (reads_here some) (sym (uses being) ∙ alone)) in
-            works_step being false step (Plain (Refused Io)) v.work.jobs may (λ backed. may) (ap (λ (x : WorkMachine). x.state) still) (sym (ap (λ (x : WorkMachine). x.work) still)) refl (λ backed runs. record { sound = runs.sound; stored = runs.stored; unasked = runs.unasked })
+            let may : WorkAllows m piece (Refused Io) = (ap is_some (none being), λ alone. no_reads (reads_here some) (sym (uses being) ∙ alone)) in
+            works_step being false step (Refused Io) v.work.jobs may (λ backed. may) (ap (λ (x : Machine). x.state) still) (sym (ap (λ (x : Machine). x.work) still)) refl (λ backed runs. record { sound = runs.sound; stored = runs.stored; unasked = runs.unasked })
           where
             reads_here : 0 < to_read (held m job) → is_whole being ≡ false
             reads_here some = let same = ap to_read being.is ∙ reads_left being.slot.stage being.reading in ne_eqb (left_at being.slot.stage) 0 (λ zero. omega (arith, some, same, zero))
@@ -261,9 +264,9 @@ module _ (v : StoreView) (job : ℕ) (new : Medium) (running : IsNone v.state.st
             no_reads is e = no_use (sym (ap (λ (x : Bool). cond x Untouched Reads) is) ∙ e)
 
         read_bad : ((slot : Slot) → IsTrue v.device.lasting.tells → held m job ≡ Some slot → IsBadNext (data_start v) v.device slot) → IsReadStep (held m job) true v.device new
-            → Works v piece (Plain (Refused BadTable)) (on_new v.work.jobs)
+            → Works v piece (Refused BadTable) (on_new v.work.jobs)
         read_bad bad step =
-            works_step being true step (Plain (Refused BadTable)) v.work.jobs (ap is_some (none being), refl)
+            works_step being true step (Refused BadTable) v.work.jobs (ap is_some (none being))
             (λ backed. absurd (never_bad_law (data_start v) v.device being.slot (stored being backed) (bad being.slot backed.tells being.is))) refl refl refl (λ backed runs. record { sound = runs.sound; stored = runs.stored; unasked = runs.unasked })
 
       -- The refusals of a step, each with what it tells.
@@ -271,7 +274,7 @@ module _ (v : StoreView) (job : ℕ) (new : Medium) (running : IsNone v.state.st
       IsWhy ok = IsReadStep (held m job) ok v.device new
 
       pub read_refused : (e ≡ NoSuchJob) ⊎ ((e ≡ WrongState) ⊎ ((e ≡ Io) ⊎ ((e ≡ BadTable) ⊎ (e ≡ NoMemory)))) → (e ≡ Io → 0 < to_read (held m job))
-          → (IsTrue v.device.lasting.tells → e ≡ BadTable → (slot : Slot) → held m job ≡ Some slot → IsBadNext (data_start v) v.device slot) → IsWhy (is_no_fault e) → Works v piece (Plain (Refused e)) (on_new v.work.jobs)
+          → (IsTrue v.device.lasting.tells → e ≡ BadTable → (slot : Slot) → held m job ≡ Some slot → IsBadNext (data_start v) v.device slot) → IsWhy (is_no_fault e) → Works v piece (Refused e) (on_new v.work.jobs)
       read_refused (inl is) some bad step = at is (read_absent (subst (λ (r : Refusal). IsWhy (is_no_fault r)) is step) (absent.0 is))
       read_refused (inr (inl is)) some bad step = at is (read_wrong (subst (λ (r : Refusal). IsWhy (is_no_fault r)) is step) (wrong.0 is))
       read_refused (inr (inr (inl is))) some bad step =
@@ -295,13 +298,13 @@ pub read_works : (v : StoreView) (job : ℕ) (new : Medium) → IsNone v.state.s
     → IfErr r (λ e. (e ≡ NoSuchJob) ⊎ ((e ≡ WrongState) ⊎ ((e ≡ Io) ⊎ ((e ≡ BadTable) ⊎ (e ≡ NoMemory))))) → OnErr r (js ≡ v.work.jobs)
     → new.calls.faults ≡ faults_after (faultless r) v.device.calls.faults → (r ≡ Err Io → 0 < to_read (slot_of job v.work.jobs.slots)) → AtMost (8 * min 8 (to_read (slot_of job v.work.jobs.slots))) 0 0 v.device.calls new.calls
     → (to_read (slot_of job v.work.jobs.slots) ≡ 0 → new ≡ v.device) → (IsTrue v.device.lasting.tells → new.history ≡ v.device.history) → new.size ≡ v.device.size → new.lasting ≡ v.device.lasting
-    → Works v (Read job) (work_reply_of (λ left. Plain (Number left)) r) (worked_on v js v.work.area new)
+    → Works v (Read job) (reply_of Number r) (worked_on v js v.work.area new)
 read_works v job new running merges area at_area (Ok left) js reads absent wrong bad refused same faults some calls untouched unchanged size lasting =
     read_done v job new running (λ slot is reading. merges_at job v.work.jobs.slots slot merges is reading) left js
     (subst (λ (n : ℕ). JobReadsOn n v.device job left v.work.jobs js) at_area reads)
     (record { calls = calls; untouched = untouched; unchanged = unchanged; faults = faults; same_size = size; same_lasting = lasting })
 read_works v job new running merges area at_area (Err e) js reads absent wrong bad refused same faults some calls untouched unchanged size lasting =
-    subst (λ (x : JobSlots). Works v (Read job) (Plain (Refused e)) (worked_on v x v.work.area new)) (sym same)
+    subst (λ (x : JobSlots). Works v (Read job) (Refused e) (worked_on v x v.work.area new)) (sym same)
     (read_refused v job new running (λ slot is reading. merges_at job v.work.jobs.slots slot merges is reading) e
     (λ is. absent.0 (ap err_of_number is), λ is. err_same e NoSuchJob (absent.1 is))
     (λ is. wrong.0 (ap err_of_number is), λ is. err_same e WrongState (wrong.1 is))

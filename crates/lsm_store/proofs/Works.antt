@@ -19,21 +19,25 @@ use Rattle.lsm_levels.specs.Stored.{AreStored}
 use Rattle.lsm_open.specs.Image.{StandFor}
 use Rattle.lsm_open.specs.RecoveredTables.{StandForOne}
 use Rattle.lsm_store.specs.Accounts.{outputs_in}
-use Rattle.lsm_store.specs.Backing.{StoreView, HasNoneOf, IsRunOn, IsBacked, placement_of, data_start, work_machine_of}
-use Rattle.lsm_store.specs.Calls.{Refused}
+use Rattle.lsm_store.specs.Backing.{StoreView, HasNoneOf, IsRunOn, IsBacked, placement_of, data_start, machine_of}
+use Rattle.lsm_store.specs.Calls.{Refused, Reply}
 use Rattle.lsm_store.specs.Crash.{may_leave, last_crash_state}
 use Rattle.lsm_store.specs.Effects.{Use}
 use Rattle.lsm_store.specs.Effects.{Untouched, Reads, Changes}
 use Rattle.lsm_store.specs.InstalledJobs.{AreSealedIn, AreLoggedIn, placed_by}
 use Rattle.lsm_store.specs.Refusals.{first_refusal}
 use Rattle.lsm_store.specs.StoredTables.{IsStoredWithJobs}
-use Rattle.lsm_store.specs.Work.{WorkMachine, Work, Take, Read, Ask, Accept, Write, Install, Drop, WorkReply, Plain}
+use Rattle.lsm_store.specs.Work.{Work}
 use Rattle.lsm_store.specs.WorkEffects.{work_after, state_after, work_use}
-use Rattle.lsm_store.specs.WorkRefusals.{work_refusals, running_refusal, work_refusal}
+use Rattle.lsm_store.specs.WorkRefusals.{running_refusal, work_refusal}
 use Rattle.lsm_store.specs.WorkSound.{IsSound}
-use Rattle.lsm_store.specs.Working.{is_faultless_work, work_reply_by, WorkAllows, WorkAdmits, work_left_inside, next_worked, work_use_before, work_use_by, IsWorkUsed, Works, WorksTo}
+use Rattle.lsm_store.specs.Working.{work_use_before, work_use_by, IsWorkUsed, Works, WorksTo}
+use Rattle.lsm_store.specs.Machine.{Machine}
+use Rattle.lsm_store.specs.Serving.{is_faultless}
+use Rattle.lsm_store.specs.WorkReplies.{work_reply_by, WorkAllows, WorkAdmits, work_left_inside, next_worked}
 use Rattle.lsm_store.proofs.Backed.{place_in}
-use Rattle.lsm_store.proofs.Running.{IsDecided, first_decided}
+use Rattle.lsm_store.proofs.Running.{IsDecided}
+use Rattle.lsm_store.proofs.WorkReplies.{work_decided_so}
 use Rattle.lsm_store.proofs.Serving.{untouched_no_change}
 
 -- ---- refusals
@@ -45,7 +49,7 @@ some_none : (e : Refusal) → Some e ≡ None → ⊥
 some_none e is = cc
 
 -- a stopped store refuses each piece
-pub stopped_refuses : (m : WorkMachine) (piece : Work) (e : Refusal) → first_refusal ((is_some m.state.stopped, Stopped) ∷ []) ≡ Some e → work_refusal m piece ≡ Some e
+pub stopped_refuses : (m : Machine) (piece : Work) (e : Refusal) → first_refusal ((is_some m.state.stopped, Stopped) ∷ []) ≡ Some e → work_refusal m piece ≡ Some e
 stopped_refuses m piece e = by (is_some m.state.stopped)
   where
     by : (b : Bool) → cond b (Some Stopped) None ≡ Some e → cond b (Some Stopped) (running_refusal m piece) ≡ Some e
@@ -53,43 +57,29 @@ stopped_refuses m piece e = by (is_some m.state.stopped)
     by false is = absurd (none_some e is)
 
 -- one that runs refuses what its work does
-pub runs_then : (m : WorkMachine) → first_refusal ((is_some m.state.stopped, Stopped) ∷ []) ≡ None → IsNone m.state.stopped
+pub runs_then : (m : Machine) → first_refusal ((is_some m.state.stopped, Stopped) ∷ []) ≡ None → IsNone m.state.stopped
 runs_then m = by (is_some m.state.stopped)
   where
     by : (b : Bool) → cond b (Some Stopped) None ≡ None → b ≡ false
     by true is = absurd (some_none Stopped is)
     by false is = refl
 
-pub running_refuses : (m : WorkMachine) (piece : Work) → IsNone m.state.stopped → work_refusal m piece ≡ running_refusal m piece
+pub running_refuses : (m : Machine) (piece : Work) → IsNone m.state.stopped → work_refusal m piece ≡ running_refusal m piece
 running_refuses m piece running = ap (λ (b : Bool). cond b (Some Stopped) (running_refusal m piece)) running
 
--- a refusal that the machine decides tells of no fault, and not of memory or a table
-work_decided_so : (m : WorkMachine) (piece : Work) → IsDecided (work_refusal m piece)
-work_decided_so m piece = by (is_some m.state.stopped) piece
-  where
-    by : (b : Bool) (p : Work) → IsDecided (cond b (Some Stopped) (running_refusal m p))
-    by true p = tt
-    by false Take = first_decided (work_refusals m Take) (tt, tt)
-    by false (Read job) = first_decided (work_refusals m (Read job)) (tt, (tt, tt))
-    by false (Ask job) = first_decided (work_refusals m (Ask job)) (tt, (tt, tt))
-    by false (Accept job result) = first_decided (work_refusals m (Accept job result)) (tt, (tt, (tt, (tt, (tt, tt)))))
-    by false (Write job) = first_decided (work_refusals m (Write job)) (tt, (tt, tt))
-    by false (Install job) = first_decided (work_refusals m (Install job)) (tt, (tt, (tt, (tt, (tt, tt)))))
-    by false (Drop job) = first_decided (work_refusals m (Drop job)) (tt, tt)
-
 -- what is known of a reply that changes nothing
-pub record IsStill (m : WorkMachine) (piece : Work) (reply : WorkReply) : Type 0 where
+pub record IsStill (m : Machine) (piece : Work) (reply : Reply) : Type 0 where
   pub admitted : WorkAdmits m piece reply
   pub next : next_worked m piece reply ≡ m
-  pub faultless : is_faultless_work reply ≡ true
+  pub faultless : is_faultless reply ≡ true
   pub unchanging : work_use_by m piece reply ≢ Changes
 
 -- and is allowed
-pub record IsAllowedStill (m : WorkMachine) (piece : Work) (reply : WorkReply) : Type 0 where
+pub record IsAllowedStill (m : Machine) (piece : Work) (reply : Reply) : Type 0 where
   pub allowed : WorkAllows m piece reply
   pub still : IsStill m piece reply
 
-refused_by : (m : WorkMachine) (piece : Work) (e : Refusal) → IsDecided (Some e) → work_refusal m piece ≡ Some e → (work_use_by m piece (Plain (Refused e)) ≢ Changes) → IsAllowedStill m piece (Plain (Refused e))
+refused_by : (m : Machine) (piece : Work) (e : Refusal) → IsDecided (Some e) → work_refusal m piece ≡ Some e → (work_use_by m piece (Refused e) ≢ Changes) → IsAllowedStill m piece (Refused e)
 refused_by m piece NoMemory d is unchanging = absurd d
 refused_by m piece Io d is unchanging = absurd d
 refused_by m piece BadTable d is unchanging = absurd d
@@ -98,22 +88,22 @@ refused_by m piece e d is unchanging =
     record { allowed = same; still = record { admitted = same; next = refl; faultless = refl; unchanging = unchanging } }
 
 -- a refusal that the machine decides
-pub refused_still : (m : WorkMachine) (piece : Work) (e : Refusal) → work_refusal m piece ≡ Some e → IsAllowedStill m piece (Plain (Refused e))
+pub refused_still : (m : Machine) (piece : Work) (e : Refusal) → work_refusal m piece ≡ Some e → IsAllowedStill m piece (Refused e)
 refused_still m piece e is =
     refused_by m piece e (subst IsDecided is (work_decided_so m piece)) is
-    (λ changes. untouched_no_change (sym (ap (λ (o : Option Refusal). cond (is_some o) Untouched (work_use_before (work_use m piece) (Plain (Refused e)))) is) ∙ changes))
+    (λ changes. untouched_no_change (sym (ap (λ (o : Option Refusal). cond (is_some o) Untouched (work_use_before (work_use m piece) (Refused e))) is) ∙ changes))
 
-wanting : (u : Use) → work_use_before u (Plain (Refused NoMemory)) ≢ Changes
+wanting : (u : Use) → work_use_before u (Refused NoMemory) ≢ Changes
 wanting Untouched e = cc
 wanting Reads e = cc
 wanting Changes e = cc
 
-want_by : (m : WorkMachine) (piece : Work) (b : Bool) → cond b Untouched (work_use_before (work_use m piece) (Plain (Refused NoMemory))) ≢ Changes
+want_by : (m : Machine) (piece : Work) (b : Bool) → cond b Untouched (work_use_before (work_use m piece) (Refused NoMemory)) ≢ Changes
 want_by m piece true changes = untouched_no_change changes
 want_by m piece false changes = wanting (work_use m piece) changes
 
 -- want of memory
-pub want_still : (m : WorkMachine) (piece : Work) → WorkAllows m piece (Plain (Refused NoMemory)) → IsAllowedStill m piece (Plain (Refused NoMemory))
+pub want_still : (m : Machine) (piece : Work) → WorkAllows m piece (Refused NoMemory) → IsAllowedStill m piece (Refused NoMemory)
 want_still m piece may = record { allowed = may; still = record { admitted = may; next = refl; faultless = refl; unchanging = want_by m piece (is_some (work_refusal m piece)) } }
 
 -- ---- the store with other jobs
@@ -126,7 +116,7 @@ module _ (v : StoreView) (js : JobSlots) (number : ℕ) (area : Area) where
   -- What a running store asks of that: it is sound, its device carries what these jobs have placed, and its cache has no block
   -- of a table that is still to come.
   pub record GoesOn : Type 0 where
-    pub sound : IsSound (work_machine_of (moved_on v.device))
+    pub sound : IsSound (machine_of (moved_on v.device))
     pub stored : IsStoredWithJobs (placement_of v) (placed_by js.slots) v.state (disk v.device)
     pub unasked : HasNoneOf number (outputs_in js.slots) v.cache
 
@@ -160,7 +150,7 @@ worked_on v js area new = moved_on v js v.work.next_table area new
 
 -- ---- one piece
 
-pub now_within : (v : StoreView) (piece : Work) → IsBacked v → Leaves (StandForOne v.state.log_sectors (work_left_inside (work_machine_of v) piece)) (disk v.device)
+pub now_within : (v : StoreView) (piece : Work) → IsBacked v → Leaves (StandForOne v.state.log_sectors (work_left_inside (machine_of v) piece)) (disk v.device)
 now_within v piece backed mask = let one = backed.crashes mask in (one.0, Contains-append_left (may_leave v.state) _ one.0 one.1, one.2)
 
 unused : (piece : Work) (used : Use) (m : Medium) → used ≢ Changes → IsWorkUsed piece used m m
@@ -169,15 +159,15 @@ unused piece Reads m other = (record { no_write = refl; no_sync = refl; same_his
 unused piece Changes m other = absurd (other refl)
 
 module _ (v : StoreView) (piece : Work) where
-  abbrev m : WorkMachine
-  m = work_machine_of v
+  abbrev m : Machine
+  m = machine_of v
 
   -- one that leaves the store as it was
-  pub works_still : (reply : WorkReply) → IsStill m piece reply → WorksTo reply v piece v.work → (IsBacked v → WorkAllows m piece reply) → Works v piece reply v
+  pub works_still : (reply : Reply) → IsStill m piece reply → WorksTo reply v piece v.work → (IsBacked v → WorkAllows m piece reply) → Works v piece reply v
   works_still reply still worked allowed = record {
     admitted = still.admitted;
     allowed = allowed;
-    state = ap (λ (x : WorkMachine). x.state) (sym still.next);
+    state = ap (λ (x : Machine). x.state) (sym still.next);
     worked = worked;
     same_cache = refl;
     used = unused piece (work_use_by m piece reply) v.device still.unchanging;
@@ -188,48 +178,48 @@ module _ (v : StoreView) (piece : Work) where
     backed = λ backed. backed;
   }
 
-  pub works_refused : (e : Refusal) → work_refusal m piece ≡ Some e → Works v piece (Plain (Refused e)) v
-  works_refused e is = let goes = refused_still m piece e is in works_still (Plain (Refused e)) goes.still (ap (λ (x : WorkMachine). x.work) (sym goes.still.next)) (λ backed. goes.allowed)
+  pub works_refused : (e : Refusal) → work_refusal m piece ≡ Some e → Works v piece (Refused e) v
+  works_refused e is = let goes = refused_still m piece e is in works_still (Refused e) goes.still (ap (λ (x : Machine). x.work) (sym goes.still.next)) (λ backed. goes.allowed)
 
-  pub works_want : WorkAllows m piece (Plain (Refused NoMemory)) → Works v piece (Plain (Refused NoMemory)) v
-  works_want may = let goes = want_still m piece may in works_still (Plain (Refused NoMemory)) goes.still refl (λ backed. goes.allowed)
+  pub works_want : WorkAllows m piece (Refused NoMemory) → Works v piece (Refused NoMemory) v
+  works_want may = let goes = want_still m piece may in works_still (Refused NoMemory) goes.still refl (λ backed. goes.allowed)
 
 -- What is known of an answer to a piece that nothing refuses, and that has no hand on the device.
-pub record IsAnsweredAlone (m : WorkMachine) (piece : Work) (reply : WorkReply) : Type 0 where
+pub record IsAnsweredAlone (m : Machine) (piece : Work) (reply : Reply) : Type 0 where
   pub allowed : WorkAllows m piece reply
   pub admitted : WorkAdmits m piece reply
   pub next : next_worked m piece reply ≡ record { state = state_after m piece; work = work_after m piece }
-  pub faultless : is_faultless_work reply ≡ true
+  pub faultless : is_faultless reply ≡ true
   pub state : state_after m piece ≡ m.state
   pub alone : work_use m piece ≡ Untouched
 
-pub none_used : (b : Bool) (reply : WorkReply) → cond b Untouched (work_use_before Untouched reply) ≢ Changes
+pub none_used : (b : Bool) (reply : Reply) → cond b Untouched (work_use_before Untouched reply) ≢ Changes
 none_used true reply changes = untouched_no_change changes
 none_used false reply changes = untouched_no_change changes
 
-module _ (v : StoreView) (piece : Work) (js : JobSlots) (number : ℕ) (area : Area) (reply : WorkReply) (answer : IsAnsweredAlone (work_machine_of v) piece reply)
-    (is : record v.work { jobs = js; next_table = number; area = area } ≡ work_after (work_machine_of v) piece) where
-  none_changed : work_use_by (work_machine_of v) piece reply ≢ Changes
+module _ (v : StoreView) (piece : Work) (js : JobSlots) (number : ℕ) (area : Area) (reply : Reply) (answer : IsAnsweredAlone (machine_of v) piece reply)
+    (is : record v.work { jobs = js; next_table = number; area = area } ≡ work_after (machine_of v) piece) where
+  none_changed : work_use_by (machine_of v) piece reply ≢ Changes
   none_changed changes =
-      none_used (is_some (work_refusal (work_machine_of v) piece)) reply
-      (sym (ap (λ (u : Use). cond (is_some (work_refusal (work_machine_of v) piece)) Untouched (work_use_before u reply)) answer.alone) ∙ changes)
+      none_used (is_some (work_refusal (machine_of v) piece)) reply
+      (sym (ap (λ (u : Use). cond (is_some (work_refusal (machine_of v) piece)) Untouched (work_use_before u reply)) answer.alone) ∙ changes)
 
   -- one that changes the jobs alone
   pub works_moved : WorksTo reply v piece (record v.work { jobs = js; next_table = number; area = area }) → (IsTrue v.device.lasting.tells → IsRunOn v → GoesOn v js number area) → Works v piece reply (moved_on v js number area v.device)
   works_moved worked goes = record {
     admitted = answer.admitted;
     allowed = λ backed. answer.allowed;
-    state = sym answer.state ∙ sym (ap (λ (x : WorkMachine). x.state) answer.next);
+    state = sym answer.state ∙ sym (ap (λ (x : Machine). x.state) answer.next);
     worked = worked;
     same_cache = refl;
-    used = unused piece (work_use_by (work_machine_of v) piece reply) v.device none_changed;
+    used = unused piece (work_use_by (machine_of v) piece reply) v.device none_changed;
     fault = ap (λ (b : Bool). faults_after b v.device.calls.faults) (sym answer.faultless);
     same_size = refl;
     same_lasting = refl;
-    crash = λ backed. unchanged (Leaves (StandForOne v.state.log_sectors (work_left_inside (work_machine_of v) piece))) v.device.history v.device.history refl (now_within v piece backed);
+    crash = λ backed. unchanged (Leaves (StandForOne v.state.log_sectors (work_left_inside (machine_of v) piece))) v.device.history v.device.history refl (now_within v piece backed);
     backed = backed_moved v js number area v.device (λ tells. refl) refl goes;
   }
 
   -- the machine then is that after the piece
-  pub sound_moved : IsSound (record { state = state_after (work_machine_of v) piece; work = work_after (work_machine_of v) piece }) → IsSound (work_machine_of (moved_on v js number area v.device))
+  pub sound_moved : IsSound (record { state = state_after (machine_of v) piece; work = work_after (machine_of v) piece }) → IsSound (machine_of (moved_on v js number area v.device))
   sound_moved sound = subst IsSound (λ i. record { state = answer.state i; work = sym is i }) sound

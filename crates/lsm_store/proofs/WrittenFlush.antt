@@ -36,10 +36,10 @@ use Rattle.lsm_store.proofs.WrittenOutputs.{outputs_stored, outputs_named}
 use Rattle.lsm_store.specs.InstalledJobs.{output_records, placed_for, AreSealedIn}
 use Rattle.lsm_store.specs.State.{State}
 use Rattle.lsm_store.specs.StoredTables.{IsStoredWithJobs}
-use Rattle.lsm_store.specs.Work.{WorkMachine}
 use Rattle.lsm_store.specs.WorkMaps.{IsJobOf}
 use Rattle.lsm_store.specs.WorkRefusals.{held}
 use Rattle.lsm_store.specs.WorkSound.{IsSound}
+use Rattle.lsm_store.specs.Machine.{Machine}
 
 -- versions of batches are numbered up to the last of these
 batches_high : (n : ℕ) (batches : List (List Operation)) (vs : List Version) → NumberedAtMost n vs → NumberedAtMost (n + length batches) (with_batches n batches vs)
@@ -91,7 +91,7 @@ module _ (base : ℕ) (batches : List (List Operation)) (s : State) (sealed : Li
 
 -- ---- in a running store
 
-module _ (m : WorkMachine) (p : Placement) (xs ys : List PlacedTable) (d : Disk) (job : ℕ) (slot : Slot) (outputs : List Table) (sound : IsSound m) (stored : IsStoredWithJobs p (xs ++ (placed_for slot ++ ys)) m.state d)
+module _ (m : Machine) (p : Placement) (xs ys : List PlacedTable) (d : Disk) (job : ℕ) (slot : Slot) (outputs : List Table) (sound : IsSound m) (stored : IsStoredWithJobs p (xs ++ (placed_for slot ++ ys)) m.state d)
     (sealed : AreSealedIn p (seen d) m.work.sealed) (found : held m job ≡ Some slot) (flush : slot.job ≡ Flush) (stage : slot.stage ≡ Writing outputs 0) (made : AreMadeOf slot.input outputs) (numbers : AllByRecursion (λ t. t.number ≤ 2 ^ 63) outputs) where
   abbrev n : ℕ
   n = p.logs.log_sectors

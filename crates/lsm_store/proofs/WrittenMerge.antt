@@ -44,17 +44,18 @@ use Rattle.lsm_store.proofs.WorkSounds.{there}
 use Rattle.lsm_store.proofs.WrittenOutputs.{outputs_stored, outputs_named}
 use Rattle.lsm_store.specs.InstalledJobs.{output_records, placed_for, that_meet, parts_at, parts_if, parts_of}
 use Rattle.lsm_store.specs.StoredTables.{IsStoredWithJobs}
-use Rattle.lsm_store.specs.Work.{WorkMachine, versions_in}
+use Rattle.lsm_store.specs.Work.{versions_in}
 use Rattle.lsm_store.specs.WorkMaps.{IsJobOf}
 use Rattle.lsm_store.specs.WorkRefusals.{held}
 use Rattle.lsm_store.specs.WorkSound.{IsSound}
+use Rattle.lsm_store.specs.Machine.{Machine}
 use Rattle.lsm_table.specs.Division.{ShareNoKey}
 use Rattle.lsm_store.proofs.MergeParts.{share_none, upper_is, lower_is, upper_stored, lower_stored, between_apart, behind_from, replaced_stored, from_weaker, IsBehind}
 
 abbrev Versions : Type 0
 Versions = List Version
 
-module _ (m : WorkMachine) (p : Placement) (xs ys : List PlacedTable) (d : Disk) (job : ℕ) (slot : Slot) (outputs : List Table) (i : ℕ) (upper lower : List Table) (sound : IsSound m) (stored : IsStoredWithJobs p (xs ++ (placed_for slot ++ ys)) m.state d)
+module _ (m : Machine) (p : Placement) (xs ys : List PlacedTable) (d : Disk) (job : ℕ) (slot : Slot) (outputs : List Table) (i : ℕ) (upper lower : List Table) (sound : IsSound m) (stored : IsStoredWithJobs p (xs ++ (placed_for slot ++ ys)) m.state d)
     (named : records_of m.work.levels ≡ p.tables) (tables : AreStored (seen d) (first_data p.logs.log_sectors) (places m.work.levels)) (found : held m job ≡ Some slot) (merge : slot.job ≡ Merge i upper lower) (stage : slot.stage ≡ Writing outputs 0)
     (made : AreMadeOf slot.input outputs) (numbers : AllByRecursion (λ t. t.number ≤ 2 ^ 63) outputs) where
   abbrev n : ℕ

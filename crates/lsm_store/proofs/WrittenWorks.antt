@@ -25,19 +25,21 @@ use Rattle.lsm_open.specs.CrashState.{CrashState}
 use Rattle.lsm_open.specs.Placements.{Placement}
 use Rattle.lsm_open.specs.RecoveredTables.{StandForOne}
 use Rattle.lsm_store.specs.Accounts.{outputs_in}
-use Rattle.lsm_store.specs.Backing.{StoreView, HasNoneOf, IsRunOn, IsBacked, placement_of, data_start, work_machine_of}
-use Rattle.lsm_store.specs.Calls.{Number, Refused}
+use Rattle.lsm_store.specs.Backing.{StoreView, HasNoneOf, IsRunOn, IsBacked, placement_of, data_start, machine_of}
+use Rattle.lsm_store.specs.Calls.{Number, Refused, Reply}
 use Rattle.lsm_store.specs.Crash.{may_leave, left_between}
 use Rattle.lsm_store.specs.Effects.{Use}
 use Rattle.lsm_store.specs.Effects.{Untouched, Changes}
 use Rattle.lsm_store.specs.InstalledJobs.{placed_by, AreSealedIn, AreLoggedIn}
 use Rattle.lsm_store.specs.State.{State}
 use Rattle.lsm_store.specs.StoredTables.{IsStoredWithJobs, KeepsExtents}
-use Rattle.lsm_store.specs.Work.{WorkView, WorkMachine, Work, Write, WorkReply, Plain}
+use Rattle.lsm_store.specs.Work.{WorkView, Work, Write}
 use Rattle.lsm_store.specs.WorkEffects.{use_for, work_after, work_use}
 use Rattle.lsm_store.specs.WorkRefusals.{held, work_refusal}
 use Rattle.lsm_store.specs.WorkSound.{IsSound}
-use Rattle.lsm_store.specs.Working.{work_decided, work_left_inside, work_reply_by, work_use_before, work_use_by, after_work_fault, WorkAllows, IsWorkUsed, Works}
+use Rattle.lsm_store.specs.Working.{work_use_before, work_use_by, IsWorkUsed, Works}
+use Rattle.lsm_store.specs.Machine.{Machine}
+use Rattle.lsm_store.specs.WorkReplies.{work_decided, work_left_inside, work_reply_by, after_work_fault, WorkAllows}
 use Rattle.lsm_store.proofs.Accounts.{same_outputs}
 use Rattle.lsm_store.proofs.AnsweredWork.{stage_passes, write_answers}
 use Rattle.lsm_store.proofs.Backed.{run_backed}
@@ -114,8 +116,8 @@ none_to_write o Io other h = absurd (other refl)
 none_to_write o more other h = absurd h
 
 module _ (v : StoreView) (job : ℕ) (new : Medium) (running : IsNone v.state.stopped) where
-  abbrev m : WorkMachine
-  m = work_machine_of v
+  abbrev m : Machine
+  m = machine_of v
 
   abbrev piece : Work
   piece = Write job
@@ -141,7 +143,7 @@ module _ (v : StoreView) (job : ℕ) (new : Medium) (running : IsNone v.state.st
     uses : work_use m piece ≡ cond (left == 0) Untouched Changes
     uses = ap (use_for Changes) is ∙ ap (λ (at : Stage). cond (left_at at == 0) Untouched Changes) writing.is
 
-    used_by : (reply : WorkReply) → work_use_before Changes reply ≡ Changes → work_use_by m piece reply ≡ cond (left == 0) Untouched Changes
+    used_by : (reply : Reply) → work_use_before Changes reply ≡ Changes → work_use_by m piece reply ≡ cond (left == 0) Untouched Changes
     used_by reply keeps =
         ap (λ (o : Option Refusal). cond (is_some o) Untouched (work_use_before (work_use m piece) reply)) none
         ∙ ap (λ (u : Use). work_use_before u reply) uses
@@ -158,7 +160,7 @@ module _ (v : StoreView) (job : ℕ) (new : Medium) (running : IsNone v.state.st
     left_is = ap to_write is ∙ ap left_to_write writing.is
 
     module _ (ok : Bool) (step : IsWriteStep (data_start v) (held m job) ok v.device new) where
-      used : (reply : WorkReply) → work_use_before Changes reply ≡ Changes → IsWorkUsed piece (work_use_by m piece reply) v.device new
+      used : (reply : Reply) → work_use_before Changes reply ≡ Changes → IsWorkUsed piece (work_use_by m piece reply) v.device new
       used reply keeps = subst (λ (u : Use). IsWorkUsed piece u v.device new) (sym (used_by reply keeps)) (by (left == 0) refl)
         where
           small : 8 * min 8 (to_write (held m job)) ≤ 64
@@ -210,14 +212,14 @@ module _ (v : StoreView) (job : ℕ) (new : Medium) (running : IsNone v.state.st
             unasked = subst (λ (ts : List Table). HasNoneOf v.work.next_table ts v.cache) (sym same) runs.unasked;
           }
 
-      works_written : Plain (Number answered) ≡ work_decided m piece → Works v piece (Plain (Number answered)) (worked_on v js v.work.area new)
+      works_written : Number answered ≡ work_decided m piece → Works v piece (Number answered) (worked_on v js v.work.area new)
       works_written answer = record {
         admitted = answer;
         allowed = λ backed. answer;
         state = refl;
         worked = work;
         same_cache = refl;
-        used = used true step (Plain (Number answered)) refl;
+        used = used true step (Number answered) refl;
         fault = step.written.faults;
         same_size = step.written.same_size;
         same_lasting = step.written.same_lasting;
@@ -235,7 +237,7 @@ module _ (v : StoreView) (job : ℕ) (new : Medium) (running : IsNone v.state.st
       changes : work_use m piece ≡ Changes
       changes = uses ∙ ap (λ (b : Bool). cond b Untouched Changes) (ne_eqb left 0 (λ zero. omega (arith, some, left_is, zero)))
 
-      may : WorkAllows m piece (Plain (Refused Io))
+      may : WorkAllows m piece (Refused Io)
       may = (ap is_some none, λ alone. no (sym changes ∙ alone))
         where
           no : Changes ≡ Untouched → ⊥
@@ -246,14 +248,14 @@ module _ (v : StoreView) (job : ℕ) (new : Medium) (running : IsNone v.state.st
           let one = ended (Leaves (StandForOne v.state.log_sectors (may_leave v.state))) v.device.history new.history (each false step backed) mask in
           (one.0, Contains-append_left (left_between v.state) [] one.0 (subst (λ (all : List CrashState). Contains all one.0) (may_leave_running v.state (none_of v.state.stopped running)) one.1), one.2)
 
-      works_stopped : Works v piece (Plain (Refused Io)) (record v { device = new; state = stopped_state })
+      works_stopped : Works v piece (Refused Io) (record v { device = new; state = stopped_state })
       works_stopped = record {
         admitted = may;
         allowed = λ backed. may;
         state = sym (ap (λ (u : Use). (after_work_fault m piece u).state) changes);
         worked = sym (ap (λ (u : Use). (after_work_fault m piece u).work) changes);
         same_cache = refl;
-        used = used false step (Plain (Refused Io)) refl;
+        used = used false step (Refused Io) refl;
         fault = step.written.faults;
         same_size = step.written.same_size;
         same_lasting = step.written.same_lasting;
@@ -268,21 +270,21 @@ module _ (v : StoreView) (job : ℕ) (new : Medium) (running : IsNone v.state.st
 
   -- ---- by what the slots answer
 
-  pub write_done : (left : ℕ) (js : JobSlots) → IsWritten job left v.work.jobs js → IsWriteStep (data_start v) (held m job) true v.device new → Works v piece (Plain (Number left)) (worked_on v js v.work.area new)
+  pub write_done : (left : ℕ) (js : JobSlots) → IsWritten job left v.work.jobs js → IsWriteStep (data_start v) (held m job) true v.device new → Works v piece (Number left) (worked_on v js v.work.area new)
   write_done left js h step =
       let writing = writing_at h.slot.stage h.writing in
       let answers = write_answers m job in
       works_written h.slot h.found writing step left js h.staged (written_outputs_in job left v.work.jobs js h) (answers.after left js h)
       (sym (answers.answer left js h) ∙ sym (ap (work_reply_by m piece) (none h.slot h.found writing)))
 
-  pub write_io : RefusesWrite (held m job) Io → IsWriteStep (data_start v) (held m job) false v.device new → Works v piece (Plain (Refused Io)) (record v { device = new; state = record v.state { stopped = Some [] } })
+  pub write_io : RefusesWrite (held m job) Io → IsWriteStep (data_start v) (held m job) false v.device new → Works v piece (Refused Io) (record v { device = new; state = record v.state { stopped = Some [] } })
   write_io some step = by (held m job) refl
     where
-      by : (o : Option Slot) → held m job ≡ o → Works v piece (Plain (Refused Io)) (record v { device = new; state = record v.state { stopped = Some [] } })
+      by : (o : Option Slot) → held m job ≡ o → Works v piece (Refused Io) (record v { device = new; state = record v.state { stopped = Some [] } })
       by None is = absurd (omega (arith, some, ap to_write is))
       by (Some slot) is = works_stopped slot is (some_writing slot.stage (omega (arith, some, ap to_write is))) step some
 
-  pub write_refused : (e : Refusal) → e ≢ Io → RefusesWrite (held m job) e → (to_write (held m job) ≡ 0 → new ≡ v.device) → Works v piece (Plain (Refused e)) (record v { device = new })
+  pub write_refused : (e : Refusal) → e ≢ Io → RefusesWrite (held m job) e → (to_write (held m job) ≡ 0 → new ≡ v.device) → Works v piece (Refused e) (record v { device = new })
   write_refused e other h untouched =
-      subst (λ (d : Medium). Works v piece (Plain (Refused e)) (record v { device = d })) (sym (untouched (none_to_write (held m job) e other h)))
+      subst (λ (d : Medium). Works v piece (Refused e) (record v { device = d })) (sym (untouched (none_to_write (held m job) e other h)))
       (⊎_elim (λ is. works_refused v piece e (running_refuses m piece running ∙ is)) (λ io. absurd (other io.0)) ((write_answers m job).refused e h))

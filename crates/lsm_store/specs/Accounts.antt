@@ -14,9 +14,10 @@ use Rattle.lsm_open.specs.Placements.{Placement}
 use Rattle.lsm_open.specs.RecoveredTables.{AreWithinLimits}
 use Rattle.lsm_store.specs.Calls.{Call}
 use Rattle.lsm_store.specs.OpenedWork.{opened_work}
-use Rattle.lsm_store.specs.Work.{WorkView, WorkMachine, Work}
+use Rattle.lsm_store.specs.Work.{WorkView, Work}
 use Rattle.lsm_store.specs.WorkRefusals.{running_refusal}
 use Rattle.lsm_store.specs.WorkEffects.{work_after, work_called, with_sealed}
+use Rattle.lsm_store.specs.Machine.{Machine}
 
 -- whether two extents are one
 abbrev pub is_same_extent : Extent → Extent → Bool
@@ -77,6 +78,6 @@ pub record AccountsLaw : Type 0 where
 pub record AccountedLaw : Type 0 where
   pub opened : (size count : ℕ) (p : Placement) (sealed : Option (List Version)) (levels : Levels) (extents : Area) → AreWithinLimits size p count sealed levels extents → IsPartition extents
       → AreAccounted (opened_work p sealed levels extents)
-  pub worked : (m : WorkMachine) (work : Work) → AreAccounted m.work → IsPartition m.work.area → AreRuns m.work.levels → AreKept m.work.levels m.work.jobs.next m.work.jobs.slots → running_refusal m work ≡ None → AreAccounted (work_after m work)
-  pub called : (m : WorkMachine) (call : Call) → AreAccounted m.work → AreAccounted (work_called m call)
+  pub worked : (m : Machine) (work : Work) → AreAccounted m.work → IsPartition m.work.area → AreRuns m.work.levels → AreKept m.work.levels m.work.jobs.next m.work.jobs.slots → running_refusal m work ≡ None → AreAccounted (work_after m work)
+  pub called : (m : Machine) (call : Call) → AreAccounted m.work → AreAccounted (work_called m call)
   pub rotated : (w : WorkView) → AreAccounted w → AreAccounted (with_sealed w)

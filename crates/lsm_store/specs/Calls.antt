@@ -5,6 +5,7 @@ use Rattle.lsm_codec.specs.Map.{Operation}
 use Rattle.lsm_device.specs.declared.refusal.Refusal.{Refusal}
 use Rattle.lsm_store.specs.declared.asked.At.{At}
 use Rattle.lsm_mem.specs.Paging.{Page}
+use Rattle.lsm_merge.specs.Inputs.{MergeInput}
 
 pub data Call : Type 0 where
   -- adds a batch
@@ -26,14 +27,19 @@ pub data Call : Type 0 where
   -- asks for the free sectors of the open log
   LogRoom : Call
 
+-- what is replied to a call, or to a piece of work
 pub data Reply : Type 0 where
-  -- of a batch, of a snapshot, or of sectors
+  -- of a batch, of a snapshot, or of sectors or blocks
   Number : ℕ → Reply
   Done : Reply
   -- of a key, none where it has none
   Value : Option Bytes → Reply
   -- of a range
   Rows : Page → Reply
+  -- of a job that was taken, its number and the level of its upper tables, none of a flush; none where there was none
+  Given : Option (ℕ × Option ℕ) → Reply
+  -- of a job, what its merge is given
+  Handed : MergeInput → Reply
   Refused : Refusal → Reply
 
 -- a result as a reply

@@ -1,5 +1,5 @@
 -- The memory of a store after an install.
-use Rattle.std.specs.Prelude.{◌≡◌, ◌-◌, ℕ, Bool, [], ◌∷◌, Option, Some, None, option_map, if◌then◌else◌}
+use Rattle.std.specs.Prelude.{◌≡◌, ◌-◌, ℕ, Bool, [], ◌∷◌, Some, None, option_map, if◌then◌else◌}
 use Rattle.std.specs.Arc.{arc_value}
 use Rattle.lsm_jobs.specs.Outputs.{AreMadeOf}
 use Rattle.lsm_jobs.specs.Placing.{all_given_back}
@@ -27,11 +27,6 @@ settled_layout flush count l = if flush then with_none_closed count l else l
 -- the layout after an install, of a flush or of a merge
 abbrev pub next_layout : {A : Type 0} → Bool → Memory A → Layout
 next_layout flush memory = layout_after flush (layout_of memory.regions) memory.count memory.next_table
-
--- there is a job whose outputs may not be put in
-abbrev pub IsUnfit : Option Slot → Type 0
-IsUnfit None = ⊥
-IsUnfit (Some slot) = AreOutputs slot.job (outputs_at slot.stage) → ⊥
 
 -- What an install of a job leaves of the levels: its outputs, whose blocks are all written, are those that a merge makes of
 -- its input, may be put in, and are in the place of what it took in.

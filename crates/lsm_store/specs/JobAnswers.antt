@@ -15,11 +15,12 @@ use Rattle.lsm_jobs.specs.Refusing.{HasInput, IsNotWritten, RefusesInput, Refuse
 use Rattle.lsm_jobs.specs.Placing.{ArePlaced, FindNoRoom, IsAccepted}
 use Rattle.lsm_jobs.specs.Writing.{IsWritten}
 use Rattle.lsm_store.specs.State.{State}
-use Rattle.lsm_store.specs.Calls.{Number}
+use Rattle.lsm_store.specs.Calls.{Number, Handed}
 use Rattle.lsm_store.specs.Placings.{place_all}
-use Rattle.lsm_store.specs.Work.{WorkMachine, Work, Read, Ask, Accept, Write, Install, Plain, Handed, counts_of, cuts_of}
+use Rattle.lsm_store.specs.Work.{Work, Read, Ask, Accept, Write, Install, counts_of, cuts_of}
 use Rattle.lsm_store.specs.WorkRefusals.{held, running_refusal}
 use Rattle.lsm_store.specs.WorkEffects.{work_answer, work_after}
+use Rattle.lsm_store.specs.Machine.{Machine}
 
 -- Images are placed as the function says: exactly where none of them finds no room.
 pub record PlacingLaw : Type 0 where
@@ -31,18 +32,18 @@ abbrev pub PlacedVersionsLaw : Type 0
 PlacedVersionsLaw = (number : ℕ) (area : Area) (result : MergeResult) (tables : List Table) → IsTables (kept_of result.input) result.images → place_all number area result.images ≡ Some tables → versions_of tables ≡ kept_of result.input
 
 -- a piece of work is refused so: by the refusal that decides, or where none does by another
-abbrev pub IsRefusedOr : Refusal → WorkMachine → Work → Refusal → Type 0
+abbrev pub IsRefusedOr : Refusal → Machine → Work → Refusal → Type 0
 IsRefusedOr other m work e = (running_refusal m work ≡ Some e) ⊎ ((e ≡ other) × (running_refusal m work ≡ None))
 
 -- Slots that lend the input of a job answer what the work says, or for want of memory.
-pub record LendsInput (m : WorkMachine) (job : ℕ) : Type 0 where
+pub record LendsInput (m : Machine) (job : ℕ) : Type 0 where
   pub unrefused : (input : MergeInput) → HasInput input (held m job) → running_refusal m (Ask job) ≡ None
   pub answer : (input : MergeInput) → HasInput input (held m job) → work_answer m (Ask job) ≡ Handed input
   pub refused : (e : Refusal) → RefusesInput (held m job) e → IsRefusedOr NoMemory m (Ask job) e
 
 -- Slots that accept a result leave the work as it says. They refuse it as the work does, or for want of memory, which may come
 -- in the place of NoSpace.
-pub record AcceptsResult (m : WorkMachine) (job : ℕ) (result : MergeResult) : Type 0 where
+pub record AcceptsResult (m : Machine) (job : ℕ) (result : MergeResult) : Type 0 where
   pub unrefused : (then : Area) (jobs : JobSlots) → IsAccepted job m.work.next_table result.input result.images m.work.area then m.work.jobs jobs → running_refusal m (Accept job (Some result)) ≡ None
   pub after : (then : Area) (jobs : JobSlots) → IsAccepted job m.work.next_table result.input result.images m.work.area then m.work.jobs jobs
       → record m.work { jobs = jobs; next_table = m.work.next_table + length result.images; area = then } ≡ work_after m (Accept job (Some result))
@@ -50,30 +51,30 @@ pub record AcceptsResult (m : WorkMachine) (job : ℕ) (result : MergeResult) : 
       → IsRefusedOr NoMemory m (Accept job (Some result)) e ⊎ ((e ≡ NoMemory) × (running_refusal m (Accept job (Some result)) ≡ Some NoSpace))
 
 -- Slots that write blocks of a job leave the work as it says, with its answer, and refuse it as the work does, or for a fault.
-pub record WritesSome (m : WorkMachine) (job : ℕ) : Type 0 where
+pub record WritesSome (m : Machine) (job : ℕ) : Type 0 where
   pub unrefused : (left : ℕ) (jobs : JobSlots) → IsWritten job left m.work.jobs jobs → running_refusal m (Write job) ≡ None
-  pub answer : (left : ℕ) (jobs : JobSlots) → IsWritten job left m.work.jobs jobs → work_answer m (Write job) ≡ Plain (Number left)
+  pub answer : (left : ℕ) (jobs : JobSlots) → IsWritten job left m.work.jobs jobs → work_answer m (Write job) ≡ Number left
   pub after : (left : ℕ) (jobs : JobSlots) → IsWritten job left m.work.jobs jobs → record m.work { jobs = jobs } ≡ work_after m (Write job)
   pub refused : (e : Refusal) → RefusesWrite (held m job) e → IsRefusedOr Io m (Write job) e
 
 -- Slots that read data blocks of a job answer what the work says. They leave the work as it says where the job's input stays
 -- what it was to be.
-pub record ReadsSome (m : WorkMachine) (job : ℕ) : Type 0 where
+pub record ReadsSome (m : Machine) (job : ℕ) : Type 0 where
   pub unrefused : (area left : ℕ) (medium : Medium) (jobs : JobSlots) → JobReadsOn area medium job left m.work.jobs jobs → running_refusal m (Read job) ≡ None
-  pub answer : (area left : ℕ) (medium : Medium) (jobs : JobSlots) → JobReadsOn area medium job left m.work.jobs jobs → work_answer m (Read job) ≡ Plain (Number left)
+  pub answer : (area left : ℕ) (medium : Medium) (jobs : JobSlots) → JobReadsOn area medium job left m.work.jobs jobs → work_answer m (Read job) ≡ Number left
   pub after : (area left : ℕ) (medium : Medium) (jobs : JobSlots) → (reads : JobReadsOn area medium job left m.work.jobs jobs) → reads.now.input ≡ reads.slot.input
       → record m.work { jobs = jobs } ≡ work_after m (Read job)
 
 -- Slots say that a job is not written exactly as an install is refused then.
-pub record EndsWritten (m : WorkMachine) (job : ℕ) : Type 0 where
+pub record EndsWritten (m : Machine) (job : ℕ) : Type 0 where
   pub refused : (e : Refusal) → IsNotWritten (held m job) e → running_refusal m (Install job) ≡ Some e
 
 pub record JobsLaw : Type 0 where
-  pub ask : (m : WorkMachine) (job : ℕ) → LendsInput m job
-  pub accept : (m : WorkMachine) (job : ℕ) (result : MergeResult) → AcceptsResult m job result
-  pub write : (m : WorkMachine) (job : ℕ) → WritesSome m job
-  pub read : (m : WorkMachine) (job : ℕ) → ReadsSome m job
-  pub install : (m : WorkMachine) (job : ℕ) → EndsWritten m job
+  pub ask : (m : Machine) (job : ℕ) → LendsInput m job
+  pub accept : (m : Machine) (job : ℕ) (result : MergeResult) → AcceptsResult m job result
+  pub write : (m : Machine) (job : ℕ) → WritesSome m job
+  pub read : (m : Machine) (job : ℕ) → ReadsSome m job
+  pub install : (m : Machine) (job : ℕ) → EndsWritten m job
 
 -- counts, none below the one before it
 abbrev pub AreRising : List ℕ → Type 0

@@ -20,6 +20,7 @@ pub mod Placings
 pub mod Work
 pub mod WorkRefusals
 pub mod WorkEffects
+pub mod WorkReplies
 pub mod Working
 pub mod JobAnswers
 pub mod WorkMaps

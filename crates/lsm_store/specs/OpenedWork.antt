@@ -19,8 +19,9 @@ use Rattle.lsm_open.specs.ToldTables.{records_of, Held}
 use Rattle.lsm_store.specs.Crash.{reopened}
 use Rattle.lsm_store.specs.JustOpened.{just_opened}
 use Rattle.lsm_store.specs.State.{are_waiting}
-use Rattle.lsm_store.specs.Work.{WorkView, WorkMachine, Work, versions_in}
+use Rattle.lsm_store.specs.Work.{WorkView, Work, versions_in}
 use Rattle.lsm_store.specs.WorkSound.{IsSound, IsServed}
+use Rattle.lsm_store.specs.Machine.{Machine}
 
 -- The work of an opening's parts: what was replayed is sealed, where a region is closed, and what the manifest names is in the
 -- levels, with its extents and its next number. Memory is empty, and no slot is held.
@@ -32,11 +33,11 @@ abbrev pub opened_versions : Option (List Version) → Levels → List Version
 opened_versions sealed levels = joined ([] ∷ (sealed_versions sealed ∷ map versions_of (places levels)))
 
 -- with the state of a store that was just opened, whose map is that of all these versions after so many batches
-abbrev pub opened_machine : Placement → ℕ → Option (List Version) → Levels → Area → WorkMachine
+abbrev pub opened_machine : Placement → ℕ → Option (List Version) → Levels → Area → Machine
 opened_machine p count sealed levels extents = record { state = just_opened p.logs count (map_of (versions_in (opened_work p sealed levels extents)) count); work = opened_work p sealed levels extents }
 
 -- What holds of a machine that opens on what a crash left, on a device of this size, with this placement and this sealed memory.
-pub record OpensSound (size log_sectors : ℕ) (left : CrashState) (p : Placement) (sealed : Option (List Version)) (m : WorkMachine) : Type 0 where
+pub record OpensSound (size log_sectors : ℕ) (left : CrashState) (p : Placement) (sealed : Option (List Version)) (m : Machine) : Type 0 where
   pub state : m.state ≡ reopened log_sectors left
   pub sound : IsSound m
   -- each piece of work that nothing refuses keeps that

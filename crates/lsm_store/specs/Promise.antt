@@ -7,7 +7,10 @@ use Rattle.lsm_store.specs.RecoveryPoints.{RecoveryPoints, batch_count, present_
 use Rattle.lsm_store.specs.Calls.{Reply}
 use Rattle.lsm_store.specs.Calls.{Commit, Sync, SyncTo, Rotate, Number, Done, Refused}
 use Rattle.lsm_store.specs.Crash.{may_leave, reopened}
-use Rattle.lsm_store.specs.Machine.{Machine, Step, Called}
+use Rattle.lsm_jobs.specs.Slots.{no_jobs}
+use Rattle.lsm_store.specs.Machine.{Machine, Step, Called, Worked}
+use Rattle.lsm_store.specs.Work.{Install}
+use Rattle.lsm_store.specs.WorkSound.{IsSound}
 use Rattle.lsm_store.specs.Run.{Run, last_machine, left_in_step}
 
 -- the batch of a commit that was answered with its number
@@ -21,12 +24,13 @@ accepted (step ∷ steps) (reply ∷ replies) = accepted_by step reply ++ accept
 accepted steps replies = []
 
 -- How many of the accepted batches are acknowledged as synced after a step, where so many were accepted before it and so
--- many of them acknowledged, and the store was opened with a count of batches. A sync acknowledges all, and so does a
--- rotation.
+-- many of them acknowledged, and the store was opened with a count of batches. A sync acknowledges all, and so do a rotation
+-- and an install.
 abbrev pub acknowledged_by : ℕ → ℕ → ℕ → Step → Reply → ℕ
 acknowledged_by opened done known (Called Sync) Done = done
 acknowledged_by opened done known (Called (SyncTo number)) Done = if nat_le number (opened + known) then known else done
 acknowledged_by opened done known (Called Rotate) Done = done
+acknowledged_by opened done known (Worked (Install job)) Done = done
 acknowledged_by opened done known step reply = known
 
 abbrev pub acknowledged_from : ℕ → ℕ → ℕ → List Step → List Reply → ℕ
@@ -65,9 +69,13 @@ beginnings count m batches synced = record {
   later = maps_after (apply_all m (take synced batches)) (drop synced batches);
 }
 
--- the machine that an opening of a crash state answers
+-- A machine that an opening of a crash state answers: its versions are all sealed or in tables, and stand for the map; no slot
+-- is held.
 pub record IsOpened (log_sectors : ℕ) (opened : CrashState) (m : Machine) : Type 0 where
   pub state : m.state ≡ reopened log_sectors opened
+  pub sound : IsSound m
+  pub memory : m.work.memory ≡ []
+  pub jobs : m.work.jobs ≡ no_jobs
 
 -- What holds of a machine that an opening of a crash state answered, and that then gave these replies to these steps.
 pub record IsKept (opened : CrashState) (m : Machine) (steps : List Step) (replies : List Reply) : Type 0 where

@@ -9,9 +9,10 @@ use Rattle.lsm_jobs.specs.Keeping.{AreKept}
 use Rattle.lsm_jobs.specs.Slots.{Slot, outputs_at}
 use Rattle.lsm_open.specs.Placements.{Placement}
 use Rattle.lsm_open.specs.RecoveredTables.{AreWithinLimits}
-use Rattle.lsm_store.specs.Work.{WorkView, WorkMachine, Work}
+use Rattle.lsm_store.specs.Work.{WorkView, Work}
 use Rattle.lsm_store.specs.WorkRefusals.{live_tables, has_too_many_runs, has_too_many_tables, running_refusal}
 use Rattle.lsm_store.specs.WorkEffects.{with_installed, work_after}
+use Rattle.lsm_store.specs.Machine.{Machine}
 
 -- Levels that a manifest has place for: 12 runs of level 0 and 1,024 tables at most.
 pub record AreFew (levels : Levels) : Type 0 where
@@ -32,4 +33,4 @@ pub record InstallCounts (w : WorkView) (number : ℕ) (slot : Slot) : Type 0 wh
 pub record FewLaw : Type 0 where
   pub opened : (size count : ℕ) (p : Placement) (sealed : Option (List Version)) (levels : Levels) (extents : Area) → AreWithinLimits size p count sealed levels extents → p.runs ≡ length levels.runs → AreFew levels
   pub install : (w : WorkView) (number : ℕ) (slot : Slot) → AreRuns w.levels → IsHeld w.levels slot.input.bottom slot.job → InstallCounts w number slot
-  pub kept : (m : WorkMachine) (work : Work) → AreRuns m.work.levels → AreKept m.work.levels m.work.jobs.next m.work.jobs.slots → running_refusal m work ≡ None → AreFew m.work.levels → AreFew (work_after m work).levels
+  pub kept : (m : Machine) (work : Work) → AreRuns m.work.levels → AreKept m.work.levels m.work.jobs.next m.work.jobs.slots → running_refusal m work ≡ None → AreFew m.work.levels → AreFew (work_after m work).levels

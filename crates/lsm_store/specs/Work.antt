@@ -2,14 +2,13 @@
 use Rattle.std.specs.Prelude.{ℕ, ◌==◌, List, [], ◌∷◌, ◌++◌, map, Option, if◌then◌else◌}
 use Rattle.lsm_codec.specs.Versions.{Version}
 use Rattle.lsm_extent.specs.Area.{Area}
-use Rattle.lsm_merge.specs.Inputs.{MergeInput, joined}
+use Rattle.lsm_merge.specs.Inputs.{joined}
 use Rattle.lsm_merge.specs.Results.{MergeResult}
 use Rattle.lsm_levels.specs.Tables.{versions_of}
 use Rattle.lsm_levels.specs.Levels.{Levels, no_tables, places}
 use Rattle.lsm_jobs.specs.Slots.{JobSlots, no_jobs}
 use Rattle.lsm_store.specs.RecoveryPoints.{batch_count}
 use Rattle.lsm_store.specs.State.{State}
-use Rattle.lsm_store.specs.Calls.{Reply}
 
 -- Where the versions are, and the jobs that move them.
 pub record WorkView : Type 0 where
@@ -27,11 +26,6 @@ pub record WorkView : Type 0 where
 abbrev pub no_work : WorkView
 no_work = record { memory = []; sealed = []; levels = no_tables; jobs = no_jobs; next_table = 0; area = record { blocks = 0; held = [] } }
 
--- A store with its tables and jobs: the map machine's state, and the work beside it.
-pub record WorkMachine : Type 0 where
-  pub state : State
-  pub work : WorkView
-
 -- a piece of work on a job
 pub data Work : Type 0 where
   -- takes the job that comes next
@@ -48,14 +42,6 @@ pub data Work : Type 0 where
   Install : ℕ → Work
   -- gives a job up
   Drop : ℕ → Work
-
-pub data WorkReply : Type 0 where
-  -- one that calls have too: a number of blocks, that it is done, or a refusal
-  Plain : Reply → WorkReply
-  -- of a job that was taken, its number and the level of its upper tables, none of a flush; none where there was none
-  Given : Option (ℕ × Option ℕ) → WorkReply
-  -- of a job, what its merge is given
-  Handed : MergeInput → WorkReply
 
 -- the versions of each place, the newer places first
 abbrev pub versions_at : WorkView → List (List Version)

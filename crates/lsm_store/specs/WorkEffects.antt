@@ -10,12 +10,13 @@ use Rattle.lsm_jobs.specs.Outputs.{placed_blocks}
 use Rattle.lsm_jobs.specs.Placing.{all_handed_out, all_given_back}
 use Rattle.lsm_store.specs.RecoveryPoints.{batch_count, all_synced}
 use Rattle.lsm_store.specs.State.{State}
-use Rattle.lsm_store.specs.Calls.{Call}
-use Rattle.lsm_store.specs.Calls.{Commit, Rotate, Number, Done}
+use Rattle.lsm_store.specs.Calls.{Call, Reply}
+use Rattle.lsm_store.specs.Calls.{Commit, Rotate, Number, Done, Given, Handed, Refused}
 use Rattle.lsm_store.specs.Effects.{Use}
 use Rattle.lsm_store.specs.Effects.{Untouched, Reads, Changes}
-use Rattle.lsm_store.specs.Work.{WorkView, WorkMachine, Work, Take, Read, Ask, Accept, Write, Install, Drop, WorkReply, Plain, Given, Handed, cuts_of}
+use Rattle.lsm_store.specs.Work.{WorkView, Work, Take, Read, Ask, Accept, Write, Install, Drop, cuts_of}
 use Rattle.lsm_store.specs.WorkRefusals.{job_given, held, of_slot, placing}
+use Rattle.lsm_store.specs.Machine.{Machine}
 
 -- ---- the answer
 
@@ -23,14 +24,14 @@ use Rattle.lsm_store.specs.WorkRefusals.{job_given, held, of_slot, placing}
 abbrev pub left_then : Option Slot → ℕ
 left_then slot = of_slot 0 (λ one. left_at one.stage - 8) slot
 
-abbrev pub work_answer : WorkMachine → Work → WorkReply
+abbrev pub work_answer : Machine → Work → Reply
 work_answer m Take = Given (option_map (λ job. (m.work.jobs.next, level_of job)) (job_given m))
-work_answer m (Read job) = Plain (Number (left_then (held m job)))
-work_answer m (Ask job) = of_slot (Plain Done) (λ slot. Handed slot.input) (held m job)
-work_answer m (Accept job result) = Plain Done
-work_answer m (Write job) = Plain (Number (left_then (held m job)))
-work_answer m (Install job) = Plain Done
-work_answer m (Drop job) = Plain Done
+work_answer m (Read job) = Number (left_then (held m job))
+work_answer m (Ask job) = of_slot Done (λ slot. Handed slot.input) (held m job)
+work_answer m (Accept job result) = Done
+work_answer m (Write job) = Number (left_then (held m job))
+work_answer m (Install job) = Done
+work_answer m (Drop job) = Done
 
 -- ---- the work after it
 
@@ -60,7 +61,7 @@ with_installed w number slot = record (with_slot_of w number None) {
 abbrev pub without_job : WorkView → ℕ → Option Slot → WorkView
 without_job w number slot = record (with_slot_of w number None) { area = all_given_back (outputs_of slot) w.area }
 
-abbrev pub work_after : WorkMachine → Work → WorkView
+abbrev pub work_after : Machine → Work → WorkView
 work_after m Take = record m.work { jobs = with_taken m.work.sealed (cuts_of m.state) m.work.levels (job_given m) m.work.jobs }
 work_after m (Read job) = of_slot m.work (λ slot. staged m.work job (stage_with (left_at slot.stage - 8)) slot) (held m job)
 work_after m (Ask job) = m.work
@@ -76,7 +77,7 @@ abbrev pub installed : Bool → State → State
 installed flush s = record s { points = all_synced s.points; generation = s.generation + 1; closed = if flush then 0 else s.closed }
 
 -- of the pieces of work an install alone changes the state
-abbrev pub state_after : WorkMachine → Work → State
+abbrev pub state_after : Machine → Work → State
 state_after m Take = m.state
 state_after m (Read job) = m.state
 state_after m (Ask job) = m.state
@@ -92,10 +93,15 @@ abbrev pub with_sealed : WorkView → WorkView
 with_sealed w = record w { memory = []; sealed = w.memory }
 
 -- the work after a call's answer: a commit adds its versions to memory, and a rotation seals those there
-abbrev pub work_called : WorkMachine → Call → WorkView
+abbrev pub work_called : Machine → Call → WorkView
 work_called m (Commit batch) = record m.work { memory = with_batch (batch_count m.state.points + 1) batch m.work.memory }
 work_called m Rotate = with_sealed m.work
 work_called m other = m.work
+
+-- and after a reply: a refusal changes nothing
+abbrev pub work_by : Machine → Call → Reply → WorkView
+work_by m call (Refused e) = m.work
+work_by m call reply = work_called m call
 
 -- ---- the device
 
@@ -104,7 +110,7 @@ abbrev pub use_for : Use → Option Slot → Use
 use_for most slot = of_slot Untouched (λ one. if left_at one.stage == 0 then Untouched else most) slot
 
 -- what a piece of work that nothing refuses may do with the device
-abbrev pub work_use : WorkMachine → Work → Use
+abbrev pub work_use : Machine → Work → Use
 work_use m Take = Untouched
 work_use m (Read job) = use_for Reads (held m job)
 work_use m (Ask job) = Untouched

@@ -16,8 +16,9 @@ use Rattle.lsm_jobs.specs.Taking.{runs_of}
 use Rattle.lsm_store.specs.RecoveryPoints.{batch_count}
 use Rattle.lsm_store.specs.State.{State, LiveSnapshot}
 use Rattle.lsm_store.specs.Calls.{Commit}
-use Rattle.lsm_store.specs.Work.{WorkView, WorkMachine, versions_at, versions_in}
+use Rattle.lsm_store.specs.Work.{WorkView, versions_at, versions_in}
 use Rattle.lsm_store.specs.WorkEffects.{with_installed, with_sealed, work_called}
+use Rattle.lsm_store.specs.Machine.{Machine}
 
 -- no two are of one key and number
 abbrev pub IsUnique : List Version → Type 0
@@ -53,7 +54,7 @@ pub record MayBePutIn (job : Job) (input : MergeInput) (new : List Table) : Type
 
 -- An install of a job keeps the map at each count that can be asked for, with the bottom flag and without it.
 abbrev pub InstallLaw : Type 0
-InstallLaw = (m : WorkMachine) (job : ℕ) (slot : Slot) → AreVersions m.work → IsHeld m.work.levels slot.input.bottom slot.job → IsJobOf m.state m.work.sealed slot.job slot.input
+InstallLaw = (m : Machine) (job : ℕ) (slot : Slot) → AreVersions m.work → IsHeld m.work.levels slot.input.bottom slot.job → IsJobOf m.state m.work.sealed slot.job slot.input
     → MayBePutIn slot.job slot.input (outputs_at slot.stage)
     → (n : ℕ) → IsAsked m.state n → HaveSameMap n (versions_in m.work) (versions_in (with_installed m.work job slot))
 
@@ -62,9 +63,9 @@ abbrev pub RotationLaw : Type 0
 RotationLaw = (w : WorkView) → w.sealed ≡ [] → versions_in (with_sealed w) ≡ versions_in w
 
 -- A commit keeps the map at each count so far, and gives that of the next with its batch applied.
-pub record AddsBatch (m : WorkMachine) (batch : List Operation) : Type 0 where
+pub record AddsBatch (m : Machine) (batch : List Operation) : Type 0 where
   pub older : (n : ℕ) → n ≤ batch_count m.state.points → HaveSameMap n (versions_in m.work) (versions_in (work_called m (Commit batch)))
   pub applied : map_of (versions_in (work_called m (Commit batch))) (batch_count m.state.points + 1) ≡ apply (map_of (versions_in m.work) (batch_count m.state.points)) batch
 
 abbrev pub CommitLaw : Type 0
-CommitLaw = (m : WorkMachine) (batch : List Operation) → NumberedAtMost (batch_count m.state.points) (versions_in m.work) → AddsBatch m batch
+CommitLaw = (m : Machine) (batch : List Operation) → NumberedAtMost (batch_count m.state.points) (versions_in m.work) → AddsBatch m batch

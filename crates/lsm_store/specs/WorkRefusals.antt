@@ -15,14 +15,15 @@ use Rattle.lsm_jobs.specs.Taking.{given_job}
 use Rattle.lsm_store.specs.Refusals.{first_refusal}
 use Rattle.lsm_store.specs.Placings.{place_all}
 use Rattle.lsm_store.specs.State.{are_waiting}
-use Rattle.lsm_store.specs.Work.{WorkView, WorkMachine, Work, Take, Read, Ask, Accept, Write, Install, Drop}
+use Rattle.lsm_store.specs.Work.{WorkView, Work, Take, Read, Ask, Accept, Write, Install, Drop}
+use Rattle.lsm_store.specs.Machine.{Machine}
 
 -- the job that a taking gives: the one that comes next, none where no slot is free
-abbrev pub job_given : WorkMachine → Option Job
+abbrev pub job_given : Machine → Option Job
 job_given m = given_job (are_waiting m.state) m.work.levels m.work.jobs.slots
 
 -- the slot of the job of a number
-abbrev pub held : WorkMachine → ℕ → Option Slot
+abbrev pub held : Machine → ℕ → Option Slot
 held m job = slot_of job m.work.jobs.slots
 
 -- what a slot has, or this where there is none
@@ -83,7 +84,7 @@ abbrev pub has_too_many_tables : WorkView → Slot → Bool
 has_too_many_tables w slot = nat_lt 1024 ((length (live_tables w) + length (outputs_at slot.stage)) - length (inputs slot.job))
 
 -- the refusals of a running store in their order, each with its condition
-abbrev pub work_refusals : WorkMachine → Work → List (Bool × Refusal)
+abbrev pub work_refusals : Machine → Work → List (Bool × Refusal)
 work_refusals m Take = (is_some (job_given m) && nat_lt last_number m.work.jobs.next, Exhausted) ∷ []
 work_refusals m (Read job) = (is_none (held m job), NoSuchJob) ∷ (is_not_at is_reading (held m job), WrongState) ∷ []
 work_refusals m (Ask job) = (is_none (held m job), NoSuchJob) ∷ (is_not_at is_frozen (held m job), WrongState) ∷ []
@@ -98,9 +99,9 @@ work_refusals m (Install job) = (is_none (held m job), NoSuchJob) ∷ (is_not_at
 work_refusals m (Drop job) = (is_none (held m job), NoSuchJob) ∷ []
 
 -- the refusal that decides where the store runs
-abbrev pub running_refusal : WorkMachine → Work → Option Refusal
+abbrev pub running_refusal : Machine → Work → Option Refusal
 running_refusal m work = first_refusal (work_refusals m work)
 
 -- the refusal that decides, if the work is refused; a stopped store refuses each
-abbrev pub work_refusal : WorkMachine → Work → Option Refusal
+abbrev pub work_refusal : Machine → Work → Option Refusal
 work_refusal m work = if is_some m.state.stopped then Some Stopped else running_refusal m work

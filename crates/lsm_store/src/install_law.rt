@@ -26,10 +26,11 @@ ghost use Rattle.lsm_store.specs.Memory.{HaveTables, LieWithin};
 ghost use Rattle.lsm_store.specs.State.{State};
 ghost use Rattle.lsm_store.specs.StoredTables.{IsStoredWithJobs};
 ghost use Rattle.lsm_store.specs.TableLimits.{AreFew};
-ghost use Rattle.lsm_store.specs.Work.{WorkMachine, WorkView};
+ghost use Rattle.lsm_store.specs.Work.{WorkView};
 ghost use Rattle.lsm_store.specs.WorkEffects.{with_installed};
 ghost use Rattle.lsm_store.specs.WorkRefusals.{held};
 ghost use Rattle.lsm_store.specs.WorkSound.{IsSound};
+ghost use Rattle.lsm_store.specs.Machine.{Machine};
 
 /// The outputs of a job whose blocks are all written stand: in the levels, and each for its record in the manifest that
 /// comes next.
@@ -54,14 +55,14 @@ pub fn installed_records_are_placed()
 
 /// A flush whose blocks are all written may be installed: its tables are of the batches in the closed regions.
 pub fn written_flushes_are_flushed()
-    ensures { (m : WorkMachine) (p : Placement) (xs ys : List PlacedTable) (d : Disk) (job : ℕ) (slot : Slot) (outputs : List Table) → IsSound m → IsStoredWithJobs p (xs ++ (placed_for slot ++ ys)) m.state d
+    ensures { (m : Machine) (p : Placement) (xs ys : List PlacedTable) (d : Disk) (job : ℕ) (slot : Slot) (outputs : List Table) → IsSound m → IsStoredWithJobs p (xs ++ (placed_for slot ++ ys)) m.state d
         → AreSealedIn p (seen d) m.work.sealed → held m job ≡ Some slot → slot.job ≡ Flush → slot.stage ≡ Writing outputs 0 → AreMadeOf slot.input outputs → AllByRecursion (λ t. t.number ≤ 2 ^ 63) outputs
         → AreFlushed p (seen d) (output_records Flush outputs) }
 {}
 
 /// A merge whose blocks are all written may be installed: its tables are of what it keeps of its inputs.
 pub fn written_merges_are_merged()
-    ensures { (m : WorkMachine) (p : Placement) (xs ys : List PlacedTable) (d : Disk) (job : ℕ) (slot : Slot) (outputs : List Table) (i : ℕ) (upper lower : List Table) → IsSound m
+    ensures { (m : Machine) (p : Placement) (xs ys : List PlacedTable) (d : Disk) (job : ℕ) (slot : Slot) (outputs : List Table) (i : ℕ) (upper lower : List Table) → IsSound m
         → IsStoredWithJobs p (xs ++ (placed_for slot ++ ys)) m.state d → records_of m.work.levels ≡ p.tables → AreStored (seen d) (first_data p.logs.log_sectors) (places m.work.levels)
         → held m job ≡ Some slot → slot.job ≡ Merge i upper lower → slot.stage ≡ Writing outputs 0 → AreMadeOf slot.input outputs → AllByRecursion (λ t. t.number ≤ 2 ^ 63) outputs
         → AreMerged p (seen d) (parts_of m.work.levels i upper) (output_records (Merge i upper lower) outputs) }

@@ -8,12 +8,13 @@ ghost use Rattle.lsm_open.specs.Layout.{layout_of, open_records};
 ghost use Rattle.lsm_open.specs.Placements.{contents_for};
 ghost use Rattle.lsm_open.specs.RecoveredTables.{placed_in};
 ghost use Rattle.lsm_open.specs.ToldTables.{records_of};
-ghost use Rattle.lsm_store.specs.Calls.{Done};
+ghost use Rattle.lsm_store.specs.Calls.{Done, reply_of};
 ghost use Rattle.lsm_store.specs.InstalledJobs.{first_open};
-ghost use Rattle.lsm_store.specs.InstalledMemory.{settled_layout, next_layout, IsUnfit, IsNext, IsInstalledTo, after_install_fault};
+ghost use Rattle.lsm_store.specs.InstalledMemory.{settled_layout, next_layout, IsNext, IsInstalledTo, after_install_fault};
 ghost use Rattle.lsm_store.specs.Memory.{AreConsistent, IsInside, LieWithin, view_of};
-ghost use Rattle.lsm_store.specs.Work.{Install, Plain};
-ghost use Rattle.lsm_store.specs.Working.{Works, work_reply_of};
+ghost use Rattle.lsm_store.specs.Work.{Install};
+ghost use Rattle.lsm_store.specs.WorkReplies.{IsUnfit};
+ghost use Rattle.lsm_store.specs.Working.{Works};
 
 use crate::fitting::fit;
 use crate::install_checks::is_flush;
@@ -182,7 +183,7 @@ pub(crate) fn install<D: Device, A: Allocator + Clone>(
 ) -> Result<(), Refusal>
     requires kept { AreConsistent memory.old }
     requires inside { IsInside (D.medium device.old).size memory.old }
-    ensures works { (cache : Cached) → Works (view_of (D.medium device.old) memory.old cache) (Install job) (work_reply_of (λ _. Plain Done) result) (view_of (D.medium device.new) memory.new cache) }
+    ensures works { (cache : Cached) → Works (view_of (D.medium device.old) memory.old cache) (Install job) (reply_of (λ _. Done) result) (view_of (D.medium device.new) memory.new cache) }
     ensures kept { AreConsistent memory.new }
     ensures inside { IsInside (D.medium device.new).size memory.new }
 {

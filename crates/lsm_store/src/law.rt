@@ -30,7 +30,7 @@ pub fn allowed_is_admitted()
     ensures step { (m : Machine) (step : Step) (reply : Reply)
         → AllowsStep m step reply → AdmitsStep m step reply }
     ensures run { (m : Machine) (steps : List Step) (replies : List Reply)
-        → Run m steps replies → Course m steps replies }
+        → Run m steps replies → Course m steps replies (last_machine m steps replies) }
     ensures tables { (m : Machine) (step : Step) → AllowsStep m step (Refused BadTable) → ⊥ }
 {}
 
@@ -47,19 +47,19 @@ pub fn runs_join()
     ensures run { (m : Machine) (steps more : List Step) (replies others : List Reply)
         → Run m steps replies → Run (last_machine m steps replies) more others
         → Run m (steps ++ more) (replies ++ others) }
-    ensures course { (m : Machine) (steps more : List Step) (replies others : List Reply)
-        → Course m steps replies → Course (last_machine m steps replies) more others
-        → Course m (steps ++ more) (replies ++ others) }
-    ensures machine { (m : Machine) (steps more : List Step) (replies others : List Reply)
-        → Course m steps replies
+    ensures course { (m mid end : Machine) (steps more : List Step) (replies others : List Reply)
+        → Course m steps replies mid → Course mid more others end
+        → Course m (steps ++ more) (replies ++ others) end }
+    ensures machine { (m end : Machine) (steps more : List Step) (replies others : List Reply)
+        → Course m steps replies end
         → last_machine m (steps ++ more) (replies ++ others)
         ≡ last_machine (last_machine m steps replies) more others }
-    ensures before { (m : Machine) (steps more : List Step) (replies others : List Reply)
-        → (left : CrashState) → Course m steps replies
+    ensures before { (m end : Machine) (steps more : List Step) (replies others : List Reply)
+        → (left : CrashState) → Course m steps replies end
         → Contains (left_in_run m steps replies) left
         → Contains (left_in_run m (steps ++ more) (replies ++ others)) left }
-    ensures behind { (m : Machine) (steps more : List Step) (replies others : List Reply)
-        → (left : CrashState) → Course m steps replies
+    ensures behind { (m end : Machine) (steps more : List Step) (replies others : List Reply)
+        → (left : CrashState) → Course m steps replies end
         → Contains (left_in_run (last_machine m steps replies) more others) left
         → Contains (left_in_run m (steps ++ more) (replies ++ others)) left }
 {}

@@ -36,7 +36,7 @@ pub use law::{
 };
 pub use lsm_jobs::TakenJob;
 pub use lsm_mem::{Page, Row};
-pub use opened_law::opened_work_is_sound;
+pub use opened_law::{opened_work_is_sound, openings_are_opened};
 pub use store::Store;
 pub use stored_law::{
     commits_keep_tables, free_writes_keep_tables, installs_keep_tables, jobs_keep_tables,

@@ -3,10 +3,10 @@ ghost use Rattle.std.specs.Prelude.{◌≡◌, ℕ, length, Option, Some, None, 
 ghost use Rattle.std.specs.Arc.{arc_value};
 ghost use Rattle.lsm_cache.specs.Recency.{Cached};
 ghost use Rattle.lsm_device.specs.Medium.{Medium, disk};
-ghost use Rattle.lsm_store.specs.Calls.{Number, Done};
+ghost use Rattle.lsm_store.specs.Calls.{Number, Done, Handed, reply_of};
 ghost use Rattle.lsm_store.specs.Memory.{AreConsistent, IsInside, view_of};
-ghost use Rattle.lsm_store.specs.Work.{Take, Read, Ask, Accept, Write, Drop, Plain, Handed};
-ghost use Rattle.lsm_store.specs.Working.{Works, taken_reply, work_reply_of};
+ghost use Rattle.lsm_store.specs.Work.{Take, Read, Ask, Accept, Write, Drop};
+ghost use Rattle.lsm_store.specs.Working.{Works, taken_reply};
 
 use crate::memory::Memory;
 use lsm_codec::LogRecord;
@@ -35,7 +35,7 @@ pub(crate) fn take<A: Allocator + Clone>(
     memory: &mut Memory<A>,
 ) -> Result<Option<TakenJob>, Refusal>
     requires { AreConsistent memory.old }
-    ensures works { (medium : Medium) (cache : Cached) → Works (view_of medium memory.old cache) Take (work_reply_of taken_reply result) (view_of medium memory.new cache) }
+    ensures works { (medium : Medium) (cache : Cached) → Works (view_of medium memory.old cache) Take (reply_of taken_reply result) (view_of medium memory.new cache) }
     ensures kept { AreConsistent memory.new }
     ensures inside { (size : ℕ) → IsInside size memory.old → IsInside size memory.new }
 {
@@ -59,7 +59,7 @@ pub(crate) fn read<D: Device, A: Allocator + Clone>(
 ) -> Result<usize, Refusal>
     requires kept { AreConsistent memory.old }
     requires inside { IsInside (D.medium device.old).size memory.old }
-    ensures works { (cache : Cached) → Works (view_of (D.medium device.old) memory.old cache) (Read job) (work_reply_of (λ left. Plain (Number left)) result) (view_of (D.medium device.new) memory.new cache) }
+    ensures works { (cache : Cached) → Works (view_of (D.medium device.old) memory.old cache) (Read job) (reply_of Number result) (view_of (D.medium device.new) memory.new cache) }
     ensures kept { AreConsistent memory.new }
     ensures inside { IsInside (D.medium device.new).size memory.new }
 {
@@ -78,7 +78,7 @@ pub(crate) fn write<D: Device, A: Allocator>(
 ) -> Result<u32, Refusal>
     requires kept { AreConsistent memory.old }
     requires inside { IsInside (D.medium device.old).size memory.old }
-    ensures works { (cache : Cached) → Works (view_of (D.medium device.old) memory.old cache) (Write job) (work_reply_of (λ left. Plain (Number left)) result) (view_of (D.medium device.new) memory.new cache) }
+    ensures works { (cache : Cached) → Works (view_of (D.medium device.old) memory.old cache) (Write job) (reply_of Number result) (view_of (D.medium device.new) memory.new cache) }
     ensures kept { AreConsistent memory.new }
     ensures inside { IsInside (D.medium device.new).size memory.new }
 {
@@ -100,7 +100,7 @@ pub(crate) fn write<D: Device, A: Allocator>(
 /// What a job's merge is given.
 pub(crate) fn input<A: Allocator>(memory: &Memory<A>, job: u64) -> Result<Arc<Input<A>, A>, Refusal>
     requires { AreConsistent memory.now }
-    ensures { (medium : Medium) (cache : Cached) → Works (view_of medium memory.now cache) (Ask job) (work_reply_of (λ input. Handed (arc_value input)) result) (view_of medium memory.now cache) }
+    ensures { (medium : Medium) (cache : Cached) → Works (view_of medium memory.now cache) (Ask job) (reply_of (λ input. Handed (arc_value input)) result) (view_of medium memory.now cache) }
 {
     memory.check_running()?;
     memory.jobs.input(job)
@@ -114,7 +114,7 @@ pub(crate) fn accept<A: Allocator + Clone>(
 ) -> Result<(), Refusal>
     requires { AreConsistent memory.old }
     ensures works { (medium : Medium) (cache : Cached) → IsInside medium.size memory.old → (IsTrue medium.lasting.tells → length (disk medium).stands ≡ medium.size)
-        → Works (view_of medium memory.old cache) (Accept job (Some built.now)) (work_reply_of (λ _. Plain Done) result) (view_of medium memory.new cache) }
+        → Works (view_of medium memory.old cache) (Accept job (Some built.now)) (reply_of (λ _. Done) result) (view_of medium memory.new cache) }
     ensures kept { AreConsistent memory.new }
     ensures inside { (size : ℕ) → IsInside size memory.old → IsInside size memory.new }
 {
@@ -133,7 +133,7 @@ pub(crate) fn accept<A: Allocator + Clone>(
 /// Gives a job up.
 pub(crate) fn drop<A: Allocator>(memory: &mut Memory<A>, job: u64) -> Result<(), Refusal>
     requires { AreConsistent memory.old }
-    ensures works { (medium : Medium) (cache : Cached) → Works (view_of medium memory.old cache) (Drop job) (work_reply_of (λ _. Plain Done) result) (view_of medium memory.new cache) }
+    ensures works { (medium : Medium) (cache : Cached) → Works (view_of medium memory.old cache) (Drop job) (reply_of (λ _. Done) result) (view_of medium memory.new cache) }
     ensures kept { AreConsistent memory.new }
     ensures inside { (size : ℕ) → IsInside size memory.old → IsInside size memory.new }
 {

@@ -5,14 +5,15 @@ use Rattle.std.proofs.lemmas.Bool.Decides.{nat_tests}
 use Rattle.std.proofs.lemmas.List.Elements.{All-head, All-tail}
 use Rattle.lsm_device.specs.declared.refusal.Refusal.TheVariants.{Io}
 use Rattle.lsm_store.specs.Calls.{Call, Reply}
-use Rattle.lsm_store.specs.Calls.{Commit, Sync, SyncTo, Get, Scan, Snapshot, Release, Rotate, LogRoom, Number, Done, Value, Rows, Refused}
+use Rattle.lsm_store.specs.Calls.{Commit, Sync, SyncTo, Get, Scan, Snapshot, Release, Rotate, LogRoom, Number, Done, Value, Rows, Given, Handed, Refused}
 use Rattle.lsm_store.specs.Effects.{after, next_taken, without, Use, use_of}
 use Rattle.lsm_store.specs.Effects.{Untouched, Reads, Changes}
 use Rattle.lsm_store.specs.RecoveryPoints.{present_map, all_synced}
-use Rattle.lsm_store.specs.Machine.{Machine, Step, Called}
+use Rattle.lsm_store.specs.Machine.{Machine, Step, Called, Worked}
 use Rattle.lsm_store.specs.Run.{after_fault, next, next_machine, last_machine}
 use Rattle.lsm_store.specs.State.{State, LiveSnapshot, snapshot_of, may_ask, map_at, map_of_snapshot}
 use Rattle.lsm_store.specs.declared.asked.At.TheVariants.{Snap}
+use Rattle.lsm_store.proofs.WorkReplies.{work_keeps}
 use Rattle.lsm_trail.specs.Begins.{Begin, base_of, first_machine}
 use Rattle.lsm_trail.specs.History.{Event, steps_of, replies_of, IsLegal, state_after}
 
@@ -78,9 +79,12 @@ module _ (n : ℕ) where
     next_keeps s call Done other is = after_keeps s call other is
     next_keeps s call (Value v) other is = after_keeps s call other is
     next_keeps s call (Rows page) other is = after_keeps s call other is
+    next_keeps s call (Given job) other is = after_keeps s call other is
+    next_keeps s call (Handed input) other is = after_keeps s call other is
 
     step_keeps : (m : Machine) (step : Step) (reply : Reply) → step ≢ Called (Release n) → snapshot_of m.state n ≡ Some x → snapshot_of (next_machine m step reply).state n ≡ Some x
     step_keeps m (Called call) reply other is = next_keeps m.state call reply (λ same. other (ap Called same)) is
+    step_keeps m (Worked piece) reply other is = work_keeps (λ s. snapshot_of s n) (λ s o. refl) (λ flush s. refl) m piece reply ∙ is
 
     history_keeps : (m : Machine) (log : List Event) → All (λ e. e.step ≢ Called (Release n)) log → snapshot_of m.state n ≡ Some x → snapshot_of (last_machine m (steps_of log) (replies_of log)).state n ≡ Some x
     history_keeps m [] others is = is

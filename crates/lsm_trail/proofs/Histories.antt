@@ -1,11 +1,12 @@
 -- Histories, with one entry more.
-use Rattle.std.proofs.Common.{◌≡◌, ◌≢◌, ℕ, ◌==◌, Bool, true, false, List, [], ◌∷◌, ◌++◌, if◌then◌else◌, refl, ap, arith, eq-eqb, ne_eqb}
+use Rattle.std.proofs.Common.{◌≡◌, ◌≢◌, ℕ, ◌==◌, Bool, true, false, List, [], ◌∷◌, ◌++◌, if◌then◌else◌, refl, ap, sym, subst, arith, eq-eqb, ne_eqb}
 use Rattle.std.proofs.lemmas.List.Elements.{All-push}
 use Rattle.lsm_device.specs.declared.refusal.Refusal.TheVariants.{NoMemory}
 use Rattle.lsm_store.specs.Backing.{IsBacked}
-use Rattle.lsm_store.specs.Calls.{Reply, Release, Refused}
-use Rattle.lsm_store.specs.Machine.{Machine, Step, Called}
-use Rattle.lsm_store.specs.Run.{AllowsStep, AdmitsStep, next_machine, RunBy, last_machine}
+use Rattle.lsm_store.specs.Calls.{Release, Refused}
+use Rattle.lsm_store.specs.Machine.{Machine, Called}
+use Rattle.lsm_store.specs.Run.{AllowsStep, AdmitsStep, next_machine, Run, last_machine, Course}
+use Rattle.lsm_store.proofs.Steps.{goes_to}
 use Rattle.lsm_trail.specs.Begins.{Begin, base_of, first_machine, CanPin}
 use Rattle.lsm_trail.specs.History.{Event, steps_of, replies_of, IsLegal, machine_after, state_after, calls_by}
 
@@ -13,10 +14,16 @@ use Rattle.lsm_trail.specs.History.{Event, steps_of, replies_of, IsLegal, machin
 abbrev machine_behind : Machine → List Event → Machine
 machine_behind m log = last_machine m (steps_of log) (replies_of log)
 
-run_more : (May : Machine → Step → Reply → Type 0) (m : Machine) (log : List Event) (e : Event) → RunBy May m (steps_of log) (replies_of log) → May (machine_behind m log) e.step e.reply
-    → RunBy May m (steps_of (log ++ e ∷ [])) (replies_of (log ++ e ∷ []))
-run_more May m [] e run may = (may, tt)
-run_more May m (x ∷ log) e run may = (run.0, run_more May (next_machine m x.step x.reply) log e run.1 may)
+run_more : (m : Machine) (log : List Event) (e : Event) → Run m (steps_of log) (replies_of log) → AllowsStep (machine_behind m log) e.step e.reply → Run m (steps_of (log ++ e ∷ [])) (replies_of (log ++ e ∷ []))
+run_more m [] e run may = (may, tt)
+run_more m (x ∷ log) e run may = (run.0, run_more (next_machine m x.step x.reply) log e run.1 may)
+
+course_more : (m mid : Machine) (log : List Event) (e : Event) → Course m (steps_of log) (replies_of log) mid → AdmitsStep mid e.step e.reply
+    → Course m (steps_of (log ++ e ∷ [])) (replies_of (log ++ e ∷ [])) (next_machine mid e.step e.reply)
+course_more m mid [] e same may =
+    subst (λ (x : Machine). Course x (e.step ∷ []) (e.reply ∷ []) (next_machine mid e.step e.reply)) same
+    (may, next_machine mid e.step e.reply, record { state = refl; work = λ _. goes_to mid e.step e.reply may }, refl)
+course_more m mid (x ∷ log) e (admits, after, goes, course) may = (admits, after, goes, course_more after mid log e course may)
 
 machine_more : (m : Machine) (log : List Event) (e : Event) → machine_behind m (log ++ e ∷ []) ≡ next_machine (machine_behind m log) e.step e.reply
 machine_more m [] e = refl
@@ -26,14 +33,14 @@ pub state_after-more : (b : Begin) (log : List Event) (e : Event) → state_afte
 state_after-more b log e = ap (λ (m : Machine). m.state) (machine_more (first_machine b) log e)
 
 pub legal_none : (b : Begin) → CanPin b → IsLegal b []
-legal_none b pinned = record { pinned = pinned; course = tt; run = λ backed. tt; made = λ k d below. absurd (omega arith); keeps_base = λ k d below. absurd (omega arith) }
+legal_none b pinned = record { pinned = pinned; course = refl; run = λ backed. tt; made = λ k d below. absurd (omega arith); keeps_base = λ k d below. absurd (omega arith) }
 
 pub legal_more : (b : Begin) (log : List Event) (e : Event) → IsLegal b log → AdmitsStep (machine_after b log) e.step e.reply → (IsBacked b.store → AllowsStep (machine_after b log) e.step e.reply)
     → e.reply ≢ Refused NoMemory → e.step ≢ Called (Release (base_of b)) → IsLegal b (log ++ e ∷ [])
 legal_more b log e legal admitted allowed made keeps = record {
   pinned = legal.pinned;
-  course = run_more AdmitsStep (first_machine b) log e legal.course admitted;
-  run = λ backed. run_more AllowsStep (first_machine b) log e (legal.run backed) (allowed backed);
+  course = subst (Course (first_machine b) (steps_of (log ++ e ∷ [])) (replies_of (log ++ e ∷ []))) (sym (machine_more (first_machine b) log e)) (course_more (first_machine b) (machine_after b log) log e legal.course admitted);
+  run = λ backed. run_more (first_machine b) log e (legal.run backed) (allowed backed);
   made = All-push (λ (x : Event). x.reply ≢ Refused NoMemory) log e legal.made made;
   keeps_base = All-push (λ (x : Event). x.step ≢ Called (Release (base_of b))) log e legal.keeps_base keeps;
 }

@@ -21,8 +21,9 @@ base_of b = b.store.state.next_snapshot
 abbrev pub first_state : Begin → State
 first_state b = after b.store.state Snapshot
 
+-- the machine in it
 abbrev pub first_machine : Begin → Machine
-first_machine b = record { state = first_state b }
+first_machine b = record { state = first_state b; work = b.store.work }
 
 -- The base can be pinned: the store doesn't refuse it, and its number is no live snapshot's.
 pub record CanPin (b : Begin) : Type 0 where

@@ -32,7 +32,7 @@ pub record IsLegal (b : Begin) (log : List Event) : Type 0 where
   pub pinned : CanPin b
   -- memory decides the replies but for the bytes of values and pages; these are the state's too where the device backed it
   -- at the begin
-  pub course : Course (first_machine b) (steps_of log) (replies_of log)
+  pub course : Course (first_machine b) (steps_of log) (replies_of log) (last_machine (first_machine b) (steps_of log) (replies_of log))
   pub run : IsBacked b.store → Run (first_machine b) (steps_of log) (replies_of log)
   pub made : All (λ e. e.reply ≢ Refused NoMemory) log
   pub keeps_base : All (λ e. e.step ≢ Called (Release (base_of b))) log

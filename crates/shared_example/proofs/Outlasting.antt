@@ -17,12 +17,13 @@ use Rattle.lsm_open.specs.Image.{StandFor}
 use Rattle.lsm_open.specs.RecoveredTables.{StandForOne}
 use Rattle.lsm_store.specs.Backing.{StoreView, IsBacked}
 use Rattle.lsm_store.specs.Calls.{Call, Reply}
-use Rattle.lsm_store.specs.Calls.{Commit, Sync, Snapshot, Number, Done, Value, Rows, Refused}
+use Rattle.lsm_store.specs.Calls.{Commit, Sync, Snapshot, Number, Done, Value, Rows, Given, Handed, Refused}
 use Rattle.lsm_store.specs.Crash.{may_leave, reopened}
 use Rattle.lsm_store.specs.Effects.{after}
 use Rattle.lsm_store.specs.Machine.{Called}
 use Rattle.lsm_store.specs.Run.{next, last_machine}
 use Rattle.lsm_store.specs.State.{State}
+use Rattle.lsm_store.specs.Work.{WorkView}
 use Rattle.lsm_store.proofs.Membership.{one_in}
 use Rattle.lsm_trail.specs.Begins.{Begin}
 use Rattle.lsm_trail.specs.History.{Event, event, steps_of, replies_of, calls_by, state_after, TrailView}
@@ -65,15 +66,17 @@ module _ (first second : Bytes × Bytes) (apart : first.0 ≢ second.0) where
 abbrev begun : State
 begun = after (reopened 128 formatted) Snapshot
 
--- the state after a history
-abbrev end_state : State → List Event → State
-end_state s log = (last_machine (record { state = s }) (steps_of log) (replies_of log)).state
+-- the state after a history, whatever work the store has
+abbrev end_state : WorkView → State → List Event → State
+end_state w s log = (last_machine (record { state = s; work = w }) (steps_of log) (replies_of log)).state
 
 answered : (s : State) (call : Call) (reply : Reply) → IsAnswer reply → next s call reply ≡ after s call
 answered s call (Number n) is = refl
 answered s call Done is = refl
 answered s call (Value v) is = refl
 answered s call (Rows page) is = refl
+answered s call (Given job) is = refl
+answered s call (Handed input) is = refl
 answered s call (Refused e) is = absurd is
 
 -- whatever a crash leaves of this state has P
@@ -99,7 +102,7 @@ module _ (first second : Bytes × Bytes) (apart : first.0 ≢ second.0) (b : Beg
   Has = HasBoth first second
 
   abbrev P : List Event → Type 0
-  P log = LeavesHaving Has (end_state begun log)
+  P log = LeavesHaving Has (end_state b.store.work begun log)
 
   abbrev one : Call
   one = Commit (one_put first.0 first.1)
@@ -143,7 +146,7 @@ module _ (first second : Bytes × Bytes) (apart : first.0 ≢ second.0) (b : Beg
       → LeavesHaving Has (state_after b log)
   stored_stays log strangers f s =
       let all = each_order f.committed f.synced s.committed s.synced f.answered.0 f.answered.1 s.answered.0 s.answered.1 in
-      subst (λ (s : State). LeavesHaving Has (end_state (after s Snapshot) log)) (sym is)
+      subst (λ (s : State). LeavesHaving Has (end_state b.store.work (after s Snapshot) log)) (sym is)
       (woven log strangers P (subst (λ (l : List Event). AllWoven l P (calls_by 1 log)) (sym f.are) (subst (λ (l : List Event). AllWoven (event 0 (Called one) f.committed ∷ event 0 (Called Sync) f.synced ∷ []) P l) (sym s.are) all)))
 
 -- when a session has ended, a crash leaves what the state after its trail may leave

@@ -4,13 +4,15 @@ use Rattle.lsm_device.specs.declared.refusal.Refusal.{Refusal}
 use Rattle.lsm_device.specs.declared.refusal.Refusal.TheVariants.{NoMemory, BadTable, Io}
 use Rattle.lsm_jobs.specs.Slots.{slot_of}
 use Rattle.lsm_store.specs.declared.memory.Memory.{Memory}
-use Rattle.lsm_store.specs.Backing.{work_machine_of}
-use Rattle.lsm_store.specs.Calls.{Done, Refused}
-use Rattle.lsm_store.specs.InstalledMemory.{next_layout, IsUnfit, after_install_fault}
+use Rattle.lsm_store.specs.Backing.{machine_of}
+use Rattle.lsm_store.specs.Calls.{Done, Refused, reply_of}
+use Rattle.lsm_store.specs.InstalledMemory.{next_layout, after_install_fault}
 use Rattle.lsm_store.specs.Memory.{AreConsistent, IsInside, LieWithin, state_of, work_of, view_of}
-use Rattle.lsm_store.specs.Work.{WorkMachine, Install, Plain}
+use Rattle.lsm_store.specs.Work.{Install}
 use Rattle.lsm_store.specs.WorkRefusals.{work_refusal}
-use Rattle.lsm_store.specs.Working.{Works, work_reply_of}
+use Rattle.lsm_store.specs.WorkReplies.{IsUnfit}
+use Rattle.lsm_store.specs.Working.{Works}
+use Rattle.lsm_store.specs.Machine.{Machine}
 use Rattle.lsm_store.proofs.InstallRoots.{unrefused_install, written_held, not_installed, installing_root, install_works, install_fault_works}
 use Rattle.lsm_store.proofs.InstalledMemory.{next_generation, next_lies, to_kept, to_inside, install_fault_kept, install_fault_inside}
 use Rattle.lsm_store.proofs.Unrefused.{err_of}
@@ -21,20 +23,20 @@ pub returns-in_err-check_install-clause-works : goal.returns-in_err-check_instal
 returns-in_err-check_install-clause-works g c = λ cache.
     let old = view_of (g.D.Device.medium c.args.device.now) c.args.memory.now cache in
     let found = err_of c.from_residual.result _ c.from_residual.ensures.1 in
-    subst (λ (r : Result (Unit {0}) Refusal). Works old (Install c.args.job) (work_reply_of (λ x. Plain Done) r) old) (sym found.1)
-    (works_refused old (Install c.args.job) found.0 (subst (λ (e : Refusal). work_refusal (work_machine_of old) (Install c.args.job) ≡ Some e) (sym found.2) c.in_err-check_install.ensures))
+    subst (λ (r : Result (Unit {0}) Refusal). Works old (Install c.args.job) (reply_of (λ x. Done) r) old) (sym found.1)
+    (works_refused old (Install c.args.job) found.0 (subst (λ (e : Refusal). work_refusal (machine_of old) (Install c.args.job) ≡ Some e) (sym found.2) c.in_err-check_install.ensures))
 
 pub installed-requires-clause-written : goal.installed-requires-clause-written
 installed-requires-clause-written g c =
     let m = c.args.memory.now in
-    let w : WorkMachine = record { state = state_of m; work = work_of m } in
+    let w : Machine = record { state = state_of m; work = work_of m } in
     written_held w c.args.job (unrefused_install w c.args.job c.in_ok-check_install.ensures).1
 
 pub returns-in_err-next-clause-works : goal.returns-in_err-next-clause-works
 returns-in_err-next-clause-works g c = λ cache.
     let old = view_of (g.D.Device.medium c.args.device.now) c.args.memory.now cache in
     let found = err_of c.from_residual-in_err-next.result _ c.from_residual-in_err-next.ensures.1 in
-    subst (λ (r : Result (Unit {0}) Refusal). Works old (Install c.args.job) (work_reply_of (λ x. Plain Done) r) old) (sym found.1)
+    subst (λ (r : Result (Unit {0}) Refusal). Works old (Install c.args.job) (reply_of (λ x. Done) r) old) (sym found.1)
     (not_installed old c.args.job found.0 c.in_ok-check_install.ensures
     (subst (λ (e : Refusal). (e ≡ NoMemory) ⊎ ((e ≡ BadTable) × IsUnfit (slot_of c.args.job c.args.memory.now.jobs.slots))) (sym found.2) c.in_err-next.ensures.refused))
 
@@ -55,7 +57,7 @@ returns-in_err-root-clause-works g c = λ cache.
     let old = view_of (g.D.Device.medium c.args.device.now) c.args.memory.now cache in
     let found = err_of c.from_residual-in_err-root.result _ c.from_residual-in_err-root.ensures.1 in
     let is : found.0 ≡ NoMemory = found.2 ∙ c.in_err-root.ensures.refused in
-    subst (λ (r : Result (Unit {0}) Refusal). Works old (Install c.args.job) (work_reply_of (λ x. Plain Done) r) old) (sym found.1)
+    subst (λ (r : Result (Unit {0}) Refusal). Works old (Install c.args.job) (reply_of (λ x. Done) r) old) (sym found.1)
     (not_installed old c.args.job found.0 c.in_ok-check_install.ensures (inl is))
 
 pub install_to-requires-clause-generation_high : goal.install_to-requires-clause-generation_high
@@ -103,7 +105,7 @@ returns-in-Err-clause-works g c = λ cache.
     let root = c.in_ok-root.root in
     let e = c.in-Err.ensures in
     let wrote = installing_root m c.requires.kept c.runs-runs.ensures.runs c.partition.ensures c.args.job next.flush next.levels n c.in_ok-check_install.ensures medium new cache c.sectors.result root c.in_ok-root.ensures.root e.any_moment e.counts e.same_size e.same_lasting in
-    subst (λ (x : Memory g.row.A.Denot). Works (view_of medium m cache) (Install c.args.job) (Plain (Refused Io)) (view_of new x cache)) (sym c.stop_in_install.ensures)
+    subst (λ (x : Memory g.row.A.Denot). Works (view_of medium m cache) (Install c.args.job) (Refused Io) (view_of new x cache)) (sym c.stop_in_install.ensures)
     (install_fault_works m c.requires.kept c.runs-runs.ensures.runs c.partition.ensures c.args.job next.flush next.levels n c.in_ok-check_install.ensures medium new cache c.sectors.result root c.in_ok-root.ensures.root
     (λ tells. (g.met.D.Device.sound c.args.device.now tells).now.size) wrote e.faults)
 

@@ -1,4 +1,4 @@
-use Rattle.lsm_store.proofs.Running.{admits_step, course_of, no_bad_table_in}
+use Rattle.lsm_store.proofs.Steps.{admits_step, course_of, no_bad_table_in}
 use Rattle.lsm_store.proofs.law.allowed_is_admitted.Goals as goal
 
 pub returns-clause-step : goal.returns-clause-step

@@ -1,4 +1,4 @@
-use Rattle.lsm_store.proofs.Running.{ample_run, ample_last}
+use Rattle.lsm_store.proofs.Steps.{ample_run, ample_last}
 use Rattle.lsm_store.proofs.law.ample_steps_run.Goals as goal
 
 pub returns-clause-run : goal.returns-clause-run

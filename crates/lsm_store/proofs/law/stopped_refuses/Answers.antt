@@ -1,4 +1,4 @@
-use Rattle.lsm_store.proofs.Running.{step_stopped, step_stays}
+use Rattle.lsm_store.proofs.Steps.{step_stopped, step_stays}
 use Rattle.lsm_store.proofs.law.stopped_refuses.Goals as goal
 
 pub returns-clause-reply : goal.returns-clause-reply

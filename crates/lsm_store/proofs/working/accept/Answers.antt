@@ -1,11 +1,11 @@
 use Rattle.std.proofs.Common.{Some, sym, ◌∙◌, ap, subst}
 use Rattle.std.specs.Prelude.{Result}
 use Rattle.lsm_device.specs.declared.refusal.Refusal.{Refusal}
-use Rattle.lsm_store.specs.Backing.{work_machine_of}
-use Rattle.lsm_store.specs.Calls.{Done, Refused}
+use Rattle.lsm_store.specs.Backing.{machine_of}
+use Rattle.lsm_store.specs.Calls.{Done, Refused, reply_of}
 use Rattle.lsm_store.specs.Memory.{view_of}
-use Rattle.lsm_store.specs.Work.{Accept, Plain}
-use Rattle.lsm_store.specs.Working.{Works, work_reply_of}
+use Rattle.lsm_store.specs.Work.{Accept}
+use Rattle.lsm_store.specs.Working.{Works}
 use Rattle.lsm_store.proofs.AcceptedResults.{accept_unchanged, accept_done}
 use Rattle.lsm_store.proofs.Unrefused.{err_of}
 use Rattle.lsm_store.proofs.WorkingMemory.{accepted_kept, unaccepted_kept}
@@ -19,8 +19,8 @@ returns-in_err-check_running-clause-works g c = λ medium cache within sized.
     let old = view_of medium c.args.memory.now cache in
     let piece = Accept c.args.job (Some c.args.built.now) in
     let found = err_of c.from_residual.result _ c.from_residual.ensures.1 in
-    subst (λ (r : Result (Unit {0}) Refusal). Works old piece (work_reply_of (λ x. Plain Done) r) old) (sym found.1)
-    (works_refused old piece found.0 (stopped_refuses (work_machine_of old) piece found.0 (c.in_err-check_running.ensures.refused ∙ ap Some (sym found.2))))
+    subst (λ (r : Result (Unit {0}) Refusal). Works old piece (reply_of (λ x. Done) r) old) (sym found.1)
+    (works_refused old piece found.0 (stopped_refuses (machine_of old) piece found.0 (c.in_err-check_running.ensures.refused ∙ ap Some (sym found.2))))
 
 pub returns-in_err-next-clause-works : goal.returns-in_err-next-clause-works
 returns-in_err-next-clause-works g c = λ medium cache within sized.
@@ -30,9 +30,9 @@ returns-in_err-next-clause-works g c = λ medium cache within sized.
     let js = c.accept.new.self in
     let area = c.accept.new.extents in
     let found = err_of c.from_residual-in_err-next.result _ c.from_residual-in_err-next.ensures.1 in
-    subst (λ (r : Result (Unit {0}) Refusal). Works old piece (work_reply_of (λ x. Plain Done) r) (moved_on old js m.next_table area medium)) (sym found.1)
-    (subst (λ (e : Refusal). Works old piece (Plain (Refused e)) (moved_on old js m.next_table area medium)) (sym found.2)
-    (accept_unchanged m medium cache (runs_then (work_machine_of old) c.in_ok-check_running.ensures.refused) c.args.job c.args.built.now c.in_err-next.field-0.0 js area c.in_err-next.ensures.unchanged c.in_err-next.ensures.refused))
+    subst (λ (r : Result (Unit {0}) Refusal). Works old piece (reply_of (λ x. Done) r) (moved_on old js m.next_table area medium)) (sym found.1)
+    (subst (λ (e : Refusal). Works old piece (Refused e) (moved_on old js m.next_table area medium)) (sym found.2)
+    (accept_unchanged m medium cache (runs_then (machine_of old) c.in_ok-check_running.ensures.refused) c.args.job c.args.built.now c.in_err-next.field-0.0 js area c.in_err-next.ensures.unchanged c.in_err-next.ensures.refused))
 
 pub returns-in_err-next-clause-kept : goal.returns-in_err-next-clause-kept
 returns-in_err-next-clause-kept g c = unaccepted_kept c.args.memory.now c.requires c.accept.new.self c.accept.new.extents c.in_err-next.ensures.unchanged
@@ -43,7 +43,7 @@ returns-clause-works g c = λ medium cache within sized.
     let old = view_of medium m cache in
     let result = c.args.built.now in
     let kept = accepted_kept m c.requires c.args.job c.in_ok-next.next result.input result.images c.accept.new.self c.accept.new.extents c.in_ok-next.ensures.next c.in_ok-next.ensures.accepted in
-    accept_done m medium cache (runs_then (work_machine_of old) c.in_ok-check_running.ensures.refused) c.args.job c.args.built.now c.accept.new.self c.accept.new.extents c.in_ok-next.ensures.accepted c.images-images.ensures.kept kept.jobs c.partition.ensures within.area sized
+    accept_done m medium cache (runs_then (machine_of old) c.in_ok-check_running.ensures.refused) c.args.job c.args.built.now c.accept.new.self c.accept.new.extents c.in_ok-next.ensures.accepted c.images-images.ensures.kept kept.jobs c.partition.ensures within.area sized
     c.in_ok-next.next c.in_ok-next.ensures.next
 
 pub returns-clause-kept : goal.returns-clause-kept

@@ -1,11 +1,11 @@
 use Rattle.std.proofs.Common.{Some, sym, ◌∙◌, ap, subst}
 use Rattle.std.specs.Prelude.{Result}
 use Rattle.lsm_device.specs.declared.refusal.Refusal.{Refusal}
-use Rattle.lsm_store.specs.Backing.{work_machine_of}
-use Rattle.lsm_store.specs.Calls.{Done}
+use Rattle.lsm_store.specs.Backing.{machine_of}
+use Rattle.lsm_store.specs.Calls.{Done, reply_of}
 use Rattle.lsm_store.specs.Memory.{view_of}
-use Rattle.lsm_store.specs.Work.{Drop, Plain}
-use Rattle.lsm_store.specs.Working.{Works, work_reply_of}
+use Rattle.lsm_store.specs.Work.{Drop}
+use Rattle.lsm_store.specs.Working.{Works}
 use Rattle.lsm_store.proofs.Unrefused.{err_of}
 use Rattle.lsm_store.proofs.WorkAnswers.{drop_works}
 use Rattle.lsm_store.proofs.WorkingMemory.{outputs_held, dropped_kept, dropped_blocks}
@@ -17,8 +17,8 @@ returns-in_err-check_running-clause-works g c = λ medium cache.
     let old = view_of medium c.args.memory.now cache in
     let piece = Drop c.args.job in
     let found = err_of c.from_residual.result _ c.from_residual.ensures.1 in
-    subst (λ (r : Result (Unit {0}) Refusal). Works old piece (work_reply_of (λ x. Plain Done) r) old) (sym found.1)
-    (works_refused old piece found.0 (stopped_refuses (work_machine_of old) piece found.0 (c.in_err-check_running.ensures.refused ∙ ap Some (sym found.2))))
+    subst (λ (r : Result (Unit {0}) Refusal). Works old piece (reply_of (λ x. Done) r) old) (sym found.1)
+    (works_refused old piece found.0 (stopped_refuses (machine_of old) piece found.0 (c.in_err-check_running.ensures.refused ∙ ap Some (sym found.2))))
 
 pub drop-requires : goal.drop-requires
 drop-requires g c = outputs_held c.args.memory.now c.requires c.args.job c.partition.ensures
@@ -27,7 +27,7 @@ pub returns-clause-works : goal.returns-clause-works
 returns-clause-works g c = λ medium cache.
     let old = view_of medium c.args.memory.now cache in
     let e = c.drop.ensures in
-    drop_works c.args.memory.now medium cache (runs_then (work_machine_of old) c.in_ok-check_running.ensures.refused) c.args.job c.drop.result c.drop.new.self c.drop.new.extents e.absent e.refusals e.freed e.given_back e.unchanged
+    drop_works c.args.memory.now medium cache (runs_then (machine_of old) c.in_ok-check_running.ensures.refused) c.args.job c.drop.result c.drop.new.self c.drop.new.extents e.absent e.refusals e.freed e.given_back e.unchanged
 
 pub returns-clause-kept : goal.returns-clause-kept
 returns-clause-kept g c =

@@ -8,11 +8,11 @@ use Rattle.lsm_jobs.specs.Outputs.{EndsWithin}
 use Rattle.lsm_jobs.specs.Refusing.{RefusesWrite}
 use Rattle.lsm_jobs.specs.Slots.{JobSlots, slot_of, outputs_of}
 use Rattle.lsm_jobs.specs.Writing.{WritesBlocks, next_of}
-use Rattle.lsm_store.specs.Backing.{work_machine_of}
-use Rattle.lsm_store.specs.Calls.{Number, Refused}
+use Rattle.lsm_store.specs.Backing.{machine_of}
+use Rattle.lsm_store.specs.Calls.{Number, Refused, reply_of}
 use Rattle.lsm_store.specs.Memory.{AreConsistent, view_of}
-use Rattle.lsm_store.specs.Work.{Write, Plain}
-use Rattle.lsm_store.specs.Working.{Works, work_reply_of}
+use Rattle.lsm_store.specs.Work.{Write}
+use Rattle.lsm_store.specs.Working.{Works}
 use Rattle.lsm_store.specs.declared.memory.Memory.{Memory}
 use Rattle.lsm_store.proofs.States.{stopped_kept}
 use Rattle.lsm_store.proofs.Unrefused.{err_of}
@@ -26,8 +26,8 @@ returns-in_err-check_running-clause-works g c = λ cache.
     let old = view_of (g.D.Device.medium c.args.device.now) c.args.memory.now cache in
     let piece = Write c.args.job in
     let found = err_of c.from_residual.result _ c.from_residual.ensures.1 in
-    subst (λ (r : Result ℕ Refusal). Works old piece (work_reply_of (λ left. Plain (Number left)) r) old) (sym found.1)
-    (works_refused old piece found.0 (stopped_refuses (work_machine_of old) piece found.0 (c.in_err-check_running.ensures.refused ∙ ap Some (sym found.2))))
+    subst (λ (r : Result ℕ Refusal). Works old piece (reply_of Number r) old) (sym found.1)
+    (works_refused old piece found.0 (stopped_refuses (machine_of old) piece found.0 (c.in_err-check_running.ensures.refused ∙ ap Some (sym found.2))))
 
 pub write-requires : goal.write-requires
 write-requires g c =
@@ -39,7 +39,7 @@ pub returns-in-Ok-clause-works : goal.returns-in-Ok-clause-works
 returns-in-Ok-clause-works g c = λ cache.
     let old = view_of (g.D.Device.medium c.args.device.now) c.args.memory.now cache in
     let e = c.in-Ok.ensures in
-    write_done old c.args.job (g.D.Device.medium c.write.new.device) (runs_then (work_machine_of old) c.in_ok-check_running.ensures.refused) c.in-Ok.left c.write.new.self e.left
+    write_done old c.args.job (g.D.Device.medium c.write.new.device) (runs_then (machine_of old) c.in_ok-check_running.ensures.refused) c.in-Ok.left c.write.new.self e.left
     (step_at (slot_of c.args.job c.args.memory.now.jobs.slots) true (g.D.Device.medium c.args.device.now) (g.D.Device.medium c.write.new.device) c.data_start-area.ensures e.written e.calls e.untouched)
 
 pub returns-in-Ok-clause-kept : goal.returns-in-Ok-clause-kept
@@ -54,8 +54,8 @@ returns-in-Io-clause-works g c = λ cache.
     let e = c.in-Err.ensures in
     let at = slot_of c.args.job m.jobs.slots in
     let is = stopped_same m c.stop_in_write.new.self c.write.new.self c.stop_in_write.ensures e.unchanged in
-    subst (λ (x : Memory g.row.A.Denot). Works old (Write c.args.job) (Plain (Refused Io)) (view_of new x cache)) (sym is)
-    (write_io old c.args.job new (runs_then (work_machine_of old) c.in_ok-check_running.ensures.refused) (subst (RefusesWrite at) c.in-Io.is e.refused)
+    subst (λ (x : Memory g.row.A.Denot). Works old (Write c.args.job) (Refused Io) (view_of new x cache)) (sym is)
+    (write_io old c.args.job new (runs_then (machine_of old) c.in_ok-check_running.ensures.refused) (subst (RefusesWrite at) c.in-Io.is e.refused)
     (step_at at false medium new c.data_start-area.ensures (subst (λ (r : Refusal). WritesBlocks c.data_start-area.result (next_of at) (is_no_fault r) medium new) c.in-Io.is e.written) e.calls e.untouched))
 
 pub returns-in-Io-clause-kept : goal.returns-in-Io-clause-kept
@@ -70,8 +70,8 @@ returns-in_default-clause-works g c = λ cache.
     let new = g.D.Device.medium c.write.new.device in
     let old = view_of (g.D.Device.medium c.args.device.now) m cache in
     let e = c.in-Err.ensures in
-    subst (λ (js : JobSlots). Works old (Write c.args.job) (Plain (Refused c.in-Err.refusal)) (view_of new (record m { jobs = js }) cache)) (sym e.unchanged)
-    (write_refused old c.args.job new (runs_then (work_machine_of old) c.in_ok-check_running.ensures.refused) c.in-Err.refusal c.in_default.not-Io e.refused e.untouched)
+    subst (λ (js : JobSlots). Works old (Write c.args.job) (Refused c.in-Err.refusal) (view_of new (record m { jobs = js }) cache)) (sym e.unchanged)
+    (write_refused old c.args.job new (runs_then (machine_of old) c.in_ok-check_running.ensures.refused) c.in-Err.refusal c.in_default.not-Io e.refused e.untouched)
 
 pub returns-in_default-clause-kept : goal.returns-in_default-clause-kept
 returns-in_default-clause-kept g c =

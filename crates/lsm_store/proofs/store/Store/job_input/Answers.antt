@@ -3,13 +3,14 @@ use Rattle.std.specs.Arc.{arc_value}
 use Rattle.std.specs.declared.sync.Arc.{Arc}
 use Rattle.lsm_merge.specs.Inputs.{MergeInput}
 use Rattle.lsm_store.specs.Backing.{StoreView}
-use Rattle.lsm_store.specs.Work.{Ask, Handed}
-use Rattle.lsm_store.specs.Working.{Works, work_reply_of}
+use Rattle.lsm_store.specs.Work.{Ask}
+use Rattle.lsm_store.specs.Working.{Works}
+use Rattle.lsm_store.specs.Calls.{Handed, reply_of}
 use Rattle.lsm_store.proofs.store.Store.job_input.Goals as goal
 
 pub returns : goal.returns
 returns g c = record {
   works =
-      subst (λ (v : StoreView). Works v (Ask c.args.job) (work_reply_of (λ (input : Arc MergeInput g.row.A.Denot). Handed (arc_value input)) c.input.result) v) c.self.view_is
+      subst (λ (v : StoreView). Works v (Ask c.args.job) (reply_of (λ (input : Arc MergeInput g.row.A.Denot). Handed (arc_value input)) c.input.result) v) c.self.view_is
       (c.input.ensures (g.D.Device.medium c.self.inside.device) c.self.inside.cache);
 }

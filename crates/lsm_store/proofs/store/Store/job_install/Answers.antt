@@ -1,14 +1,14 @@
 use Rattle.std.proofs.Common.{subst}
 use Rattle.lsm_store.specs.Backing.{StoreView}
-use Rattle.lsm_store.specs.Calls.{Done}
+use Rattle.lsm_store.specs.Calls.{Done, reply_of}
 use Rattle.lsm_store.specs.Memory.{view_of}
-use Rattle.lsm_store.specs.Work.{Install, Plain}
-use Rattle.lsm_store.specs.Working.{Works, work_reply_of}
+use Rattle.lsm_store.specs.Work.{Install}
+use Rattle.lsm_store.specs.Working.{Works}
 use Rattle.lsm_store.proofs.store.Store.job_install.Goals as goal
 
 pub returns : goal.returns
 returns g c = record {
   works =
-      subst (λ (v : StoreView). Works v (Install c.args.job) (work_reply_of (λ x. Plain Done) c.install.result) (view_of (g.D.Device.medium c.install.new.device) c.install.new.memory c.self.inside.cache)) c.self.view_is
+      subst (λ (v : StoreView). Works v (Install c.args.job) (reply_of (λ x. Done) c.install.result) (view_of (g.D.Device.medium c.install.new.device) c.install.new.memory c.self.inside.cache)) c.self.view_is
       (c.install.ensures.works c.self.inside.cache);
 }
