@@ -1,17 +1,18 @@
 //! Growths that memory refuses.
 
 use crate::setup::{Told, are_of_lives, formatted, get, led, put};
-use linked_list_allocator::LocalHeap;
 use lsm_device::{MemDevice, Refusal};
-use lsm_lives::{Life, Step};
+use lsm_lives::{Call, Life, Step};
+use merge_tests::budget::Budget;
 use std::alloc::{Allocator, Global};
 use std::test::Fail;
+use std::thread::Threads;
 
 // One life with three steps.
 fn one_life<A: Allocator + Clone>(alloc: A) -> Result<Life<A>, Refusal> {
     let mut steps = Vec::new(alloc.clone()?);
     steps.push(put(alloc.clone()?, b"\x61", b"\x31")?)?;
-    steps.push(Step::Sync)?;
+    steps.push(Step::Call(Call::Sync))?;
     steps.push(get(alloc.clone()?, b"\x61")?)?;
     Ok(Life {
         fuse: None,
@@ -41,13 +42,14 @@ enum Reach {
 }
 
 // How far a life comes on a heap. Where it is refused, nothing is done.
-fn reach_of<A: Allocator + Clone>(
+fn reach_of<R: Threads + Sync, A: Allocator + Clone + Send + Sync>(
+    rt: &R,
     alloc: A,
     device: MemDevice,
     life: &[Life<A>],
 ) -> Result<Reach, Fail> {
     let writes = device.writes();
-    match led(alloc, device, life) {
+    match led(rt, alloc, device, life) {
         Ok((replies, device)) => {
             if replies.len() != 1 || device.writes() != 0 {
                 return Err(Fail::from("one life, and a crash"));
@@ -62,23 +64,15 @@ fn reach_of<A: Allocator + Clone>(
     }
 }
 
-// How far the life comes on a new heap of this size.
-fn reached_on(alloc: Global, size: usize) -> Result<Reach, Fail> {
+// How far the life comes where so many growths are allowed.
+fn reached_on<R: Threads + Sync>(rt: &R, alloc: Global, growths: u64) -> Result<Reach, Fail> {
     // The device has a heap of its own, so that its record can grow.
     let device = formatted(alloc)?;
-    let heap = LocalHeap::new(alloc, size)?;
+    let heap = Budget::new(alloc, growths);
     let Ok(life) = one_life(&heap) else {
         return Ok(Reach::Unmade);
     };
-    reach_of(&heap, device, &[life])
-}
-
-// Sizes of heaps: at first for the life and its replies, and then for a store, which takes a cache.
-fn heap_size(step: usize) -> usize {
-    if step < 40 {
-        return 512usize.saturating_add(step.saturating_mul(64));
-    }
-    step.saturating_sub(38).saturating_mul(2_048)
+    reach_of(rt, &heap, device, &[life])
 }
 
 #[test]
@@ -86,8 +80,8 @@ fn without_a_place_for_the_replies_nothing_is_done(rt: HostRuntime) -> Result<()
     let mut refused = false;
     let mut led = false;
     let mut served = false;
-    for step in 0..60usize {
-        match reached_on(rt.alloc(), heap_size(step))? {
+    for growths in 0..200u64 {
+        match reached_on(&rt, rt.alloc(), growths)? {
             Reach::Unmade => {}
             Reach::Refused => refused = true,
             Reach::Led => led = true,

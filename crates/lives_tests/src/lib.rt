@@ -10,5 +10,7 @@ mod replaying;
 #[cfg(test)]
 mod setup;
 mod whole;
+#[cfg(test)]
+mod working;
 
 pub use whole::lives_from_format;

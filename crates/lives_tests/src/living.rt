@@ -2,15 +2,16 @@
 
 use crate::setup::{Told, fresh, get, left_by, life, put, replies_are};
 use lsm_device::{MemDevice, Refusal};
-use lsm_lives::{Life, Step};
+use lsm_lives::{Call, Life, Step};
 use std::alloc::Global;
 use std::test::Fail;
+use std::thread::Threads;
 
 // A batch that is synced and another that is not, and a crash that drops what pends.
 fn first_life(alloc: Global) -> Result<Life, Fail> {
     let steps = vec![in alloc;
         put(alloc, b"\x61", b"\x31")?,
-        Step::Sync,
+        Step::Call(Call::Sync),
         put(alloc, b"\x62", b"\x32")?,
     ]?;
     Ok(life(alloc, steps, &[])?)
@@ -33,7 +34,7 @@ const FIRST: [Told; 4] = [
 fn a_crash_drops_what_was_not_synced(rt: HostRuntime) -> Result<(), Fail> {
     let given = [first_life(rt.alloc())?, looking(rt.alloc(), &[true; 4])?];
     let wanted = [Told::Number(1), Told::Byte(0x31), Told::Absent];
-    assert!(rt; replies_are(rt.alloc(), &given, &[&FIRST, &wanted])?);
+    assert!(rt; replies_are(&rt, rt.alloc(), &given, &[&FIRST, &wanted])?);
     Ok(())
 }
 
@@ -45,10 +46,10 @@ const STOPPED: [Told; 3] = [
 ];
 
 // A device that is taken back of a store with a batch that is synced and one that is not.
-fn taken_back(alloc: Global) -> Result<MemDevice, Fail> {
+fn taken_back<R: Threads + Sync>(rt: &R, alloc: Global) -> Result<MemDevice, Fail> {
     let mut store = fresh(alloc)?;
     let steps = first_life(alloc)?.steps;
-    lsm_lives::replay(alloc, &mut store, &steps)?;
+    lsm_lives::replay(rt, alloc, &mut store, &steps)?;
     Ok(store.into_device())
 }
 
@@ -61,9 +62,15 @@ fn counts_of(device: &MemDevice) -> (u64, u64, u64) {
 #[test]
 fn a_device_with_pending_writes_is_opened_as_it_reads(rt: HostRuntime) -> Result<(), Fail> {
     let given = [looking(rt.alloc(), &[])?];
-    let device = left_by(rt.alloc(), taken_back(rt.alloc())?, &given, &[&BOTH])?;
+    let device = left_by(
+        &rt,
+        rt.alloc(),
+        taken_back(&rt, rt.alloc())?,
+        &given,
+        &[&BOTH],
+    )?;
     assert!(rt; counts_of(&device) == (0, 0, 0));
-    left_by(rt.alloc(), device, &given, &[&BOTH])?;
+    left_by(&rt, rt.alloc(), device, &given, &[&BOTH])?;
     Ok(())
 }
 
@@ -79,16 +86,22 @@ fn until_the_first_sync_what_pended_may_be_dropped(rt: HostRuntime) -> Result<()
     for (keeps, batches) in [(false, 1), (true, 2)] {
         let given = before_the_first_sync(rt.alloc(), keeps)?;
         let wanted: [&[Told]; 2] = [&STOPPED, &[Told::Number(batches)]];
-        left_by(rt.alloc(), taken_back(rt.alloc())?, &given, &wanted)?;
+        left_by(
+            &rt,
+            rt.alloc(),
+            taken_back(&rt, rt.alloc())?,
+            &given,
+            &wanted,
+        )?;
     }
     Ok(())
 }
 
 #[test]
 fn without_a_life_the_device_comes_back(rt: HostRuntime) -> Result<(), Fail> {
-    let device = taken_back(rt.alloc())?;
+    let device = taken_back(&rt, rt.alloc())?;
     let counts = counts_of(&device);
-    let device = left_by(rt.alloc(), device, &[], &[])?;
+    let device = left_by(&rt, rt.alloc(), device, &[], &[])?;
     assert!(rt; counts_of(&device) == counts);
     Ok(())
 }

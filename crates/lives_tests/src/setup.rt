@@ -3,11 +3,12 @@
 use crate::lives_from_format;
 use lsm_codec::{Batch, Op};
 use lsm_device::{MemDevice, Refusal};
-use lsm_lives::{Life, Reply, Step, lives};
+use lsm_lives::{Call, Life, Reply, Step, lives};
 use lsm_open::format;
-use lsm_store::{At, Store};
+use lsm_store::{At, Store, TakenJob};
 use std::alloc::{AllocError, Allocator, Global};
 use std::test::Fail;
+use std::thread::Threads;
 
 /// The sectors of the device, and of a log region.
 pub const SECTORS: u32 = 8_192;
@@ -33,12 +34,17 @@ pub fn fresh(alloc: Global) -> Result<Store<MemDevice>, Fail> {
 /// A commit of one put.
 pub fn put<A: Allocator + Clone>(alloc: A, key: &[u8], value: &[u8]) -> Result<Step<A>, Refusal> {
     let op = Op::put(alloc.clone()?, key, value)?;
-    Ok(Step::Commit(Batch::new(alloc, op)?))
+    Ok(Step::Call(Call::Commit(Batch::new(alloc, op)?)))
 }
 
 /// The look-up of a key.
 pub fn get<A: Allocator + Clone>(alloc: A, key: &[u8]) -> Result<Step<A>, AllocError> {
-    Ok(Step::Get(At::Now, Vec::from_slice(alloc, key)?))
+    get_at(alloc, At::Now, key)
+}
+
+/// The look-up of a key in the map of now, or of a snapshot.
+pub fn get_at<A: Allocator + Clone>(alloc: A, at: At, key: &[u8]) -> Result<Step<A>, AllocError> {
+    Ok(Step::Call(Call::Get(at, Vec::from_slice(alloc, key)?)))
 }
 
 /// A life without a fuse.
@@ -54,25 +60,27 @@ pub fn life(alloc: Global, steps: Vec<Step>, mask: &[bool]) -> Result<Life, Allo
 pub type Led<A = Global> = (Vec<Vec<Reply<A>, A>, A>, MemDevice);
 
 /// Leads lives on a device. It tells the prover nothing, so that it has nothing to carry through a test.
-pub fn led<A: Allocator + Clone>(
+pub fn led<R: Threads + Sync, A: Allocator + Clone + Send + Sync>(
+    rt: &R,
     alloc: A,
     device: MemDevice,
     given: &[Life<A>],
 ) -> Result<Led<A>, (Refusal, MemDevice)> {
-    match lives(alloc, device, given) {
+    match lives(rt, alloc, device, given) {
         Ok(led) => Ok(led),
         Err(refused) => Err(refused),
     }
 }
 
 /// The device that lives leave, where just these replies come of them.
-pub fn left_by(
+pub fn left_by<R: Threads + Sync>(
+    rt: &R,
     alloc: Global,
     device: MemDevice,
     given: &[Life],
     wanted: &[&[Told]],
 ) -> Result<MemDevice, Fail> {
-    match led(alloc, device, given) {
+    match led(rt, alloc, device, given) {
         Ok((replies, device)) => {
             if are_of_lives(&replies, wanted) {
                 return Ok(device);
@@ -84,8 +92,13 @@ pub fn left_by(
 }
 
 /// Whether just these replies come of lives on a device that was just formatted.
-pub fn replies_are(alloc: Global, given: &[Life], wanted: &[&[Told]]) -> Result<bool, Fail> {
-    let (replies, _device) = lives_from_format(alloc, SECTORS, LOG_SECTORS, given)?;
+pub fn replies_are<R: Threads + Sync>(
+    rt: &R,
+    alloc: Global,
+    given: &[Life],
+    wanted: &[&[Told]],
+) -> Result<bool, Fail> {
+    let (replies, _device) = lives_from_format(rt, alloc, SECTORS, LOG_SECTORS, given)?;
     Ok(are_of_lives(&replies, wanted))
 }
 
@@ -96,6 +109,11 @@ pub enum Told {
     Done,
     Absent,
     Byte(u8),
+    /// The number of a job, and the level of its upper tables where it is a merge.
+    Taken(u64, Option<usize>),
+    NoJob,
+    /// The number of a result, and how many tables it has.
+    Built(u64, u64),
     Refused(Refusal),
     /// A longer value, or a page.
     Long,
@@ -111,6 +129,9 @@ fn reading_of<A: Allocator>(reply: &Reply<A>) -> Told {
             _ => Told::Long,
         },
         Reply::Page(_) => Told::Long,
+        Reply::Taken(None) => Told::NoJob,
+        Reply::Taken(Some(TakenJob { number, level })) => Told::Taken(*number, *level),
+        Reply::Built { result, tables } => Told::Built(*result, *tables),
         Reply::Refused(refusal) => Told::Refused(*refusal),
     }
 }

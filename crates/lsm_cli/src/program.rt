@@ -16,16 +16,17 @@ use lsm_requests::ending::conclude;
 use std::convert::AsStr;
 use std::fs::{File, Files};
 use std::io::{Read, Write};
+use std::thread::Threads;
 
 /// Runs the program on the words after its name, and gives the exit status. A script is read from `input`, an answer
 /// goes to `output`, a fault to `errors`.
-pub fn run<R: Files<File = File> + AllocGlobal, S: AsStr, I: Read, O: Write, E: Write>(
-    rt: &R,
-    words: &[S],
-    input: &mut I,
-    output: &mut O,
-    errors: &mut E,
-) -> u8
+pub fn run<
+    R: Files<File = File> + AllocGlobal + Threads + Sync,
+    S: AsStr,
+    I: Read,
+    O: Write,
+    E: Write,
+>(rt: &R, words: &[S], input: &mut I, output: &mut O, errors: &mut E) -> u8
     // What comes of the words and the input is printed, an answer or a fault, and decides the exit status.
     ensures runs { IsRun (map S.text words.entry.now) (I.remaining input.old) record {
       output = O.contents output.old;
@@ -49,7 +50,7 @@ pub fn run<R: Files<File = File> + AllocGlobal, S: AsStr, I: Read, O: Write, E: 
 }
 
 // Does what the words ask for.
-fn answer<R: Files<File = File> + AllocGlobal, S: AsStr, I: Read>(
+fn answer<R: Files<File = File> + AllocGlobal + Threads + Sync, S: AsStr, I: Read>(
     rt: &R,
     words: &[S],
     input: &mut I,

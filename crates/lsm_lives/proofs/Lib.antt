@@ -2,3 +2,4 @@ mod Steps
 mod Opened
 mod Lived
 mod Lifetimes
+mod Made

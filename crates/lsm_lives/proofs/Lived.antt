@@ -1,5 +1,5 @@
 -- A life on a device that held what a crash left.
-use Rattle.std.proofs.Common.{◌≡◌, ◌⊎◌, inl, inr, ℕ, Bool, List, [], ◌∷◌, ◌++◌, Option, None, Some, refl, ap, sym, subst, ◌∙◌}
+use Rattle.std.proofs.Common.{◌≡◌, ◌⊎◌, inl, inr, ℕ, Bool, List, [], ◌∷◌, ◌++◌, map, Option, None, Some, refl, ap, sym, subst, ◌∙◌}
 use Rattle.std.proofs.Math.Nat.{add-zero}
 use Rattle.std.proofs.lemmas.List.Elements.{Contains-append_left, Contains-append_right}
 use Rattle.lsm_device.specs.declared.refusal.Refusal.{Refusal}
@@ -16,7 +16,7 @@ use Rattle.lsm_store.specs.Backing.{StoreView, machine_of}
 use Rattle.lsm_store.specs.Calls.{Reply}
 use Rattle.lsm_store.specs.Calls.{Number, Done, Value, Rows, Given, Handed, Refused}
 use Rattle.lsm_store.specs.Crash.{reopened, may_leave}
-use Rattle.lsm_store.specs.Lives.{IsAnswered, left_by_life}
+use Rattle.lsm_store.specs.Lives.{all_stopped, IsAnswered, left_by_life}
 use Rattle.lsm_store.specs.Machine.{Machine, Step}
 use Rattle.lsm_store.specs.RecoveryPoints.{batch_count}
 use Rattle.lsm_store.specs.Run.{last_machine, left_in_run}
@@ -25,9 +25,10 @@ use Rattle.lsm_store.specs.State.{State}
 use Rattle.lsm_store.specs.Work.{no_work}
 use Rattle.lsm_store.proofs.OpenedMachines.{opened as store_opened}
 use Rattle.lsm_lives.specs.Leading.{LifeView, IsLed, LeadsTo, with_fuse}
-use Rattle.lsm_lives.specs.Living.{Holds, AfterCrash}
+use Rattle.lsm_lives.specs.Asked.{Asked, Told, Own, Build, AcceptBuilt, Replied, Built, step_in, AreTold, told_stopped}
+use Rattle.lsm_lives.specs.Living.{IsLifeTold, Holds, AfterCrash}
 use Rattle.lsm_lives.specs.Replaying.{GoOn}
-use Rattle.lsm_lives.proofs.Steps.{one_format, go_on}
+use Rattle.lsm_lives.proofs.Steps.{one_format, replayed, go_on}
 
 -- a fuse is no change of the disk
 disk-with_fuse : (fuse : Option ℕ) (m : Medium) → disk (with_fuse fuse m) ≡ disk m
@@ -35,10 +36,20 @@ disk-with_fuse None m = refl
 disk-with_fuse (Some n) m = refl
 
 -- So a life was answered, and each crash at its end leaves what it may.
-record Ends (log_sectors : ℕ) (opened : CrashState) (others : List CrashState) (steps : List Step) (replies : List Reply) (d : Disk) : Type 0 where
+record Ends (log_sectors : ℕ) (opened : CrashState) (others : List CrashState) (asked : List Asked) (answers : List Told) (d : Disk) : Type 0 where
+  steps : List Step
+  replies : List Reply
+  told : IsLifeTold asked answers steps replies
   machine : Machine
   answered : IsAnswered log_sectors opened machine steps replies
   crashes : Leaves (StandForOne log_sectors (left_by_life opened others machine steps replies)) d
+
+-- where the opening was refused no result was built, and each step is refused
+stopped_told : (asked : List Asked) → AreTold [] asked (told_stopped asked) (map (step_in []) asked) (all_stopped (map (step_in []) asked))
+stopped_told [] = (refl, refl)
+stopped_told (Own step ∷ more) = (refl, ([], (refl, refl), stopped_told more))
+stopped_told (Build job parts ∷ more) = (refl, ([], (refl, inl refl), stopped_told more))
+stopped_told (AcceptBuilt job number ∷ more) = (refl, ([], (refl, refl), stopped_told more))
 
 module _ (log_sectors : ℕ) (opened : CrashState) (others : List CrashState) where
   abbrev IsLeft : List (List ℕ) → Type 0
@@ -77,43 +88,59 @@ module _ (log_sectors : ℕ) (opened : CrashState) (others : List CrashState) wh
     unfolding Left
     left = subst (Left log_sectors) (runs.state opens.backed) (subst (λ (n : ℕ). Left n new.state) same_sectors (runs.backed opens.backed).crashes)
 
-    ends_opened : (n : ℕ) → n ≡ batch_count s.state.points → Ends log_sectors opened others steps (Number n ∷ more) (disk new.device)
+    ends_opened : (asked : List Asked) (answers : List Told) (n : ℕ) → n ≡ batch_count s.state.points → AreTold [] asked answers steps more → Ends log_sectors opened others asked (Replied (Number n) ∷ answers) (disk new.device)
     unfolding Left
-    ends_opened n counted = record {
+    ends_opened asked answers n counted told = record {
+      steps = steps;
+      replies = Number n ∷ more;
+      told = (refl, told);
       machine = machine_of s;
       answered = (opens.fair, counted ∙ ap (λ (t : State). batch_count t.points) opens.state ∙ add-zero opened.count, store_opened before log_sectors opened s opens reopens, runs.run opens.backed);
       crashes = left;
     }
 
   -- at the end of a life that was led
-  at_end : (before : Medium) (steps : List Step) (replies : List Reply) (after : Medium) → IsLed before steps replies after → Holds log_sectors opened others (disk before) → Ends log_sectors opened others steps replies (disk after)
-  at_end before steps (Number n ∷ more) after (s, begins, counted, end, replays, into) holds =
-      subst (λ (m : Medium). Ends log_sectors opened others steps (Number n ∷ more) (disk m)) (sym into)
-      (ends_opened before s end (begins.opens log_sectors opened holds.reads) begins.reopens steps more (go_on s steps more end replays) n counted)
-  at_end before steps (Refused e ∷ more) after (refuses, stopped) holds =
+  at_end : (before : Medium) (asked : List Asked) (told : List Told) (after : Medium) → IsLed before asked told after → Holds log_sectors opened others (disk before) → Ends log_sectors opened others asked told (disk after)
+  at_end before asked (Replied (Number n) ∷ more) after (s, begins, counted, end, makes, into) holds =
+      let run = replayed [] s asked more end makes in
+      subst (λ (m : Medium). Ends log_sectors opened others asked (Replied (Number n) ∷ more) (disk m)) (sym into)
+      (ends_opened before s end (begins.opens log_sectors opened holds.reads) begins.reopens run.steps run.replies (go_on s run.steps run.replies end run.replays) asked more n counted run.told)
+  at_end before asked (Replied (Refused e) ∷ more) after (refuses, stopped) holds =
       let fails = refuses.fails log_sectors opened holds.reads in
-      record { machine = record { state = reopened log_sectors opened; work = no_work }; answered = (fails.fair, stopped); crashes = refused before after e holds fails }
-  at_end before steps (Done ∷ more) after led holds = absurd led
-  at_end before steps (Value v ∷ more) after led holds = absurd led
-  at_end before steps (Rows page ∷ more) after led holds = absurd led
-  at_end before steps (Given job ∷ more) after led holds = absurd led
-  at_end before steps (Handed input ∷ more) after led holds = absurd led
-  at_end before steps [] after led holds = absurd led
+      let steps = map (step_in []) asked in
+      record {
+        steps = steps;
+        replies = Refused e ∷ all_stopped steps;
+        told = (refl, subst (λ (l : List Told). AreTold [] asked l steps (all_stopped steps)) (sym stopped) (stopped_told asked));
+        machine = record { state = reopened log_sectors opened; work = no_work };
+        answered = (fails.fair, refl);
+        crashes = refused before after e holds fails;
+      }
+  at_end before asked (Replied Done ∷ more) after led holds = absurd led
+  at_end before asked (Replied (Value v) ∷ more) after led holds = absurd led
+  at_end before asked (Replied (Rows page) ∷ more) after led holds = absurd led
+  at_end before asked (Replied (Given job) ∷ more) after led holds = absurd led
+  at_end before asked (Replied (Handed input) ∷ more) after led holds = absurd led
+  at_end before asked (Built number tables ∷ more) after led holds = absurd led
+  at_end before asked [] after led holds = absurd led
 
   -- after the crash
-  crash_ends : (steps : List Step) (replies : List Reply) (mask : List Bool) (d : Disk) → Ends log_sectors opened others steps replies d → AfterCrash log_sectors opened others steps replies (at_rest (image mask d))
-  crash_ends steps replies mask d before =
+  crash_ends : (asked : List Asked) (told : List Told) (mask : List Bool) (d : Disk) → Ends log_sectors opened others asked told d → AfterCrash log_sectors opened others asked told (at_rest (image mask d))
+  crash_ends asked told mask d before =
       let found = before.crashes mask in
       record {
+        steps = before.steps;
+        replies = before.replies;
+        told = before.told;
         left = found.0;
         life = record { machine = before.machine; answered = before.answered; crash = found.1 };
         holds = record { reads = found.2; crashes = λ keep. inl found.2 };
       }
 
   -- a whole life
-  pub life_led : (life : LifeView) (before : Medium) (replies : List Reply) (after : Medium) → LeadsTo life before replies after → Holds log_sectors opened others (disk before)
-      → AfterCrash log_sectors opened others life.steps replies (disk after)
-  life_led life before replies after leads holds =
+  pub life_led : (life : LifeView) (before : Medium) (told : List Told) (after : Medium) → LeadsTo life before told after → Holds log_sectors opened others (disk before)
+      → AfterCrash log_sectors opened others life.steps told (disk after)
+  life_led life before told after leads holds =
       let starts = subst (λ (d : Disk). Holds log_sectors opened others d) (sym (disk-with_fuse life.fuse before)) holds in
-      subst (λ (m : Medium). AfterCrash log_sectors opened others life.steps replies (disk m)) (sym leads.crash)
-      (crash_ends life.steps replies life.mask (disk leads.end) (at_end (with_fuse life.fuse before) life.steps replies leads.end leads.led starts))
+      subst (λ (m : Medium). AfterCrash log_sectors opened others life.steps told (disk m)) (sym leads.crash)
+      (crash_ends life.steps told life.mask (disk leads.end) (at_end (with_fuse life.fuse before) life.steps told leads.end leads.led starts))

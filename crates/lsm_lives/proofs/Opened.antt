@@ -15,15 +15,13 @@ use Rattle.lsm_open.specs.RecoveredTables.{BeginsTablesWithSync, FailsWithTables
 use Rattle.lsm_root.specs.Layout.{IsDeviceSize}
 use Rattle.lsm_open.proofs.Openings.{same_again}
 use Rattle.lsm_store.specs.Backing.{StoreView}
-use Rattle.lsm_store.specs.Calls.{Reply}
 use Rattle.lsm_store.specs.Calls.{Number, Done, Value, Rows, Given, Handed, Refused}
-use Rattle.lsm_store.specs.Lives.{all_stopped}
-use Rattle.lsm_store.specs.Machine.{Step}
 use Rattle.lsm_store.specs.RecoveryPoints.{batch_count}
 use Rattle.lsm_store.specs.Serving.{OpensTo, ReopensTo, IsUncalled, IsRefusedBehindSync}
 use Rattle.lsm_lives.specs.Leading.{BeginsOn, FailsOn, IsLed, with_fuse}
-use Rattle.lsm_lives.specs.Replaying.{Replays}
-use Rattle.lsm_lives.proofs.Steps.{go_on}
+use Rattle.lsm_lives.specs.Asked.{Asked, Told, Replied, Built, told_stopped}
+use Rattle.lsm_lives.specs.Replaying.{MakesEach}
+use Rattle.lsm_lives.proofs.Steps.{replayed, go_on}
 
 -- ---- openings
 
@@ -103,29 +101,31 @@ module _ {X : Type 0} (medium : X → Medium) (start : X) where
 
 -- ---- a life until its crash
 
-module _ (before : Medium) (steps : List Step) (replies : List Reply) (after : Medium) where
+module _ (before : Medium) (asked : List Asked) (told : List Told) (after : Medium) where
   -- the store was opened and made the steps
-  pub led_opened : (s end : StoreView) (more : List Reply) (n : ℕ) → BeginsOn before s → Replays s steps more end → after ≡ end.device
-      → n ≡ batch_count s.state.points → replies ≡ Number n ∷ more → IsLed before steps replies after
-  led_opened s end more n begins replays into counted is = subst (λ (all : List Reply). IsLed before steps all after) (sym is) (s, begins, counted, end, replays, into)
+  pub led_opened : (s end : StoreView) (more : List Told) (n : ℕ) → BeginsOn before s → MakesEach [] s asked more end → after ≡ end.device
+      → n ≡ batch_count s.state.points → told ≡ Replied (Number n) ∷ more → IsLed before asked told after
+  led_opened s end more n begins makes into counted is = subst (λ (all : List Told). IsLed before asked all after) (sym is) (s, begins, counted, end, makes, into)
 
   -- its opening was refused
-  pub led_refused : (refusal : Refusal) → FailsOn before refusal after → replies ≡ Refused refusal ∷ all_stopped steps → IsLed before steps replies after
-  led_refused refusal fails is = subst (λ (all : List Reply). IsLed before steps all after) (sym is) (fails, refl)
+  pub led_refused : (refusal : Refusal) → FailsOn before refusal after → told ≡ Replied (Refused refusal) ∷ told_stopped asked → IsLed before asked told after
+  led_refused refusal fails is = subst (λ (all : List Told). IsLed before asked all after) (sym is) (fails, refl)
 
 -- ---- its fuse
 
 -- nothing that is done in a life changes what lasts
-lasting_in : (before : Medium) (steps : List Step) (replies : List Reply) (after : Medium) → IsLed before steps replies after → after.lasting ≡ before.lasting
-lasting_in before steps (Number n ∷ more) after (s, begins, counted, end, replays, into) =
-    ap (λ (m : Medium). m.lasting) into ∙ (go_on s steps more end replays).same_lasting ∙ begins.same_lasting
-lasting_in before steps (Refused e ∷ more) after (fails, stopped) = fails.same_lasting
-lasting_in before steps (Done ∷ more) after led = absurd led
-lasting_in before steps (Value v ∷ more) after led = absurd led
-lasting_in before steps (Rows page ∷ more) after led = absurd led
-lasting_in before steps (Given job ∷ more) after led = absurd led
-lasting_in before steps (Handed input ∷ more) after led = absurd led
-lasting_in before steps [] after led = absurd led
+lasting_in : (before : Medium) (asked : List Asked) (told : List Told) (after : Medium) → IsLed before asked told after → after.lasting ≡ before.lasting
+lasting_in before asked (Replied (Number n) ∷ more) after (s, begins, counted, end, makes, into) =
+    let run = replayed [] s asked more end makes in
+    ap (λ (m : Medium). m.lasting) into ∙ (go_on s run.steps run.replies end run.replays).same_lasting ∙ begins.same_lasting
+lasting_in before asked (Replied (Refused e) ∷ more) after (fails, stopped) = fails.same_lasting
+lasting_in before asked (Replied Done ∷ more) after led = absurd led
+lasting_in before asked (Replied (Value v) ∷ more) after led = absurd led
+lasting_in before asked (Replied (Rows page) ∷ more) after led = absurd led
+lasting_in before asked (Replied (Given job) ∷ more) after led = absurd led
+lasting_in before asked (Replied (Handed input) ∷ more) after led = absurd led
+lasting_in before asked (Built number tables ∷ more) after led = absurd led
+lasting_in before asked [] after led = absurd led
 
 none_set : (n : ℕ) → None ≡ Some n → ⊥
 none_set n is = cc
@@ -135,6 +135,6 @@ fuse_bounds : (fuse : Option ℕ) (before after : Medium) → after.lasting ≡ 
 fuse_bounds None before after same keeps = record { at_most = λ n is. absurd (none_set n is) }
 fuse_bounds (Some n) before after same keeps = subst (λ (set : Option ℕ). KeepsFuse set after.calls) (ap (λ (l : Lasting). l.fuse_set) same) keeps
 
-pub fuse_kept : (fuse : Option ℕ) (before : Medium) (steps : List Step) (replies : List Reply) (after : Medium) → IsLed (with_fuse fuse before) steps replies after
+pub fuse_kept : (fuse : Option ℕ) (before : Medium) (asked : List Asked) (told : List Told) (after : Medium) → IsLed (with_fuse fuse before) asked told after
     → KeepsFuse after.lasting.fuse_set after.calls → KeepsFuse fuse after.calls
-fuse_kept fuse before steps replies after led keeps = fuse_bounds fuse before after (lasting_in (with_fuse fuse before) steps replies after led) keeps
+fuse_kept fuse before asked told after led keeps = fuse_bounds fuse before after (lasting_in (with_fuse fuse before) asked told after led) keeps

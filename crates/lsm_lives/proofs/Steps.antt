@@ -22,10 +22,12 @@ use Rattle.lsm_store.specs.State.{State}
 use Rattle.lsm_store.specs.Working.{ServesStep}
 use Rattle.lsm_store.proofs.ServedSteps.{served_goes, served_work}
 use Rattle.lsm_store.proofs.Steps.{left_now, stopped_run, stopped_last, stopped_left}
-use Rattle.lsm_lives.specs.Calls.{step_of, reply_of}
-use Rattle.lsm_lives.specs.declared.calls.Call.{Call as Asked}
-use Rattle.lsm_lives.specs.declared.calls.Reply.{Reply as Told}
-use Rattle.lsm_lives.specs.Replaying.{Replays, GoOn, faults_told}
+use Rattle.lsm_merge.specs.Results.{MergeResult}
+use Rattle.lsm_lives.specs.Asked.{Asked, Told, step_in}
+use Rattle.lsm_lives.specs.Calls.{asked_of, told_of}
+use Rattle.lsm_lives.specs.declared.calls.Step.{Step as GivenStep}
+use Rattle.lsm_lives.specs.declared.calls.Reply.{Reply as GivenReply}
+use Rattle.lsm_lives.specs.Replaying.{MakesEach, AreReplayed, Replays, GoOn, faults_told}
 
 -- sectors are an image in one format alone
 same_format : (a b : ℕ) (xs ys : List CrashState) (sectors : List (List ℕ)) → StandForOne a xs sectors → StandForOne b ys sectors → a ≡ b
@@ -42,17 +44,31 @@ more_left n xs ys among d leaves = λ mask. let found = leaves mask in (found.0,
 -- ---- replies as values
 
 -- a reply was added
-pub reply_added : {A : Type 0} (done after : List (Told A)) (reply : Told A) → after ≡ done ++ reply ∷ [] → map reply_of after ≡ map reply_of done ++ reply_of reply ∷ []
-reply_added {A} done after reply is = ap (λ (all : List (Told A)). map reply_of all) is ∙ map_push reply_of done reply
+pub reply_added : {A : Type 0} (done after : List (GivenReply A)) (reply : GivenReply A) → after ≡ done ++ reply ∷ [] → map told_of after ≡ map told_of done ++ told_of reply ∷ []
+reply_added {A} done after reply is = ap (λ (all : List (GivenReply A)). map told_of all) is ∙ map_push told_of done reply
 
 -- the first reply
-pub reply_first : {A : Type 0} (done after : List (Told A)) (reply : Told A) → done ≡ [] → after ≡ done ++ reply ∷ [] → map reply_of after ≡ reply_of reply ∷ []
-reply_first {A} done after reply none is = ap (λ (all : List (Told A)). map reply_of all) (is ∙ ap (λ (all : List (Told A)). all ++ reply ∷ []) none)
+pub reply_first : {A : Type 0} (done after : List (GivenReply A)) (reply : GivenReply A) → done ≡ [] → after ≡ done ++ reply ∷ [] → map told_of after ≡ told_of reply ∷ []
+reply_first {A} done after reply none is = ap (λ (all : List (GivenReply A)). map told_of all) (is ∙ ap (λ (all : List (GivenReply A)). all ++ reply ∷ []) none)
 
 -- the next step of a list
-pub next_step : {A : Type 0} (calls : List (Asked A)) (i : ℕ) (call : Asked A) → i < length calls → call ≡ get_or calls i call → map step_of (drop i calls) ≡ step_of call ∷ map step_of (drop (i + 1) calls)
-next_step {A} calls i call within is =
-    ap (λ (all : List (Asked A)). map step_of all) (drop_more calls i call within ∙ ap (λ (c : Asked A). c ∷ drop (i + 1) calls) (sym is))
+pub next_step : {A : Type 0} (steps : List (GivenStep A)) (i : ℕ) (step : GivenStep A) → i < length steps → step ≡ get_or steps i step → map asked_of (drop i steps) ≡ asked_of step ∷ map asked_of (drop (i + 1) steps)
+next_step {A} steps i step within is =
+    ap (λ (all : List (GivenStep A)). map asked_of all) (drop_more steps i step within ∙ ap (λ (c : GivenStep A). c ∷ drop (i + 1) steps) (sym is))
+
+-- what was asked of a store and told are steps that it made, and its replies
+pub replayed : (results : List MergeResult) (old : StoreView) (asked : List Asked) (told : List Told) (new : StoreView) → MakesEach results old asked told new → AreReplayed results old asked told new
+replayed results old [] [] new same = record { steps = []; replies = []; told = (refl, refl); replays = same }
+replayed results old (asked ∷ more) (told ∷ rest) new (after, mid, makes, each) =
+    let behind = replayed after mid more rest new each in
+    record {
+      steps = step_in results asked ∷ behind.steps;
+      replies = makes.reply ∷ behind.replies;
+      told = (refl, (after, makes.told, behind.told));
+      replays = (mid, makes.serves, behind.replays);
+    }
+replayed results old [] (told ∷ rest) new h = absurd h
+replayed results old (asked ∷ more) [] new h = absurd h
 
 -- ---- steps one after another
 

@@ -1,31 +1,57 @@
--- The calls and steps that values stand for, and the replies.
+-- What values ask for, and what replies tell.
 use Rattle.std.specs.Prelude.{option_map}
-use Rattle.lsm_lives.specs.declared.calls.Call.{Call as Asked}
-use Rattle.lsm_lives.specs.declared.calls.Call.TheVariants as asked
-use Rattle.lsm_lives.specs.declared.calls.Reply.{Reply as Told}
-use Rattle.lsm_lives.specs.declared.calls.Reply.TheVariants as told
+use Rattle.lsm_lives.specs.declared.calls.Call.{Call as GivenCall}
+use Rattle.lsm_lives.specs.declared.calls.Call.TheVariants as call
+use Rattle.lsm_lives.specs.declared.calls.Work.{Work as GivenWork}
+use Rattle.lsm_lives.specs.declared.calls.Work.TheVariants as work
+use Rattle.lsm_lives.specs.declared.calls.Step.{Step as GivenStep}
+use Rattle.lsm_lives.specs.declared.calls.Step.TheVariants as step
+use Rattle.lsm_lives.specs.declared.calls.Reply.{Reply as GivenReply}
+use Rattle.lsm_lives.specs.declared.calls.Reply.TheVariants as reply
 use Rattle.lsm_store.specs.Calls.{Call, Reply}
-use Rattle.lsm_store.specs.Machine.{Step, Called}
 use Rattle.lsm_store.specs.Calls.{Commit, Sync, SyncTo, Get, Scan, Snapshot, Release, Rotate, LogRoom, Number, Done, Value, Rows, Refused}
+use Rattle.lsm_store.specs.Machine.{Called, Worked}
+use Rattle.lsm_store.specs.Work.{Take, Read, Write, Install, Drop}
+use Rattle.lsm_store.specs.Working.{taken_reply}
+use Rattle.lsm_lives.specs.Asked.{Asked, Told, Own, Build, AcceptBuilt, Replied, Built}
 
-abbrev pub call_of : {A : Type 0} → Asked A → Call
-call_of (asked.Commit batch) = Commit batch
-call_of asked.Sync = Sync
-call_of (asked.SyncTo number) = SyncTo number
-call_of (asked.Get at key) = Get at key.items
-call_of (asked.Scan at from to limit) = Scan at from.items (option_map (λ v. v.items) to) limit
-call_of asked.Snapshot = Snapshot
-call_of (asked.Release number) = Release number
-call_of asked.Rotate = Rotate
-call_of asked.Room = LogRoom
+abbrev pub call_of : {A : Type 0} → GivenCall A → Call
+call_of (call.Commit batch) = Commit batch
+call_of call.Sync = Sync
+call_of (call.SyncTo number) = SyncTo number
+call_of (call.Get at key) = Get at key.items
+call_of (call.Scan at from to limit) = Scan at from.items (option_map (λ v. v.items) to) limit
+call_of call.Snapshot = Snapshot
+call_of (call.Release number) = Release number
+call_of call.Rotate = Rotate
+call_of call.Room = LogRoom
 
--- a step is a call
-abbrev pub step_of : {A : Type 0} → Asked A → Step
-step_of call = Called (call_of call)
+-- what a piece of work asks for; a build, and an accept of a result by its number, are none of the store's own
+abbrev pub asked_of_work : GivenWork → Asked
+asked_of_work work.Take = Own (Worked Take)
+asked_of_work (work.Read job) = Own (Worked (Read job))
+asked_of_work (work.Build job parts) = Build job parts
+asked_of_work (work.Accept job result) = AcceptBuilt job result
+asked_of_work (work.Write job) = Own (Worked (Write job))
+asked_of_work (work.Install job) = Own (Worked (Install job))
+asked_of_work (work.Drop job) = Own (Worked (Drop job))
 
-abbrev pub reply_of : {A : Type 0} → Told A → Reply
-reply_of (told.Number n) = Number n
-reply_of told.Done = Done
-reply_of (told.Value value) = Value (option_map (λ v. v.items) value)
-reply_of (told.Page page) = Rows page
-reply_of (told.Refused e) = Refused e
+-- what a step asks for
+abbrev pub asked_of : {A : Type 0} → GivenStep A → Asked
+asked_of (step.Call call) = Own (Called (call_of call))
+asked_of (step.Work work) = asked_of_work work
+
+-- a reply; of a result that was built its number alone
+abbrev pub reply_of : {A : Type 0} → GivenReply A → Reply
+reply_of (reply.Number n) = Number n
+reply_of reply.Done = Done
+reply_of (reply.Value value) = Value (option_map (λ v. v.items) value)
+reply_of (reply.Page page) = Rows page
+reply_of (reply.Taken job) = taken_reply job
+reply_of (reply.Built result tables) = Number result
+reply_of (reply.Refused e) = Refused e
+
+-- what is told
+abbrev pub told_of : {A : Type 0} → GivenReply A → Told
+told_of (reply.Built result tables) = Built result tables
+told_of other = Replied (reply_of other)

@@ -13,24 +13,22 @@ use Rattle.lsm_open.specs.OpeningTables.{table_refusal}
 use Rattle.lsm_open.specs.RecoveredTables.{BeginsTablesWithSync, FailsWithTables}
 use Rattle.lsm_root.specs.Layout.{IsDeviceSize}
 use Rattle.lsm_store.specs.Backing.{StoreView}
-use Rattle.lsm_store.specs.Calls.{Reply}
 use Rattle.lsm_store.specs.Calls.{Number, Refused}
-use Rattle.lsm_store.specs.Lives.{all_stopped}
-use Rattle.lsm_store.specs.Machine.{Step}
 use Rattle.lsm_store.specs.RecoveryPoints.{batch_count}
 use Rattle.lsm_store.specs.Serving.{OpensTo, ReopensTo}
-use Rattle.lsm_lives.specs.Calls.{step_of}
-use Rattle.lsm_lives.specs.Replaying.{Replays}
+use Rattle.lsm_lives.specs.Asked.{Asked, Told, Replied, told_stopped}
+use Rattle.lsm_lives.specs.Calls.{asked_of}
+use Rattle.lsm_lives.specs.Replaying.{MakesEach}
 use Rattle.lsm_lives.specs.declared.living.Life.{Life as Given}
 
 -- what a life is asked to be
 pub record LifeView : Type 0 where
   pub fuse : Option ℕ
-  pub steps : List Step
+  pub steps : List Asked
   pub mask : List Bool
 
 abbrev pub life_of : {A : Type 0} → Given A → LifeView
-life_of life = record { fuse = life.fuse; steps = map step_of life.steps.items; mask = life.mask.items }
+life_of life = record { fuse = life.fuse; steps = map asked_of life.steps.items; mask = life.mask.items }
 
 -- An opening of the device answered this store.
 pub record BeginsOn (before : Medium) (s : StoreView) : Type 0 where
@@ -70,10 +68,10 @@ pub record FailsOn (before : Medium) (refusal : Refusal) (after : Medium) : Type
 
 -- A life until its crash. The store was opened and made the steps; or its opening was refused, and then no step touched
 -- the device.
-abbrev pub IsLed : Medium → List Step → List Reply → Medium → Type 0
-IsLed before steps (Number n ∷ replies) after = (s : StoreView) × BeginsOn before s × (n ≡ batch_count s.state.points) × (end : StoreView) × Replays s steps replies end × (after ≡ end.device)
-IsLed before steps (Refused e ∷ replies) after = FailsOn before e after × (replies ≡ all_stopped steps)
-IsLed before steps replies after = ⊥
+abbrev pub IsLed : Medium → List Asked → List Told → Medium → Type 0
+IsLed before steps (Replied (Number n) ∷ told) after = (s : StoreView) × BeginsOn before s × (n ≡ batch_count s.state.points) × (end : StoreView) × MakesEach [] s steps told end × (after ≡ end.device)
+IsLed before steps (Replied (Refused e) ∷ told) after = FailsOn before e after × (told ≡ told_stopped steps)
+IsLed before steps told after = ⊥
 
 -- the device as a life begins: with its fuse set, where it has one
 abbrev pub with_fuse : Option ℕ → Medium → Medium
@@ -82,15 +80,15 @@ with_fuse (Some n) m = fused n m
 
 -- A life on a device: its fuse is set, it is led, and the device crashes by its mask. With a fuse of n at most n of its
 -- writes and syncs answered Ok.
-pub record LeadsTo (life : LifeView) (before : Medium) (replies : List Reply) (after : Medium) : Type 0 where
+pub record LeadsTo (life : LifeView) (before : Medium) (told : List Told) (after : Medium) : Type 0 where
   pub end : Medium
-  pub led : IsLed (with_fuse life.fuse before) life.steps replies end
+  pub led : IsLed (with_fuse life.fuse before) life.steps told end
   pub fuse : KeepsFuse life.fuse end.calls
   pub crash : after ≡ crashed life.mask end
 
 -- Lives one after another, each on the device as the crash before it left it.
-abbrev pub AreLed : List LifeView → Medium → List (List Reply) → Medium → Type 0
+abbrev pub AreLed : List LifeView → Medium → List (List Told) → Medium → Type 0
 AreLed [] before [] after = after ≡ before
-AreLed (life ∷ lives) before (replies ∷ rest) after = (mid : Medium) × LeadsTo life before replies mid × AreLed lives mid rest after
-AreLed [] before (replies ∷ rest) after = ⊥
+AreLed (life ∷ lives) before (told ∷ rest) after = (mid : Medium) × LeadsTo life before told mid × AreLed lives mid rest after
+AreLed [] before (told ∷ rest) after = ⊥
 AreLed (life ∷ lives) before [] after = ⊥

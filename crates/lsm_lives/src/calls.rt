@@ -1,8 +1,8 @@
-// Calls of a store, and its replies, as values.
+// Calls of a store, pieces of work on its jobs, and its replies, as values.
 
 use lsm_codec::Batch;
 use lsm_device::Refusal;
-use lsm_store::{At, Page};
+use lsm_store::{At, Page, TakenJob};
 use std::alloc::{Allocator, Global};
 
 /// A call of a store.
@@ -33,10 +33,36 @@ pub enum Call<A: Allocator = Global> {
     Room,
 }
 
-/// What a store replies to a call.
+/// A piece of work on the jobs of a store. The results of builds are numbered from 1 on, in each replay and in each life.
+#[derive(Drop)]
+pub enum Work {
+    /// Takes the job that comes next.
+    Take,
+    /// Reads data blocks of a job's tables.
+    Read(u64),
+    /// Builds the result of a job's merge, in so many parts.
+    Build { job: u64, parts: u64 },
+    /// Accepts the result of a number for a job.
+    Accept { job: u64, result: u64 },
+    /// Writes blocks of a job's outputs.
+    Write(u64),
+    /// Puts a job's outputs in the place of what it took in.
+    Install(u64),
+    /// Gives a job up.
+    Drop(u64),
+}
+
+/// A step of a replay, or of a life.
+#[derive(Drop)]
+pub enum Step<A: Allocator = Global> {
+    Call(Call<A>),
+    Work(Work),
+}
+
+/// What a store replies to a call, and what is replied to a piece of work.
 #[derive(Drop)]
 pub enum Reply<A: Allocator = Global> {
-    /// Of a batch that was added, of a snapshot that was taken, or of sectors.
+    /// Of a batch that was added, of a snapshot that was taken, of sectors, or of blocks that are left.
     Number(u64),
     /// All that was asked for is done.
     Done,
@@ -44,6 +70,10 @@ pub enum Reply<A: Allocator = Global> {
     Value(Option<Vec<u8, A>>),
     /// Of a range of keys.
     Page(Page<A>),
-    /// The call was refused.
+    /// Of a job that was taken, none where there was none.
+    Taken(Option<TakenJob>),
+    /// Of a result that was built, its number, and how many tables it has.
+    Built { result: u64, tables: u64 },
+    /// It was refused.
     Refused(Refusal),
 }

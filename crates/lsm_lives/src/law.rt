@@ -3,9 +3,10 @@ ghost use Rattle.std.specs.Prelude.{ℕ, List, [], IsNone, Contains};
 ghost use Rattle.lsm_device.specs.Disk.{Disk};
 ghost use Rattle.lsm_device.specs.Medium.{Medium, disk};
 ghost use Rattle.lsm_device.specs.Outcomes.{Leaves};
+ghost use Rattle.lsm_lives.specs.Asked.{Asked, Told};
 ghost use Rattle.lsm_lives.specs.Leading.{LifeView, LeadsTo, AreLed};
-ghost use Rattle.lsm_lives.specs.Living.{steps_in, Holds, AfterCrash, AreLived};
-ghost use Rattle.lsm_lives.specs.Replaying.{Replays, GoOn};
+ghost use Rattle.lsm_lives.specs.Living.{asked_in, Holds, AfterCrash, AreLived};
+ghost use Rattle.lsm_lives.specs.Replaying.{MakesEach, AreReplayed, Replays, GoOn};
 ghost use Rattle.lsm_open.specs.CrashState.{CrashState};
 ghost use Rattle.lsm_open.specs.Image.{StandFor};
 ghost use Rattle.lsm_store.specs.Backing.{StoreView, IsBacked};
@@ -19,15 +20,20 @@ pub fn steps_go_on()
     ensures { (old : StoreView) (steps : List Step) (replies : List Reply) (new : StoreView) → Replays old steps replies new → GoOn old steps replies new }
 {}
 
+/// What was asked of a store one after another, and told, are steps that it made and its replies.
+pub fn what_is_asked_is_replayed()
+    ensures { (old : StoreView) (asked : List Asked) (told : List Told) (new : StoreView) → MakesEach [] old asked told new → AreReplayed [] old asked told new }
+{}
+
 /// Lives that were led on a device which held what a crash left are lives of the machine: each opening answers what the
 /// crash before it left, each reply is one that the state allows, and the device holds what the last crash left.
 pub fn led_lives_go_on()
-    ensures life { (life : LifeView) (before : Medium) (replies : List Reply) (after : Medium) → LeadsTo life before replies after
+    ensures life { (life : LifeView) (before : Medium) (told : List Told) (after : Medium) → LeadsTo life before told after
         → (log_sectors : ℕ) (opened : CrashState) (others : List CrashState) → Holds log_sectors opened others (disk before)
-        → AfterCrash log_sectors opened others life.steps replies (disk after) }
-    ensures lives { (lives : List LifeView) (before : Medium) (replies : List (List Reply)) (after : Medium) → AreLed lives before replies after
+        → AfterCrash log_sectors opened others life.steps told (disk after) }
+    ensures lives { (lives : List LifeView) (before : Medium) (told : List (List Told)) (after : Medium) → AreLed lives before told after
         → (log_sectors : ℕ) (opened : CrashState) (others : List CrashState) → Holds log_sectors opened others (disk before)
-        → AreLived log_sectors opened others (steps_in lives) replies (disk after) }
+        → AreLived log_sectors opened others (asked_in lives) told (disk after) }
 {}
 
 /// A device holds what a crash left where every crash of it leaves the same, as after a format and after other lives; and

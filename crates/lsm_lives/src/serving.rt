@@ -1,6 +1,7 @@
 // A store makes a call that is a value.
 ghost use Rattle.std.specs.Prelude.{◌≡◌, option_map};
-ghost use Rattle.lsm_lives.specs.Calls.{call_of, reply_of};
+ghost use Rattle.lsm_lives.specs.Asked.{Replied};
+ghost use Rattle.lsm_lives.specs.Calls.{call_of, reply_of, told_of};
 ghost use Rattle.lsm_store.specs.Calls.{Number, Done, reply_of as reply_by};
 ghost use Rattle.lsm_store.specs.Serving.{Serves};
 
@@ -11,7 +12,8 @@ use std::alloc::Allocator;
 
 /// Makes a call of the store. What the store refuses is a reply.
 pub fn serve<D: Device, A: Allocator + Clone>(store: &mut Store<D, A>, call: &Call<A>) -> Reply<A>
-    ensures { Serves store.old (call_of call.now) (reply_of result) store.new }
+    ensures serves { Serves store.old (call_of call.now) (reply_of result) store.new }
+    ensures told { told_of result ≡ Replied (reply_of result) }
 {
     match call {
         Call::Commit(batch) => number(store.commit(batch)),
@@ -47,7 +49,8 @@ fn end_of<A: Allocator>(to: &Option<Vec<u8, A>>) -> Option<&[u8]>
 }
 
 fn number<A: Allocator>(answered: Result<u64, Refusal>) -> Reply<A>
-    ensures { reply_of result ≡ reply_by Number answered }
+    ensures reply { reply_of result ≡ reply_by Number answered }
+    ensures told { told_of result ≡ Replied (reply_of result) }
 {
     match answered {
         Ok(n) => Reply::Number(n),
@@ -56,7 +59,8 @@ fn number<A: Allocator>(answered: Result<u64, Refusal>) -> Reply<A>
 }
 
 fn room<A: Allocator>(answered: Result<u32, Refusal>) -> Reply<A>
-    ensures { reply_of result ≡ reply_by Number answered }
+    ensures reply { reply_of result ≡ reply_by Number answered }
+    ensures told { told_of result ≡ Replied (reply_of result) }
 {
     match answered {
         Ok(sectors) => Reply::Number(u64::from(sectors)),
@@ -64,8 +68,9 @@ fn room<A: Allocator>(answered: Result<u32, Refusal>) -> Reply<A>
     }
 }
 
-fn done<A: Allocator>(answered: Result<(), Refusal>) -> Reply<A>
-    ensures { reply_of result ≡ reply_by (λ _. Done) answered }
+pub(crate) fn done<A: Allocator>(answered: Result<(), Refusal>) -> Reply<A>
+    ensures reply { reply_of result ≡ reply_by (λ _. Done) answered }
+    ensures told { told_of result ≡ Replied (reply_of result) }
 {
     match answered {
         Ok(()) => Reply::Done,

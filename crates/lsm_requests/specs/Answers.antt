@@ -4,7 +4,6 @@ use Rattle.lsm_codec.specs.Keys.{Bytes}
 use Rattle.lsm_codec.specs.Map.{Operation}
 use Rattle.lsm_codec.specs.Words.{word_of}
 use Rattle.lsm_codec.specs.Geometry.{data_blocks_of}
-use Rattle.lsm_store.specs.Machine.{Step}
 use Rattle.lsm_mem.specs.Paging.{Page}
 use Rattle.lsm_device.specs.Calls.{no_calls}
 use Rattle.lsm_device.specs.Medium.{Medium, disk, silent}
@@ -14,14 +13,15 @@ use Rattle.lsm_root.specs.Counted.{CallsMade}
 use Rattle.lsm_open.specs.CrashState.{formatted as empty_store}
 use Rattle.lsm_open.specs.Image.{StandFor}
 use Rattle.lsm_store.specs.declared.asked.At.TheVariants.{Now}
-use Rattle.lsm_store.specs.Calls.{Commit, Get, Scan, Sync, Reply, Done, Number, Rows, Value as Found}
+use Rattle.lsm_store.specs.Calls.{Commit, Get, Scan, Sync, Done, Number, Rows, Value as Found}
 use Rattle.lsm_store.specs.Backing.{StoreView}
 use Rattle.lsm_store.specs.Serving.{Serves, ReopensTo}
-use Rattle.lsm_lives.specs.Calls.{step_of}
-use Rattle.lsm_lives.specs.Replaying.{Replays}
+use Rattle.lsm_lives.specs.Asked.{Asked, Told as LivesTold}
+use Rattle.lsm_lives.specs.Calls.{asked_of}
+use Rattle.lsm_lives.specs.Replaying.{MakesEach}
 use Rattle.lsm_lives.specs.Leading.{AreLed, LifeView}
-use Rattle.lsm_lives.specs.Living.{KeepPromise, steps_in}
-use Rattle.lsm_requests.specs.Steps.{calls_after, told_after, lives_said, told_lives}
+use Rattle.lsm_lives.specs.Living.{KeepPromise, asked_in}
+use Rattle.lsm_requests.specs.Steps.{steps_after, told_after, lives_said, told_lives}
 use Rattle.lsm_requests.specs.Replies.{page_lines, replies_text, lives_text}
 use Rattle.lsm_requests.specs.declared.steps.Told.{Told}
 use Rattle.lsm_language.specs.declared.request.Request.{Request}
@@ -106,9 +106,9 @@ pub record HasRows (from : Bytes) (limit : ℕ) (before after : StoreView) (outp
   pub told : HasLines (page_lines page) output
 
 -- steps were made of the store, and the replies to them are told, each as its line asks for
-pub record HasReplies (made : List Step) (steps : List Told) (before after : StoreView) (output : Output) : Type 0 where
-  pub replies : List Reply
-  pub replays : Replays before made replies after
+pub record HasReplies (asked : List Asked) (steps : List Told) (before after : StoreView) (output : Output) : Type 0 where
+  pub replies : List LivesTold
+  pub makes : MakesEach [] before asked replies after
   pub told : HasLines (replies_text steps replies) output
 
 -- Lives were led on a device in memory of so many sectors with an empty store, and the replies to them are told. They keep
@@ -116,11 +116,11 @@ pub record HasReplies (made : List Step) (steps : List Told) (before after : Sto
 pub record HasLives (sectors log_sectors : ℕ) (lives : List LifeView) (steps : List (List Told)) (output : Output) : Type 0 where
   pub device : Medium
   pub left : Medium
-  pub replies : List (List Reply)
+  pub replies : List (List LivesTold)
   pub size : device.size ≡ sectors
   pub begins : Leaves (StandFor log_sectors empty_store) (disk device)
   pub led : AreLed lives device replies left
-  pub promise : KeepPromise log_sectors [] empty_store (steps_in lives) replies (disk left)
+  pub promise : KeepPromise log_sectors [] empty_store (asked_in lives) replies (disk left)
   pub told : HasLines (lives_text steps replies) output
 
 -- what answers a request
@@ -129,5 +129,5 @@ Gives (request.Format file geometry) = HasFormatted geometry.sectors geometry.lo
 Gives (request.Commit file batch) = OfOpened (HasCommitted batch)
 Gives (request.Get file key) = OfOpened (HasFound key.items)
 Gives (request.Scan file from limit) = OfOpened (HasRows from.items limit)
-Gives (request.Replay file script) = OfOpened (HasReplies (map step_of (calls_after [] script.items)) (told_after [] script.items))
+Gives (request.Replay file script) = OfOpened (HasReplies (map asked_of (steps_after [] script.items)) (told_after [] script.items))
 Gives (request.Lives geometry script) = λ answer. HasLives geometry.sectors geometry.log_sectors (lives_said script.items) (told_lives script.items) answer.output

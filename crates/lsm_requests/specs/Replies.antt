@@ -6,6 +6,7 @@ use Rattle.lsm_codec.specs.Keys.{Bytes}
 use Rattle.lsm_mem.specs.Paging.{Page}
 use Rattle.lsm_store.specs.Calls.{Reply, Number, Done, Value, Rows, Given, Handed, Refused}
 use Rattle.lsm_language.specs.Faults.{refusal_line}
+use Rattle.lsm_lives.specs.Asked.{Told as LivesTold, Replied, Built}
 use Rattle.lsm_requests.specs.declared.steps.Counted.{Counted}
 use Rattle.lsm_requests.specs.declared.steps.Counted.TheVariants as counted
 use Rattle.lsm_requests.specs.declared.steps.Told.{Told}
@@ -58,15 +59,20 @@ reply_line counted (Given job) = job_line job
 reply_line counted (Handed input) = []
 reply_line counted (Refused refusal) = refusal_line refusal
 
+-- what is told of a step
+abbrev pub told_line : Counted → LivesTold → List ℕ
+told_line counted (Replied reply) = reply_line counted reply
+told_line counted (Built number tables) = codes "built " ++ decimal number ++ codes " images " ++ decimal tables ++ 10 ∷ []
+
 -- a line for each step
-abbrev pub replies_text : List Told → List Reply → List ℕ
+abbrev pub replies_text : List Told → List LivesTold → List ℕ
 replies_text [] replies = []
 replies_text (told.NoBatch refusal ∷ steps) replies = refusal_line refusal ++ replies_text steps replies
-replies_text (told.Reply counted ∷ steps) (reply ∷ replies) = reply_line counted reply ++ replies_text steps replies
+replies_text (told.Reply counted ∷ steps) (reply ∷ replies) = told_line counted reply ++ replies_text steps replies
 replies_text (told.Reply counted ∷ steps) [] = replies_text steps []
 
 -- the lines of each life
-abbrev pub lives_text : List (List Told) → List (List Reply) → List ℕ
+abbrev pub lives_text : List (List Told) → List (List LivesTold) → List ℕ
 lives_text [] replies = []
 lives_text (steps ∷ lives) (replies ∷ more) = replies_text steps replies ++ lives_text lives more
 lives_text (steps ∷ lives) [] = lives_text lives []

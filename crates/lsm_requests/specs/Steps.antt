@@ -1,10 +1,11 @@
--- The calls of a script, and how the replies to its steps are told.
+-- The steps of a script, and how the replies to them are told.
 use Rattle.std.specs.Prelude.{ℕ, ◌+◌, ◌*◌, ◌^◌, ◌-◌, min, List, [], ◌∷◌, ◌++◌, length, map, replicate, slice_get, Bool, true, false, Option, Some, None, if◌then◌else◌}
 use Rattle.std.specs.Global.{Global}
 use Rattle.lsm_store.specs.Calls.{Call, Commit, Snapshot}
-use Rattle.lsm_lives.specs.declared.calls.Call.{Call as Asked}
+use Rattle.lsm_lives.specs.declared.calls.Step.{Step as GivenStep}
+use Rattle.lsm_lives.specs.declared.calls.Step.TheVariants as step
 use Rattle.lsm_lives.specs.declared.living.Life.{Life}
-use Rattle.lsm_lives.specs.Calls.{call_of, step_of}
+use Rattle.lsm_lives.specs.Calls.{call_of, asked_of}
 use Rattle.lsm_lives.specs.Leading.{LifeView}
 use Rattle.lsm_language.specs.declared.line.Line.{Line}
 use Rattle.lsm_language.specs.declared.line.Line.TheVariants as line
@@ -23,11 +24,11 @@ counted_by _ = counted.Room
 
 -- ---- steps alone, each after those before it
 
--- the steps that are calls
-abbrev pub calls_after : List (Asked Global) → List Line → List (Asked Global)
-calls_after calls [] = calls
-calls_after calls (line.Call call ∷ lines) = calls_after (calls ++ call ∷ []) lines
-calls_after calls (_ ∷ lines) = calls_after calls lines
+-- the steps that are made
+abbrev pub steps_after : List (GivenStep Global) → List Line → List (GivenStep Global)
+steps_after steps [] = steps
+steps_after steps (line.Call call ∷ lines) = steps_after (steps ++ step.Call call ∷ []) lines
+steps_after steps (_ ∷ lines) = steps_after steps lines
 
 -- how each step is told
 abbrev pub told_after : List Told → List Line → List Told
@@ -55,22 +56,22 @@ abbrev pub mask_said : Kept → ℕ → List Bool
 mask_said All calls = replicate (min (38 + min (128 * calls) (2 ^ 64 - 1)) (2 ^ 64 - 1)) true
 mask_said (Places places) calls = places.items
 
--- a life by its fuse, its calls and its mask
-abbrev pub life_of : Life Global → Option ℕ × List (Asked Global) × List Bool
+-- a life by its fuse, its steps and its mask
+abbrev pub life_of : Life Global → Option ℕ × List (GivenStep Global) × List Bool
 life_of life = (life.fuse, life.steps.items, life.mask.items)
 
 -- a line `crash` makes a life of the lines since the one before it
-abbrev pub lives_after : List (Option ℕ × List (Asked Global) × List Bool) → Option ℕ → List (Asked Global) → List Line
-    → List (Option ℕ × List (Asked Global) × List Bool)
-lives_after lives fuse calls [] = lives
-lives_after lives fuse calls (line.Call call ∷ lines) = lives_after lives fuse (calls ++ call ∷ []) lines
-lives_after lives fuse calls (line.NoBatch refusal ∷ lines) = lives_after lives fuse calls lines
-lives_after lives fuse calls (line.Fuse number ∷ lines) = lives_after lives (Some number) calls lines
-lives_after lives fuse calls (line.Crash kept ∷ lines) = lives_after (lives ++ (fuse, calls, mask_said kept (length calls)) ∷ []) None [] lines
+abbrev pub lives_after : List (Option ℕ × List (GivenStep Global) × List Bool) → Option ℕ → List (GivenStep Global) → List Line
+    → List (Option ℕ × List (GivenStep Global) × List Bool)
+lives_after lives fuse steps [] = lives
+lives_after lives fuse steps (line.Call call ∷ lines) = lives_after lives fuse (steps ++ step.Call call ∷ []) lines
+lives_after lives fuse steps (line.NoBatch refusal ∷ lines) = lives_after lives fuse steps lines
+lives_after lives fuse steps (line.Fuse number ∷ lines) = lives_after lives (Some number) steps lines
+lives_after lives fuse steps (line.Crash kept ∷ lines) = lives_after (lives ++ (fuse, steps, mask_said kept (length steps)) ∷ []) None [] lines
 
 -- as what a life of a store is asked to be
-abbrev pub view_of : Option ℕ × List (Asked Global) × List Bool → LifeView
-view_of (fuse, calls, mask) = record { fuse = fuse; steps = map step_of calls; mask = mask }
+abbrev pub view_of : Option ℕ × List (GivenStep Global) × List Bool → LifeView
+view_of (fuse, steps, mask) = record { fuse = fuse; steps = map asked_of steps; mask = mask }
 
 -- the lives of a script
 abbrev pub lives_said : List Line → List LifeView

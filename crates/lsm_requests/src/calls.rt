@@ -1,8 +1,8 @@
 //! The calls of the store that a request makes, on a store in a file.
 
 ghost use Rattle.std.specs.Prelude.{[], map, IfOk};
-ghost use Rattle.lsm_lives.specs.Calls.{step_of};
-ghost use Rattle.lsm_requests.specs.Steps.{calls_after, lives_said, told_after, told_lives};
+ghost use Rattle.lsm_lives.specs.Calls.{asked_of};
+ghost use Rattle.lsm_requests.specs.Steps.{steps_after, lives_said, told_after, told_lives};
 ghost use Rattle.lsm_requests.specs.Answers.{Gives, HasFormatted, HasCommitted, HasFound, HasLives, HasRows, HasReplies, OfOpened, WasOpened};
 
 use crate::answer::{Answer, Output};
@@ -17,12 +17,13 @@ use lsm_language::request::Request;
 use lsm_store::{At, Store};
 use std::alloc::Global;
 use std::fs::{File, Files};
+use std::thread::Threads;
 
 /// The blocks that an opened store may keep in memory.
 const CACHE: u32 = 256;
 
 /// Does what is asked for.
-pub fn answer<R: Files<File = File> + AllocGlobal>(
+pub fn answer<R: Files<File = File> + AllocGlobal + Threads + Sync>(
     rt: &R,
     request: Request<'_>,
 ) -> Result<Answer, Refusal>
@@ -34,7 +35,7 @@ pub fn answer<R: Files<File = File> + AllocGlobal>(
         Request::Get { file, key } => get(rt, file, &key),
         Request::Scan { file, from, limit } => scan(rt, file, &from, limit),
         Request::Replay { file, script } => replay(rt, file, script),
-        Request::Lives { geometry, script } => lives(rt.alloc(), geometry, script),
+        Request::Lives { geometry, script } => lives(rt, rt.alloc(), geometry, script),
     }
 }
 
@@ -110,16 +111,16 @@ fn find<D: Device>(alloc: Global, store: &mut Store<D>, key: &[u8]) -> Result<Ou
     }
 }
 
-fn replay<R: Files<File = File> + AllocGlobal>(
+fn replay<R: Files<File = File> + AllocGlobal + Threads + Sync>(
     rt: &R,
     file: &str,
     script: Vec<Line>,
 ) -> Result<Answer, Refusal>
-    ensures { IfOk result (OfOpened (HasReplies (map step_of (calls_after [] script.items)) (told_after [] script.items))) }
+    ensures { IfOk result (OfOpened (HasReplies (map asked_of (steps_after [] script.items)) (told_after [] script.items))) }
 {
     let steps = steps_of(rt.alloc(), script)?;
     let mut store = open(rt, file)?;
-    let output = runs::replay(rt.alloc(), &mut store, &steps)?;
+    let output = runs::replay(rt, rt.alloc(), &mut store, &steps)?;
     Ok(Answer::of_store(output, store))
 }
 
@@ -151,9 +152,14 @@ fn list<D: Device>(
     Ok(Output::Lines(text))
 }
 
-fn lives(alloc: Global, geometry: Geometry, script: Vec<Line>) -> Result<Answer, Refusal>
+fn lives<R: Threads + Sync>(
+    rt: &R,
+    alloc: Global,
+    geometry: Geometry,
+    script: Vec<Line>,
+) -> Result<Answer, Refusal>
     ensures { IfOk result (λ answer. HasLives geometry.sectors geometry.log_sectors (lives_said script.items) (told_lives script.items) answer.output) }
 {
-    let output = runs::lives(alloc, geometry, script)?;
+    let output = runs::lives(rt, alloc, geometry, script)?;
     Ok(Answer { output, file: None })
 }

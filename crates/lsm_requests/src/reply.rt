@@ -1,18 +1,18 @@
 //! Replies as lines.
 
-ghost use Rattle.std.specs.Prelude.{◌≡◌, ◌++◌, map, IfErr, OnOk, string_bytes};
+ghost use Rattle.std.specs.Prelude.{◌≡◌, ◌++◌, map, option_map, IfErr, OnOk, string_bytes};
 ghost use Rattle.lsm_device.specs.declared.refusal.Refusal.TheVariants.{NoMemory};
-ghost use Rattle.lsm_lives.specs.Calls.{reply_of};
-ghost use Rattle.lsm_lives.specs.Living.{replies_of};
+ghost use Rattle.lsm_lives.specs.Calls.{told_of};
+ghost use Rattle.lsm_lives.specs.Living.{told_by};
 ghost use Rattle.lsm_language.specs.Faults.{refusal_line};
-ghost use Rattle.lsm_requests.specs.Replies.{counted_word, lives_text, next_line, page_lines, replies_text, reply_line, rows_line};
+ghost use Rattle.lsm_requests.specs.Replies.{counted_word, lives_text, next_line, page_lines, replies_text, told_line, job_line, rows_line};
 
 use crate::steps::{Counted, Told};
 use lsm_codec::word;
 use lsm_device::Refusal;
 use lsm_language::refused::refusal_text;
 use lsm_lives::Reply;
-use lsm_store::Page;
+use lsm_store::{Page, TakenJob};
 use std::alloc::Global;
 use std::fmt::Write;
 
@@ -23,7 +23,7 @@ pub fn push_replies(
     told: &[Told],
     replies: &[Reply],
 ) -> Result<(), Refusal>
-    ensures text { OnOk result (string_bytes text.new ≡ string_bytes text.old ++ replies_text told.now (map reply_of replies.now)) }
+    ensures text { OnOk result (string_bytes text.new ≡ string_bytes text.old ++ replies_text told.now (map told_of replies.now)) }
     ensures refused { IfErr result (λ e. e ≡ NoMemory) }
 {
     let mut rest = replies;
@@ -49,7 +49,7 @@ pub fn push_lives(
     replies: &[Vec<Reply>],
 ) -> Result<(), Refusal>
     ensures text { OnOk result (string_bytes text.new ≡ string_bytes text.old
-        ++ lives_text (map (λ t. t.items) told.now) (replies_of replies.now)) }
+        ++ lives_text (map (λ t. t.items) told.now) (told_by replies.now)) }
     ensures refused { IfErr result (λ e. e ≡ NoMemory) }
 {
     let mut rest = replies;
@@ -80,7 +80,7 @@ fn push_reply(
     counted: Counted,
     reply: &Reply,
 ) -> Result<(), Refusal>
-    ensures text { OnOk result (string_bytes text.new ≡ string_bytes text.old ++ reply_line counted (reply_of reply.now)) }
+    ensures text { OnOk result (string_bytes text.new ≡ string_bytes text.old ++ told_line counted (told_of reply.now)) }
     ensures refused { IfErr result (λ e. e ≡ NoMemory) }
 {
     match reply {
@@ -95,7 +95,32 @@ fn push_reply(
         }
         Reply::Value(None) => text.push_str("absent\n")?,
         Reply::Page(page) => push_rows(alloc, text, page)?,
+        Reply::Taken(job) => push_job(text, *job)?,
+        Reply::Built { result, tables } => writeln!(text, "built {result} images {tables}")?,
         Reply::Refused(refusal) => push_refusal(text, *refusal)?,
+    }
+    Ok(())
+}
+
+// A job that was taken, if there was one: a flush, or by the level of its upper tables.
+fn push_job(text: &mut String, job: Option<TakenJob>) -> Result<(), Refusal>
+    ensures text { OnOk result (string_bytes text.new ≡ string_bytes text.old ++ job_line (option_map (λ j. (j.number, j.level)) job)) }
+    ensures refused { IfErr result (λ e. e ≡ NoMemory) }
+{
+    match job {
+        None => text.push_str("none\n")?,
+        Some(
+            TakenJob {
+                number,
+                level: None,
+            },
+        ) => writeln!(text, "job {number} flush")?,
+        Some(
+            TakenJob {
+                number,
+                level: Some(level),
+            },
+        ) => writeln!(text, "job {number} level {level}")?,
     }
     Ok(())
 }

@@ -7,7 +7,7 @@ ghost use Rattle.lsm_device.specs.Memory.{medium_in};
 ghost use Rattle.lsm_device.specs.Outcomes.{Leaves};
 ghost use Rattle.lsm_open.specs.CrashState.{formatted as empty_store};
 ghost use Rattle.lsm_open.specs.Image.{StandFor};
-ghost use Rattle.lsm_lives.specs.Calls.{step_of};
+ghost use Rattle.lsm_lives.specs.Calls.{asked_of};
 ghost use Rattle.lsm_requests.specs.Steps.{lives_said, told_lives};
 ghost use Rattle.lsm_requests.specs.Answers.{HasLives, HasReplies};
 
@@ -19,17 +19,19 @@ use lsm_language::geometry::Geometry;
 use lsm_language::line::Line;
 use lsm_store::Store;
 use std::alloc::{AllocError, Global};
+use std::thread::Threads;
 
 /// Makes steps on a store. A line answers each. It is refused for want of memory alone, which may be after the steps.
-pub fn replay<D: Device>(
+pub fn replay<R: Threads + Sync, D: Device>(
+    rt: &R,
     alloc: Global,
     store: &mut Store<D>,
     steps: &Steps,
 ) -> Result<Output, Refusal>
-    ensures tells { IfOk result (HasReplies (map step_of steps.now.calls.items) steps.now.told.items store.old store.new) }
+    ensures tells { IfOk result (HasReplies (map asked_of steps.now.steps.items) steps.now.told.items store.old store.new) }
     ensures refused { IfErr result (λ e. e ≡ NoMemory) }
 {
-    let replies = lsm_lives::replay(alloc, store, &steps.calls)?;
+    let replies = lsm_lives::replay(rt, alloc, store, &steps.steps)?;
     let mut text = String::new(alloc);
     push_replies(alloc, &mut text, &steps.told, &replies)?;
     Ok(Output::Lines(text))
@@ -37,13 +39,18 @@ pub fn replay<D: Device>(
 
 /// Makes the lives of a script on an empty store in memory. A line answers each opening and each step. It is refused
 /// for want of memory alone.
-pub fn lives(alloc: Global, geometry: Geometry, script: Vec<Line>) -> Result<Output, Refusal>
+pub fn lives<R: Threads + Sync>(
+    rt: &R,
+    alloc: Global,
+    geometry: Geometry,
+    script: Vec<Line>,
+) -> Result<Output, Refusal>
     ensures tells { IfOk result (HasLives geometry.sectors geometry.log_sectors (lives_said script.items) (told_lives script.items)) }
     ensures refused { IfErr result (λ e. e ≡ NoMemory) }
 {
     let Lives { lives, told } = lives_of(alloc, script)?;
     let device = formatted(alloc, geometry)?;
-    let replies = match lsm_lives::lives(alloc, device, &lives) {
+    let replies = match lsm_lives::lives(rt, alloc, device, &lives) {
         Ok((replies, _)) => replies,
         Err((refusal, _)) => return Err(refusal),
     };

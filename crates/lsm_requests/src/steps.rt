@@ -1,13 +1,14 @@
-//! Scripts as calls of the store, and how their replies are told.
+//! Scripts as steps of the store, and how their replies are told.
 
 ghost use Rattle.std.specs.Prelude.{◌≡◌, ◌∷◌, ◌++◌, [], map, None, IfOk, OnOk, length};
 ghost use Rattle.lsm_lives.specs.Calls.{call_of};
+ghost use Rattle.lsm_lives.specs.declared.calls.Step.TheVariants as step;
 ghost use Rattle.lsm_requests.specs.declared.steps.Told.TheVariants.{Reply};
-ghost use Rattle.lsm_requests.specs.Steps.{calls_after, told_after, counted_by, ended, mask_said, life_of, lives_after, opened, told_lives};
+ghost use Rattle.lsm_requests.specs.Steps.{steps_after, told_after, counted_by, ended, mask_said, life_of, lives_after, opened, told_lives};
 
 use lsm_device::Refusal;
 use lsm_language::line::{Kept, Line};
-use lsm_lives::{Call, Life};
+use lsm_lives::{Call, Life, Step};
 use std::alloc::{AllocError, Global};
 
 /// The most writes that an opening makes.
@@ -38,37 +39,37 @@ pub enum Told {
     NoBatch(Refusal),
 }
 
-/// Calls, and how the steps are told that they stand for.
+/// Steps to be made, and how the steps of a script are told that they stand for.
 #[derive(Drop)]
 pub struct Steps {
-    pub calls: Vec<Call>,
+    pub steps: Vec<Step>,
     pub told: Vec<Told>,
 }
 
 impl Steps {
     fn new(alloc: Global) -> Steps
-        ensures { (result.calls.items ≡ []) × (result.told.items ≡ []) }
+        ensures { (result.steps.items ≡ []) × (result.told.items ≡ []) }
     {
         Steps {
-            calls: Vec::new(alloc),
+            steps: Vec::new(alloc),
             told: Vec::new(alloc),
         }
     }
 
     // Adds a call, which is told by its reply.
     fn add(&mut self, call: Call) -> Result<(), AllocError>
-        ensures { OnOk result ((self.new.calls.items ≡ self.old.calls.items ++ call ∷ [])
+        ensures { OnOk result ((self.new.steps.items ≡ self.old.steps.items ++ step.Call call ∷ [])
             × (self.new.told.items ≡ self.old.told.items ++ Reply (counted_by (call_of call)) ∷ [])) }
     {
         self.told.push(Told::Reply(counted_in(&call)))?;
-        self.calls.push(call)?;
+        self.steps.push(Step::Call(call))?;
         Ok(())
     }
 }
 
 /// The steps of a script that has steps alone.
 pub fn steps_of(alloc: Global, lines: Vec<Line>) -> Result<Steps, AllocError>
-    ensures calls { IfOk result (λ steps. steps.calls.items ≡ calls_after [] lines.items) }
+    ensures steps { IfOk result (λ steps. steps.steps.items ≡ steps_after [] lines.items) }
     ensures told { IfOk result (λ steps. steps.told.items ≡ told_after [] lines.items) }
 {
     let mut steps = Steps::new(alloc);
@@ -93,15 +94,15 @@ impl Lives {
     // Ends a life by a crash, behind the others.
     fn end(&mut self, alloc: Global, begun: Begun, kept: Kept) -> Result<(), AllocError>
         ensures lives { OnOk result (map life_of self.new.lives.items ≡ map life_of self.old.lives.items
-            ++ (begun.fuse, begun.steps.calls.items, mask_said kept (length begun.steps.calls.items)) ∷ []) }
+            ++ (begun.fuse, begun.steps.steps.items, mask_said kept (length begun.steps.steps.items)) ∷ []) }
         ensures told { OnOk result (map (λ told. told.items) self.new.told.items ≡ map (λ told. told.items) self.old.told.items
             ++ begun.steps.told.items ∷ []) }
     {
         let Begun { fuse, steps } = begun;
-        let mask = mask_of(alloc, kept, steps.calls.len())?;
+        let mask = mask_of(alloc, kept, steps.steps.len())?;
         self.lives.push(Life {
             fuse,
-            steps: steps.calls,
+            steps: steps.steps,
             mask,
         })?;
         self.told.push(steps.told)?;
@@ -118,7 +119,7 @@ struct Begun {
 
 impl Begun {
     fn new(alloc: Global) -> Result<Begun, AllocError>
-        ensures { IfOk result (λ begun. (begun.fuse ≡ None) × (begun.steps.calls.items ≡ []) × (begun.steps.told.items ≡ opened)) }
+        ensures { IfOk result (λ begun. (begun.fuse ≡ None) × (begun.steps.steps.items ≡ []) × (begun.steps.told.items ≡ opened)) }
     {
         let mut steps = Steps::new(alloc);
         steps.told.push(Told::Reply(Counted::Opened))?;

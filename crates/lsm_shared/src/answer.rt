@@ -22,6 +22,11 @@ pub(crate) fn answer_of<A: Allocator + Clone>(reply: &Reply<A>) -> Result<Reply<
         Reply::Value(None) => Ok(Reply::Value(None)),
         Reply::Value(Some(value)) => Ok(Reply::Value(Some(value.clone()?))),
         Reply::Page(page) => Ok(Reply::Page(page.copy()?)),
+        Reply::Taken(job) => Ok(Reply::Taken(*job)),
+        Reply::Built { result, tables } => Ok(Reply::Built {
+            result: *result,
+            tables: *tables,
+        }),
         Reply::Refused(Refusal::NoMemory) => Err(Refusal::NoMemory),
         Reply::Refused(refusal) => Ok(Reply::Refused(*refusal)),
     }

@@ -1,6 +1,7 @@
 // One call in a history.
 ghost use Rattle.std.specs.Prelude.{◌≡◌};
-ghost use Rattle.lsm_lives.specs.Calls.{step_of, reply_of};
+ghost use Rattle.lsm_lives.specs.Calls.{call_of, reply_of};
+ghost use Rattle.lsm_store.specs.Machine.{Called};
 ghost use Rattle.lsm_trail.specs.History.{event};
 
 use lsm_lives::{Call, Reply};
@@ -18,17 +19,18 @@ pub struct Entry<A: Allocator = Global> {
 impl<A: Allocator> Model for Entry<A> {
     ghost use Rattle.std.specs.Coded.{codes};
     ghost use Rattle.lsm_trail.specs.History.{Event, event};
-    ghost use Rattle.lsm_lives.specs.Calls.{step_of, reply_of};
+    ghost use Rattle.lsm_lives.specs.Calls.{call_of, reply_of};
+    ghost use Rattle.lsm_store.specs.Machine.{Called};
 
     ghost Value = { Event };
 
-    ghost view = { λ e. event e.client (step_of e.call) (reply_of e.reply) };
+    ghost view = { λ e. event e.client (Called (call_of e.call)) (reply_of e.reply) };
 }
 
 impl<A: Allocator> Entry<A> {
     /// The entry of a client's call.
     pub fn new(client: u32, call: Call<A>, reply: Reply<A>) -> Entry<A>
-        ensures { result ≡ event client (step_of call) (reply_of reply) }
+        ensures { result ≡ event client (Called (call_of call)) (reply_of reply) }
     {
         Entry {
             client,
@@ -46,7 +48,7 @@ impl<A: Allocator> Entry<A> {
 
     /// The call.
     pub fn call(&self) -> &Call<A>
-        ensures { step_of result.now ≡ self.now.step }
+        ensures { Called (call_of result.now) ≡ self.now.step }
     {
         &self.call
     }

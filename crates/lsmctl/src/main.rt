@@ -8,31 +8,34 @@ use lsm_language::fault::{Fault, Usage};
 use lsm_requests::ending::conclude;
 use std::alloc::AllocError;
 use std::env;
-use std::io::ErrorKind;
+use std::env::Env;
+use std::fs::{File, Files};
+use std::io::{ErrorKind, Read, Write};
 use std::process::ExitCode;
+use std::thread::Threads;
 
 fn main(rt: HostRuntime) -> ExitCode {
-    ExitCode::from(status(&rt))
+    let (mut input, mut output, mut errors) = (rt.stdin(), rt.stdout(), rt.stderr());
+    ExitCode::from(status(&rt, &mut input, &mut output, &mut errors))
 }
 
 // Runs the program on the words after its name.
-fn status(rt: &HostRuntime) -> u8
+fn status<R: Files<File = File> + Env + AllocGlobal + Threads + Sync, I: Read, O: Write, E: Write>(
+    rt: &R,
+    input: &mut I,
+    output: &mut O,
+    errors: &mut E,
+) -> u8
     ensures { result ≤ 2 }
 {
     match words_of(rt) {
-        Ok(words) => run(
-            rt,
-            words.as_slice(),
-            &mut rt.stdin(),
-            &mut rt.stdout(),
-            &mut rt.stderr(),
-        ),
-        Err(fault) => conclude(&Err(fault), &mut rt.stdout(), &mut rt.stderr()),
+        Ok(words) => run(rt, words.as_slice(), input, output, errors),
+        Err(fault) => conclude(&Err(fault), output, errors),
     }
 }
 
 // The words after the program's name, each of which has to be a text.
-fn words_of(rt: &HostRuntime) -> Result<Vec<String>, Fault> {
+fn words_of<R: Env + AllocGlobal>(rt: &R) -> Result<Vec<String>, Fault> {
     match env::args(rt) {
         Ok(words) => Ok(words.skip(1).collect(rt.alloc())?),
         Err(error) if error.kind() == ErrorKind::OutOfMemory => Err(Fault::from(AllocError)),

@@ -2,20 +2,22 @@ use Rattle.std.proofs.Common.{◌<◌, ◌+◌, List, [], ◌∷◌, ◌++◌, t
 use Rattle.std.specs.declared.vec.Vec.{Vec}
 use Rattle.std.proofs.lemmas.List.{take_all, length-set}
 use Rattle.lsm_device.specs.Memory.{medium_in}
-use Rattle.lsm_store.specs.Calls.{Reply}
-use Rattle.lsm_lives.specs.declared.calls.Reply.{Reply as Told}
+use Rattle.lsm_lives.specs.declared.calls.Reply.{Reply as GivenReply}
 use Rattle.lsm_lives.specs.declared.living.Life.{Life as Given}
-use Rattle.lsm_lives.specs.Calls.{reply_of}
+use Rattle.lsm_lives.specs.Asked.{Told}
+use Rattle.lsm_lives.specs.Calls.{told_of}
 use Rattle.lsm_lives.specs.Leading.{LifeView, life_of, AreLed}
-use Rattle.lsm_lives.specs.Living.{replies_of}
-use Rattle.lsm_lives.proofs.Lifetimes.{length-places, places_left, lives_more, replies_more, led_more, some_life}
+use Rattle.lsm_lives.specs.Living.{told_by}
+use Rattle.lsm_lives.proofs.Lifetimes.{length-places, places_left, lives_more, replies_more, led_more, some_life, room_at}
 use Rattle.lsm_lives.proofs.living.live_each.Goals as goal
 
 pub loop-index-init : goal.loop-index-init
 loop-index-init g c = record {
-  have = c.requires;
+  have = c.requires.places;
   within = omega arith;
-  same_length = length-places c.args.lives.now c.args.places.now.items c.requires;
+  none_built = c.requires.results.0;
+  same_places = refl;
+  same_length = length-places c.args.lives.now c.args.places.now.items c.requires.places;
   none = λ _. refl;
   disarmed = λ h. absurd (omega arith);
   led = refl;
@@ -36,13 +38,15 @@ loop-index-preserved g c =
     record {
       have = places_left lives places i life new in_lives in_places c.index-lives-index.is inv.have;
       within = omega arith;
+      none_built = c.live-device.ensures.let_go.0;
+      same_places = c.live-device.ensures.let_go.1 ∙ inv.same_places;
       same_length = length-set places i new ∙ inv.same_length;
       none = λ h. absurd (omega arith);
       disarmed = λ _. c.live-device.ensures.disarmed;
-      led = subst (λ (l : List LifeView). AreLed l before (replies_of (take (i + 1) (set places i new))) end) (sym (lives_more lives i life in_lives c.index-lives-index.is))
-          (subst (λ (rs : List (List Reply)). AreLed (map life_of (take i lives) ++ life_of life ∷ []) before rs end) (sym (replies_more places i new in_places))
-          (led_more (life_of life) (map reply_of new.items) (medium_in c.loop-index.device) end c.live-device.ensures.led
-          (map life_of (take i lives)) before (replies_of (take i places)) inv.led));
+      led = subst (λ (l : List LifeView). AreLed l before (told_by (take (i + 1) (set places i new))) end) (sym (lives_more lives i life in_lives c.index-lives-index.is))
+          (subst (λ (rs : List (List Told)). AreLed (map life_of (take i lives) ++ life_of life ∷ []) before rs end) (sym (replies_more places i new in_places))
+          (led_more (life_of life) (map told_of new.items) (medium_in c.loop-index.device) end c.live-device.ensures.led
+          (map life_of (take i lives)) before (told_by (take i places)) inv.led));
     }
 
 pub returns-clause-disarmed : goal.returns-clause-disarmed
@@ -55,6 +59,6 @@ returns-clause-led g c =
     let places = c.loop-index.places.items in
     let before = medium_in c.args.device in
     let end = medium_in c.loop-index.device in
-    subst (λ (l : List (Given g.row.A.Denot)). AreLed (map life_of l) before (replies_of places) end) (take_all c.loop-index.index lives (omega arith))
-    (subst (λ (v : List (Vec (Told g.row.A.Denot) g.row.A.Denot)). AreLed (map life_of (take c.loop-index.index lives)) before (replies_of v) end)
+    subst (λ (l : List (Given g.row.A.Denot)). AreLed (map life_of l) before (told_by places) end) (take_all c.loop-index.index lives (omega arith))
+    (subst (λ (v : List (Vec (GivenReply g.row.A.Denot) g.row.A.Denot)). AreLed (map life_of (take c.loop-index.index lives)) before (told_by v) end)
     (take_all c.loop-index.index places (omega (arith, inv.same_length))) inv.led)

@@ -1,10 +1,7 @@
 use Rattle.lsm_device.specs.Memory.{medium_in}
-use Rattle.lsm_lives.specs.Living.{replies_of}
+use Rattle.lsm_lives.specs.Living.{told_by}
 use Rattle.lsm_lives.proofs.Lifetimes.{led_keep_promise}
 use Rattle.lsm_lives.proofs.living.lives.Goals as goal
-
-pub live_each-device-requires : goal.live_each-device-requires
-live_each-device-requires g c = c.in-Ok.ensures
 
 pub returns-clause-led : goal.returns-clause-led
 returns-clause-led g c = c.live_each-device.ensures.led
@@ -14,5 +11,5 @@ returns-clause-disarmed g c = λ some. c.live_each-device.ensures.disarmed some
 
 pub returns-clause-promise : goal.returns-clause-promise
 returns-clause-promise g c = λ log_sectors before opened was leaves.
-    led_keep_promise c.args.lives.now (medium_in c.args.device) (replies_of c.live_each-device.new.places.items) (medium_in c.live_each-device.result) c.live_each-device.ensures.led
+    led_keep_promise c.args.lives.now (medium_in c.args.device) (told_by c.live_each-device.new.places.items) (medium_in c.live_each-device.result) c.live_each-device.ensures.led
     log_sectors before opened was leaves

@@ -1,12 +1,12 @@
-use Rattle.std.proofs.Common.{List, ◌++◌, map, ap, sym, subst, ◌∙◌}
-use Rattle.lsm_store.specs.Calls.{Reply}
-use Rattle.lsm_lives.specs.declared.calls.Reply.{Reply as Told}
-use Rattle.lsm_lives.specs.Calls.{step_of, reply_of}
-use Rattle.lsm_lives.specs.Replaying.{Replays}
+use Rattle.std.proofs.Common.{List, [], ◌++◌, map, ap, sym, subst, ◌∙◌, refl}
+use Rattle.lsm_lives.specs.Asked.{Told}
+use Rattle.lsm_lives.specs.declared.calls.Reply.{Reply as GivenReply}
+use Rattle.lsm_lives.specs.Calls.{asked_of, told_of}
+use Rattle.lsm_lives.specs.Replaying.{MakesEach}
 use Rattle.lsm_lives.proofs.replaying.replay.Goals as goal
 
 pub returns-clause-replays : goal.returns-clause-replays
 returns-clause-replays g c =
-    let more = c.serve_each.ensures.more in
-    let added = c.serve_each.ensures.added ∙ ap (λ (given : List (Told g.row.A.Denot)). map reply_of given ++ more) c.in_ok-replies.ensures.items in
-    subst (λ (replies : List Reply). Replays c.args.store.now (map step_of c.args.steps.now) replies c.serve_each.new.store) (sym added) c.serve_each.ensures.replays
+    let adds = c.make_each.ensures.adds in
+    let added = adds.added ∙ ap (λ (given : List (GivenReply g.row.A.Denot)). map told_of given ++ adds.more) c.in_ok-replies.ensures.items in
+    subst (λ (told : List Told). MakesEach [] c.args.store.now (map asked_of c.args.steps.now) told c.make_each.new.store) (sym added) adds.makes

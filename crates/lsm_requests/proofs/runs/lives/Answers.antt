@@ -1,15 +1,15 @@
 use Rattle.std.proofs.Common.{[], rules}
 use Rattle.lsm_device.specs.Memory.{medium_in}
 use Rattle.lsm_open.specs.CrashState.{formatted as empty_store}
-use Rattle.lsm_lives.specs.Living.{replies_of}
+use Rattle.lsm_lives.specs.Living.{told_by}
 use Rattle.lsm_requests.proofs.LifeLaws.{IsAfter-nothing, led_of-lines, promise_of-lines}
 use Rattle.lsm_requests.proofs.runs.lives.Goals as goal
 
 pub returns-clause-tells : goal.returns-clause-tells
-returns-clause-tells c = record {
+returns-clause-tells g c = record {
   device = medium_in c.in_ok-device.device;
   left = medium_in c.in-Ok.field-0-1;
-  replies = replies_of c.in-Ok.replies.items;
+  replies = told_by c.in-Ok.replies.items;
   size = c.in_ok-device.ensures.size;
   begins = c.in_ok-device.ensures.leaves;
   led = led_of-lines _ c.in_ok-lives.field-0.lives.items c.args.script.items _ _ _ (search rules) c.in_ok-lives.ensures.lives c.in-Ok.ensures.led;

@@ -4,7 +4,7 @@ use Rattle.lsm_requests.specs.Steps.{ended, life_of, lives_after, opened, told_l
 use Rattle.lsm_requests.proofs.steps.lives_of.Given as goal
 
 abbrev pub invariant-loop-line : goal.invariant-loop-line
-invariant-loop-line l = (lives_after (map life_of l.lives.lives.items) l.begun.fuse l.begun.steps.calls.items (into_iter_items l.line-iterator)
+invariant-loop-line l = (lives_after (map life_of l.lives.lives.items) l.begun.fuse l.begun.steps.steps.items (into_iter_items l.line-iterator)
     ≡ lives_after [] None [] (ended l.fn.lines.items))
     × (told_lives_after (map (λ told. told.items) l.lives.told.items) l.begun.steps.told.items (into_iter_items l.line-iterator)
     ≡ told_lives_after [] opened (ended l.fn.lines.items))
