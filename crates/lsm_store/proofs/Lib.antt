@@ -95,3 +95,4 @@ pub mod ServedResults
 pub mod AcceptedResults
 pub mod ServedSteps
 pub mod OpenedMachines
+pub mod Stats

@@ -29,6 +29,7 @@ pub mod OpenedWork
 pub mod StoredTables
 pub mod InstalledJobs
 pub mod Accounts
+pub mod Stats
 pub mod TableLimits
 pub mod InstalledMemory
 pub mod Reading

@@ -33,8 +33,8 @@ fn count_tables<A: Allocator>(runs: &[Run<A>]) -> usize
     count
 }
 
-// How many tables live.
-fn count_live<A: Allocator>(levels: &Levels<A>) -> usize
+/// How many tables live.
+pub(crate) fn count_live<A: Allocator>(levels: &Levels<A>) -> usize
     requires { length (all_tables (places levels.now)) ≤ 2 ^ 63 + 1 }
     ensures { result ≡ length (all_tables (places levels.now)) }
 {

@@ -18,6 +18,7 @@ mod reading;
 mod rotation;
 mod serve;
 mod snapshots;
+mod stat;
 mod store;
 mod stored_law;
 mod told;
@@ -37,6 +38,7 @@ pub use law::{
 pub use lsm_jobs::TakenJob;
 pub use lsm_mem::{Page, Row};
 pub use opened_law::{opened_work_is_sound, openings_are_opened};
+pub use stat::Stat;
 pub use store::Store;
 pub use stored_law::{
     commits_keep_tables, free_writes_keep_tables, installs_keep_tables, jobs_keep_tables,

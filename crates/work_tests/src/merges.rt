@@ -3,6 +3,7 @@
 use crate::working::{Answer, Line, Piece, begun, reopened};
 use lsm_device::Refusal;
 use lsm_store::At::Now;
+use lsm_store::Stat;
 
 /// The first merge takes the put of 61, and the second one the delete with it: nothing is left of both.
 const WITH_A_DELETE: [Line; 18] = [
@@ -42,6 +43,25 @@ fn a_delete_goes_with_what_it_hides(rt: HostRuntime) {
     store.play(&rt, &[(Piece::Install(7), Answer::Done)]);
     store.play(&rt, &WITHOUT_IT);
     reopened(&rt, rt.alloc(), store).play(&rt, &WITHOUT_IT);
+}
+
+/// What is there once the second merge is installed: the runs of jobs 3, 4 and 6.
+const NUMBERS: Stat = Stat {
+    generation: 14,
+    batches: 5,
+    room: 128,
+    waiting: false,
+    runs: 3,
+    tables: 3,
+    free_blocks: 947,
+};
+
+#[test]
+fn the_numbers_after_merges(rt: HostRuntime) {
+    let mut store = begun(&rt, rt.alloc());
+    store.play(&rt, &WITH_A_DELETE);
+    store.play(&rt, &[(Piece::Install(7), Answer::Done)]);
+    store.play(&rt, &[(Piece::Stat, Answer::Numbers(NUMBERS))]);
 }
 
 /// A flush and a merge at the same time. The result of the flush isn't the merge's.

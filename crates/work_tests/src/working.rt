@@ -4,7 +4,7 @@ use lsm_codec::{Batch, Op};
 use lsm_device::{MemDevice, Refusal};
 use lsm_merge::{Built, build};
 use lsm_open::format;
-use lsm_store::{At, Page, Store, TakenJob};
+use lsm_store::{At, Page, Stat, Store, TakenJob};
 use std::alloc::{Allocator, Global};
 use std::process::Abort;
 use std::thread::Threads;
@@ -28,6 +28,7 @@ pub(crate) enum Piece {
     /// Scans from a key on, for one row.
     Scan(At, u8),
     Room,
+    Stat,
     Take,
     Read(u64),
     Build(u64),
@@ -62,6 +63,7 @@ pub(crate) enum Answer {
     Built(usize),
     /// No result was built.
     NoResult,
+    Numbers(Stat),
     Refused(Refusal),
 }
 
@@ -254,6 +256,7 @@ impl<A: Allocator + Clone + Send + Sync> Working<A> {
             Piece::Get(at, key) => self.get(at, key),
             Piece::Scan(at, from) => self.scan(at, from),
             Piece::Room => Ok(Answer::Number(self.store.log_room()?.into())),
+            Piece::Stat => Ok(Answer::Numbers(self.store.stat()?)),
             Piece::Take => Ok(told_job(self.store.job_take()?)),
             Piece::Read(job) => Ok(Answer::Left(self.store.job_read(job)?)),
             Piece::Build(job) => self.build(rt, job),
