@@ -51,7 +51,7 @@ module _ (before : List (List Operation)) (opened : CrashState) (was : IsAfter b
       (one_opening opened left found)
 
   one_life : (log_sectors : ℕ) (steps : List Step) (replies : List Reply) (left : CrashState) → Life log_sectors opened [] steps replies left → IsKeptBy before steps replies left
-  one_life log_sectors steps (Number n ∷ replies) left life = from_beginning n steps replies left ((promise log_sectors opened life.machine steps replies life.answered.2 life.answered.3).between left life.crash)
+  one_life log_sectors steps (Number n ∷ replies) left life = from_beginning n steps replies left ((promise log_sectors opened life.machine steps replies life.answered.2.state life.answered.3).between left life.crash)
   one_life log_sectors steps (Refused e ∷ replies) left life = record { kept = before; by_life = refl; after = same_after left life.crash }
   one_life log_sectors steps [] left life = absurd life.answered
   one_life log_sectors steps (Done ∷ replies) left life = absurd life.answered

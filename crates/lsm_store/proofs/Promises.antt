@@ -1,5 +1,5 @@
 -- After any steps a crash leaves a beginning of the accepted batches.
-use Rattle.std.proofs.Common.{◌≡◌, ◌≤◌, ⊎_elim, ℕ, ◌+◌, Bool, true, false, cond, List, [], ◌∷◌, ◌++◌, length, Option, Some, None, is_some, refl, ap, sym, subst, ◌∙◌, arith}
+use Rattle.std.proofs.Common.{◌≡◌, ◌≤◌, ⊎_elim, ℕ, Bool, true, false, cond, List, [], ◌∷◌, ◌++◌, length, Option, Some, None, is_some, refl, ap, sym, subst, ◌∙◌, arith}
 use Rattle.std.specs.Prelude.{Contains}
 use Rattle.std.specs.List.{AllByRecursion}
 use Rattle.std.proofs.Math.Nat.{add-zero}
@@ -152,7 +152,7 @@ module _ (opened : CrashState) (done : List (List Operation)) (known : ℕ) (fli
       (unrefused_runs (is_some x.state.stopped) (running_refusal x piece))
       (λ added. kept_present opened done known flight x.state here left (present_among opened done known flight x.state here (work_left_besides x piece) left (work_present x piece) added)) found
 
--- a store that was just opened
+-- the state of a store that was just opened
 starts : (log_sectors : ℕ) (opened : CrashState) → IsRunning opened.count opened.map [] 0 (reopened log_sectors opened)
 starts log_sectors opened = record { points = λ i. record { synced = sym (add-zero opened.count) i; first = opened.map; later = [] }; within = omega arith; runs = refl }
 
@@ -161,7 +161,7 @@ promise log_sectors opened m steps replies is run =
     let done = accepted steps replies in
     let known = acknowledged opened.count steps replies in
     let x = last_machine m steps replies in
-    let start = subst (λ (s : State). IsRunning opened.count opened.map [] 0 s) (sym is.state) (starts log_sectors opened) in
+    let start = subst (λ (s : State). IsRunning opened.count opened.map [] 0 s) (sym is) (starts log_sectors opened) in
     let here : IsReached opened.count opened.map done known (in_flight steps replies) x.state = reached opened.count opened.map steps replies [] 0 m start run in
     record {
       points = here.points;

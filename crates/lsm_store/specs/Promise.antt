@@ -77,7 +77,7 @@ pub record IsOpened (log_sectors : ℕ) (opened : CrashState) (m : Machine) : Ty
   pub memory : m.work.memory ≡ []
   pub jobs : m.work.jobs ≡ no_jobs
 
--- What holds of a machine that an opening of a crash state answered, and that then gave these replies to these steps.
+-- What holds of a machine in the state that an opening of a crash state answers, once it gave these replies to these steps.
 pub record IsKept (opened : CrashState) (m : Machine) (steps : List Step) (replies : List Reply) : Type 0 where
   -- its recovery points are just the maps after the beginnings of the accepted batches that hold every acknowledged one
   pub points : (last_machine m steps replies).state.points ≡ beginnings opened.count opened.map (accepted steps replies) (acknowledged opened.count steps replies)
@@ -92,6 +92,6 @@ pub record IsKept (opened : CrashState) (m : Machine) (steps : List Step) (repli
   pub inside : (step : Step) (left : CrashState) → Contains (left_in_step (last_machine m steps replies) step) left
       → IsBeginning opened (accepted steps replies ++ in_flight (steps ++ step ∷ []) replies) (acknowledged opened.count steps replies) left
 
--- So it is after any steps on an opened store.
+-- So it is after any steps of a machine in that state, whatever its work; an opened store is one (`IsOpened`).
 abbrev pub Promise : Type 0
-Promise = (log_sectors : ℕ) (opened : CrashState) (m : Machine) (steps : List Step) (replies : List Reply) → IsOpened log_sectors opened m → Run m steps replies → IsKept opened m steps replies
+Promise = (log_sectors : ℕ) (opened : CrashState) (m : Machine) (steps : List Step) (replies : List Reply) → m.state ≡ reopened log_sectors opened → Run m steps replies → IsKept opened m steps replies

@@ -10,8 +10,8 @@ ghost use Rattle.lsm_store.specs.Run.{AllowsStep, AdmitsStep, next_machine, left
 ghost use Rattle.lsm_store.specs.Promise.{Promise, in_flight};
 ghost use Rattle.lsm_store.specs.Lives.{PromiseOverLives};
 
-/// After any steps on an opened store, a crash leaves the map after a beginning of the accepted batches that holds
-/// every acknowledged one, and at most the one in flight after them.
+/// After any steps of a machine in the state of an opened store, whatever its work, a crash leaves the map after a beginning
+/// of the accepted batches that holds every acknowledged one, and at most the one in flight after them.
 pub fn crash_keeps_a_beginning()
     ensures promise { Promise }
     ensures at_most_one { (steps : List Step) (replies : List Reply)
