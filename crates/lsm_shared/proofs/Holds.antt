@@ -17,10 +17,10 @@ use Rattle.lsm_store.specs.Serving.{Serves}
 use Rattle.lsm_store.specs.State.{State}
 use Rattle.lsm_store.proofs.Running.{value_wanted, page_wanted}
 use Rattle.lsm_trail.specs.History.{Event, event, IsLegal, state_after, calls_by, numbers, numbers_at, TrailView}
-use Rattle.lsm_trail.specs.Knowledge.{SessionId, Known, View, known, keeper_or, keeper_of, IsKeeperPass}
+use Rattle.lsm_trail.specs.Knowledge.{SessionId, Known, Sees, View, known, keeper_or, keeper_of, IsKeeperPass}
 use Rattle.lsm_trail.specs.declared.numbers.Numbers.{Numbers}
 use Rattle.lsm_trail.proofs.Histories.{legal_more, state_after-more, calls_by-mine}
-use Rattle.lsm_shared.specs.Clients.{Extends, Sees, Denies, IsNoCall}
+use Rattle.lsm_shared.specs.Clients.{Extends, Denies, IsNoCall}
 use Rattle.lsm_shared.specs.Sessions.{SessionView, IsSession, Finds, IsMade, IsShort, IsRefused, IsLost}
 
 -- the lock's pass has the history of the trail
@@ -224,18 +224,18 @@ extends id old new c d call reply m =
       room = omega (arith, m.room, ap length m.log, length-append old.log (e ∷ []));
     }
 
-module _ (id : SessionId) (old : SessionView) (c d : Known) (finds : Finds id old c) (is : d ≡ known id.begin c.number old.log c.mine) where
+module _ (id : SessionId) (old : SessionView) (c d : Known) (finds : Finds id old c) (is : d ≡ known id.begin c.number old.log c.mine) (room : length old.log ≤ id.begin.limit) where
   sees : Sees c d
-  sees = subst (Sees c) (sym is) record { begin = sym finds.begin; number = refl; seen = finds.seen; mine = refl; legal = finds.legal; own = finds.own }
+  sees = subst (Sees c) (sym is) record { begin = sym finds.begin; number = refl; seen = finds.seen; mine = refl; legal = finds.legal; own = finds.own; room = room }
 
   -- a client that is denied a call has seen the history behind which it is
   denied : (call : Call) (e : Refusal) → Denies id.begin old.log call e → IsNoCall c call e d
   denied call e why = (sees, subst (λ (k : Known). Denies k.begin k.seen call e) (sym is) why)
 
 no_call : (id : SessionId) (old new : SessionView) (c d : Known) (call : Call) (e : Refusal) → IsRefused id old c call e new d → IsNoCall c call e d
-no_call id old new c d call TrailFull r = denied id old c d r.finds r.client call TrailFull r.full
-no_call id old new c d call NotYours r = denied id old c d r.finds r.client call NotYours (r.room, r.releases)
-no_call id old new c d call NoMemory r = denied id old c d r.finds r.client call NoMemory (r.room, subst (λ (s : State). Admits s call (Refused NoMemory)) r.finds.state r.admitted, λ began. subst (λ (s : State). Allows s call (Refused NoMemory)) r.finds.state (r.allowed began))
+no_call id old new c d call TrailFull r = denied id old c d r.finds r.client (omega (arith, r.full)) call TrailFull r.full
+no_call id old new c d call NotYours r = denied id old c d r.finds r.client (omega (arith, r.room)) call NotYours (r.room, r.releases)
+no_call id old new c d call NoMemory r = denied id old c d r.finds r.client (omega (arith, r.room)) call NoMemory (r.room, subst (λ (s : State). Admits s call (Refused NoMemory)) r.finds.state r.admitted, λ began. subst (λ (s : State). Allows s call (Refused NoMemory)) r.finds.state (r.allowed began))
 no_call id old new c d call e r = absurd r
 
 pub tells_made : {T : Type 0} (res : Result T Refusal) (f : T → Reply) (id : SessionId) (old new : SessionView) (c d : Known) (call : Call) → IfOk res (λ r. IsMade id old c call (f r) new d) → IfOk res (λ r. Extends c call (f r) d)

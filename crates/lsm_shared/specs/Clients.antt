@@ -10,7 +10,7 @@ use Rattle.lsm_store.specs.Machine.{Called}
 use Rattle.lsm_store.specs.Run.{Allows, Admits}
 use Rattle.lsm_trail.specs.Begins.{Begin, base_of}
 use Rattle.lsm_trail.specs.History.{Event, event, IsLegal, state_after, calls_by}
-use Rattle.lsm_trail.specs.Knowledge.{Known, known}
+use Rattle.lsm_trail.specs.Knowledge.{Known, Sees, known}
 
 -- A client made this call. There is one legal history: all that the client had seen, calls of others, and this call with
 -- this reply. It has just the calls that the client made, each once.
@@ -23,16 +23,6 @@ pub record Extends (c : Known) (call : Call) (reply : Reply) (d : Known) : Type 
   pub legal : IsLegal d.begin d.seen
   pub own : calls_by d.number d.seen ≡ d.mine
   pub room : length d.seen ≤ d.begin.limit
-
--- A client has seen one legal history, and made no call: the history begins with all that the client had seen, and has
--- just the calls that it made, each once.
-pub record Sees (c d : Known) : Type 0 where
-  pub begin : d.begin ≡ c.begin
-  pub number : d.number ≡ c.number
-  pub seen : IsPrefix c.seen d.seen
-  pub mine : d.mine ≡ c.mine
-  pub legal : IsLegal d.begin d.seen
-  pub own : calls_by d.number d.seen ≡ d.mine
 
 -- Why a call is no entry behind a history: the trail is full; or it has a place, and the call is to release the base, or
 -- there was no memory for a call that takes some, and that the state doesn't refuse: a look-up takes some where the state

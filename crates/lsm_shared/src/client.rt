@@ -1,13 +1,14 @@
 // The clients of a session.
 ghost use Rattle.std.specs.Prelude.{◌≡◌, [], IfOk, IfErr};
 ghost use Rattle.lsm_lives.specs.Calls.{call_of, reply_of};
-ghost use Rattle.lsm_trail.specs.Knowledge.{known, known_of, IsClientPass};
+ghost use Rattle.lsm_trail.specs.History.{numbers};
+ghost use Rattle.lsm_trail.specs.Knowledge.{known, Sees, known_of, IsClientPass};
 ghost use Rattle.lsm_shared.specs.Clients.{Extends, IsNoCall};
 
 use crate::shared::Shared;
 use lsm_device::{Device, Refusal};
 use lsm_lives::{Call, Reply};
-use lsm_trail::{Pass, SessionName};
+use lsm_trail::{Numbers, Pass, SessionName};
 use std::alloc::Allocator;
 use std::marker::{Model, PhantomData};
 use std::sync::Wait;
@@ -54,6 +55,17 @@ impl<A: Allocator, B: SessionName> Client<A, B> {
         ensures { result ≡ self.now.number }
     {
         self.number
+    }
+
+    /// The numbers of the history as it is at one moment of this call: its calls, the batches of the store after them, and how
+    /// many of these are synced. The client has seen this history from then on.
+    ///
+    /// It takes no lock and no memory, and waits for nobody.
+    pub fn watch<D: Device>(&mut self, shared: &Shared<D, A, B>) -> Numbers
+        ensures sees { Sees self.old self.new }
+        ensures told { result ≡ numbers self.new.begin self.new.seen }
+    {
+        shared.counters.watch(&mut self.pass)
     }
 }
 

@@ -11,9 +11,9 @@ use Rattle.atomic_table.proofs.Lists.{at_set, set_again}
 use Rattle.lsm_store.specs.RecoveryPoints.{batch_count}
 use Rattle.lsm_trail.specs.Begins.{Begin, CanPin}
 use Rattle.lsm_trail.specs.History.{Event, IsLegal, calls_by, numbers}
-use Rattle.lsm_trail.specs.Knowledge.{Keeper, Known, View, known, keeping, view_of, nobody}
+use Rattle.lsm_trail.specs.Knowledge.{Keeper, Known, Sees, View, known, keeping, view_of, nobody}
 use Rattle.lsm_trail.specs.Rule.{StandsAt, Drafted, FitsKeeper, FitsClient, Fits, Kept, first_view}
-use Rattle.lsm_trail.specs.Steps.{Puts, published, Publishes, Compares, Notes, dealer, dealt_to}
+use Rattle.lsm_trail.specs.Steps.{Puts, published, Publishes, Notes, Looks, Peeks, Compares, dealer, dealt_to}
 use Rattle.lsm_trail.specs.declared.numbers.Numbers.{Numbers}
 use Rattle.lsm_trail.proofs.Lists.{prefix_self, prefix_more, prefix_snoc, at_snoc_at, drafted_snoc, drafted_set, placed, placed_here, placed_else}
 use Rattle.lsm_trail.proofs.Histories.{calls_by-mine, calls_by-other, legal_none}
@@ -186,6 +186,45 @@ module _ (b : Begin) where
         tt,
         unmoved s r 0 id [] w (f.0, (f.1.0, f.1.1, f.1.2, subst (λ (l : List Event). IsPrefix l r.log) (sym same) (prefix_self r.log), f.1.4)),
         (refl, (refl, subst (IsPrefix c.seen) (sym same) f.1.3, ap (calls_by c.number) same ∙ f.1.4)),
+      )
+
+  pub looks : (slots id : ℕ) (c : Known) → Allows (Kept b) slots id (view_of None (Some c), []) 0 (λ n. n) (Looks (step slots 0 0 0 none) (view_of None (Some c), []))
+  looks slots id c s r _ at _ =
+      let f = (r.fits id (view_of None (Some c)) at).1 in
+      let d = known c.begin c.number r.log c.mine in
+      let sees : Sees c d = record {
+        begin = refl;
+        number = refl;
+        seen = f.3;
+        mine = refl;
+        legal = subst (λ (x : Begin). IsLegal x r.log) (sym f.0) r.legal;
+        own = f.4;
+        room = subst (λ (x : Begin). length r.log ≤ x.limit) (sym f.0) r.room;
+      } in (
+        view_of None (Some d),
+        keeps,
+        tt,
+        unmoved s r 0 id [] (view_of None (Some d)) (tt, (f.0, f.1, f.2, prefix_self r.log, f.4)),
+        (refl, refl, (sees, sym r.count)),
+      )
+
+  pub peeks : (slots id : ℕ) (c : Known) (word : ℕ) → Allows (Kept b) slots id (view_of None (Some c), []) word (λ n. n) (Peeks (step slots word 0 0 none) (view_of None (Some c), []))
+  peeks slots id c word s r _ at _ =
+      let f = r.fits id (view_of None (Some c)) at in
+      let row : StandsAt s.words (3 * length c.seen + 1) (numbers c.begin c.seen) = subst (λ (x : Begin). StandsAt s.words (3 * length c.seen + 1) (numbers x c.seen)) (sym f.1.0) (r.rows c.seen f.1.3) in
+      let k = 3 * length c.seen in (
+        view_of None (Some c),
+        keeps,
+        tt,
+        unmoved s r word id [] (view_of None (Some c)) f,
+        (
+          refl,
+          record {
+            calls = λ e. ap (λ (i : ℕ). slice_index s.words i) e ∙ row.0;
+            batches = λ e. let there : word ≡ (k + 1) + 1 = omega arith in ap (λ (i : ℕ). slice_index s.words i) there ∙ row.1;
+            synced = λ e. let there : word ≡ (k + 1) + 2 = omega arith in ap (λ (i : ℕ). slice_index s.words i) there ∙ row.2;
+          },
+        ),
       )
 
   pub compares : (slots id : ℕ) (k : Keeper) (c : Known) → Allows (Kept b) slots id (view_of (Some k) (Some c), []) 0 (λ n. n) (Compares (step slots 0 0 0 none) (view_of (Some k) (Some c), []))

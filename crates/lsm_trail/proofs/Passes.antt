@@ -1,15 +1,16 @@
 -- The steps by passes of which this is known, and what they tell of them.
-use Rattle.std.proofs.Common.{◌≡◌, ℕ, ◌+◌, ◌*◌, ◌<◌, ◌≤◌, ◌==◌, [], ◌∷◌, ◌++◌, length, Option, Some, None, sym, subst}
+use Rattle.std.proofs.Common.{◌≡◌, ℕ, ◌+◌, ◌*◌, ◌<◌, ◌≤◌, ◌==◌, [], ◌∷◌, ◌++◌, length, Option, Some, None, refl, ap, sym, ◌∙◌, subst}
 use mathlib.Core.List.{IsPrefix}
 use mathlib.Core.Option.{some, none}
 use prog.Atomic.{either}
 use Rattle.atomic_table.specs.Table.{Me, step, Allows, Splits, Joins}
+use Rattle.atomic_table.specs.declared.shared.Seat.{Seat}
 use Rattle.lsm_trail.specs.Begins.{Begin}
 use Rattle.lsm_trail.specs.History.{Event, IsLegal, calls_by, numbers}
-use Rattle.lsm_trail.specs.Knowledge.{Keeper, Known, View, known, keeping, view_of, nobody, row_of}
+use Rattle.lsm_trail.specs.Knowledge.{SessionId, Keeper, Known, Sees, View, known, keeping, view_of, nobody, known_or, known_of, IsClientPass, row_of}
 use Rattle.lsm_trail.specs.Rule.{Kept}
-use Rattle.lsm_trail.specs.Steps.{Puts, published, Publishes, Compares, Notes, dealer, dealt_to}
-use Rattle.lsm_trail.proofs.Moves.{puts, publishes, compares, notes, lends, gives_back, deals}
+use Rattle.lsm_trail.specs.Steps.{Puts, published, Publishes, Notes, LooksAs, Looks, IsPeeked, Peeks, Compares, dealer, dealt_to}
+use Rattle.lsm_trail.proofs.Moves.{puts, publishes, notes, looks, peeks, compares, lends, gives_back, deals}
 
 abbrev M : Type 0
 M = Me Event View
@@ -53,3 +54,31 @@ notes_at key slots id me k c is = subst (λ (m : M). Allows (Kept key) slots id 
 pub noted : (k : Keeper) (c : Known) (me me' : M) → me ≡ (view_of (Some k) (Some c), []) → Notes (step 0 0 0 0 none) me 0 me'
     → (me' ≡ (view_of (Some k) (Some (known c.begin c.number k.log c.mine)), [])) × IsPrefix c.seen k.log × (calls_by c.number k.log ≡ c.mine)
 noted k c me me' is rule = let r = subst (λ (m : M). Notes (step 0 0 0 0 none) m 0 me') is rule in ((λ j. (r.1.0 j, r.0 j)), r.1.1, r.1.2)
+
+pub looks_at : (key : Begin) (slots id : ℕ) (me : M) (c : Known) → me ≡ (view_of None (Some c), []) → Allows (Kept key) slots id me 0 (λ n. n) (Looks (step slots 0 0 0 none) me)
+looks_at key slots id me c is = subst (λ (m : M). Allows (Kept key) slots id m 0 (λ n. n) (Looks (step slots 0 0 0 none) m)) (sym is) (looks key slots id c)
+
+-- a client still has a part
+looked_as : (c : Known) (found : ℕ) (w : Option Known) → LooksAs (Some c) found w → (w ≡ Some (known_or w)) × Sees c (known_or w) × (length (known_or w).seen ≡ found)
+looked_as c found None rule = absurd rule
+looked_as c found (Some d) rule = (refl, rule.0, rule.1)
+
+-- what a look tells of a client's pass
+pub looked : (id : SessionId) (p q : Seat Event View) (found : ℕ) → IsClientPass id p → q.table_id ≡ p.table_id → Looks (step 0 0 0 0 none) p.me found q.me
+    → IsClientPass id q × Sees (known_of p) (known_of q) × (length (known_of q).seen ≡ found)
+looked id p q found h same rule =
+    let r = subst (λ (m : M). Looks (step 0 0 0 0 none) m found q.me) h.1 rule in
+    let t = looked_as (known_of p) found q.me.0.client r.2 in
+    ((same ∙ h.0, (λ i. (view_of (r.1 i) (t.0 i), r.0 i)), t.1.begin ∙ h.2), t.1, t.2)
+
+pub peeks_at : (key : Begin) (slots id : ℕ) (me : M) (c : Known) (word : ℕ) → me ≡ (view_of None (Some c), []) → Allows (Kept key) slots id me word (λ n. n) (Peeks (step slots word 0 0 none) me)
+peeks_at key slots id me c word is = subst (λ (m : M). Allows (Kept key) slots id m word (λ n. n) (Peeks (step slots word 0 0 none) m)) (sym is) (peeks key slots id c word)
+
+pub peeked : (c : Known) (me me' : M) (word found : ℕ) → me ≡ (view_of None (Some c), []) → Peeks (step 0 word 0 0 none) me found me' → (me' ≡ (view_of None (Some c), [])) × IsPeeked c word found
+peeked c me me' word found is rule = let r = subst (λ (m : M). Peeks (step 0 word 0 0 none) m found me') is rule in (r.0, r.1)
+
+-- a client's pass that knows what it knew
+pub stays : (id : SessionId) (p q : Seat Event View) → IsClientPass id p → q.table_id ≡ p.table_id → q.me ≡ (view_of None (Some (known_of p)), []) → IsClientPass id q × (known_of q ≡ known_of p)
+stays id p q h same is =
+    let k : known_of q ≡ known_of p = ap (λ (m : M). known_or m.0.client) is in
+    ((same ∙ h.0, is ∙ (λ i. (view_of None (Some (sym k i)), [])), ap (λ (x : Known). x.begin) k ∙ h.2), k)

@@ -1,5 +1,6 @@
 -- What passes of a session know.
-use Rattle.std.specs.Prelude.{◌≡◌, ℕ, List, [], ◌∷◌, Option, Some, None}
+use Rattle.std.specs.Prelude.{◌≡◌, ℕ, ◌≤◌, List, [], ◌∷◌, length, Option, Some, None}
+use mathlib.Core.List.{IsPrefix}
 use Rattle.std.specs.FinMap as finite
 use Rattle.atomic_table.specs.Seated.{TableId}
 use Rattle.atomic_table.specs.declared.shared.Seat.{Seat}
@@ -7,7 +8,7 @@ use Rattle.lsm_device.specs.Medium.{zeroed}
 use Rattle.lsm_store.specs.Crash.{reopened}
 use Rattle.lsm_store.specs.Work.{no_work}
 use Rattle.lsm_trail.specs.Begins.{Begin}
-use Rattle.lsm_trail.specs.History.{Event}
+use Rattle.lsm_trail.specs.History.{Event, IsLegal, calls_by}
 use Rattle.lsm_trail.specs.declared.numbers.Numbers.{Numbers}
 
 -- A session: the table of its words, and its begin.
@@ -29,6 +30,17 @@ pub record Known : Type 0 where
   pub number : ℕ
   pub seen : List Event
   pub mine : List Event
+
+-- A client has seen one legal history, and made no call: the history begins with all that the client had seen, and has
+-- just the calls that it made, each once.
+pub record Sees (c d : Known) : Type 0 where
+  pub begin : d.begin ≡ c.begin
+  pub number : d.number ≡ c.number
+  pub seen : IsPrefix c.seen d.seen
+  pub mine : d.mine ≡ c.mine
+  pub legal : IsLegal d.begin d.seen
+  pub own : calls_by d.number d.seen ≡ d.mine
+  pub room : length d.seen ≤ d.begin.limit
 
 -- What a pass knows: the lock's part, a client's part, both or nothing.
 pub record View : Type 0 where

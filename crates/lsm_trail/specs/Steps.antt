@@ -1,10 +1,10 @@
 -- The steps of passes, and what they tell.
-use Rattle.std.specs.Prelude.{◌≡◌, ℕ, ◌+◌, ◌≤◌, [], ◌∷◌, ◌++◌, Option, Some, None}
+use Rattle.std.specs.Prelude.{◌≡◌, ℕ, ◌+◌, ◌*◌, ◌≤◌, [], ◌∷◌, ◌++◌, length, Option, Some, None}
 use mathlib.Core.List.{IsPrefix}
 use mathlib.Core.Option.{some}
 use Rattle.atomic_table.specs.Table.{Me, Step}
-use Rattle.lsm_trail.specs.History.{Event, calls_by}
-use Rattle.lsm_trail.specs.Knowledge.{Keeper, Known, View, keeping, known, view_of}
+use Rattle.lsm_trail.specs.History.{Event, calls_by, numbers}
+use Rattle.lsm_trail.specs.Knowledge.{Keeper, Known, Sees, View, keeping, known, view_of}
 
 abbrev PutsAs : Option Keeper → Option Known → ℕ → View → Type 0
 PutsAs None c new w = Unit {0}
@@ -33,6 +33,29 @@ NotesAs _ _ w = Unit {0}
 -- note: the client has seen the whole history, as the lock's part has it
 abbrev pub Notes : Step Event → Me Event View → ℕ → Me Event View → Type 0
 Notes s m found w = (w.1 ≡ m.1) × NotesAs m.0.keeper m.0.client w.0
+
+abbrev pub LooksAs : Option Known → ℕ → Option Known → Type 0
+LooksAs (Some c) found (Some d) = Sees c d × (length d.seen ≡ found)
+LooksAs (Some c) found None = ⊥
+LooksAs None found w = Unit {0}
+
+-- look: a client reads the length of the history without the lock, and has seen this history
+abbrev pub Looks : Step Event → Me Event View → ℕ → Me Event View → Type 0
+Looks s m found w = (w.1 ≡ m.1) × (w.0.keeper ≡ m.0.keeper) × LooksAs m.0.client found w.0.client
+
+-- a word of the row that belongs to what a client has seen
+pub record IsPeeked (c : Known) (word found : ℕ) : Type 0 where
+  pub calls : word ≡ 3 * length c.seen + 1 → found ≡ (numbers c.begin c.seen).calls
+  pub batches : word ≡ 3 * length c.seen + 2 → found ≡ (numbers c.begin c.seen).batches
+  pub synced : word ≡ 3 * length c.seen + 3 → found ≡ (numbers c.begin c.seen).synced
+
+abbrev PeeksAs : Option Known → ℕ → ℕ → Type 0
+PeeksAs None word found = Unit {0}
+PeeksAs (Some c) word found = IsPeeked c word found
+
+-- peek: a client reads a word without the lock, which is a number of what it has seen where it stands in that row
+abbrev pub Peeks : Step Event → Me Event View → ℕ → Me Event View → Type 0
+Peeks s m found w = (w ≡ m) × PeeksAs m.0.client s.word found
 
 abbrev ComparesAs : Option Keeper → Option Known → View → Type 0
 ComparesAs (Some k) (Some c) w = (w ≡ view_of (Some k) None) × IsPrefix c.seen k.log × (calls_by c.number k.log ≡ c.mine) × ((x : ℕ) → k.dealt ≤ x → calls_by x k.log ≡ [])

@@ -2,13 +2,13 @@
 ghost use Rattle.std.specs.Prelude.{◌≡◌, ℕ, ◌+◌, ◌*◌, ◌<◌, ◌≤◌, [], ◌∷◌, ◌++◌, length, Some, None};
 ghost use mathlib.Core.List.{IsPrefix};
 ghost use Rattle.lsm_trail.specs.History.{IsLegal, calls_by, numbers};
-ghost use Rattle.lsm_trail.specs.Knowledge.{known, keeping, view_of, IsClientPass, IsKeeperPass, HasBoth, known_of, keeper_of, row_of};
+ghost use Rattle.lsm_trail.specs.Knowledge.{known, Sees, keeping, view_of, IsClientPass, IsKeeperPass, HasBoth, known_of, keeper_of, row_of};
 ghost use Rattle.lsm_trail.specs.Steps.{published};
 
 use crate::entry::Entry;
 use crate::knowledge::Pass;
 use crate::numbers::Numbers;
-use crate::rule::{Board, Compare, Deal, Lend, Note, Nothing, Publish, Put};
+use crate::rule::{Board, Compare, Deal, Lend, Look, Note, Nothing, Peek, Publish, Put};
 use crate::start::SessionName;
 use lsm_device::Device;
 use std::alloc::{Allocator, Global};
@@ -129,6 +129,48 @@ impl<D: Device, A: Allocator, B: SessionName> Counters<D, A, B> {
         self.take_in(keeper, client);
         self.board.shared.load::<Note>(keeper, 0);
         self.give_back(keeper, client);
+    }
+
+    // The client sees the history as it is at this moment, which is so long.
+    fn look(&self, client: &mut Pass<A>) -> u64
+        requires { IsClientPass B.id client.old }
+        ensures client { IsClientPass B.id client.new }
+        ensures sees { Sees (known_of client.old) (known_of client.new) }
+        ensures size { length (known_of client.new).seen ≡ result }
+    {
+        self.board.shared.load::<Look>(client, 0)
+    }
+
+    // Reads the numbers of what the client has seen, which is so long. They stay, however long the history has become.
+    fn read_row(&self, client: &mut Pass<A>, count: u64) -> Numbers
+        requires client { IsClientPass B.id client.old }
+        requires count { (length (known_of client.old).seen ≡ count) × (count ≤ B.id.begin.limit) }
+        ensures client { IsClientPass B.id client.new }
+        ensures known { known_of client.new ≡ known_of client.old }
+        ensures told { result ≡ numbers B.id.begin (known_of client.old).seen }
+    {
+        let shared = &self.board.shared;
+        let row = 3 * count as usize;
+        let calls = shared.load::<Peek>(client, row + 1);
+        let batches = shared.load::<Peek>(client, row + 2);
+        let synced = shared.load::<Peek>(client, row + 3);
+        Numbers {
+            calls,
+            batches,
+            synced,
+        }
+    }
+
+    /// The numbers of the history as it is at one moment of this call, and the client has seen this history. It takes no
+    /// lock and no memory, and waits for nobody.
+    pub fn watch(&self, client: &mut Pass<A>) -> Numbers
+        requires { IsClientPass B.id client.old }
+        ensures client { IsClientPass B.id client.new }
+        ensures sees { Sees (known_of client.old) (known_of client.new) }
+        ensures told { result ≡ numbers B.id.begin (known_of client.new).seen }
+    {
+        let count = self.look(client);
+        self.read_row(client, count)
     }
 
     /// The pass of a new client.

@@ -57,6 +57,24 @@ impl<A: Allocator> Play<Entry<A>, Knowledge> for Note {
     ghost then = { Notes };
 }
 
+/// A client reads the length of the history without the lock, and has seen it.
+pub struct Look;
+
+impl<A: Allocator> Play<Entry<A>, Knowledge> for Look {
+    ghost use Rattle.lsm_trail.specs.Steps.{Looks};
+
+    ghost then = { Looks };
+}
+
+/// A client reads a number of what it has seen.
+pub struct Peek;
+
+impl<A: Allocator> Play<Entry<A>, Knowledge> for Peek {
+    ghost use Rattle.lsm_trail.specs.Steps.{Peeks};
+
+    ghost then = { Peeks };
+}
+
 /// A pass that knows nothing.
 pub struct Nothing;
 

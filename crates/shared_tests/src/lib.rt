@@ -19,3 +19,5 @@ mod setup;
 mod threads;
 #[cfg(test)]
 mod turns;
+#[cfg(test)]
+mod watching;

@@ -7,7 +7,7 @@ use lsm_lives::{Call, Reply};
 use lsm_open::format;
 use lsm_shared::{Client, Shared};
 use lsm_store::Store;
-use lsm_trail::{Opened, SessionName, Trail};
+use lsm_trail::{Numbers, Opened, SessionName, Trail};
 use std::alloc::{Allocator, Global};
 use std::process::Abort;
 use std::sync::Wait;
@@ -84,6 +84,12 @@ impl<A: Allocator + Clone, B: SessionName> Session<B, A> {
     ) -> Result<Reply<A>, Refusal> {
         let client = self.clients.get_mut(client).expect(rt, "a client");
         client.call(rt, &self.shared, call)
+    }
+
+    /// What a client by its place among them reads of the history without the lock.
+    pub fn watch<R: Abort>(&mut self, rt: &R, client: usize) -> Numbers {
+        let client = self.clients.get_mut(client).expect(rt, "a client");
+        client.watch(&self.shared)
     }
 
     /// Ends the session.

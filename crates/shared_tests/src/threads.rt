@@ -8,7 +8,7 @@ use lsm_device::{MemDevice, Refusal};
 use lsm_lives::{Call, Reply};
 use lsm_shared::{Client, Shared, prepare};
 use lsm_store::{At, Store};
-use lsm_trail::{Entry, Opened, SessionName, Trail};
+use lsm_trail::{Entry, Numbers, Opened, SessionName, Trail};
 use std::alloc::Global;
 use std::marker::Brand;
 use std::process::Abort;
@@ -35,16 +35,25 @@ fn is_number(reply: &Result<Reply, Refusal>) -> bool {
     matches!(reply, Ok(Reply::Number(_)))
 }
 
-// Makes a client's commits, all of which must be accepted.
+// Whether a reading is later than another one, in a history of commits alone, none of them synced.
+fn is_later(numbers: Numbers, before: Numbers) -> bool {
+    before.calls < numbers.calls && numbers.batches == numbers.calls && numbers.synced == 0
+}
+
+// Makes a client's commits, all of which must be accepted, and reads the numbers of the history after each.
 fn commit_all<B: SessionName, R: Wait + Abort>(
     rt: &R,
     alloc: Global,
     shared: &Shared<MemDevice, Global, B>,
     me: &mut Client<Global, B>,
 ) {
+    let mut before = me.watch(shared);
     for number in 0..COMMITS {
         let call = commit_of(rt, alloc, &key_of(me.number(), number));
         assert!(rt; is_number(&me.call(rt, shared, call)));
+        let numbers = me.watch(shared);
+        assert!(rt; is_later(numbers, before));
+        before = numbers;
     }
 }
 

@@ -68,8 +68,8 @@ fn play_named<B: SessionName, R: Wait + Abort>(
     session.end(rt)
 }
 
-// Makes the calls, each of which must be answered as its turn says.
-fn make_all<B: SessionName, R: Wait + Abort>(
+/// Makes the calls, each of which must be answered as its turn says.
+pub fn make_all<B: SessionName, R: Wait + Abort>(
     rt: &R,
     alloc: Global,
     session: &mut Session<B>,
