@@ -220,6 +220,73 @@ full_regions() {
     scripts <full
 }
 
+# The lines of a flush but for its install, where it is the job of this number, and those that it prints.
+flush() {
+    printf '%s\n' "rotate | ok" "take | job $1 flush" "build $1 1 | built $1 images 1" "accept $1 $1 | ok" "write $1 | left 0"
+}
+
+# Level 0 has 12 runs at most: a flush above them waits for a job of that level, while the log goes on.
+full_level() {
+    local number
+    {
+        echo 'lives 8192 128 | open 0'
+        for ((number = 1; number <= 12; number++)); do
+            printf 'commit +%02x=31 | batch %d\n' "$number" "$number"
+            flush "$number"
+            echo "install $number | ok"
+        done
+        echo 'rotate | refused 06 NothingToRotate'
+        echo 'commit +0d=31 | batch 13'
+        flush 13
+        echo 'install 13 | refused 14 TooManyRuns'
+        printf '%s\n' 'take | job 14 level 0' 'read 14 | left 0' 'build 14 1 | built 14 images 1' 'accept 14 14 | ok' 'write 14 | left 0' 'install 14 | ok'
+        echo 'install 13 | ok'
+        for ((number = 1; number <= 13; number++)); do printf 'get %02x | value 31\n' "$number"; done
+    } >level
+    scripts <level
+}
+
+# 10,000 commits of puts and deletes with rotations, flushes and jobs of level 0 among them, and crashes. At the end the map
+# is that of a plain one. More steps of reading and writing are made than a job needs, and refused or told that none is left.
+many_commits() {
+    local -A value=()
+    local number round=0 job=0 key pages
+    {
+        for ((number = 1; number <= 10000; number++)); do
+            printf -v key %04x $((number * 7919 % 601))
+            if ((number % 5 == 0)); then
+                unset "value[$key]"
+                echo "commit -$key"
+            else
+                printf -v "value[$key]" %06x "$number"
+                echo "commit +$key=${value[$key]}"
+            fi
+            if ((number % 400 == 0)); then
+                round=$((round + 1)) job=$((job + 1))
+                printf '%s\n' rotate take "build $job 2" "accept $job $job" "write $job" "write $job" "install $job"
+                if ((round >= 4)); then
+                    job=$((job + 1))
+                    printf '%s\n' take "read $job" "read $job" "build $job 3" "accept $job $job" "write $job" "write $job" "install $job"
+                fi
+            fi
+            if ((number == 6000)); then echo 'crash none' && round=0 job=0; fi
+        done
+        echo 'crash none'
+        for ((number = 0; number < 601; number++)); do printf 'get %04x\n' "$number"; done
+    } >many
+    for ((number = 0; number < 601; number++)); do
+        printf -v key %04x "$number"
+        if [ -n "${value[$key]:-}" ]; then echo "value ${value[$key]}"; else echo absent; fi
+    done >wanted
+    "$program" lives 65536 2048 <many >told 2>errors || fail "10,000 commits: $(head -c 300 errors)"
+    tail -n 601 told >last
+    cmp -s wanted last || fail "10,000 commits: another map: $(diff wanted last | head -n 4)"
+    ! grep -v -e '^batch' -e '^ok$' -e '^open' -e '^job' -e '^built' -e '^left' -e '^value' -e '^absent$' -e '^refused 11 WrongState$' told ||
+        fail "10,000 commits: other replies"
+    [ "$(grep -c '^job .* level 0$' told)" -ge 15 ] && [ "$(grep -c '^job .* flush$' told)" -eq 25 ] || fail "10,000 commits: too few jobs"
+    count=$((count + 1))
+}
+
 # ---- mistakes in scripts
 
 mistakes() {
@@ -288,6 +355,8 @@ END
 faulting_openings
 snapshots
 full_regions
+full_level
+many_commits
 mistakes <"$runs/lines.txt"
 runs_on_inputs <"$runs/inputs.txt"
 long_scripts

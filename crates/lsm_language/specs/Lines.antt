@@ -9,6 +9,8 @@ use Rattle.lsm_store.specs.declared.asked.At.{At}
 use Rattle.lsm_store.specs.declared.asked.At.TheVariants.{Now, Snap}
 use Rattle.lsm_store.specs.Calls.{Call, Commit, Sync, SyncTo, Get, Scan, Snapshot, Release, Rotate, LogRoom}
 use Rattle.lsm_lives.specs.Calls.{call_of}
+use Rattle.lsm_lives.specs.declared.calls.Work.{Work}
+use Rattle.lsm_lives.specs.declared.calls.Work.TheVariants as work
 use Rattle.lsm_language.specs.Numbers.{number_said}
 use Rattle.lsm_language.specs.Words.{read_all, words_in, after}
 use Rattle.lsm_language.specs.Changes.{changes_said, batch_refusal}
@@ -19,7 +21,9 @@ use Rattle.lsm_language.specs.declared.line.Kept.TheVariants.{All, Places}
 
 -- a line's meaning
 pub data Said : Type 0 where
-  step : Call → Said
+  call : Call → Said
+  -- a piece of work on a job
+  piece : Work → Said
   -- a commit whose operations form no batch
   no_batch : Refusal → Said
   fuse : ℕ → Said
@@ -33,7 +37,7 @@ abbrev pub batch_said : List Operation → Said
 batch_said changes = refused (batch_refusal changes)
   where
     refused : Option Refusal → Said
-    refused None = step (Commit changes)
+    refused None = call (Commit changes)
     refused (Some refusal) = no_batch refusal
 
 -- there is one operation at least
@@ -48,8 +52,8 @@ commit_said words = option_and_then some_said (changes_said words)
 abbrev pub at_said : List ℕ → Option At
 at_said word = option_and_then (λ number. option_map Snap (number_said number)) (after 64 word)
 
-abbrev pub get_said : List ℕ → At → List ℕ → Option Said
-get_said name at key = if bytes_eq name (codes "get") then option_map (λ key. step (Get at key)) (bytes_said key) else None
+abbrev pub get_said : At → List ℕ → Option Said
+get_said at key = option_map (λ key. call (Get at key)) (bytes_said key)
 
 -- where a scan ends: `end`, or before a key
 abbrev pub end_said : List ℕ → Option (Option Bytes)
@@ -57,7 +61,7 @@ end_said word = if bytes_eq word (codes "end") then Some None else option_map So
 
 abbrev pub scan_said : List ℕ → At → List ℕ → List ℕ → List ℕ → Option Said
 scan_said name at from to limit = if bytes_eq name (codes "scan") then option_and_then (λ from. option_and_then (λ to.
-    option_map (λ limit. step (Scan at from to limit)) (number_said limit)) (end_said to)) (bytes_said from) else None
+    option_map (λ limit. call (Scan at from to limit)) (number_said limit)) (end_said to)) (bytes_said from) else None
 
 -- a digit 0 or 1 for each pending write
 abbrev pub place_said : ℕ → Option Bool
@@ -73,22 +77,40 @@ crash_said word = if bytes_eq word (codes "all") then Some crash_all else if byt
 
 -- a line of the one word
 abbrev pub bare_said : List ℕ → Option Said
-bare_said name = if bytes_eq name (codes "sync") then Some (step Sync) else if bytes_eq name (codes "snapshot") then Some (step Snapshot)
-    else if bytes_eq name (codes "rotate") then Some (step Rotate) else if bytes_eq name (codes "room") then Some (step LogRoom) else None
+bare_said name = if bytes_eq name (codes "sync") then Some (call Sync) else if bytes_eq name (codes "snapshot") then Some (call Snapshot)
+    else if bytes_eq name (codes "rotate") then Some (call Rotate) else if bytes_eq name (codes "room") then Some (call LogRoom)
+    else if bytes_eq name (codes "take") then Some (piece work.Take) else None
+
+-- a line of a piece of work on a job, and of nothing besides
+abbrev pub piece_said : List ℕ → ℕ → Option Said
+piece_said name job = if bytes_eq name (codes "read") then Some (piece (work.Read job))
+    else if bytes_eq name (codes "write") then Some (piece (work.Write job))
+    else if bytes_eq name (codes "install") then Some (piece (work.Install job))
+    else if bytes_eq name (codes "drop") then Some (piece (work.Drop job)) else None
 
 -- a line of two words
 abbrev pub one_said : List ℕ → List ℕ → Option Said
-one_said name word = if bytes_eq name (codes "syncto") then option_map (λ n. step (SyncTo n)) (number_said word)
-    else if bytes_eq name (codes "get") then get_said name Now word
-    else if bytes_eq name (codes "release") then option_map (λ n. step (Release n)) (number_said word)
+one_said name word = if bytes_eq name (codes "syncto") then option_map (λ n. call (SyncTo n)) (number_said word)
+    else if bytes_eq name (codes "get") then get_said Now word
+    else if bytes_eq name (codes "release") then option_map (λ n. call (Release n)) (number_said word)
     else if bytes_eq name (codes "fuse") then option_map fuse (number_said word)
-    else if bytes_eq name (codes "crash") then crash_said word else None
+    else if bytes_eq name (codes "crash") then crash_said word else option_and_then (piece_said name) (number_said word)
+
+-- a line of two numbers
+abbrev pub both_said : (ℕ → ℕ → Said) → List ℕ → List ℕ → Option Said
+both_said said a b = option_and_then (λ m. option_map (said m) (number_said b)) (number_said a)
+
+-- a line of three words
+abbrev pub two_said : List ℕ → List ℕ → List ℕ → Option Said
+two_said name a b = if bytes_eq name (codes "get") then option_and_then (λ at. get_said at a) (at_said b)
+    else if bytes_eq name (codes "build") then both_said (λ job parts. piece (work.Build job parts)) a b
+    else if bytes_eq name (codes "accept") then both_said (λ job result. piece (work.Accept job result)) a b else None
 
 -- a line that is no `commit`
 abbrev pub other_said : List ℕ → List (List ℕ) → Option Said
 other_said name [] = bare_said name
 other_said name (a ∷ []) = one_said name a
-other_said name (a ∷ b ∷ []) = option_and_then (λ at. get_said name at a) (at_said b)
+other_said name (a ∷ b ∷ []) = two_said name a b
 other_said name (a ∷ b ∷ c ∷ []) = scan_said name Now a b c
 other_said name (a ∷ b ∷ c ∷ d ∷ []) = option_and_then (λ at. scan_said name at a b c) (at_said d)
 other_said name (a ∷ b ∷ c ∷ d ∷ e ∷ words) = None
@@ -108,7 +130,8 @@ crash_means All = crash_all
 crash_means (Places places) = crash places.items
 
 abbrev pub means : Line → Said
-means (line.Call call) = step (call_of call)
+means (line.Call given) = call (call_of given)
+means (line.Work given) = piece given
 means (line.NoBatch refusal) = no_batch refusal
 means (line.Fuse number) = fuse number
 means (line.Crash kept) = crash_means kept

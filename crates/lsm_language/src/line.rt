@@ -2,12 +2,12 @@
 
 ghost use Rattle.std.specs.Prelude.{map, option_and_then, option_map};
 ghost use Rattle.lsm_language.specs.Words.{Reads};
-ghost use Rattle.lsm_language.specs.Lines.{means, line_said, commit_said, other_said, bare_said, one_said, get_said, scan_said, end_said, at_said, crash_said, places_said, place_said};
+ghost use Rattle.lsm_language.specs.Lines.{means, line_said, commit_said, other_said, bare_said, one_said, two_said, piece_said, get_said, scan_said, end_said, at_said, crash_said, places_said, place_said};
 
 use crate::operations::{batch_of, read_changes};
 use crate::words::{Unread, after, bytes, number_in, words_of};
 use lsm_device::Refusal;
-use lsm_lives::Call;
+use lsm_lives::{Call, Work};
 use lsm_store::At;
 use std::alloc::Global;
 
@@ -16,6 +16,8 @@ use std::alloc::Global;
 pub enum Line {
     /// A call of the store.
     Call(Call),
+    /// A piece of work on the store's jobs.
+    Work(Work),
     /// A commit whose operations form no batch: no call is made, and this refusal is the reply.
     NoBatch(Refusal),
     /// Sets the fuse of a life.
@@ -54,17 +56,11 @@ fn read_other(alloc: Global, name: &str, rest: &[&str]) -> Result<Line, Unread>
     match rest {
         [] => read_bare(name),
         [word] => read_one(alloc, name, word),
-        [key, at] => get_at(alloc, name, at, key),
+        [first, second] => read_two(alloc, name, first, second),
         [from, to, limit] => read_scan(alloc, name, At::Now, from, to, limit),
         [from, to, limit, at] => scan_at(alloc, name, at, from, to, limit),
         _ => Err(Unread::Malformed),
     }
-}
-
-fn get_at(alloc: Global, name: &str, at: &str, key: &str) -> Result<Line, Unread>
-    ensures { Reads means (option_and_then (λ at. get_said name.now at key.now) (at_said at.now)) result }
-{
-    read_get(alloc, name, snapshot(at)?, key)
 }
 
 fn scan_at(
@@ -89,6 +85,7 @@ fn read_bare(name: &str) -> Result<Line, Unread>
         "snapshot" => Ok(Line::Call(Call::Snapshot)),
         "rotate" => Ok(Line::Call(Call::Rotate)),
         "room" => Ok(Line::Call(Call::Room)),
+        "take" => Ok(Line::Work(Work::Take)),
         _ => Err(Unread::Malformed),
     }
 }
@@ -99,10 +96,43 @@ fn read_one(alloc: Global, name: &str, word: &str) -> Result<Line, Unread>
 {
     match name {
         "syncto" => Ok(Line::Call(Call::SyncTo(number_in(word)?))),
-        "get" => read_get(alloc, name, At::Now, word),
+        "get" => read_get(alloc, At::Now, word),
         "release" => Ok(Line::Call(Call::Release(number_in(word)?))),
         "fuse" => Ok(Line::Fuse(number_in(word)?)),
         "crash" => crash(alloc, word),
+        _ => read_piece(name, number_in(word)?),
+    }
+}
+
+// Reads a line of a piece of work on a job, and of nothing besides.
+fn read_piece(name: &str, job: u64) -> Result<Line, Unread>
+    ensures { Reads means (piece_said name.now job) result }
+{
+    match name {
+        "read" => Ok(Line::Work(Work::Read(job))),
+        "write" => Ok(Line::Work(Work::Write(job))),
+        "install" => Ok(Line::Work(Work::Install(job))),
+        "drop" => Ok(Line::Work(Work::Drop(job))),
+        _ => Err(Unread::Malformed),
+    }
+}
+
+// Reads a line of three words.
+fn read_two(alloc: Global, name: &str, first: &str, second: &str) -> Result<Line, Unread>
+    ensures { Reads means (two_said name.now first.now second.now) result }
+{
+    match name {
+        "get" => read_get(alloc, snapshot(second)?, first),
+        "build" => {
+            let job = number_in(first)?;
+            let parts = number_in(second)?;
+            Ok(Line::Work(Work::Build { job, parts }))
+        }
+        "accept" => {
+            let job = number_in(first)?;
+            let result = number_in(second)?;
+            Ok(Line::Work(Work::Accept { job, result }))
+        }
         _ => Err(Unread::Malformed),
     }
 }
@@ -121,13 +151,10 @@ fn commit(alloc: Global, words: &[&str]) -> Result<Line, Unread>
     }
 }
 
-fn read_get(alloc: Global, name: &str, at: At, key: &str) -> Result<Line, Unread>
-    ensures { Reads means (get_said name.now at key.now) result }
+fn read_get(alloc: Global, at: At, key: &str) -> Result<Line, Unread>
+    ensures { Reads means (get_said at key.now) result }
 {
-    match name {
-        "get" => Ok(Line::Call(Call::Get(at, bytes(alloc, key)?))),
-        _ => Err(Unread::Malformed),
-    }
+    Ok(Line::Call(Call::Get(at, bytes(alloc, key)?)))
 }
 
 fn read_scan(

@@ -18,6 +18,7 @@ counted_word counted.Opened = codes "open"
 counted_word counted.Batch = codes "batch"
 counted_word counted.Snapshot = codes "snapshot"
 counted_word counted.Room = codes "room"
+counted_word counted.Left = codes "left"
 
 -- the key of the first pair that a page leaves out
 abbrev pub next_line : Page → List ℕ

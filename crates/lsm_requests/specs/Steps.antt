@@ -22,18 +22,27 @@ counted_by (Commit batch) = counted.Batch
 counted_by Snapshot = counted.Snapshot
 counted_by _ = counted.Room
 
+-- how a call and a piece of work are told, by their replies; a number of such a piece is of blocks that are left
+abbrev pub told_of_call : Call → Told
+told_of_call call = told.Reply (counted_by call)
+
+abbrev pub told_of_piece : Told
+told_of_piece = told.Reply counted.Left
+
 -- ---- steps alone, each after those before it
 
 -- the steps that are made
 abbrev pub steps_after : List (GivenStep Global) → List Line → List (GivenStep Global)
 steps_after steps [] = steps
 steps_after steps (line.Call call ∷ lines) = steps_after (steps ++ step.Call call ∷ []) lines
+steps_after steps (line.Work piece ∷ lines) = steps_after (steps ++ step.Work piece ∷ []) lines
 steps_after steps (_ ∷ lines) = steps_after steps lines
 
 -- how each step is told
 abbrev pub told_after : List Told → List Line → List Told
 told_after steps [] = steps
-told_after steps (line.Call call ∷ lines) = told_after (steps ++ told.Reply (counted_by (call_of call)) ∷ []) lines
+told_after steps (line.Call call ∷ lines) = told_after (steps ++ told_of_call (call_of call) ∷ []) lines
+told_after steps (line.Work piece ∷ lines) = told_after (steps ++ told_of_piece ∷ []) lines
 told_after steps (line.NoBatch refusal ∷ lines) = told_after (steps ++ told.NoBatch refusal ∷ []) lines
 told_after steps (_ ∷ lines) = told_after steps lines
 
@@ -51,10 +60,10 @@ ended lines = by_last (slice_get lines (length lines - 1))
     by_last None = lines ++ line.Crash All ∷ []
     by_last (Some last) = if is_crash last then lines else lines ++ line.Crash All ∷ []
 
--- a life makes at most 38 writes in its opening and 128 in each call, so that a mask of as many places keeps all that pend
+-- a life makes at most 38 writes in its opening and 128 in each step, so that a mask of as many places keeps all that pend
 abbrev pub mask_said : Kept → ℕ → List Bool
-mask_said All calls = replicate (min (38 + min (128 * calls) (2 ^ 64 - 1)) (2 ^ 64 - 1)) true
-mask_said (Places places) calls = places.items
+mask_said All steps = replicate (min (38 + min (128 * steps) (2 ^ 64 - 1)) (2 ^ 64 - 1)) true
+mask_said (Places places) steps = places.items
 
 -- a life by its fuse, its steps and its mask
 abbrev pub life_of : Life Global → Option ℕ × List (GivenStep Global) × List Bool
@@ -65,6 +74,7 @@ abbrev pub lives_after : List (Option ℕ × List (GivenStep Global) × List Boo
     → List (Option ℕ × List (GivenStep Global) × List Bool)
 lives_after lives fuse steps [] = lives
 lives_after lives fuse steps (line.Call call ∷ lines) = lives_after lives fuse (steps ++ step.Call call ∷ []) lines
+lives_after lives fuse steps (line.Work piece ∷ lines) = lives_after lives fuse (steps ++ step.Work piece ∷ []) lines
 lives_after lives fuse steps (line.NoBatch refusal ∷ lines) = lives_after lives fuse steps lines
 lives_after lives fuse steps (line.Fuse number ∷ lines) = lives_after lives (Some number) steps lines
 lives_after lives fuse steps (line.Crash kept ∷ lines) = lives_after (lives ++ (fuse, steps, mask_said kept (length steps)) ∷ []) None [] lines
@@ -83,7 +93,8 @@ opened = told.Reply counted.Opened ∷ []
 
 abbrev pub told_lives_after : List (List Told) → List Told → List Line → List (List Told)
 told_lives_after lives steps [] = lives
-told_lives_after lives steps (line.Call call ∷ lines) = told_lives_after lives (steps ++ told.Reply (counted_by (call_of call)) ∷ []) lines
+told_lives_after lives steps (line.Call call ∷ lines) = told_lives_after lives (steps ++ told_of_call (call_of call) ∷ []) lines
+told_lives_after lives steps (line.Work piece ∷ lines) = told_lives_after lives (steps ++ told_of_piece ∷ []) lines
 told_lives_after lives steps (line.NoBatch refusal ∷ lines) = told_lives_after lives (steps ++ told.NoBatch refusal ∷ []) lines
 told_lives_after lives steps (line.Fuse number ∷ lines) = told_lives_after lives steps lines
 told_lives_after lives steps (line.Crash kept ∷ lines) = told_lives_after (lives ++ steps ∷ []) opened lines

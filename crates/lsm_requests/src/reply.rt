@@ -71,6 +71,7 @@ fn word_of(counted: Counted) -> &'static str
         Counted::Batch => "batch",
         Counted::Snapshot => "snapshot",
         Counted::Room => "room",
+        Counted::Left => "left",
     }
 }
 

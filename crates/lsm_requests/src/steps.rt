@@ -3,19 +3,18 @@
 ghost use Rattle.std.specs.Prelude.{◌≡◌, ◌∷◌, ◌++◌, [], map, None, IfOk, OnOk, length};
 ghost use Rattle.lsm_lives.specs.Calls.{call_of};
 ghost use Rattle.lsm_lives.specs.declared.calls.Step.TheVariants as step;
-ghost use Rattle.lsm_requests.specs.declared.steps.Told.TheVariants.{Reply};
-ghost use Rattle.lsm_requests.specs.Steps.{steps_after, told_after, counted_by, ended, mask_said, life_of, lives_after, opened, told_lives};
+ghost use Rattle.lsm_requests.specs.Steps.{steps_after, told_after, counted_by, told_of_call, told_of_piece, ended, mask_said, life_of, lives_after, opened, told_lives};
 
 use lsm_device::Refusal;
 use lsm_language::line::{Kept, Line};
-use lsm_lives::{Call, Life, Step};
+use lsm_lives::{Call, Life, Step, Work};
 use std::alloc::{AllocError, Global};
 
 /// The most writes that an opening makes.
 const OPENING_WRITES: usize = 38;
 
-/// The most writes that a call makes.
-const CALL_WRITES: usize = 128;
+/// The most writes that a step makes.
+const STEP_WRITES: usize = 128;
 
 /// What a number in a reply counts.
 #[derive(Clone, Copy)]
@@ -28,6 +27,8 @@ pub enum Counted {
     Snapshot,
     /// The free sectors of the open log.
     Room,
+    /// The blocks that a job has left to read, or to write.
+    Left,
 }
 
 /// How the reply of a step is told.
@@ -59,10 +60,20 @@ impl Steps {
     // Adds a call, which is told by its reply.
     fn add(&mut self, call: Call) -> Result<(), AllocError>
         ensures { OnOk result ((self.new.steps.items ≡ self.old.steps.items ++ step.Call call ∷ [])
-            × (self.new.told.items ≡ self.old.told.items ++ Reply (counted_by (call_of call)) ∷ [])) }
+            × (self.new.told.items ≡ self.old.told.items ++ told_of_call (call_of call) ∷ [])) }
     {
         self.told.push(Told::Reply(counted_in(&call)))?;
         self.steps.push(Step::Call(call))?;
+        Ok(())
+    }
+
+    // Adds a piece of work, which is told by its reply.
+    fn add_work(&mut self, piece: Work) -> Result<(), AllocError>
+        ensures { OnOk result ((self.new.steps.items ≡ self.old.steps.items ++ step.Work piece ∷ [])
+            × (self.new.told.items ≡ self.old.told.items ++ told_of_piece ∷ [])) }
+    {
+        self.told.push(Told::Reply(Counted::Left))?;
+        self.steps.push(Step::Work(piece))?;
         Ok(())
     }
 }
@@ -76,6 +87,7 @@ pub fn steps_of(alloc: Global, lines: Vec<Line>) -> Result<Steps, AllocError>
     for line in lines {
         match line {
             Line::Call(call) => steps.add(call)?,
+            Line::Work(piece) => steps.add_work(piece)?,
             Line::NoBatch(refusal) => steps.told.push(Told::NoBatch(refusal))?,
             Line::Fuse(_) | Line::Crash(_) => {}
         }
@@ -141,6 +153,7 @@ pub fn lives_of(alloc: Global, lines: Vec<Line>) -> Result<Lives, AllocError>
     for line in lines {
         match line {
             Line::Call(call) => begun.steps.add(call)?,
+            Line::Work(piece) => begun.steps.add_work(piece)?,
             Line::NoBatch(refusal) => begun.steps.told.push(Told::NoBatch(refusal))?,
             Line::Fuse(count) => begun.fuse = Some(count),
             Line::Crash(kept) => {
@@ -162,13 +175,13 @@ fn ended(mut lines: Vec<Line>) -> Result<Vec<Line>, AllocError>
     Ok(lines)
 }
 
-// All pending writes of a life are among those that its opening and its calls made.
-fn mask_of(alloc: Global, kept: Kept, calls: usize) -> Result<Vec<bool>, AllocError>
-    ensures { IfOk result (λ mask. mask.items ≡ mask_said kept calls) }
+// All pending writes of a life are among those that its opening and its steps made.
+fn mask_of(alloc: Global, kept: Kept, steps: usize) -> Result<Vec<bool>, AllocError>
+    ensures { IfOk result (λ mask. mask.items ≡ mask_said kept steps) }
 {
     match kept {
         Kept::All => {
-            let writes = OPENING_WRITES.saturating_add(CALL_WRITES.saturating_mul(calls));
+            let writes = OPENING_WRITES.saturating_add(STEP_WRITES.saturating_mul(steps));
             Ok(vec![in alloc; true; writes]?)
         }
         Kept::Places(places) => Ok(places),
