@@ -114,6 +114,28 @@ for file in store moved; do
 done
 echo "files.sh: a file, and a copy of it, is read back by other processes"
 
+# ---- many runs
+
+# Puts one after another, of keys that come again and of keys that don't: each settles what the one before it has left.
+many_puts() {
+    local number key value
+    local -A wanted=()
+    "$program" format many 65536 128 >out 2>err || fail "format: $(cat err)"
+    for ((number = 1; number <= 1000; number++)); do
+        if ((number % 4 == 0)); then key=$((number % 1000)); else key=$((number % 29)); fi
+        printf -v key %04x "$key"
+        printf -v value %04x "$number"
+        wanted[$key]=$value
+        "$program" put many "$key" "$value" >out 2>err || fail "put $number: $(cat err)"
+        [ "$(cat out)" = "batch $number" ] || fail "put $number prints $(cat out)"
+    done
+    for key in "${!wanted[@]}"; do
+        [ "$("$program" get many "$key")" = "value ${wanted[$key]}" ] || fail "get $key after 1000 puts: $("$program" get many "$key")"
+    done
+    echo "files.sh: 1000 puts one after another stand, and each key has its last value"
+}
+many_puts
+
 # ---- syncs
 
 # The calls of one run that write the file (w), sync its data (d), sync it whole (s) and print (p), in their order.

@@ -22,6 +22,7 @@ use Rattle.lsm_lives.specs.Replaying.{MakesEach}
 use Rattle.lsm_lives.specs.Leading.{AreLed, LifeView}
 use Rattle.lsm_lives.specs.Living.{KeepPromise, asked_in}
 use Rattle.lsm_requests.specs.Steps.{steps_after, told_after, lives_said, told_lives}
+use Rattle.lsm_requests.specs.Settling.{Settles}
 use Rattle.lsm_requests.specs.Replies.{page_lines, replies_text, lives_text}
 use Rattle.lsm_requests.specs.declared.steps.Told.{Told}
 use Rattle.lsm_language.specs.declared.request.Request.{Request}
@@ -74,11 +75,13 @@ pub record OfOpened (Tells : StoreView → StoreView → Output → Type 0) (ans
   pub tells : Tells store after answer.output
   pub hands : Hands answer.file after.device
 
--- a batch was committed and synced, and its number is told
+-- the store was settled, then a batch was committed and synced, and its number is told
 pub record HasCommitted (batch : List Operation) (before after : StoreView) (output : Output) : Type 0 where
   pub number : ℕ
+  pub settled : StoreView
   pub between : StoreView
-  pub commits : Serves before (Commit batch) (Number number) between
+  pub settles : Settles before settled
+  pub commits : Serves settled (Commit batch) (Number number) between
   pub syncs : Serves between Sync Done after
   pub told : output ≡ Batch number
 

@@ -1,4 +1,5 @@
 pub mod Steps
 pub mod Replies
+pub mod Settling
 pub mod Answers
 pub mod Endings

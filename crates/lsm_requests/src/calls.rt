@@ -8,6 +8,7 @@ ghost use Rattle.lsm_requests.specs.Answers.{Gives, HasFormatted, HasCommitted, 
 use crate::answer::{Answer, Output};
 use crate::reply::push_page;
 use crate::runs;
+use crate::settling::settle;
 use crate::steps::steps_of;
 use lsm_codec::{Batch, word};
 use lsm_device::{Device, FileDevice, Refusal};
@@ -69,7 +70,7 @@ fn open<R: Files<File = File> + AllocGlobal>(
     }
 }
 
-fn commit<R: Files<File = File> + AllocGlobal>(
+fn commit<R: Files<File = File> + AllocGlobal + Threads + Sync>(
     rt: &R,
     file: &str,
     batch: &Batch,
@@ -77,13 +78,19 @@ fn commit<R: Files<File = File> + AllocGlobal>(
     ensures { IfOk result (OfOpened (HasCommitted batch.now)) }
 {
     let mut store = open(rt, file)?;
-    let output = commit_and_sync(&mut store, batch)?;
+    let output = settle_and_commit(rt, rt.alloc(), &mut store, batch)?;
     Ok(Answer::of_store(output, store))
 }
 
-fn commit_and_sync<D: Device>(store: &mut Store<D>, batch: &Batch) -> Result<Output, Refusal>
+fn settle_and_commit<R: Threads + Sync, D: Device>(
+    rt: &R,
+    alloc: Global,
+    store: &mut Store<D>,
+    batch: &Batch,
+) -> Result<Output, Refusal>
     ensures { IfOk result (HasCommitted batch.now store.old store.new) }
 {
+    settle(rt, alloc, store);
     let number = store.commit(batch)?;
     store.sync()?;
     Ok(Output::Batch(number))

@@ -6,4 +6,5 @@ pub mod calls;
 pub mod ending;
 pub mod reply;
 pub mod runs;
+pub mod settling;
 pub mod steps;

@@ -1,0 +1,21 @@
+use Rattle.std.proofs.Common.{inr}
+use Rattle.lsm_requests.proofs.SettlingLaws.{given-job}
+use Rattle.lsm_requests.proofs.settling.finish_next.Goals as goal
+
+pub returns-in-Ok-Some-clause-finished : goal.returns-in-Ok-Some-clause-finished
+returns-in-Ok-Some-clause-finished g c = λ done. record {
+  job = c.in-Ok-Some.taken.number;
+  level = c.in-Ok-Some.taken.level;
+  begun = c.job_take.new.self;
+  taken = given-job c.args.store.now c.job_take.new.self c.in-Ok-Some.field-0 c.in-Ok-Some.taken c.in-Ok-Some.field-0-is c.in-Ok-Some.ensures.works;
+  goes = c.finish_or_drop.ensures.finished done;
+}
+
+pub returns-in-Ok-Some-clause-no_more : goal.returns-in-Ok-Some-clause-no_more
+returns-in-Ok-Some-clause-no_more g c = λ given_up. inr (inr record {
+  job = c.in-Ok-Some.taken.number;
+  level = c.in-Ok-Some.taken.level;
+  begun = c.job_take.new.self;
+  taken = given-job c.args.store.now c.job_take.new.self c.in-Ok-Some.field-0 c.in-Ok-Some.taken c.in-Ok-Some.field-0-is c.in-Ok-Some.ensures.works;
+  goes = c.finish_or_drop.ensures.given_up given_up;
+})
