@@ -110,6 +110,13 @@ fn command<'a>(alloc: Global) -> Result<Command<'a>, AllocError>
     let command = adding(
         alloc,
         command,
+        "stat",
+        "Print the numbers of a store",
+        &["FILE"],
+    )?;
+    let command = adding(
+        alloc,
+        command,
         "replay",
         "Make the steps of a script",
         &["FILE"],
@@ -221,6 +228,10 @@ fn subcommand<'a>(name: &str, given: &ArgMatches<'a>) -> Result<Asked<'a>, Usage
         "scan" => {
             let (file, from, limit) = three(given, "FILE", "FROM", "LIMIT")?;
             Ok(Asked::Scan { file, from, limit })
+        }
+        "stat" => {
+            let file = at(given, "FILE")?;
+            Ok(Asked::Stat { file })
         }
         "replay" => {
             let file = at(given, "FILE")?;

@@ -26,6 +26,9 @@ pub enum Asked<'a> {
         from: &'a str,
         limit: &'a str,
     },
+    Stat {
+        file: &'a str,
+    },
     Replay {
         file: &'a str,
     },

@@ -45,6 +45,10 @@ pub enum Request<'a> {
         from: Vec<u8>,
         limit: u64,
     },
+    /// Tell the numbers of the store.
+    Stat {
+        file: &'a str,
+    },
     /// Make the steps of a script.
     Replay {
         file: &'a str,
@@ -87,6 +91,7 @@ impl<'a> Request<'a> {
                 let limit = limit_in(alloc, limit)?;
                 Ok(Request::Scan { file, from, limit })
             }
+            Asked::Stat { file } => Ok(Request::Stat { file }),
             Asked::Replay { file } => {
                 let script = read_script(alloc, Kind::Steps, text)?;
                 Ok(Request::Replay { file, script })

@@ -1,5 +1,5 @@
 -- What the program prints.
-use Rattle.std.specs.Prelude.{◌≡◌, ℕ, ◌+◌, ◌*◌, List, [], ◌∷◌, ◌++◌, map, Option, Some, None, codes, decimal, string_bytes}
+use Rattle.std.specs.Prelude.{◌≡◌, ℕ, ◌+◌, ◌*◌, List, [], ◌∷◌, ◌++◌, map, Option, Some, None, Ok, codes, decimal, string_bytes}
 use Rattle.lsm_codec.specs.Keys.{Bytes}
 use Rattle.lsm_codec.specs.Map.{Operation}
 use Rattle.lsm_codec.specs.Words.{word_of}
@@ -14,8 +14,10 @@ use Rattle.lsm_open.specs.CrashState.{formatted as empty_store}
 use Rattle.lsm_open.specs.Image.{StandFor}
 use Rattle.lsm_store.specs.declared.asked.At.TheVariants.{Now}
 use Rattle.lsm_store.specs.Calls.{Commit, Get, Scan, Sync, Done, Number, Rows, Value as Found}
-use Rattle.lsm_store.specs.Backing.{StoreView}
+use Rattle.lsm_store.specs.Backing.{StoreView, machine_of}
 use Rattle.lsm_store.specs.Serving.{Serves, ReopensTo}
+use Rattle.lsm_store.specs.Stats.{stat_answer}
+use Rattle.lsm_store.specs.declared.stat.Stat.{Stat}
 use Rattle.lsm_lives.specs.Asked.{Asked, Told as LivesTold}
 use Rattle.lsm_lives.specs.Calls.{asked_of}
 use Rattle.lsm_lives.specs.Replaying.{MakesEach}
@@ -23,7 +25,7 @@ use Rattle.lsm_lives.specs.Leading.{AreLed, LifeView}
 use Rattle.lsm_lives.specs.Living.{KeepPromise, asked_in}
 use Rattle.lsm_requests.specs.Steps.{steps_after, told_after, lives_said, told_lives}
 use Rattle.lsm_requests.specs.Settling.{Settles}
-use Rattle.lsm_requests.specs.Replies.{page_lines, replies_text, lives_text}
+use Rattle.lsm_requests.specs.Replies.{page_lines, stat_line, replies_text, lives_text}
 use Rattle.lsm_requests.specs.declared.steps.Told.{Told}
 use Rattle.lsm_language.specs.declared.request.Request.{Request}
 use Rattle.lsm_language.specs.declared.request.Request.TheVariants as request
@@ -108,6 +110,13 @@ pub record HasRows (from : Bytes) (limit : ℕ) (before after : StoreView) (outp
   pub serves : Serves before (Scan Now from None limit) (Rows page) after
   pub told : HasLines (page_lines page) output
 
+-- the numbers of the store are told
+pub record HasNumbers (before after : StoreView) (output : Output) : Type 0 where
+  pub stat : Stat
+  pub numbers : stat_answer (machine_of before) ≡ Ok stat
+  pub same : after ≡ before
+  pub told : HasLines (stat_line stat) output
+
 -- steps were made of the store, and the replies to them are told, each as its line asks for
 pub record HasReplies (asked : List Asked) (steps : List Told) (before after : StoreView) (output : Output) : Type 0 where
   pub replies : List LivesTold
@@ -132,5 +141,6 @@ Gives (request.Format file geometry) = HasFormatted geometry.sectors geometry.lo
 Gives (request.Commit file batch) = OfOpened (HasCommitted batch)
 Gives (request.Get file key) = OfOpened (HasFound key.items)
 Gives (request.Scan file from limit) = OfOpened (HasRows from.items limit)
+Gives (request.Stat file) = OfOpened HasNumbers
 Gives (request.Replay file script) = OfOpened (HasReplies (map asked_of (steps_after [] script.items)) (told_after [] script.items))
 Gives (request.Lives geometry script) = λ answer. HasLives geometry.sectors geometry.log_sectors (lives_said script.items) (told_lives script.items) answer.output

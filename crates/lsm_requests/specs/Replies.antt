@@ -1,10 +1,11 @@
 -- Replies as lines.
-use Rattle.std.specs.Prelude.{ℕ, List, [], ◌∷◌, ◌++◌, codes, decimal, Option, Some, None}
+use Rattle.std.specs.Prelude.{ℕ, Bool, List, [], ◌∷◌, ◌++◌, codes, decimal, Option, Some, None, if◌then◌else◌}
 use Rattle.std.specs.List.{flat_map}
 use Rattle.lsm_codec.specs.Words.{word_of}
 use Rattle.lsm_codec.specs.Keys.{Bytes}
 use Rattle.lsm_mem.specs.Paging.{Page}
 use Rattle.lsm_store.specs.Calls.{Reply, Number, Done, Value, Rows, Given, Handed, Refused}
+use Rattle.lsm_store.specs.declared.stat.Stat.{Stat}
 use Rattle.lsm_language.specs.Faults.{refusal_line}
 use Rattle.lsm_lives.specs.Asked.{Told as LivesTold, Replied, Built}
 use Rattle.lsm_requests.specs.declared.steps.Counted.{Counted}
@@ -42,6 +43,15 @@ rows_line page = codes "rows " ++ flat_map row_pair page.rows ++ next_line page
 -- a page in lines of its own
 abbrev pub page_lines : Page → List ℕ
 page_lines page = flat_map row_line page.rows ++ next_line page
+
+-- the numbers of a store in one line, where a yes is 1 and a no 0
+abbrev pub digit_of : Bool → ℕ
+digit_of flag = if flag then 1 else 0
+
+abbrev pub stat_line : Stat → List ℕ
+stat_line stat = codes "generation " ++ decimal stat.generation ++ codes " batches " ++ decimal stat.batches
+    ++ codes " room " ++ decimal stat.room ++ codes " waiting " ++ decimal (digit_of stat.waiting) ++ codes " runs " ++ decimal stat.runs
+    ++ codes " tables " ++ decimal stat.tables ++ codes " free " ++ decimal stat.free_blocks ++ 10 ∷ []
 
 -- a job that was taken, if there was one: a flush, or by the level of its upper tables
 abbrev pub job_line : Option (ℕ × Option ℕ) → List ℕ

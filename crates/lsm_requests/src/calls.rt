@@ -3,10 +3,10 @@
 ghost use Rattle.std.specs.Prelude.{[], map, IfOk};
 ghost use Rattle.lsm_lives.specs.Calls.{asked_of};
 ghost use Rattle.lsm_requests.specs.Steps.{steps_after, lives_said, told_after, told_lives};
-ghost use Rattle.lsm_requests.specs.Answers.{Gives, HasFormatted, HasCommitted, HasFound, HasLives, HasRows, HasReplies, OfOpened, WasOpened};
+ghost use Rattle.lsm_requests.specs.Answers.{Gives, HasFormatted, HasCommitted, HasFound, HasLives, HasNumbers, HasRows, HasReplies, OfOpened, WasOpened};
 
 use crate::answer::{Answer, Output};
-use crate::reply::push_page;
+use crate::reply::{push_page, stat_text};
 use crate::runs;
 use crate::settling::settle;
 use crate::steps::steps_of;
@@ -35,6 +35,7 @@ pub fn answer<R: Files<File = File> + AllocGlobal + Threads + Sync>(
         Request::Commit { file, batch } => commit(rt, file, &batch),
         Request::Get { file, key } => get(rt, file, &key),
         Request::Scan { file, from, limit } => scan(rt, file, &from, limit),
+        Request::Stat { file } => stat(rt, file),
         Request::Replay { file, script } => replay(rt, file, script),
         Request::Lives { geometry, script } => lives(rt, rt.alloc(), geometry, script),
     }
@@ -157,6 +158,22 @@ fn list<D: Device>(
     let mut text = String::new(alloc);
     push_page(alloc, &mut text, &page)?;
     Ok(Output::Lines(text))
+}
+
+// Tells the numbers of a store.
+fn numbers<D: Device>(alloc: Global, store: &Store<D>) -> Result<Output, Refusal>
+    ensures { IfOk result (HasNumbers store.now store.now) }
+{
+    let stat = store.stat()?;
+    Ok(Output::Lines(stat_text(alloc, &stat)?))
+}
+
+fn stat<R: Files<File = File> + AllocGlobal>(rt: &R, file: &str) -> Result<Answer, Refusal>
+    ensures { IfOk result (OfOpened HasNumbers) }
+{
+    let store = open(rt, file)?;
+    let output = numbers(rt.alloc(), &store)?;
+    Ok(Answer::of_store(output, store))
 }
 
 fn lives<R: Threads + Sync>(

@@ -1,18 +1,18 @@
 //! Replies as lines.
 
-ghost use Rattle.std.specs.Prelude.{◌≡◌, ◌++◌, map, option_map, IfErr, OnOk, string_bytes};
+ghost use Rattle.std.specs.Prelude.{◌≡◌, ◌++◌, map, option_map, decimal, IfErr, IfOk, OnOk, string_bytes};
 ghost use Rattle.lsm_device.specs.declared.refusal.Refusal.TheVariants.{NoMemory};
 ghost use Rattle.lsm_lives.specs.Calls.{told_of};
 ghost use Rattle.lsm_lives.specs.Living.{told_by};
 ghost use Rattle.lsm_language.specs.Faults.{refusal_line};
-ghost use Rattle.lsm_requests.specs.Replies.{counted_word, lives_text, next_line, page_lines, replies_text, told_line, job_line, rows_line};
+ghost use Rattle.lsm_requests.specs.Replies.{counted_word, digit_of, lives_text, next_line, page_lines, replies_text, stat_line, told_line, job_line, rows_line};
 
 use crate::steps::{Counted, Told};
 use lsm_codec::word;
 use lsm_device::Refusal;
 use lsm_language::refused::refusal_text;
 use lsm_lives::Reply;
-use lsm_store::{Page, TakenJob};
+use lsm_store::{Page, Stat, TakenJob};
 use std::alloc::Global;
 use std::fmt::Write;
 
@@ -162,6 +162,39 @@ pub fn push_page(alloc: Global, text: &mut String, page: &Page) -> Result<(), Re
     }
     push_next(alloc, text, page)?;
     Ok(())
+}
+
+/// The numbers of a store, in one line.
+pub fn stat_text(alloc: Global, stat: &Stat) -> Result<String, Refusal>
+    ensures text { IfOk result (λ text. string_bytes text ≡ stat_line stat.now) }
+    ensures refused { IfErr result (λ e. e ≡ NoMemory) }
+{
+    let mut text = String::new(alloc);
+    push_number(&mut text, "generation ", stat.generation)?;
+    push_number(&mut text, " batches ", stat.batches)?;
+    push_number(&mut text, " room ", u64::from(stat.room))?;
+    push_number(&mut text, " waiting ", digit_of(stat.waiting))?;
+    push_number(&mut text, " runs ", stat.runs as u64)?;
+    push_number(&mut text, " tables ", stat.tables as u64)?;
+    push_number(&mut text, " free ", u64::from(stat.free_blocks))?;
+    text.push_str("\n")?;
+    Ok(text)
+}
+
+// Adds a number behind the words for what it counts.
+fn push_number(text: &mut String, words: &str, number: u64) -> Result<(), Refusal>
+    ensures text { OnOk result (string_bytes text.new ≡ string_bytes text.old ++ words.now ++ decimal number) }
+    ensures refused { IfErr result (λ e. e ≡ NoMemory) }
+{
+    write!(text, "{words}{number}")?;
+    Ok(())
+}
+
+// A yes as 1, and a no as 0.
+fn digit_of(flag: bool) -> u64
+    ensures { result ≡ digit_of flag }
+{
+    if flag { 1 } else { 0 }
 }
 
 // The key of the first pair that a page leaves out.
