@@ -25,8 +25,8 @@ const ROOT_SECTORS: u32 = 130;
 
 const LOG_REGIONS: u32 = 3;
 
-/// Whether a device may have so many sectors.
-pub(crate) fn is_device_size(sectors: u32) -> bool
+/// Whether a device may have so many sectors: 8,192 to 1,048,576.
+pub fn is_device_size(sectors: u32) -> bool
     ensures { IsTrue result ↔ IsDeviceSize sectors }
 {
     (8_192..=1_048_576).contains(&sectors)

@@ -13,7 +13,7 @@ mod reopened;
 mod replayed;
 mod tables;
 
-pub use formatting::format;
+pub use formatting::{format, is_device_size};
 pub use image_law::{
     batches_apply_to_tables, crashes_leave_beginnings, free_writes_change_nothing,
     sectors_have_one_meaning, syncs_keep_placements,
@@ -29,3 +29,5 @@ pub use law::openings_leave_the_same;
 pub use next::table_records;
 pub use recovered_tables::{RecoveredTables, recover_with_tables};
 pub use regions::{OpenRegion, Regions};
+pub use replayed::{Replayed, replay_regions};
+pub use tables::{TablesRead, read_tables};

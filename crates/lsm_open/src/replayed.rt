@@ -24,10 +24,10 @@ use std::alloc::{AllocError, Allocator};
 /// What the regions replayed so far gave: the log records of those that hold batches, the versions, and the number of the
 /// last batch.
 #[derive(Drop)]
-pub(crate) struct Replayed<A: Allocator> {
-    pub(crate) closed: Vec<LogRecord, A>,
-    pub(crate) mem: Mem<A>,
-    pub(crate) count: u64,
+pub struct Replayed<A: Allocator> {
+    pub closed: Vec<LogRecord, A>,
+    pub mem: Mem<A>,
+    pub count: u64,
 }
 
 // Adds batches under the numbers behind the count.
@@ -183,8 +183,11 @@ fn replay_region<A: Allocator + Clone, D: Device>(
     )?)
 }
 
-/// Replays the regions of a manifest in order.
-pub(crate) fn replay_regions<A: Allocator + Clone, D: Device>(
+/// Replays the regions of a manifest in order, on a device of which the manifest's regions are a part.
+///
+/// It is refused with `BadManifest` where a region's first batch is not the next one; with `NoMemory`; and with `Io` where a
+/// read failed, which was its last. It writes nothing, and reads each sector of the regions once at most.
+pub fn replay_regions<A: Allocator + Clone, D: Device>(
     alloc: &A,
     device: &mut D,
     log_sectors: u16,

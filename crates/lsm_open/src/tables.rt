@@ -290,9 +290,10 @@ fn claim_extents<A: Allocator>(
 /// What an opening makes of the tables that a manifest names: the levels that they stand in, and the blocks that they
 /// occupy.
 #[derive(Drop)]
-pub(crate) struct TablesRead<A: Allocator> {
-    pub(crate) levels: Levels<A>,
-    pub(crate) extents: Extents<A>,
+pub struct TablesRead<A: Allocator> {
+    pub levels: Levels<A>,
+    /// Which blocks of the data area are handed out: theirs.
+    pub extents: Extents<A>,
 }
 
 /// Opens the tables that a manifest names: of each footer, index and filter are read, and no data block. Their extents are
@@ -301,7 +302,7 @@ pub(crate) struct TablesRead<A: Allocator> {
 /// It is refused with `BadTable` where these are not those of the table that the record names, or where tables of a run are
 /// out of order; with `NoMemory`; and with `Io` where a read failed, which was its last. It writes nothing, and reads at most
 /// 56 sectors a table.
-pub(crate) fn read_tables<A: Allocator + Clone, D: Device>(
+pub fn read_tables<A: Allocator + Clone, D: Device>(
     alloc: &A,
     device: &mut D,
     log_sectors: u16,
