@@ -1,0 +1,14 @@
+pub mod DeviceReads
+pub mod LaterEpochs
+pub mod BlockEntries
+pub mod TableEntries
+pub mod Refusing
+pub mod LeastNumbers
+pub mod OrderWalks
+pub mod SoundTables
+pub mod SoundRuns
+pub mod ToldTables
+pub mod RunsAscend
+pub mod StandSoundly
+pub mod Checked
+pub mod Readings

@@ -1,0 +1,89 @@
+use Rattle.std.proofs.Common.{◌≡◌, ◌∙◌, ℕ, true, IsTrue, List, length, subst, sym, arith}
+use Rattle.std.specs.List.{AllByRecursion}
+use Rattle.std.proofs.lemmas.Result.{err_from_is_err_and}
+use Rattle.lsm_device.specs.Disk.{Disk, seen}
+use Rattle.lsm_device.specs.History.{present}
+use Rattle.lsm_device.specs.Medium.{disk}
+use Rattle.lsm_device.specs.Refusals.{is_no_fault}
+use Rattle.lsm_levels.specs.Levels.{all_tables, places}
+use Rattle.lsm_levels.specs.Stored.{AreWithin}
+use Rattle.lsm_levels.specs.Tables.{versions_of}
+use Rattle.lsm_open.specs.Tables.{first_data}
+use Rattle.lsm_open.proofs.TableReads.{reads_joined, reads_wider}
+use Rattle.lsm_check.specs.Images.{finds_no_fault}
+use Rattle.lsm_check.specs.Sound.{IsTold, AreSound}
+use Rattle.lsm_check.proofs.Checked.{few_tables, levels_told, sound_image, image_sound}
+use Rattle.lsm_check.proofs.checking.check_all.Goals as goal
+
+-- ---- what is asked of the tables
+
+pub check_levels-requires-clause-within : goal.check_levels-requires-clause-within
+check_levels-requires-clause-within g c =
+    let n = c.in_ok-named.named.loaded.log_sectors in
+    subst (λ (z : ℕ). AreWithin z (first_data n) (places c.in_ok-named.named.tables.levels)) (sym c.in_ok-named.ensures.device.same_size) c.in_ok-named.ensures.named.within
+
+pub check_levels-requires-clause-few : goal.check_levels-requires-clause-few
+check_levels-requires-clause-few g c =
+    let named = c.in_ok-named.ensures.named in
+    few_tables c.in_ok-named.named.loaded.manifest c.in_ok-named.named.tables.levels named.fits named.named
+
+-- ---- a yes
+
+pub returns-clause-yes : goal.returns-clause-yes
+returns-clause-yes g c = λ t.
+    let D = g.D.Device in
+    let old = D.medium c.args.device.now in
+    let S = seen (disk old) in
+    let n = c.in_ok-named.named.loaded.log_sectors in
+    let m = c.in_ok-named.named.loaded.manifest in
+    let x = c.in_ok-named.named.tables in
+    let tables = all_tables (places x.levels) in
+    let named = c.in_ok-named.ensures.named in
+    let told = c.in_ok-named.ensures.told t in
+    let read = c.in_ok-named.ensures.device in
+    let r = c.report_of.ensures in
+    let t1 : IsTrue (D.medium c.read_named.new.device).lasting.tells = rw read.same_lasting t in
+    let each : AllByRecursion (IsTold S (first_data n)) tables = levels_told old.size n S m x.levels x.extents c.in_ok-named.named.batches named told in
+    let found = subst (λ (h : List Disk). AllByRecursion (IsTold (seen (present h)) (first_data n)) tables → AreSound (seen (present h)) (first_data n) c.base-base.result tables × (c.in_ok-entries.entries ≡ length (versions_of tables))) (read.unchanged t) (c.in_ok-entries.ensures.sound t1) each in
+    let sound : AreSound S (first_data n) m.base tables = subst (λ (b : ℕ). AreSound S (first_data n) b tables) c.base-base.ensures found.0 in
+    sound_image old.size n S m x.levels x.extents c.in_ok-named.named.batches named told c.report_of.result sound r.generation r.batches r.tables (r.entries ∙ found.1) (r.free_blocks old.size named.held)
+
+-- ---- of the image of a store
+
+pub returns-in_err-named-clause-image : goal.returns-in_err-named-clause-image
+returns-in_err-named-clause-image g c = λ k left t is.
+    let p = err_from_is_err_and c.from_residual.result c.from_residual.ensures.1 in
+    rw (p.1, p.2) (c.in_err-named.ensures.fair k left t is)
+
+pub returns-in_err-entries-clause-image : goal.returns-in_err-entries-clause-image
+returns-in_err-entries-clause-image g c = λ k left t is.
+    let D = g.D.Device in
+    let old = D.medium c.args.device.now in
+    let S = seen (disk old) in
+    let n = c.in_ok-named.named.loaded.log_sectors in
+    let m = c.in_ok-named.named.loaded.manifest in
+    let x = c.in_ok-named.named.tables in
+    let tables = all_tables (places x.levels) in
+    let named = c.in_ok-named.ensures.named in
+    let told = c.in_ok-named.ensures.told t in
+    let read = c.in_ok-named.ensures.device in
+    let t1 : IsTrue (D.medium c.read_named.new.device).lasting.tells = rw read.same_lasting t in
+    let sound : AreSound S (first_data n) m.base tables = image_sound old.size n S m x.levels x.extents c.in_ok-named.named.batches named told k left is in
+    let there : AreSound S (first_data n) c.base-base.result tables = subst (λ (b : ℕ). AreSound S (first_data n) b tables) (sym c.base-base.ensures) sound in
+    let p = err_from_is_err_and c.from_residual-in_err-entries.result c.from_residual-in_err-entries.ensures.1 in
+    rw (p.1, p.2) (c.in_err-entries.ensures.fair t1 (subst (λ (h : List Disk). AreSound (seen (present h)) (first_data n) c.base-base.result tables) (sym (read.unchanged t)) there))
+
+-- ---- the device
+
+pub returns-in_err-named-clause-device : goal.returns-in_err-named-clause-device
+returns-in_err-named-clause-device g c =
+    let p = err_from_is_err_and c.from_residual.result c.from_residual.ensures.1 in
+    rw (p.1, p.2) (reads_wider 69698 593986 (is_no_fault c.in_err-named.field-0.0) _ _ (omega arith) c.in_err-named.ensures.device)
+
+pub returns-in_err-entries-clause-device : goal.returns-in_err-entries-clause-device
+returns-in_err-entries-clause-device g c =
+    let p = err_from_is_err_and c.from_residual-in_err-entries.result c.from_residual-in_err-entries.ensures.1 in
+    rw (p.1, p.2) (reads_joined 69698 524288 593986 (finds_no_fault c.in_err-entries.field-0.0) _ _ _ (omega arith) c.in_ok-named.ensures.device c.in_err-entries.ensures.device)
+
+pub returns-clause-device : goal.returns-clause-device
+returns-clause-device g c = reads_joined 69698 524288 593986 true _ _ _ (omega arith) c.in_ok-named.ensures.device c.in_ok-entries.ensures.device

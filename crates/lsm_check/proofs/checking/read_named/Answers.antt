@@ -1,0 +1,131 @@
+use Rattle.std.proofs.Common.{◌≡◌, ◌*◌, ℕ, true, IsTrue, List, Some, length, subst, sym, ◌∙◌, arith}
+use Rattle.std.proofs.lemmas.Result.{err_from_is_err_and}
+use Rattle.lsm_codec.specs.Geometry.{data_blocks_of}
+use Rattle.lsm_device.specs.Disk.{Disk, seen}
+use Rattle.lsm_device.specs.History.{present}
+use Rattle.lsm_device.specs.Medium.{disk}
+use Rattle.lsm_device.specs.Refusals.{is_no_fault}
+use Rattle.lsm_levels.specs.Levels.{places}
+use Rattle.lsm_levels.specs.Stored.{AreWithin}
+use Rattle.lsm_open.specs.Image.{count_in}
+use Rattle.lsm_open.specs.Tables.{first_data, AreTables}
+use Rattle.lsm_open.specs.ToldTables.{told_levels, Held}
+use Rattle.lsm_open.proofs.TableOpenings.{named_here}
+use Rattle.lsm_open.proofs.TableReads.{reads_none, reads_ok, reads_err, reads_joined, reads_wider}
+use Rattle.lsm_check.specs.Named.{HasBatches}
+use Rattle.lsm_check.proofs.Readings.{short_memory, short_load, batches_named}
+use Rattle.lsm_check.proofs.checking.read_named.Goals as goal
+
+-- ---- what was read
+
+pub returns-clause-named : goal.returns-clause-named
+returns-clause-named g c =
+    let l = c.in_ok-loaded.loaded in
+    let x = c.in_ok-tables.tables in
+    let size = c.load.ensures.same_size in
+    record {
+      geometry = c.in_ok-loaded.ensures.fits.0;
+      fits = c.in_ok-loaded.ensures.fits.1;
+      named = c.in_ok-tables.ensures.named;
+      runs = c.in_ok-tables.ensures.runs;
+      within = subst (λ (z : ℕ). AreWithin z (first_data l.log_sectors) (places x.levels)) size c.in_ok-tables.ensures.within;
+      held = subst (λ (z : ℕ). Held (data_blocks_of z l.log_sectors) l.manifest.tables x.extents) size c.in_ok-tables.ensures.extents;
+    }
+
+pub returns-clause-told : goal.returns-clause-told
+returns-clause-told g c = λ t.
+    let D = g.D.Device in
+    let old = (D.medium c.args.device.now).history in
+    let l = c.in_ok-loaded.loaded in
+    let m = l.manifest in
+    let n = l.log_sectors in
+    let x = c.in_ok-tables.tables in
+    let t1 : IsTrue (D.medium c.load.new.device).lasting.tells = rw c.load.ensures.same_lasting t in
+    let t2 : IsTrue (D.medium c.read_tables.new.device).lasting.tells = rw (c.read_tables.ensures.same_lasting ∙ c.load.ensures.same_lasting) t in
+    record {
+      root = c.in_ok-loaded.ensures.loaded t;
+      told = subst (λ (h : List Disk). told_levels n (seen (present h)) m ≡ Some x.levels) (c.load.ensures.unchanged t) (c.in_ok-tables.ensures.told t1);
+      has = subst (λ (h : List Disk). HasBatches n (seen (present h)) m c.in_ok-batches.batches) (c.read_tables.ensures.unchanged t1 ∙ c.load.ensures.unchanged t) (c.in_ok-batches.ensures.counted t2);
+    }
+
+-- ---- fair refusals
+
+pub returns-in_err-clone-clause-fair : goal.returns-in_err-clone-clause-fair
+returns-in_err-clone-clause-fair g c = λ k left t is.
+    let p = err_from_is_err_and c.from_residual.result c.from_residual.ensures.1 in
+    rw (p.1, p.2) tt
+
+pub returns-in_err-loaded-clause-fair : goal.returns-in_err-loaded-clause-fair
+returns-in_err-loaded-clause-fair g c = λ k left t is.
+    let p = err_from_is_err_and c.from_residual-in_err-loaded.result c.from_residual-in_err-loaded.ensures.1 in
+    rw (p.1, p.2) (short_load _ k is.manifest c.in_err-loaded.field-0.0 is.root (c.in_err-loaded.ensures.loaded t))
+
+pub returns-in_err-tables-clause-fair : goal.returns-in_err-tables-clause-fair
+returns-in_err-tables-clause-fair g c = λ k left t is.
+    let D = g.D.Device in
+    let m = c.in_ok-loaded.loaded.manifest in
+    let n = c.in_ok-loaded.loaded.log_sectors in
+    let p = err_from_is_err_and c.from_residual-in_err-tables.result c.from_residual-in_err-tables.ensures.1 in
+    let named = named_here k n left m _ is (c.in_ok-loaded.ensures.loaded t) in
+    let there : AreTables n m.base m.tables (seen (disk (D.medium c.load.new.device))) = subst (λ (h : List Disk). AreTables n m.base m.tables (seen (present h))) (sym (c.load.ensures.unchanged t)) named.1.tables in
+    rw (p.1, p.2) (short_memory c.in_err-tables.field-0.0 (c.in_err-tables.ensures.stored (rw c.load.ensures.same_lasting t) there))
+
+pub returns-in_err-batches-clause-fair : goal.returns-in_err-batches-clause-fair
+returns-in_err-batches-clause-fair g c = λ k left t is.
+    let D = g.D.Device in
+    let old = (D.medium c.args.device.now).history in
+    let m = c.in_ok-loaded.loaded.manifest in
+    let n = c.in_ok-loaded.loaded.log_sectors in
+    let p = err_from_is_err_and c.from_residual-in_err-batches.result c.from_residual-in_err-batches.ensures.1 in
+    let t1 : IsTrue (D.medium c.load.new.device).lasting.tells = rw c.load.ensures.same_lasting t in
+    let t2 : IsTrue (D.medium c.read_tables.new.device).lasting.tells = rw (c.read_tables.ensures.same_lasting ∙ c.load.ensures.same_lasting) t in
+    let has : HasBatches n (seen (present old)) m (count_in n (seen (present old)) m) = batches_named k n left m _ is (c.in_ok-loaded.ensures.loaded t) in
+    let there : HasBatches n (seen (disk (D.medium c.read_tables.new.device))) m (count_in n (seen (present old)) m) = subst (λ (h : List Disk). HasBatches n (seen (present h)) m (count_in n (seen (present old)) m)) (sym (c.read_tables.ensures.unchanged t1 ∙ c.load.ensures.unchanged t)) has in
+    rw (p.1, p.2) (c.in_err-batches.ensures.fair _ t2 there)
+
+-- ---- the device
+
+pub returns-in_err-clone-clause-device : goal.returns-in_err-clone-clause-device
+returns-in_err-clone-clause-device g c =
+    let p = err_from_is_err_and c.from_residual.result c.from_residual.ensures.1 in
+    rw (p.1, p.2) (reads_none 69698 _)
+
+pub returns-in_err-loaded-clause-device : goal.returns-in_err-loaded-clause-device
+returns-in_err-loaded-clause-device g c =
+    let D = g.D.Device in
+    let p = err_from_is_err_and c.from_residual-in_err-loaded.result c.from_residual-in_err-loaded.ensures.1 in
+    let e = c.in_err-loaded.field-0.0 in
+    rw (p.1, p.2) (reads_wider 66 69698 (is_no_fault e) _ _ (omega arith)
+    (reads_err 66 e (D.medium c.args.device.now) (D.medium c.load.new.device) c.load.ensures.counts c.in_err-loaded.ensures.faults c.in_err-loaded.ensures.stops c.load.ensures.unchanged c.load.ensures.same_size c.load.ensures.same_lasting))
+
+pub returns-in_err-tables-clause-device : goal.returns-in_err-tables-clause-device
+returns-in_err-tables-clause-device g c =
+    let D = g.D.Device in
+    let p = err_from_is_err_and c.from_residual-in_err-tables.result c.from_residual-in_err-tables.ensures.1 in
+    let e = c.in_err-tables.field-0.0 in
+    let m = c.in_ok-loaded.loaded.manifest in
+    let first = reads_ok 66 (D.medium c.args.device.now) (D.medium c.load.new.device) c.load.ensures.counts c.in_ok-loaded.ensures.faults c.load.ensures.unchanged c.load.ensures.same_size c.load.ensures.same_lasting in
+    let second = reads_err (56 * length m.tables) e (D.medium c.load.new.device) (D.medium c.read_tables.new.device) c.read_tables.ensures.calls c.in_err-tables.ensures.faults c.in_err-tables.ensures.stops c.read_tables.ensures.unchanged c.read_tables.ensures.same_size c.read_tables.ensures.same_lasting in
+    rw (p.1, p.2) (reads_joined 66 (56 * length m.tables) 69698 (is_no_fault e) _ _ _ (omega (arith, c.in_ok-loaded.ensures.fits.1.numbers.tables)) first second)
+
+pub returns-in_err-batches-clause-device : goal.returns-in_err-batches-clause-device
+returns-in_err-batches-clause-device g c =
+    let D = g.D.Device in
+    let p = err_from_is_err_and c.from_residual-in_err-batches.result c.from_residual-in_err-batches.ensures.1 in
+    let e = c.in_err-batches.field-0.0 in
+    let m = c.in_ok-loaded.loaded.manifest in
+    let n = c.in_ok-loaded.loaded.log_sectors in
+    let first = reads_ok 66 (D.medium c.args.device.now) (D.medium c.load.new.device) c.load.ensures.counts c.in_ok-loaded.ensures.faults c.load.ensures.unchanged c.load.ensures.same_size c.load.ensures.same_lasting in
+    let second = reads_ok (56 * length m.tables) (D.medium c.load.new.device) (D.medium c.read_tables.new.device) c.read_tables.ensures.calls c.in_ok-tables.ensures.faults c.read_tables.ensures.unchanged c.read_tables.ensures.same_size c.read_tables.ensures.same_lasting in
+    rw (p.1, p.2) (reads_joined 57410 (6 * n) 69698 (is_no_fault e) _ _ _ (omega (arith, c.in_ok-loaded.ensures.fits.0.log_high))
+    (reads_joined 66 (56 * length m.tables) 57410 true _ _ _ (omega (arith, c.in_ok-loaded.ensures.fits.1.numbers.tables)) first second) c.in_err-batches.ensures.device)
+
+pub returns-clause-device : goal.returns-clause-device
+returns-clause-device g c =
+    let D = g.D.Device in
+    let m = c.in_ok-loaded.loaded.manifest in
+    let n = c.in_ok-loaded.loaded.log_sectors in
+    let first = reads_ok 66 (D.medium c.args.device.now) (D.medium c.load.new.device) c.load.ensures.counts c.in_ok-loaded.ensures.faults c.load.ensures.unchanged c.load.ensures.same_size c.load.ensures.same_lasting in
+    let second = reads_ok (56 * length m.tables) (D.medium c.load.new.device) (D.medium c.read_tables.new.device) c.read_tables.ensures.calls c.in_ok-tables.ensures.faults c.read_tables.ensures.unchanged c.read_tables.ensures.same_size c.read_tables.ensures.same_lasting in
+    reads_joined 57410 (6 * n) 69698 true _ _ _ (omega (arith, c.in_ok-loaded.ensures.fits.0.log_high))
+    (reads_joined 66 (56 * length m.tables) 57410 true _ _ _ (omega (arith, c.in_ok-loaded.ensures.fits.1.numbers.tables)) first second) c.in_ok-batches.ensures.device

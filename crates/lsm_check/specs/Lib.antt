@@ -1,0 +1,4 @@
+pub mod Images
+pub mod Named
+pub mod Seen
+pub mod Sound

@@ -1,0 +1,107 @@
+// The entries of a table are read, block by block.
+ghost use Rattle.std.specs.Prelude.{◌≡◌, ◌⊎◌, ◌≤◌, ◌<◌, ◌+◌, Some, None, length, IsTrue, IfOk, IfErr, OnOk};
+ghost use Rattle.lsm_cache.specs.Reads.{block_at};
+ghost use Rattle.lsm_codec.specs.Entries.{block_of};
+ghost use Rattle.lsm_device.specs.Disk.{seen};
+ghost use Rattle.lsm_device.specs.Medium.{disk};
+ghost use Rattle.lsm_device.specs.Refusals.{faultless};
+ghost use Rattle.lsm_levels.specs.Stored.{LiesWithin, IsStored};
+ghost use Rattle.lsm_open.specs.ReadParts.{ReadsAtMost};
+ghost use Rattle.lsm_check.specs.Images.{IsShort, IsShortRefusal, is_faultless};
+ghost use Rattle.lsm_check.specs.Sound.{AreRead, ends_with};
+
+use crate::finding::Finding;
+use lsm_cache::read_block;
+use lsm_codec::{Edge, Entry};
+use lsm_device::{Device, Refusal};
+use lsm_levels::PlacedTable;
+use lsm_table::Entries;
+use std::alloc::Allocator;
+
+// Copies of the entries that the bytes of a block spell. `BadTable` exactly where they spell none.
+fn decode<A: Allocator + Clone>(alloc: &A, block: &[u8; 4_096]) -> Result<Vec<Entry<A>, A>, Refusal>
+    ensures spelled { IfOk result (λ entries. block_of block.now ≡ Some entries.items) }
+    ensures refused { IfErr result (λ refusal. (refusal ≡ Refusal.NoMemory) ⊎ ((refusal ≡ Refusal.BadTable) × (block_of block.now ≡ None))) }
+{
+    let mut entries = Vec::new(alloc.clone()?);
+    for item in Entries::new(block) {
+        let version = item?;
+        entries.push(Entry::from_ref(alloc.clone()?, version)?)?;
+    }
+    Ok(entries)
+}
+
+// Copies of the entries of the data block that begins with a sector.
+fn read_entries<D: Device, A: Allocator + Clone>(
+    alloc: &A,
+    device: &mut D,
+    sector: u32,
+) -> Result<Vec<Entry<A>, A>, Refusal>
+    requires { sector + 8 ≤ (D.medium device.old).size }
+    ensures spelled { IsTrue (D.medium device.old).lasting.tells → IfOk result (λ entries.
+        block_of (block_at (seen (disk (D.medium device.old))) sector) ≡ Some entries.items) }
+    ensures refused { IfErr result (λ refusal. IsShortRefusal refusal ⊎ ((refusal ≡ Refusal.BadTable)
+        × (IsTrue (D.medium device.old).lasting.tells → block_of (block_at (seen (disk (D.medium device.old))) sector) ≡ None))) }
+    ensures device { ReadsAtMost 8 (faultless result) (D.medium device.old) (D.medium device.new) }
+{
+    let mut block = [0; 4_096];
+    read_block(device, sector, &mut block)?;
+    Ok(decode(alloc, &block)?)
+}
+
+// Whether the last of these entries has the key and the number of an edge.
+fn ends_with<A: Allocator>(entries: &[Entry<A>], edge: &Edge<A>) -> bool
+    ensures { result ≡ ends_with entries.now edge.now }
+{
+    match entries.last() {
+        Some(last) => last.number() == edge.number() && last.key().cmp(edge.key()).is_eq(),
+        None => false,
+    }
+}
+
+// Reads the data block of a table at a place, and adds its entries, where the block ends as the table's index tells.
+fn add_block<D: Device, A: Allocator + Clone>(
+    alloc: &A,
+    device: &mut D,
+    area: u32,
+    table: &PlacedTable<A>,
+    place: usize,
+    entries: &mut Vec<Entry<A>, A>,
+) -> Result<(), Finding>
+    requires within { LiesWithin (D.medium device.old).size area table.now }
+    requires place { place < length table.now.outline.edges }
+    ensures read { IsTrue (D.medium device.old).lasting.tells → OnOk result
+        (AreRead (seen (disk (D.medium device.old))) area place table.now entries.old.items
+        → AreRead (seen (disk (D.medium device.old))) area (place + 1) table.now entries.new.items) }
+    ensures fair { IsTrue (D.medium device.old).lasting.tells → IsStored (seen (disk (D.medium device.old))) area table.now → IfErr result IsShort }
+    ensures device { ReadsAtMost 8 (is_faultless result) (D.medium device.old) (D.medium device.new) }
+{
+    let edges = table.table().edges();
+    let sector = area + 8 * (table.first_block() + place as u32);
+    let mut block = read_entries(alloc, device, sector)?;
+    if !ends_with(&block, &edges[place]) {
+        return Err(Finding::Entries(table.number()));
+    }
+    entries.append(&mut block)?;
+    Ok(())
+}
+
+/// Reads the entries of a table, which are those that its data blocks spell, each of which ends as the table's index tells.
+pub(crate) fn entries_of<D: Device, A: Allocator + Clone>(
+    alloc: &A,
+    device: &mut D,
+    area: u32,
+    table: &PlacedTable<A>,
+) -> Result<Vec<Entry<A>, A>, Finding>
+    requires { LiesWithin (D.medium device.old).size area table.now }
+    ensures read { IsTrue (D.medium device.old).lasting.tells → IfOk result (λ entries.
+        AreRead (seen (disk (D.medium device.old))) area (length table.now.outline.edges) table.now entries.items) }
+    ensures fair { IsTrue (D.medium device.old).lasting.tells → IsStored (seen (disk (D.medium device.old))) area table.now → IfErr result IsShort }
+    ensures device { ReadsAtMost 512 (is_faultless result) (D.medium device.old) (D.medium device.new) }
+{
+    let mut entries = Vec::new(alloc.clone()?);
+    for place in 0..table.table().data_blocks() {
+        add_block(alloc, device, area, table, place, &mut entries)?;
+    }
+    Ok(entries)
+}
