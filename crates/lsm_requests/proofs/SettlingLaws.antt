@@ -1,92 +1,71 @@
--- Pieces of work on a job, one after another.
-use Rattle.std.proofs.Common.{◌≡◌, ◌∙◌, ◌==◌, ◌&&◌, ◌+◌, ℕ, suc, Bool, true, List, [], ◌∷◌, ◌++◌, Option, Some, Result, Ok, Err, MatchResult, refl, ap, subst, arith}
-use Rattle.std.specs.List.{list_all}
-use Rattle.std.proofs.lemmas.List.Folds.{list_all-append}
+-- How a job goes on.
+use Rattle.std.proofs.Common.{◌≡◌, ◌⊎◌, ◌+◌, ◌<◌, ◌≤◌, ◌-◌, ℕ, suc, List, Option, Some, None, Result, Ok, Err, MatchResult, inl, inr, refl, ap, sym, subst, arith}
 use Rattle.lsm_device.specs.declared.refusal.Refusal.{Refusal}
+use Rattle.lsm_merge.specs.Inputs.{MergeInput, kept_of}
+use Rattle.lsm_merge.specs.Results.{MergeResult}
 use Rattle.lsm_store.specs.Backing.{StoreView}
-use Rattle.lsm_store.specs.Calls.{Reply, Done, Given, Refused, reply_of}
-use Rattle.lsm_store.specs.Machine.{Step, Worked}
-use Rattle.lsm_store.specs.Work.{Work, Take, Install}
+use Rattle.lsm_store.specs.Calls.{Reply, Number, Done, Given, Handed, Refused, reply_of}
+use Rattle.lsm_store.specs.Work.{Work, Take, Ask, Accept, Write, Install}
 use Rattle.lsm_store.specs.Working.{Works, taken_reply}
 use Rattle.lsm_store.specs.declared.TakenJob.{TakenJob}
-use Rattle.lsm_lives.specs.Replaying.{Replays}
-use Rattle.lsm_requests.specs.Settling.{is_on, is_step_on, GoesOn, IsFinished, IsStuck, IsHeldUp, Taken, AreFinished}
+use Rattle.lsm_table.specs.Division.{IsTables}
+use Rattle.lsm_requests.specs.Settling.{IsRefused, LeavesSome, HasLeft, GoesThrough, IsStopped, IsNoFewer, IsHeldUp, IsReadWhole, IsUnread, IsOffered, IsUnmerged, IsFinished, IsUnfinished, IsStuck, Taken, AreFinished}
 
--- steps, and others behind them
-replays-joined : (old mid new : StoreView) (steps more : List Step) (replies rest : List Reply) → Replays old steps replies mid
-    → Replays mid more rest new → Replays old (steps ++ more) (replies ++ rest) new
-replays-joined old mid new [] more [] rest same behind = subst (λ s. Replays s more rest new) same behind
-replays-joined old mid new [] more (reply ∷ replies) rest none behind = absurd none
-replays-joined old mid new (step ∷ steps) more [] rest none behind = absurd none
-replays-joined old mid new (step ∷ steps) more (reply ∷ replies) rest (next, serves, goes) behind =
-    (next, serves, replays-joined next mid new steps more replies rest goes behind)
+-- ---- a piece that is done again and again
 
-all-joined : {X : Type 0} (test : X → Bool) (xs ys : List X) → list_all test xs ≡ true → list_all test ys ≡ true → list_all test (xs ++ ys) ≡ true
-all-joined test xs ys a b = list_all-append test xs ys ∙ ap (λ t. t && list_all test ys) a ∙ b
+-- the first time
+pub left-first : (piece : Work) (left : ℕ) (old new : StoreView) → Works old piece (Number left) new → HasLeft piece left old new
+left-first piece left old new works = record { count = 0; last = old; some = refl; told = works }
 
--- no work was done
-pub goes_on-nothing : (job : ℕ) (s : StoreView) → GoesOn job s s
-goes_on-nothing job s = record { steps = []; replies = []; on_job = refl; replays = refl }
+-- each time so far it left some
+left-some : (piece : Work) (left : ℕ) (old mid : StoreView) → 0 < left → (h : HasLeft piece left old mid) → LeavesSome piece (suc h.count) old mid
+left-some piece left old mid some h = let one : left ≡ suc (left - 1) = omega (arith, some) in
+    (h.last, h.some, left - 1, subst (λ (n : ℕ). Works h.last piece (Number n) mid) one h.told)
 
--- one piece
-pub goes_on-piece : (job : ℕ) (old new : StoreView) (piece : Work) (reply : Reply) → is_on job piece ≡ true → Works old piece reply new → GoesOn job old new
-goes_on-piece job old new piece reply on works = record {
-  steps = Worked piece ∷ [];
-  replies = reply ∷ [];
-  on_job = rw on refl;
-  replays = (new, works, refl);
-}
+-- once more
+pub left-again : (piece : Work) (left now : ℕ) (old mid new : StoreView) → 0 < left → HasLeft piece left old mid → Works mid piece (Number now) new → HasLeft piece now old new
+left-again piece left now old mid new some h works = record { count = suc h.count; last = mid; some = left-some piece left old mid some h; told = works }
 
--- work, and more behind it
-pub goes_on-joined : (job : ℕ) (old mid new : StoreView) → GoesOn job old mid → GoesOn job mid new → GoesOn job old new
-goes_on-joined job old mid new before behind = record {
-  steps = before.steps ++ behind.steps;
-  replies = before.replies ++ behind.replies;
-  on_job = all-joined (is_step_on job) before.steps behind.steps before.on_job behind.on_job;
-  replays = replays-joined old mid new before.steps behind.steps before.replies behind.replies before.replays behind.replays;
-}
+-- it was refused at once
+pub held_up-first : (piece : Work) (e : Refusal) (old new : StoreView) → Works old piece (Refused e) new → IsHeldUp piece old new
+held_up-first piece e old new works = inl (0, old, refl, (e, works))
 
--- work that is held up at once
-pub is_stuck-at : (job : ℕ) (old new : StoreView) (piece : Work) (reply : Reply) → IsHeldUp job piece reply → Works old piece reply new → IsStuck job old new
-is_stuck-at job old new piece reply held_up works = record {
-  last = old;
-  piece = piece;
-  reply = reply;
-  worked = goes_on-nothing job old;
-  works = works;
-  held_up = held_up;
-}
+-- it was refused later
+pub held_up-later : (piece : Work) (left : ℕ) (e : Refusal) (old mid new : StoreView) → 0 < left → HasLeft piece left old mid → Works mid piece (Refused e) new → IsHeldUp piece old new
+held_up-later piece left e old mid new some h works = inl (suc h.count, mid, left-some piece left old mid some h, (e, works))
 
--- work that goes on, and is held up behind that
-pub is_stuck-joined : (job : ℕ) (old mid new : StoreView) → GoesOn job old mid → IsStuck job mid new → IsStuck job old new
-is_stuck-joined job old mid new before stuck = record {
-  last = stuck.last;
-  piece = stuck.piece;
-  reply = stuck.reply;
-  worked = goes_on-joined job old mid stuck.last before stuck.worked;
-  works = stuck.works;
-  held_up = stuck.held_up;
-}
+-- it left no fewer
+pub held_up-no_fewer : (piece : Work) (left now : ℕ) (old mid new : StoreView) → 0 < left → left ≤ now → HasLeft piece left old mid → Works mid piece (Number now) new → IsHeldUp piece old new
+held_up-no_fewer piece left now old mid new some most h works = let one : left ≡ suc (left - 1) = omega (arith, some) in
+    inr (mid, left - 1, now, subst (λ (n : ℕ). HasLeft piece n old mid) one h, works, omega (arith, some, most))
 
--- each number is its own
-pub on_itself : (job : ℕ) → (job == job) ≡ true
-on_itself job = grind arith
+-- it left none at last
+pub none-left : (piece : Work) (left : ℕ) (old new : StoreView) → left ≤ 0 → HasLeft piece left old new → GoesThrough piece old new
+none-left piece left old new none h = let zero_left : left ≡ 0 = omega (arith, none) in subst (λ (n : ℕ). HasLeft piece n old new) zero_left h
+
+-- ---- a merge
+
+-- what an accept answers of a result that was built of the input that was lent
+pub offered-answered : (job : ℕ) (old mid new : StoreView) (input : MergeInput) (result : MergeResult) (r : Result (Unit {0}) Refusal) → Works old (Ask job) (Handed input) mid
+    → result.input ≡ input → IsTables (kept_of input) result.images → Works mid (Accept job (Some result)) (reply_of (λ _. Done) r) new
+    → MatchResult r (λ _. IsOffered job Done old new) (λ _. IsUnmerged job old new)
+offered-answered job old mid new input result (Ok done) lent own made works = record { input = input; mid = mid; result = result; lent = lent; own = own; made = made; offered = works }
+offered-answered job old mid new input result (Err e) lent own made works = inr (inr (e, record { input = input; mid = mid; result = result; lent = lent; own = own; made = made; offered = works }))
+
+-- ---- the whole of a job
+
+-- the install of a job that was written
+pub finished-answered : (job : ℕ) (level : Option ℕ) (old whole merged written new : StoreView) (r : Result (Unit {0}) Refusal) → IsReadWhole job level old whole
+    → IsOffered job Done whole merged → GoesThrough (Write job) merged written → Works written (Install job) (reply_of (λ _. Done) r) new
+    → MatchResult r (λ _. IsFinished job level old new) (λ _. IsStuck job level old new)
+finished-answered job level old whole merged written new (Ok done) reads merges writes works = record { whole = whole; merged = merged; written = written; reads = reads; merges = merges; writes = writes; installs = works }
+finished-answered job level old whole merged written new (Err e) reads merges writes works = inr (whole, reads, inr (merged, merges, inr (written, writes, (e, works))))
 
 -- what holds where something was refused
 pub refused-holds : {X E : Type 0} (Y Z : Type 0) (r : Result X E) (e : E) → r ≡ Err e → Z → MatchResult r (λ _. Y) (λ _. Z)
 refused-holds Y Z r e is z = rw is z
 
--- work on a job, and one piece more, which was answered or refused
-pub goes_on-answered : {X : Type 0} (job : ℕ) (old mid new : StoreView) (piece : Work) (told : X → Reply) (r : Result X Refusal) → GoesOn job old mid
-    → is_on job piece ≡ true → Works mid piece (reply_of told r) new → MatchResult r (λ _. GoesOn job old new) (λ _. IsStuck job old new)
-goes_on-answered job old mid new piece told (Ok x) before on works = goes_on-joined job old mid new before (goes_on-piece job mid new piece (told x) on works)
-goes_on-answered job old mid new piece told (Err e) before on works = is_stuck-joined job old mid new before (is_stuck-at job mid new piece (Refused e) on works)
-
--- the install of a job that was worked on
-pub is_finished-answered : (job : ℕ) (old mid new : StoreView) (r : Result (Unit {0}) Refusal) → GoesOn job old mid
-    → Works mid (Install job) (reply_of (λ _. Done) r) new → MatchResult r (λ _. IsFinished job old new) (λ _. IsStuck job old new)
-is_finished-answered job old mid new (Ok done) before works = record { written = mid; worked = before; installed = works }
-is_finished-answered job old mid new (Err e) before works = is_stuck-joined job old mid new before (is_stuck-at job mid new (Install job) (Refused e) (on_itself job) works)
+-- ---- jobs
 
 -- what was told of a job that was given
 pub given-job : (old new : StoreView) (taken : Option TakenJob) (t : TakenJob) → taken ≡ Some t → Works old Take (taken_reply taken) new

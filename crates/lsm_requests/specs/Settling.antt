@@ -1,74 +1,110 @@
 -- How a store is settled: jobs are taken and finished, one after another, and a log with room is opened.
-use Rattle.std.specs.Prelude.{◌≡◌, ◌≤◌, ◌⊎◌, ◌==◌, ℕ, zero, suc, Bool, true, false, List, Option, Some, None}
-use Rattle.std.specs.List.{list_all}
+use Rattle.std.specs.Prelude.{◌≡◌, ◌≤◌, ◌⊎◌, ℕ, zero, suc, Option, Some, None}
 use Rattle.lsm_device.specs.declared.refusal.Refusal.{Refusal}
+use Rattle.lsm_merge.specs.Inputs.{MergeInput, kept_of}
+use Rattle.lsm_merge.specs.Results.{MergeResult}
 use Rattle.lsm_store.specs.Backing.{StoreView}
 use Rattle.lsm_store.specs.Calls.{Reply, Rotate, LogRoom, Number, Done, Given, Handed, Refused}
-use Rattle.lsm_store.specs.Machine.{Step, Called, Worked}
 use Rattle.lsm_store.specs.Serving.{Serves}
 use Rattle.lsm_store.specs.Work.{Work, Take, Read, Ask, Accept, Write, Install, Drop}
 use Rattle.lsm_store.specs.Working.{Works}
-use Rattle.lsm_lives.specs.Replaying.{Replays}
+use Rattle.lsm_table.specs.Division.{IsTables}
+
+-- a piece of work was refused
+abbrev pub IsRefused : Work → StoreView → StoreView → Type 0
+IsRefused piece old new = (e : Refusal) × Works old piece (Refused e) new
+
+-- ---- pieces that are done until no block is left
+
+-- so many times a piece of work left some blocks
+abbrev pub LeavesSome : Work → ℕ → StoreView → StoreView → Type 0
+LeavesSome piece zero old new = new ≡ old
+LeavesSome piece (suc n) old new = (mid : StoreView) × LeavesSome piece n old mid × (left : ℕ) × Works mid piece (Number (suc left)) new
+
+-- A piece of work was done again and again, as long as it left some blocks, and the last time it left so many.
+pub record HasLeft (piece : Work) (left : ℕ) (old new : StoreView) : Type 0 where
+  pub count : ℕ
+  pub last : StoreView
+  pub some : LeavesSome piece count old last
+  pub told : Works last piece (Number left) new
+
+-- it was done until none was left
+abbrev pub GoesThrough : Work → StoreView → StoreView → Type 0
+GoesThrough piece old new = HasLeft piece 0 old new
+
+-- it was refused, the first time or a later one
+abbrev pub IsStopped : Work → StoreView → StoreView → Type 0
+IsStopped piece old new = (count : ℕ) × (last : StoreView) × LeavesSome piece count old last × IsRefused piece last new
+
+-- it left as many blocks as the time before, or more
+abbrev pub IsNoFewer : Work → StoreView → StoreView → Type 0
+IsNoFewer piece old new = (mid : StoreView) × (before now : ℕ) × HasLeft piece (suc before) old mid × Works mid piece (Number now) new × (suc before ≤ now)
+
+-- it didn't get through
+abbrev pub IsHeldUp : Work → StoreView → StoreView → Type 0
+IsHeldUp piece old new = IsStopped piece old new ⊎ IsNoFewer piece old new
 
 -- ---- one job
 
--- a piece of work that goes on with a job of this number
-abbrev pub is_on : ℕ → Work → Bool
-is_on job Take = false
-is_on job (Read number) = number == job
-is_on job (Ask number) = number == job
-is_on job (Accept number result) = number == job
-is_on job (Write number) = number == job
-is_on job (Install number) = number == job
-is_on job (Drop number) = false
+-- what a job merges was read: a flush has it at once
+abbrev pub IsReadWhole : ℕ → Option ℕ → StoreView → StoreView → Type 0
+IsReadWhole job None old new = new ≡ old
+IsReadWhole job (Some level) old new = GoesThrough (Read job) old new
 
-abbrev pub is_step_on : ℕ → Step → Bool
-is_step_on job (Called call) = false
-is_step_on job (Worked piece) = is_on job piece
+-- that was not read to the end
+abbrev pub IsUnread : ℕ → Option ℕ → StoreView → StoreView → Type 0
+IsUnread job None old new = ⊥
+IsUnread job (Some level) old new = IsHeldUp (Read job) old new
 
--- pieces of work on a job, one after another
-pub record GoesOn (job : ℕ) (old new : StoreView) : Type 0 where
-  pub steps : List Step
-  pub replies : List Reply
-  pub on_job : list_all (is_step_on job) steps ≡ true
-  pub replays : Replays old steps replies new
+-- The job's input was lent, and the result of a merge of it was answered so.
+pub record IsOffered (job : ℕ) (reply : Reply) (old new : StoreView) : Type 0 where
+  pub input : MergeInput
+  pub mid : StoreView
+  pub result : MergeResult
+  pub lent : Works old (Ask job) (Handed input) mid
+  pub own : result.input ≡ input
+  pub made : IsTables (kept_of input) result.images
+  pub offered : Works mid (Accept job (Some result)) reply new
 
--- a job was worked on until its outputs stood in the place of what it took in
-pub record IsFinished (job : ℕ) (old new : StoreView) : Type 0 where
+-- no result was accepted: the input was not lent, or no result was made of it, which comes of want of memory, or it was refused
+abbrev pub IsUnmerged : ℕ → StoreView → StoreView → Type 0
+IsUnmerged job old new = IsRefused (Ask job) old new ⊎ (((input : MergeInput) × Works old (Ask job) (Handed input) new) ⊎ ((e : Refusal) × IsOffered job (Refused e) old new))
+
+-- A job was read, its result was accepted, its outputs were written, and they were installed.
+pub record IsFinished (job : ℕ) (level : Option ℕ) (old new : StoreView) : Type 0 where
+  pub whole : StoreView
+  pub merged : StoreView
   pub written : StoreView
-  pub worked : GoesOn job old written
-  pub installed : Works written (Install job) Done new
+  pub reads : IsReadWhole job level old whole
+  pub merges : IsOffered job Done whole merged
+  pub writes : GoesThrough (Write job) merged written
+  pub installs : Works written (Install job) Done new
 
--- why a job doesn't go on: a piece of work on it was refused, or its input was lent and found no memory to be merged in
-abbrev pub IsHeldUp : ℕ → Work → Reply → Type 0
-IsHeldUp job piece (Refused e) = is_on job piece ≡ true
-IsHeldUp job piece (Handed input) = piece ≡ Ask job
-IsHeldUp job piece reply = ⊥
+-- a job that was read was not finished: at the merge, at the writing or at the install
+abbrev pub IsUnfinished : ℕ → StoreView → StoreView → Type 0
+IsUnfinished job old new = IsUnmerged job old new
+    ⊎ ((merged : StoreView) × IsOffered job Done old merged
+    × (IsHeldUp (Write job) merged new ⊎ ((written : StoreView) × GoesThrough (Write job) merged written × IsRefused (Install job) written new)))
 
--- a job was worked on until it was held up
-pub record IsStuck (job : ℕ) (old new : StoreView) : Type 0 where
-  pub last : StoreView
-  pub piece : Work
-  pub reply : Reply
-  pub worked : GoesOn job old last
-  pub works : Works last piece reply new
-  pub held_up : IsHeldUp job piece reply
+-- a job was done as far as it went: the piece whose turn it was didn't go on
+abbrev pub IsStuck : ℕ → Option ℕ → StoreView → StoreView → Type 0
+IsStuck job level old new = IsUnread job level old new ⊎ ((whole : StoreView) × IsReadWhole job level old whole × IsUnfinished job whole new)
 
 -- ---- jobs
 
 -- the next job was taken, and so it went on
-pub record Taken (GoesTo : ℕ → StoreView → StoreView → Type 0) (old new : StoreView) : Type 0 where
+pub record Taken (GoesTo : ℕ → Option ℕ → StoreView → StoreView → Type 0) (old new : StoreView) : Type 0 where
   pub job : ℕ
   pub level : Option ℕ
   pub begun : StoreView
   pub taken : Works old Take (Given (Some (job, level))) begun
-  pub goes : GoesTo job begun new
+  pub goes : GoesTo job level begun new
 
 -- it was stuck and given up
-pub record IsGivenUp (job : ℕ) (old new : StoreView) : Type 0 where
+pub record IsGivenUp (job : ℕ) (level : Option ℕ) (old new : StoreView) : Type 0 where
   pub late : StoreView
   pub reply : Reply
-  pub stuck : IsStuck job old late
+  pub stuck : IsStuck job level old late
   pub dropped : Works late (Drop job) reply new
 
 -- so many jobs were taken and finished, one after another
@@ -78,7 +114,7 @@ AreFinished (suc n) old new = (mid : StoreView) × AreFinished n old mid × Take
 
 -- behind them none was given, or the taking was refused, or one was given up
 abbrev pub IsNoMore : StoreView → StoreView → Type 0
-IsNoMore old new = Works old Take (Given None) new ⊎ (((e : Refusal) × Works old Take (Refused e) new) ⊎ Taken IsGivenUp old new)
+IsNoMore old new = Works old Take (Given None) new ⊎ (IsRefused Take old new ⊎ Taken IsGivenUp old new)
 
 -- jobs were finished until there was no more, or 64 of them
 pub record FinishesJobs (old new : StoreView) : Type 0 where

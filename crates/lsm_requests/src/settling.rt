@@ -1,7 +1,9 @@
 //! A store is settled: its jobs are taken and finished, one after another.
 
 ghost use Rattle.std.specs.Prelude.{◌≡◌, true, false, MatchResult};
-ghost use Rattle.lsm_requests.specs.Settling.{GoesOn, IsFinished, IsStuck, IsGivenUp, Taken, IsNoMore, FinishesJobs, OpensLog, Settles};
+ghost use Rattle.lsm_store.specs.Calls.{Done};
+ghost use Rattle.lsm_store.specs.Work.{Read, Write};
+ghost use Rattle.lsm_requests.specs.Settling.{GoesThrough, IsHeldUp, IsReadWhole, IsUnread, IsOffered, IsUnmerged, IsFinished, IsStuck, IsGivenUp, Taken, IsNoMore, FinishesJobs, OpensLog, Settles};
 
 use lsm_device::{Device, Refusal};
 use lsm_merge::build;
@@ -51,8 +53,8 @@ fn finish_or_drop<R: Threads + Sync, D: Device>(
     store: &mut Store<D>,
     taken: TakenJob,
 ) -> bool
-    ensures finished { result ≡ true → IsFinished taken.number store.old store.new }
-    ensures given_up { result ≡ false → IsGivenUp taken.number store.old store.new }
+    ensures finished { result ≡ true → IsFinished taken.number taken.level store.old store.new }
+    ensures given_up { result ≡ false → IsGivenUp taken.number taken.level store.old store.new }
 {
     match finish(rt, alloc, store, taken) {
         Ok(()) => true,
@@ -70,7 +72,7 @@ fn finish<R: Threads + Sync, D: Device>(
     store: &mut Store<D>,
     taken: TakenJob,
 ) -> Result<(), Refusal>
-    ensures { MatchResult result (λ _. IsFinished taken.number store.old store.new) (λ _. IsStuck taken.number store.old store.new) }
+    ensures { MatchResult result (λ _. IsFinished taken.number taken.level store.old store.new) (λ _. IsStuck taken.number taken.level store.old store.new) }
 {
     read(store, taken)?;
     merge(rt, alloc, store, taken.number)?;
@@ -80,7 +82,7 @@ fn finish<R: Threads + Sync, D: Device>(
 
 // Reads what a merge takes in. A flush has its input at once.
 fn read<D: Device>(store: &mut Store<D>, taken: TakenJob) -> Result<(), Refusal>
-    ensures { MatchResult result (λ _. GoesOn taken.number store.old store.new) (λ _. IsStuck taken.number store.old store.new) }
+    ensures { MatchResult result (λ _. IsReadWhole taken.number taken.level store.old store.new) (λ _. IsUnread taken.number taken.level store.old store.new) }
 {
     match taken.level {
         Some(_) => read_tables(store, taken.number),
@@ -88,41 +90,44 @@ fn read<D: Device>(store: &mut Store<D>, taken: TakenJob) -> Result<(), Refusal>
     }
 }
 
-// Each step reads a block at least, where one is left.
 fn read_tables<D: Device>(store: &mut Store<D>, job: u64) -> Result<(), Refusal>
-    ensures { MatchResult result (λ _. GoesOn job store.old store.new) (λ _. IsStuck job store.old store.new) }
+    ensures { MatchResult result (λ _. GoesThrough (Read job) store.old store.new) (λ _. IsHeldUp (Read job) store.old store.new) }
 {
-    let left = store.job_read(job)?;
-    for _ in 0..left {
-        if store.job_read(job)? == 0 {
-            break;
+    let mut left = store.job_read(job)?;
+    while left > 0 {
+        let now = store.job_read(job)?;
+        if now >= left {
+            return Err(Refusal::WrongState);
         }
+        left = now;
     }
     Ok(())
 }
 
+// Merges what was read, on the caller's thread.
 fn merge<R: Threads + Sync, D: Device>(
     rt: &R,
     alloc: Global,
     store: &mut Store<D>,
     job: u64,
 ) -> Result<(), Refusal>
-    ensures { MatchResult result (λ _. GoesOn job store.old store.new) (λ _. IsStuck job store.old store.new) }
+    ensures { MatchResult result (λ _. IsOffered job Done store.old store.new) (λ _. IsUnmerged job store.old store.new) }
 {
     let input = store.job_input(job)?;
     let built = build(rt, alloc, input, 1)?;
     store.job_accept(job, &built)
 }
 
-// Each step writes a block at least, where one is left.
 fn write<D: Device>(store: &mut Store<D>, job: u64) -> Result<(), Refusal>
-    ensures { MatchResult result (λ _. GoesOn job store.old store.new) (λ _. IsStuck job store.old store.new) }
+    ensures { MatchResult result (λ _. GoesThrough (Write job) store.old store.new) (λ _. IsHeldUp (Write job) store.old store.new) }
 {
-    let left = store.job_write(job)?;
-    for _ in 0..left {
-        if store.job_write(job)? == 0 {
-            break;
+    let mut left = store.job_write(job)?;
+    while left > 0 {
+        let now = store.job_write(job)?;
+        if now >= left {
+            return Err(Refusal::WrongState);
         }
+        left = now;
     }
     Ok(())
 }
