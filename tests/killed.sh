@@ -1,6 +1,6 @@
 #!/usr/bin/env bash
-# Kills `lsmctl` at arbitrary points and looks what the file holds: every put that was acknowledged, and of the put that
-# was killed everything or nothing.
+# Kills `lsmctl` at arbitrary points and looks what the file holds: the image of a store, with every put that was
+# acknowledged, and of the put that was killed everything or nothing.
 #
 #     tests/killed.sh PROGRAM [KILLS] [SECONDS]
 #
@@ -53,6 +53,7 @@ declare -a value stands
 # Looks up every put so far, and counts those that stand. Each is there whole or not at all.
 look() {
     local last=$1 i got
+    "$program" check store >out 2>err || fail "check after a kill: $(cat out err)"
     standing=0
     for ((i = 1; i <= last; i++)); do
         "$program" get store "$(printf '%02x' "$i")" >out 2>err || fail "get after a kill: $(cat err)"

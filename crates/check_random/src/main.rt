@@ -88,11 +88,7 @@ fn idle(alloc: Global) -> Life {
 }
 
 /// Leads the lives of a script, and checks the device after each. It answers how many tables the last image has.
-fn script<R: Threads + Sync>(
-    rt: &R,
-    alloc: Global,
-    draws: &mut Draws,
-) -> Result<usize, Trouble> {
+fn script<R: Threads + Sync>(rt: &R, alloc: Global, draws: &mut Draws) -> Result<usize, Trouble> {
     let mut device = formatted(alloc)?;
     let mut tables = 0;
     for _ in 0..LIVES {

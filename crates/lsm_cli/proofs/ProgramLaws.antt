@@ -4,7 +4,7 @@ use Rattle.clap.specs.Words.{AddsSubcommand, App, Row, Text, is_simple, is_simpl
 use Rattle.clap.specs.declared.builder.command.Command.{Command}
 use Rattle.clap.proofs.OnLiterals.{clap_on_literals}
 use Rattle.lsm_language.specs.declared.asked.Asked.{Asked}
-use Rattle.lsm_language.specs.declared.asked.Asked.TheVariants.{Format, Put, Delete, Get, Scan, Stat, Replay, Lives}
+use Rattle.lsm_language.specs.declared.asked.Asked.TheVariants.{Format, Put, Delete, Get, Scan, Stat, Check, Replay, Lives}
 use Rattle.lsm_cli.specs.Program.{Asks, IsCommand, has_words, program}
 
 -- the parser's matches of the program are those of its definitions
@@ -25,6 +25,7 @@ has_words-asked name rows (Delete file key) (n, a, b) = rw (n, a, b) refl
 has_words-asked name rows (Get file key) (n, a, b) = rw (n, a, b) refl
 has_words-asked name rows (Scan file from limit) (n, a, b, c) = rw (n, a, b, c) refl
 has_words-asked name rows (Stat file) (n, a) = rw (n, a) refl
+has_words-asked name rows (Check file) (n, a) = rw (n, a) refl
 has_words-asked name rows (Replay file) (n, a) = rw (n, a) refl
 has_words-asked name rows (Lives sectors log) (n, a, b) = rw (n, a, b) refl
 

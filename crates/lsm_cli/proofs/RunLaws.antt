@@ -14,6 +14,7 @@ use Rattle.lsm_language.specs.Faults.{Reason, mistake, refusal, unread, reason_o
 use Rattle.lsm_cli.specs.Program.{has_words, program}
 use Rattle.lsm_language.specs.Requests.{reason_for}
 use Rattle.lsm_requests.specs.Answers.{lines_of}
+use Rattle.lsm_requests.proofs.EndingLaws.{answer_status-at_most}
 use Rattle.lsm_requests.specs.Endings.{PrintsAnswer, PrintsFault, Written, status_after}
 use Rattle.lsm_cli.specs.Runs.{AskNothing, Fails, HasServed, IsRead, IsRun, IsServed, has_dash}
 use Rattle.lsm_cli.proofs.ProgramLaws.{has_words-asked}
@@ -89,7 +90,7 @@ module _ (words : List Text) (input : Option (List ℕ)) (bytes : Written) (ends
       by_cases : (answered : Result Answer Fault) (written : Result (Unit {0}) Error) → status_after answered written ≡ 2
           → MatchResult answered (IsServed words input) (λ fault. Fails words input (reason_of fault))
           → PrintsAnswer answered written bytes.output bytes.output_after → Fails words input mistake × Keeps bytes.output bytes.output_after
-      by_cases (Ok answer) (Ok done) e served printed = grind arith
+      by_cases (Ok answer) (Ok done) e served printed = absurd (omega (arith, e, answer_status-at_most answer.output))
       by_cases (Ok answer) (Err error) e served printed = grind arith
       by_cases (Err fault) (Ok done) e failed kept = (subst (Fails words input) (status_of-mistake (reason_of fault) e) failed, kept)
       by_cases (Err fault) (Err error) e failed kept = grind arith

@@ -6,7 +6,7 @@ use Rattle.clap.specs.declared.builder.command.Command.{Command}
 use Rattle.clap.specs.declared.builder.command.Command.TheViews.{out-Command as fields_of}
 use Rattle.clap.specs.declared.builder.ArgAction.TheVariants.{Set}
 use Rattle.lsm_language.specs.declared.asked.Asked.{Asked}
-use Rattle.lsm_language.specs.declared.asked.Asked.TheVariants.{Format, Put, Delete, Get, Scan, Stat, Replay, Lives}
+use Rattle.lsm_language.specs.declared.asked.Asked.TheVariants.{Format, Put, Delete, Get, Scan, Stat, Check, Replay, Lives}
 
 -- a word that has to be there
 abbrev pub word_rule : Text → Rule
@@ -38,10 +38,11 @@ with_changes app = with_words_at (with_words_at (with_words_at app
 
 -- and those that read one, or a script
 abbrev pub program : App
-program = with_words_at (with_words_at (with_words_at (with_words_at (with_words_at (with_changes bare_program)
+program = with_words_at (with_words_at (with_words_at (with_words_at (with_words_at (with_words_at (with_changes bare_program)
     (codes "get") file_and_key)
     (codes "scan") (codes "FILE" ∷ codes "FROM" ∷ codes "LIMIT" ∷ []))
     (codes "stat") (codes "FILE" ∷ []))
+    (codes "check") (codes "FILE" ∷ []))
     (codes "replay") (codes "FILE" ∷ []))
     (codes "lives") (codes "SECTORS" ∷ codes "LOG" ∷ [])
 
@@ -67,6 +68,7 @@ Asks name rows (Get file key) = (name ≡ codes "get") × HasWord rows (codes "F
 Asks name rows (Scan file from limit) = (name ≡ codes "scan") × HasWord rows (codes "FILE") file.now
     × HasWord rows (codes "FROM") from.now × HasWord rows (codes "LIMIT") limit.now
 Asks name rows (Stat file) = (name ≡ codes "stat") × HasWord rows (codes "FILE") file.now
+Asks name rows (Check file) = (name ≡ codes "check") × HasWord rows (codes "FILE") file.now
 Asks name rows (Replay file) = (name ≡ codes "replay") × HasWord rows (codes "FILE") file.now
 Asks name rows (Lives sectors log) = (name ≡ codes "lives") × HasWord rows (codes "SECTORS") sectors.now
     × HasWord rows (codes "LOG") log.now
@@ -82,6 +84,7 @@ has_words name rows = if bytes_eq name (codes "format") then has_word rows (code
     else if bytes_eq name (codes "get") then has_word rows (codes "FILE") && has_word rows (codes "KEY")
     else if bytes_eq name (codes "scan") then has_word rows (codes "FILE") && (has_word rows (codes "FROM") && has_word rows (codes "LIMIT"))
     else if bytes_eq name (codes "stat") then has_word rows (codes "FILE")
+    else if bytes_eq name (codes "check") then has_word rows (codes "FILE")
     else if bytes_eq name (codes "replay") then has_word rows (codes "FILE")
     else if bytes_eq name (codes "lives") then has_word rows (codes "SECTORS") && has_word rows (codes "LOG")
     else false

@@ -117,6 +117,13 @@ fn command<'a>(alloc: Global) -> Result<Command<'a>, AllocError>
     let command = adding(
         alloc,
         command,
+        "check",
+        "Check a store, and print its numbers",
+        &["FILE"],
+    )?;
+    let command = adding(
+        alloc,
+        command,
         "replay",
         "Make the steps of a script",
         &["FILE"],
@@ -232,6 +239,10 @@ fn subcommand<'a>(name: &str, given: &ArgMatches<'a>) -> Result<Asked<'a>, Usage
         "stat" => {
             let file = at(given, "FILE")?;
             Ok(Asked::Stat { file })
+        }
+        "check" => {
+            let file = at(given, "FILE")?;
+            Ok(Asked::Check { file })
         }
         "replay" => {
             let file = at(given, "FILE")?;

@@ -57,6 +57,7 @@ reason_for (asked.Get file key) text = said_reason (bytes_said key.now)
 reason_for (asked.Scan file from limit) text = or_else (said_reason (bytes_said from.now))
     (or_else (said_reason (number_said limit.now)) (page_reason (number_in limit.now)))
 reason_for (asked.Stat file) text = None
+reason_for (asked.Check file) text = None
 reason_for (asked.Replay file) text = said_reason (script_said Steps text)
 reason_for (asked.Lives sectors log) text = or_else (said_reason (number_said sectors.now))
     (or_else (said_reason (number_said log.now)) (or_else (said_reason (script_said Lives text))
@@ -74,6 +75,7 @@ Says (asked.Get file key) text (request.Get path bytes) = (path.now ≡ file.now
 Says (asked.Scan file from limit) text (request.Scan path bytes rows) = (path.now ≡ file.now)
     × (bytes_said from.now ≡ Some bytes.items) × (number_said limit.now ≡ Some rows)
 Says (asked.Stat file) text (request.Stat path) = path.now ≡ file.now
+Says (asked.Check file) text (request.Check path) = path.now ≡ file.now
 Says (asked.Replay file) text (request.Replay path script) = (path.now ≡ file.now)
     × (script_said Steps text ≡ Some (map means script.items))
 Says (asked.Lives sectors log) text (request.Lives geometry script) = (number_said sectors.now ≡ Some geometry.sectors)

@@ -29,6 +29,9 @@ pub enum Asked<'a> {
     Stat {
         file: &'a str,
     },
+    Check {
+        file: &'a str,
+    },
     Replay {
         file: &'a str,
     },

@@ -49,6 +49,10 @@ pub enum Request<'a> {
     Stat {
         file: &'a str,
     },
+    /// Check whether the file holds the image of a store.
+    Check {
+        file: &'a str,
+    },
     /// Make the steps of a script.
     Replay {
         file: &'a str,
@@ -92,6 +96,7 @@ impl<'a> Request<'a> {
                 Ok(Request::Scan { file, from, limit })
             }
             Asked::Stat { file } => Ok(Request::Stat { file }),
+            Asked::Check { file } => Ok(Request::Check { file }),
             Asked::Replay { file } => {
                 let script = read_script(alloc, Kind::Steps, text)?;
                 Ok(Request::Replay { file, script })

@@ -2,17 +2,27 @@
 use Rattle.std.proofs.Common.{◌≤◌, Result, Ok, Err, arith}
 use Rattle.std.specs.declared.io.Error.{Error}
 use Rattle.lsm_requests.specs.declared.answer.Answer.{Answer}
+use Rattle.lsm_requests.specs.declared.answer.Output.{Output}
+use Rattle.lsm_requests.specs.declared.answer.Output.TheVariants.{Formatted, Batch, Value, Absent, Lines, Found}
 use Rattle.lsm_language.specs.declared.fault.Fault.{Fault}
 use Rattle.lsm_language.specs.Faults.{Reason, mistake, refusal, unread, reason_of, status_of}
-use Rattle.lsm_requests.specs.Endings.{status_after}
+use Rattle.lsm_requests.specs.Endings.{answer_status, status_after}
 
 status_of-at_most : (r : Reason) → status_of r ≤ 2
 status_of-at_most mistake = grind arith
 status_of-at_most (refusal r) = grind arith
 status_of-at_most unread = grind arith
 
+pub answer_status-at_most : (output : Output) → answer_status output ≤ 1
+answer_status-at_most (Formatted blocks) = grind arith
+answer_status-at_most (Batch number) = grind arith
+answer_status-at_most (Value word) = grind arith
+answer_status-at_most Absent = grind arith
+answer_status-at_most (Lines text) = grind arith
+answer_status-at_most (Found text) = grind arith
+
 -- is never above 2
 pub status_after-at_most : (answered : Result Answer Fault) (written : Result (Unit {0}) Error) → status_after answered written ≤ 2
 status_after-at_most answered (Err error) = grind arith
-status_after-at_most (Ok answer) (Ok done) = grind arith
+status_after-at_most (Ok answer) (Ok done) = omega (arith, answer_status-at_most answer.output)
 status_after-at_most (Err fault) (Ok done) = status_of-at_most (reason_of fault)

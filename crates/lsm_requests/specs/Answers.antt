@@ -1,5 +1,5 @@
 -- What the program prints.
-use Rattle.std.specs.Prelude.{◌≡◌, ℕ, ◌+◌, ◌*◌, List, [], ◌∷◌, ◌++◌, map, Option, Some, None, Ok, codes, decimal, string_bytes}
+use Rattle.std.specs.Prelude.{◌≡◌, ℕ, ◌+◌, ◌*◌, List, [], ◌∷◌, ◌++◌, map, Option, Some, None, Result, Ok, Err, IfOk, IsTrue, codes, decimal, string_bytes}
 use Rattle.lsm_codec.specs.Keys.{Bytes}
 use Rattle.lsm_codec.specs.Map.{Operation}
 use Rattle.lsm_codec.specs.Words.{word_of}
@@ -7,11 +7,17 @@ use Rattle.lsm_codec.specs.Geometry.{data_blocks_of}
 use Rattle.lsm_mem.specs.Paging.{Page}
 use Rattle.lsm_device.specs.Calls.{no_calls}
 use Rattle.lsm_device.specs.Medium.{Medium, disk, silent}
+use Rattle.lsm_device.specs.Disk.{seen}
 use Rattle.lsm_device.specs.Outcomes.{Leaves}
 use Rattle.lsm_device.specs.declared.file.FileDevice.{FileDevice}
 use Rattle.lsm_root.specs.Counted.{CallsMade}
 use Rattle.lsm_open.specs.CrashState.{formatted as empty_store}
 use Rattle.lsm_open.specs.Image.{StandFor}
+use Rattle.lsm_open.specs.ReadParts.{ReadsAtMost}
+use Rattle.lsm_check.specs.Images.{IsImage, is_faultless}
+use Rattle.lsm_check.specs.declared.finding.Finding.{Finding}
+use Rattle.lsm_check.specs.declared.finding.Finding.TheVariants as finding
+use Rattle.lsm_check.specs.declared.report.Report.{Report}
 use Rattle.lsm_store.specs.declared.asked.At.TheVariants.{Now}
 use Rattle.lsm_store.specs.Calls.{Commit, Get, Scan, Sync, Done, Number, Rows, Value as Found}
 use Rattle.lsm_store.specs.Backing.{StoreView, machine_of}
@@ -25,13 +31,13 @@ use Rattle.lsm_lives.specs.Leading.{AreLed, LifeView}
 use Rattle.lsm_lives.specs.Living.{KeepPromise, asked_in}
 use Rattle.lsm_requests.specs.Steps.{steps_after, told_after, lives_said, told_lives}
 use Rattle.lsm_requests.specs.Settling.{Settles}
-use Rattle.lsm_requests.specs.Replies.{page_lines, stat_line, replies_text, lives_text}
+use Rattle.lsm_requests.specs.Replies.{page_lines, stat_line, report_line, table_line, replies_text, lives_text}
 use Rattle.lsm_requests.specs.declared.steps.Told.{Told}
 use Rattle.lsm_language.specs.declared.request.Request.{Request}
 use Rattle.lsm_language.specs.declared.request.Request.TheVariants as request
 use Rattle.lsm_requests.specs.declared.answer.Answer.{Answer}
 use Rattle.lsm_requests.specs.declared.answer.Output.{Output}
-use Rattle.lsm_requests.specs.declared.answer.Output.TheVariants.{Formatted, Batch, Value, Absent, Lines}
+use Rattle.lsm_requests.specs.declared.answer.Output.TheVariants.{Formatted, Batch, Value, Absent, Lines, Found as FoundWrong}
 
 -- the lines that are printed
 abbrev pub output_lines : Output → List ℕ
@@ -40,6 +46,7 @@ output_lines (Batch number) = codes "batch " ++ decimal number ++ 10 ∷ []
 output_lines (Value word) = codes "value " ++ string_bytes word ++ 10 ∷ []
 output_lines Absent = codes "absent" ++ 10 ∷ []
 output_lines (Lines text) = string_bytes text
+output_lines (FoundWrong text) = string_bytes text
 
 abbrev pub lines_of : Answer → List ℕ
 lines_of answer = output_lines answer.output
@@ -117,6 +124,35 @@ pub record HasNumbers (before after : StoreView) (output : Output) : Type 0 wher
   pub same : after ≡ before
   pub told : HasLines (stat_line stat) output
 
+-- this line tells what was found wrong
+abbrev pub TellsFound : List ℕ → Output → Type 0
+TellsFound line (FoundWrong text) = string_bytes text ≡ line
+TellsFound line _ = ⊥
+
+-- a yes is told by the numbers of the image, and what was found wrong with a table by a line of its own; a refusal is no answer
+abbrev pub TellsCheck : Result Report Finding → Output → Type 0
+TellsCheck (Ok report) output = HasLines (report_line report) output
+TellsCheck (Err (finding.Refused refusal)) output = ⊥
+TellsCheck (Err (finding.Entries number)) output = TellsFound (table_line (codes "Entries") number) output
+TellsCheck (Err (finding.Order number)) output = TellsFound (table_line (codes "Order") number) output
+TellsCheck (Err (finding.Filter number)) output = TellsFound (table_line (codes "Filter") number) output
+TellsCheck (Err (finding.Versions number)) output = TellsFound (table_line (codes "Versions") number) output
+
+-- a device was checked, and only read, and what came of it is told
+pub record IsChecked (before after : Medium) (output : Output) : Type 0 where
+  pub answered : Result Report Finding
+  pub yes : IsTrue before.lasting.tells → IfOk answered (IsImage before.size (seen (disk before)))
+  pub reads : ReadsAtMost 593986 (is_faultless answered) before after
+  pub told : TellsCheck answered output
+
+-- a file was opened as a device, in which no call was made yet, and was checked; it is handed out as the reads left it
+pub record HasChecked (answer : Answer) : Type 0 where
+  pub file : FileDevice
+  pub after : Medium
+  pub unused : file.calls ≡ no_calls
+  pub checks : IsChecked (file_medium file) after answer.output
+  pub hands : Hands answer.file after
+
 -- steps were made of the store, and the replies to them are told, each as its line asks for
 pub record HasReplies (asked : List Asked) (steps : List Told) (before after : StoreView) (output : Output) : Type 0 where
   pub replies : List LivesTold
@@ -142,5 +178,6 @@ Gives (request.Commit file batch) = OfOpened (HasCommitted batch)
 Gives (request.Get file key) = OfOpened (HasFound key.items)
 Gives (request.Scan file from limit) = OfOpened (HasRows from.items limit)
 Gives (request.Stat file) = OfOpened HasNumbers
+Gives (request.Check file) = HasChecked
 Gives (request.Replay file script) = OfOpened (HasReplies (map asked_of (steps_after [] script.items)) (told_after [] script.items))
 Gives (request.Lives geometry script) = λ answer. HasLives geometry.sectors geometry.log_sectors (lives_said script.items) (told_lives script.items) answer.output

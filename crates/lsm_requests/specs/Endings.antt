@@ -3,14 +3,21 @@ use Rattle.std.specs.Prelude.{◌≡◌, ℕ, List, Option, Result, Ok, Err, OnO
 use Rattle.std.specs.Io.KnownBytes.{Appends, Keeps}
 use Rattle.std.specs.declared.io.Error.{Error}
 use Rattle.lsm_requests.specs.declared.answer.Answer.{Answer}
+use Rattle.lsm_requests.specs.declared.answer.Output.{Output}
+use Rattle.lsm_requests.specs.declared.answer.Output.TheVariants.{Found}
 use Rattle.lsm_language.specs.declared.fault.Fault.{Fault}
 use Rattle.lsm_language.specs.Faults.{refusal_line, Reason, refusal, reason_of, status_of}
 use Rattle.lsm_requests.specs.Answers.{lines_of}
 
+-- the exit status of an answer: 1 where a check found something wrong
+abbrev pub answer_status : Output → ℕ
+answer_status (Found text) = 1
+answer_status other = 0
+
 -- the exit status: 1 where the answer or the fault could not be written
 abbrev pub status_after : Result Answer Fault → Result (Unit {0}) Error → ℕ
 status_after answered (Err error) = 1
-status_after (Ok answer) (Ok done) = 0
+status_after (Ok answer) (Ok done) = answer_status answer.output
 status_after (Err fault) (Ok done) = status_of (reason_of fault)
 
 -- the output is the answer, or stays as it is

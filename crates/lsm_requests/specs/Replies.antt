@@ -6,6 +6,7 @@ use Rattle.lsm_codec.specs.Keys.{Bytes}
 use Rattle.lsm_mem.specs.Paging.{Page}
 use Rattle.lsm_store.specs.Calls.{Reply, Number, Done, Value, Rows, Given, Handed, Refused}
 use Rattle.lsm_store.specs.declared.stat.Stat.{Stat}
+use Rattle.lsm_check.specs.declared.report.Report.{Report}
 use Rattle.lsm_language.specs.Faults.{refusal_line}
 use Rattle.lsm_lives.specs.Asked.{Told as LivesTold, Replied, Built}
 use Rattle.lsm_requests.specs.declared.steps.Counted.{Counted}
@@ -52,6 +53,15 @@ abbrev pub stat_line : Stat → List ℕ
 stat_line stat = codes "generation " ++ decimal stat.generation ++ codes " batches " ++ decimal stat.batches
     ++ codes " room " ++ decimal stat.room ++ codes " waiting " ++ decimal (digit_of stat.waiting) ++ codes " runs " ++ decimal stat.runs
     ++ codes " tables " ++ decimal stat.tables ++ codes " free " ++ decimal stat.free_blocks ++ 10 ∷ []
+
+-- the numbers of an image in one line
+abbrev pub report_line : Report → List ℕ
+report_line report = codes "ok generation " ++ decimal report.generation ++ codes " batches " ++ decimal report.batches
+    ++ codes " tables " ++ decimal report.tables ++ codes " entries " ++ decimal report.entries ++ codes " free " ++ decimal report.free_blocks ++ 10 ∷ []
+
+-- what a check found wrong with a table, in one line
+abbrev pub table_line : List ℕ → ℕ → List ℕ
+table_line what number = codes "finding " ++ what ++ codes " table " ++ decimal number ++ 10 ∷ []
 
 -- a job that was taken, if there was one: a flush, or by the level of its upper tables
 abbrev pub job_line : Option (ℕ × Option ℕ) → List ℕ

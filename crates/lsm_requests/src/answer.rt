@@ -20,6 +20,8 @@ pub enum Output {
     Absent,
     /// A line for each row, or for each step, or one with a store's numbers.
     Lines(String),
+    /// A line with what a check found wrong.
+    Found(String),
 }
 
 /// What a subcommand answers: what is printed, and the file that the calls were made on, if there is one.
@@ -55,6 +57,7 @@ impl fmt::Display for Output {
             Output::Value(word) => writeln!(f, "value {word}"),
             Output::Absent => writeln!(f, "absent"),
             Output::Lines(text) => write!(f, "{text}"),
+            Output::Found(text) => write!(f, "{text}"),
         }
     }
 }

@@ -3,13 +3,15 @@
 ghost use Rattle.std.specs.Prelude.{[], map, IfOk};
 ghost use Rattle.lsm_lives.specs.Calls.{asked_of};
 ghost use Rattle.lsm_requests.specs.Steps.{steps_after, lives_said, told_after, told_lives};
-ghost use Rattle.lsm_requests.specs.Answers.{Gives, HasFormatted, HasCommitted, HasFound, HasLives, HasNumbers, HasRows, HasReplies, OfOpened, WasOpened};
+ghost use Rattle.lsm_requests.specs.Replies.{table_line};
+ghost use Rattle.lsm_requests.specs.Answers.{Gives, HasFormatted, HasCommitted, HasFound, HasLives, HasNumbers, HasChecked, IsChecked, TellsFound, HasRows, HasReplies, OfOpened, WasOpened};
 
 use crate::answer::{Answer, Output};
-use crate::reply::{push_page, stat_text};
+use crate::reply::{push_page, report_text, stat_text, table_text};
 use crate::runs;
 use crate::settling::settle;
 use crate::steps::steps_of;
+use lsm_check::Finding;
 use lsm_codec::{Batch, word};
 use lsm_device::{Device, FileDevice, Refusal};
 use lsm_language::geometry::Geometry;
@@ -36,6 +38,7 @@ pub fn answer<R: Files<File = File> + AllocGlobal + Threads + Sync>(
         Request::Get { file, key } => get(rt, file, &key),
         Request::Scan { file, from, limit } => scan(rt, file, &from, limit),
         Request::Stat { file } => stat(rt, file),
+        Request::Check { file } => check(rt, file),
         Request::Replay { file, script } => replay(rt, file, script),
         Request::Lives { geometry, script } => lives(rt, rt.alloc(), geometry, script),
     }
@@ -174,6 +177,38 @@ fn stat<R: Files<File = File> + AllocGlobal>(rt: &R, file: &str) -> Result<Answe
     let store = open(rt, file)?;
     let output = numbers(rt.alloc(), &store)?;
     Ok(Answer::of_store(output, store))
+}
+
+// Checks a device, and tells what comes of it.
+fn checked<D: Device>(alloc: Global, device: &mut D) -> Result<Output, Refusal>
+    ensures { IfOk result (IsChecked (D.medium device.old) (D.medium device.new)) }
+{
+    match lsm_check::check(alloc, device) {
+        Ok(report) => Ok(Output::Lines(report_text(alloc, &report)?)),
+        Err(Finding::Refused(refusal)) => Err(refusal),
+        Err(Finding::Entries(number)) => found(alloc, "Entries", number),
+        Err(Finding::Order(number)) => found(alloc, "Order", number),
+        Err(Finding::Filter(number)) => found(alloc, "Filter", number),
+        Err(Finding::Versions(number)) => found(alloc, "Versions", number),
+    }
+}
+
+// What was found wrong with a table.
+fn found(alloc: Global, what: &str, number: u64) -> Result<Output, Refusal>
+    ensures { IfOk result (TellsFound (table_line what.now number)) }
+{
+    Ok(Output::Found(table_text(alloc, what, number)?))
+}
+
+fn check<R: Files<File = File> + AllocGlobal>(rt: &R, file: &str) -> Result<Answer, Refusal>
+    ensures { IfOk result HasChecked }
+{
+    let mut device = FileDevice::open(rt, file)?;
+    let output = checked(rt.alloc(), &mut device)?;
+    Ok(Answer {
+        output,
+        file: Some(device),
+    })
 }
 
 fn lives<R: Threads + Sync>(

@@ -4,9 +4,9 @@ ghost use Rattle.std.specs.Prelude.{◌≡◌, ◌≤◌, OnOk};
 ghost use Rattle.std.specs.Io.KnownBytes.{Appends, Keeps};
 ghost use Rattle.lsm_requests.specs.Answers.{lines_of};
 ghost use Rattle.lsm_language.specs.Faults.{reason_of};
-ghost use Rattle.lsm_requests.specs.Endings.{Concludes, IsReported, status_after};
+ghost use Rattle.lsm_requests.specs.Endings.{Concludes, IsReported, answer_status, status_after};
 
-use crate::answer::Answer;
+use crate::answer::{Answer, Output};
 use lsm_language::fault::{Fault, Usage};
 use lsm_language::refused::refusal_text;
 use std::io;
@@ -15,7 +15,7 @@ use std::io::Write;
 /// The exit status of a program that did what it was asked for.
 pub const DONE: u8 = 0;
 
-/// The exit status where a refusal, or a read or write that failed, ended the program.
+/// The exit status where a check found something wrong, or a refusal, or a read or write that failed, ended the program.
 pub const REFUSED: u8 = 1;
 
 /// The exit status where the words or the script are wrong.
@@ -49,9 +49,19 @@ fn status(answered: &Result<Answer, Fault>, written: &io::Result<()>) -> u8
         return REFUSED;
     }
     match answered {
-        Ok(_) => DONE,
+        Ok(answer) => answer_status(answer),
         Err(Fault::Refused(_) | Fault::Input(_)) => REFUSED,
         Err(Fault::Usage(_)) => USAGE,
+    }
+}
+
+// The exit status of an answer that was printed.
+fn answer_status(answer: &Answer) -> u8
+    ensures { result ≡ answer_status answer.now.output }
+{
+    match &answer.output {
+        Output::Found(_) => REFUSED,
+        _ => DONE,
     }
 }
 

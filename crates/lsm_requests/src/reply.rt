@@ -5,9 +5,10 @@ ghost use Rattle.lsm_device.specs.declared.refusal.Refusal.TheVariants.{NoMemory
 ghost use Rattle.lsm_lives.specs.Calls.{told_of};
 ghost use Rattle.lsm_lives.specs.Living.{told_by};
 ghost use Rattle.lsm_language.specs.Faults.{refusal_line};
-ghost use Rattle.lsm_requests.specs.Replies.{counted_word, digit_of, lives_text, next_line, page_lines, replies_text, stat_line, told_line, job_line, rows_line};
+ghost use Rattle.lsm_requests.specs.Replies.{counted_word, digit_of, lives_text, next_line, page_lines, replies_text, report_line, table_line, stat_line, told_line, job_line, rows_line};
 
 use crate::steps::{Counted, Told};
+use lsm_check::Report;
 use lsm_codec::word;
 use lsm_device::Refusal;
 use lsm_language::refused::refusal_text;
@@ -177,6 +178,33 @@ pub fn stat_text(alloc: Global, stat: &Stat) -> Result<String, Refusal>
     push_number(&mut text, " runs ", stat.runs as u64)?;
     push_number(&mut text, " tables ", stat.tables as u64)?;
     push_number(&mut text, " free ", u64::from(stat.free_blocks))?;
+    text.push_str("\n")?;
+    Ok(text)
+}
+
+/// The numbers of an image, in one line.
+pub fn report_text(alloc: Global, report: &Report) -> Result<String, Refusal>
+    ensures text { IfOk result (λ text. string_bytes text ≡ report_line report.now) }
+    ensures refused { IfErr result (λ e. e ≡ NoMemory) }
+{
+    let mut text = String::new(alloc);
+    push_number(&mut text, "ok generation ", report.generation)?;
+    push_number(&mut text, " batches ", report.batches)?;
+    push_number(&mut text, " tables ", report.tables as u64)?;
+    push_number(&mut text, " entries ", report.entries)?;
+    push_number(&mut text, " free ", u64::from(report.free_blocks))?;
+    text.push_str("\n")?;
+    Ok(text)
+}
+
+/// What was found wrong with a table, in one line.
+pub fn table_text(alloc: Global, what: &str, number: u64) -> Result<String, Refusal>
+    ensures text { IfOk result (λ text. string_bytes text ≡ table_line what.now number) }
+    ensures refused { IfErr result (λ e. e ≡ NoMemory) }
+{
+    let mut text = String::new(alloc);
+    write!(text, "finding {what}")?;
+    push_number(&mut text, " table ", number)?;
     text.push_str("\n")?;
     Ok(text)
 }

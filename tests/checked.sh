@@ -1,0 +1,127 @@
+#!/usr/bin/env bash
+# Looks what `lsmctl check` says of files: of those that the program left, and of some in which bytes were changed.
+#
+#     tests/checked.sh PROGRAM
+#
+# PROGRAM is a built `lsmctl`.
+set -u
+
+program=$(realpath "${1:?the path of a built lsmctl}")
+folder=$(mktemp -d)
+trap 'rm -rf "$folder"' EXIT
+cd "$folder" || exit 1
+count=0
+
+fail() {
+    echo "checked.sh: $*" >&2
+    exit 1
+}
+
+# Checks a file: it ends with the status, and prints the text on standard output, or on standard error where it is a refusal.
+checks() {
+    local wanted=$1 file=$2 text=$3 status=0 told=output silent=errors
+    cp "$file" before
+    "$program" check "$file" >output 2>errors || status=$?
+    [ "$status" -eq "$wanted" ] || fail "check $file ended with $status: $(cat output errors)"
+    case $text in refused*) told=errors silent=output ;; esac
+    [ "$(cat "$told")" = "$text" ] || fail "check $file says '$(cat "$told")', not '$text'"
+    [ ! -s "$silent" ] || fail "check $file also says '$(cat "$silent")'"
+    cmp -s before "$file" || fail "check $file changed it"
+    count=$((count + 1))
+}
+
+# Writes bytes, as hex, into a file from an offset within a sector on.
+patch() {
+    local file=$1 sector=$2 offset=$3 bytes=$4
+    printf '%b' "$(sed 's/../\\x&/g' <<<"$bytes")" | dd of="$file" bs=1 seek=$((sector * 512 + offset)) conv=notrunc status=none
+}
+
+# A fresh file, with the steps of a script made on it.
+made() {
+    rm -f "$1"
+    "$program" format "$1" 8192 128 >output || fail "format $1"
+    "$program" replay "$1" >output || fail "replay $1"
+}
+
+# The steps that flush what is in memory, as the job of this number.
+flush() {
+    printf 'rotate\ntake\nbuild %s 1\naccept %s %s\nwrite %s\ninstall %s\n' "$1" "$1" "$1" "$1" "$1"
+}
+
+# ---- what the program left
+
+"$program" format fresh 8192 128 >output || fail "format"
+checks 0 fresh 'ok generation 1 batches 0 tables 0 entries 0 free 959'
+
+# A flush keeps what its cuts ask for, and the batches that came while it was made are in the log.
+made snapshots <<'SCRIPT'
+commit +61=31
+commit +61=32
+rotate
+take
+snapshot
+commit +61=33
+snapshot
+commit +61=34
+build 1 1
+accept 1 1
+write 1
+install 1
+SCRIPT
+checks 0 snapshots 'ok generation 4 batches 4 tables 1 entries 1 free 955'
+
+# A delete that a flush keeps, since older versions may lie below, and a merge that drops it with what it deletes.
+{ echo 'commit +61=31'; flush 1; echo 'commit -61'; flush 2; } | made deleted
+checks 0 deleted 'ok generation 6 batches 2 tables 2 entries 2 free 951'
+
+# ---- what is no store's
+
+{ echo 'commit +61=31'; flush 1; } | made table
+checks 0 table 'ok generation 4 batches 1 tables 1 entries 1 free 955'
+
+head -c $((8192 * 512)) /dev/zero >zeros
+checks 1 zeros 'refused 21 NotAStore'
+patch zeros 0 0 ff
+checks 1 zeros 'refused 22 BadSuper'
+cp table other && patch other 2 0 00
+checks 1 other 'refused 23 BadManifest'
+cp table other && truncate -s $((8200 * 512)) other
+checks 1 other 'refused 25 BadGeometry'
+truncate -s $((8191 * 512)) other
+checks 1 other 'refused 25 BadGeometry'
+cp table other && truncate -s $((8192 * 512 - 1)) other
+checks 1 other 'refused 02 Io'
+
+# The footer of the table, in block 3, begins otherwise; its data block, in block 0, says that it has no entry.
+cp table other && patch other 538 0 00
+checks 1 other 'refused 24 BadTable'
+cp table other && patch other 514 0 0000
+checks 1 other 'refused 24 BadTable'
+
+# A sector of the first log is of an epoch that hasn't come yet.
+cp table other && patch other 130 11 09
+checks 1 other 'refused 23 BadManifest'
+
+# ---- what is wrong with a table
+
+# The entry has another number than the index says; both have one above the base; bits of the key are not set in the filter.
+cp table other && patch other 514 11 02
+checks 1 other 'finding Entries table 1'
+patch other 530 9 02
+checks 1 other 'finding Versions table 1'
+cp table other && patch other 528 401 00
+checks 1 other 'finding Filter table 1'
+
+# The second of three keys is above the third.
+{ echo 'commit +61=31 +62=32 +63=33'; flush 1; } | made three
+checks 0 three 'ok generation 4 batches 1 tables 1 entries 3 free 955'
+cp three other && patch other 514 17 64
+checks 1 other 'finding Order table 1'
+
+# The older table has a version of the key that is as new as that in the newer one.
+{ echo 'commit +61=31'; flush 1; echo 'commit +61=32'; flush 2; } | made newer
+checks 0 newer 'ok generation 6 batches 2 tables 2 entries 2 free 951'
+cp newer other && patch other 514 11 02 && patch other 530 9 02
+checks 1 other 'finding Versions table 1'
+
+echo "checked.sh: $count checks say what they should, and change nothing"
