@@ -96,3 +96,4 @@ pub mod AcceptedResults
 pub mod ServedSteps
 pub mod OpenedMachines
 pub mod Stats
+pub mod NextPieces

@@ -30,6 +30,7 @@ pub mod StoredTables
 pub mod InstalledJobs
 pub mod Accounts
 pub mod Stats
+pub mod Pieces
 pub mod TableLimits
 pub mod InstalledMemory
 pub mod Reading

@@ -14,6 +14,7 @@ mod memory;
 mod next_levels;
 mod opened_law;
 mod opening;
+mod pieces;
 mod reading;
 mod rotation;
 mod serve;
@@ -38,6 +39,7 @@ pub use law::{
 pub use lsm_jobs::TakenJob;
 pub use lsm_mem::{Page, Row};
 pub use opened_law::{opened_work_is_sound, openings_are_opened};
+pub use pieces::Piece;
 pub use stat::Stat;
 pub use store::Store;
 pub use stored_law::{

@@ -41,8 +41,8 @@ impl<A: Allocator> Memory<A> {
         }
     }
 
-    // Whether closed regions hold batches that are in no table.
-    fn is_waiting(&self) -> bool
+    /// Whether closed regions hold batches that are in no table.
+    pub(crate) fn is_waiting(&self) -> bool
         requires { AreConsistent self.now }
         ensures { result ≡ are_waiting (state_of self.now) }
     {

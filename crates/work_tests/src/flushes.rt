@@ -3,6 +3,7 @@
 use crate::working::{Answer, CACHE, Line, Piece, Working, begun, formatted, reopened};
 use lsm_device::Refusal;
 use lsm_store::At::{Now, Snap};
+use lsm_store::Piece as NextPiece;
 use std::alloc::Global;
 use std::process::Abort;
 use std::thread::Threads;
@@ -44,6 +45,32 @@ fn a_flush_among_commits(rt: HostRuntime) {
     let mut store = reopened(&rt, rt.alloc(), store);
     store.play(&rt, &LAST);
     assert!(rt; store.batch_count() == 4);
+}
+
+/// What the slots wait for as a flush goes through. There are four of them.
+const TOLD: [Line; 17] = [
+    (Piece::Put(0x61, 0x31), Answer::Number(1)),
+    (Piece::Next(0), Answer::Waits(None)),
+    (Piece::Rotate, Answer::Done),
+    (Piece::Next(0), Answer::Waits(Some(NextPiece::Take))),
+    (Piece::Next(3), Answer::Waits(Some(NextPiece::Take))),
+    (Piece::Next(4), Answer::Waits(None)),
+    (Piece::Take, Answer::Taken(1, None)),
+    (Piece::Next(0), Answer::Waits(Some(NextPiece::Build(1)))),
+    (Piece::Next(1), Answer::Waits(None)),
+    (Piece::Build(1), Answer::Built(1)),
+    (Piece::Next(0), Answer::Waits(Some(NextPiece::Build(1)))),
+    (Piece::Accept(1), Answer::Done),
+    (Piece::Next(0), Answer::Waits(Some(NextPiece::Write(1)))),
+    (Piece::Write(1), Answer::Left(0)),
+    (Piece::Next(0), Answer::Waits(Some(NextPiece::Install(1)))),
+    (Piece::Install(1), Answer::Done),
+    (Piece::Next(0), Answer::Waits(None)),
+];
+
+#[test]
+fn a_slot_tells_what_it_waits_for(rt: HostRuntime) {
+    begun(&rt, rt.alloc()).play(&rt, &TOLD);
 }
 
 /// The snapshot has a key that is deleted before the flush is taken.

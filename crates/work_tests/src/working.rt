@@ -4,7 +4,7 @@ use lsm_codec::{Batch, Op};
 use lsm_device::{MemDevice, Refusal};
 use lsm_merge::{Built, build};
 use lsm_open::format;
-use lsm_store::{At, Page, Stat, Store, TakenJob};
+use lsm_store::{At, Page, Piece as NextPiece, Stat, Store, TakenJob};
 use std::alloc::{Allocator, Global};
 use std::process::Abort;
 use std::thread::Threads;
@@ -29,6 +29,8 @@ pub(crate) enum Piece {
     Scan(At, u8),
     Room,
     Stat,
+    /// What the slot at a place waits for.
+    Next(usize),
     Take,
     Read(u64),
     Build(u64),
@@ -64,6 +66,7 @@ pub(crate) enum Answer {
     /// No result was built.
     NoResult,
     Numbers(Stat),
+    Waits(Option<NextPiece>),
     Refused(Refusal),
 }
 
@@ -257,6 +260,7 @@ impl<A: Allocator + Clone + Send + Sync> Working<A> {
             Piece::Scan(at, from) => self.scan(at, from),
             Piece::Room => Ok(Answer::Number(self.store.log_room()?.into())),
             Piece::Stat => Ok(Answer::Numbers(self.store.stat()?)),
+            Piece::Next(place) => Ok(Answer::Waits(self.store.piece_at(place))),
             Piece::Take => Ok(told_job(self.store.job_take()?)),
             Piece::Read(job) => Ok(Answer::Left(self.store.job_read(job)?)),
             Piece::Build(job) => self.build(rt, job),
