@@ -3,7 +3,7 @@
 #
 #     tests/checked.sh PROGRAM
 #
-# PROGRAM is a built `lsmctl`.
+# PROGRAM is a built `lsmctl`. For one of the files it needs a gigabyte of disk.
 set -u
 
 program=$(realpath "${1:?the path of a built lsmctl}")
@@ -17,11 +17,12 @@ fail() {
     exit 1
 }
 
-# Checks a file: it ends with the status, and prints the text on standard output, or on standard error where it is a refusal.
+# Checks a file: it ends with the status, within a minute, and prints the text on standard output, or on standard error where it
+# is a refusal.
 checks() {
     local wanted=$1 file=$2 text=$3 status=0 told=output silent=errors
     cp "$file" before
-    "$program" check "$file" >output 2>errors || status=$?
+    timeout 60 "$program" check "$file" >output 2>errors || status=$?
     [ "$status" -eq "$wanted" ] || fail "check $file ended with $status: $(cat output errors)"
     case $text in refused*) told=errors silent=output ;; esac
     [ "$(cat "$told")" = "$text" ] || fail "check $file says '$(cat "$told")', not '$text'"
@@ -123,5 +124,32 @@ checks 1 other 'finding Order table 1'
 checks 0 newer 'ok generation 6 batches 2 tables 2 entries 2 free 951'
 cp newer other && patch other 514 11 02 && patch other 530 9 02
 checks 1 other 'finding Versions table 1'
+
+# ---- the largest device
+
+# A flush of 160,000 deletes is cut into 50 tables of 3,200 entries. An entry takes 15 bytes and a block has room for 272 of them, so
+# a table has twelve data blocks, and filter, index and footer: 500 tables take 7,500 of 130,287 blocks. The format, ten openings,
+# ten rotations and ten installs have a generation each.
+largest() {
+    local round batch step first=0
+    "$program" format largest 1048576 2048 >output || fail "format largest"
+    for ((round = 0; round < 10; round++)); do
+        {
+            for ((batch = 0; batch < 16; batch++)); do
+                printf 'commit'
+                printf ' -%06x' $(seq "$first" $((first + 9999)))
+                echo
+                first=$((first + 10000))
+            done
+            printf '%s\n' rotate take 'build 1 4' 'accept 1 1'
+            for ((step = 0; step < 94; step++)); do echo 'write 1'; done
+            echo 'install 1'
+        } >script
+        "$program" replay largest <script >output || fail "replay largest"
+        [ "$(tail -n 2 output | tr '\n' ' ')" = 'left 0 ok ' ] || fail "replay largest prints $(tail -n 2 output)"
+    done
+    checks 0 largest 'ok generation 31 batches 160 tables 500 entries 1600000 free 122787'
+}
+largest
 
 echo "checked.sh: $count checks say what they should, and change nothing"

@@ -116,10 +116,11 @@ echo "files.sh: a file, and a copy of it, is read back by other processes"
 
 # ---- many runs
 
-# Puts one after another, of keys that come again and of keys that don't: each settles what the one before it has left.
+# Puts one after another, of keys that come again and of keys that don't: each settles what the one before it has left. How long
+# the second hundred of them takes, and the last, is told on standard error and decides nothing.
 many_puts() {
     local number key value
-    local -A wanted=()
+    local -A wanted=() at=()
     "$program" format many 65536 128 >out 2>err || fail "format: $(cat err)"
     for ((number = 1; number <= 1000; number++)); do
         if ((number % 4 == 0)); then key=$((number % 1000)); else key=$((number % 29)); fi
@@ -128,7 +129,9 @@ many_puts() {
         wanted[$key]=$value
         "$program" put many "$key" "$value" >out 2>err || fail "put $number: $(cat err)"
         [ "$(cat out)" = "batch $number" ] || fail "put $number prints $(cat out)"
+        if ((number % 100 == 0)); then at[$number]=${EPOCHREALTIME//[!0-9]/}; fi
     done
+    echo "files.sh: puts 101 to 200 took $(((at[200] - at[100]) / 1000)) milliseconds, and puts 901 to 1000 $(((at[1000] - at[900]) / 1000))" >&2
     for key in "${!wanted[@]}"; do
         [ "$("$program" get many "$key")" = "value ${wanted[$key]}" ] || fail "get $key after 1000 puts: $("$program" get many "$key")"
     done

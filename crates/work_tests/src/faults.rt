@@ -163,11 +163,12 @@ fn played<'h, R: Threads + Sync + Abort>(
 }
 
 /// How many writes and syncs a script has, each of which fails in turn, and how often memory is refused in it. The crash keeps
-/// none of the pending writes, all, or every second.
+/// none of the pending writes, all, the first, the third and so on, or the others: so of a commit and a manifest that pend
+/// together one may stand without the other.
 fn changes_of<R: Threads + Sync + Abort>(rt: &R, alloc: Global, scripts: Scripts) -> (u64, u64) {
     let heaps = ample(alloc);
     for fuse in 0..200 {
-        for mask in [[false, false], [true, true], [true, false]] {
+        for mask in [[false, false], [true, true], [true, false], [false, true]] {
             let device = formatted(rt, &&heaps.device);
             let told = played(rt, &heaps, scripts, device, (fuse, AMPLE, mask));
             if !told.stopped {

@@ -94,7 +94,7 @@ fn a_flush_beside_a_merge(rt: HostRuntime) {
 }
 
 /// With twelve runs in level 0 a flush waits for a merge.
-const THIRTEENTH: [Line; 13] = [
+const THIRTEENTH: [Line; 14] = [
     (Piece::Rotate, Answer::Refused(Refusal::NothingToRotate)),
     (Piece::Put(0x6d, 0x3d), Answer::Number(13)),
     (Piece::Rotate, Answer::Done),
@@ -108,7 +108,20 @@ const THIRTEENTH: [Line; 13] = [
     (Piece::Read(14), Answer::Left(0)),
     (Piece::Finish(14), Answer::Done),
     (Piece::Install(13), Answer::Done),
+    (Piece::Stat, Answer::Numbers(FULL_AGAIN)),
 ];
+
+/// What is there then: level 0 is full again, and the table of the oldest run stands in level 1. The generations are those of
+/// the format, the opening, thirteen rotations, and the installs of thirteen flushes and a merge; each table has four blocks.
+const FULL_AGAIN: Stat = Stat {
+    generation: 1 + 1 + 13 + 13 + 1,
+    batches: 13,
+    room: 128,
+    waiting: false,
+    runs: 12,
+    tables: 13,
+    free_blocks: 959 - 13 * 4,
+};
 
 #[test]
 fn a_flush_waits_for_room_in_level_0(rt: HostRuntime) {
