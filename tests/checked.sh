@@ -75,6 +75,25 @@ checks 0 snapshots 'ok generation 4 batches 4 tables 1 entries 1 free 955'
 { echo 'commit +61=31'; flush 1; echo 'commit -61'; flush 2; } | made deleted
 checks 0 deleted 'ok generation 6 batches 2 tables 2 entries 2 free 951'
 
+# A batch whose log sector is lost isn't counted. Once an opening has counted it, the next log begins with the number behind it,
+# so that it is missed.
+echo 'commit +61=31' | made lone
+checks 0 lone 'ok generation 2 batches 1 tables 0 entries 0 free 959'
+cp lone other && patch other 130 0 00
+checks 0 other 'ok generation 2 batches 0 tables 0 entries 0 free 959'
+"$program" get lone 61 >output || fail "get lone"
+cp lone other && patch other 130 0 00
+checks 1 other 'refused 23 BadManifest'
+
+# In the last generation nothing is wrong with an image, and no opening can follow: the superblock and its manifest say 2^63.
+cp fresh last && patch last 1 0 00000000000000000000000000000000000000000000
+patch last 0 0 4c534d53000180000000000000000000200000800001
+patch last 2 0 4c534d4d80000000000000000000000000000000000000000000000100000000
+checks 0 last 'ok generation 9223372036854775808 batches 0 tables 0 entries 0 free 959'
+status=0
+"$program" get last 61 >output 2>errors || status=$?
+[ "$status" -eq 1 ] && [ "$(cat output errors)" = 'refused 20 Exhausted' ] || fail "get last ended with $status: $(cat output errors)"
+
 # ---- what is no store's
 
 { echo 'commit +61=31'; flush 1; } | made table
@@ -99,17 +118,35 @@ checks 1 other 'refused 24 BadTable'
 cp table other && patch other 514 0 0000
 checks 1 other 'refused 24 BadTable'
 
+# Two entries take a data block each. The first block has another end than the index says, and the second says that it has no
+# entry: all blocks of a table are read before its entries are judged.
+zeros_word() {
+    head -c 4096 /dev/zero | tr '\0' 0
+}
+{
+    echo "commit +61=$(zeros_word) +62=$(zeros_word)"
+    flush 1
+} | made two
+checks 0 two 'ok generation 4 batches 1 tables 1 entries 2 free 954'
+cp two other && patch other 514 11 02
+checks 1 other 'finding Entries table 1'
+patch other 522 0 0000
+checks 1 other 'refused 24 BadTable'
+
 # A sector of the first log is of an epoch that hasn't come yet.
 cp table other && patch other 130 11 09
 checks 1 other 'refused 23 BadManifest'
 
 # ---- what is wrong with a table
 
-# The entry has another number than the index says; both have one above the base; bits of the key are not set in the filter.
+# The entry has another number than the index says; both have one above the base; bits of the key are not set in the filter. Of
+# several faults the first of these is told: Entries, Order, Filter, Versions.
 cp table other && patch other 514 11 02
 checks 1 other 'finding Entries table 1'
 patch other 530 9 02
 checks 1 other 'finding Versions table 1'
+patch other 528 401 00
+checks 1 other 'finding Filter table 1'
 cp table other && patch other 528 401 00
 checks 1 other 'finding Filter table 1'
 
@@ -118,12 +155,18 @@ checks 1 other 'finding Filter table 1'
 checks 0 three 'ok generation 4 batches 1 tables 1 entries 3 free 955'
 cp three other && patch other 514 17 64
 checks 1 other 'finding Order table 1'
+patch other 528 401 00
+checks 1 other 'finding Order table 1'
 
 # The older table has a version of the key that is as new as that in the newer one.
 { echo 'commit +61=31'; flush 1; echo 'commit +61=32'; flush 2; } | made newer
 checks 0 newer 'ok generation 6 batches 2 tables 2 entries 2 free 951'
 cp newer other && patch other 514 11 02 && patch other 530 9 02
 checks 1 other 'finding Versions table 1'
+
+# Where both tables lack a bit of their filters, that of the newer run, which the manifest names first, is told.
+cp newer other && patch other 528 401 00 && patch other 560 401 00
+checks 1 other 'finding Filter table 2'
 
 # ---- the largest device
 

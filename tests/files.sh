@@ -92,9 +92,24 @@ formats_below_limits() {
     echo "files.sh: format is refused below each limit of the file size that its file exceeds"
 }
 
+# A put first moves the batch before it into a table. The limit leaves all but the data blocks, so that the write of the table's
+# first block fails and stops the store: its refusal isn't told, and the commit behind it is refused. Nothing is lost.
+put_that_cannot_settle() {
+    cp fresh store
+    "$program" put store 61 31 >out 2>err || fail "put: $(cat err)"
+    run_below $((514 * 512)) ignored put store 62 32
+    [ "$status" -eq 1 ] && [ "$said" = "refused 03 Stopped" ] || fail "a put that can't settle ended with $status: $said"
+    [ "$("$program" get store 61)" = "value 31" ] || fail "get 61 after a put that couldn't settle"
+    [ "$("$program" get store 62)" = absent ] || fail "get 62 after a put that couldn't settle"
+    "$program" put store 62 32 >out 2>err || fail "put: $(cat err)"
+    [ "$(cat out)" = "batch 2" ] || fail "put after one that couldn't settle prints $(cat out)"
+    echo "files.sh: a put whose settling fails is refused with 03 Stopped, and loses nothing"
+}
+
 if command -v prlimit >prlimit.path; then
     puts_below_limits
     formats_below_limits
+    put_that_cannot_settle
 else
     echo "files.sh: skipped: writes that fail or fall short, for want of prlimit"
 fi
@@ -117,9 +132,10 @@ echo "files.sh: a file, and a copy of it, is read back by other processes"
 # ---- many runs
 
 # Puts one after another, of keys that come again and of keys that don't: each settles what the one before it has left. How long
-# the second hundred of them takes, and the last, is told on standard error and decides nothing.
+# the second hundred of them takes, and the last, is told on standard error; the last may take three times as long at most.
+# The file is then the image of a store.
 many_puts() {
-    local number key value
+    local number key value second last
     local -A wanted=() at=()
     "$program" format many 65536 128 >out 2>err || fail "format: $(cat err)"
     for ((number = 1; number <= 1000; number++)); do
@@ -131,11 +147,16 @@ many_puts() {
         [ "$(cat out)" = "batch $number" ] || fail "put $number prints $(cat out)"
         if ((number % 100 == 0)); then at[$number]=${EPOCHREALTIME//[!0-9]/}; fi
     done
-    echo "files.sh: puts 101 to 200 took $(((at[200] - at[100]) / 1000)) milliseconds, and puts 901 to 1000 $(((at[1000] - at[900]) / 1000))" >&2
+    second=$(((at[200] - at[100]) / 1000))
+    last=$(((at[1000] - at[900]) / 1000))
+    echo "files.sh: puts 101 to 200 took $second milliseconds, and puts 901 to 1000 $last" >&2
+    [ "$last" -le $((3 * second)) ] || fail "puts 901 to 1000 took more than three times as long as puts 101 to 200: $last and $second milliseconds"
+    "$program" check many >out 2>err || fail "check after 1000 puts: $(cat out err)"
+    [[ $(cat out) == 'ok generation '*' batches 1000 tables '* ]] || fail "check after 1000 puts prints $(cat out)"
     for key in "${!wanted[@]}"; do
         [ "$("$program" get many "$key")" = "value ${wanted[$key]}" ] || fail "get $key after 1000 puts: $("$program" get many "$key")"
     done
-    echo "files.sh: 1000 puts one after another stand, and each key has its last value"
+    echo "files.sh: 1000 puts one after another stand in an image that a check finds sound, and each key has its last value"
 }
 many_puts
 
