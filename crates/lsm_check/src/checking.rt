@@ -122,7 +122,8 @@ fn check_all<A: Allocator + Clone, D: Device>(alloc: &A, device: &mut D) -> Resu
 /// device call where the device has fewer than 8,192 sectors or more than 1,048,576; what the root says; `BadTable` for a table
 /// that doesn't open; `BadManifest` for a region whose first batch is not the next one, and for a log sector of a later
 /// generation. Then it goes over the tables in the order of the manifest, and of each it finds the first of these: `BadTable`,
-/// `Entries`, `Order`, `Filter`, `Versions`. Want of memory is `NoMemory` and a read that failed, its last, `Io`.
+/// where one of its data blocks, whichever, spells no entries; `Entries`, `Order`, `Filter`, `Versions`. Want of memory is
+/// `NoMemory` and a read that failed, its last, `Io`.
 pub fn check<A: Allocator + Clone, D: Device>(alloc: A, device: &mut D) -> Result<Report, Finding>
     // After a yes the sectors are the image of a store, so that an opening recovers it, and these are its numbers.
     ensures yes { IsTrue (D.medium device.old).lasting.tells → IfOk result (IsImage (D.medium device.old).size (seen (disk (D.medium device.old)))) }

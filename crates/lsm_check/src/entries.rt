@@ -1,5 +1,5 @@
 // The entries of a table are read, block by block.
-ghost use Rattle.std.specs.Prelude.{◌≡◌, ◌⊎◌, ◌≤◌, ◌<◌, ◌+◌, Some, None, length, IsTrue, IfOk, IfErr, OnOk};
+ghost use Rattle.std.specs.Prelude.{◌≡◌, ◌⊎◌, ◌≤◌, ◌<◌, ◌+◌, true, Some, None, length, IsTrue, IfOk, IfErr};
 ghost use Rattle.lsm_cache.specs.Reads.{block_at};
 ghost use Rattle.lsm_codec.specs.Entries.{block_of};
 ghost use Rattle.lsm_device.specs.Disk.{seen};
@@ -59,34 +59,37 @@ fn ends_with<A: Allocator>(entries: &[Entry<A>], edge: &Edge<A>) -> bool
     }
 }
 
-// Reads the data block of a table at a place, and adds its entries, where the block ends as the table's index tells.
+// Reads the data block of a table at a place, and adds its entries. It answers whether this block ends as the table's index
+// tells, and those before it did.
 fn add_block<D: Device, A: Allocator + Clone>(
     alloc: &A,
     device: &mut D,
     area: u32,
     table: &PlacedTable<A>,
     place: usize,
+    before: bool,
     entries: &mut Vec<Entry<A>, A>,
-) -> Result<(), Finding>
+) -> Result<bool, Refusal>
     requires within { LiesWithin (D.medium device.old).size area table.now }
     requires place { place < length table.now.outline.edges }
-    ensures read { IsTrue (D.medium device.old).lasting.tells → OnOk result
-        (AreRead (seen (disk (D.medium device.old))) area place table.now entries.old.items
+    ensures read { IsTrue (D.medium device.old).lasting.tells → IfOk result (λ ends. ends ≡ true → (before ≡ true
+        → AreRead (seen (disk (D.medium device.old))) area place table.now entries.old.items)
         → AreRead (seen (disk (D.medium device.old))) area (place + 1) table.now entries.new.items) }
-    ensures fair { IsTrue (D.medium device.old).lasting.tells → IsStored (seen (disk (D.medium device.old))) area table.now → IfErr result IsShort }
-    ensures device { ReadsAtMost 8 (is_faultless result) (D.medium device.old) (D.medium device.new) }
+    ensures stored { IsTrue (D.medium device.old).lasting.tells → IsStored (seen (disk (D.medium device.old))) area table.now → before ≡ true
+        → IfOk result (λ ends. ends ≡ true) }
+    ensures fair { IsTrue (D.medium device.old).lasting.tells → IsStored (seen (disk (D.medium device.old))) area table.now → IfErr result IsShortRefusal }
+    ensures device { ReadsAtMost 8 (faultless result) (D.medium device.old) (D.medium device.new) }
 {
     let edges = table.table().edges();
     let sector = area + 8 * (table.first_block() + place as u32);
     let mut block = read_entries(alloc, device, sector)?;
-    if !ends_with(&block, &edges[place]) {
-        return Err(Finding::Entries(table.number()));
-    }
+    let ends = ends_with(&block, &edges[place]);
     entries.append(&mut block)?;
-    Ok(())
+    Ok(before & ends)
 }
 
-/// Reads the entries of a table, which are those that its data blocks spell, each of which ends as the table's index tells.
+/// Reads the entries of a table, which are those that its data blocks spell, each of which ends as the table's index tells. All
+/// blocks are read before one with another end is told, so that one that spells no entries is told first.
 pub(crate) fn entries_of<D: Device, A: Allocator + Clone>(
     alloc: &A,
     device: &mut D,
@@ -100,8 +103,12 @@ pub(crate) fn entries_of<D: Device, A: Allocator + Clone>(
     ensures device { ReadsAtMost 512 (is_faultless result) (D.medium device.old) (D.medium device.new) }
 {
     let mut entries = Vec::new(alloc.clone()?);
+    let mut ends = true;
     for place in 0..table.table().data_blocks() {
-        add_block(alloc, device, area, table, place, &mut entries)?;
+        ends = add_block(alloc, device, area, table, place, ends, &mut entries)?;
+    }
+    if !ends {
+        return Err(Finding::Entries(table.number()));
     }
     Ok(entries)
 }

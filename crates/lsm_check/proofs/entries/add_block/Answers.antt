@@ -1,4 +1,6 @@
-use Rattle.std.proofs.Common.{◌≡◌, ◌+◌, ◌*◌, ◌++◌, ℕ, Bool, true, true≢false, Some, None, IsTrue, List, get_or, sym, ap, subst, ◌∙◌}
+use Rattle.std.proofs.Common.{◌≡◌, ◌+◌, ◌*◌, ◌++◌, ℕ, Bool, true, Some, None, IsTrue, List, get_or, sym, ap, subst, ◌∙◌}
+use Rattle.std.specs.Prelude.{◌&&◌}
+use Rattle.std.proofs.lemmas.Bool.{and_parts}
 use Rattle.std.proofs.lemmas.Result.{err_from_is_err_and}
 use Rattle.lsm_cache.specs.Reads.{block_at}
 use Rattle.lsm_codec.specs.Entries.{block_of}
@@ -37,8 +39,8 @@ returns-in_err-block-clause-device g c =
     let p = err_from_is_err_and c.from_residual.result c.from_residual.ensures.1 in
     rw (p.1, p.2) (subst (λ (ok : Bool). ReadsAtMost 8 ok (D.medium c.args.device.now) (D.medium c.read_entries.new.device)) (ap faultless c.in_err-block.was) c.read_entries.ensures.device)
 
-pub returns-then-not-ends_with-clause-fair : goal.returns-then-not-ends_with-clause-fair
-returns-then-not-ends_with-clause-fair g c = λ t stored.
+pub returns-clause-stored : goal.returns-clause-stored
+returns-clause-stored g c = λ t stored before.
     let D = g.D.Device in
     let table = c.args.table.now in
     let place = c.args.place in
@@ -50,11 +52,11 @@ returns-then-not-ends_with-clause-fair g c = λ t stored.
     let is : edge ≡ get_or table.outline.edges place edge = c.index-edges-place.is ∙ ap (λ (es : List Edge). get_or es place edge) edges in
     let spelled : block_of (block_at S (sector_of c.args.area table place)) ≡ Some block = ap (λ (k : ℕ). block_of (block_at S k)) (sym at) ∙ c.in_ok-block.ensures.spelled t in
     let ends : ends_with block edge ≡ true = ends_stored S c.args.area place table c.requires.place edge block is stored spelled in
-    let found : c.ends_with.result ≡ ends_with block edge = c.ends_with.ensures ∙ ap (λ (b : List Version). ends_with b edge) c.deref.ensures.value in
-    absurd (true≢false (sym (found ∙ ends) ∙ c.if-not-ends_with.true))
+    let found : c.ends_with-ends.result ≡ ends_with block edge = c.ends_with-ends.ensures ∙ ap (λ (b : List Version). ends_with b edge) c.deref.ensures.value in
+    ap (λ (b : Bool). b && c.ends_with-ends.result) before ∙ found ∙ ends
 
 pub returns-clause-read : goal.returns-clause-read
-returns-clause-read g c = λ t before.
+returns-clause-read g c = λ t both before.
     let D = g.D.Device in
     let table = c.args.table.now in
     let place = c.args.place in
@@ -65,6 +67,7 @@ returns-clause-read g c = λ t before.
     let edges : c.edges-edges.result.now ≡ table.outline.edges = c.edges-edges.ensures ∙ ap (λ (o : Outline). o.edges) c.table.ensures.same in
     let is : edge ≡ get_or table.outline.edges place edge = c.index-edges-place.is ∙ ap (λ (es : List Edge). get_or es place edge) edges in
     let spelled : block_of (block_at S (sector_of c.args.area table place)) ≡ Some block = ap (λ (k : ℕ). block_of (block_at S k)) (sym at) ∙ c.in_ok-block.ensures.spelled t in
-    let ends : ends_with block edge ≡ true = sym (c.ends_with.ensures ∙ ap (λ (b : List Version). ends_with b edge) c.deref.ensures.value) ∙ c.if-not-ends_with.false in
+    let parts = and_parts c.args.before c.ends_with-ends.result both in
+    let ends : ends_with block edge ≡ true = sym (c.ends_with-ends.ensures ∙ ap (λ (b : List Version). ends_with b edge) c.deref.ensures.value) ∙ parts.1 in
     let more : c.append.new.self.items ≡ c.args.entries.now.items ++ block = c.in_ok-append.ensures.items in
-    subst (λ (l : List Version). AreRead S c.args.area (place + 1) table l) (sym more) (block_more S c.args.area place table c.requires.place edge block c.args.entries.now.items is spelled ends before)
+    subst (λ (l : List Version). AreRead S c.args.area (place + 1) table l) (sym more) (block_more S c.args.area place table c.requires.place edge block c.args.entries.now.items is spelled ends (before parts.0))

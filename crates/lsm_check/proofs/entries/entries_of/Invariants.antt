@@ -1,6 +1,7 @@
 use Rattle.std.proofs.Common.{◌≡◌, ◌*◌, IsTrue, true}
 use Rattle.lsm_device.specs.Disk.{seen}
 use Rattle.lsm_device.specs.Medium.{disk}
+use Rattle.lsm_levels.specs.Stored.{IsStored}
 use Rattle.lsm_open.specs.ReadParts.{ReadsAtMost}
 use Rattle.lsm_check.specs.Sound.{AreRead}
 use Rattle.lsm_check.proofs.entries.entries_of.Given as goal
@@ -11,5 +12,6 @@ invariant-loop-place g l =
     record {
       same_size : (D.medium l.device).size ≡ (D.medium l.fn.device).size;
       device : ReadsAtMost (8 * l.place) true (D.medium l.fn.device) (D.medium l.device);
-      read : IsTrue (D.medium l.fn.device).lasting.tells → AreRead (seen (disk (D.medium l.fn.device))) l.area l.place l.table l.entries.items;
+      read : IsTrue (D.medium l.fn.device).lasting.tells → l.ends ≡ true → AreRead (seen (disk (D.medium l.fn.device))) l.area l.place l.table l.entries.items;
+      stored : IsTrue (D.medium l.fn.device).lasting.tells → IsStored (seen (disk (D.medium l.fn.device))) l.area l.table → l.ends ≡ true;
     }
