@@ -1,11 +1,17 @@
 //! Random lives of a store in memory, after each of which a check finds its image sound, with the numbers that an opening
-//! then finds.
+//! then finds. The opening finds the map that the first so many of the batches make.
 #![tactic(auto)]
 
+mod agreeing;
 mod draws;
+mod history;
+mod opened;
 mod steps;
 
+use crate::agreeing::{has_map, has_numbers};
 use crate::draws::Draws;
+use crate::history::History;
+use crate::opened::Opened;
 use crate::steps::life;
 use anyhow::Result;
 use lsm_check::{Finding, Report, check};
@@ -27,8 +33,10 @@ const LIVES: u32 = 3;
 enum Trouble {
     /// The check found something wrong.
     Found,
-    /// An opening found other numbers.
+    /// A batch got another number than the next one, or an opening found other numbers.
     Numbers,
+    /// An opening found another map.
+    Map,
     Refused(Refusal),
 }
 
@@ -47,26 +55,45 @@ fn formatted(alloc: Global) -> Result<MemDevice, Refusal> {
     }
 }
 
-/// Leads a life on a device. It answers its first reply, and the device that it leaves.
+/// Leads lives on a device.
+fn lived<R: Threads + Sync>(
+    rt: &R,
+    alloc: Global,
+    device: MemDevice,
+    given: &[Life],
+) -> Result<(Vec<Vec<Reply>>, MemDevice), Refusal> {
+    match lives(rt, alloc, device, given) {
+        Ok(left) => Ok(left),
+        Err((refusal, _)) => Err(refusal),
+    }
+}
+
+/// Takes in what a life committed, by the replies of lives of which it is the first.
+fn take_in(
+    history: &mut History,
+    life: Option<&Life>,
+    replies: Option<&Vec<Reply>>,
+) -> Result<(), Trouble> {
+    if let (Some(life), Some(replies)) = (life, replies) {
+        if !history.take_in_all(&life.steps, replies)? {
+            return Err(Trouble::Numbers);
+        }
+    }
+    Ok(())
+}
+
+/// Leads a life on a device, and takes in what it committed. It answers the device that the life leaves.
 fn led<R: Threads + Sync>(
     rt: &R,
     alloc: Global,
     device: MemDevice,
     life: Life,
-) -> Result<(Option<u64>, MemDevice), Refusal> {
-    match lives(rt, alloc, device, &[life]) {
-        Ok((replies, device)) => Ok((opened(&replies), device)),
-        Err((refusal, _)) => Err(refusal),
-    }
-}
-
-/// How many batches the opening of a life found, where it was not refused.
-fn opened(replies: &[Vec<Reply>]) -> Option<u64> {
-    let first = replies.first()?.first()?;
-    match first {
-        Reply::Number(batches) => Some(*batches),
-        _ => None,
-    }
+    history: &mut History,
+) -> Result<MemDevice, Trouble> {
+    let given = [life];
+    let (replies, device) = lived(rt, alloc, device, &given)?;
+    take_in(history, given.first(), replies.first())?;
+    Ok(device)
 }
 
 /// The numbers of the image that a device holds.
@@ -78,28 +105,45 @@ fn checked(alloc: Global, device: &mut MemDevice) -> Result<Report, Trouble> {
     }
 }
 
-/// A life of no step, without a fuse.
-fn idle(alloc: Global) -> Life {
-    Life {
-        fuse: None,
-        steps: Vec::new(alloc),
-        mask: Vec::new(alloc),
+/// Compares what an opening finds with what a check found before it, and with the batches that were committed: those that it
+/// finds are kept.
+fn compare(
+    alloc: Global,
+    opened: &mut Opened,
+    report: Report,
+    history: &mut History,
+) -> Result<(), Trouble> {
+    if !has_numbers(opened.stat()?, report) || !history.keep(report.batches) {
+        return Err(Trouble::Numbers);
     }
+    if !has_map(alloc, opened, history)? {
+        return Err(Trouble::Map);
+    }
+    Ok(())
 }
 
-/// Leads the lives of a script, and checks the device after each. It answers how many tables the last image has.
+/// Opens a device that was checked, and compares what it finds. It answers the device again.
+fn reopened(
+    alloc: Global,
+    device: MemDevice,
+    report: Report,
+    history: &mut History,
+) -> Result<MemDevice, Trouble> {
+    let mut opened = Opened::on(alloc, device)?;
+    compare(alloc, &mut opened, report, history)?;
+    Ok(opened.into_device())
+}
+
+/// Leads the lives of a script, and checks and opens the device after each. It answers how many tables the last image has.
 fn script<R: Threads + Sync>(rt: &R, alloc: Global, draws: &mut Draws) -> Result<usize, Trouble> {
     let mut device = formatted(alloc)?;
+    let mut history = History::new(alloc);
     let mut tables = 0;
     for _ in 0..LIVES {
-        let (_, left) = led(rt, alloc, device, life(alloc, draws)?)?;
-        device = left;
-        let report = checked(alloc, &mut device)?;
-        let (batches, left) = led(rt, alloc, device, idle(alloc))?;
-        device = left;
-        if batches != Some(report.batches) {
-            return Err(Trouble::Numbers);
-        }
+        let life = life(alloc, draws)?;
+        let mut left = led(rt, alloc, device, life, &mut history)?;
+        let report = checked(alloc, &mut left)?;
+        device = reopened(alloc, left, report, &mut history)?;
         tables = report.tables;
     }
     Ok(tables)
@@ -122,6 +166,7 @@ fn told(trouble: Trouble) -> &'static str {
     match trouble {
         Trouble::Found => "a finding",
         Trouble::Numbers => "other numbers",
+        Trouble::Map => "another map",
         Trouble::Refused(refusal) => refusal.name(),
     }
 }

@@ -9,6 +9,9 @@ use std::alloc::{AllocError, Global};
 /// The steps of a life.
 const STEPS: u32 = 40;
 
+/// The bytes of a value.
+pub(crate) const VALUE: usize = 700;
+
 /// The most places of a mask.
 const MASK: u32 = 60;
 
@@ -18,7 +21,7 @@ fn commit(alloc: Global, draws: &mut Draws) -> Result<Call, Refusal> {
     let op = if draws.below(4) == 0 {
         Op::delete(alloc, &key)?
     } else {
-        Op::put(alloc, &key, &[draws.byte(); 700])?
+        Op::put(alloc, &key, &[draws.byte(); VALUE])?
     };
     Ok(Call::Commit(Batch::new(alloc, op)?))
 }
