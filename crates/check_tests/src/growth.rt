@@ -1,20 +1,11 @@
 //! Growths that memory refuses.
 
-use crate::setup::left;
-use lsm_check::{Finding, Report, check};
+use crate::setup::{NUMBERS, left};
+use lsm_check::{Finding, check};
 use lsm_device::{MemDevice, Refusal};
 use merge_tests::budget::Budget;
 use std::alloc::Global;
 use std::test::Fail;
-
-/// The numbers of the image.
-const NUMBERS: Report = Report {
-    generation: 4,
-    batches: 2,
-    tables: 1,
-    entries: 1,
-    free_blocks: 955,
-};
 
 /// Whether a check where so many growths are allowed finds the image sound, or has no memory. It only reads.
 fn is_sound_within(alloc: Global, growths: u64, device: &mut MemDevice) -> Result<bool, Fail> {

@@ -1,5 +1,6 @@
 //! What the tests begin with.
 
+use lsm_check::Report;
 use lsm_codec::{Batch, Op};
 use lsm_device::{MemDevice, Refusal};
 use lsm_lives::{Call, Life, Step, Work, lives};
@@ -7,6 +8,15 @@ use lsm_open::format;
 use std::alloc::Global;
 use std::test::Fail;
 use std::thread::Threads;
+
+/// The numbers of the image that `left` answers.
+pub const NUMBERS: Report = Report {
+    generation: 4,
+    batches: 2,
+    tables: 1,
+    entries: 1,
+    free_blocks: 955,
+};
 
 /// A formatted device.
 fn formatted(alloc: Global) -> Result<MemDevice, Fail> {
