@@ -1,4 +1,3 @@
-use Rattle.std.proofs.Common.{ℕ}
 use Rattle.check_tests.proofs.whole.check_after_lives.Goals as goal
 
 pub returns-in-Ok : goal.returns-in-Ok

@@ -1,6 +1,6 @@
 use Rattle.std.proofs.Common.{length, replicate, true, refl, subst}
 use Rattle.std.proofs.lemmas.Result.{err_from_is_err_and}
-use Rattle.lsm_device.specs.Disk.{Disk, image, seen}
+use Rattle.lsm_device.specs.Disk.{Disk, seen}
 use Rattle.lsm_device.specs.Medium.{disk}
 use Rattle.lsm_device.specs.Memory.{medium_in}
 use Rattle.lsm_device.proofs.Outcomes.{seen_outcome}
