@@ -26,17 +26,17 @@ use Rattle.lsm_store.specs.Calls.{Get, Scan, Value, Rows, Refused, reply_of}
 use Rattle.lsm_store.specs.Crash.{left_inside}
 use Rattle.lsm_store.specs.Effects.{Use, use_of}
 use Rattle.lsm_store.specs.Effects.{Untouched, Reads}
-use Rattle.lsm_store.specs.Reading.{ReadsThrough}
+use Rattle.lsm_store.specs.Reading.{ReadsThrough, source_of}
 use Rattle.lsm_store.specs.Refusals.{refusal}
 use Rattle.lsm_store.specs.Run.{Allows, Admits, next}
 use Rattle.lsm_store.specs.Serving.{is_faultless, use_before, use_by, IsUsed, Serves}
-use Rattle.lsm_store.specs.State.{map_at}
-use Rattle.lsm_store.specs.StateMaps.{HaveMaps}
+use Rattle.lsm_store.specs.State.{count_at, map_at, may_ask}
 use Rattle.lsm_store.specs.Work.{versions_at, versions_in}
 use Rattle.lsm_store.specs.WorkEffects.{work_by}
 use Rattle.lsm_store.specs.declared.asked.At.{At}
-use Rattle.lsm_store.proofs.Backed.{source_of, place_in, read_on, readable, backed_on}
-use Rattle.lsm_store.proofs.Unrefused.{unrefused_runs}
+use Rattle.lsm_store.proofs.Backed.{place_in, read_on, readable, backed_on}
+use Rattle.lsm_store.proofs.Marking.{asked_map}
+use Rattle.lsm_store.proofs.Unrefused.{unrefused_runs, unrefused_get, unrefused_scan}
 use Rattle.lsm_store.proofs.Serving.{answered, now_inside}
 
 pub none_more : (k n m : ℕ) → k ≤ 0 → m ≡ more k n → m ≡ n
@@ -94,9 +94,9 @@ module _ (v : StoreView) (numbered : AreNumbered v.work.next_table (tables_place
 
 -- ---- of the map that the versions have at a count
 
-module _ (v : StoreView) (numbered : AreNumbered v.work.next_table (tables_placed v.work)) (at : At) (count : ℕ) (same : HaveMaps (versions_in v.work) v.state → map_of (versions_in v.work) count ≡ map_at v.state at) where
-  map_is : (call : Call) → refusal v.state call ≡ None → IsBacked v → map_of (versions_in v.work) count ≡ map_at v.state at
-  map_is call none backed = same (backed.runs (unrefused_runs v.state call none)).sound.tied.maps
+module _ (v : StoreView) (numbered : AreNumbered v.work.next_table (tables_placed v.work)) (at : At) (count : ℕ) (is : count ≡ count_at v.state at) where
+  map_is : (call : Call) → refusal v.state call ≡ None → may_ask v.state at ≡ true → IsBacked v → map_of (versions_in v.work) count ≡ map_at v.state at
+  map_is call none may backed = ap (map_of (versions_in v.work)) is ∙ asked_map (versions_in v.work) v.state (backed.runs (unrefused_runs v.state call none)).sound.tied.maps at may
 
   order_is : (call : Call) → refusal v.state call ≡ None → IsBacked v → IsVersionOrder (versions_at v.work)
   order_is call none backed = (backed.runs (unrefused_runs v.state call none)).sound.tied.versions.order
@@ -114,7 +114,7 @@ module _ (v : StoreView) (numbered : AreNumbered v.work.next_table (tables_place
     -- the value of a key, or why there is none
     module _ (key : Bytes) (none : refusal v.state (Get at key) ≡ None) where
       asked : IsBacked v → finite.get (map_of (versions_in v.work) count) key ≡ finite.get (map_at v.state at) key
-      asked backed = ap (λ (m : Map). finite.get m key) (map_is (Get at key) none backed)
+      asked backed = ap (λ (m : Map). finite.get m key) (map_is (Get at key) none (unrefused_get v.state at key none) backed)
 
       module _ {Z : Type 0} where
         pub serves_get : (r : Result (Option (Vec ℕ Z)) Refusal) → Through r
@@ -146,7 +146,7 @@ module _ (v : StoreView) (numbered : AreNumbered v.work.next_table (tables_place
       serves_scan (Ok page) through answers refused =
           let call = Scan at from to limit in
           serves_on v numbered new cache most true through call (Rows page) refl none (ap is_some none, refl)
-          (λ backed. subst (Allows v.state call) (sym (ap Rows (answers (place_in v) (readable v backed (unrefused_runs v.state call none)) (order_is call none backed) ∙ ap (λ (m : Map). page_of m from to limit) (map_is call none backed)))) (answered v.state call none).0)
+          (λ backed. subst (Allows v.state call) (sym (ap Rows (answers (place_in v) (readable v backed (unrefused_runs v.state call none)) (order_is call none backed) ∙ ap (λ (m : Map). page_of m from to limit) (map_is call none (unrefused_scan v.state at from to limit none) backed)))) (answered v.state call none).0)
           refl refl refl
       serves_scan (Err e) through answers refused =
           let call = Scan at from to limit in
