@@ -11,7 +11,6 @@ use Rattle.lsm_device.specs.Medium.{Lasting, Medium, disk}
 use Rattle.lsm_device.specs.Outcomes.{Leaves}
 use Rattle.lsm_device.proofs.Moments.{ended}
 use Rattle.lsm_device.proofs.Outcomes.{seen_outcome}
-use Rattle.lsm_levels.specs.Asking.{Source}
 use Rattle.lsm_levels.specs.Levels.{all_tables, places}
 use Rattle.lsm_levels.specs.NamedBlocks.{place_among}
 use Rattle.lsm_levels.specs.Stored.{ArePlaced, AreStored, IsReadable}
@@ -30,7 +29,7 @@ use Rattle.lsm_store.specs.Calls.{Commit, Sync}
 use Rattle.lsm_store.specs.Crash.{may_leave, last_crash_state}
 use Rattle.lsm_store.specs.Effects.{after}
 use Rattle.lsm_store.specs.InstalledJobs.{AreSealedIn, AreLoggedIn, placed_by}
-use Rattle.lsm_store.specs.Reading.{ReadsThrough}
+use Rattle.lsm_store.specs.Reading.{ReadsThrough, source_of}
 use Rattle.lsm_store.specs.Refusals.{refusal}
 use Rattle.lsm_store.specs.State.{LiveSnapshot}
 use Rattle.lsm_store.specs.StoredTables.{IsStoredIn, IsStoredWithJobs, with_log}
@@ -56,10 +55,6 @@ pub reads_left : (v : StoreView) → IsBacked v → StandForOne v.state.log_sect
 reads_left v backed = subst (StandForOne v.state.log_sectors (may_leave v.state)) (seen_outcome (disk v.device)) (backed.crashes (replicate (length (disk v.device).pending) true))
 
 -- ---- reads
-
--- what a read finds
-abbrev pub source_of : StoreView → Source
-source_of v = record { cache = v.cache; medium = v.device }
 
 -- where the data blocks of its tables stand
 abbrev pub place_in : StoreView → BlockName → Option ℕ

@@ -6,7 +6,7 @@ use Rattle.lsm_cache.specs.Recency.{Cached}
 use Rattle.lsm_cache.specs.declared.name.BlockName.{BlockName}
 use Rattle.lsm_codec.specs.Keys.{Bytes}
 use Rattle.lsm_codec.specs.Map.{Map}
-use Rattle.lsm_device.specs.Calls.{more, faults_after}
+use Rattle.lsm_device.specs.Calls.{AtMost, more, faults_after}
 use Rattle.lsm_device.specs.Medium.{Medium}
 use Rattle.lsm_device.specs.Outcomes.{Leaves}
 use Rattle.lsm_device.specs.Refusals.{faultless}
@@ -26,17 +26,17 @@ use Rattle.lsm_store.specs.Calls.{Get, Scan, Value, Rows, Refused, reply_of}
 use Rattle.lsm_store.specs.Crash.{left_inside}
 use Rattle.lsm_store.specs.Effects.{Use, use_of}
 use Rattle.lsm_store.specs.Effects.{Untouched, Reads}
-use Rattle.lsm_store.specs.Reading.{ReadsThrough}
+use Rattle.lsm_store.specs.Reading.{ReadsThrough, source_of}
 use Rattle.lsm_store.specs.Refusals.{refusal}
 use Rattle.lsm_store.specs.Run.{Allows, Admits, next}
-use Rattle.lsm_store.specs.Serving.{is_faultless, use_before, use_by, IsUsed, Serves}
-use Rattle.lsm_store.specs.State.{map_at}
-use Rattle.lsm_store.specs.StateMaps.{HaveMaps}
+use Rattle.lsm_store.specs.Serving.{is_faultless, use_before, use_by, IsOnlyRead, IsRead, IsUsed, IsCacheUsed, Serves}
+use Rattle.lsm_store.specs.State.{count_at, map_at, may_ask}
 use Rattle.lsm_store.specs.Work.{versions_at, versions_in}
 use Rattle.lsm_store.specs.WorkEffects.{work_by}
 use Rattle.lsm_store.specs.declared.asked.At.{At}
-use Rattle.lsm_store.proofs.Backed.{source_of, place_in, read_on, readable, backed_on}
-use Rattle.lsm_store.proofs.Unrefused.{unrefused_runs}
+use Rattle.lsm_store.proofs.Backed.{place_in, read_on, readable, backed_on}
+use Rattle.lsm_store.proofs.Marking.{asked_map}
+use Rattle.lsm_store.proofs.Unrefused.{unrefused_runs, unrefused_get, unrefused_scan}
 use Rattle.lsm_store.proofs.Serving.{answered, now_inside}
 
 pub none_more : (k n m : ℕ) → k ≤ 0 → m ≡ more k n → m ≡ n
@@ -67,16 +67,18 @@ has_one = ⊎_elim (λ e. absurd (no_fault_there e)) (λ x. x.1)
 -- ---- a call that reads
 
 module _ (v : StoreView) (numbered : AreNumbered v.work.next_table (tables_placed v.work)) (new : Medium) (cache : Cached) (most : ℕ) (ok : Bool) (reads : ReadsThrough most (data_start v) v.work.levels ok (source_of v) (record { cache = cache; medium = new })) where
-  module _ (call : Call) (reply : Reply) (uses : use_of v.state call ≡ Reads) (none : refusal v.state call ≡ None) where
-    only_read : IsUsed call reply (use_by v.state call reply) v.device new
-    only_read =
-        let is : use_by v.state call reply ≡ Reads = ap (λ o. cond (is_some o) Untouched (use_before (use_of v.state call) reply)) none ∙ ap (λ (u : Use). use_before u reply) uses in
-        let calls = reads.calls in
-        subst (λ (u : Use). IsUsed call reply u v.device new) (sym is) (record {
-          no_write = none_more calls.written.0 v.device.calls.writes new.calls.writes calls.written.1 calls.written.2;
-          no_sync = none_more calls.synced.0 v.device.calls.syncs new.calls.syncs calls.synced.1 calls.synced.2;
-          same_history = reads.unchanged;
-        })
+  only_read : IsOnlyRead v.device new
+  only_read =
+      let calls = reads.calls in
+      record {
+        no_write = none_more calls.written.0 v.device.calls.writes new.calls.writes calls.written.1 calls.written.2;
+        no_sync = none_more calls.synced.0 v.device.calls.syncs new.calls.syncs calls.synced.1 calls.synced.2;
+        same_history = reads.unchanged;
+      }
+
+  module _ (call : Call) (reply : Reply) (uses : use_of v.state call ≡ Reads) (none : refusal v.state call ≡ None) (is_read : IsOnlyRead v.device new → IsRead call v.device new) where
+    use_is : use_by v.state call reply ≡ Reads
+    use_is = ap (λ o. cond (is_some o) Untouched (use_before (use_of v.state call) reply)) none ∙ ap (λ (u : Use). use_before u reply) uses
 
     pub serves_on : Admits v.state call reply → (IsBacked v → Allows v.state call reply) → next v.state call reply ≡ v.state → is_faultless reply ≡ ok → v.work ≡ work_by (machine_of v) call reply → Serves v call reply (read_on v new cache)
     serves_on admitted allowed state faultless stays = record {
@@ -84,7 +86,8 @@ module _ (v : StoreView) (numbered : AreNumbered v.work.next_table (tables_place
       allowed = allowed;
       state = sym state;
       worked = λ running. stays;
-      used = only_read;
+      used = subst (λ (u : Use). IsUsed call reply u v.device new) (sym use_is) (is_read only_read);
+      cached = subst (λ (u : Use). IsCacheUsed u v.cache cache) (sym use_is) tt;
       fault = reads.faults ∙ sym (ap (λ (b : Bool). faults_after b v.device.calls.faults) faultless);
       same_size = reads.same_size;
       same_lasting = reads.same_lasting;
@@ -94,9 +97,9 @@ module _ (v : StoreView) (numbered : AreNumbered v.work.next_table (tables_place
 
 -- ---- of the map that the versions have at a count
 
-module _ (v : StoreView) (numbered : AreNumbered v.work.next_table (tables_placed v.work)) (at : At) (count : ℕ) (same : HaveMaps (versions_in v.work) v.state → map_of (versions_in v.work) count ≡ map_at v.state at) where
-  map_is : (call : Call) → refusal v.state call ≡ None → IsBacked v → map_of (versions_in v.work) count ≡ map_at v.state at
-  map_is call none backed = same (backed.runs (unrefused_runs v.state call none)).sound.tied.maps
+module _ (v : StoreView) (numbered : AreNumbered v.work.next_table (tables_placed v.work)) (at : At) (count : ℕ) (is : count ≡ count_at v.state at) where
+  map_is : (call : Call) → refusal v.state call ≡ None → may_ask v.state at ≡ true → IsBacked v → map_of (versions_in v.work) count ≡ map_at v.state at
+  map_is call none may backed = ap (map_of (versions_in v.work)) is ∙ asked_map (versions_in v.work) v.state (backed.runs (unrefused_runs v.state call none)).sound.tied.maps at may
 
   order_is : (call : Call) → refusal v.state call ≡ None → IsBacked v → IsVersionOrder (versions_at v.work)
   order_is call none backed = (backed.runs (unrefused_runs v.state call none)).sound.tied.versions.order
@@ -112,29 +115,29 @@ module _ (v : StoreView) (numbered : AreNumbered v.work.next_table (tables_place
     Through r = ReadsThrough most (data_start v) v.work.levels (faultless r) (source_of v) (record { cache = cache; medium = new })
 
     -- the value of a key, or why there is none
-    module _ (key : Bytes) (none : refusal v.state (Get at key) ≡ None) where
+    module _ (key : Bytes) (none : refusal v.state (Get at key) ≡ None) (few : AtMost 128 0 0 v.device.calls new.calls) where
       asked : IsBacked v → finite.get (map_of (versions_in v.work) count) key ≡ finite.get (map_at v.state at) key
-      asked backed = ap (λ (m : Map). finite.get m key) (map_is (Get at key) none backed)
+      asked backed = ap (λ (m : Map). finite.get m key) (map_is (Get at key) none (unrefused_get v.state at key none) backed)
 
       module _ {Z : Type 0} where
         pub serves_get : (r : Result (Option (Vec ℕ Z)) Refusal) → Through r
             → Answers r (λ value. option_map (λ v. v.items) value ≡ finite.get (map_of (versions_in v.work) count) key) (λ refusal. (refusal ≡ Io) ⊎ ((refusal ≡ NoMemory) × (is_some (finite.get (map_of (versions_in v.work) count) key) ≡ true)))
             → IfErr r IsRefusal → Serves v (Get at key) (reply_of (λ value. Value (option_map (λ v. v.items) value)) r) (read_on v new cache)
         serves_get (Ok value) through answers refused =
-            serves_on v numbered new cache most true through (Get at key) (Value (option_map (λ v. v.items) value)) refl none (ap is_some none, refl)
+            serves_on v numbered new cache most true through (Get at key) (Value (option_map (λ v. v.items) value)) refl none (λ only. (only, few)) (ap is_some none, refl)
             (λ backed. subst (Allows v.state (Get at key)) (sym (ap Value (answers (place_in v) (readable v backed (unrefused_runs v.state (Get at key) none)) (order_is (Get at key) none backed) ∙ asked backed))) (answered v.state (Get at key) none).0)
             refl refl refl
         serves_get (Err e) through answers refused =
             ⊎_elim
             (λ io. subst (λ (x : Refusal). Serves v (Get at key) (Refused x) (read_on v new cache)) (sym io)
-            (serves_on v numbered new cache most _ (subst (λ (x : Refusal). Through {T = Option (Vec ℕ Z)} (Err x)) io through) (Get at key) (Refused Io) refl none (ap is_some none, λ (u : Reads ≡ Untouched). no_use u) (λ backed. (ap is_some none, λ u. no_use u)) refl refl refl))
+            (serves_on v numbered new cache most _ (subst (λ (x : Refusal). Through {T = Option (Vec ℕ Z)} (Err x)) io through) (Get at key) (Refused Io) refl none (λ only. (only, few)) (ap is_some none, λ (u : Reads ≡ Untouched). no_use u) (λ backed. (ap is_some none, λ u. no_use u)) refl refl refl))
             (⊎_elim
             (λ bad. subst (λ (x : Refusal). Serves v (Get at key) (Refused x) (read_on v new cache)) (sym bad)
-            (serves_on v numbered new cache most _ (subst (λ (x : Refusal). Through {T = Option (Vec ℕ Z)} (Err x)) bad through) (Get at key) (Refused BadTable) refl none (ap is_some none, refl)
+            (serves_on v numbered new cache most _ (subst (λ (x : Refusal). Through {T = Option (Vec ℕ Z)} (Err x)) bad through) (Get at key) (Refused BadTable) refl none (λ only. (only, few)) (ap is_some none, refl)
             (λ backed. absurd (never_bad (subst (λ (x : Refusal). (x ≡ Io) ⊎ ((x ≡ NoMemory) × (is_some (finite.get (map_of (versions_in v.work) count) key) ≡ true))) bad (answers (place_in v) (readable v backed (unrefused_runs v.state (Get at key) none)) (order_is (Get at key) none backed)))))
             refl refl refl))
             (λ want. subst (λ (x : Refusal). Serves v (Get at key) (Refused x) (read_on v new cache)) (sym want)
-            (serves_on v numbered new cache most _ (subst (λ (x : Refusal). Through {T = Option (Vec ℕ Z)} (Err x)) want through) (Get at key) (Refused NoMemory) refl none (ap is_some none, refl)
+            (serves_on v numbered new cache most _ (subst (λ (x : Refusal). Through {T = Option (Vec ℕ Z)} (Err x)) want through) (Get at key) (Refused NoMemory) refl none (λ only. (only, few)) (ap is_some none, refl)
             (λ backed. (ap is_some none, ap is_some (sym (asked backed)) ∙ has_one (subst (λ (x : Refusal). (x ≡ Io) ⊎ ((x ≡ NoMemory) × (is_some (finite.get (map_of (versions_in v.work) count) key) ≡ true))) want (answers (place_in v) (readable v backed (unrefused_runs v.state (Get at key) none)) (order_is (Get at key) none backed)))))
             refl refl refl)))
             refused
@@ -145,19 +148,19 @@ module _ (v : StoreView) (numbered : AreNumbered v.work.next_table (tables_place
           → IfErr r IsRefusal → Serves v (Scan at from to limit) (reply_of Rows r) (read_on v new cache)
       serves_scan (Ok page) through answers refused =
           let call = Scan at from to limit in
-          serves_on v numbered new cache most true through call (Rows page) refl none (ap is_some none, refl)
-          (λ backed. subst (Allows v.state call) (sym (ap Rows (answers (place_in v) (readable v backed (unrefused_runs v.state call none)) (order_is call none backed) ∙ ap (λ (m : Map). page_of m from to limit) (map_is call none backed)))) (answered v.state call none).0)
+          serves_on v numbered new cache most true through call (Rows page) refl none (λ only. only) (ap is_some none, refl)
+          (λ backed. subst (Allows v.state call) (sym (ap Rows (answers (place_in v) (readable v backed (unrefused_runs v.state call none)) (order_is call none backed) ∙ ap (λ (m : Map). page_of m from to limit) (map_is call none (unrefused_scan v.state at from to limit none) backed)))) (answered v.state call none).0)
           refl refl refl
       serves_scan (Err e) through answers refused =
           let call = Scan at from to limit in
           ⊎_elim
           (λ io. subst (λ (x : Refusal). Serves v call (Refused x) (read_on v new cache)) (sym io)
-          (serves_on v numbered new cache most _ (subst (λ (x : Refusal). Through {T = Page} (Err x)) io through) call (Refused Io) refl none (ap is_some none, λ (u : Reads ≡ Untouched). no_use u) (λ backed. (ap is_some none, λ u. no_use u)) refl refl refl))
+          (serves_on v numbered new cache most _ (subst (λ (x : Refusal). Through {T = Page} (Err x)) io through) call (Refused Io) refl none (λ only. only) (ap is_some none, λ (u : Reads ≡ Untouched). no_use u) (λ backed. (ap is_some none, λ u. no_use u)) refl refl refl))
           (⊎_elim
           (λ bad. subst (λ (x : Refusal). Serves v call (Refused x) (read_on v new cache)) (sym bad)
-          (serves_on v numbered new cache most _ (subst (λ (x : Refusal). Through {T = Page} (Err x)) bad through) call (Refused BadTable) refl none (ap is_some none, refl)
+          (serves_on v numbered new cache most _ (subst (λ (x : Refusal). Through {T = Page} (Err x)) bad through) call (Refused BadTable) refl none (λ only. only) (ap is_some none, refl)
           (λ backed. absurd (never_bad_page (subst (λ (x : Refusal). (x ≡ Io) ⊎ (x ≡ NoMemory)) bad (answers (place_in v) (readable v backed (unrefused_runs v.state call none)) (order_is call none backed)))))
           refl refl refl))
           (λ want. subst (λ (x : Refusal). Serves v call (Refused x) (read_on v new cache)) (sym want)
-          (serves_on v numbered new cache most _ (subst (λ (x : Refusal). Through {T = Page} (Err x)) want through) call (Refused NoMemory) refl none (ap is_some none, refl) (λ backed. (ap is_some none, refl)) refl refl refl)))
+          (serves_on v numbered new cache most _ (subst (λ (x : Refusal). Through {T = Page} (Err x)) want through) call (Refused NoMemory) refl none (λ only. only) (ap is_some none, refl) (λ backed. (ap is_some none, refl)) refl refl refl)))
           refused

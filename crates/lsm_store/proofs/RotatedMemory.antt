@@ -205,7 +205,7 @@ module _ {A : Type 0} (m : Memory A) (kept : AreConsistent m) (none : refusal (s
             → IsInstalling m.regions.log_sectors (m.regions.generation + 1) (contents_for (with_next m.next_table (rotated_placement (placement_of (view_of medium m cache)) is.new_log))) medium new
             → new.calls.faults ≡ faults_after false medium.calls.faults → Serves (view_of medium m cache) Rotate (Refused Io) (view_of new after_fault cache)
         fault_serves medium new cache sized wrote faults =
-            rotate_io (view_of medium m cache) none low is.new_log least (view_of new after_fault cache) sized wrote refl faults
+            rotate_io (view_of medium m cache) none low is.new_log least (view_of new after_fault cache) sized wrote refl refl faults
 
         pub fault_kept : option_map arc_value sealed ≡ Some m.mem → AreConsistent after_fault
         fault_kept taken = record {

@@ -27,7 +27,7 @@ use Rattle.lsm_store.specs.Effects.{rotated}
 use Rattle.lsm_store.specs.RecoveryPoints.{batch_count}
 use Rattle.lsm_store.specs.Refusals.{refusal}
 use Rattle.lsm_store.specs.Run.{stopped_in}
-use Rattle.lsm_store.specs.Serving.{Serves}
+use Rattle.lsm_store.specs.Serving.{use_by, Serves}
 use Rattle.lsm_store.specs.State.{OpenLog, State, are_waiting, is_unused}
 use Rattle.lsm_store.specs.StoredTables.{IsStoredIn, KeepsExtents, MayGoOn, with_next}
 use Rattle.lsm_store.specs.WorkEffects.{with_sealed}
@@ -40,7 +40,7 @@ use Rattle.lsm_store.proofs.LoggedVersions.{rotated_sealed, rotated_logged}
 use Rattle.lsm_store.proofs.RotatedManifests.{goes_on_numbered, rotate_keeps_numbered}
 use Rattle.lsm_store.specs.InstalledJobs.{placed_by}
 use Rattle.lsm_store.proofs.Running.{admits}
-use Rattle.lsm_store.proofs.Serving.{answered, uses, serves_fault}
+use Rattle.lsm_store.proofs.Serving.{answered, uses, cache_kept, serves_fault}
 use Rattle.lsm_store.proofs.StoredLevels.{levels_kept, blocks_kept}
 use Rattle.lsm_store.proofs.Unrefused.{none_taken}
 
@@ -139,6 +139,7 @@ module _ (v : StoreView) (none : refusal v.state Rotate ≡ None) (below : v.sta
           state = ap (λ (x : StoreView). x.state) is;
           worked = λ running. ap (λ (x : StoreView). x.work) is;
           used = uses v.state Rotate Done v.device new.device none refl refl wrote.calls;
+          cached = cache_kept (use_by v.state Rotate Done) v.cache new.cache (ap (λ (x : StoreView). x.cache) is);
           fault = faults;
           same_size = wrote.same_size;
           same_lasting = wrote.same_lasting;
@@ -147,7 +148,7 @@ module _ (v : StoreView) (none : refusal v.state Rotate ≡ None) (below : v.sta
               (subst IsRunOn (sym is) (runs_rotated (runs_here backed) new.device (installed backed.tells (ready backed))));
         }
 
-    pub rotate_io : new.state ≡ stopped_in v.state Rotate → new.device.calls.faults ≡ faults_after false v.device.calls.faults → Serves v Rotate (Refused Io) new
-    rotate_io state faults = serves_fault v new Rotate none refl state faults wrote.same_size wrote.same_lasting inside
+    pub rotate_io : new.state ≡ stopped_in v.state Rotate → new.cache ≡ v.cache → new.device.calls.faults ≡ faults_after false v.device.calls.faults → Serves v Rotate (Refused Io) new
+    rotate_io state same_cache faults = serves_fault v new Rotate none refl state faults wrote.same_size wrote.same_lasting same_cache inside
         (λ backed. install_stopped now next v.state (rotated v.state) v.device.history new.device.history (runs_here backed).stored.stored refl (goes_on (runs_here backed)) (wrote.moments backed.tells (ready backed)))
         wrote.calls

@@ -1,18 +1,22 @@
 -- Refusals in order, and what is known of a state that doesn't refuse.
 use Rattle.std.proofs.Common.{◌≡◌, ◌≢◌, ◌⊎◌, inl, inr, ⊎_elim, Bool, true, false, not, List, [], ◌∷◌, Some, None, is_some, refl, sym, ◌∙◌, ap, subst}
 use Rattle.std.specs.Result.{IsErrAnd}
-use Rattle.std.specs.Prelude.{Result, Ok, Err, Option, IsNone, ◌==◌, if◌then◌else◌}
+use Rattle.std.specs.Prelude.{ℕ, Result, Ok, Err, Option, IsNone, ◌==◌, if◌then◌else◌}
 use Rattle.std.specs.List.{AllByRecursion}
 use Rattle.std.proofs.lemmas.Bool.{eq-eqb}
+use Rattle.lsm_codec.specs.BatchText.{is_key}
+use Rattle.lsm_codec.specs.Keys.{Bytes}
 use Rattle.lsm_codec.specs.Map.{Operation}
 use Rattle.lsm_device.specs.declared.refusal.Refusal.{Refusal}
 use Rattle.lsm_device.specs.declared.refusal.Refusal.TheVariants.{NoMemory, Io, Stopped, LogFull, SealedWaiting, NothingToRotate, NoSuchSnapshot, TooManySnapshots, NoSuchBatch, BadKey, BadRange, Exhausted, BadLimit}
 use Rattle.lsm_open.specs.CrashState.{last_number}
 use Rattle.lsm_store.specs.RecoveryPoints.{batch_count}
-use Rattle.lsm_store.specs.State.{State, are_waiting, fits}
+use Rattle.lsm_mem.specs.Paging.{is_backwards}
+use Rattle.lsm_store.specs.State.{State, are_waiting, fits, may_ask}
+use Rattle.lsm_store.specs.declared.asked.At.{At}
 use Rattle.lsm_store.specs.Calls.{Call}
 use Rattle.lsm_store.specs.Calls.{Commit, Sync, SyncTo, Get, Scan, Snapshot, Release, Rotate, LogRoom}
-use Rattle.lsm_store.specs.Refusals.{refusals, first_refusal, refusal}
+use Rattle.lsm_store.specs.Refusals.{is_limit, refusals, first_refusal, refusal}
 
 -- a test that doesn't hold
 pub passes_by : (b : Bool) (e : Refusal) (rest x : Option Refusal) → b ≡ false → rest ≡ x → (if b then Some e else rest) ≡ x
@@ -122,6 +126,20 @@ unrefused_commit s batch none =
   where
     no : true ≡ false → ⊥
     no e = cc
+
+-- a read that nothing refuses asks the present map, or that of a live snapshot
+pub unrefused_get : (s : State) (at : At) (key : Bytes) → refusal s (Get at key) ≡ None → may_ask s at ≡ true
+unrefused_get s at key none =
+    let one = none_taken (is_some s.stopped) Stopped _ none in
+    let two = none_taken (not (is_key key)) BadKey _ one.1 in
+    not_false (may_ask s at) (none_taken (not (may_ask s at)) NoSuchSnapshot None two.1).0
+
+pub unrefused_scan : (s : State) (at : At) (from : Bytes) (to : Option Bytes) (limit : ℕ) → refusal s (Scan at from to limit) ≡ None → may_ask s at ≡ true
+unrefused_scan s at from to limit none =
+    let one = none_taken (is_some s.stopped) Stopped _ none in
+    let two = none_taken (not (is_limit limit)) BadLimit _ one.1 in
+    let three = none_taken (is_backwards from to) BadRange _ two.1 in
+    not_false (may_ask s at) (none_taken (not (may_ask s at)) NoSuchSnapshot None three.1).0
 
 -- a rotation that nothing refuses finds no sealed versions that wait
 pub unrefused_rotation : (s : State) → refusal s Rotate ≡ None → are_waiting s ≡ false

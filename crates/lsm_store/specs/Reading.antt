@@ -1,14 +1,30 @@
 -- What a read of a store does with its device, and with the cache in front of it.
-use Rattle.std.specs.Prelude.{◌≡◌, ℕ, Bool, IsTrue, Option}
+use Rattle.std.specs.Prelude.{◌≡◌, ℕ, Bool, IsTrue, Option, Result}
 use Rattle.lsm_cache.specs.declared.name.BlockName.{BlockName}
 use Rattle.lsm_cache.specs.Fresh.{IsFresh}
 use Rattle.lsm_device.specs.Calls.{AtMost, faults_after}
+use Rattle.lsm_codec.specs.Keys.{Bytes}
 use Rattle.lsm_device.specs.Disk.{seen}
 use Rattle.lsm_device.specs.Medium.{disk}
+use Rattle.lsm_device.specs.declared.refusal.Refusal.{Refusal}
 use Rattle.lsm_levels.specs.Asking.{Source}
 use Rattle.lsm_levels.specs.Levels.{Levels, places}
+use Rattle.lsm_levels.specs.Lookups.{IsLookUp}
 use Rattle.lsm_levels.specs.NamedBlocks.{HaveNone, HasNoBlock}
 use Rattle.lsm_levels.specs.Stored.{ArePlaced}
+use Rattle.lsm_store.specs.Backing.{StoreView, data_start}
+use Rattle.lsm_store.specs.State.{count_at}
+use Rattle.lsm_store.specs.declared.asked.At.{At}
+
+-- what a read of a store finds: its cache, and the device behind it
+abbrev pub source_of : StoreView → Source
+source_of s = record { cache = s.cache; medium = s.device }
+
+-- A key is looked up in a store at the count of batches that the read asks: in memory, in the sealed versions, and then in the
+-- runs of its tables, the newer first, until one has a version of the key. Of a run at most one block is asked for, through the
+-- cache, and the device is read for no other.
+abbrev pub IsStoreLookUp : StoreView → At → Bytes → Result (Option Bytes) Refusal → StoreView → Type 0
+IsStoreLookUp old at key answer new = IsLookUp old.work.memory old.work.sealed (places old.work.levels) (data_start old) key (count_at old.state at) answer (source_of old) (source_of new)
 
 -- The device is read alone, so many sectors at most, and a read faulted just where it isn't told that all went well. Of tables
 -- that have their places the cache goes on to have what the device has, and no blocks of others come into it.

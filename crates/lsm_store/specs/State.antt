@@ -4,7 +4,7 @@ use Rattle.std.specs.FinMap as finite
 use Rattle.lsm_codec.specs.Map.{Map, Operation}
 use Rattle.lsm_codec.specs.BatchText.{sectors_of}
 use Rattle.lsm_open.specs.CrashState.{CrashState}
-use Rattle.lsm_store.specs.RecoveryPoints.{RecoveryPoint, RecoveryPoints, present_map}
+use Rattle.lsm_store.specs.RecoveryPoints.{RecoveryPoint, RecoveryPoints, batch_count, present_map}
 use Rattle.lsm_store.specs.declared.asked.At.{At}
 use Rattle.lsm_store.specs.declared.asked.At.TheVariants.{Now, Snap}
 
@@ -54,6 +54,15 @@ map_of_snapshot None = finite.empty
 abbrev pub map_at : State → At → Map
 map_at s Now = present_map s.points
 map_at s (Snap number) = map_of_snapshot (snapshot_of s number)
+
+abbrev pub count_of_snapshot : Option LiveSnapshot → ℕ
+count_of_snapshot (Some snapshot) = snapshot.point.count
+count_of_snapshot None = 0
+
+-- the count of batches at which a read asks: the present one, or that at which its snapshot was taken
+abbrev pub count_at : State → At → ℕ
+count_at s Now = batch_count s.points
+count_at s (Snap number) = count_of_snapshot (snapshot_of s number)
 
 abbrev pub room_in : ℕ → Option OpenLog → ℕ
 room_in log_sectors (Some log) = log_sectors - log.used

@@ -1,5 +1,5 @@
 // An install: a job's outputs come into the levels, in the place of what it took in, and the next manifest names them.
-ghost use Rattle.std.specs.Prelude.{◌≡◌, ◌⊎◌, ◌<◌, ◌≤◌, length, ◌++◌, ◌-◌, ◌^◌, [], Some, None, option_map, if◌then◌else◌, IfOk, IfErr};
+ghost use Rattle.std.specs.Prelude.{◌≡◌, ◌⊎◌, ◌<◌, ◌≤◌, length, ◌++◌, ◌-◌, ◌^◌, [], Some, None, option_map, if◌then◌else◌, IfOk, IfErr, OnOk};
 ghost use Rattle.std.specs.Arc.{arc_value};
 ghost use Rattle.lsm_cache.specs.Recency.{Cached};
 ghost use Rattle.lsm_jobs.specs.Refusing.{IsAtStage};
@@ -184,6 +184,7 @@ pub(crate) fn install<D: Device, A: Allocator + Clone>(
     requires kept { AreConsistent memory.old }
     requires inside { IsInside (D.medium device.old).size memory.old }
     ensures works { (cache : Cached) → Works (view_of (D.medium device.old) memory.old cache) (Install job) (reply_of (λ _. Done) result) (view_of (D.medium device.new) memory.new cache) }
+    ensures numbered { OnOk result (memory.new.regions.next_table ≡ memory.old.next_table) }
     ensures kept { AreConsistent memory.new }
     ensures inside { IsInside (D.medium device.new).size memory.new }
 {

@@ -6,7 +6,7 @@ ghost use Rattle.lsm_cache.specs.declared.name.BlockName.{BlockName as Name};
 ghost use Rattle.lsm_device.specs.Refusals.{faultless};
 ghost use Rattle.lsm_device.specs.declared.refusal.Refusal.TheVariants.{Io, BadTable, NoMemory};
 ghost use Rattle.lsm_levels.specs.Levels.{places};
-ghost use Rattle.lsm_levels.specs.Lookups.{sealed_versions as sealed_of};
+ghost use Rattle.lsm_levels.specs.Lookups.{IsLookUp, answer_of, sealed_versions as sealed_of};
 ghost use Rattle.lsm_levels.specs.Orders.{IsVersionOrder};
 ghost use Rattle.lsm_levels.specs.Scans.{blocks_in, blocks_of_runs};
 ghost use Rattle.lsm_levels.specs.Stored.{AreWithin, IsReadable};
@@ -54,6 +54,8 @@ pub(crate) fn look_up<D: Device, A: Allocator + Clone>(
         → MatchResult result
         (λ value. option_map (λ v. v.items) value ≡ finite.get (map_of (versions_in (work_of memory.now)) count) key.now)
         (λ refusal. (refusal ≡ Io) ⊎ ((refusal ≡ NoMemory) × (is_some (finite.get (map_of (versions_in (work_of memory.now)) count) key.now) ≡ true))) }
+    ensures looks { IsLookUp memory.now.mem (work_of memory.now).sealed (places memory.now.levels) (first_data memory.now.regions.log_sectors) key.now count (answer_of result)
+        (record { cache = cache.old; medium = D.medium device.old }) (record { cache = cache.new; medium = D.medium device.new }) }
     ensures reads { ReadsThrough 128 (first_data memory.now.regions.log_sectors) memory.now.levels (faultless result)
         (record { cache = cache.old; medium = D.medium device.old }) (record { cache = cache.new; medium = D.medium device.new }) }
     ensures refused { IfErr result (λ refusal. (refusal ≡ Io) ⊎ ((refusal ≡ BadTable) ⊎ (refusal ≡ NoMemory))) }

@@ -87,7 +87,7 @@ fn has_four_again<R: Abort>(rt: &R, alloc: Global, stops: [Stop; 2]) -> bool {
 
 /// Whether 28 tables and the batch are there after two openings that were stopped. Their manifest has 570 bytes.
 fn has_many_again<R: Abort>(rt: &R, alloc: Global, stops: [Stop; 2]) -> bool {
-    let device = with_many(rt, alloc, SECTORS, 28);
+    let device = with_many(rt, alloc, SECTORS, 12, 28);
     let (store, generation) = reopened(rt, alloc, device, 2, stops);
     is_many(rt, alloc, &store, generation, &[16, 0, 0, 0])
 }

@@ -1,6 +1,8 @@
 //! Jobs of a store over tables.
 
-use crate::images::{Tables, with_tables};
+use crate::devices::{DATA, crash, put_text, sync};
+use crate::images::{Tables, image_of, with_tables};
+use crate::largest::with_many;
 use lsm_device::{MemDevice, Refusal};
 use lsm_merge::{Built, build};
 use lsm_store::{Store, TakenJob};
@@ -31,6 +33,8 @@ enum Piece {
     Build(u64),
     /// For the job of a number, the result of that place in the order of builds, from 0 on.
     Accept(u64, usize),
+    Write(u64),
+    Install(u64),
     Drop(u64),
 }
 
@@ -53,8 +57,8 @@ struct WorkingStore {
     results: Vec<Built>,
 }
 
-fn opened<R: Abort>(rt: &R, alloc: Global) -> WorkingStore {
-    match Store::open(alloc, with_tables(rt, alloc, FOUR_RUNS), 16) {
+fn opened_on<R: Abort>(rt: &R, alloc: Global, device: MemDevice) -> WorkingStore {
+    match Store::open(alloc, device, 16) {
         Ok(store) => WorkingStore {
             alloc,
             store,
@@ -62,6 +66,10 @@ fn opened<R: Abort>(rt: &R, alloc: Global) -> WorkingStore {
         },
         Err((refusal, _)) => rt.panic(refusal.name()),
     }
+}
+
+fn opened<R: Abort>(rt: &R, alloc: Global) -> WorkingStore {
+    opened_on(rt, alloc, with_tables(rt, alloc, FOUR_RUNS))
 }
 
 /// Of a job that was taken, its number, and the level of its upper tables where it is a merge.
@@ -103,6 +111,11 @@ impl WorkingStore {
             }
             Piece::Build(job) => self.build(rt, job),
             Piece::Accept(job, place) => self.accept(job, place),
+            Piece::Write(job) => Ok(Answer::Left(self.store.job_write(job)? as usize)),
+            Piece::Install(job) => {
+                self.store.job_install(job)?;
+                Ok(Answer::Done)
+            }
             Piece::Drop(job) => {
                 self.store.job_drop(job)?;
                 Ok(Answer::Done)
@@ -195,4 +208,63 @@ fn the_blocks_of_a_merge_are_read(rt: HostRuntime) {
         taken && left == Answer::Left(0) && reads == 24,
         "{left:?} {reads}"
     );
+}
+
+/// The sectors of a device whose data area has room for 1,025 tables of four blocks.
+const FOR_MANY: u32 = DATA + 8 * 4 * 1_025;
+
+/// The batch in the log is flushed into a twelfth run, with which one table more would live than may. The job keeps its slot until
+/// it is dropped.
+const ONE_TOO_MANY: [(Piece, Answer); 8] = [
+    (Piece::Take, Answer::Taken(1)),
+    (Piece::Build(1), Answer::Done),
+    (Piece::Accept(1, 0), Answer::Done),
+    (Piece::Write(1), Answer::Left(0)),
+    (Piece::Install(1), Answer::Refused(Refusal::TooManyTables)),
+    (Piece::Install(1), Answer::Refused(Refusal::TooManyTables)),
+    (Piece::Drop(1), Answer::Done),
+    (Piece::Take, Answer::Taken(2)),
+];
+
+#[test]
+fn no_more_tables_live_than_may(rt: HostRuntime) {
+    let device = with_many(&rt, rt.alloc(), FOR_MANY, 11, 1_024);
+    let mut store = opened_on(&rt, rt.alloc(), device);
+    for (piece, wanted) in ONE_TOO_MANY {
+        let answer = store.answer(&rt, piece);
+        assert!(rt; answer == wanted, "{piece:?}: {answer:?}");
+    }
+}
+
+/// A device whose tables open, but where the data block of the oldest run of level 0 holds a key above all of them.
+fn with_foreign_block<R: Abort>(rt: &R, alloc: Global) -> MemDevice {
+    let mut device = with_tables(rt, alloc, FOUR_RUNS);
+    let image = image_of(rt, alloc, 2, &[b"\x70"], &[2]);
+    assert!(rt; image.extent_blocks() == 4);
+    put_text(rt, &mut device, DATA + 8 * 12, &image.block(4, 0));
+    sync(rt, &mut device);
+    crash(device, &[])
+}
+
+/// What the merge makes of that block doesn't lie within what the job took in, so it isn't put in.
+const FOREIGN: [(Piece, Answer); 10] = [
+    (Piece::Take, Answer::Taken(1)),
+    (Piece::Take, Answer::TakenAt(2, 0)),
+    (Piece::Read(2), Answer::Left(0)),
+    (Piece::Build(2), Answer::Done),
+    (Piece::Accept(2, 0), Answer::Done),
+    (Piece::Write(2), Answer::Left(0)),
+    (Piece::Install(2), Answer::Refused(Refusal::BadTable)),
+    (Piece::Install(2), Answer::Refused(Refusal::BadTable)),
+    (Piece::Drop(2), Answer::Done),
+    (Piece::Take, Answer::TakenAt(3, 0)),
+];
+
+#[test]
+fn foreign_outputs_are_not_put_in(rt: HostRuntime) {
+    let mut store = opened_on(&rt, rt.alloc(), with_foreign_block(&rt, rt.alloc()));
+    for (piece, wanted) in FOREIGN {
+        let answer = store.answer(&rt, piece);
+        assert!(rt; answer == wanted, "{piece:?}: {answer:?}");
+    }
 }

@@ -7,29 +7,38 @@ use lsm_device::MemDevice;
 use std::alloc::Global;
 use std::process::Abort;
 
-/// Level and run of the table of a number from 0 on: twelve runs of one table each, and then 253 tables in each level.
-fn place_of(number: u16) -> (u8, u8) {
-    match number {
-        0..=11 => (0, number as u8),
-        12..=264 => (1, 0),
-        265..=517 => (2, 0),
-        518..=770 => (3, 0),
+/// Level and run of the table of a number from 0 on: so many runs of one table each, and then 253 tables in each level, but for
+/// the last, which has the others.
+fn place_of(number: u16, runs: u8) -> (u8, u8) {
+    if number < runs as u16 {
+        return (0, number as u8);
+    }
+    match (number - runs as u16) / 253 {
+        0 => (1, 0),
+        1 => (2, 0),
+        2 => (3, 0),
         _ => (4, 0),
     }
 }
 
-/// A device of so many sectors with so many tables of one key of two bytes each.
-pub(crate) fn with_many<R: Abort>(rt: &R, alloc: Global, sectors: u32, count: u16) -> MemDevice {
+/// A device of so many sectors with so many tables of one key of two bytes each, of which so many are runs of level 0.
+pub(crate) fn with_many<R: Abort>(
+    rt: &R,
+    alloc: Global,
+    sectors: u32,
+    runs: u8,
+    count: u16,
+) -> MemDevice {
     let mut device = formatted(rt, alloc, sectors);
     let mut records = Vec::new(alloc);
     for number in 0..count {
         let image = image_of(rt, alloc, 1, &[&number.to_be_bytes()], &[1]);
-        let (level, run) = place_of(number);
+        let (level, run) = place_of(number, runs);
         let record = image.table_record(number as u64 + 1, level, run, 4 * number as u32);
         put_table(rt, &mut device, &image, &record);
         records.push(record).expect(rt, "memory");
     }
-    with_root(rt, alloc, device, 12, 1, records)
+    with_root(rt, alloc, device, runs, 1, records)
 }
 
 /// Whether a store of this generation has twelve runs of one table each and so many tables in the further levels, and the
@@ -70,7 +79,7 @@ fn finds_keys(store: &mut Subject, alloc: Global) -> bool {
 #[test]
 fn as_many_tables_as_may_be(rt: HostRuntime) {
     let alloc = rt.alloc();
-    let store = opened(&rt, alloc, with_many(&rt, alloc, SECTORS, 1_024));
+    let store = opened(&rt, alloc, with_many(&rt, alloc, SECTORS, 12, 1_024));
     assert!(rt; store.calls() == CALLS && store.free_blocks() == 0);
     let mut again = opened(&rt, alloc, crash(store.into_device(), &[]));
     assert!(rt; is_many(&rt, alloc, &again, 4, &[253; 4]) && finds_keys(&mut again, alloc));

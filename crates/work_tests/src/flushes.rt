@@ -93,33 +93,68 @@ fn scans_on_both_sides_of_a_flush(rt: HostRuntime) {
     begun(&rt, rt.alloc()).play(&rt, &BEHIND_SNAPSHOT);
 }
 
-/// A table of three data blocks, each of one key.
+/// A table of three data blocks, each of one key. Between two keys there is one that it lacks.
 const THREE_BLOCKS: [Line; 6] = [
     (Piece::PutLong(0x61), Answer::Number(1)),
-    (Piece::PutLong(0x62), Answer::Number(2)),
-    (Piece::PutLong(0x63), Answer::Number(3)),
+    (Piece::PutLong(0x63), Answer::Number(2)),
+    (Piece::PutLong(0x65), Answer::Number(3)),
     (Piece::Rotate, Answer::Done),
     (Piece::Take, Answer::Taken(1, None)),
     (Piece::Finish(1), Answer::Done),
 ];
 
+/// How many sectors are read for a line.
+fn reads_for<R: Threads + Sync + Abort>(rt: &R, store: &mut Working, line: Line) -> u64 {
+    let before = store.reads();
+    store.play(rt, &[line]);
+    store.reads().wrapping_sub(before)
+}
+
 /// How many sectors are read for the values of these keys in turn, with a cache of so many blocks.
 fn reads_of<R: Threads + Sync + Abort>(rt: &R, alloc: Global, cache: u32, keys: &[u8]) -> u64 {
     let mut store = Working::open(rt, alloc, formatted(rt, &alloc), cache);
     store.play(rt, &THREE_BLOCKS);
-    let before = store.reads();
+    let mut reads = 0u64;
     for key in keys {
-        store.play(rt, &[(Piece::Get(Now, *key), Answer::Found(0))]);
+        let line = (Piece::Get(Now, *key), Answer::Found(0));
+        reads = reads.wrapping_add(reads_for(rt, &mut store, line));
     }
-    store.reads().wrapping_sub(before)
+    reads
 }
 
 #[test]
 fn a_block_is_read_unless_the_cache_has_it(rt: HostRuntime) {
-    let turn = [0x61, 0x62, 0x63, 0x61].as_slice();
-    for (cache, keys, wanted) in [(2, turn, 32), (3, turn, 24), (2, &[0x63], 8)] {
+    let turn = [0x61, 0x63, 0x65, 0x61].as_slice();
+    for (cache, keys, wanted) in [(2, turn, 32), (3, turn, 24), (2, &[0x65], 8)] {
         let reads = reads_of(&rt, rt.alloc(), cache, keys);
         assert!(rt; reads == wanted, "{cache}: {reads}");
+    }
+}
+
+/// Behind the three blocks: no sector is read for a key outside the table's range, none for one that its filter denies, and none
+/// for one that memory has, present or sealed, also where that is a delete. A snapshot from before asks the table.
+const SPARED: [(Line, u64); 12] = [
+    ((Piece::Get(Now, 0x60), Answer::Absent), 0),
+    ((Piece::Get(Now, 0x66), Answer::Absent), 0),
+    ((Piece::Get(Now, 0x62), Answer::Absent), 0),
+    ((Piece::Get(Now, 0x64), Answer::Absent), 0),
+    ((Piece::Snapshot, Answer::Number(1)), 0),
+    ((Piece::Put(0x63, 0x33), Answer::Number(4)), 0),
+    ((Piece::Delete(0x65), Answer::Number(5)), 0),
+    ((Piece::Get(Now, 0x63), Answer::Found(0x33)), 0),
+    ((Piece::Rotate, Answer::Done), 0),
+    ((Piece::Get(Now, 0x63), Answer::Found(0x33)), 0),
+    ((Piece::Get(Now, 0x65), Answer::Absent), 0),
+    ((Piece::Get(Snap(1), 0x63), Answer::Found(0)), 8),
+];
+
+#[test]
+fn memory_and_filters_spare_reads(rt: HostRuntime) {
+    let mut store = begun(&rt, rt.alloc());
+    store.play(&rt, &THREE_BLOCKS);
+    for (line, wanted) in SPARED {
+        let reads = reads_for(&rt, &mut store, line);
+        assert!(rt; reads == wanted, "{line:?}: {reads}");
     }
 }
 

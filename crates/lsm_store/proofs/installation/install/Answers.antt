@@ -1,4 +1,4 @@
-use Rattle.std.proofs.Common.{◌≡◌, ◌⊎◌, inl, ℕ, Some, sym, ◌∙◌, subst, arith}
+use Rattle.std.proofs.Common.{◌≡◌, ◌⊎◌, inl, ℕ, Bool, true, false, Some, refl, sym, ◌∙◌, ap, subst, arith}
 use Rattle.std.specs.Prelude.{Result}
 use Rattle.lsm_device.specs.declared.refusal.Refusal.{Refusal}
 use Rattle.lsm_device.specs.declared.refusal.Refusal.TheVariants.{NoMemory, BadTable, Io}
@@ -6,6 +6,9 @@ use Rattle.lsm_jobs.specs.Slots.{slot_of}
 use Rattle.lsm_store.specs.declared.memory.Memory.{Memory}
 use Rattle.lsm_store.specs.Backing.{machine_of}
 use Rattle.lsm_store.specs.Calls.{Done, Refused, reply_of}
+use Rattle.lsm_levels.specs.Pick.{is_flush}
+use Rattle.lsm_open.specs.Layout.{Layout, layout_of}
+use Rattle.lsm_store.specs.InstalledJobs.{layout_after}
 use Rattle.lsm_store.specs.InstalledMemory.{next_layout, after_install_fault}
 use Rattle.lsm_store.specs.Memory.{AreConsistent, IsInside, LieWithin, state_of, work_of, view_of}
 use Rattle.lsm_store.specs.Work.{Install}
@@ -77,6 +80,16 @@ returns-in-Ok-clause-works g c = λ cache.
     let wrote = installing_root m c.requires.kept c.runs-runs.ensures.runs c.partition.ensures c.args.job next.flush next.levels n c.in_ok-check_install.ensures medium new cache c.sectors.result root c.in_ok-root.ensures.root e.any_moment e.counts e.same_size e.same_lasting in
     install_works m c.requires.kept c.runs-runs.ensures.runs c.partition.ensures c.args.job next.flush next.levels n c.in_ok-check_install.ensures medium new cache c.sectors.result root c.in_ok-root.ensures.root
     (λ tells. (g.met.D.Device.sound c.args.device.now tells).now.size) wrote e.installed e.faults c.install_to.new.self (c.install_to.ensures n.slot n.is)
+
+layout_next : (flush : Bool) (l : Layout) (count next_table : ℕ) → (layout_after flush l count next_table).next_table ≡ next_table
+layout_next true l count next_table = refl
+layout_next false l count next_table = refl
+
+pub returns-in-Ok-clause-numbered : goal.returns-in-Ok-clause-numbered
+returns-in-Ok-clause-numbered g c =
+    let m = c.args.memory.now in
+    let n = c.in_ok-next.ensures.next in
+    ap (λ (l : Layout). l.next_table) (c.install_to.ensures n.slot n.is).layout ∙ layout_next (is_flush n.slot.job) (layout_of m.regions) m.count m.next_table
 
 pub returns-in-Ok-clause-kept : goal.returns-in-Ok-clause-kept
 returns-in-Ok-clause-kept g c =

@@ -8,7 +8,7 @@ use Rattle.lsm_device.specs.Refusals.{faultless}
 use Rattle.lsm_device.specs.declared.refusal.Refusal.TheVariants.{Io, NoMemory}
 use Rattle.lsm_levels.specs.Asking.{Source}
 use Rattle.lsm_levels.specs.Levels.{Levels, places}
-use Rattle.lsm_levels.specs.Lookups.{versions_at, sealed_versions as sealed_of}
+use Rattle.lsm_levels.specs.Lookups.{IsLookUp, answer_of, versions_at, sealed_versions as sealed_of}
 use Rattle.lsm_levels.specs.Orders.{IsVersionOrder}
 use Rattle.lsm_levels.specs.Stored.{AreWithin, IsReadable}
 use Rattle.lsm_merge.specs.Inputs.{joined}
@@ -37,6 +37,15 @@ returns-clause-answers g c =
     → MatchResult c.find.result (λ value. option_map (λ v. v.items) value ≡ finite.get (map_of (joined (versions_at p.memory p.sealed (places p.levels))) n) key)
     (λ refusal. (refusal ≡ Io) ⊎ ((refusal ≡ NoMemory) × (is_some (finite.get (map_of (joined (versions_at p.memory p.sealed (places p.levels))) n) key) ≡ true))))
     v.mem.now _ (sealed_of v.sealed) _ v.levels.now _ v.area _ e.memory e.sealed e.levels e.area c.find.ensures.answers
+
+pub returns-clause-looks : goal.returns-clause-looks
+returns-clause-looks g c =
+    let v = c.view_of-view.result in
+    let e = c.view_of-view.ensures in
+    let old : Source = record { cache = c.args.cache.now; medium = g.D.Device.medium c.args.device.now } in
+    let new : Source = record { cache = c.find.new.cache; medium = g.D.Device.medium c.find.new.device } in
+    same_parts (λ (p : Parts). IsLookUp p.memory p.sealed (places p.levels) p.area c.args.key.now c.args.count (answer_of c.find.result) old new)
+    v.mem.now _ (sealed_of v.sealed) _ v.levels.now _ v.area _ e.memory e.sealed e.levels e.area c.find.ensures.looks
 
 pub returns-clause-reads : goal.returns-clause-reads
 returns-clause-reads g c =
