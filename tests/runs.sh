@@ -317,6 +317,26 @@ no_space() {
     scripts <space
 }
 
+# What an accept refuses for want of room takes none. Of 85 blocks that are left, a flush with both versions of 58 keys wants 67
+# and 55, and finds room for the first table alone. The older versions were kept for a snapshot: without it the flush wants 61.
+room_again() {
+    {
+        echo 'lives 8192 2048 | open 0'
+        full_commits 1 5
+        printf '%s\n' 'rotate | ok' 'take | job 1 flush' 'build 1 1 | built 1 images 3' 'accept 1 1 | ok'
+        until_none_is_left 'write 1' 154
+        echo 'install 1 | ok'
+        full_commits 6 2
+        echo 'snapshot | snapshot 1'
+        full_commits 8 2
+        printf '%s\n' 'rotate | ok' 'take | job 2 flush' 'build 2 1 | built 2 images 2' 'accept 2 2 | refused 13 NoSpace' 'drop 2 | ok'
+        printf '%s\n' 'release 1 | ok' 'take | job 3 flush' 'build 3 1 | built 3 images 1' 'accept 3 3 | ok'
+        until_none_is_left 'write 3' 61
+        printf '%s\n' 'install 3 | ok' 'get 0000 | value 09{2048}' 'get 0090 | value 09{2048}'
+    } >again
+    scripts <again
+}
+
 # 10,000 commits of puts and deletes with rotations, flushes and jobs of level 0 among them, and crashes. At the end the map
 # is that of a plain one. More steps of reading and writing are made than a job needs, and refused or told that none is left.
 many_commits() {
@@ -429,6 +449,7 @@ full_regions
 full_level
 deep_levels
 no_space
+room_again
 many_commits
 mistakes <"$runs/lines.txt"
 runs_on_inputs <"$runs/inputs.txt"
