@@ -246,6 +246,97 @@ full_level() {
     scripts <level
 }
 
+# Batches of 29 puts of 2,048 bytes, the first of them of this number, and so many of them. Their keys have two bytes, and rise
+# from 0000 on. A text has 59,568 bytes, and an entry 2,062, so that each has a data block of its own.
+full_commits() {
+    local number key=0 end
+    for ((number = $1; number < $1 + $2; number++)); do
+        printf commit
+        for ((end = key + 29; key < end; key++)); do printf ' +%04x=09{2048}' "$key"; done
+        echo " | batch $number"
+    done
+}
+
+# A step of reading or writing, which is made until none of so many blocks is left.
+until_none_is_left() {
+    local left=$2
+    while ((left > 0)); do
+        left=$((left > 8 ? left - 8 : 0))
+        echo "$1 | left $left"
+    done
+}
+
+# A run of 261 data blocks goes down to level 1 in four tables of 67 blocks, filter, index and footer among them, and one of 8.
+# So many are more than the 256 that level 1 may have. Of its tables each may be merged by a job of its own, as long as there
+# are slots; when one has gone down to level 2, the others are few enough.
+deep_levels() {
+    local number
+    {
+        echo 'lives 16384 2048 | open 0'
+        full_commits 1 9
+        printf '%s\n' 'rotate | ok' 'take | job 1 flush' 'build 1 4 | built 1 images 5' 'accept 1 1 | ok'
+        until_none_is_left 'write 1' 276
+        echo 'install 1 | ok'
+        for number in 2 3 4; do
+            echo "commit +ffff=31 | batch $((number + 8))"
+            flush "$number"
+            echo "install $number | ok"
+        done
+        echo 'take | job 5 level 0'
+        until_none_is_left 'read 5' 261
+        printf '%s\n' 'build 5 4 | built 5 images 5' 'accept 5 5 | ok'
+        until_none_is_left 'write 5' 276
+        echo 'install 5 | ok'
+        for number in 6 7 8 9; do echo "take | job $number level 1"; done
+        echo 'take | none'
+        until_none_is_left 'read 6' 64
+        printf '%s\n' 'build 6 1 | built 6 images 1' 'accept 6 6 | ok'
+        until_none_is_left 'write 6' 67
+        echo 'install 6 | ok'
+        for number in 7 8 9; do echo "drop $number | ok"; done
+        printf '%s\n' 'take | none' 'get 0000 | value 09{2048}' 'get 0104 | value 09{2048}' 'get ffff | value 31'
+        printf '%s\n' 'crash none | open 12' 'get 0000 | value 09{2048}'
+    } >deep
+    scripts <deep
+}
+
+# A flush takes 154 of 239 data blocks, in tables of 67, 67 and 20. Of the tables of the next one the first finds room in what
+# is left, and the second doesn't: the result is refused however often, and the job can be given up and taken again.
+no_space() {
+    {
+        echo 'lives 8192 2048 | open 0'
+        full_commits 1 5
+        printf '%s\n' 'rotate | ok' 'take | job 1 flush' 'build 1 1 | built 1 images 3' 'accept 1 1 | ok'
+        until_none_is_left 'write 1' 154
+        echo 'install 1 | ok'
+        full_commits 6 5
+        printf '%s\n' 'rotate | ok' 'take | job 2 flush' 'build 2 1 | built 2 images 3' 'accept 2 2 | refused 13 NoSpace'
+        printf '%s\n' 'write 2 | refused 11 WrongState' 'accept 2 2 | refused 13 NoSpace' 'drop 2 | ok' 'take | job 3 flush'
+        echo 'get 0000 | value 09{2048}'
+    } >space
+    scripts <space
+}
+
+# What an accept refuses for want of room takes none. Of 85 blocks that are left, a flush with both versions of 58 keys wants 67
+# and 55, and finds room for the first table alone. The older versions were kept for a snapshot: without it the flush wants 61.
+room_again() {
+    {
+        echo 'lives 8192 2048 | open 0'
+        full_commits 1 5
+        printf '%s\n' 'rotate | ok' 'take | job 1 flush' 'build 1 1 | built 1 images 3' 'accept 1 1 | ok'
+        until_none_is_left 'write 1' 154
+        echo 'install 1 | ok'
+        full_commits 6 2
+        echo 'snapshot | snapshot 1'
+        full_commits 8 2
+        printf '%s\n' 'rotate | ok' 'take | job 2 flush' 'build 2 1 | built 2 images 2' 'accept 2 2 | refused 13 NoSpace' 'drop 2 | ok'
+        printf '%s\n' 'release 1 | ok' 'take | job 3 flush' 'build 3 1 | built 3 images 1' 'accept 3 3 | ok'
+        until_none_is_left 'write 3' 61
+        printf '%s\n' 'install 3 | ok' 'get 0000 | value 09{2048}' 'get 0090 | value 09{2048}'
+    } >again
+    scripts <again
+}
+
 # 10,000 commits of puts and deletes with rotations, flushes and jobs of level 0 among them, and crashes. At the end the map
 # is that of a plain one. More steps of reading and writing are made than a job needs, and refused or told that none is left.
 many_commits() {
@@ -356,6 +447,9 @@ faulting_openings
 snapshots
 full_regions
 full_level
+deep_levels
+no_space
+room_again
 many_commits
 mistakes <"$runs/lines.txt"
 runs_on_inputs <"$runs/inputs.txt"
