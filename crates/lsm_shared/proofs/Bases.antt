@@ -2,16 +2,19 @@
 use Rattle.std.proofs.Common.{◌≡◌, ℕ, Bool, true, false, not, is_some, List, Some, None, Result, Ok, Err, refl, ap, sym, ◌∙◌, subst, if◌then◌else◌}
 use Rattle.lsm_device.specs.declared.refusal.Refusal.{Refusal}
 use Rattle.lsm_device.specs.declared.refusal.Refusal.TheVariants.{NoMemory, Io, Stopped, NoSuchSnapshot, BadTable}
-use Rattle.lsm_store.specs.Backing.{StoreView}
+use Rattle.std.specs.Prelude.{IsNone}
+use Rattle.lsm_store.specs.Backing.{StoreView, machine_of}
 use Rattle.lsm_store.specs.Calls.{reply_of}
 use Rattle.lsm_store.specs.Calls.{Release, Done, Refused}
 use Rattle.lsm_store.specs.Effects.{after, reply_by}
+use Rattle.lsm_store.specs.Machine.{Machine}
 use Rattle.lsm_store.specs.Refusals.{refusal}
 use Rattle.lsm_store.specs.Run.{Admits, next}
 use Rattle.lsm_store.specs.Serving.{Serves}
 use Rattle.lsm_store.specs.State.{State, snapshot_of}
+use Rattle.lsm_store.specs.WorkEffects.{work_by}
 use Rattle.lsm_trail.specs.Begins.{Begin, base_of}
-use Rattle.lsm_trail.specs.History.{Event, IsLegal, state_after}
+use Rattle.lsm_trail.specs.History.{Event, IsLegal, machine_after, state_after}
 use Rattle.lsm_trail.proofs.Bases.{base_kept}
 use Rattle.lsm_shared.specs.Sessions.{released, ended_state}
 
@@ -55,12 +58,22 @@ module _ (s : State) (number : ℕ) (live : is_some (snapshot_of s number) ≡ t
       by false runs = absurd (refused_running e runs admitted)
 
 -- the store when its session has ended
-pub ended_by : (b : Begin) (base : ℕ) (log : List Event) (old new : StoreView) (res : Result (Unit {0}) Refusal) → IsLegal b log → base ≡ base_of b → old.state ≡ state_after b log
+pub ended_by : (b : Begin) (base : ℕ) (log : List Event) (old new : StoreView) (res : Result (Unit {0}) Refusal) → IsLegal b log → base ≡ base_of b → machine_of old ≡ machine_after b log
     → Serves old (Release base) (reply_of (λ x. Done) res) new → new.state ≡ ended_state b log
-ended_by b base log old new res legal number state serves =
+ended_by b base log old new res legal number machine serves =
     let s = state_after b log in
     let reply = reply_of (λ x. Done) res in
+    let state : old.state ≡ s = ap (λ (m : Machine). m.state) machine in
     let admitted : Admits s (Release (base_of b)) reply = subst (λ (p : State × ℕ). Admits p.0 (Release p.1) reply) (λ i. (state i, number i)) serves.admitted in
     serves.state
     ∙ (λ i. next (state i) (Release (number i)) reply)
     ∙ releases s (base_of b) (ap is_some (base_kept b log legal)) res admitted
+
+-- a release changes no place of versions
+same_work : (m : Machine) (base : ℕ) (res : Result (Unit {0}) Refusal) → work_by m (Release base) (reply_of (λ x. Done) res) ≡ m.work
+same_work m base (Ok x) = refl
+same_work m base (Err e) = refl
+
+pub work_ended : (b : Begin) (base : ℕ) (log : List Event) (old new : StoreView) (res : Result (Unit {0}) Refusal) → machine_of old ≡ machine_after b log
+    → Serves old (Release base) (reply_of (λ x. Done) res) new → IsNone new.state.stopped → new.work ≡ (machine_after b log).work
+work_ended b base log old new res machine serves running = serves.worked running ∙ same_work (machine_of old) base res ∙ ap (λ (m : Machine). m.work) machine

@@ -1,9 +1,9 @@
 -- All clients together have made as many calls as the history has.
 use Rattle.std.proofs.Common.{◌≡◌, ◌≢◌, ◌⊎◌, ℕ, zero, suc, ◌+◌, ◌<◌, ◌≤◌, ◌==◌, Bool, true, false, List, [], ◌∷◌, length, if◌then◌else◌, refl, ap, sym, ◌∙◌, ⊎_elim, arith, inl, inr, ltb, eq-eqb, ne_eqb}
 use Rattle.std.proofs.lemmas.Bool.Decides.{nat_tests}
-use Rattle.lsm_trail.specs.History.{Event, calls_by}
+use Rattle.lsm_trail.specs.History.{Event, entries_by}
 use Rattle.lsm_trail.specs.Knowledge.{Known}
-use Rattle.lsm_shared.specs.Clients.{Told, has_client, AreAll, calls_made}
+use Rattle.lsm_shared.specs.Clients.{Told, has_client, AreAll, entries_made}
 
 abbrev one_if : Bool → ℕ
 one_if b = if b then 1 else 0
@@ -91,7 +91,7 @@ hit_once n cs x all lt = omega (arith, is_hit cs x (all.1 x lt), few_hits n cs, 
 -- the calls that the history has of these clients
 abbrev calls_in : List Event → List Known → ℕ
 calls_in log [] = 0
-calls_in log (c ∷ cs) = length (calls_by c.number log) + calls_in log cs
+calls_in log (c ∷ cs) = length (entries_by c.number log) + calls_in log cs
 
 longer_if : (b : Bool) (e : Event) (log : List Event) → length (if b then e ∷ log else log) ≡ one_if b + length log
 longer_if true e log = omega arith
@@ -99,11 +99,11 @@ longer_if false e log = omega arith
 
 calls_in-more : (e : Event) (log : List Event) (cs : List Known) → calls_in (e ∷ log) cs ≡ hits cs e.client + calls_in log cs
 calls_in-more e log [] = refl
-calls_in-more e log (c ∷ cs) = omega (arith, longer_if (e.client == c.number) e (calls_by c.number log), calls_in-more e log cs)
+calls_in-more e log (c ∷ cs) = omega (arith, longer_if (e.client == c.number) e (entries_by c.number log), calls_in-more e log cs)
 
 -- whoever is no client has made no call
 abbrev Strangers : ℕ → List Event → Type 0
-Strangers n log = (x : ℕ) → n ≤ x → calls_by x log ≡ []
+Strangers n log = (x : ℕ) → n ≤ x → entries_by x log ≡ []
 
 no_stranger : (n : ℕ) (e : Event) (log : List Event) → Strangers n (e ∷ log) → (e.client < n) × Strangers n log
 no_stranger n e log strangers = (known (ltb e.client n) refl, λ x far. rest x (e.client == x) refl (strangers x far))
@@ -112,9 +112,9 @@ no_stranger n e log strangers = (known (ltb e.client n) refl, λ x far. rest x (
     known true is = grind (arith, nat_tests)
     known false is =
         let far : n ≤ e.client = grind (arith, nat_tests) in
-        absurd (cc (sym (ap (λ (b : Bool). if b then e ∷ calls_by e.client log else calls_by e.client log) (eq-eqb e.client e.client refl)) ∙ strangers e.client far))
+        absurd (cc (sym (ap (λ (b : Bool). if b then e ∷ entries_by e.client log else entries_by e.client log) (eq-eqb e.client e.client refl)) ∙ strangers e.client far))
 
-    rest : (x : ℕ) (b : Bool) → (e.client == x) ≡ b → (if b then e ∷ calls_by x log else calls_by x log) ≡ [] → calls_by x log ≡ []
+    rest : (x : ℕ) (b : Bool) → (e.client == x) ≡ b → (if b then e ∷ entries_by x log else entries_by x log) ≡ [] → entries_by x log ≡ []
     rest x true is none = absurd (cc none)
     rest x false is none = none
 
@@ -128,9 +128,9 @@ all_calls n cs (e ∷ log) all strangers =
     let s = no_stranger n e log strangers in
     omega (arith, calls_in-more e log cs, hit_once n cs e.client all s.0, all_calls n cs log all s.1)
 
-made_in : (log : List Event) (cs : List Known) → Told log cs → calls_made cs ≡ calls_in log cs
+made_in : (log : List Event) (cs : List Known) → Told log cs → entries_made cs ≡ calls_in log cs
 made_in log [] told = refl
 made_in log (c ∷ cs) told = omega (arith, ap length told.1, made_in log cs told.2)
 
-pub counted : (n : ℕ) (cs : List Known) (log : List Event) → AreAll n cs → Told log cs → Strangers n log → calls_made cs ≡ length log
+pub counted : (n : ℕ) (cs : List Known) (log : List Event) → AreAll n cs → Told log cs → Strangers n log → entries_made cs ≡ length log
 counted n cs log all told strangers = made_in log cs told ∙ all_calls n cs log all strangers

@@ -13,11 +13,11 @@ use Rattle.lsm_store.specs.Effects.{after, reply_by, Use, use_of}
 use Rattle.lsm_store.specs.Effects.{Untouched, Reads, Changes}
 use Rattle.lsm_store.specs.RecoveryPoints.{all_synced}
 use Rattle.lsm_store.specs.Machine.{Machine, Step, Called, Worked}
-use Rattle.lsm_store.specs.Run.{after_fault, next, next_machine, last_machine, Run}
+use Rattle.lsm_store.specs.Run.{after_fault, next, next_machine, Run}
 use Rattle.lsm_store.specs.State.{State}
 use Rattle.lsm_store.proofs.WorkReplies.{work_keeps}
 use Rattle.lsm_trail.specs.Begins.{Begin, base_of, first_machine}
-use Rattle.lsm_trail.specs.History.{Event, steps_of, replies_of, IsLegal, state_after}
+use Rattle.lsm_trail.specs.History.{Event, steps_of, replies_of, machine_behind, AreServed, IsLegal, state_after}
 use Rattle.lsm_shared.specs.Sessions.{ended_state}
 
 -- no call changes the format
@@ -55,28 +55,28 @@ step_sectors : (m : Machine) (step : Step) (reply : Reply) → (next_machine m s
 step_sectors m (Called call) reply = next_sectors m.state call reply
 step_sectors m (Worked piece) reply = work_keeps (λ s. s.log_sectors) (λ s o. refl) (λ flush s. refl) m piece reply
 
-history_sectors : (m : Machine) (log : List Event) → (last_machine m (steps_of log) (replies_of log)).state.log_sectors ≡ m.state.log_sectors
-history_sectors m [] = refl
-history_sectors m (e ∷ log) = history_sectors (next_machine m e.step e.reply) log ∙ step_sectors m e.step e.reply
+history_sectors : (m : Machine) (log : List Event) → AreServed m log → (machine_behind m log).state.log_sectors ≡ m.state.log_sectors
+history_sectors m [] served = refl
+history_sectors m (e ∷ log) (may, goes, served) = history_sectors e.machine log served ∙ ap (λ (s : State). s.log_sectors) goes.state ∙ step_sectors m e.step e.reply
 
 -- a crash of this device leaves what this state may leave
 abbrev LeavesOf : Medium → ℕ → State → Type 0
 LeavesOf device sectors s = Leaves (StandForOne sectors (may_leave s)) (disk device)
 
-in_format : (b : Begin) (log : List Event) (device : Medium) → LeavesOf device (state_after b log).log_sectors (state_after b log) → LeavesOf device b.store.state.log_sectors (state_after b log)
-in_format b log device leaves = subst (λ (n : ℕ). LeavesOf device n (state_after b log)) (history_sectors (first_machine b) log) leaves
+in_format : (b : Begin) (log : List Event) (device : Medium) → AreServed (first_machine b) log → LeavesOf device (state_after b log).log_sectors (state_after b log) → LeavesOf device b.store.state.log_sectors (state_after b log)
+in_format b log device served leaves = subst (λ (n : ℕ). LeavesOf device n (state_after b log)) (history_sectors (first_machine b) log served) leaves
 
-pub free_leaves : (b : Begin) (log : List Event) (store : StoreView) → store.state ≡ state_after b log → IsBacked store → LeavesOf store.device b.store.state.log_sectors (state_after b log)
-free_leaves b log store is backed = in_format b log store.device (subst (λ (s : State). LeavesOf store.device s.log_sectors s) is backed.crashes)
+pub free_leaves : (b : Begin) (log : List Event) (store : StoreView) → AreServed (first_machine b) log → store.state ≡ state_after b log → IsBacked store → LeavesOf store.device b.store.state.log_sectors (state_after b log)
+free_leaves b log store served is backed = in_format b log store.device served (subst (λ (s : State). LeavesOf store.device s.log_sectors s) is backed.crashes)
 
 -- a snapshot that is released changes nothing that a crash leaves
 released_leaves : (device : Medium) (number : ℕ) (s t : State) (b : Bool) → t ≡ (if b then s else after s (Release number)) → LeavesOf device t.log_sectors t → LeavesOf device s.log_sectors s
 released_leaves device number s t true is leaves = subst (λ (x : State). LeavesOf device x.log_sectors x) is leaves
 released_leaves device number s t false is leaves = subst (λ (x : State). LeavesOf device x.log_sectors x) is leaves
 
-pub ended_leaves : (b : Begin) (log : List Event) (store : StoreView) → store.state ≡ ended_state b log → IsBacked store → LeavesOf store.device b.store.state.log_sectors (state_after b log)
-ended_leaves b log store is backed = in_format b log store.device (released_leaves store.device (base_of b) (state_after b log) store.state (is_some (state_after b log).stopped) is backed.crashes)
+pub ended_leaves : (b : Begin) (log : List Event) (store : StoreView) → AreServed (first_machine b) log → store.state ≡ ended_state b log → IsBacked store → LeavesOf store.device b.store.state.log_sectors (state_after b log)
+ended_leaves b log store served is backed = in_format b log store.device served (released_leaves store.device (base_of b) (state_after b log) store.state (is_some (state_after b log).stopped) is backed.crashes)
 
 -- the pinning of the base and then the history are a run
 pub run_of : (b : Begin) (log : List Event) → IsLegal b log → IsBacked b.store → Run (machine_of b.store) (Called Snapshot ∷ steps_of log) (Number (base_of b) ∷ replies_of log)
-run_of b log legal backed = (sym (ap (reply_by b.store.state Snapshot) legal.pinned.taken), legal.run backed)
+run_of b log legal backed = (sym (ap (reply_by b.store.state Snapshot) legal.pinned.taken), (legal.run backed).run)

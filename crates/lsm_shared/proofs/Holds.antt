@@ -1,67 +1,85 @@
 -- What one hold of the lock does to a session.
-use Rattle.std.proofs.Common.{◌≡◌, ◌≢◌, ℕ, ◌+◌, ◌<◌, ◌≤◌, ◌==◌, Bool, false, List, [], ◌∷◌, ◌++◌, length, Some, None, Result, Ok, Err, refl, ap, sym, ◌∙◌, subst, arith, length-append}
-use Rattle.std.specs.Prelude.{IsTrue, IfOk, IfErr, IsErrAnd}
+use Rattle.std.proofs.Common.{◌≡◌, ◌≢◌, ℕ, ◌+◌, ◌<◌, ◌≤◌, ◌==◌, Bool, true, false, is_some, Option, List, [], ◌∷◌, ◌++◌, length, Some, None, Result, Ok, Err, refl, ap, sym, ◌∙◌, subst, arith, zero-le, append_assoc, length-append}
+use Rattle.std.specs.Prelude.{IsTrue, IsNone, IsSome, IfOk, IfErr, IsErrAnd, MatchResult}
 use Rattle.std.proofs.lemmas.Bool.Decides.{nat_tests}
-use Rattle.atomic_table.specs.Table.{Me}
-use Rattle.atomic_table.specs.declared.shared.Seat.{Seat}
+use Rattle.std.proofs.lemmas.List.{append-nil}
+use mathlib.Core.List.{IsPrefix}
 use Rattle.lsm_device.specs.declared.refusal.Refusal.{Refusal}
-use Rattle.lsm_device.specs.declared.refusal.Refusal.TheVariants.{NoMemory, TrailFull, NotYours}
-use Rattle.lsm_store.specs.Backing.{StoreView, IsBacked}
+use Rattle.lsm_device.specs.declared.refusal.Refusal.TheVariants.{NoMemory, Stopped, TrailFull, NotYours}
+use Rattle.lsm_merge.specs.Inputs.{MergeInput}
+use Rattle.lsm_store.specs.Backing.{StoreView, IsBacked, machine_of}
 use Rattle.lsm_store.specs.Calls.{Call, Reply}
 use Rattle.lsm_store.specs.Calls.{Commit, Sync, SyncTo, Get, Scan, Snapshot, Release, Rotate, LogRoom, Number, Done, Value, Rows, Given, Handed, Refused}
 use Rattle.lsm_store.specs.Effects.{after, takes_memory}
-use Rattle.lsm_store.specs.Machine.{Step, Called, Worked}
-use Rattle.lsm_store.specs.RecoveryPoints.{batch_count}
-use Rattle.lsm_store.specs.Run.{Allows, Admits, asks_value, asks_page, next}
+use Rattle.lsm_store.specs.Machine.{Machine, Step, Called, Worked}
+use Rattle.lsm_store.specs.Run.{Allows, Admits, AllowsStep, AdmitsStep, GoesTo, asks_value, asks_page, next, next_machine}
 use Rattle.lsm_store.specs.Serving.{Serves}
 use Rattle.lsm_store.specs.State.{State}
+use Rattle.lsm_store.specs.Work.{WorkView}
+use Rattle.lsm_store.specs.WorkEffects.{work_called, work_by}
+use Rattle.lsm_store.specs.Working.{ServesStep}
 use Rattle.lsm_store.proofs.Running.{value_wanted, page_wanted}
-use Rattle.lsm_trail.specs.History.{Event, event, IsLegal, state_after, calls_by, numbers, numbers_at, TrailView}
-use Rattle.lsm_trail.specs.Knowledge.{SessionId, Known, Sees, View, known, keeper_or, keeper_of, IsKeeperPass}
-use Rattle.lsm_trail.specs.declared.numbers.Numbers.{Numbers}
-use Rattle.lsm_trail.proofs.Histories.{legal_more, state_after-more, calls_by-mine}
-use Rattle.lsm_shared.specs.Clients.{Extends, Denies, IsNoCall}
-use Rattle.lsm_shared.specs.Sessions.{SessionView, IsSession, Finds, IsMade, IsShort, IsRefused, IsLost}
+use Rattle.lsm_store.proofs.ServedSteps.{served_goes, served_work}
+use Rattle.lsm_store.proofs.Steps.{step_stopped}
+use Rattle.lsm_trail.specs.Begins.{Begin, base_of}
+use Rattle.lsm_trail.specs.Following.{MayFollow}
+use Rattle.lsm_trail.specs.History.{Event, event, called, IsLegal, inputs_of, IsNextNumber, TakesResult, machine_after, state_after, entries_by}
+use Rattle.lsm_trail.specs.Knowledge.{SessionId, Known, known}
+use Rattle.lsm_trail.proofs.Histories.{after_more, legal_none, entries_by-mine}
+use Rattle.lsm_trail.proofs.Lists.{prefix_self}
+use Rattle.lsm_shared.specs.Sessions.{IsPinned, SessionView, IsSession, Knows, Finds, HasSeen, Enters, EntersOne, IsMade, IsFull, IsReserved, IsShort, IsRefused, IsLost}
 
--- the lock's pass has the history of the trail
-pub log_of_pass : (id : SessionId) (log : List Event) (p : Seat Event View) → IsKeeperPass id log p → (keeper_of p).log ≡ log
-log_of_pass id log p is = ap (λ (m : Me Event View). (keeper_or m.0.keeper).log) is.1
+-- ---- a step that a store served
+
+served_admits : (old : StoreView) (step : Step) (reply : Reply) (new : StoreView) → ServesStep old step reply new → AdmitsStep (machine_of old) step reply
+served_admits old (Called call) reply new serves = serves.admitted
+served_admits old (Worked piece) reply new works = works.admitted
+
+served_allows : (old : StoreView) (step : Step) (reply : Reply) (new : StoreView) → ServesStep old step reply new → IsBacked old → AllowsStep (machine_of old) step reply
+served_allows old (Called call) reply new serves = serves.allowed
+served_allows old (Worked piece) reply new works = works.allowed
+
+served_backed : (old : StoreView) (step : Step) (reply : Reply) (new : StoreView) → ServesStep old step reply new → IsBacked old → IsBacked new
+served_backed old (Called call) reply new serves = serves.backed
+served_backed old (Worked piece) reply new works = works.backed
+
+-- ---- a reply for which memory was short
 
 -- a call that asks for a value changes nothing, and takes memory
-value_kept : (s : State) (call : Call) → IsTrue (asks_value call) → (after s call ≡ s) × IsTrue (takes_memory call)
-value_kept s (Get at key) is = (refl, refl)
-value_kept s (Commit batch) is = absurd (cc is)
-value_kept s Sync is = absurd (cc is)
-value_kept s (SyncTo number) is = absurd (cc is)
-value_kept s (Scan at from to limit) is = absurd (cc is)
-value_kept s Snapshot is = absurd (cc is)
-value_kept s (Release number) is = absurd (cc is)
-value_kept s Rotate is = absurd (cc is)
-value_kept s LogRoom is = absurd (cc is)
+value_kept : (m : Machine) (call : Call) → IsTrue (asks_value call) → (after m.state call ≡ m.state) × (work_called m call ≡ m.work) × IsTrue (takes_memory call)
+value_kept m (Get at key) is = (refl, refl, refl)
+value_kept m (Commit batch) is = absurd (cc is)
+value_kept m Sync is = absurd (cc is)
+value_kept m (SyncTo number) is = absurd (cc is)
+value_kept m (Scan at from to limit) is = absurd (cc is)
+value_kept m Snapshot is = absurd (cc is)
+value_kept m (Release number) is = absurd (cc is)
+value_kept m Rotate is = absurd (cc is)
+value_kept m LogRoom is = absurd (cc is)
 
 -- and so does one that asks for a page
-page_kept : (s : State) (call : Call) → IsTrue (asks_page call) → (after s call ≡ s) × IsTrue (takes_memory call)
-page_kept s (Scan at from to limit) is = (refl, refl)
-page_kept s (Commit batch) is = absurd (cc is)
-page_kept s Sync is = absurd (cc is)
-page_kept s (SyncTo number) is = absurd (cc is)
-page_kept s (Get at key) is = absurd (cc is)
-page_kept s Snapshot is = absurd (cc is)
-page_kept s (Release number) is = absurd (cc is)
-page_kept s Rotate is = absurd (cc is)
-page_kept s LogRoom is = absurd (cc is)
+page_kept : (m : Machine) (call : Call) → IsTrue (asks_page call) → (after m.state call ≡ m.state) × (work_called m call ≡ m.work) × IsTrue (takes_memory call)
+page_kept m (Scan at from to limit) is = (refl, refl, refl)
+page_kept m (Commit batch) is = absurd (cc is)
+page_kept m Sync is = absurd (cc is)
+page_kept m (SyncTo number) is = absurd (cc is)
+page_kept m (Get at key) is = absurd (cc is)
+page_kept m Snapshot is = absurd (cc is)
+page_kept m (Release number) is = absurd (cc is)
+page_kept m Rotate is = absurd (cc is)
+page_kept m LogRoom is = absurd (cc is)
 
 -- a reply for which memory was short has changed nothing
-pub lost : (s : State) (call : Call) (reply : Reply) → Admits s call reply → IsLost reply → (next s call reply ≡ s) × Admits s call (Refused NoMemory)
-lost s call (Refused NoMemory) admitted short = (refl, admitted)
-lost s call (Refused e) admitted short = absurd short
-lost s call (Number n) admitted short = absurd short
-lost s call Done admitted short = absurd short
-lost s call (Value None) admitted short = absurd short
-lost s call (Value (Some v)) admitted short = let k = value_kept s call admitted.1 in (k.0, (admitted.0, k.1))
-lost s call (Given job) admitted short = absurd short
-lost s call (Handed input) admitted short = absurd short
-lost s call (Rows page) admitted short = let k = page_kept s call admitted.1 in (k.0, (admitted.0, k.1))
+lost : (m : Machine) (call : Call) (reply : Reply) → Admits m.state call reply → IsLost reply → (next m.state call reply ≡ m.state) × (work_by m call reply ≡ m.work) × Admits m.state call (Refused NoMemory)
+lost m call (Refused NoMemory) admitted short = (refl, refl, admitted)
+lost m call (Refused e) admitted short = absurd short
+lost m call (Number n) admitted short = absurd short
+lost m call Done admitted short = absurd short
+lost m call (Value None) admitted short = absurd short
+lost m call (Value (Some v)) admitted short = let k = value_kept m call admitted.1 in (k.0, k.1, (admitted.0, k.2))
+lost m call (Given job) admitted short = absurd short
+lost m call (Handed input) admitted short = absurd short
+lost m call (Rows page) admitted short = let k = page_kept m call admitted.1 in (k.0, k.1, (admitted.0, k.2))
 
 -- where the state allows the reply, it allows that memory was short
 lost_allowed : (s : State) (call : Call) (reply : Reply) → Allows s call reply → IsLost reply → Allows s call (Refused NoMemory)
@@ -75,173 +93,220 @@ lost_allowed s call (Given job) allowed short = absurd short
 lost_allowed s call (Handed input) allowed short = absurd short
 lost_allowed s call (Rows page) allowed short = page_wanted s call page allowed
 
+-- a stopped store replies nothing of the kind
+lost_running : (s : StoreView) (call : Call) (reply : Reply) → Admits s.state call reply → IsLost reply → IsNone s.state.stopped
+lost_running s call reply admitted short = by (is_some s.state.stopped) refl
+  where
+    by : (b : Bool) → is_some s.state.stopped ≡ b → IsNone s.state.stopped
+    by false none = none
+    by true some = absurd (subst IsLost (step_stopped (machine_of s) (Called call) reply some admitted) short)
+
+-- so the machine is as it was
+lost_machine : (old new : StoreView) (call : Call) (reply : Reply) → Serves old call reply new → IsLost reply → machine_of new ≡ machine_of old
+lost_machine old new call reply serves short =
+    let l = lost (machine_of old) call reply serves.admitted short in
+    let state : new.state ≡ old.state = serves.state ∙ l.0 in
+    let work : new.work ≡ old.work = serves.worked (subst (λ (s : State). IsNone s.stopped) (sym state) (lost_running old call reply serves.admitted short)) ∙ l.1 in
+    λ i. record { state = state i; work = work i }
+
+-- ---- what a hold finds
+
+pub finds_now : (id : SessionId) (base : ℕ) (store : StoreView) (log : List Event) (c : Known) → IsSession id base store log → Knows id.begin log c → Finds id (record { store = store; log = log }) c
+finds_now id base store log c session knows = record { legal = session.legal; machine = session.machine; backed = session.backed; room = session.room; knows = knows }
+
+-- a client that was shown the history has seen it
+pub seen_now : (id : SessionId) (old : SessionView) (c d : Known) → Finds id old c → d ≡ known id.begin c.number old.log c.mine → HasSeen id old d
+seen_now id old c d f is = subst (HasSeen id old) (sym is) record {
+  finds = record { legal = f.legal; machine = f.machine; backed = f.backed; room = f.room; knows = record { begin = refl; seen = prefix_self old.log; own = f.knows.own } };
+  all = refl;
+}
+
+-- ---- an entry
+
+module _ (id : SessionId) (base : ℕ) (store new : StoreView) (log : List Event) (session : IsSession id base store log) (step : Step) (reply : Reply) (serves : ServesStep store step reply new) (client result : ℕ) (e : Event) (is : e ≡ event client step reply result (machine_of new)) where
+  -- it may come next
+  pub may_follow : reply ≢ Refused NoMemory → step ≢ Called (Release (base_of id.begin)) → IsNextNumber (inputs_of log) reply result → TakesResult (inputs_of log) step result → MayFollow id.begin log e
+  may_follow made keeps next takes = subst (MayFollow id.begin log) (sym is) record {
+    admitted = subst (λ (m : Machine). AdmitsStep m step reply) session.machine (served_admits store step reply new serves);
+    goes = subst (λ (m : Machine). GoesTo m step reply (machine_of new)) session.machine (served_goes store step reply new serves);
+    allowed = λ began. subst (λ (m : Machine). AllowsStep m step reply) session.machine (served_allows store step reply new serves (session.backed began));
+    work = λ began running. served_work store step reply new serves (session.backed began) running ∙ ap (λ (m : Machine). (next_machine m step reply).work) session.machine;
+    next = next;
+    takes = takes;
+    made = made;
+    keeps = keeps;
+  }
+
+  module _ (after : List Event) (behind : after ≡ log ++ e ∷ []) (legal : IsLegal id.begin after) (room : length log < id.begin.limit) where
+    machine_entered : machine_of new ≡ machine_after id.begin after
+    machine_entered = sym (ap (machine_after id.begin) behind ∙ after_more id.begin log e ∙ ap (λ (x : Event). x.machine) is)
+
+    room_left : length after ≤ id.begin.limit
+    room_left = omega (arith, room, ap length behind, length-append log (e ∷ []))
+
+    -- the session after it
+    pub session_entered : IsSession id base new after
+    session_entered = record {
+      number = session.number;
+      legal = legal;
+      machine = machine_entered;
+      backed = λ began. served_backed store step reply new serves (session.backed began);
+      room = room_left;
+    }
+
+    -- what a hold did that made it
+    pub entered_one : (old : SessionView) → record { store = store; log = log } ≡ old → (c d : Known) → Finds id old c → client ≡ c.number → d ≡ known id.begin c.number after (c.mine ++ e ∷ [])
+        → EntersOne id old c (event c.number step reply result (machine_of new)) (record { store = new; log = after }) d
+    entered_one old was c d finds by knows =
+        let shown : e ≡ event c.number step reply result (machine_of new) = is ∙ ap (λ (n : ℕ). event n step reply result (machine_of new)) by in
+        subst (λ (v : SessionView). Finds id v c → EntersOne id v c (event c.number step reply result (machine_of new)) (record { store = new; log = after }) d) was
+        (λ found. subst (λ (x : Event). EntersOne id (record { store = store; log = log }) c x (record { store = new; log = after }) d) shown record {
+          enters = record {
+            finds = found;
+            log = behind;
+            legal = legal;
+            machine = machine_entered;
+            backed = λ began. served_backed store step reply new serves (session.backed began);
+            room = room_left;
+            own = ap (entries_by c.number) behind ∙ entries_by-mine c.number log e (ap (λ (x : Event). x.client) shown) ∙ ap (λ (l : List Event). l ++ e ∷ []) found.knows.own;
+            client = knows;
+          };
+          serves = subst (λ (x : Event). ServesStep store x.step x.reply new) (sym is) serves;
+          machine = ap (λ (x : Event). x.machine) is;
+        }) finds
+
+-- ---- no entry
+
+-- a client that made no entry has seen the history, which is as it was, and so is the machine
+pub entered_none : (id : SessionId) (old : SessionView) (new : StoreView) (c d : Known) → Finds id old c → d ≡ known id.begin c.number old.log c.mine → machine_of new ≡ machine_of old.store → (IsBacked old.store → IsBacked new)
+    → Enters id old c [] (record { store = new; log = old.log }) d
+entered_none id old new c d f is same backed = record {
+  finds = f;
+  log = sym (append-nil old.log);
+  legal = f.legal;
+  machine = same ∙ f.machine;
+  backed = λ began. backed (f.backed began);
+  room = f.room;
+  own = f.knows.own ∙ sym (append-nil c.mine);
+  client = is ∙ ap (known id.begin c.number old.log) (sym (append-nil c.mine));
+}
+
+-- the session after a call for which memory was short
+pub session_kept : (id : SessionId) (base : ℕ) (store new : StoreView) (log : List Event) → IsSession id base store log → (call : Call) (reply : Reply) → Serves store call reply new → IsLost reply → IsSession id base new log
+session_kept id base store new log session call reply serves short = record {
+  number = session.number;
+  legal = session.legal;
+  machine = lost_machine store new call reply serves short ∙ session.machine;
+  backed = λ began. serves.backed (session.backed began);
+  room = session.room;
+}
+
+-- what its hold did
+pub short_to : (id : SessionId) (old : SessionView) (new : StoreView) (c d : Known) (call : Call) (reply : Reply) → Finds id old c → d ≡ known id.begin c.number old.log c.mine → length old.log < id.begin.limit
+    → Serves old.store call reply new → IsLost reply → IsShort id old c call (record { store = new; log = old.log }) d
+short_to id old new c d call reply finds is room serves short = record {
+  enters = entered_none id old new c d finds is (lost_machine old.store new call reply serves short) serves.backed;
+  room = room;
+  admitted = (lost (machine_of old.store) call reply serves.admitted short).2;
+  allowed = λ began. lost_allowed old.store.state call reply (serves.allowed (finds.backed began)) short;
+  reply = reply;
+  lost = short;
+  serves = serves;
+}
+
+-- what a hold did that found no place
+pub full_to : (id : SessionId) (old : SessionView) (c d : Known) → Finds id old c → d ≡ known id.begin c.number old.log c.mine → length old.log ≡ id.begin.limit → IsFull id old c old d
+full_to id old c d finds is full = record { enters = entered_none id old old.store c d finds is refl (λ b. b); full = full; same = refl }
+
+-- and one that was to release the base
+pub reserved_to : (id : SessionId) (old : SessionView) (c d : Known) (call : Call) → Finds id old c → d ≡ known id.begin c.number old.log c.mine → length old.log < id.begin.limit → call ≡ Release (base_of id.begin) → IsReserved id old c call old d
+reserved_to id old c d call finds is room releases = record { enters = entered_none id old old.store c d finds is refl (λ b. b); room = room; releases = releases; same = refl }
+
+-- the same where the parts of the session are known
+pub short_was : (id : SessionId) (store new : StoreView) (log : List Event) (old : SessionView) → record { store = store; log = log } ≡ old → (c d : Known) (call : Call) (reply : Reply) → Finds id old c → d ≡ known id.begin c.number old.log c.mine
+    → length log < id.begin.limit → Serves store call reply new → IsLost reply → IsShort id old c call (record { store = new; log = log }) d
+short_was id store new log old was c d call reply finds shown room serves short =
+    subst (λ (v : SessionView). Finds id v c → d ≡ known id.begin c.number v.log c.mine → IsShort id v c call (record { store = new; log = log }) d) was
+    (λ f is. short_to id (record { store = store; log = log }) new c d call reply f is room serves short) finds shown
+
+-- what a client knows of an entry that was made after it was shown the history
+pub knows_then : (id : SessionId) (after log : List Event) (c me d : Known) (e : Event) → me ≡ known id.begin c.number log c.mine → d ≡ known id.begin me.number after (me.mine ++ e ∷ []) → d ≡ known id.begin c.number after (c.mine ++ e ∷ [])
+knows_then id after log c me d e shown is = is ∙ (λ i. known id.begin (shown i).number after ((shown i).mine ++ e ∷ []))
+
 -- the call of a step, or any where it is a piece of work
 abbrev call_in : Step → Call
 call_in (Called call) = call
 call_in (Worked piece) = Sync
 
-module _ (id : SessionId) (base : ℕ) (store new : StoreView) (trail : TrailView) (keeper : Seat Event View) (session : IsSession id base store trail keeper) (call : Call) (reply : Reply) (serves : Serves store call reply new) where
-  admitted_after : Admits (state_after id.begin trail.log) call reply
-  admitted_after = subst (λ (s : State). Admits s call reply) session.state serves.admitted
+pub keeps_base : (id : SessionId) (base : ℕ) (call : Call) → base ≡ base_of id.begin → call ≢ Release base → Called call ≢ Called (Release (base_of id.begin))
+keeps_base id base call number free same = free (ap call_in same ∙ ap Release (sym number))
 
-  allowed_after : IsBacked id.begin.store → Allows (state_after id.begin trail.log) call reply
-  allowed_after began = subst (λ (s : State). Allows s call reply) session.state (serves.allowed (session.backed began))
+-- a session that begins
+pub session_begun : (id : SessionId) (base : ℕ) (store : StoreView) (log : List Event) → log ≡ [] → IsPinned id.begin base store → IsSession id base store log
+session_begun id base store log none pinned = subst (IsSession id base store) (sym none) record {
+  number = pinned.number;
+  legal = legal_none id.begin pinned.could;
+  machine = pinned.machine;
+  backed = pinned.backed;
+  room = zero-le;
+}
 
-  module _ (made : reply ≢ Refused NoMemory) (free : call ≢ Release base) (number : ℕ) (e : Event) (is : e ≡ event number (Called call) reply) where
-    legal_after : IsLegal id.begin (trail.log ++ e ∷ [])
-    legal_after = subst (λ (x : Event). IsLegal id.begin (trail.log ++ x ∷ [])) (sym is) (legal_more id.begin trail.log (event number (Called call) reply) session.legal admitted_after allowed_after made (λ same. free (ap call_in same ∙ ap Release (sym session.number))))
-
-    state_entered : new.state ≡ state_after id.begin (trail.log ++ e ∷ [])
-    state_entered =
-        serves.state ∙ ap (λ (s : State). next s call reply) session.state
-        ∙ sym (state_after-more id.begin trail.log (event number (Called call) reply))
-        ∙ ap (λ (x : Event). state_after id.begin (trail.log ++ x ∷ [])) (sym is)
-
-    log_is : (keeper_of keeper).log ≡ trail.log
-    log_is = log_of_pass id trail.log keeper session.pass
-
-    -- the history with the entry is legal
-    pub legal_entered : IsLegal id.begin ((keeper_of keeper).log ++ e ∷ [])
-    legal_entered = subst (λ (l : List Event). IsLegal id.begin (l ++ e ∷ [])) (sym log_is) legal_after
-
-    -- what the store tells after the call are the numbers of that history
-    pub numbers_entered : (count batches synced : ℕ) → count ≡ length trail.log → batches ≡ batch_count new.state.points → synced ≡ new.state.points.synced
-        → record { calls = count + 1; batches = batches; synced = synced } ≡ numbers id.begin ((keeper_of keeper).log ++ e ∷ [])
-    numbers_entered count batches synced counted told held =
-        let calls : count + 1 ≡ length (trail.log ++ e ∷ []) = omega (arith, counted, length-append trail.log (e ∷ [])) in
-        let n = length (trail.log ++ e ∷ []) in
-        let numbers_of : ℕ → ℕ → ℕ → Numbers = λ c b s. record { calls = c; batches = b; synced = s } in
-        ap (λ (c : ℕ). numbers_of c batches synced) calls
-        ∙ ap (λ (x : ℕ). numbers_of n x synced) told
-        ∙ ap (λ (x : ℕ). numbers_of n (batch_count new.state.points) x) held
-        ∙ ap (numbers_at n) state_entered
-        ∙ ap (λ (l : List Event). numbers id.begin (l ++ e ∷ [])) (sym log_is)
-
-    -- the session after the call
-    pub session_entered : (trail' : TrailView) (keeper' : Seat Event View) → length trail.log < trail.limit
-        → trail' ≡ record { log = trail.log ++ e ∷ []; limit = trail.limit }
-        → IsKeeperPass id ((keeper_of keeper).log ++ e ∷ []) keeper' → (keeper_of keeper').dealt ≡ (keeper_of keeper).dealt
-        → IsSession id base new trail' keeper'
-    session_entered trail' keeper' room pushed pass dealt = subst (λ (t : TrailView). IsSession id base new t keeper') (sym pushed) record {
-      number = session.number;
-      pass = subst (λ (l : List Event). IsKeeperPass id (l ++ e ∷ []) keeper') log_is pass;
-      dealt = dealt ∙ session.dealt;
-      legal = legal_after;
-      state = state_entered;
-      backed = λ began. serves.backed (session.backed began);
-      limit = session.limit;
-      room = omega (arith, length-append trail.log (e ∷ []));
-    }
-
-    -- what the call did
-    made_by : (c me d : Known) (answer : Reply) (trail' : TrailView) → Finds id (record { store = store; log = trail.log }) c → me ≡ known id.begin c.number trail.log c.mine
-        → length trail.log < trail.limit → answer ≡ reply → number ≡ me.number
-        → trail' ≡ record { log = trail.log ++ e ∷ []; limit = trail.limit }
-        → d ≡ known id.begin me.number ((keeper_of keeper).log ++ e ∷ []) (me.mine ++ e ∷ [])
-        → IsMade id (record { store = store; log = trail.log }) c call answer (record { store = new; log = trail'.log }) d
-    made_by c me d answer trail' finds sees room same by pushed client =
-        let entered : e ≡ event c.number (Called call) answer = is ∙ (ap (λ (n : ℕ). event n (Called call) reply) (by ∙ ap (λ (k : Known). k.number) sees) ∙ ap (event c.number (Called call)) (sym same)) in
-        let log' : trail'.log ≡ trail.log ++ e ∷ [] = ap (λ (t : TrailView). t.log) pushed in
-        record {
-          finds = finds;
-          room = omega (arith, session.limit);
-          serves = subst (λ (r : Reply). Serves store call r new) (sym same) serves;
-          log = log' ∙ ap (λ (x : Event). trail.log ++ x ∷ []) entered;
-          legal = subst (IsLegal id.begin) (sym log') legal_after;
-          state = state_entered ∙ ap (state_after id.begin) (sym log');
-          client =
-              client
-              ∙ ap (λ (k : Known). known id.begin k.number ((keeper_of keeper).log ++ e ∷ []) (k.mine ++ e ∷ [])) sees
-              ∙ ap (λ (l : List Event). known id.begin c.number l (c.mine ++ e ∷ [])) (ap (λ (l : List Event). l ++ e ∷ []) log_is ∙ sym log')
-              ∙ ap (λ (x : Event). known id.begin c.number trail'.log (c.mine ++ x ∷ [])) entered;
-        }
-
-    -- and so it did it to what contracts see
-    pub made_to : (old : SessionView) (was : record { store = store; log = trail.log } ≡ old) (c me d : Known) (answer : Reply) (trail' : TrailView) → Finds id old c → me ≡ known id.begin c.number old.log c.mine
-        → length trail.log < trail.limit → answer ≡ reply → number ≡ me.number
-        → trail' ≡ record { log = trail.log ++ e ∷ []; limit = trail.limit }
-        → d ≡ known id.begin me.number ((keeper_of keeper).log ++ e ∷ []) (me.mine ++ e ∷ [])
-        → IsMade id old c call answer (record { store = new; log = trail'.log }) d
-    made_to old was c me d answer trail' finds sees room same by pushed client =
-        subst (λ (v : SessionView). Finds id v c → me ≡ known id.begin c.number v.log c.mine → IsMade id v c call answer (record { store = new; log = trail'.log }) d) was
-        (λ found shown. made_by c me d answer trail' found shown room same by pushed client) finds sees
-
-  -- where memory was short, the session is as it was
-  module _ (short : IsLost reply) where
-    same_state : new.state ≡ store.state
-    same_state = serves.state ∙ (lost store.state call reply serves.admitted short).0
-
-    pub session_kept : IsSession id base new trail keeper
-    session_kept = record {
-      number = session.number;
-      pass = session.pass;
-      dealt = session.dealt;
-      legal = session.legal;
-      state = same_state ∙ session.state;
-      backed = λ began. serves.backed (session.backed began);
-      limit = session.limit;
-      room = session.room;
-    }
-
-    pub short_to : (old : SessionView) (was : record { store = store; log = trail.log } ≡ old) (c d : Known) → Finds id old c → d ≡ known id.begin c.number old.log c.mine
-        → length trail.log < trail.limit → IsRefused id old c call NoMemory (record { store = new; log = trail.log }) d
-    short_to old was c d finds sees room =
-        subst (λ (v : SessionView). Finds id v c → d ≡ known id.begin c.number v.log c.mine → IsShort id v c call (record { store = new; log = trail.log }) d) was
-        (λ found shown. record {
-          finds = found;
-          room = omega (arith, session.limit);
-          admitted = (lost store.state call reply serves.admitted short).1;
-          allowed = λ began. lost_allowed store.state call reply (serves.allowed (session.backed began)) short;
-          reply = reply;
-          lost = short;
-          serves = serves;
-          same_log = refl;
-          same_state = same_state;
-          client = shown;
-        }) finds sees
+-- an entry with an equal reply
+pub told_alike : (id : SessionId) (old new : SessionView) (c d : Known) (step : Step) (reply answer : Reply) (n : ℕ) (m : Machine) → answer ≡ reply → EntersOne id old c (event c.number step reply n m) new d → EntersOne id old c (event c.number step answer n m) new d
+told_alike id old new c d step reply answer n m is e = subst (λ (r : Reply). EntersOne id old c (event c.number step r n m) new d) (sym is) e
 
 -- a place is left where the trail isn't full
 pub place_left : (n limit : ℕ) (full : Bool) → full ≡ (n == limit) → full ≡ false → n ≤ limit → n < limit
 place_left n limit full is not le = grind (arith, nat_tests)
+
+pub none_left : (n limit : ℕ) (full : Bool) → full ≡ (n == limit) → full ≡ true → n ≡ limit
+none_left n limit full is so = grind (arith, nat_tests)
 
 -- a property of a result whose error is known
 pub refused_with : {T : Type 0} (res : Result T Refusal) (e f : Refusal) (P : Refusal → Type 0) → IsErrAnd res (λ x. x ≡ e) → e ≡ f → P f → IfErr res P
 refused_with (Ok x) e f P is known p = tt
 refused_with (Err x) e f P is known p = subst P (sym (is ∙ known)) p
 
--- what a call tells a client, from what its hold did
-extends : (id : SessionId) (old new : SessionView) (c d : Known) (call : Call) (reply : Reply) → IsMade id old c call reply new d → Extends c call reply d
-extends id old new c d call reply m =
-    let e = event c.number (Called call) reply in
-    subst (Extends c call reply) (sym m.client) record {
-      begin = sym m.finds.begin;
-      number = refl;
-      between = m.finds.seen.0;
-      seen = m.log ∙ ap (λ (l : List Event). l ++ e ∷ []) (sym m.finds.seen.1);
-      mine = refl;
-      legal = m.legal;
-      own = ap (calls_by c.number) m.log ∙ (calls_by-mine c.number old.log e refl ∙ ap (λ (l : List Event). l ++ e ∷ []) m.finds.own);
-      room = omega (arith, m.room, ap length m.log, length-append old.log (e ∷ []));
+pub denied_with : {T : Type 0} (res : Result T Refusal) (e f : Refusal) (P : T → Type 0) (Q : Refusal → Type 0) → IsErrAnd res (λ x. x ≡ e) → e ≡ f → Q f → MatchResult res P Q
+denied_with (Ok x) e f P Q is known q = absurd is
+denied_with (Err x) e f P Q is known q = subst Q (sym (is ∙ known)) q
+
+-- ---- entries one after another
+
+pub enters_join : (id : SessionId) (old mid new : SessionView) (c d f : Known) (xs ys : List Event) → Enters id old c xs mid d → Enters id mid d ys new f → Enters id old c (xs ++ ys) new f
+enters_join id old mid new c d f xs ys one two =
+    let number : d.number ≡ c.number = ap (λ (k : Known). k.number) one.client in
+    let mine : d.mine ≡ c.mine ++ xs = ap (λ (k : Known). k.mine) one.client in
+    record {
+      finds = one.finds;
+      log = two.log ∙ ap (λ (l : List Event). l ++ ys) one.log ∙ append_assoc old.log xs ys;
+      legal = two.legal;
+      machine = two.machine;
+      backed = two.backed;
+      room = two.room;
+      own = ap (λ (n : ℕ). entries_by n new.log) (sym number) ∙ two.own ∙ ap (λ (l : List Event). l ++ ys) mine ∙ append_assoc c.mine xs ys;
+      client = two.client ∙ (λ i. known id.begin (number i) new.log (mine i ++ ys)) ∙ ap (known id.begin c.number new.log) (append_assoc c.mine xs ys);
     }
 
-module _ (id : SessionId) (old : SessionView) (c d : Known) (finds : Finds id old c) (is : d ≡ known id.begin c.number old.log c.mine) (room : length old.log ≤ id.begin.limit) where
-  sees : Sees c d
-  sees = subst (Sees c) (sym is) record { begin = sym finds.begin; number = refl; seen = finds.seen; mine = refl; legal = finds.legal; own = finds.own; room = room }
+-- a client that made entries has seen them
+pub seen_then : (id : SessionId) (old new : SessionView) (c d : Known) (xs : List Event) → Enters id old c xs new d → HasSeen id new d
+seen_then id old new c d xs e = subst (HasSeen id new) (sym e.client) record {
+  finds = record { legal = e.legal; machine = e.machine; backed = e.backed; room = e.room; knows = record { begin = refl; seen = prefix_self new.log; own = e.own } };
+  all = refl;
+}
 
-  -- a client that is denied a call has seen the history behind which it is
-  denied : (call : Call) (e : Refusal) → Denies id.begin old.log call e → IsNoCall c call e d
-  denied call e why = (sees, subst (λ (k : Known). Denies k.begin k.seen call e) (sym is) why)
-
-no_call : (id : SessionId) (old new : SessionView) (c d : Known) (call : Call) (e : Refusal) → IsRefused id old c call e new d → IsNoCall c call e d
-no_call id old new c d call TrailFull r = denied id old c d r.finds r.client (omega (arith, r.full)) call TrailFull r.full
-no_call id old new c d call NotYours r = denied id old c d r.finds r.client (omega (arith, r.room)) call NotYours (r.room, r.releases)
-no_call id old new c d call NoMemory r = denied id old c d r.finds r.client (omega (arith, r.room)) call NoMemory (r.room, subst (λ (s : State). Admits s call (Refused NoMemory)) r.finds.state r.admitted, λ began. subst (λ (s : State). Allows s call (Refused NoMemory)) r.finds.state (r.allowed began))
-no_call id old new c d call e r = absurd r
-
-pub tells_made : {T : Type 0} (res : Result T Refusal) (f : T → Reply) (id : SessionId) (old new : SessionView) (c d : Known) (call : Call) → IfOk res (λ r. IsMade id old c call (f r) new d) → IfOk res (λ r. Extends c call (f r) d)
-tells_made (Ok r) f id old new c d call made = extends id old new c d call (f r) made
-tells_made (Err e) f id old new c d call made = tt
-
-pub tells_refused : {T : Type 0} (res : Result T Refusal) (id : SessionId) (old new : SessionView) (c d : Known) (call : Call) → IfErr res (λ e. IsRefused id old c call e new d) → IfErr res (λ e. IsNoCall c call e d)
-tells_refused (Ok r) id old new c d call refused = tt
-tells_refused (Err e) id old new c d call refused = no_call id old new c d call e refused
+-- entries of a client that was shown the history first are entries behind what it had seen before
+pub shown_before : (id : SessionId) (old new : SessionView) (c d f : Known) (xs : List Event) → Finds id old c → d ≡ known id.begin c.number old.log c.mine → Enters id old d xs new f → Enters id old c xs new f
+shown_before id old new c d f xs finds is e =
+    let number : d.number ≡ c.number = ap (λ (k : Known). k.number) is in
+    let mine : d.mine ≡ c.mine = ap (λ (k : Known). k.mine) is in
+    record {
+      finds = finds;
+      log = e.log;
+      legal = e.legal;
+      machine = e.machine;
+      backed = e.backed;
+      room = e.room;
+      own = ap (λ (n : ℕ). entries_by n new.log) (sym number) ∙ e.own ∙ ap (λ (l : List Event). l ++ xs) mine;
+      client = e.client ∙ (λ i. known id.begin (number i) new.log (mine i ++ xs));
+    }

@@ -1,5 +1,11 @@
 pub mod Bases
+mod Bringing
 pub mod Counting
 pub mod Crashes
 pub mod Holds
+pub mod Keeping
+pub mod Lending
+pub mod Telling
+pub mod Turning
+pub mod OwnWork
 pub mod Endings

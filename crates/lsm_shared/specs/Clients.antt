@@ -6,23 +6,26 @@ use Rattle.lsm_device.specs.declared.refusal.Refusal.TheVariants.{NoMemory, Trai
 use Rattle.lsm_store.specs.Backing.{IsBacked}
 use Rattle.lsm_store.specs.Calls.{Call, Reply}
 use Rattle.lsm_store.specs.Calls.{Release, Refused}
-use Rattle.lsm_store.specs.Machine.{Called}
+use Rattle.lsm_store.specs.Machine.{Machine}
 use Rattle.lsm_store.specs.Run.{Allows, Admits}
 use Rattle.lsm_trail.specs.Begins.{Begin, base_of}
-use Rattle.lsm_trail.specs.History.{Event, event, IsLegal, state_after, calls_by}
+use Rattle.lsm_trail.specs.History.{Event, called, IsLegal, state_after, entries_by}
 use Rattle.lsm_trail.specs.Knowledge.{Known, Sees, known}
 
--- A client made this call. There is one legal history: all that the client had seen, calls of others, and this call with
--- this reply. It has just the calls that the client made, each once.
-pub record Extends (c : Known) (call : Call) (reply : Reply) (d : Known) : Type 0 where
+-- A client made these entries, in one hold of the lock. There is one legal history: all that the client had seen, entries of
+-- others, and these. It has just the entries that the client made, each once.
+pub record Adds (c : Known) (others entries : List Event) (d : Known) : Type 0 where
   pub begin : d.begin ≡ c.begin
   pub number : d.number ≡ c.number
-  pub between : List Event
-  pub seen : d.seen ≡ (c.seen ++ between) ++ event c.number (Called call) reply ∷ []
-  pub mine : d.mine ≡ c.mine ++ event c.number (Called call) reply ∷ []
+  pub seen : d.seen ≡ (c.seen ++ others) ++ entries
+  pub mine : d.mine ≡ c.mine ++ entries
   pub legal : IsLegal d.begin d.seen
-  pub own : calls_by d.number d.seen ≡ d.mine
+  pub own : entries_by d.number d.seen ≡ d.mine
   pub room : length d.seen ≤ d.begin.limit
+
+-- A client made this call, and was replied this: the history ends with it.
+abbrev pub MakesCall : Known → Call → Reply → Known → Type 0
+MakesCall c call reply d = (others : List Event) × (machine : Machine) × Adds c others (called c.number call reply machine ∷ []) d
 
 -- Why a call is no entry behind a history: the trail is full; or it has a place, and the call is to release the base, or
 -- there was no memory for a call that takes some, and that the state doesn't refuse: a look-up takes some where the state
@@ -42,15 +45,15 @@ abbrev pub newcomers : Begin → ℕ → List Known
 newcomers b zero = []
 newcomers b (suc n) = newcomers b n ++ known b n [] [] ∷ []
 
--- the history begins with what each of these clients had seen, and has just the calls that it made, in order
+-- the history begins with what each of these clients had seen, and has just the entries that it made, in order
 abbrev pub Told : List Event → List Known → Type 0
 Told log [] = Unit {0}
-Told log (c ∷ cs) = IsPrefix c.seen log × (calls_by c.number log ≡ c.mine) × Told log cs
+Told log (c ∷ cs) = IsPrefix c.seen log × (entries_by c.number log ≡ c.mine) × Told log cs
 
--- how many calls they made in all
-abbrev pub calls_made : List Known → ℕ
-calls_made [] = 0
-calls_made (c ∷ cs) = length c.mine + calls_made cs
+-- how many entries they made in all
+abbrev pub entries_made : List Known → ℕ
+entries_made [] = 0
+entries_made (c ∷ cs) = length c.mine + entries_made cs
 
 -- whether one of the clients has this number
 abbrev pub has_client : ℕ → List Known → Bool

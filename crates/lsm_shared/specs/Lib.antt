@@ -1,2 +1,5 @@
 pub mod Clients
+pub mod Holds
+pub mod Pieces
 pub mod Sessions
+pub mod Turns

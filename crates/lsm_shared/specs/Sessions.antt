@@ -1,22 +1,25 @@
--- Sessions: the value behind the lock, how it begins and how it ends.
-use Rattle.std.specs.Prelude.{◌≡◌, ℕ, ◌<◌, ◌≤◌, nat_lt, ◌||◌, ◌==◌, Bool, is_some, if◌then◌else◌, List, [], ◌∷◌, ◌++◌, length, Option, Some}
+-- Sessions: the value behind the lock, what a hold of the lock does, how a session begins and how it ends.
+use Rattle.std.specs.Prelude.{◌≡◌, ℕ, ◌<◌, ◌≤◌, nat_lt, ◌||◌, ◌==◌, Bool, is_some, IsNone, if◌then◌else◌, List, [], ◌∷◌, ◌++◌, length, Option, Some}
 use mathlib.Core.List.{IsPrefix}
 use Rattle.atomic_table.specs.declared.shared.Seat.{Seat}
 use Rattle.lsm_device.specs.declared.refusal.Refusal.{Refusal}
 use Rattle.lsm_device.specs.declared.refusal.Refusal.TheVariants.{NoMemory, Stopped, TrailFull, NotYours, BadLimit, TooManyClients}
-use Rattle.lsm_store.specs.Backing.{StoreView, IsBacked}
+use Rattle.lsm_store.specs.Backing.{StoreView, machine_of, IsBacked}
 use Rattle.lsm_store.specs.Calls.{Call, Reply}
 use Rattle.lsm_store.specs.Calls.{Snapshot, Release, Refused, Value, Rows}
 use Rattle.lsm_store.specs.Effects.{after}
+use Rattle.lsm_store.specs.Machine.{Machine}
 use Rattle.lsm_store.specs.Refusals.{refusals, first_refusal}
-use Rattle.lsm_store.specs.Machine.{Called}
 use Rattle.lsm_store.specs.Run.{Allows, Admits}
 use Rattle.lsm_store.specs.Serving.{Serves}
 use Rattle.lsm_store.specs.State.{State}
-use Rattle.lsm_trail.specs.Begins.{Begin, base_of, first_state, CanPin}
-use Rattle.lsm_trail.specs.History.{Event, event, IsLegal, state_after, calls_by, TrailView}
+use Rattle.lsm_store.specs.Working.{ServesStep}
+use Rattle.lsm_trail.specs.Begins.{Begin, base_of, first_machine, CanPin}
+use Rattle.lsm_trail.specs.History.{Event, called, inputs_of, calls_in, IsLegal, machine_after, state_after, entries_by, TrailView}
 use Rattle.lsm_trail.specs.Knowledge.{SessionId, Known, View, known, keeper_of, IsKeeperPass}
-use Rattle.lsm_shared.specs.Clients.{Told, calls_made}
+use Rattle.lsm_shared.specs.Clients.{Told, entries_made}
+
+-- ---- a begin
 
 -- the refusals of a begin in their order, each with its condition; the last are those of a snapshot, the base
 abbrev pub begin_refusals : State → ℕ → ℕ → List (Bool × Refusal)
@@ -34,41 +37,85 @@ begin_refusal s clients limit = first_refusal (begin_refusals s clients limit)
 abbrev pub begin_with : StoreView → ℕ → ℕ → Begin
 begin_with store clients limit = record { store = store; limit = limit; clients = clients }
 
--- The base is pinned: this is its number, and the store is in the state in which the history begins, which the device
--- backs where it did at the begin.
+-- The base is pinned: this is its number, and the store is the machine in which the history begins, which the device backs
+-- where it did at the begin.
 pub record IsPinned (b : Begin) (base : ℕ) (store : StoreView) : Type 0 where
   pub could : CanPin b
   pub number : base ≡ base_of b
-  pub state : store.state ≡ first_state b
+  pub machine : machine_of store ≡ first_machine b
   pub backed : IsBacked b.store → IsBacked store
+
+-- ---- the value behind the lock
 
 -- What contracts see of the value behind the lock: the store, and the history.
 pub record SessionView : Type 0 where
   pub store : StoreView
   pub log : List Event
 
--- What holds of the value behind the lock whenever the lock is free: it knows the number of the base, the trail is one legal
--- history from the begin, the lock's pass has just that history, so that the words tell its numbers, and the store is in the
--- state after it, which the device backs where it did at the begin.
-pub record IsSession (id : SessionId) (base : ℕ) (store : StoreView) (trail : TrailView) (keeper : Seat Event View) : Type 0 where
-  pub number : base ≡ base_of id.begin
+-- What holds of the history that it keeps: the trail is one legal history from the begin, the lock's pass has just that history,
+-- so that the words tell its numbers, and so many of its entries are calls, and builds that were lent an input.
+pub record IsHistory (id : SessionId) (trail : TrailView) (keeper : Seat Event View) (calls builds : ℕ) : Type 0 where
   pub pass : IsKeeperPass id trail.log keeper
   pub dealt : (keeper_of keeper).dealt ≡ id.begin.clients
   pub legal : IsLegal id.begin trail.log
-  pub state : store.state ≡ state_after id.begin trail.log
-  pub backed : IsBacked id.begin.store → IsBacked store
   pub limit : trail.limit ≡ id.begin.limit
   pub room : length trail.log ≤ trail.limit
+  pub small : trail.limit ≤ 65536
+  pub calls_are : calls ≡ calls_in trail.log
+  pub builds_are : builds ≡ length (inputs_of trail.log)
 
--- What a hold of the lock finds: one legal history, and the store in the state after it, which the device backs where it
--- did at the begin. What the client knew of the history is true.
+-- What holds of it whenever the lock is free: it knows the number of the base, the history is legal, and the store is the
+-- machine after it, which the device backs where it did at the begin.
+pub record IsSession (id : SessionId) (base : ℕ) (store : StoreView) (log : List Event) : Type 0 where
+  pub number : base ≡ base_of id.begin
+  pub legal : IsLegal id.begin log
+  pub machine : machine_of store ≡ machine_after id.begin log
+  pub backed : IsBacked id.begin.store → IsBacked store
+  pub room : length log ≤ id.begin.limit
+
+-- ---- what a hold of the lock does
+
+-- What a client knew of this history is true.
+pub record Knows (b : Begin) (log : List Event) (c : Known) : Type 0 where
+  pub begin : c.begin ≡ b
+  pub seen : IsPrefix c.seen log
+  pub own : entries_by c.number log ≡ c.mine
+
+-- What a hold of the lock finds: one legal history, and the store is the machine after it, which the device backs where it did at
+-- the begin. What the client knew of the history is true.
 pub record Finds (id : SessionId) (old : SessionView) (c : Known) : Type 0 where
   pub legal : IsLegal id.begin old.log
-  pub state : old.store.state ≡ state_after id.begin old.log
+  pub machine : machine_of old.store ≡ machine_after id.begin old.log
   pub backed : IsBacked id.begin.store → IsBacked old.store
-  pub begin : c.begin ≡ id.begin
-  pub seen : IsPrefix c.seen old.log
-  pub own : calls_by c.number old.log ≡ c.mine
+  pub room : length old.log ≤ id.begin.limit
+  pub knows : Knows id.begin old.log c
+
+-- So it is, and the client has seen all of the history.
+pub record HasSeen (id : SessionId) (old : SessionView) (c : Known) : Type 0 where
+  pub finds : Finds id old c
+  pub all : c.seen ≡ old.log
+
+-- A hold of the lock made these entries of the client: the history is longer by just them, the store is the machine after it,
+-- and the client has seen it.
+pub record Enters (id : SessionId) (old : SessionView) (c : Known) (entries : List Event) (new : SessionView) (d : Known) : Type 0 where
+  pub finds : Finds id old c
+  pub log : new.log ≡ old.log ++ entries
+  pub legal : IsLegal id.begin new.log
+  pub machine : machine_of new.store ≡ machine_after id.begin new.log
+  pub backed : IsBacked id.begin.store → IsBacked new.store
+  pub room : length new.log ≤ id.begin.limit
+  pub own : entries_by c.number new.log ≡ c.mine ++ entries
+  pub client : d ≡ known id.begin c.number new.log (c.mine ++ entries)
+
+-- It made one entry: the store served its step, and is the machine after it.
+pub record EntersOne (id : SessionId) (old : SessionView) (c : Known) (e : Event) (new : SessionView) (d : Known) : Type 0 where
+  pub enters : Enters id old c (e ∷ []) new d
+  pub serves : ServesStep old.store e.step e.reply new.store
+  pub machine : e.machine ≡ machine_of new.store
+
+-- One hold of the lock made this call of the client.
+abbrev pub IsMade : SessionId → SessionView → Known → Call → Reply → SessionView → Known → Type 0
+IsMade id old c call reply new d = EntersOne id old c (called c.number call reply (machine_of new.store)) new d
 
 -- a reply for which memory was short: the store's, or a value or a page of which there is no second copy
 abbrev pub IsLost : Reply → Type 0
@@ -77,51 +124,38 @@ IsLost (Value (Some value)) = Unit {0}
 IsLost (Rows page) = Unit {0}
 IsLost other = ⊥
 
--- One hold of the lock made this call of the client, and entered it.
-pub record IsMade (id : SessionId) (old : SessionView) (c : Known) (call : Call) (reply : Reply) (new : SessionView) (d : Known) : Type 0 where
-  pub finds : Finds id old c
-  pub room : length old.log < id.begin.limit
-  pub serves : Serves old.store call reply new.store
-  pub log : new.log ≡ old.log ++ event c.number (Called call) reply ∷ []
-  pub legal : IsLegal id.begin new.log
-  pub state : new.store.state ≡ state_after id.begin new.log
-  pub client : d ≡ known id.begin c.number new.log (c.mine ++ event c.number (Called call) reply ∷ [])
-
--- One hold of the lock made no call: the trail is full. All is as it was, but that the client has seen the history.
+-- One hold of the lock made no entry: the trail is full. All is as it was, but that the client has seen the history.
 pub record IsFull (id : SessionId) (old : SessionView) (c : Known) (new : SessionView) (d : Known) : Type 0 where
-  pub finds : Finds id old c
+  pub enters : Enters id old c [] new d
   pub full : length old.log ≡ id.begin.limit
   pub same : new ≡ old
-  pub client : d ≡ known id.begin c.number old.log c.mine
 
 -- One hold of the lock made no call: it was to release the base, and the trail has a place for another entry. All is as it
 -- was, but that the client has seen the history.
 pub record IsReserved (id : SessionId) (old : SessionView) (c : Known) (call : Call) (new : SessionView) (d : Known) : Type 0 where
-  pub finds : Finds id old c
+  pub enters : Enters id old c [] new d
   pub room : length old.log < id.begin.limit
   pub releases : call ≡ Release (base_of id.begin)
   pub same : new ≡ old
-  pub client : d ≡ known id.begin c.number old.log c.mine
 
--- One hold of the lock found no memory, in the store or for a second copy of its reply. The history and the state are as
+-- One hold of the lock found no memory, in the store or for a second copy of its reply. The history and the machine are as
 -- they were, and the client has seen the history.
 pub record IsShort (id : SessionId) (old : SessionView) (c : Known) (call : Call) (new : SessionView) (d : Known) : Type 0 where
-  pub finds : Finds id old c
+  pub enters : Enters id old c [] new d
   pub room : length old.log < id.begin.limit
   pub admitted : Admits old.store.state call (Refused NoMemory)
   pub allowed : IsBacked id.begin.store → Allows old.store.state call (Refused NoMemory)
   pub reply : Reply
   pub lost : IsLost reply
   pub serves : Serves old.store call reply new.store
-  pub same_log : new.log ≡ old.log
-  pub same_state : new.store.state ≡ old.store.state
-  pub client : d ≡ known id.begin c.number old.log c.mine
 
 abbrev pub IsRefused : SessionId → SessionView → Known → Call → Refusal → SessionView → Known → Type 0
 IsRefused id old c call TrailFull new d = IsFull id old c new d
 IsRefused id old c call NotYours new d = IsReserved id old c call new d
 IsRefused id old c call NoMemory new d = IsShort id old c call new d
 IsRefused id old c call other new d = ⊥
+
+-- ---- an end
 
 -- a state with this snapshot released; a stopped store keeps it
 abbrev pub released : ℕ → State → State
@@ -132,14 +166,15 @@ abbrev pub ended_state : Begin → List Event → State
 ended_state b log = released (base_of b) (state_after b log)
 
 -- A session has ended: the trail is a legal history from its begin, which begins with what each client had seen and has just
--- the calls that it made, with the places that it began with, and the store is in the state after it with the base released,
--- which the device backs where it did at the begin.
+-- the entries that it made, with the places that it began with, and the store is in the state after it with the base released,
+-- with the work after it while it runs, which the device backs where it did at the begin.
 pub record IsEnded (b : Begin) (clients : List Known) (store : StoreView) (trail : TrailView) : Type 0 where
   pub legal : IsLegal b trail.log
   pub state : store.state ≡ ended_state b trail.log
+  pub work : IsNone store.state.stopped → store.work ≡ (machine_after b trail.log).work
   pub backed : IsBacked b.store → IsBacked store
   pub told : Told trail.log clients
-  pub count : length trail.log ≡ calls_made clients
-  pub strangers : (client : ℕ) → b.clients ≤ client → calls_by client trail.log ≡ []
+  pub count : length trail.log ≡ entries_made clients
+  pub strangers : (client : ℕ) → b.clients ≤ client → entries_by client trail.log ≡ []
   pub room : length trail.log ≤ b.limit
   pub limit : trail.limit ≡ b.limit

@@ -1,13 +1,16 @@
 // The clients of a session.
-ghost use Rattle.std.specs.Prelude.{◌≡◌, [], IfOk, IfErr};
+ghost use Rattle.std.specs.Prelude.{◌≡◌, [], IfOk, IfErr, MatchResult};
 ghost use Rattle.lsm_lives.specs.Calls.{call_of, reply_of};
 ghost use Rattle.lsm_trail.specs.History.{numbers};
 ghost use Rattle.lsm_trail.specs.Knowledge.{known, Sees, known_of, IsClientPass};
-ghost use Rattle.lsm_shared.specs.Clients.{Extends, IsNoCall};
+ghost use Rattle.lsm_shared.specs.Clients.{MakesCall, IsNoCall};
+ghost use Rattle.lsm_shared.specs.Turns.{TakesTurn, IsNoTurn, HasLent, WasLent, Brings, IsNotBrought};
 
 use crate::shared::Shared;
+use crate::turn::Turn;
 use lsm_device::{Device, Refusal};
 use lsm_lives::{Call, Reply};
+use lsm_merge::Built;
 use lsm_trail::{Numbers, Pass, SessionName};
 use std::alloc::Allocator;
 use std::marker::{Model, PhantomData};
@@ -81,9 +84,55 @@ impl<A: Allocator + Clone, B: SessionName> Client<A, B> {
         shared: &Shared<D, A, B>,
         call: Call<A>,
     ) -> Result<Reply<A>, Refusal>
-        ensures made { IfOk result (λ reply. Extends self.old (call_of call) (reply_of reply) self.new) }
+        ensures made { IfOk result (λ reply. MakesCall self.old (call_of call) (reply_of reply) self.new) }
         ensures refused { IfErr result (λ e. IsNoCall self.old (call_of call) e self.new) }
     {
         shared.session.lock(rt).serve(&shared.counters, self, call)
+    }
+
+    /// Does the next piece of work on the jobs of the store, in one hold of the lock. The four slots of jobs are asked in turn,
+    /// from that of the client's number on: a free one takes a job, if one comes next, and for a held one the next data blocks
+    /// are read, the input is handed out to be built, the next blocks of outputs are written, or these are installed. An install
+    /// for which the levels have no room is entered, and the next slot is asked. With nothing to do, and where the store is
+    /// stopped, the client is idle, which is no entry.
+    ///
+    /// Nothing is merged here: whoever is handed an input builds the result with no lock in hand, and brings it.
+    ///
+    /// It is refused with `TrailFull` where the trail has no place for the next entry, and with `NoMemory`. What was entered
+    /// before stands.
+    pub fn turn<D: Device, R: Wait>(
+        &mut self,
+        rt: &R,
+        shared: &Shared<D, A, B>,
+    ) -> Result<Turn<A>, Refusal>
+        ensures taken { MatchResult result (λ turn. TakesTurn self.old turn self.new) (λ e. IsNoTurn self.old e self.new) }
+        // What was built of the input may be brought, then and later.
+        ensures lent { IfOk result (λ turn. HasLent turn self.new) }
+    {
+        shared.session.lock(rt).piece(&shared.counters, self)
+    }
+
+    /// Brings a result that was built of an input which a turn of this client handed out, in one hold of the lock. It is accepted
+    /// only where the job still waits for it. Where there is no room for its tables the job is given up in the same hold.
+    ///
+    /// It is refused with `TrailFull` where the trail has no place for the next entry, and with `NoMemory`. What was entered
+    /// before stands.
+    pub fn bring<D: Device, R: Wait>(
+        &mut self,
+        rt: &R,
+        shared: &Shared<D, A, B>,
+        job: u64,
+        number: u64,
+        built: &Built<A>,
+    ) -> Result<Reply<A>, Refusal>
+        requires { WasLent self.old.mine job number built.now.input }
+        ensures { MatchResult result
+            (λ reply. Brings self.old job number built.now (reply_of reply) self.new)
+            (λ e. IsNotBrought self.old job number built.now e self.new) }
+    {
+        shared
+            .session
+            .lock(rt)
+            .accept(&shared.counters, self, job, number, built)
     }
 }

@@ -1,6 +1,5 @@
 // Laws of sessions.
 ghost use Rattle.std.specs.Prelude.{◌≡◌, ℕ, List, ◌∷◌};
-ghost use Rattle.atomic_table.specs.declared.shared.Seat.{Seat};
 ghost use Rattle.lsm_device.specs.Medium.{disk};
 ghost use Rattle.lsm_device.specs.Outcomes.{Leaves};
 ghost use Rattle.lsm_open.specs.RecoveredTables.{StandForOne};
@@ -11,7 +10,7 @@ ghost use Rattle.lsm_store.specs.Machine.{Called};
 ghost use Rattle.lsm_store.specs.Run.{Run};
 ghost use Rattle.lsm_trail.specs.Begins.{Begin, base_of};
 ghost use Rattle.lsm_trail.specs.History.{Event, steps_of, replies_of, IsLegal, state_after, TrailView};
-ghost use Rattle.lsm_trail.specs.Knowledge.{SessionId, Known, View};
+ghost use Rattle.lsm_trail.specs.Knowledge.{SessionId, Known};
 ghost use Rattle.lsm_shared.specs.Sessions.{IsSession, IsEnded};
 
 /// What a crash may leave of a shared store, where its device backed it when the session began: whenever the lock is free,
@@ -20,8 +19,8 @@ ghost use Rattle.lsm_shared.specs.Sessions.{IsSession, IsEnded};
 /// A legal history, with the pinning of the base before it, is a run of the store from its begin, where the device backed it
 /// then: so the promise over crashes holds of it.
 pub fn trail_tells_what_a_crash_leaves()
-    ensures free { (id : SessionId) (base : ℕ) (store : StoreView) (trail : TrailView) (keeper : Seat Event View) → IsSession id base store trail keeper → IsBacked id.begin.store
-        → Leaves (StandForOne id.begin.store.state.log_sectors (may_leave (state_after id.begin trail.log))) (disk store.device) }
+    ensures free { (id : SessionId) (base : ℕ) (store : StoreView) (log : List Event) → IsSession id base store log → IsBacked id.begin.store
+        → Leaves (StandForOne id.begin.store.state.log_sectors (may_leave (state_after id.begin log))) (disk store.device) }
     ensures ended { (b : Begin) (clients : List Known) (store : StoreView) (trail : TrailView) → IsEnded b clients store trail → IsBacked b.store
         → Leaves (StandForOne b.store.state.log_sectors (may_leave (state_after b trail.log))) (disk store.device) }
     ensures run { (b : Begin) (log : List Event) → IsLegal b log → IsBacked b.store → Run (machine_of b.store) (Called Snapshot ∷ steps_of log) (Number (base_of b) ∷ replies_of log) }

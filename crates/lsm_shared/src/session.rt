@@ -1,31 +1,29 @@
 // The value behind the lock.
-ghost use Rattle.std.specs.Prelude.{◌≡◌, ◌≢◌, ℕ, ◌≤◌, [], length, IfOk, IfErr, MatchBool};
+ghost use Rattle.std.specs.Prelude.{◌≡◌, ◌≢◌, ℕ, ◌≤◌, [], length, IsNone, IfOk, IfErr, MatchBool};
 ghost use mathlib.Core.List.{IsPrefix};
 ghost use Rattle.lsm_lives.specs.Calls.{call_of, reply_of};
 ghost use Rattle.lsm_store.specs.Backing.{IsBacked};
 ghost use Rattle.lsm_store.specs.Calls.{Release};
-ghost use Rattle.lsm_trail.specs.History.{IsLegal, calls_by};
+ghost use Rattle.lsm_trail.specs.History.{machine_after, IsLegal, entries_by};
 ghost use Rattle.lsm_trail.specs.Knowledge.{known, keeper_of, IsKeeperPass};
 ghost use Rattle.lsm_shared.specs.Sessions.{IsPinned, Finds, IsMade, IsRefused, ended_state};
 
 use crate::answer::answer_of;
 use crate::client::Client;
+use crate::history::History;
 use lsm_device::{Device, Refusal};
 use lsm_lives::{Call, Reply, serve};
 use lsm_store::Store;
-use lsm_trail::{Counters, Entry, Numbers, Pass, SessionName, Trail};
+use lsm_trail::{Counters, Entry, Pass, SessionName, Trail};
 use std::alloc::Allocator;
-use std::marker::{Model, PhantomData};
+use std::marker::Model;
 
-/// The value behind the lock: the store, the number of the base, the trail, and the pass that writes the words. Contracts
-/// see the store and the history.
+/// The value behind the lock: the store, the number of the base, and the history. Contracts see the store and the history.
 #[derive(Drop)]
 pub struct Session<D: Device, A: Allocator, B: SessionName> {
-    store: Store<D, A>,
-    base: u64,
-    trail: Trail<A>,
-    keeper: Pass<A>,
-    name: PhantomData<B>,
+    pub(crate) store: Store<D, A>,
+    pub(crate) base: u64,
+    pub(crate) history: History<A, B>,
 }
 
 impl<D: Device, A: Allocator, B: SessionName> Model for Session<D, A, B> {
@@ -37,9 +35,9 @@ impl<D: Device, A: Allocator, B: SessionName> Model for Session<D, A, B> {
 
     ghost coded = { Prim.hlevel (codes, map_code) };
 
-    ghost view = { λ s. record { store = s.store; log = s.trail.log } };
+    ghost view = { λ s. record { store = s.store; log = s.history } };
 
-    ghost invariant = { λ s. IsSession B.id s.base s.store s.trail s.keeper };
+    ghost invariant = { λ s. IsSession B.id s.base s.store s.history };
 }
 
 impl<D: Device, A: Allocator, B: SessionName> Session<D, A, B> {
@@ -53,35 +51,34 @@ impl<D: Device, A: Allocator, B: SessionName> Session<D, A, B> {
         requires keeper { IsKeeperPass B.id [] keeper × ((keeper_of keeper).dealt ≡ B.id.begin.clients) }
         requires pinned { IsPinned B.id.begin base store }
         requires trail { trail ≡ record { log = []; limit = B.id.begin.limit } }
+        requires small { B.id.begin.limit ≤ 65536 }
         ensures { result ≡ record { store = store; log = [] } }
     {
+        let history = History::new(trail, keeper);
         Session {
             store,
             base,
-            trail,
-            keeper,
-            name: PhantomData,
+            history,
         }
     }
 
     // The client sees the history. What it knew of it is true.
-    fn show(&mut self, counters: &Counters<D, A, B>, client: &mut Client<A, B>)
+    pub(crate) fn show(&mut self, counters: &Counters<D, A, B>, client: &mut Client<A, B>)
         ensures same { self.new ≡ self.old }
         ensures finds { Finds B.id self.old client.old }
         ensures known { client.new ≡ known B.id.begin client.old.number self.old.log client.old.mine }
     {
-        counters.note(&mut self.keeper, &mut client.pass);
+        self.history.show(counters, client);
     }
 
-    // The client is no more. The trail begins with what it had seen, and its calls in it are those that it made.
+    // The client is no more. The trail begins with what it had seen, and its entries in it are those that it made.
     pub(crate) fn retire(&mut self, counters: &Counters<D, A, B>, client: Client<A, B>)
         ensures same { self.new ≡ self.old }
         ensures seen { IsPrefix client.seen self.old.log }
-        ensures calls { calls_by client.number self.old.log ≡ client.mine }
-        ensures strangers { (x : ℕ) → B.id.begin.clients ≤ x → calls_by x self.old.log ≡ [] }
+        ensures entries { entries_by client.number self.old.log ≡ client.mine }
+        ensures strangers { (x : ℕ) → B.id.begin.clients ≤ x → entries_by x self.old.log ≡ [] }
     {
-        let Client { pass, .. } = client;
-        counters.retire(&mut self.keeper, pass);
+        self.history.retire(counters, client);
     }
 
     // The store, which lets the base go unless it is stopped, and the trail.
@@ -89,18 +86,18 @@ impl<D: Device, A: Allocator, B: SessionName> Session<D, A, B> {
         ensures trail { result.1 ≡ record { log = self.log; limit = B.id.begin.limit } }
         ensures legal { IsLegal B.id.begin self.log }
         ensures state { result.0.state ≡ ended_state B.id.begin self.log }
+        ensures work { IsNone result.0.state.stopped → result.0.work ≡ (machine_after B.id.begin self.log).work }
         ensures backed { IsBacked B.id.begin.store → IsBacked result.0 }
         ensures room { length self.log ≤ B.id.begin.limit }
     {
         let Session {
             mut store,
             base,
-            trail,
-            ..
+            history,
         } = self;
         // The base is live, so only a stopped store refuses this.
         let _ = store.release(base);
-        (store, trail)
+        (store, history.into_trail())
     }
 }
 
@@ -116,7 +113,7 @@ impl<D: Device, A: Allocator + Clone, B: SessionName> Session<D, A, B> {
         ensures refused { IfErr result (λ e. IsRefused B.id self.old me.old (call_of call) e self.new me.new) }
     {
         self.show(counters, me);
-        if self.trail.is_full() {
+        if self.history.is_full() {
             return Err(Refusal::TrailFull);
         }
         if releases(&call, self.base) {
@@ -124,15 +121,8 @@ impl<D: Device, A: Allocator + Clone, B: SessionName> Session<D, A, B> {
         }
         let reply = serve(&mut self.store, &call);
         let answer = answer_of(&reply)?;
-        let entry = Entry::new(me.number, call, reply);
-        let count = self.trail.len();
-        let numbers = Numbers {
-            calls: count as u64 + 1,
-            batches: self.store.batch_count(),
-            synced: self.store.synced_count(),
-        };
-        counters.write(&mut self.keeper, &mut me.pass, count, numbers, &entry);
-        self.trail.push(entry);
+        let entry = Entry::of_call(me.number, call, reply, &self.store);
+        self.history.enter(counters, me, entry, &self.store);
         Ok(answer)
     }
 }

@@ -16,7 +16,7 @@ use lsm_trail::{Counters, Opened, Pass, SessionName, Trail};
 use std::alloc::{AllocError, Allocator};
 use std::sync::Mutex;
 
-/// A session: a store behind one lock, with one history of all calls.
+/// A session: a store behind one lock, with one history of all calls and pieces of work.
 pub struct Shared<D: Device, A: Allocator, B: SessionName> {
     pub(crate) counters: Counters<D, A, B>,
     pub(crate) session: Mutex<Session<D, A, B>>,

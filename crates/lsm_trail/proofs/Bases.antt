@@ -10,12 +10,12 @@ use Rattle.lsm_store.specs.Effects.{after, next_taken, without, Use, use_of}
 use Rattle.lsm_store.specs.Effects.{Untouched, Reads, Changes}
 use Rattle.lsm_store.specs.RecoveryPoints.{present_map, all_synced}
 use Rattle.lsm_store.specs.Machine.{Machine, Step, Called, Worked}
-use Rattle.lsm_store.specs.Run.{after_fault, next, next_machine, last_machine}
+use Rattle.lsm_store.specs.Run.{after_fault, next, next_machine}
 use Rattle.lsm_store.specs.State.{State, LiveSnapshot, snapshot_of, may_ask, map_at, map_of_snapshot}
 use Rattle.lsm_store.specs.declared.asked.At.TheVariants.{Snap}
 use Rattle.lsm_store.proofs.WorkReplies.{work_keeps}
 use Rattle.lsm_trail.specs.Begins.{Begin, base_of, first_machine}
-use Rattle.lsm_trail.specs.History.{Event, steps_of, replies_of, IsLegal, state_after}
+use Rattle.lsm_trail.specs.History.{Event, AreServed, machine_behind, IsLegal, state_after}
 
 module _ (n : ℕ) where
   abbrev found : List LiveSnapshot → Option LiveSnapshot
@@ -86,16 +86,18 @@ module _ (n : ℕ) where
     step_keeps m (Called call) reply other is = next_keeps m.state call reply (λ same. other (ap Called same)) is
     step_keeps m (Worked piece) reply other is = work_keeps (λ s. snapshot_of s n) (λ s o. refl) (λ flush s. refl) m piece reply ∙ is
 
-    history_keeps : (m : Machine) (log : List Event) → All (λ e. e.step ≢ Called (Release n)) log → snapshot_of m.state n ≡ Some x → snapshot_of (last_machine m (steps_of log) (replies_of log)).state n ≡ Some x
-    history_keeps m [] others is = is
-    history_keeps m (e ∷ log) others is = history_keeps (next_machine m e.step e.reply) log (All-tail (λ (x : Event). x.step ≢ Called (Release n)) e log others) (step_keeps m e.step e.reply (All-head (λ (x : Event). x.step ≢ Called (Release n)) e log others) is)
+    history_keeps : (m : Machine) (log : List Event) → AreServed m log → All (λ e. e.step ≢ Called (Release n)) log → snapshot_of m.state n ≡ Some x → snapshot_of (machine_behind m log).state n ≡ Some x
+    history_keeps m [] served others is = is
+    history_keeps m (e ∷ log) (may, goes, served) others is =
+        let kept = step_keeps m e.step e.reply (All-head (λ (x : Event). x.step ≢ Called (Release n)) e log others) is in
+        history_keeps e.machine log served (All-tail (λ (x : Event). x.step ≢ Called (Release n)) e log others) (ap (λ (s : State). snapshot_of s n) goes.state ∙ kept)
 
 -- the base, as it was pinned
 abbrev base : Begin → LiveSnapshot
 base b = next_taken b.store.state
 
 pub base_kept : (b : Begin) (log : List Event) → IsLegal b log → snapshot_of (state_after b log) (base_of b) ≡ Some (base b)
-base_kept b log legal = history_keeps (base_of b) (base b) (first_machine b) log legal.keeps_base (found_last (base_of b) (base b) b.store.state.snapshots legal.pinned.fresh refl)
+base_kept b log legal = history_keeps (base_of b) (base b) (first_machine b) log legal.served legal.keeps_base (found_last (base_of b) (base b) b.store.state.snapshots legal.pinned.fresh refl)
 
 pub base_live : (b : Begin) (log : List Event) → IsLegal b log → may_ask (state_after b log) (Snap (base_of b)) ≡ true
 base_live b log legal = ap is_some (base_kept b log legal)

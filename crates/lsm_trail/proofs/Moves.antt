@@ -10,13 +10,13 @@ use Rattle.atomic_table.specs.Table.{State, step, keeps, stepped, opening, Allow
 use Rattle.atomic_table.proofs.Lists.{at_set, set_again}
 use Rattle.lsm_store.specs.RecoveryPoints.{batch_count}
 use Rattle.lsm_trail.specs.Begins.{Begin, CanPin}
-use Rattle.lsm_trail.specs.History.{Event, IsLegal, calls_by, numbers}
+use Rattle.lsm_trail.specs.History.{Event, IsLegal, entries_by, numbers}
 use Rattle.lsm_trail.specs.Knowledge.{Keeper, Known, Sees, View, known, keeping, view_of, nobody}
 use Rattle.lsm_trail.specs.Rule.{StandsAt, Drafted, FitsKeeper, FitsClient, Fits, Kept, first_view}
 use Rattle.lsm_trail.specs.Steps.{Puts, published, Publishes, Notes, Looks, Peeks, Compares, dealer, dealt_to}
 use Rattle.lsm_trail.specs.declared.numbers.Numbers.{Numbers}
 use Rattle.lsm_trail.proofs.Lists.{prefix_self, prefix_more, prefix_snoc, at_snoc_at, drafted_snoc, drafted_set, placed, placed_here, placed_else}
-use Rattle.lsm_trail.proofs.Histories.{calls_by-mine, calls_by-other, legal_none}
+use Rattle.lsm_trail.proofs.Histories.{entries_by-mine, entries_by-other, legal_none}
 
 abbrev St : Type 0
 St = State Event View
@@ -112,7 +112,7 @@ module _ (b : Begin) where
   others_client log e dealt seat id j None is apart f = tt
   others_client log e dealt seat id j (Some c) is apart f =
       let other : e.client ≢ c.number = λ same. apart (sym f.1 ∙ ap seat (sym same) ∙ is) in
-      (f.0, f.1, f.2, prefix_more c.seen log e f.3, calls_by-other c.number log e other ∙ f.4)
+      (f.0, f.1, f.2, prefix_more c.seen log e f.3, entries_by-other c.number log e other ∙ f.4)
 
   -- the row of the history with one entry more, from the draft
   new_row : (words : List ℕ) (log : List Event) (e : Event) (n : Numbers) → Drafted words (3 * length log + 4) (n.calls ∷ n.batches ∷ n.synced ∷ []) → StandsAt words (3 * length (log ++ e ∷ []) + 1) n
@@ -151,10 +151,10 @@ module _ (b : Begin) where
             (λ (q : seen ≡ log'). subst (λ (l : List Event). StandsAt words' (3 * length l + 1) (numbers b l)) (sym q)
             (row_count s.words (length k.log + 1) (3 * length log' + 1) (numbers b log') (omega arith) (new_row s.words r.log e n drafted)))
             (prefix_snoc seen r.log e p);
-        strangers = λ x far. calls_by-other x r.log e (λ same. let l : c.number < r.dealt = f.1.2 in omega (arith, by, same)) ∙ r.strangers x far;
+        strangers = λ x far. entries_by-other x r.log e (λ same. let l : c.number < r.dealt = f.1.2 in omega (arith, by, same)) ∙ r.strangers x far;
         fits = views_set (Fits b log' r.dealt r.writer r.seat words') s.views id (published k c e) (
           (f.0.0, f.0.1, now, f.0.3, tt),
-          (f.1.0, f.1.1, f.1.2, subst (λ (l : List Event). IsPrefix l log') (sym now) (prefix_self log'), calls_by-mine c.number r.log e by ∙ ap (λ l. l ++ e ∷ []) f.1.4),
+          (f.1.0, f.1.1, f.1.2, subst (λ (l : List Event). IsPrefix l log') (sym now) (prefix_self log'), entries_by-mine c.number r.log e by ∙ ap (λ l. l ++ e ∷ []) f.1.4),
         )
             (λ j u apart e'. let g = r.fits j u e' in (others_keeper r.log log' r.dealt r.dealt r.writer s.words words' j u.keeper (λ x. apart (x ∙ sym f.0.1)) g.0, others_client r.log e r.dealt r.seat id j u.client is apart g.1));
       }
@@ -173,7 +173,7 @@ module _ (b : Begin) where
         tt,
         subst (λ t. Kept b (stepped s 0 (either t (old + 1) (slice_index s.words 0)) id [] w keeps)) (sym (eq-eqb (slice_index s.words 0) old hit))
             (subst (λ (x : ℕ). Kept b (stepped s 0 x id [] w keeps)) next (publishes_on s r id k c e at by room legal draft)),
-        (refl, (refl, subst (IsPrefix c.seen) (sym same) f.1.3, ap (calls_by c.number) same ∙ f.1.4)),
+        (refl, (refl, subst (IsPrefix c.seen) (sym same) f.1.3, ap (entries_by c.number) same ∙ f.1.4)),
       )
 
   pub notes : (slots id : ℕ) (k : Keeper) (c : Known) → Allows (Kept b) slots id (view_of (Some k) (Some c), []) 0 (λ n. n) (Notes (step slots 0 0 0 none) (view_of (Some k) (Some c), []))
@@ -185,7 +185,7 @@ module _ (b : Begin) where
         keeps,
         tt,
         unmoved s r 0 id [] w (f.0, (f.1.0, f.1.1, f.1.2, subst (λ (l : List Event). IsPrefix l r.log) (sym same) (prefix_self r.log), f.1.4)),
-        (refl, (refl, subst (IsPrefix c.seen) (sym same) f.1.3, ap (calls_by c.number) same ∙ f.1.4)),
+        (refl, (refl, subst (IsPrefix c.seen) (sym same) f.1.3, ap (entries_by c.number) same ∙ f.1.4)),
       )
 
   pub looks : (slots id : ℕ) (c : Known) → Allows (Kept b) slots id (view_of None (Some c), []) 0 (λ n. n) (Looks (step slots 0 0 0 none) (view_of None (Some c), []))
@@ -241,8 +241,8 @@ module _ (b : Begin) where
           (
             refl,
             subst (IsPrefix c.seen) (sym same) f.1.3,
-            ap (calls_by c.number) same ∙ f.1.4,
-            λ x far. ap (calls_by x) same ∙ r.strangers x (let d = f.0.3 in omega arith),
+            ap (entries_by c.number) same ∙ f.1.4,
+            λ x far. ap (entries_by x) same ∙ r.strangers x (let d = f.0.3 in omega arith),
           ),
         ),
       )

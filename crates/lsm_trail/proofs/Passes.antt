@@ -6,7 +6,7 @@ use prog.Atomic.{either}
 use Rattle.atomic_table.specs.Table.{Me, step, Allows, Splits, Joins}
 use Rattle.atomic_table.specs.declared.shared.Seat.{Seat}
 use Rattle.lsm_trail.specs.Begins.{Begin}
-use Rattle.lsm_trail.specs.History.{Event, IsLegal, calls_by, numbers}
+use Rattle.lsm_trail.specs.History.{Event, IsLegal, entries_by, numbers}
 use Rattle.lsm_trail.specs.Knowledge.{SessionId, Keeper, Known, Sees, View, known, keeping, view_of, nobody, known_or, known_of, IsClientPass, row_of}
 use Rattle.lsm_trail.specs.Rule.{Kept}
 use Rattle.lsm_trail.specs.Steps.{Puts, published, Publishes, Notes, LooksAs, Looks, IsPeeked, Peeks, Compares, dealer, dealt_to}
@@ -28,7 +28,7 @@ pub publishes_at : (key : Begin) (slots id : ℕ) (me : M) (k : Keeper) (c : Kno
 publishes_at key slots id me k c e old is len by room legal draft = subst (λ (m : M). Allows (Kept key) slots id m 0 (λ n. either (n == old) (old + 1) n) (Publishes (step slots 0 old (old + 1) (some e)) m)) (sym is) (publishes key slots id k c e old len by room legal draft)
 
 pub published_told : (k : Keeper) (c : Known) (me me' : M) (e : Event) → me ≡ (view_of (Some k) (Some c), []) → Publishes (step 0 0 0 0 (some e)) me 0 me'
-    → (me' ≡ (published k c e, [])) × IsPrefix c.seen k.log × (calls_by c.number k.log ≡ c.mine)
+    → (me' ≡ (published k c e, [])) × IsPrefix c.seen k.log × (entries_by c.number k.log ≡ c.mine)
 published_told k c me me' e is rule = let r = subst (λ (m : M). Publishes (step 0 0 0 0 (some e)) m 0 me') is rule in ((λ j. (r.1.0 j, r.0 j)), r.1.1, r.1.2)
 
 -- what the lock's pass and a client's are when they are put together
@@ -45,14 +45,14 @@ pub compares_at : (key : Begin) (slots id : ℕ) (me : M) (k : Keeper) (c : Know
 compares_at key slots id me k c is = subst (λ (m : M). Allows (Kept key) slots id m 0 (λ n. n) (Compares (step slots 0 0 0 none) m)) (sym is) (compares key slots id k c)
 
 pub compared : (k : Keeper) (c : Known) (me me' : M) → me ≡ (view_of (Some k) (Some c), []) → Compares (step 0 0 0 0 none) me 0 me'
-    → (me' ≡ (view_of (Some k) None, [])) × IsPrefix c.seen k.log × (calls_by c.number k.log ≡ c.mine) × ((x : ℕ) → k.dealt ≤ x → calls_by x k.log ≡ [])
+    → (me' ≡ (view_of (Some k) None, [])) × IsPrefix c.seen k.log × (entries_by c.number k.log ≡ c.mine) × ((x : ℕ) → k.dealt ≤ x → entries_by x k.log ≡ [])
 compared k c me me' is rule = let r = subst (λ (m : M). Compares (step 0 0 0 0 none) m 0 me') is rule in ((λ j. (r.1.0 j, r.0 j)), r.1.1, r.1.2, r.1.3)
 
 pub notes_at : (key : Begin) (slots id : ℕ) (me : M) (k : Keeper) (c : Known) → me ≡ (view_of (Some k) (Some c), []) → Allows (Kept key) slots id me 0 (λ n. n) (Notes (step slots 0 0 0 none) me)
 notes_at key slots id me k c is = subst (λ (m : M). Allows (Kept key) slots id m 0 (λ n. n) (Notes (step slots 0 0 0 none) m)) (sym is) (notes key slots id k c)
 
 pub noted : (k : Keeper) (c : Known) (me me' : M) → me ≡ (view_of (Some k) (Some c), []) → Notes (step 0 0 0 0 none) me 0 me'
-    → (me' ≡ (view_of (Some k) (Some (known c.begin c.number k.log c.mine)), [])) × IsPrefix c.seen k.log × (calls_by c.number k.log ≡ c.mine)
+    → (me' ≡ (view_of (Some k) (Some (known c.begin c.number k.log c.mine)), [])) × IsPrefix c.seen k.log × (entries_by c.number k.log ≡ c.mine)
 noted k c me me' is rule = let r = subst (λ (m : M). Notes (step 0 0 0 0 none) m 0 me') is rule in ((λ j. (r.1.0 j, r.0 j)), r.1.1, r.1.2)
 
 pub looks_at : (key : Begin) (slots id : ℕ) (me : M) (c : Known) → me ≡ (view_of None (Some c), []) → Allows (Kept key) slots id me 0 (λ n. n) (Looks (step slots 0 0 0 none) me)

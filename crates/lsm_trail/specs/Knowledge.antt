@@ -8,7 +8,7 @@ use Rattle.lsm_device.specs.Medium.{zeroed}
 use Rattle.lsm_store.specs.Crash.{reopened}
 use Rattle.lsm_store.specs.Work.{no_work}
 use Rattle.lsm_trail.specs.Begins.{Begin}
-use Rattle.lsm_trail.specs.History.{Event, IsLegal, calls_by}
+use Rattle.lsm_trail.specs.History.{Event, IsLegal, entries_by}
 use Rattle.lsm_trail.specs.declared.numbers.Numbers.{Numbers}
 
 -- A session: the table of its words, and its begin.
@@ -39,7 +39,7 @@ pub record Sees (c d : Known) : Type 0 where
   pub seen : IsPrefix c.seen d.seen
   pub mine : d.mine ≡ c.mine
   pub legal : IsLegal d.begin d.seen
-  pub own : calls_by d.number d.seen ≡ d.mine
+  pub own : entries_by d.number d.seen ≡ d.mine
   pub room : length d.seen ≤ d.begin.limit
 
 -- What a pass knows: the lock's part, a client's part, both or nothing.

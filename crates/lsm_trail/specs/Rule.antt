@@ -6,7 +6,7 @@ use mathlib.Core.Option.{some}
 use lib.ListN.{get_elem?}
 use Rattle.atomic_table.specs.Table.{State}
 use Rattle.lsm_trail.specs.Begins.{Begin}
-use Rattle.lsm_trail.specs.History.{Event, IsLegal, calls_by, numbers}
+use Rattle.lsm_trail.specs.History.{Event, IsLegal, entries_by, numbers}
 use Rattle.lsm_trail.specs.Knowledge.{Keeper, Known, View, keeping, view_of}
 use Rattle.lsm_trail.specs.declared.numbers.Numbers.{Numbers}
 
@@ -27,7 +27,7 @@ FitsKeeper b log dealt writer words by (Some k) = (k.begin ≡ b) × (by ≡ wri
 -- one pass has the part of each client: a beginning of the history, and all that the history has of this client
 abbrev pub FitsClient : Begin → List Event → ℕ → (ℕ → ℕ) → ℕ → Option Known → Type 0
 FitsClient b log dealt seat by None = Unit {0}
-FitsClient b log dealt seat by (Some c) = (c.begin ≡ b) × (seat c.number ≡ by) × (c.number < dealt) × IsPrefix c.seen log × (calls_by c.number log ≡ c.mine)
+FitsClient b log dealt seat by (Some c) = (c.begin ≡ b) × (seat c.number ≡ by) × (c.number < dealt) × IsPrefix c.seen log × (entries_by c.number log ≡ c.mine)
 
 abbrev pub Fits : Begin → List Event → ℕ → ℕ → (ℕ → ℕ) → List ℕ → ℕ → View → Type 0
 Fits b log dealt writer seat words by v = FitsKeeper b log dealt writer words by v.keeper × FitsClient b log dealt seat by v.client
@@ -43,7 +43,7 @@ pub record Kept (b : Begin) (s : State Event View) : Type 0 where
   pub room : length log ≤ b.limit
   pub count : slice_index s.words 0 ≡ length log
   pub rows : (seen : List Event) → IsPrefix seen log → StandsAt s.words (3 * length seen + 1) (numbers b seen)
-  pub strangers : (c : ℕ) → dealt ≤ c → calls_by c log ≡ []
+  pub strangers : (c : ℕ) → dealt ≤ c → entries_by c log ≡ []
   pub fits : (by : ℕ) (v : View) → get_elem? s.views by ≡ some v → Fits b log dealt writer seat s.words by v
 
 -- what the first pass knows: there is no entry and no client yet

@@ -3,7 +3,7 @@ use Rattle.std.specs.Prelude.{◌≡◌, ℕ, ◌+◌, ◌*◌, ◌≤◌, [], �
 use mathlib.Core.List.{IsPrefix}
 use mathlib.Core.Option.{some}
 use Rattle.atomic_table.specs.Table.{Me, Step}
-use Rattle.lsm_trail.specs.History.{Event, calls_by, numbers}
+use Rattle.lsm_trail.specs.History.{Event, entries_by, numbers}
 use Rattle.lsm_trail.specs.Knowledge.{Keeper, Known, Sees, View, keeping, known, view_of}
 
 abbrev PutsAs : Option Keeper → Option Known → ℕ → View → Type 0
@@ -19,7 +19,7 @@ abbrev pub published : Keeper → Known → Event → View
 published k c e = view_of (Some (keeping k.begin k.dealt (k.log ++ e ∷ []) [])) (Some (known c.begin c.number (k.log ++ e ∷ []) (c.mine ++ e ∷ [])))
 
 abbrev PublishesAs : Option Keeper → Option Known → mathlib.Core.Option.Option Event → View → Type 0
-PublishesAs (Some k) (Some c) (some e) w = (w ≡ published k c e) × IsPrefix c.seen k.log × (calls_by c.number k.log ≡ c.mine)
+PublishesAs (Some k) (Some c) (some e) w = (w ≡ published k c e) × IsPrefix c.seen k.log × (entries_by c.number k.log ≡ c.mine)
 PublishesAs _ _ _ w = Unit {0}
 
 -- write: the history is longer by the entry that was announced
@@ -27,7 +27,7 @@ abbrev pub Publishes : Step Event → Me Event View → ℕ → Me Event View �
 Publishes s m found w = (w.1 ≡ m.1) × PublishesAs m.0.keeper m.0.client s.said w.0
 
 abbrev NotesAs : Option Keeper → Option Known → View → Type 0
-NotesAs (Some k) (Some c) w = (w ≡ view_of (Some k) (Some (known c.begin c.number k.log c.mine))) × IsPrefix c.seen k.log × (calls_by c.number k.log ≡ c.mine)
+NotesAs (Some k) (Some c) w = (w ≡ view_of (Some k) (Some (known c.begin c.number k.log c.mine))) × IsPrefix c.seen k.log × (entries_by c.number k.log ≡ c.mine)
 NotesAs _ _ w = Unit {0}
 
 -- note: the client has seen the whole history, as the lock's part has it
@@ -58,7 +58,7 @@ abbrev pub Peeks : Step Event → Me Event View → ℕ → Me Event View → Ty
 Peeks s m found w = (w ≡ m) × PeeksAs m.0.client s.word found
 
 abbrev ComparesAs : Option Keeper → Option Known → View → Type 0
-ComparesAs (Some k) (Some c) w = (w ≡ view_of (Some k) None) × IsPrefix c.seen k.log × (calls_by c.number k.log ≡ c.mine) × ((x : ℕ) → k.dealt ≤ x → calls_by x k.log ≡ [])
+ComparesAs (Some k) (Some c) w = (w ≡ view_of (Some k) None) × IsPrefix c.seen k.log × (entries_by c.number k.log ≡ c.mine) × ((x : ℕ) → k.dealt ≤ x → entries_by x k.log ≡ [])
 ComparesAs _ _ w = Unit {0}
 
 -- compare: the client's part is compared with the whole history, and given up

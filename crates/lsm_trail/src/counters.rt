@@ -1,7 +1,7 @@
 // The words of a session, which the lock's holder writes.
 ghost use Rattle.std.specs.Prelude.{◌≡◌, ℕ, ◌+◌, ◌*◌, ◌<◌, ◌≤◌, [], ◌∷◌, ◌++◌, length, Some, None};
 ghost use mathlib.Core.List.{IsPrefix};
-ghost use Rattle.lsm_trail.specs.History.{IsLegal, calls_by, numbers};
+ghost use Rattle.lsm_trail.specs.History.{IsLegal, entries_by, numbers};
 ghost use Rattle.lsm_trail.specs.Knowledge.{known, Sees, keeping, view_of, IsClientPass, IsKeeperPass, HasBoth, known_of, keeper_of, row_of};
 ghost use Rattle.lsm_trail.specs.Steps.{published};
 
@@ -80,7 +80,7 @@ impl<D: Device, A: Allocator, B: SessionName> Counters<D, A, B> {
         requires client { entry.now.client ≡ (known_of keeper.old).number }
         requires legal { IsLegal B.id.begin ((keeper_of keeper.old).log ++ entry.now ∷ []) }
         ensures pass { (keeper.new.table_id ≡ B.id.table) × (keeper.new.me ≡ (published (keeper_of keeper.old) (known_of keeper.old) entry.now, [])) }
-        ensures knew { IsPrefix (known_of keeper.old).seen (keeper_of keeper.old).log × (calls_by (known_of keeper.old).number (keeper_of keeper.old).log ≡ (known_of keeper.old).mine) }
+        ensures knew { IsPrefix (known_of keeper.old).seen (keeper_of keeper.old).log × (entries_by (known_of keeper.old).number (keeper_of keeper.old).log ≡ (known_of keeper.old).mine) }
     {
         let count = count as u64;
         self.board
@@ -108,7 +108,7 @@ impl<D: Device, A: Allocator, B: SessionName> Counters<D, A, B> {
         ensures dealt { (keeper_of keeper.new).dealt ≡ (keeper_of keeper.old).dealt }
         ensures client { IsClientPass B.id client.new }
         ensures known { known_of client.new ≡ known B.id.begin (known_of client.old).number ((keeper_of keeper.old).log ++ entry.now ∷ []) ((known_of client.old).mine ++ entry.now ∷ []) }
-        ensures knew { IsPrefix (known_of client.old).seen (keeper_of keeper.old).log × (calls_by (known_of client.old).number (keeper_of keeper.old).log ≡ (known_of client.old).mine) }
+        ensures knew { IsPrefix (known_of client.old).seen (keeper_of keeper.old).log × (entries_by (known_of client.old).number (keeper_of keeper.old).log ≡ (known_of client.old).mine) }
     {
         self.take_in(keeper, client);
         self.put_row(keeper, count, next);
@@ -124,7 +124,7 @@ impl<D: Device, A: Allocator, B: SessionName> Counters<D, A, B> {
         ensures dealt { (keeper_of keeper.new).dealt ≡ (keeper_of keeper.old).dealt }
         ensures client { IsClientPass B.id client.new }
         ensures known { known_of client.new ≡ known B.id.begin (known_of client.old).number (keeper_of keeper.old).log (known_of client.old).mine }
-        ensures knew { IsPrefix (known_of client.old).seen (keeper_of keeper.old).log × (calls_by (known_of client.old).number (keeper_of keeper.old).log ≡ (known_of client.old).mine) }
+        ensures knew { IsPrefix (known_of client.old).seen (keeper_of keeper.old).log × (entries_by (known_of client.old).number (keeper_of keeper.old).log ≡ (known_of client.old).mine) }
     {
         self.take_in(keeper, client);
         self.board.shared.load::<Note>(keeper, 0);
@@ -188,8 +188,8 @@ impl<D: Device, A: Allocator, B: SessionName> Counters<D, A, B> {
         requires client { IsClientPass B.id client }
         ensures keeper { (keeper.new.table_id ≡ keeper.old.table_id) × (keeper.new.me ≡ keeper.old.me) }
         ensures seen { IsPrefix (known_of client).seen (keeper_of keeper.old).log }
-        ensures calls { calls_by (known_of client).number (keeper_of keeper.old).log ≡ (known_of client).mine }
-        ensures strangers { (x : ℕ) → (keeper_of keeper.old).dealt ≤ x → calls_by x (keeper_of keeper.old).log ≡ [] }
+        ensures calls { entries_by (known_of client).number (keeper_of keeper.old).log ≡ (known_of client).mine }
+        ensures strangers { (x : ℕ) → (keeper_of keeper.old).dealt ≤ x → entries_by x (keeper_of keeper.old).log ≡ [] }
     {
         self.board.shared.join_seat::<Lend>(keeper, client);
         self.board.shared.load::<Compare>(keeper, 0);

@@ -1,41 +1,117 @@
-// One call in a history.
-ghost use Rattle.std.specs.Prelude.{◌≡◌};
-ghost use Rattle.lsm_lives.specs.Calls.{call_of, reply_of};
-ghost use Rattle.lsm_store.specs.Machine.{Called};
-ghost use Rattle.lsm_trail.specs.History.{event};
+// One step of a client in a history.
+ghost use Rattle.std.specs.Prelude.{◌≡◌, Some};
+ghost use Rattle.lsm_lives.specs.Calls.{call_of, asked_of, asked_of_work, reply_of};
+ghost use Rattle.lsm_store.specs.Backing.{machine_of};
+ghost use Rattle.lsm_store.specs.Work.{Work as Piece};
+ghost use Rattle.lsm_trail.specs.Entries.{is_build, is_number, piece_in, IsOfStep, told_in};
+ghost use Rattle.lsm_trail.specs.History.{called, worked, lent_to, accepted, is_call, is_lent};
 
-use lsm_lives::{Call, Reply};
+use crate::beside::Beside;
+use lsm_device::Device;
+use lsm_lives::{Call, Reply, Step, Work};
+use lsm_merge::{Built, Input};
+use lsm_store::Store;
 use std::alloc::{Allocator, Global};
 use std::marker::Model;
 
-/// A call that a client made, and its reply.
+/// A step that a client made, a call or a piece of work, and its reply. Of a build the reply is the number that its result has,
+/// or why no input was lent to it.
 #[derive(Drop)]
 pub struct Entry<A: Allocator = Global> {
     client: u32,
-    call: Call<A>,
+    step: Step<A>,
     reply: Reply<A>,
+    beside: Beside,
 }
 
 impl<A: Allocator> Model for Entry<A> {
     ghost use Rattle.std.specs.Coded.{codes};
-    ghost use Rattle.lsm_trail.specs.History.{Event, event};
-    ghost use Rattle.lsm_lives.specs.Calls.{call_of, reply_of};
-    ghost use Rattle.lsm_store.specs.Machine.{Called};
+    ghost use Rattle.lsm_codec.specs.Map.{map_code};
+    ghost use Rattle.lsm_lives.specs.Calls.{asked_of, reply_of};
+    ghost use Rattle.lsm_trail.specs.Entries.{event_shown};
+    ghost use Rattle.lsm_trail.specs.History.{Event};
 
     ghost Value = { Event };
 
-    ghost view = { λ e. event e.client (Called (call_of e.call)) (reply_of e.reply) };
+    ghost coded = { Prim.hlevel (codes, map_code) };
+
+    ghost view = { λ e. event_shown e.client (asked_of e.step) (reply_of e.reply) e.beside.shown };
 }
 
 impl<A: Allocator> Entry<A> {
-    /// The entry of a client's call.
-    pub fn new(client: u32, call: Call<A>, reply: Reply<A>) -> Entry<A>
-        ensures { result ≡ event client (Called (call_of call)) (reply_of reply) }
+    /// The entry of a client's call, behind which the store is so.
+    pub fn of_call<D: Device>(
+        client: u32,
+        call: Call<A>,
+        reply: Reply<A>,
+        store: &Store<D, A>,
+    ) -> Entry<A>
+        ensures { result ≡ called client (call_of call) (reply_of reply) (machine_of store.now) }
     {
         Entry {
             client,
-            call,
+            step: Step::Call(call),
             reply,
+            beside: Beside::by_store(store),
+        }
+    }
+
+    /// The entry of a piece of work that a client did, behind which the store is so: one that the store does by itself, or a build
+    /// to which no input was lent.
+    pub fn of_work<D: Device>(
+        client: u32,
+        work: Work,
+        reply: Reply<A>,
+        store: &Store<D, A>,
+    ) -> Entry<A>
+        ensures { (piece : Piece) → piece_in (asked_of_work work) (reply_of reply) ≡ Some piece → result ≡ worked client piece (reply_of reply) (machine_of store.now) }
+    {
+        Entry {
+            client,
+            step: Step::Work(work),
+            reply,
+            beside: Beside::by_store(store),
+        }
+    }
+
+    /// The entry of a build, to which a job's input was lent: its result has this number.
+    pub fn of_build<D: Device>(
+        client: u32,
+        job: u64,
+        parts: u64,
+        number: u64,
+        input: &Input<A>,
+        store: &Store<D, A>,
+    ) -> Entry<A>
+        ensures { result ≡ lent_to client job input.now number (machine_of store.now) }
+    {
+        Entry {
+            client,
+            step: Step::Work(Work::Build { job, parts }),
+            reply: Reply::Number(number),
+            beside: Beside::by_input(store, input),
+        }
+    }
+
+    /// The entry of an accept, which takes the result of this number.
+    pub fn of_accept<D: Device>(
+        client: u32,
+        job: u64,
+        number: u64,
+        built: &Built<A>,
+        reply: Reply<A>,
+        store: &Store<D, A>,
+    ) -> Entry<A>
+        ensures { result ≡ accepted client job number built.now (reply_of reply) (machine_of store.now) }
+    {
+        Entry {
+            client,
+            step: Step::Work(Work::Accept {
+                job,
+                result: number,
+            }),
+            reply,
+            beside: Beside::by_result(store, built),
         }
     }
 
@@ -46,17 +122,45 @@ impl<A: Allocator> Entry<A> {
         self.client
     }
 
-    /// The call.
-    pub fn call(&self) -> &Call<A>
-        ensures { Called (call_of result.now) ≡ self.now.step }
+    /// What the client asked for.
+    pub fn step(&self) -> &Step<A>
+        ensures { IsOfStep self.now (asked_of result.now) }
     {
-        &self.call
+        &self.step
     }
 
-    /// What the store replied.
+    /// Whether it is a call.
+    pub fn is_call(&self) -> bool
+        ensures { result ≡ is_call self.now.step }
+    {
+        matches!(self.step, Step::Call(_))
+    }
+
+    /// Whether it is a build that was lent an input.
+    pub fn is_lent(&self) -> bool
+        ensures { result ≡ is_lent self.now.reply }
+    {
+        is_build(&self.step) && is_number(&self.reply)
+    }
+
+    /// What it was told.
     pub fn reply(&self) -> &Reply<A>
-        ensures { reply_of result.now ≡ self.now.reply }
+        ensures { reply_of result.now ≡ told_in self.now.reply self.now.result }
     {
         &self.reply
     }
+}
+
+// Whether a result is to be built.
+fn is_build<A: Allocator>(step: &Step<A>) -> bool
+    ensures { result ≡ is_build (asked_of step.now) }
+{
+    matches!(step, Step::Work(Work::Build { .. }))
+}
+
+// Whether a number was told.
+fn is_number<A: Allocator>(reply: &Reply<A>) -> bool
+    ensures { result ≡ is_number (reply_of reply.now) }
+{
+    matches!(reply, Reply::Number(_) | Reply::Built { .. })
 }

@@ -1,6 +1,7 @@
 //! The history of a store that many clients use: its entries, and its numbers, which are read without a lock.
 #![tactic(auto)]
 
+mod beside;
 mod counters;
 mod entry;
 mod knowledge;

@@ -17,8 +17,12 @@ impl<A: Allocator> Model for Trail<A> {
     ghost use Rattle.std.specs.Prelude.{◌≤◌};
     ghost use Rattle.std.specs.Vec.{vec_capacity};
     ghost use Rattle.lsm_trail.specs.History.{TrailView};
+    ghost use Rattle.std.specs.Coded.{codes};
+    ghost use Rattle.lsm_codec.specs.Map.{map_code};
 
     ghost Value = { TrailView };
+
+    ghost coded = { Prim.hlevel (codes, map_code) };
 
     ghost view = { λ t. record { log = t.entries.items; limit = t.limit } };
 

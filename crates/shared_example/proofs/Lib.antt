@@ -1,3 +1,4 @@
 pub mod Weaving
 pub mod Outlasting
 pub mod Finding
+pub mod Making

@@ -20,13 +20,13 @@ use Rattle.lsm_store.specs.Calls.{Call, Reply}
 use Rattle.lsm_store.specs.Calls.{Commit, Sync, Snapshot, Number, Done, Value, Rows, Given, Handed, Refused}
 use Rattle.lsm_store.specs.Crash.{may_leave, reopened}
 use Rattle.lsm_store.specs.Effects.{after}
-use Rattle.lsm_store.specs.Machine.{Called}
+use Rattle.lsm_store.specs.Machine.{Machine}
 use Rattle.lsm_store.specs.Run.{next, last_machine}
 use Rattle.lsm_store.specs.State.{State}
 use Rattle.lsm_store.specs.Work.{WorkView}
 use Rattle.lsm_store.proofs.Membership.{one_in}
 use Rattle.lsm_trail.specs.Begins.{Begin}
-use Rattle.lsm_trail.specs.History.{Event, event, steps_of, replies_of, calls_by, state_after, TrailView}
+use Rattle.lsm_trail.specs.History.{Event, called, steps_of, replies_of, entries_by, IsLegal, state_after, TrailView}
 use Rattle.lsm_trail.specs.Knowledge.{Known}
 use Rattle.lsm_shared.specs.Sessions.{begin_with, IsEnded}
 use Rattle.shared_example.specs.Shares.{one_put, IsAnswer, IsStored, IsShared, HasBoth, OutlastCrashes}
@@ -111,43 +111,44 @@ module _ (first second : Bytes × Bytes) (apart : first.0 ≢ second.0) (b : Beg
   two = Commit (one_put second.0 second.1)
 
   -- after four calls in this order, where a crash leaves what is left of this map
-  in_order : (c d e f : Call) (i j k l : ℕ) (q r t u : Reply) → IsAnswer q → IsAnswer r → IsAnswer t → IsAnswer u
+  in_order : (c d e f : Call) (i j k l : ℕ) (q r t u : Reply) (g h v w : Machine) → IsAnswer q → IsAnswer r → IsAnswer t → IsAnswer u
       → (m : Map) → may_leave (after (after (after (after begun c) d) e) f) ≡ left_of m ∷ [] → Has m
-      → P (event i (Called c) q ∷ event j (Called d) r ∷ event k (Called e) t ∷ event l (Called f) u ∷ [])
-  in_order c d e f i j k l q r t u aq ar at au m leaves has =
+      → P (called i c q g ∷ called j d r h ∷ called k e t v ∷ called l f u w ∷ [])
+  in_order c d e f i j k l q r t u g h v w aq ar at au m leaves has =
       leaves_one Has (next (next (next (next begun c q) d r) e t) f u) (after (after (after (after begun c) d) e) f) (left_of m) (four begun c d e f q r t u aq ar at au) leaves has
 
   -- in each order of the calls
-  each_order : (p q r s : Reply) → IsAnswer p → IsAnswer q → IsAnswer r → IsAnswer s
-      → AllWoven (event 0 (Called one) p ∷ event 0 (Called Sync) q ∷ []) P (event 1 (Called two) r ∷ event 1 (Called Sync) s ∷ [])
-  each_order p q r s p_is q_is r_is s_is =
+  each_order : (p q r s : Reply) (g h v w : Machine) → IsAnswer p → IsAnswer q → IsAnswer r → IsAnswer s
+      → AllWoven (called 0 one p g ∷ called 0 Sync q h ∷ []) P (called 1 two r v ∷ called 1 Sync s w ∷ [])
+  each_order p q r s g h v w p_is q_is r_is s_is =
       let m : Map = apply (apply finite.empty (one_put first.0 first.1)) (one_put second.0 second.1) in
       let n : Map = apply (apply finite.empty (one_put second.0 second.1)) (one_put first.0 first.1) in
       let has = has_in_order first second apart in
       let also = has_in_reverse first second apart in (
         (
-          in_order one Sync two Sync 0 0 1 1 p q r s p_is q_is r_is s_is m refl has,
+          in_order one Sync two Sync 0 0 1 1 p q r s g h v w p_is q_is r_is s_is m refl has,
           (
-            in_order one two Sync Sync 0 1 0 1 p r q s p_is r_is q_is s_is m refl has,
-            in_order one two Sync Sync 0 1 1 0 p r s q p_is r_is s_is q_is m refl has,
+            in_order one two Sync Sync 0 1 0 1 p r q s g v h w p_is r_is q_is s_is m refl has,
+            in_order one two Sync Sync 0 1 1 0 p r s q g v w h p_is r_is s_is q_is m refl has,
           ),
         ),
         (
           (
-            in_order two one Sync Sync 1 0 0 1 r p q s r_is p_is q_is s_is n refl also,
-            in_order two one Sync Sync 1 0 1 0 r p s q r_is p_is s_is q_is n refl also,
+            in_order two one Sync Sync 1 0 0 1 r p q s v g h w r_is p_is q_is s_is n refl also,
+            in_order two one Sync Sync 1 0 1 0 r p s q v g w h r_is p_is s_is q_is n refl also,
           ),
-          in_order two Sync one Sync 1 1 0 0 r s p q r_is s_is p_is q_is n refl also,
+          in_order two Sync one Sync 1 1 0 0 r s p q v w g h r_is s_is p_is q_is n refl also,
         ),
       )
 
   -- a history in which each client committed its batch and synced
-  pub stored_stays : (log : List Event) → ((x : ℕ) → 2 ≤ x → calls_by x log ≡ []) → IsStored 0 (one_put first.0 first.1) (calls_by 0 log) → IsStored 1 (one_put second.0 second.1) (calls_by 1 log)
+  pub stored_stays : (log : List Event) → IsLegal b log → IsBacked b.store → ((x : ℕ) → 2 ≤ x → entries_by x log ≡ []) → IsStored 0 (one_put first.0 first.1) (entries_by 0 log) → IsStored 1 (one_put second.0 second.1) (entries_by 1 log)
       → LeavesHaving Has (state_after b log)
-  stored_stays log strangers f s =
-      let all = each_order f.committed f.synced s.committed s.synced f.answered.0 f.answered.1 s.answered.0 s.answered.1 in
-      subst (λ (s : State). LeavesHaving Has (end_state b.store.work (after s Snapshot) log)) (sym is)
-      (woven log strangers P (subst (λ (l : List Event). AllWoven l P (calls_by 1 log)) (sym f.are) (subst (λ (l : List Event). AllWoven (event 0 (Called one) f.committed ∷ event 0 (Called Sync) f.synced ∷ []) P l) (sym s.are) all)))
+  stored_stays log legal backed strangers f s =
+      let all = each_order f.committed f.synced s.committed s.synced f.machines.0 f.machines.1 s.machines.0 s.machines.1 f.answered.0 f.answered.1 s.answered.0 s.answered.1 in
+      subst (LeavesHaving Has) (sym (legal.run backed).state)
+      (subst (λ (s : State). LeavesHaving Has (end_state b.store.work (after s Snapshot) log)) (sym is)
+      (woven log strangers P (subst (λ (l : List Event). AllWoven l P (entries_by 1 log)) (sym f.are) (subst (λ (l : List Event). AllWoven (called 0 one f.committed f.machines.0 ∷ called 0 Sync f.synced f.machines.1 ∷ []) P l) (sym s.are) all))))
 
 -- when a session has ended, a crash leaves what the state after its trail may leave
 abbrev TrailTells : Type 0
@@ -159,9 +160,9 @@ outlasting : (first second : Bytes × Bytes) → first.0 ≢ second.0 → (b : B
     → TrailTells → IsShared b (one_put first.0 first.1) (one_put second.0 second.1) store trail → OutlastCrashes first second store
 outlasting first second apart b store trail is two backed tells shared = λ mask.
     let left = tells b shared.clients store trail shared.ended backed mask in
-    let strangers : (x : ℕ) → 2 ≤ x → calls_by x trail.log ≡ [] = λ x far. shared.ended.strangers x (subst (λ (n : ℕ). n ≤ x) (sym two) far) in (
+    let strangers : (x : ℕ) → 2 ≤ x → entries_by x trail.log ≡ [] = λ x far. shared.ended.strangers x (subst (λ (n : ℕ). n ≤ x) (sym two) far) in (
       left.0,
-      stored_stays first second apart b is trail.log strangers shared.first_stored shared.second_stored left.0 left.1,
+      stored_stays first second apart b is trail.log shared.ended.legal backed strangers shared.first_stored shared.second_stored left.0 left.1,
       subst (λ (n : ℕ). StandFor n left.0 (image mask (disk store.device))) (ap (λ (s : State). s.log_sectors) is) left.2,
     )
 

@@ -10,9 +10,9 @@ use Rattle.lsm_open.specs.Image.{StandFor}
 use Rattle.lsm_store.specs.Backing.{StoreView}
 use Rattle.lsm_store.specs.Calls.{Call, Reply}
 use Rattle.lsm_store.specs.Calls.{Commit, Sync, Refused}
-use Rattle.lsm_store.specs.Machine.{Called}
+use Rattle.lsm_store.specs.Machine.{Machine}
 use Rattle.lsm_trail.specs.Begins.{Begin}
-use Rattle.lsm_trail.specs.History.{Event, event, calls_by, TrailView}
+use Rattle.lsm_trail.specs.History.{Event, called, entries_by, TrailView}
 use Rattle.lsm_trail.specs.Knowledge.{Known}
 use Rattle.lsm_shared.specs.Sessions.{IsEnded}
 
@@ -30,22 +30,28 @@ pub record Makes (old : Known) (call : Call) (new : Known) : Type 0 where
   pub number : new.number ≡ old.number
   pub reply : Reply
   pub answered : IsAnswer reply
-  pub mine : new.mine ≡ old.mine ++ event old.number (Called call) reply ∷ []
+  pub machine : Machine
+  pub mine : new.mine ≡ old.mine ++ called old.number call reply machine ∷ []
 
--- these are the calls of a client that committed a batch and synced, and both were answered
+-- these are the entries of a client that committed a batch and synced, and both were answered
 pub record IsStored (client : ℕ) (batch : List Operation) (calls : List Event) : Type 0 where
   pub committed : Reply
   pub synced : Reply
   pub answered : IsAnswer committed × IsAnswer synced
-  pub are : calls ≡ event client (Called (Commit batch)) committed ∷ event client (Called Sync) synced ∷ []
+  pub machines : Machine × Machine
+  pub are : calls ≡ called client (Commit batch) committed machines.0 ∷ called client Sync synced machines.1 ∷ []
+
+-- a client has committed a batch and synced, and made no other entry
+abbrev pub HasStored : Known → List Operation → Known → Type 0
+HasStored old batch new = (new.number ≡ old.number) × IsStored old.number batch new.mine
 
 -- A session of two clients has ended, and the trail has just these calls of each: it committed its batch and synced, and
 -- both were answered.
 pub record IsShared (b : Begin) (first second : List Operation) (store : StoreView) (trail : TrailView) : Type 0 where
   pub clients : List Known
   pub ended : IsEnded b clients store trail
-  pub first_stored : IsStored 0 first (calls_by 0 trail.log)
-  pub second_stored : IsStored 1 second (calls_by 1 trail.log)
+  pub first_stored : IsStored 0 first (entries_by 0 trail.log)
+  pub second_stored : IsStored 1 second (entries_by 1 trail.log)
 
 -- both values stand under their keys
 abbrev pub HasBoth : (Bytes × Bytes) → (Bytes × Bytes) → Map → Type 0

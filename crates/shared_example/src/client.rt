@@ -1,7 +1,7 @@
 // One client of the session.
 ghost use Rattle.std.specs.Prelude.{◌≡◌, [], IfOk, OnOk};
-ghost use Rattle.lsm_lives.specs.Calls.{call_of};
-ghost use Rattle.shared_example.specs.Shares.{one_put, Makes, IsStored};
+ghost use Rattle.lsm_lives.specs.Calls.{call_of, reply_of};
+ghost use Rattle.shared_example.specs.Shares.{one_put, IsAnswer, Makes, HasStored};
 
 use lsm_codec::{Batch, Op};
 use lsm_device::{MemDevice, Refusal};
@@ -18,6 +18,16 @@ pub(crate) fn batch_of(alloc: Global, key: &[u8], value: &[u8]) -> Result<Batch,
     Ok(Batch::new(alloc, Op::put(alloc, key, value)?)?)
 }
 
+// Refuses where the store did.
+fn answered(reply: Reply) -> Result<(), Refusal>
+    ensures { OnOk result (IsAnswer (reply_of reply)) }
+{
+    match reply {
+        Reply::Refused(refusal) => Err(refusal),
+        _ => Ok(()),
+    }
+}
+
 // Makes a call that the store is to answer.
 fn make<B: SessionName, R: Wait>(
     rt: &R,
@@ -27,10 +37,8 @@ fn make<B: SessionName, R: Wait>(
 ) -> Result<(), Refusal>
     ensures { OnOk result (Makes me.old (call_of call) me.new) }
 {
-    match me.call(rt, shared, call)? {
-        Reply::Refused(refusal) => Err(refusal),
-        _ => Ok(()),
-    }
+    let reply = me.call(rt, shared, call)?;
+    answered(reply)
 }
 
 // Commits a batch and syncs.
@@ -41,7 +49,7 @@ pub(crate) fn store<B: SessionName, R: Wait>(
     batch: Batch,
 ) -> Result<Client<Global, B>, Refusal>
     requires { me.mine ≡ [] }
-    ensures { IfOk result (λ client. (client.number ≡ me.number) × IsStored me.number batch client.mine) }
+    ensures { IfOk result (λ client. HasStored me batch client) }
 {
     let mut me = me;
     make(rt, shared, &mut me, Call::Commit(batch))?;

@@ -2,7 +2,7 @@
 ghost use Rattle.std.specs.Prelude.{◌≡◌, [], ◌∷◌, IfOk, IfSome};
 ghost use Rattle.lsm_trail.specs.Knowledge.{known};
 ghost use Rattle.lsm_shared.specs.Clients.{newcomers};
-ghost use Rattle.shared_example.specs.Shares.{IsStored, IsShared};
+ghost use Rattle.shared_example.specs.Shares.{HasStored, IsShared};
 
 use crate::client::store;
 use lsm_codec::Batch;
@@ -63,11 +63,11 @@ pub fn in_two_threads<B: SessionName + Send + Sync, R: Threads + Wait + Sync>(
         rt,
         || -> Result<Client<Global, B>, Refusal>
             requires { one.mine ≡ [] }
-            ensures { IfOk result (λ client. (client.number ≡ one.number) × IsStored one.number first client.mine) }
+            ensures { IfOk result (λ client. HasStored one first client) }
         { store(rt, &shared, one, first) },
         || -> Result<Client<Global, B>, Refusal>
             requires { two.mine ≡ [] }
-            ensures { IfOk result (λ client. (client.number ≡ two.number) × IsStored two.number second client.mine) }
+            ensures { IfOk result (λ client. HasStored two second client) }
         { store(rt, &shared, two, second) },
     );
     let clients = list_of(alloc, one?, two?)?;

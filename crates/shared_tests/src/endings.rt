@@ -4,7 +4,7 @@ ghost use Rattle.std.specs.Prelude.{◌≡◌};
 
 use crate::setup::{Left, Session, given, small};
 use lsm_device::{MemDevice, Refusal};
-use lsm_lives::{Call, Reply};
+use lsm_lives::{Call, Reply, Step};
 use lsm_shared::prepare;
 use lsm_trail::{Opened, SessionName, Trail};
 use std::alloc::Global;
@@ -36,7 +36,7 @@ fn has_one_call(trail: Trail) -> bool {
     match trail.entries() {
         [entry] => {
             entry.client() == 1
-                && matches!(entry.call(), Call::Room)
+                && matches!(entry.step(), Step::Call(Call::Room))
                 && matches!(entry.reply(), Reply::Number(128))
         }
         _ => false,

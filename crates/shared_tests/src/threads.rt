@@ -5,7 +5,7 @@ ghost use Rattle.std.specs.Prelude.{◌≡◌};
 use crate::setup::{CACHE, Left, Session, formatted, given};
 use crate::turns::put;
 use lsm_device::{MemDevice, Refusal};
-use lsm_lives::{Call, Reply};
+use lsm_lives::{Call, Reply, Step};
 use lsm_shared::{Client, Shared, prepare};
 use lsm_store::{At, Store};
 use lsm_trail::{Entry, Numbers, Opened, SessionName, Trail};
@@ -20,14 +20,14 @@ const CLIENTS: u32 = 4;
 const COMMITS: u32 = 50;
 
 /// The key of a client's commit: two numbers, each in two bytes.
-fn key_of(client: u32, commit: u32) -> [u8; 4] {
+pub fn key_of(client: u32, commit: u32) -> [u8; 4] {
     let [_, _, a, b] = client.to_be_bytes();
     let [_, _, c, d] = commit.to_be_bytes();
     [a, b, c, d]
 }
 
-// A commit of one put, which has its key for its value.
-fn commit_of<R: Abort>(rt: &R, alloc: Global, key: &[u8; 4]) -> Call {
+/// A commit of one put, which has its key for its value.
+pub fn commit_of<R: Abort>(rt: &R, alloc: Global, key: &[u8; 4]) -> Call {
     Call::Commit(put(alloc, key, key).expect(rt, "a batch"))
 }
 
@@ -81,7 +81,7 @@ fn in_four_threads<B: SessionName + Send + Sync, R: Threads + Wait + Abort + Syn
 
 // Whether an entry is a commit of this number.
 fn is_commit(entry: &Entry, number: u64) -> bool {
-    matches!(entry.call(), Call::Commit(_))
+    matches!(entry.step(), Step::Call(Call::Commit(_)))
         && matches!(entry.reply(), Reply::Number(n) if *n == number)
 }
 
@@ -112,8 +112,8 @@ fn held(store: &mut Store<MemDevice>, trail: &Trail) -> Option<u32> {
     Some(count)
 }
 
-// Whether a store has a key.
-fn has(store: &mut Store<MemDevice>, key: &[u8; 4]) -> Option<bool> {
+/// Whether a store has a key.
+pub fn has(store: &mut Store<MemDevice>, key: &[u8; 4]) -> Option<bool> {
     match store.get(At::Now, key) {
         Ok(found) => Some(found.is_some()),
         Err(_) => None,

@@ -1,4 +1,4 @@
-use Rattle.lsm_shared.proofs.Holds.{tells_made, tells_refused}
+use Rattle.lsm_shared.proofs.Telling.{tells_made, tells_refused}
 use Rattle.lsm_shared.proofs.client.Client.call.Goals as goal
 
 pub returns-clause-made : goal.returns-clause-made

@@ -1,0 +1,75 @@
+-- A result that is brought is of the input that was lent under its number.
+use Rattle.std.proofs.Common.{◌≡◌, ◌⊎◌, ℕ, zero, suc, ◌+◌, ◌<◌, ◌==◌, Bool, true, false, Option, Some, None, List, [], ◌∷◌, ◌++◌, length, if◌then◌else◌, refl, ap, sym, ◌∙◌, subst, inl, inr, ⊎_elim, arith, append_assoc}
+use Rattle.std.specs.Prelude.{Contains, slice_get}
+use Rattle.std.proofs.lemmas.List.Elements.{Contains-append_left, Contains-append_right, Contains-append_cases, Contains-push, Contains-push_cases}
+use Rattle.lsm_merge.specs.Inputs.{MergeInput, kept_of}
+use Rattle.lsm_merge.specs.Results.{MergeResult}
+use Rattle.lsm_store.specs.Calls.{Reply}
+use Rattle.lsm_store.specs.Calls.{Number, Done, Value, Rows, Given, Handed, Refused}
+use Rattle.lsm_store.specs.Machine.{Worked}
+use Rattle.lsm_store.specs.Work.{Accept}
+use Rattle.lsm_table.specs.Division.{IsTables}
+use Rattle.lsm_trail.specs.Begins.{Begin}
+use Rattle.lsm_trail.specs.History.{Event, lent_to, handed, inputs_of, input_of, IsMadeOf, IsNextNumber, TakesResult, AreNumbered, IsLegal, entries_by}
+use Rattle.lsm_trail.specs.Knowledge.{SessionId, Known}
+use Rattle.lsm_store.specs.Backing.{StoreView}
+use Rattle.lsm_shared.specs.Sessions.{SessionView, HasSeen}
+use Rattle.lsm_shared.specs.Turns.{WasLent}
+
+no_more : {X : Type 0} (x : X) → Contains [] x → ⊥
+no_more x (k, below, at) = absurd (omega (arith, below))
+
+-- what is in a list is the first of it, or behind
+first_or : {X : Type 0} (y : X) (ys : List X) (x : X) → Contains (y ∷ ys) x → (y ≡ x) ⊎ Contains ys x
+first_or y ys x found = ⊎_elim
+    (λ (here : Contains (y ∷ []) x). ⊎_elim (λ (none : Contains [] x). absurd (no_more x none)) (λ (is : y ≡ x). inl is) (Contains-push_cases [] y x here))
+    (λ (there : Contains ys x). inr there)
+    (Contains-append_cases (y ∷ []) ys x found)
+
+-- a client's entries are among all
+among_all : (c : ℕ) (log : List Event) (e : Event) → Contains (entries_by c log) e → Contains log e
+among_all c [] e found = found
+among_all c (x ∷ log) e found = by (x.client == c) found (among_all c log e)
+  where
+    by : (b : Bool) → Contains (if b then x ∷ entries_by c log else entries_by c log) e → (Contains (entries_by c log) e → Contains log e) → Contains (x ∷ log) e
+    by true found behind = ⊎_elim
+        (λ (is : x ≡ e). Contains-append_left (x ∷ []) log e (subst (Contains (x ∷ [])) is (Contains-push [] x)))
+        (λ (later : Contains (entries_by c log) e). Contains-append_right (x ∷ []) log e (behind later))
+        (first_or x (entries_by c log) e found)
+    by false found behind = Contains-append_right (x ∷ []) log e (behind found)
+
+at_end : (inputs more : List MergeInput) (input : MergeInput) → slice_get (inputs ++ input ∷ more) (length inputs) ≡ Some input
+at_end [] more input = refl
+at_end (x ∷ inputs) more input = at_end inputs more input
+
+numbered_here : (inputs more : List MergeInput) (input : MergeInput) (number : ℕ) → number ≡ length inputs + 1 → input_of number (inputs ++ input ∷ more) ≡ Some input
+numbered_here inputs more input number is =
+    let next : number ≡ suc (length inputs) = omega (arith, is) in
+    ap (λ (n : ℕ). input_of n (inputs ++ input ∷ more)) next ∙ at_end inputs more input
+
+-- an input that was lent is that of its number
+lent_found : (inputs : List MergeInput) (log : List Event) (e : Event) (input : MergeInput) → AreNumbered inputs log → e.reply ≡ Handed input → Contains log e → input_of e.result (inputs ++ inputs_of log) ≡ Some input
+lent_found inputs [] e input numbered lent found = absurd (no_more e found)
+lent_found inputs (x ∷ log) e input (next, takes, rest) lent found = ⊎_elim
+    (λ (is : x ≡ e).
+    let reply : x.reply ≡ Handed input = ap (λ (y : Event). y.reply) is ∙ lent in
+    let number = subst (λ (r : Reply). IsNextNumber inputs r x.result) reply next in
+    subst (λ (n : ℕ). input_of n (inputs ++ inputs_of (x ∷ log)) ≡ Some input) (ap (λ (y : Event). y.result) is)
+    (subst (λ (r : Reply). input_of x.result (inputs ++ (handed r ++ inputs_of log)) ≡ Some input) (sym reply) (numbered_here inputs (inputs_of log) input x.result number)))
+    (λ (later : Contains log e).
+    ap (input_of e.result) (sym (append_assoc inputs (handed x.reply) (inputs_of log))) ∙ lent_found (inputs ++ handed x.reply) log e input rest lent later)
+    (first_or x log e found)
+
+-- so an accept may take what was built of it
+pub may_take : (b : Begin) (log : List Event) (number job result : ℕ) (mine : List Event) (made : MergeResult) → IsLegal b log → entries_by number log ≡ mine → WasLent mine job result made.input → IsTables (kept_of made.input) made.images
+    → TakesResult (inputs_of log) (Worked (Accept job (Some made))) result
+may_take b log number job result mine made legal own lent tables =
+    let e = lent_to lent.client job made.input result lent.machine in
+    let found = among_all number log e (subst (λ (l : List Event). Contains l e) (sym own) lent.among) in
+    subst (λ (o : Option MergeInput). IsMadeOf o (Some made)) (sym (lent_found [] log e made.input legal.numbered refl found)) (refl, tables)
+
+-- the same where the parts of the session are known
+pub may_take_was : (id : SessionId) (store : StoreView) (log : List Event) (old : SessionView) (c : Known) → record { store = store; log = log } ≡ old → IsLegal id.begin log → HasSeen id old c → {job result : ℕ} {made : MergeResult} → WasLent c.mine job result made.input → IsTables (kept_of made.input) made.images
+    → TakesResult (inputs_of log) (Worked (Accept job (Some made))) result
+may_take_was id store log old c was legal seen {job} {result} {made} lent tables =
+    may_take id.begin log c.number job result c.mine made legal (ap (λ (v : SessionView). entries_by c.number v.log) was ∙ seen.finds.knows.own) lent tables

@@ -1,0 +1,170 @@
+-- What a hold of the lock tells the client.
+use Rattle.std.proofs.Common.{◌≡◌, ℕ, ◌<◌, ◌≤◌, List, [], ◌∷◌, ◌++◌, length, Result, Ok, Err, None, refl, ap, sym, ◌∙◌, subst, arith, append_assoc}
+use Rattle.std.specs.Arc.{arc_value}
+use Rattle.std.specs.Prelude.{Contains, IfOk, IfErr, MatchResult}
+use Rattle.std.proofs.lemmas.List.Elements.{Contains-push}
+use Rattle.std.proofs.lemmas.List.{append-nil}
+use mathlib.Core.List.{IsPrefix}
+use Rattle.lsm_device.specs.declared.refusal.Refusal.{Refusal}
+use Rattle.lsm_device.specs.declared.refusal.Refusal.TheVariants.{NoMemory, TrailFull, NotYours}
+use Rattle.lsm_merge.specs.Results.{MergeResult}
+use Rattle.lsm_store.specs.Backing.{machine_of, IsBacked}
+use Rattle.lsm_store.specs.Calls.{Call, Reply}
+use Rattle.lsm_store.specs.Calls.{Refused}
+use Rattle.lsm_store.specs.Machine.{Machine}
+use Rattle.lsm_store.specs.Pieces.{next_piece, places_from}
+use Rattle.lsm_store.specs.Run.{Admits, Allows}
+use Rattle.lsm_store.specs.State.{State}
+use Rattle.lsm_store.specs.Work.{Work}
+use Rattle.lsm_lives.specs.Calls.{reply_of}
+use Rattle.lsm_lives.specs.declared.calls.Reply.{Reply as GivenReply}
+use Rattle.lsm_trail.specs.Begins.{Begin}
+use Rattle.lsm_trail.specs.History.{Event, called, lent_to, machine_after, state_after, IsLegal, entries_by}
+use Rattle.lsm_trail.specs.Knowledge.{SessionId, Known, Sees, known}
+use Rattle.lsm_shared.specs.Clients.{Adds, MakesCall, Denies, IsNoCall}
+use Rattle.lsm_shared.specs.Holds.{TakesAmong, StopsAmong, IsBroughtBy, StopsBringing}
+use Rattle.lsm_shared.specs.Sessions.{SessionView, Enters, IsMade, IsRefused}
+use Rattle.lsm_shared.specs.Turns.{IsTurn, MayRest, TakesTurn, StopsBefore, DeniesWork, IsNoTurn, HasLent, Brings, IsNotBrought}
+use Rattle.lsm_shared.specs.declared.turn.Turn.{Turn}
+use Rattle.lsm_shared.specs.declared.turn.Turn.TheVariants as turn
+
+module _ (id : SessionId) (old new : SessionView) (c d : Known) (entries : List Event) (e : Enters id old c entries new d) where
+  -- what others did since
+  abbrev others : List Event
+  others = e.finds.knows.seen.0
+
+  before : c.seen ++ others ≡ old.log
+  before = e.finds.knows.seen.1
+
+  begin_is : d.begin ≡ id.begin
+  begin_is = ap (λ (k : Known). k.begin) e.client
+
+  number_is : d.number ≡ c.number
+  number_is = ap (λ (k : Known). k.number) e.client
+
+  seen_is : d.seen ≡ new.log
+  seen_is = ap (λ (k : Known). k.seen) e.client
+
+  mine_is : d.mine ≡ c.mine ++ entries
+  mine_is = ap (λ (k : Known). k.mine) e.client
+
+  adds : Adds c others entries d
+  adds = record {
+    begin = begin_is ∙ sym e.finds.knows.begin;
+    number = number_is;
+    seen = seen_is ∙ e.log ∙ ap (λ (l : List Event). l ++ entries) (sym before);
+    mine = mine_is;
+    legal = subst (λ (k : Known). IsLegal k.begin k.seen) (sym e.client) e.legal;
+    own = (λ i. entries_by (number_is i) (seen_is i)) ∙ e.own ∙ sym mine_is;
+    room = subst (λ (k : Known). length k.seen ≤ k.begin.limit) (sym e.client) e.room;
+  }
+
+  -- the machine that the hold found
+  machine_found : machine_of old.store ≡ machine_after d.begin (c.seen ++ others)
+  machine_found = e.finds.machine ∙ (λ i. machine_after (sym begin_is i) (sym before i))
+
+  -- and the one that it left
+  machine_left : machine_of new.store ≡ machine_after d.begin d.seen
+  machine_left = e.machine ∙ (λ i. machine_after (sym begin_is i) (sym seen_is i))
+
+  -- why a piece of work is no entry behind it
+  denied_then : (left : Work) (r : Refusal) → DeniesWork id.begin new.log left r → DeniesWork d.begin d.seen left r
+  denied_then left r denied = subst (λ (k : Known). DeniesWork k.begin k.seen left r) (sym e.client) denied
+
+-- where a hold made no entry, the client has seen the history
+sees : (id : SessionId) (old new : SessionView) (c d : Known) → Enters id old c [] new d → Sees c d
+sees id old new c d e = record {
+  begin = (adds id old new c d [] e).begin;
+  number = (adds id old new c d [] e).number;
+  seen = (others id old new c d [] e, before id old new c d [] e ∙ sym (append-nil old.log) ∙ sym e.log ∙ sym (seen_is id old new c d [] e));
+  mine = mine_is id old new c d [] e ∙ append-nil c.mine;
+  legal = (adds id old new c d [] e).legal;
+  own = (adds id old new c d [] e).own;
+  room = (adds id old new c d [] e).room;
+}
+
+-- a client that is denied a call has seen the history behind which it is
+denied_call : (id : SessionId) (old new : SessionView) (c d : Known) (call : Call) (r : Refusal) → Enters id old c [] new d → Denies id.begin old.log call r → IsNoCall c call r d
+denied_call id old new c d call r e why =
+    (sees id old new c d e, subst (λ (k : Known). Denies k.begin k.seen call r) (sym e.client) (subst (λ (l : List Event). Denies id.begin l call r) (sym (append-nil old.log) ∙ sym e.log) why))
+
+no_call : (id : SessionId) (old new : SessionView) (c d : Known) (call : Call) (r : Refusal) → IsRefused id old c call r new d → IsNoCall c call r d
+no_call id old new c d call TrailFull h = denied_call id old new c d call TrailFull h.enters h.full
+no_call id old new c d call NotYours h = denied_call id old new c d call NotYours h.enters (h.room, h.releases)
+no_call id old new c d call NoMemory h =
+    let state = ap (λ (m : Machine). m.state) h.enters.finds.machine in
+    denied_call id old new c d call NoMemory h.enters (h.room, subst (λ (s : State). Admits s call (Refused NoMemory)) state h.admitted, λ began. subst (λ (s : State). Allows s call (Refused NoMemory)) state (h.allowed began))
+no_call id old new c d call r h = absurd h
+
+pub tells_made : {T : Type 0} (res : Result T Refusal) (f : T → Reply) (id : SessionId) (old new : SessionView) (c d : Known) (call : Call) → IfOk res (λ r. IsMade id old c call (f r) new d) → IfOk res (λ r. MakesCall c call (f r) d)
+tells_made (Ok r) f id old new c d call made = (others id old new c d _ made.enters, machine_of new.store, adds id old new c d _ made.enters)
+tells_made (Err e) f id old new c d call made = tt
+
+pub tells_refused : {T : Type 0} (res : Result T Refusal) (id : SessionId) (old new : SessionView) (c d : Known) (call : Call) → IfErr res (λ e. IsRefused id old c call e new d) → IfErr res (λ e. IsNoCall c call e d)
+tells_refused (Ok r) id old new c d call refused = tt
+tells_refused (Err e) id old new c d call refused = no_call id old new c d call e refused
+
+-- ---- turns
+
+rests_then : {A : Type 0} (id : SessionId) (old new : SessionView) (c d : Known) (taken : Turn A) → TakesAmong id old c (places_from c.number) taken new d → MayRest taken d
+rests_then id old new c d turn.Idle t =
+    let e = t.enters in
+    let machine : machine_after d.begin d.seen ≡ machine_of old.store = sym (machine_left id old new c d t.entries e) ∙ t.stays in
+    (λ i. next_piece (machine i) (number_is id old new c d t.entries e i)) ∙ t.takes.ends
+rests_then id old new c d (turn.Did reply) t = tt
+rests_then id old new c d (turn.Merge job result input) t = tt
+
+takes_turn : {A : Type 0} (id : SessionId) (old new : SessionView) (c d : Known) (taken : Turn A) → TakesAmong id old c (places_from c.number) taken new d → TakesTurn c taken d
+takes_turn id old new c d taken t = record {
+  others = others id old new c d t.entries t.enters;
+  entries = t.entries;
+  adds = adds id old new c d t.entries t.enters;
+  takes = subst (λ (m : Machine). IsTurn m (places_from c.number) c.number taken t.entries) (machine_found id old new c d t.entries t.enters) t.takes;
+  rests = rests_then id old new c d taken t;
+}
+
+no_turn : (id : SessionId) (old new : SessionView) (c d : Known) (r : Refusal) → StopsAmong id old c (places_from c.number) r new d → IsNoTurn c r d
+no_turn id old new c d r s = record {
+  others = others id old new c d s.entries s.enters;
+  entries = s.entries;
+  adds = adds id old new c d s.entries s.enters;
+  left = s.left;
+  stops = subst (λ (m : Machine). StopsBefore m (places_from c.number) s.entries s.left) (machine_found id old new c d s.entries s.enters) s.stops;
+  denied = denied_then id old new c d s.entries s.enters s.left r s.denied;
+}
+
+pub tells_turn : {A : Type 0} (res : Result (Turn A) Refusal) (id : SessionId) (old new : SessionView) (c d : Known)
+    → MatchResult res (λ taken. TakesAmong id old c (places_from c.number) taken new d) (λ r. StopsAmong id old c (places_from c.number) r new d)
+    → MatchResult res (λ taken. TakesTurn c taken d) (λ r. IsNoTurn c r d)
+tells_turn (Ok taken) id old new c d t = takes_turn id old new c d taken t
+tells_turn (Err r) id old new c d s = no_turn id old new c d r s
+
+-- what a turn handed out was lent by its last entry
+has_lent : {A : Type 0} (c d : Known) (taken : Turn A) → TakesTurn c taken d → HasLent taken d
+has_lent c d turn.Idle t = tt
+has_lent c d (turn.Did reply) t = tt
+has_lent c d (turn.Merge job result input) t =
+    let (passed, behind, is, are) = t.takes in
+    let e = lent_to c.number job (arc_value input) result behind in
+    let mine : d.mine ≡ (c.mine ++ passed) ++ e ∷ [] = t.adds.mine ∙ ap (λ (l : List Event). c.mine ++ l) is ∙ sym (append_assoc c.mine passed (e ∷ [])) in
+    record { client = c.number; machine = behind; among = subst (λ (l : List Event). Contains l e) (sym mine) (Contains-push (c.mine ++ passed) e) }
+
+pub tells_lent : {A : Type 0} (res : Result (Turn A) Refusal) (c d : Known) → MatchResult res (λ taken. TakesTurn c taken d) (λ r. IsNoTurn c r d) → IfOk res (λ taken. HasLent taken d)
+tells_lent (Ok taken) c d t = has_lent c d taken t
+tells_lent (Err r) c d t = tt
+
+-- ---- results
+
+pub tells_brought : {A : Type 0} (res : Result (GivenReply A) Refusal) (id : SessionId) (old new : SessionView) (c d : Known) (job result : ℕ) (made : MergeResult)
+    → MatchResult res (λ reply. IsBroughtBy id old c job result made (reply_of reply) new d) (λ r. StopsBringing id old c job result made r new d)
+    → MatchResult res (λ reply. Brings c job result made (reply_of reply) d) (λ r. IsNotBrought c job result made r d)
+tells_brought (Ok reply) id old new c d job result made b =
+    record { others = others id old new c d b.entries b.enters; entries = b.entries; adds = adds id old new c d b.entries b.enters; brought = b.brought }
+tells_brought (Err r) id old new c d job result made s = record {
+  others = others id old new c d s.entries s.enters;
+  entries = s.entries;
+  adds = adds id old new c d s.entries s.enters;
+  left = s.left;
+  behind = s.behind;
+  denied = denied_then id old new c d s.entries s.enters s.left r s.denied;
+}

@@ -1,0 +1,53 @@
+-- What a hold of the lock does in which a client takes a turn, or brings a result.
+use Rattle.std.specs.Prelude.{◌≡◌, ℕ, List, []}
+use Rattle.lsm_device.specs.declared.refusal.Refusal.{Refusal}
+use Rattle.lsm_merge.specs.Results.{MergeResult}
+use Rattle.lsm_store.specs.Backing.{machine_of}
+use Rattle.lsm_store.specs.Calls.{Reply}
+use Rattle.lsm_store.specs.Work.{Work}
+use Rattle.lsm_trail.specs.History.{Event}
+use Rattle.lsm_trail.specs.Knowledge.{SessionId, Known}
+use Rattle.lsm_shared.specs.Sessions.{SessionView, Enters}
+use Rattle.lsm_shared.specs.Turns.{IsTurn, DeniesWork, StopsBefore, IsBrought, IsLeftOfBringing}
+use Rattle.lsm_shared.specs.declared.turn.Turn.{Turn}
+use Rattle.lsm_shared.specs.declared.turn.Turn.TheVariants as turn
+
+-- It made no entry of this piece of work. The history and the machine are as they were.
+pub record IsPutBack (id : SessionId) (old : SessionView) (c : Known) (work : Work) (e : Refusal) (new : SessionView) (d : Known) : Type 0 where
+  pub enters : Enters id old c [] new d
+  pub denied : DeniesWork id.begin new.log work e
+
+-- an idle turn leaves the machine as it was
+abbrev pub StaysIfIdle : {A : Type 0} → Turn A → SessionView → SessionView → Type 0
+StaysIfIdle turn.Idle old new = machine_of new.store ≡ machine_of old.store
+StaysIfIdle (turn.Did reply) old new = Unit {0}
+StaysIfIdle (turn.Merge job result input) old new = Unit {0}
+
+-- The client took a turn over the slots at these places.
+pub record TakesAmong {A : Type 0} (id : SessionId) (old : SessionView) (c : Known) (places : List ℕ) (turn : Turn A) (new : SessionView) (d : Known) : Type 0 where
+  pub entries : List Event
+  pub enters : Enters id old c entries new d
+  pub takes : IsTurn (machine_of old.store) places c.number turn entries
+  pub stays : StaysIfIdle turn old new
+
+-- It took no whole turn over them: what it did stands, and then came a piece that is no entry.
+pub record StopsAmong (id : SessionId) (old : SessionView) (c : Known) (places : List ℕ) (e : Refusal) (new : SessionView) (d : Known) : Type 0 where
+  pub entries : List Event
+  pub enters : Enters id old c entries new d
+  pub left : Work
+  pub stops : StopsBefore (machine_of old.store) places entries left
+  pub denied : DeniesWork id.begin new.log left e
+
+-- The client brought a result.
+pub record IsBroughtBy (id : SessionId) (old : SessionView) (c : Known) (job result : ℕ) (made : MergeResult) (reply : Reply) (new : SessionView) (d : Known) : Type 0 where
+  pub entries : List Event
+  pub enters : Enters id old c entries new d
+  pub brought : IsBrought c.number job result made reply entries
+
+-- It did not bring it wholly: what it did stands, and then came a piece that is no entry.
+pub record StopsBringing (id : SessionId) (old : SessionView) (c : Known) (job result : ℕ) (made : MergeResult) (e : Refusal) (new : SessionView) (d : Known) : Type 0 where
+  pub entries : List Event
+  pub enters : Enters id old c entries new d
+  pub left : Work
+  pub behind : IsLeftOfBringing c.number job result made entries left
+  pub denied : DeniesWork id.begin new.log left e

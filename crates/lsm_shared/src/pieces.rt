@@ -1,0 +1,70 @@
+// The pieces of work that a store does by itself.
+ghost use Rattle.std.specs.Prelude.{◌≡◌};
+ghost use Rattle.lsm_lives.specs.Asked.{Own as OfItself};
+ghost use Rattle.lsm_lives.specs.Calls.{asked_of_work, reply_of};
+ghost use Rattle.lsm_store.specs.Calls.{Done, reply_of as reply_by};
+ghost use Rattle.lsm_store.specs.Machine.{Worked};
+ghost use Rattle.lsm_store.specs.Working.{Works};
+ghost use Rattle.lsm_shared.specs.Pieces.{work_of};
+
+use lsm_device::{Device, Refusal};
+use lsm_lives::{Reply, Work};
+use lsm_store::Store;
+use std::alloc::Allocator;
+
+/// A piece of work that a store does by itself: a build and an accept need an input or a result besides.
+#[derive(Clone, Copy)]
+pub(crate) enum OwnPiece {
+    Take,
+    Read(u64),
+    Write(u64),
+    Install(u64),
+    Drop(u64),
+}
+
+impl OwnPiece {
+    /// The piece as a value of a trail.
+    pub(crate) fn work(self) -> Work
+        ensures { asked_of_work result ≡ OfItself (Worked (work_of self)) }
+    {
+        match self {
+            OwnPiece::Take => Work::Take,
+            OwnPiece::Read(job) => Work::Read(job),
+            OwnPiece::Write(job) => Work::Write(job),
+            OwnPiece::Install(job) => Work::Install(job),
+            OwnPiece::Drop(job) => Work::Drop(job),
+        }
+    }
+
+    /// The store does it. What the store refuses is a reply.
+    pub(crate) fn make<D: Device, A: Allocator + Clone>(self, store: &mut Store<D, A>) -> Reply<A>
+        ensures { Works store.old (work_of self) (reply_of result) store.new }
+    {
+        match self {
+            OwnPiece::Take => match store.job_take() {
+                Ok(job) => Reply::Taken(job),
+                Err(refusal) => Reply::Refused(refusal),
+            },
+            OwnPiece::Read(job) => match store.job_read(job) {
+                Ok(left) => Reply::Number(left as u64),
+                Err(refusal) => Reply::Refused(refusal),
+            },
+            OwnPiece::Write(job) => match store.job_write(job) {
+                Ok(left) => Reply::Number(u64::from(left)),
+                Err(refusal) => Reply::Refused(refusal),
+            },
+            OwnPiece::Install(job) => done(store.job_install(job)),
+            OwnPiece::Drop(job) => done(store.job_drop(job)),
+        }
+    }
+}
+
+/// The reply to a piece that answers nothing.
+pub(crate) fn done<A: Allocator>(answered: Result<(), Refusal>) -> Reply<A>
+    ensures { reply_of result ≡ reply_by (λ _. Done) answered }
+{
+    match answered {
+        Ok(()) => Reply::Done,
+        Err(refusal) => Reply::Refused(refusal),
+    }
+}

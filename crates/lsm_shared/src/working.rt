@@ -1,0 +1,306 @@
+// Pieces of work in a hold of the lock.
+ghost use Rattle.std.specs.Prelude.{◌≡◌, ◌≢◌, ◌∷◌, ℕ, [], Some, false, MatchBool, MatchResult};
+ghost use Rattle.lsm_device.specs.declared.refusal.Refusal.TheVariants.{NoMemory};
+ghost use Rattle.std.specs.Arc.{arc_value};
+ghost use Rattle.lsm_merge.specs.Inputs.{kept_of};
+ghost use Rattle.lsm_table.specs.Division.{IsTables};
+ghost use Rattle.lsm_lives.specs.Calls.{reply_of};
+ghost use Rattle.lsm_store.specs.Backing.{machine_of};
+ghost use Rattle.lsm_store.specs.Calls.{Handed, Refused};
+ghost use Rattle.lsm_store.specs.Pieces.{piece_at, is_put_off, places_from};
+ghost use Rattle.lsm_store.specs.Work.{Ask, Accept, Install};
+ghost use Rattle.lsm_store.specs.Working.{Works};
+ghost use Rattle.lsm_trail.specs.History.{worked, lent_to, accepted};
+ghost use Rattle.lsm_shared.specs.Holds.{IsPutBack, TakesAmong, StopsAmong, IsBroughtBy, StopsBringing};
+ghost use Rattle.lsm_shared.specs.Pieces.{work_of};
+ghost use Rattle.lsm_shared.specs.Sessions.{HasSeen, EntersOne};
+ghost use Rattle.lsm_shared.specs.Turns.{WasLent, tells_full_levels, tells_no_space};
+
+use crate::answer::answer_of;
+use crate::client::Client;
+use crate::pieces::{OwnPiece, done};
+use crate::session::Session;
+use crate::turn::Turn;
+use lsm_device::{Device, Refusal};
+use lsm_lives::{Reply, Work};
+use lsm_merge::{Built, Input};
+use lsm_store::Piece;
+use lsm_trail::{Counters, Entry, SessionName};
+use std::alloc::Allocator;
+use std::sync::Arc;
+
+/// In how many parts a result is to be built, as the trail says.
+const PARTS: u64 = 4;
+
+/// How many slots there are.
+const SLOTS: usize = 4;
+
+impl<D: Device, A: Allocator + Clone, B: SessionName> Session<D, A, B> {
+    /// Takes a turn of the client, as [`Client::turn`] says. The client sees the history first.
+    pub fn piece(
+        &mut self,
+        counters: &Counters<D, A, B>,
+        me: &mut Client<A, B>,
+    ) -> Result<Turn<A>, Refusal>
+        ensures { MatchResult result
+            (λ turn. TakesAmong B.id self.old me.old (places_from me.old.number) turn self.new me.new)
+            (λ e. StopsAmong B.id self.old me.old (places_from me.old.number) e self.new me.new) }
+    {
+        self.show(counters, me);
+        let first = me.number as usize;
+        let places = [
+            first % SLOTS,
+            (first + 1) % SLOTS,
+            (first + 2) % SLOTS,
+            (first + 3) % SLOTS,
+        ];
+        self.turn_among(counters, me, &places)
+    }
+
+    // Takes a turn over the slots at these places, in this order.
+    fn turn_among(
+        &mut self,
+        counters: &Counters<D, A, B>,
+        me: &mut Client<A, B>,
+        places: &[usize],
+    ) -> Result<Turn<A>, Refusal>
+        requires { HasSeen B.id self.old me.old }
+        ensures { MatchResult result
+            (λ turn. TakesAmong B.id self.old me.old places.now turn self.new me.new)
+            (λ e. StopsAmong B.id self.old me.old places.now e self.new me.new) }
+    {
+        let [place, rest @ ..] = places else {
+            return Ok(Turn::Idle);
+        };
+        match self.turn_at(counters, me, *place)? {
+            Turn::Idle => self.turn_among(counters, me, rest),
+            turn => Ok(turn),
+        }
+    }
+
+    // Takes a turn over the slot at one place: an install that is put off is passed over.
+    fn turn_at(
+        &mut self,
+        counters: &Counters<D, A, B>,
+        me: &mut Client<A, B>,
+        place: usize,
+    ) -> Result<Turn<A>, Refusal>
+        requires { HasSeen B.id self.old me.old }
+        ensures { MatchResult result
+            (λ turn. TakesAmong B.id self.old me.old (place ∷ []) turn self.new me.new)
+            (λ e. StopsAmong B.id self.old me.old (place ∷ []) e self.new me.new) }
+    {
+        match self.store.piece_at(place) {
+            None => Ok(Turn::Idle),
+            Some(Piece::Take) => self.did(counters, me, OwnPiece::Take),
+            Some(Piece::Read(job)) => self.did(counters, me, OwnPiece::Read(job)),
+            Some(Piece::Build(job)) => self.hand_out(counters, me, job),
+            Some(Piece::Write(job)) => self.did(counters, me, OwnPiece::Write(job)),
+            Some(Piece::Install(job)) => self.install(counters, me, job),
+        }
+    }
+
+    // Does the piece of work that a slot waits for, which is no install.
+    fn did(
+        &mut self,
+        counters: &Counters<D, A, B>,
+        me: &mut Client<A, B>,
+        piece: OwnPiece,
+    ) -> Result<Turn<A>, Refusal>
+        requires { HasSeen B.id self.old me.old }
+        ensures { (place : ℕ) → piece_at (machine_of self.old.store) place ≡ Some (work_of piece) → is_put_off (machine_of self.old.store) (work_of piece) ≡ false → MatchResult result
+            (λ turn. TakesAmong B.id self.old me.old (place ∷ []) turn self.new me.new)
+            (λ e. StopsAmong B.id self.old me.old (place ∷ []) e self.new me.new) }
+    {
+        let reply = self.work(counters, me, piece)?;
+        Ok(Turn::Did(reply))
+    }
+
+    // Installs the outputs of a job for which a slot waits, unless that is put off.
+    fn install(
+        &mut self,
+        counters: &Counters<D, A, B>,
+        me: &mut Client<A, B>,
+        job: u64,
+    ) -> Result<Turn<A>, Refusal>
+        requires { HasSeen B.id self.old me.old }
+        ensures { (place : ℕ) → piece_at (machine_of self.old.store) place ≡ Some (Install job) → MatchResult result
+            (λ turn. TakesAmong B.id self.old me.old (place ∷ []) turn self.new me.new)
+            (λ e. StopsAmong B.id self.old me.old (place ∷ []) e self.new me.new) }
+    {
+        let reply = self.work(counters, me, OwnPiece::Install(job))?;
+        if is_put_off(&reply) {
+            return Ok(Turn::Idle);
+        }
+        Ok(Turn::Did(reply))
+    }
+
+    // Hands out the input of a job for which a slot waits to be built.
+    fn hand_out(
+        &mut self,
+        counters: &Counters<D, A, B>,
+        me: &mut Client<A, B>,
+        job: u64,
+    ) -> Result<Turn<A>, Refusal>
+        requires { HasSeen B.id self.old me.old }
+        ensures { (place : ℕ) → piece_at (machine_of self.old.store) place ≡ Some (Ask job) → MatchResult result
+            (λ turn. TakesAmong B.id self.old me.old (place ∷ []) turn self.new me.new)
+            (λ e. StopsAmong B.id self.old me.old (place ∷ []) e self.new me.new) }
+    {
+        match self.store.job_input(job) {
+            Ok(input) => self.lend(counters, me, job, input),
+            Err(refusal) => self.refuse_build(counters, me, job, refusal),
+        }
+    }
+
+    // Enters a build to which this input was lent.
+    fn lend(
+        &mut self,
+        counters: &Counters<D, A, B>,
+        me: &mut Client<A, B>,
+        job: u64,
+        input: Arc<Input<A>, A>,
+    ) -> Result<Turn<A>, Refusal>
+        requires seen { HasSeen B.id self.old me.old }
+        requires lent { Works self.old.store (Ask job) (Handed (arc_value input)) self.old.store }
+        ensures { (place : ℕ) → piece_at (machine_of self.old.store) place ≡ Some (Ask job) → MatchResult result
+            (λ turn. TakesAmong B.id self.old me.old (place ∷ []) turn self.new me.new)
+            (λ e. StopsAmong B.id self.old me.old (place ∷ []) e self.new me.new) }
+    {
+        if self.history.is_full() {
+            return Err(Refusal::TrailFull);
+        }
+        let result = self.history.next_result();
+        let entry = Entry::of_build(me.number, job, PARTS, result, &input, &self.store);
+        self.history.enter(counters, me, entry, &self.store);
+        Ok(Turn::Merge { job, result, input })
+    }
+
+    // Enters a build to which no input was lent.
+    fn refuse_build(
+        &mut self,
+        counters: &Counters<D, A, B>,
+        me: &mut Client<A, B>,
+        job: u64,
+        refusal: Refusal,
+    ) -> Result<Turn<A>, Refusal>
+        requires seen { HasSeen B.id self.old me.old }
+        requires refused { Works self.old.store (Ask job) (Refused refusal) self.old.store }
+        ensures { (place : ℕ) → piece_at (machine_of self.old.store) place ≡ Some (Ask job) → MatchResult result
+            (λ turn. TakesAmong B.id self.old me.old (place ∷ []) turn self.new me.new)
+            (λ e. StopsAmong B.id self.old me.old (place ∷ []) e self.new me.new) }
+    {
+        if self.history.is_full() {
+            return Err(Refusal::TrailFull);
+        }
+        if is_short(refusal) {
+            return Err(Refusal::NoMemory);
+        }
+        let work = Work::Build { job, parts: PARTS };
+        let entry = Entry::of_work(me.number, work, Reply::Refused(refusal), &self.store);
+        self.history.enter(counters, me, entry, &self.store);
+        Ok(Turn::Did(Reply::Refused(refusal)))
+    }
+
+    // The store does a piece of work by itself, which is entered.
+    fn work(
+        &mut self,
+        counters: &Counters<D, A, B>,
+        me: &mut Client<A, B>,
+        piece: OwnPiece,
+    ) -> Result<Reply<A>, Refusal>
+        requires { HasSeen B.id self.old me.old }
+        ensures { MatchResult result
+            (λ reply. EntersOne B.id self.old me.old (worked me.old.number (work_of piece) (reply_of reply) (machine_of self.new.store)) self.new me.new)
+            (λ e. IsPutBack B.id self.old me.old (work_of piece) e self.new me.new) }
+    {
+        if self.history.is_full() {
+            return Err(Refusal::TrailFull);
+        }
+        let reply = piece.make(&mut self.store);
+        let answer = answer_of(&reply)?;
+        let entry = Entry::of_work(me.number, piece.work(), reply, &self.store);
+        self.history.enter(counters, me, entry, &self.store);
+        Ok(answer)
+    }
+
+    /// Accepts a result that the client brings, as [`Client::bring`] says. The client sees the history first.
+    pub fn accept(
+        &mut self,
+        counters: &Counters<D, A, B>,
+        me: &mut Client<A, B>,
+        job: u64,
+        number: u64,
+        built: &Built<A>,
+    ) -> Result<Reply<A>, Refusal>
+        requires { WasLent me.old.mine job number built.now.input }
+        ensures { MatchResult result
+            (λ reply. IsBroughtBy B.id self.old me.old job number built.now (reply_of reply) self.new me.new)
+            (λ e. StopsBringing B.id self.old me.old job number built.now e self.new me.new) }
+    {
+        self.show(counters, me);
+        let reply = self.accept_one(counters, me, job, number, built)?;
+        if is_without_room(&reply) {
+            self.work(counters, me, OwnPiece::Drop(job))?;
+            return Ok(reply);
+        }
+        Ok(reply)
+    }
+
+    // Accepts a result, and enters that.
+    fn accept_one(
+        &mut self,
+        counters: &Counters<D, A, B>,
+        me: &mut Client<A, B>,
+        job: u64,
+        number: u64,
+        built: &Built<A>,
+    ) -> Result<Reply<A>, Refusal>
+        requires seen { HasSeen B.id self.old me.old }
+        requires lent { WasLent me.old.mine job number built.now.input }
+        ensures { MatchResult result
+            (λ reply. EntersOne B.id self.old me.old (accepted me.old.number job number built.now (reply_of reply) (machine_of self.new.store)) self.new me.new)
+            (λ e. IsPutBack B.id self.old me.old (Accept job (Some built.now)) e self.new me.new) }
+    {
+        if self.history.is_full() {
+            return Err(Refusal::TrailFull);
+        }
+        are_tables(built);
+        let reply = done(self.store.job_accept(job, built));
+        let answer = answer_of(&reply)?;
+        let entry = Entry::of_accept(me.number, job, number, built, reply, &self.store);
+        self.history.enter(counters, me, entry, &self.store);
+        Ok(answer)
+    }
+}
+
+// Whether a refusal tells of want of memory.
+fn is_short(refusal: Refusal) -> bool
+    ensures { MatchBool result (refusal ≡ NoMemory) (refusal ≢ NoMemory) }
+{
+    matches!(refusal, Refusal::NoMemory)
+}
+
+// Whether a reply tells that an install is put off: the levels have no room for now.
+fn is_put_off<A: Allocator>(reply: &Reply<A>) -> bool
+    ensures { result ≡ tells_full_levels (reply_of reply.now) }
+{
+    matches!(
+        reply,
+        Reply::Refused(Refusal::TooManyRuns | Refusal::TooManyTables)
+    )
+}
+
+// Whether a reply tells that there is no room for a result.
+fn is_without_room<A: Allocator>(reply: &Reply<A>) -> bool
+    ensures { result ≡ tells_no_space (reply_of reply.now) }
+{
+    matches!(reply, Reply::Refused(Refusal::NoSpace))
+}
+
+// What was built are the tables that a merge makes of its input.
+fn are_tables<A: Allocator>(built: &Built<A>)
+    ensures { IsTables (kept_of built.now.input) built.now.images }
+{
+    let _images = built.images();
+}

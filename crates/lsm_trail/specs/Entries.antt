@@ -1,0 +1,62 @@
+-- What the entries of a trail show.
+use Rattle.std.specs.Prelude.{◌≡◌, ℕ, ◌&&◌, Bool, true, false, [], Option, Some, None}
+use Rattle.lsm_merge.specs.Inputs.{MergeInput}
+use Rattle.lsm_merge.specs.Results.{MergeResult}
+use Rattle.lsm_store.specs.Calls.{Reply}
+use Rattle.lsm_store.specs.Calls.{Number, Handed, Refused}
+use Rattle.lsm_store.specs.Machine.{Machine, Called, Worked}
+use Rattle.lsm_store.specs.Work.{Work, Ask, Accept}
+use Rattle.lsm_lives.specs.Asked.{Asked, Own, Build, AcceptBuilt}
+use Rattle.lsm_trail.specs.History.{Event, event}
+
+-- What contracts see of an entry that no code holds: of a build the input that was lent, and of an accept the result; and the
+-- machine after the step.
+pub record Beside : Type 0 where
+  pub made : MergeResult
+  pub machine : Machine
+
+-- an input with no tables, and none at all
+abbrev pub lent : MergeInput → MergeResult
+lent input = record { input = input; images = [] }
+
+abbrev pub no_result : MergeResult
+no_result = lent (record { runs = []; cuts = []; bottom = false })
+
+-- a build that was told the number of its result was lent the input; another one was refused
+abbrev build_shown : ℕ → ℕ → Reply → Beside → Event
+build_shown client job (Number result) b = event client (Worked (Ask job)) (Handed b.made.input) result b.machine
+build_shown client job other b = event client (Worked (Ask job)) other 0 b.machine
+
+-- what an entry shows
+abbrev pub event_shown : ℕ → Asked → Reply → Beside → Event
+event_shown client (Own step) reply b = event client step reply 0 b.machine
+event_shown client (Build job parts) reply b = build_shown client job reply b
+event_shown client (AcceptBuilt job result) reply b = event client (Worked (Accept job (Some b.made))) reply result b.machine
+
+-- whether a result is to be built, and whether a number was told
+abbrev pub is_build : Asked → Bool
+is_build (Build job parts) = true
+is_build other = false
+
+abbrev pub is_number : Reply → Bool
+is_number (Number n) = true
+is_number other = false
+
+-- the piece of work of what was asked that an entry shows by itself: one of the store's own, or a build that was refused
+abbrev pub piece_in : Asked → Reply → Option Work
+piece_in (Own (Worked piece)) reply = Some piece
+piece_in (Own (Called call)) reply = None
+piece_in (Build job parts) (Refused e) = Some (Ask job)
+piece_in (Build job parts) other = None
+piece_in (AcceptBuilt job result) reply = None
+
+-- An entry is of what was asked.
+abbrev pub IsOfStep : Event → Asked → Type 0
+IsOfStep e (Own step) = e.step ≡ step
+IsOfStep e (Build job parts) = e.step ≡ Worked (Ask job)
+IsOfStep e (AcceptBuilt job result) = (e.result ≡ result) × ((made : MergeResult) × (e.step ≡ Worked (Accept job (Some made))))
+
+-- what an entry tells: of an input that was lent the number of the result
+abbrev pub told_in : Reply → ℕ → Reply
+told_in (Handed input) result = Number result
+told_in other result = other

@@ -1,0 +1,34 @@
+-- The calls of a client, one after another.
+use Rattle.std.proofs.Common.{◌≡◌, List, [], ◌∷◌, ◌++◌, ℕ, ap, ◌∙◌}
+use Rattle.lsm_codec.specs.Map.{Operation}
+use Rattle.lsm_store.specs.Calls.{Call, Reply}
+use Rattle.lsm_store.specs.Calls.{Commit, Sync}
+use Rattle.lsm_trail.specs.History.{Event, called}
+use Rattle.lsm_trail.specs.Knowledge.{Known}
+use Rattle.lsm_shared.specs.Clients.{MakesCall}
+use Rattle.shared_example.specs.Shares.{IsAnswer, Makes, HasStored}
+
+-- a call that was answered is one more call
+pub makes : (c d : Known) (call : Call) (reply : Reply) → IsAnswer reply → MakesCall c call reply d → Makes c call d
+makes c d call reply answer made = record {
+  number = made.2.number;
+  reply = reply;
+  answered = answer;
+  machine = made.1;
+  mine = made.2.mine;
+}
+
+-- a commit and a sync of a client that had made no call
+pub stores : (c d e : Known) (batch : List Operation) → c.mine ≡ [] → Makes c (Commit batch) d → Makes d Sync e → HasStored c batch e
+stores c d e batch none first second =
+    let committed : Event = called c.number (Commit batch) first.reply first.machine in
+    let synced = λ (n : ℕ). called n Sync second.reply second.machine in (
+      second.number ∙ first.number,
+      record {
+        committed = first.reply;
+        synced = second.reply;
+        answered = (first.answered, second.answered);
+        machines = (first.machine, second.machine);
+        are = second.mine ∙ ap (λ (xs : List Event). xs ++ synced d.number ∷ []) (first.mine ∙ ap (λ (xs : List Event). xs ++ committed ∷ []) none) ∙ ap (λ (n : ℕ). committed ∷ synced n ∷ []) first.number;
+      },
+    )
