@@ -4,7 +4,7 @@ use Rattle.clap.specs.Words.{AddsSubcommand, App, Row, Text, is_simple, is_simpl
 use Rattle.clap.specs.declared.builder.command.Command.{Command}
 use Rattle.clap.proofs.OnLiterals.{clap_on_literals}
 use Rattle.lsm_language.specs.declared.asked.Asked.{Asked}
-use Rattle.lsm_language.specs.declared.asked.Asked.TheVariants.{Format, Put, Delete, Get, Scan, Stat, Check, Replay, Lives}
+use Rattle.lsm_language.specs.declared.asked.Asked.TheVariants.{Format, Put, Delete, Get, Scan, Stat, Check, Replay, Lives, Storm}
 use Rattle.lsm_cli.specs.Program.{Asks, IsCommand, has_words, program}
 
 -- the parser's matches of the program are those of its definitions
@@ -28,6 +28,7 @@ has_words-asked name rows (Stat file) (n, a) = rw (n, a) refl
 has_words-asked name rows (Check file) (n, a) = rw (n, a) refl
 has_words-asked name rows (Replay file) (n, a) = rw (n, a) refl
 has_words-asked name rows (Lives sectors log) (n, a, b) = rw (n, a, b) refl
+has_words-asked name rows (Storm clients commits workers) (n, a, b, c) = rw (n, a, b, c) refl
 
 -- a subcommand's name and its matches, from each of them
 pub found_together : {B : Type 0} (found : Option B) (pair_of : B → Text × List Row) (name : Text) (rows : List Row)

@@ -6,7 +6,7 @@ use Rattle.clap.specs.declared.builder.command.Command.{Command}
 use Rattle.clap.specs.declared.builder.command.Command.TheViews.{out-Command as fields_of}
 use Rattle.clap.specs.declared.builder.ArgAction.TheVariants.{Set}
 use Rattle.lsm_language.specs.declared.asked.Asked.{Asked}
-use Rattle.lsm_language.specs.declared.asked.Asked.TheVariants.{Format, Put, Delete, Get, Scan, Stat, Check, Replay, Lives}
+use Rattle.lsm_language.specs.declared.asked.Asked.TheVariants.{Format, Put, Delete, Get, Scan, Stat, Check, Replay, Lives, Storm}
 
 -- a word that has to be there
 abbrev pub word_rule : Text → Rule
@@ -36,15 +36,20 @@ with_changes app = with_words_at (with_words_at (with_words_at app
     (codes "put") (codes "FILE" ∷ codes "KEY" ∷ codes "VALUE" ∷ []))
     (codes "del") file_and_key
 
--- and those that read one, or a script
+-- those that do many things
+abbrev pub with_scripts : App → App
+with_scripts app = with_words_at (with_words_at (with_words_at app
+    (codes "replay") (codes "FILE" ∷ []))
+    (codes "lives") (codes "SECTORS" ∷ codes "LOG" ∷ []))
+    (codes "storm") (codes "CLIENTS" ∷ codes "COMMITS" ∷ codes "WORKERS" ∷ [])
+
+-- and between them those that read a store
 abbrev pub program : App
-program = with_words_at (with_words_at (with_words_at (with_words_at (with_words_at (with_words_at (with_changes bare_program)
+program = with_scripts (with_words_at (with_words_at (with_words_at (with_words_at (with_changes bare_program)
     (codes "get") file_and_key)
     (codes "scan") (codes "FILE" ∷ codes "FROM" ∷ codes "LIMIT" ∷ []))
     (codes "stat") (codes "FILE" ∷ []))
     (codes "check") (codes "FILE" ∷ []))
-    (codes "replay") (codes "FILE" ∷ []))
-    (codes "lives") (codes "SECTORS" ∷ codes "LOG" ∷ [])
 
 -- the parser sees the command so, and none of its words belongs to its subcommands too
 pub record IsCommand (app : App) (command : Command) : Type 0 where
@@ -72,6 +77,8 @@ Asks name rows (Check file) = (name ≡ codes "check") × HasWord rows (codes "F
 Asks name rows (Replay file) = (name ≡ codes "replay") × HasWord rows (codes "FILE") file.now
 Asks name rows (Lives sectors log) = (name ≡ codes "lives") × HasWord rows (codes "SECTORS") sectors.now
     × HasWord rows (codes "LOG") log.now
+Asks name rows (Storm clients commits workers) = (name ≡ codes "storm") × HasWord rows (codes "CLIENTS") clients.now
+    × HasWord rows (codes "COMMITS") commits.now × HasWord rows (codes "WORKERS") workers.now
 
 -- whether the name is one of a subcommand, and there is a word at each of its places
 abbrev pub has_word : List Row → Text → Bool
@@ -87,4 +94,5 @@ has_words name rows = if bytes_eq name (codes "format") then has_word rows (code
     else if bytes_eq name (codes "check") then has_word rows (codes "FILE")
     else if bytes_eq name (codes "replay") then has_word rows (codes "FILE")
     else if bytes_eq name (codes "lives") then has_word rows (codes "SECTORS") && has_word rows (codes "LOG")
+    else if bytes_eq name (codes "storm") then has_word rows (codes "CLIENTS") && (has_word rows (codes "COMMITS") && has_word rows (codes "WORKERS"))
     else false

@@ -6,7 +6,7 @@ ghost use Rattle.clap.specs.declared.error.kind.ErrorKind.TheVariants.{OutOfMemo
 ghost use Rattle.lsm_device.specs.declared.refusal.Refusal.TheVariants.{NoMemory};
 ghost use Rattle.lsm_language.specs.Faults.{reason_of, mistake, refusal};
 ghost use Rattle.lsm_language.specs.Words.{after};
-ghost use Rattle.lsm_cli.specs.Program.{bare_program, program, word_rule, with_changes, with_words, with_words_at, has_word, has_words, IsCommand, Asks, HasWord};
+ghost use Rattle.lsm_cli.specs.Program.{bare_program, program, word_rule, with_changes, with_scripts, with_words, with_words_at, has_word, has_words, IsCommand, Asks, HasWord};
 ghost use Rattle.lsm_cli.specs.Runs.{has_dash, IsAsked, AskNothing};
 
 use clap::error::ErrorKind;
@@ -121,6 +121,14 @@ fn command<'a>(alloc: Global) -> Result<Command<'a>, AllocError>
         "Check a store, and print its numbers",
         &["FILE"],
     )?;
+    let command = with_scripts(alloc, command)?;
+    Ok(command)
+}
+
+// The command with the subcommands that do many things: the steps of a script, or all that threads do at the same time.
+fn with_scripts<'a>(alloc: Global, command: Command<'a>) -> Result<Command<'a>, AllocError>
+    ensures { IfOk result (λ r. (app : App) → IsCommand app command.entry → IsCommand (with_scripts app) r) }
+{
     let command = adding(
         alloc,
         command,
@@ -134,6 +142,13 @@ fn command<'a>(alloc: Global) -> Result<Command<'a>, AllocError>
         "lives",
         "Lead lives in memory",
         &["SECTORS", "LOG"],
+    )?;
+    let command = adding(
+        alloc,
+        command,
+        "storm",
+        "Let clients and workers share a store in memory",
+        &["CLIENTS", "COMMITS", "WORKERS"],
     )?;
     Ok(command)
 }
@@ -251,6 +266,14 @@ fn subcommand<'a>(name: &str, given: &ArgMatches<'a>) -> Result<Asked<'a>, Usage
         "lives" => {
             let (sectors, log) = two(given, "SECTORS", "LOG")?;
             Ok(Asked::Lives { sectors, log })
+        }
+        "storm" => {
+            let (clients, commits, workers) = three(given, "CLIENTS", "COMMITS", "WORKERS")?;
+            Ok(Asked::Storm {
+                clients,
+                commits,
+                workers,
+            })
         }
         _ => Err(Usage::Missing("the subcommand")),
     }

@@ -16,12 +16,13 @@ use lsm_requests::ending::conclude;
 use std::convert::AsStr;
 use std::fs::{File, Files};
 use std::io::{Read, Write};
+use std::sync::Wait;
 use std::thread::Threads;
 
 /// Runs the program on the words after its name, and gives the exit status. A script is read from `input`, an answer
 /// goes to `output`, a fault to `errors`.
 pub fn run<
-    R: Files<File = File> + AllocGlobal + Threads + Sync,
+    R: Files<File = File> + AllocGlobal + Threads + Wait + Sync,
     S: AsStr,
     I: Read,
     O: Write,
@@ -50,7 +51,7 @@ pub fn run<
 }
 
 // Does what the words ask for.
-fn answer<R: Files<File = File> + AllocGlobal + Threads + Sync, S: AsStr, I: Read>(
+fn answer<R: Files<File = File> + AllocGlobal + Threads + Wait + Sync, S: AsStr, I: Read>(
     rt: &R,
     words: &[S],
     input: &mut I,

@@ -2,3 +2,4 @@ pub mod ScriptLaws
 pub mod WordLaws
 pub mod LineLaws
 pub mod NumberLaws
+pub mod LoadLaws

@@ -5,7 +5,7 @@ use Rattle.lsm_codec.specs.Keys.{Bytes}
 use Rattle.lsm_codec.specs.Words.{bytes_said}
 use Rattle.lsm_codec.specs.Answers.{or_then, key_refusal, value_refusal}
 use Rattle.lsm_language.specs.Numbers.{number_said}
-use Rattle.lsm_language.specs.Limits.{is_geometry}
+use Rattle.lsm_language.specs.Limits.{is_geometry, is_load}
 use Rattle.lsm_language.specs.Faults.{Reason, mistake, refusal}
 use Rattle.lsm_language.specs.Lines.{means}
 use Rattle.lsm_language.specs.Scripts.{script_said}
@@ -27,6 +27,9 @@ said_reason None = Some mistake
 
 abbrev pub limits_reason : ℕ → ℕ → Option Reason
 limits_reason sectors log = if is_geometry sectors log then None else Some (refusal BadGeometry)
+
+abbrev pub load_reason : ℕ → ℕ → ℕ → Option Reason
+load_reason clients commits workers = if is_load clients commits workers then None else Some (refusal BadLimit)
 
 abbrev pub number_in : List ℕ → ℕ
 number_in word = unwrap_or (number_said word) 0
@@ -62,6 +65,9 @@ reason_for (asked.Replay file) text = said_reason (script_said Steps text)
 reason_for (asked.Lives sectors log) text = or_else (said_reason (number_said sectors.now))
     (or_else (said_reason (number_said log.now)) (or_else (said_reason (script_said Lives text))
     (limits_reason (number_in sectors.now) (number_in log.now))))
+reason_for (asked.Storm clients commits workers) text = or_else (said_reason (number_said clients.now))
+    (or_else (said_reason (number_said commits.now)) (or_else (said_reason (number_said workers.now))
+    (load_reason (number_in clients.now) (number_in commits.now) (number_in workers.now))))
 
 -- the request has the numbers and bytes that the words say, the batch of one operation on them, and what the script says
 abbrev pub Says : Asked → List ℕ → Request → Type 0
@@ -80,4 +86,6 @@ Says (asked.Replay file) text (request.Replay path script) = (path.now ≡ file.
     × (script_said Steps text ≡ Some (map means script.items))
 Says (asked.Lives sectors log) text (request.Lives geometry script) = (number_said sectors.now ≡ Some geometry.sectors)
     × (number_said log.now ≡ Some geometry.log_sectors) × (script_said Lives text ≡ Some (map means script.items))
+Says (asked.Storm clients commits workers) text (request.Storm load) = (number_said clients.now ≡ Some load.clients)
+    × (number_said commits.now ≡ Some load.commits) × (number_said workers.now ≡ Some load.workers)
 Says _ _ _ = ⊥

@@ -39,4 +39,9 @@ pub enum Asked<'a> {
         sectors: &'a str,
         log: &'a str,
     },
+    Storm {
+        clients: &'a str,
+        commits: &'a str,
+        workers: &'a str,
+    },
 }

@@ -6,6 +6,7 @@ pub mod fault;
 pub mod geometry;
 pub mod input;
 pub mod line;
+pub mod load;
 pub mod number;
 pub mod operations;
 pub mod refused;

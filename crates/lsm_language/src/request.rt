@@ -7,7 +7,7 @@ ghost use Rattle.lsm_codec.specs.Words.{bytes_said};
 ghost use Rattle.lsm_language.specs.Faults.{reason_of, mistake, refusal};
 ghost use Rattle.lsm_language.specs.Numbers.{number_said};
 ghost use Rattle.lsm_language.specs.Lines.{means};
-ghost use Rattle.lsm_language.specs.Requests.{bytes_in, limits_reason, number_in, or_else, page_reason, said_reason};
+ghost use Rattle.lsm_language.specs.Requests.{bytes_in, limits_reason, load_reason, number_in, or_else, page_reason, said_reason};
 ghost use Rattle.lsm_language.specs.Scripts.{script_said};
 ghost use Rattle.lsm_language.specs.declared.script.Kind.TheVariants.{Lives};
 
@@ -15,6 +15,7 @@ use crate::asked::Asked;
 use crate::fault::{Fault, Usage};
 use crate::geometry::Geometry;
 use crate::line::Line;
+use crate::load::Load;
 use crate::number::parse_number;
 use crate::script::{Kind, read_script};
 use lsm_codec::{Batch, Op, unword};
@@ -63,6 +64,10 @@ pub enum Request<'a> {
         geometry: Geometry,
         script: Vec<Line>,
     },
+    /// Let clients and workers share a store in memory, in threads.
+    Storm {
+        load: Load,
+    },
 }
 
 impl<'a> Request<'a> {
@@ -104,6 +109,14 @@ impl<'a> Request<'a> {
             Asked::Lives { sectors, log } => {
                 let (geometry, script) = lives_in(alloc, sectors, log, text)?;
                 Ok(Request::Lives { geometry, script })
+            }
+            Asked::Storm {
+                clients,
+                commits,
+                workers,
+            } => {
+                let load = load_in(alloc, clients, commits, workers)?;
+                Ok(Request::Storm { load })
             }
         }
     }
@@ -180,6 +193,21 @@ fn lives_in(
     let script = read_script(alloc, Kind::Lives, text)?;
     let geometry = Geometry::new(sectors, log_sectors)?;
     Ok((geometry, script))
+}
+
+// What three words let clients and workers do.
+fn load_in(alloc: Global, clients: &str, commits: &str, workers: &str) -> Result<Load, Fault>
+    ensures { let reason = or_else (said_reason (number_said clients.now)) (or_else (said_reason (number_said commits.now))
+        (or_else (said_reason (number_said workers.now)) (load_reason (number_in clients.now) (number_in commits.now) (number_in workers.now)))) in
+        MatchResult result
+        (λ l. (reason ≡ None) × (number_said clients.now ≡ Some l.clients) × (number_said commits.now ≡ Some l.commits)
+        × (number_said workers.now ≡ Some l.workers))
+        (λ e. (reason ≡ Some (reason_of e)) ⊎ (reason_of e ≡ refusal NoMemory)) }
+{
+    let clients = number(alloc, clients, "CLIENTS")?;
+    let commits = number(alloc, commits, "COMMITS")?;
+    let workers = number(alloc, workers, "WORKERS")?;
+    Ok(Load::new(clients, commits, workers)?)
 }
 
 // The number that the word at a place says.

@@ -31,8 +31,10 @@ use Rattle.lsm_lives.specs.Leading.{AreLed, LifeView}
 use Rattle.lsm_lives.specs.Living.{KeepPromise, asked_in}
 use Rattle.lsm_requests.specs.Steps.{steps_after, told_after, lives_said, told_lives}
 use Rattle.lsm_requests.specs.Settling.{Settles}
-use Rattle.lsm_requests.specs.Replies.{page_lines, stat_line, report_line, table_line, replies_text, lives_text}
+use Rattle.lsm_requests.specs.Replies.{page_lines, stat_line, report_line, table_line, counts_lines, replies_text, lives_text}
 use Rattle.lsm_requests.specs.declared.steps.Told.{Told}
+use Rattle.lsm_storm.specs.Storms.{HasStormed}
+use Rattle.lsm_storm.specs.declared.counts.Counts.{Counts}
 use Rattle.lsm_language.specs.declared.request.Request.{Request}
 use Rattle.lsm_language.specs.declared.request.Request.TheVariants as request
 use Rattle.lsm_requests.specs.declared.answer.Answer.{Answer}
@@ -171,6 +173,12 @@ pub record HasLives (sectors log_sectors : ℕ) (lives : List LifeView) (steps :
   pub promise : KeepPromise log_sectors [] empty_store (asked_in lives) replies (disk left)
   pub told : HasLines (lives_text steps replies) output
 
+-- so many clients and workers shared a store in memory, and what is counted of that is told
+pub record HasCounted (threads : ℕ) (output : Output) : Type 0 where
+  pub counts : Counts
+  pub stormed : HasStormed threads counts
+  pub told : HasLines (counts_lines counts) output
+
 -- what answers a request
 abbrev pub Gives : Request → Answer → Type 0
 Gives (request.Format file geometry) = HasFormatted geometry.sectors geometry.log_sectors
@@ -181,3 +189,4 @@ Gives (request.Stat file) = OfOpened HasNumbers
 Gives (request.Check file) = HasChecked
 Gives (request.Replay file script) = OfOpened (HasReplies (map asked_of (steps_after [] script.items)) (told_after [] script.items))
 Gives (request.Lives geometry script) = λ answer. HasLives geometry.sectors geometry.log_sectors (lives_said script.items) (told_lives script.items) answer.output
+Gives (request.Storm load) = λ answer. HasCounted (load.clients + load.workers) answer.output

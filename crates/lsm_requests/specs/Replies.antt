@@ -8,6 +8,7 @@ use Rattle.lsm_store.specs.Calls.{Reply, Number, Done, Value, Rows, Given, Hande
 use Rattle.lsm_store.specs.declared.stat.Stat.{Stat}
 use Rattle.lsm_check.specs.declared.report.Report.{Report}
 use Rattle.lsm_language.specs.Faults.{refusal_line}
+use Rattle.lsm_storm.specs.declared.counts.Counts.{Counts}
 use Rattle.lsm_lives.specs.Asked.{Told as LivesTold, Replied, Built}
 use Rattle.lsm_requests.specs.declared.steps.Counted.{Counted}
 use Rattle.lsm_requests.specs.declared.steps.Counted.TheVariants as counted
@@ -62,6 +63,11 @@ report_line report = codes "ok generation " ++ decimal report.generation ++ code
 -- what a check found wrong with a table, in one line
 abbrev pub table_line : List ℕ → ℕ → List ℕ
 table_line what number = codes "finding " ++ what ++ codes " table " ++ decimal number ++ 10 ∷ []
+
+-- what a storm did, a line for each count
+abbrev pub counts_lines : Counts → List ℕ
+counts_lines counts = codes "commits " ++ decimal counts.commits ++ codes "\nbatches " ++ decimal counts.batches
+    ++ codes "\nrows " ++ decimal counts.rows ++ 10 ∷ []
 
 -- a job that was taken, if there was one: a flush, or by the level of its upper tables
 abbrev pub job_line : Option (ℕ × Option ℕ) → List ℕ

@@ -18,7 +18,7 @@ pub enum Output {
     Value(String),
     /// The key has no value.
     Absent,
-    /// A line for each row, or for each step, or one with a store's numbers.
+    /// A line for each row, for each step, or for each count, or one with a store's numbers.
     Lines(String),
     /// A line with what a check found wrong.
     Found(String),

@@ -1,13 +1,13 @@
 //! The calls of the store that a request makes, on a store in a file.
 
-ghost use Rattle.std.specs.Prelude.{[], map, IfOk};
+ghost use Rattle.std.specs.Prelude.{[], ◌+◌, map, IfOk};
 ghost use Rattle.lsm_lives.specs.Calls.{asked_of};
 ghost use Rattle.lsm_requests.specs.Steps.{steps_after, lives_said, told_after, told_lives};
 ghost use Rattle.lsm_requests.specs.Replies.{table_line};
-ghost use Rattle.lsm_requests.specs.Answers.{Gives, HasFormatted, HasCommitted, HasFound, HasLives, HasNumbers, HasChecked, IsChecked, TellsFound, HasRows, HasReplies, OfOpened, WasOpened};
+ghost use Rattle.lsm_requests.specs.Answers.{Gives, HasFormatted, HasCommitted, HasCounted, HasFound, HasLives, HasNumbers, HasChecked, IsChecked, TellsFound, HasRows, HasReplies, OfOpened, WasOpened};
 
 use crate::answer::{Answer, Output};
-use crate::reply::{push_page, report_text, stat_text, table_text};
+use crate::reply::{counts_text, push_page, report_text, stat_text, table_text};
 use crate::runs;
 use crate::settling::settle;
 use crate::steps::steps_of;
@@ -16,17 +16,19 @@ use lsm_codec::{Batch, word};
 use lsm_device::{Device, FileDevice, Refusal};
 use lsm_language::geometry::Geometry;
 use lsm_language::line::Line;
+use lsm_language::load::Load;
 use lsm_language::request::Request;
 use lsm_store::{At, Store};
 use std::alloc::Global;
 use std::fs::{File, Files};
+use std::sync::Wait;
 use std::thread::Threads;
 
 /// The blocks that an opened store may keep in memory.
 const CACHE: u32 = 256;
 
 /// Does what is asked for.
-pub fn answer<R: Files<File = File> + AllocGlobal + Threads + Sync>(
+pub fn answer<R: Files<File = File> + AllocGlobal + Threads + Wait + Sync>(
     rt: &R,
     request: Request<'_>,
 ) -> Result<Answer, Refusal>
@@ -41,6 +43,7 @@ pub fn answer<R: Files<File = File> + AllocGlobal + Threads + Sync>(
         Request::Check { file } => check(rt, file),
         Request::Replay { file, script } => replay(rt, file, script),
         Request::Lives { geometry, script } => lives(rt, rt.alloc(), geometry, script),
+        Request::Storm { load } => storm(rt, rt.alloc(), load),
     }
 }
 
@@ -221,4 +224,14 @@ fn lives<R: Threads + Sync>(
 {
     let output = runs::lives(rt, alloc, geometry, script)?;
     Ok(Answer { output, file: None })
+}
+
+fn storm<R: Threads + Wait + Sync>(rt: &R, alloc: Global, load: Load) -> Result<Answer, Refusal>
+    ensures { IfOk result (λ answer. HasCounted (load.clients + load.workers) answer.output) }
+{
+    let counts = lsm_storm::storm(rt, alloc, load)?;
+    Ok(Answer {
+        output: Output::Lines(counts_text(alloc, &counts)?),
+        file: None,
+    })
 }

@@ -5,7 +5,7 @@ ghost use Rattle.lsm_device.specs.declared.refusal.Refusal.TheVariants.{NoMemory
 ghost use Rattle.lsm_lives.specs.Calls.{told_of};
 ghost use Rattle.lsm_lives.specs.Living.{told_by};
 ghost use Rattle.lsm_language.specs.Faults.{refusal_line};
-ghost use Rattle.lsm_requests.specs.Replies.{counted_word, digit_of, lives_text, next_line, page_lines, replies_text, report_line, table_line, stat_line, told_line, job_line, rows_line};
+ghost use Rattle.lsm_requests.specs.Replies.{counted_word, digit_of, lives_text, next_line, page_lines, replies_text, counts_lines, report_line, table_line, stat_line, told_line, job_line, rows_line};
 
 use crate::steps::{Counted, Told};
 use lsm_check::Report;
@@ -14,6 +14,7 @@ use lsm_device::Refusal;
 use lsm_language::refused::refusal_text;
 use lsm_lives::Reply;
 use lsm_store::{Page, Stat, TakenJob};
+use lsm_storm::Counts;
 use std::alloc::Global;
 use std::fmt::Write;
 
@@ -205,6 +206,19 @@ pub fn table_text(alloc: Global, what: &str, number: u64) -> Result<String, Refu
     let mut text = String::new(alloc);
     write!(text, "finding {what}")?;
     push_number(&mut text, " table ", number)?;
+    text.push_str("\n")?;
+    Ok(text)
+}
+
+/// What a storm did, a line for each count.
+pub fn counts_text(alloc: Global, counts: &Counts) -> Result<String, Refusal>
+    ensures text { IfOk result (λ text. string_bytes text ≡ counts_lines counts.now) }
+    ensures refused { IfErr result (λ e. e ≡ NoMemory) }
+{
+    let mut text = String::new(alloc);
+    push_number(&mut text, "commits ", counts.commits)?;
+    push_number(&mut text, "\nbatches ", counts.batches)?;
+    push_number(&mut text, "\nrows ", counts.rows)?;
     text.push_str("\n")?;
     Ok(text)
 }

@@ -12,6 +12,7 @@ use std::env::Env;
 use std::fs::{File, Files};
 use std::io::{ErrorKind, Read, Write};
 use std::process::ExitCode;
+use std::sync::Wait;
 use std::thread::Threads;
 
 fn main(rt: HostRuntime) -> ExitCode {
@@ -20,12 +21,12 @@ fn main(rt: HostRuntime) -> ExitCode {
 }
 
 // Runs the program on the words after its name.
-fn status<R: Files<File = File> + Env + AllocGlobal + Threads + Sync, I: Read, O: Write, E: Write>(
-    rt: &R,
-    input: &mut I,
-    output: &mut O,
-    errors: &mut E,
-) -> u8
+fn status<
+    R: Files<File = File> + Env + AllocGlobal + Threads + Wait + Sync,
+    I: Read,
+    O: Write,
+    E: Write,
+>(rt: &R, input: &mut I, output: &mut O, errors: &mut E) -> u8
     ensures { result ≤ 2 }
 {
     match words_of(rt) {

@@ -1,0 +1,7 @@
+use Rattle.std.proofs.Common.{◌∙◌}
+use Rattle.lsm_store.specs.RecoveryPoints.{present_map}
+use Rattle.lsm_storm.proofs.Pages.{all_rows}
+use Rattle.lsm_storm.proofs.counts.rows_in.Goals as goal
+
+pub returns : goal.returns
+returns c = c.in_ok-rows.ensures.rows ∙ all_rows (present_map c.args.store.now.state.points)

@@ -1,0 +1,50 @@
+// What one client of a storm does.
+
+use lsm_codec::{Batch, Op};
+use lsm_device::{MemDevice, Refusal};
+use lsm_lives::Call;
+use lsm_shared::{Client, Shared};
+use lsm_trail::SessionName;
+use std::alloc::Global;
+use std::sync::Wait;
+
+// The key of a client's commit: the two numbers, each in two bytes.
+fn key_of(client: u32, commit: u16) -> [u8; 4] {
+    let [_, _, a, b] = client.to_be_bytes();
+    let [c, d] = commit.to_be_bytes();
+    [a, b, c, d]
+}
+
+// A batch of one put, whose value is its key.
+fn batch_of(alloc: Global, key: &[u8; 4]) -> Result<Batch, Refusal> {
+    Batch::new(alloc, Op::put(alloc, key, key)?)
+}
+
+// Makes one commit, whatever comes of it. Where there is no memory for its batch it makes none.
+fn commit<B: SessionName, R: Wait>(
+    rt: &R,
+    alloc: Global,
+    shared: &Shared<MemDevice, Global, B>,
+    me: &mut Client<Global, B>,
+    number: u16,
+) {
+    if let Ok(batch) = batch_of(alloc, &key_of(me.number(), number)) {
+        let _ = me.call(rt, shared, Call::Commit(batch));
+    }
+}
+
+/// Makes so many commits, each of a key of its own, and in their middle one rotation, whatever comes of each.
+pub(crate) fn commit_all<B: SessionName, R: Wait>(
+    rt: &R,
+    alloc: Global,
+    shared: &Shared<MemDevice, Global, B>,
+    me: &mut Client<Global, B>,
+    commits: u16,
+) {
+    for number in 0..commits {
+        if number == commits / 2 {
+            let _ = me.call(rt, shared, Call::Rotate);
+        }
+        commit(rt, alloc, shared, me, number);
+    }
+}
