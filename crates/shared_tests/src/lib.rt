@@ -21,3 +21,7 @@ mod threads;
 mod turns;
 #[cfg(test)]
 mod watching;
+#[cfg(test)]
+mod workers;
+#[cfg(test)]
+mod working;

@@ -5,7 +5,7 @@ ghost use Rattle.std.specs.Prelude.{◌≡◌};
 use lsm_device::{MemDevice, Refusal};
 use lsm_lives::{Call, Reply};
 use lsm_open::format;
-use lsm_shared::{Client, Shared};
+use lsm_shared::{Client, Shared, Turn};
 use lsm_store::Store;
 use lsm_trail::{Numbers, Opened, SessionName, Trail};
 use std::alloc::{Allocator, Global};
@@ -84,6 +84,12 @@ impl<A: Allocator + Clone, B: SessionName> Session<B, A> {
     ) -> Result<Reply<A>, Refusal> {
         let client = self.clients.get_mut(client).expect(rt, "a client");
         client.call(rt, &self.shared, call)
+    }
+
+    /// A turn of a client by its place among them.
+    pub fn turn<R: Wait + Abort>(&mut self, rt: &R, client: usize) -> Result<Turn<A>, Refusal> {
+        let client = self.clients.get_mut(client).expect(rt, "a client");
+        client.turn(rt, &self.shared)
     }
 
     /// What a client by its place among them reads of the history without the lock.
