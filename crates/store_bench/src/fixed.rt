@@ -7,7 +7,8 @@ use crate::told;
 use crate::workloads::WORKLOADS;
 use anyhow::Result;
 use lsm_device::{MemDevice, Refusal};
-use std::alloc::Global;
+use std::alloc::{AllocError, Global};
+use std::fmt::Write;
 use std::rt::Clock;
 use std::sync::Wait;
 use std::thread::Threads;
@@ -17,31 +18,44 @@ fn subject(alloc: Global) -> Result<Subject<MemDevice>, Refusal> {
     Subject::on(alloc, MemDevice::new(alloc, SMALL.sectors)?)
 }
 
-/// What is measured of the workloads, in order.
+/// Adds how many answers of a workload were right.
+fn push_answers(text: &mut String, name: &str, measured: Measured) -> Result<(), AllocError> {
+    let right = measured.right;
+    let wanted = measured.wanted;
+    writeln!(text, "{name}: {right} of {wanted}")
+}
+
+/// Has a store do each workload, adds what comes of it, and tells whether all answers were right.
+fn measure_each<R: Clock + Threads + Wait + Sync>(
+    rt: &R,
+    alloc: Global,
+    subject: &mut Subject<MemDevice>,
+    text: &mut String,
+) -> Result<bool, Refusal> {
+    let mut right = true;
+    for workload in WORKLOADS.iter() {
+        let measured = measure(rt, alloc, subject, SMALL, *workload)?;
+        push_answers(text, workload.name, measured)?;
+        right = right && measured.right == measured.wanted;
+    }
+    Ok(right)
+}
+
 fn measured<R: Clock + Threads + Wait + Sync>(
     rt: &R,
     alloc: Global,
-) -> Result<Vec<Measured>, Refusal> {
+    text: &mut String,
+) -> Result<bool, Refusal> {
     let mut subject = subject(alloc)?;
-    let mut all = Vec::new(alloc);
-    for workload in WORKLOADS {
-        all.push(measure(rt, alloc, &mut subject, SMALL, workload)?)?;
-    }
-    Ok(all)
+    measure_each(rt, alloc, &mut subject, text)
 }
 
 /// Does each workload, prints how many of its answers were right, and tells whether all were.
 pub(crate) fn check<R: Clock + Threads + Wait + Print + AllocGlobal + Sync>(
     rt: &R,
 ) -> Result<bool> {
-    let all = measured(rt, rt.alloc()).map_err(told)?;
-    let mut right = true;
-    for (workload, measured) in WORKLOADS.iter().zip(all.iter()) {
-        let name = workload.name;
-        let found = measured.right;
-        let wanted = measured.wanted;
-        println!(rt; "{name}: {found} of {wanted}")?;
-        right = right && found == wanted;
-    }
+    let mut text = String::new(rt.alloc());
+    let right = measured(rt, rt.alloc(), &mut text).map_err(told)?;
+    print!(rt; "{text}")?;
     Ok(right)
 }

@@ -1,9 +1,8 @@
 //! The runs on a file, which are measured beside raw calls.
 
 use crate::measuring::measure;
-use crate::plot::bar;
 use crate::raw::Raw;
-use crate::report::{Sample, lines, text};
+use crate::report::{Sample, report};
 use crate::sizes::FULL;
 use crate::subject::Subject;
 use crate::told;
@@ -89,18 +88,8 @@ fn run<R: Files<File = File> + Clock + Threads + Wait + Sync>(
 }
 
 fn print<R: Print>(rt: &R, alloc: Global, samples: &[Sample]) -> Result<()> {
-    let lines = lines(alloc, samples)?;
-    println!(rt; "workload               operations  store ops/s    raw ops/s   ratio    aim")?;
-    for (line, workload) in lines.iter().zip(WORKLOADS) {
-        let text = text(alloc, *line, workload.name, workload.aim)?;
-        println!(rt; "{text}")?;
-    }
-    println!(rt; "")?;
-    for (line, workload) in lines.iter().zip(WORKLOADS) {
-        let name = workload.name;
-        let bar = bar(alloc, line.ratio, workload.aim)?;
-        println!(rt; "{name:<22} {bar}")?;
-    }
+    let text = report(alloc, samples)?;
+    print!(rt; "{text}")?;
     Ok(())
 }
 

@@ -25,13 +25,26 @@ pub(crate) struct Measured {
     pub(crate) pieces: u32,
 }
 
+impl Measured {
+    /// So many operations, of which nothing is measured yet, and as many answers are wanted.
+    fn of(operations: u32) -> Measured {
+        Measured {
+            operations,
+            nanos: 0,
+            right: 0,
+            wanted: operations,
+            pieces: 0,
+        }
+    }
+}
+
 /// All answers are right, or none where the batches are too few or too many.
 fn right_of(right: u32, batches: u64, wanted: u64) -> u32 {
     if batches == wanted { right } else { 0 }
 }
 
 /// How many puts a way of committing makes.
-pub(crate) fn puts_of(sizes: Sizes, way: Way) -> u32 {
+fn puts_of(sizes: Sizes, way: Way) -> u32 {
     if !way.synced {
         sizes.keys
     } else if way.puts == 1 {
@@ -48,16 +61,25 @@ fn commits<R: Clock + Threads + Sync, D: Device + Drop>(
     puts: Puts,
 ) -> Result<Measured, Refusal> {
     let before = subject.batch_count();
-    let nanos = commit_all(rt, alloc, subject, puts)?;
     let wanted = before.wrapping_add(u64::from(puts.batches()));
+    let mut measured = Measured::of(puts.count);
+    measured.nanos = commit_all(rt, alloc, subject, puts)?;
     let right = count_hits(subject, puts.count, puts.round)?;
-    Ok(Measured {
-        operations: puts.count,
-        nanos,
-        right: right_of(right, subject.batch_count(), wanted),
-        wanted: puts.count,
-        pieces: 0,
-    })
+    measured.right = right_of(right, subject.batch_count(), wanted);
+    Ok(measured)
+}
+
+fn timed_load<R: Clock + Threads + Sync, D: Device + Drop>(
+    rt: &R,
+    alloc: Global,
+    subject: &mut Subject<D>,
+    puts: Puts,
+) -> Result<Measured, Refusal> {
+    let start = now(rt)?;
+    let mut measured = Measured::of(puts.count);
+    measured.pieces = load(rt, alloc, subject, puts)?;
+    measured.nanos = since(rt, start)?;
+    Ok(measured)
 }
 
 fn loads<R: Clock + Threads + Sync, D: Device + Drop>(
@@ -67,67 +89,45 @@ fn loads<R: Clock + Threads + Sync, D: Device + Drop>(
     puts: Puts,
 ) -> Result<Measured, Refusal> {
     subject.renew(alloc)?;
-    let start = now(rt)?;
-    let pieces = load(rt, alloc, subject, puts)?;
-    let nanos = since(rt, start)?;
+    let mut measured = timed_load(rt, alloc, subject, puts)?;
     let right = count_hits(subject, puts.count, puts.round)?;
-    Ok(Measured {
-        operations: puts.count,
-        nanos,
-        right: right_of(right, subject.batch_count(), u64::from(puts.batches())),
-        wanted: puts.count,
-        pieces,
-    })
+    let wanted = u64::from(puts.batches());
+    measured.right = right_of(right, subject.batch_count(), wanted);
+    Ok(measured)
 }
 
-fn get_hits<R: Clock, D: Device + Drop>(
-    rt: &R,
+/// Gets of all keys, or of as many that have no value, or scans. Their time is not measured yet.
+fn read<D: Device + Drop>(
     subject: &mut Subject<D>,
-    count: u32,
+    sizes: Sizes,
+    work: Work,
     round: u8,
 ) -> Result<Measured, Refusal> {
-    let start = now(rt)?;
-    let right = count_hits(subject, count, round)?;
-    Ok(Measured {
-        operations: count,
-        nanos: since(rt, start)?,
-        right,
-        wanted: count,
-        pieces: 0,
-    })
+    let mut measured = Measured::of(sizes.keys);
+    match work {
+        Work::GetHit => measured.right = count_hits(subject, sizes.keys, round)?,
+        Work::GetMiss => measured.right = count_misses(subject, sizes.keys, sizes.keys)?,
+        _ => {
+            let found = scan_often(subject, sizes.scans, round)?;
+            measured.operations = found.pages;
+            measured.right = found.rows;
+            measured.wanted = sizes.keys.wrapping_mul(sizes.scans);
+        }
+    }
+    Ok(measured)
 }
 
-fn get_misses<R: Clock, D: Device + Drop>(
-    rt: &R,
-    subject: &mut Subject<D>,
-    count: u32,
-) -> Result<Measured, Refusal> {
-    let start = now(rt)?;
-    let right = count_misses(subject, count, count)?;
-    Ok(Measured {
-        operations: count,
-        nanos: since(rt, start)?,
-        right,
-        wanted: count,
-        pieces: 0,
-    })
-}
-
-fn scans<R: Clock, D: Device + Drop>(
+fn reads<R: Clock, D: Device + Drop>(
     rt: &R,
     subject: &mut Subject<D>,
     sizes: Sizes,
+    work: Work,
     round: u8,
 ) -> Result<Measured, Refusal> {
     let start = now(rt)?;
-    let found = scan_often(subject, sizes.scans, round)?;
-    Ok(Measured {
-        operations: found.pages,
-        nanos: since(rt, start)?,
-        right: found.rows,
-        wanted: sizes.keys.wrapping_mul(sizes.scans),
-        pieces: 0,
-    })
+    let mut measured = read(subject, sizes, work, round)?;
+    measured.nanos = since(rt, start)?;
+    Ok(measured)
 }
 
 /// Fills the log, and opens the store with it. It answers the nanoseconds, and how many values were found.
@@ -152,13 +152,8 @@ fn reopenings<R: Clock + Threads + Sync, D: Device + Drop>(
     puts: Puts,
     times: u32,
 ) -> Result<Measured, Refusal> {
-    let mut measured = Measured {
-        operations: times,
-        nanos: 0,
-        right: 0,
-        wanted: puts.count.wrapping_mul(times),
-        pieces: 0,
-    };
+    let mut measured = Measured::of(times);
+    measured.wanted = puts.count.wrapping_mul(times);
     for _ in 0..times {
         let (nanos, right) = reopen(rt, alloc, subject, puts)?;
         measured.nanos = measured.nanos.wrapping_add(nanos);
@@ -191,17 +186,14 @@ fn shares<R: Clock + Threads + Wait + Sync, D: Device + Drop + Send>(
     times: u32,
 ) -> Result<Measured, Refusal> {
     let commits = task.commits.wrapping_mul(task.clients);
-    let operations = commits.wrapping_mul(times);
-    let wanted = subject.batch_count().wrapping_add(u64::from(operations));
-    let nanos = sessions(rt, alloc, subject, task, times)?;
+    let mut measured = Measured::of(commits.wrapping_mul(times));
+    let before = subject.batch_count();
+    let wanted = before.wrapping_add(u64::from(measured.operations));
+    measured.nanos = sessions(rt, alloc, subject, task, times)?;
     let right = count_hits(subject, commits, task.round)?;
-    Ok(Measured {
-        operations,
-        nanos,
-        right: right_of(right, subject.batch_count(), wanted),
-        wanted: commits,
-        pieces: 0,
-    })
+    measured.right = right_of(right, subject.batch_count(), wanted);
+    measured.wanted = commits;
+    Ok(measured)
 }
 
 /// What so many clients do in one of how many sessions.
@@ -238,9 +230,9 @@ pub(crate) fn measure<R: Clock + Threads + Wait + Sync, D: Device + Drop + Send>
             let count = sizes.keys;
             loads(rt, alloc, subject, Puts { way, count, round })
         }
-        Work::GetHit => get_hits(rt, subject, sizes.keys, round),
-        Work::GetMiss => get_misses(rt, subject, sizes.keys),
-        Work::Scan => scans(rt, subject, sizes, round),
+        Work::GetHit | Work::GetMiss | Work::Scan => {
+            reads(rt, subject, sizes, workload.work, round)
+        }
         Work::Reopen(way) => {
             let count = sizes.logged;
             let puts = Puts { way, count, round };

@@ -1,6 +1,6 @@
 //! A plot of the ratios, in text.
 
-use std::alloc::{AllocError, Global};
+use std::alloc::AllocError;
 
 /// How many thousandths of a ratio a column stands for.
 const COLUMN: u64 = 25;
@@ -19,13 +19,12 @@ fn sign(column: u64, bar: u64, aim: u64) -> char {
     }
 }
 
-/// A bar as long as a ratio, with a mark where the aim is, both in thousandths.
-pub(crate) fn bar(alloc: Global, ratio: u64, aim: u64) -> Result<String, AllocError> {
+/// Adds a line with a bar as long as a ratio, and a mark where the aim is, both in thousandths.
+pub(crate) fn push_bar(text: &mut String, ratio: u64, aim: u64) -> Result<(), AllocError> {
     let bar = (ratio / COLUMN).min(COLUMNS);
     let mark = (aim / COLUMN).min(COLUMNS);
-    let mut text = String::new(alloc);
     for column in 0..bar.max(mark.wrapping_add(1)) {
         text.push(sign(column, bar, mark))?;
     }
-    Ok(text)
+    text.push('\n')
 }

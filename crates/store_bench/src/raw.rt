@@ -2,7 +2,7 @@
 
 use crate::clock::{now, since};
 use crate::keys::sectors_of;
-use crate::measuring::{Measured, puts_of};
+use crate::measuring::Measured;
 use crate::sizes::{BLOCK_BYTES, KEY_BYTES, LOAD_BYTES, SECTOR_BYTES, Sizes, VALUE_BYTES};
 use crate::workloads::{Way, Work};
 use lsm_device::{FileDevice, Refusal};
@@ -43,6 +43,15 @@ struct Reads {
     count: u32,
     bytes: u32,
     in_order: bool,
+}
+
+/// The calls beside a workload.
+#[derive(Clone, Copy)]
+enum Calls {
+    Write(Writes),
+    Read(Reads),
+    /// What so many openings of logs of so many sectors must do.
+    Open { times: u32, sectors: u32 },
 }
 
 fn opened<R: Files<File = File>>(rt: &R, path: &str) -> Result<File, Refusal> {
@@ -146,21 +155,17 @@ impl Raw {
         Ok(())
     }
 
-    fn writes<R: Clock>(&self, rt: &R, writes: Writes) -> Result<u64, Refusal> {
-        let start = now(rt)?;
-        self.write_all(writes)?;
-        since(rt, start)
+    fn make(&mut self, calls: Calls) -> Result<(), Refusal> {
+        match calls {
+            Calls::Write(writes) => self.write_all(writes),
+            Calls::Read(reads) => self.read_all(reads),
+            Calls::Open { times, sectors } => self.open_all(times, sectors),
+        }
     }
 
-    fn reads<R: Clock>(&mut self, rt: &R, reads: Reads) -> Result<u64, Refusal> {
+    fn timed<R: Clock>(&mut self, rt: &R, calls: Calls) -> Result<u64, Refusal> {
         let start = now(rt)?;
-        self.read_all(reads)?;
-        since(rt, start)
-    }
-
-    fn openings<R: Clock>(&mut self, rt: &R, times: u32, sectors: u32) -> Result<u64, Refusal> {
-        let start = now(rt)?;
-        self.open_all(times, sectors)?;
+        self.make(calls)?;
         since(rt, start)
     }
 
@@ -173,21 +178,27 @@ impl Raw {
         work: Work,
         measured: Measured,
     ) -> Result<u64, Refusal> {
-        match work {
-            Work::Commit(way) => self.writes(rt, writes_of(alloc, puts_of(sizes, way), way)?),
-            Work::Load(way) => self.writes(rt, load_of(alloc, sizes, way, measured.pieces)?),
-            Work::GetHit | Work::GetMiss => self.reads(rt, gets_of(sizes.keys)),
-            Work::Scan => self.reads(rt, scan_of(sizes)),
-            Work::Reopen(_) => self.openings(rt, sizes.openings, sizes.logged),
-            Work::Share { synced, .. } => self.writes(
-                rt,
-                Writes {
-                    count: measured.operations,
-                    bytes: SECTOR_BYTES,
-                    synced,
-                },
-            ),
-        }
+        let calls = calls_of(alloc, sizes, work, measured)?;
+        self.timed(rt, calls)
+    }
+}
+
+/// The calls of a workload.
+fn calls_of(alloc: Global, sizes: Sizes, work: Work, measured: Measured) -> Result<Calls, Refusal> {
+    match work {
+        Work::Commit(way) => Ok(Calls::Write(writes_of(alloc, measured.operations, way)?)),
+        Work::Load(way) => Ok(Calls::Write(load_of(alloc, way, measured)?)),
+        Work::GetHit | Work::GetMiss => Ok(Calls::Read(gets_of(measured.operations))),
+        Work::Scan => Ok(Calls::Read(scan_of(measured.wanted))),
+        Work::Reopen(_) => Ok(Calls::Open {
+            times: measured.operations,
+            sectors: sizes.logged,
+        }),
+        Work::Share { synced, .. } => Ok(Calls::Write(Writes {
+            count: measured.operations,
+            bytes: SECTOR_BYTES,
+            synced,
+        })),
     }
 }
 
@@ -201,11 +212,11 @@ fn writes_of(alloc: Global, puts: u32, way: Way) -> Result<Writes, Refusal> {
 }
 
 /// One write for each piece of tables that a load wrote, and as many as the sectors of its batches fill.
-fn load_of(alloc: Global, sizes: Sizes, way: Way, pieces: u32) -> Result<Writes, Refusal> {
-    let logged = writes_of(alloc, sizes.keys, way)?;
+fn load_of(alloc: Global, way: Way, measured: Measured) -> Result<Writes, Refusal> {
+    let logged = writes_of(alloc, measured.operations, way)?;
     let logs = logged.count.wrapping_mul(logged.bytes).div_ceil(LOAD_BYTES);
     Ok(Writes {
-        count: pieces.wrapping_add(logs),
+        count: measured.pieces.wrapping_add(logs),
         bytes: LOAD_BYTES,
         synced: false,
     })
@@ -221,12 +232,10 @@ fn gets_of(count: u32) -> Reads {
 }
 
 /// One read of a block for as many bytes of rows.
-fn scan_of(sizes: Sizes) -> Reads {
-    let rows = sizes.keys.wrapping_mul(sizes.scans);
+fn scan_of(rows: u32) -> Reads {
+    let bytes = rows.wrapping_mul(KEY_BYTES + VALUE_BYTES);
     Reads {
-        count: rows
-            .wrapping_mul(KEY_BYTES + VALUE_BYTES)
-            .div_ceil(BLOCK_BYTES),
+        count: bytes.div_ceil(BLOCK_BYTES),
         bytes: BLOCK_BYTES,
         in_order: true,
     }

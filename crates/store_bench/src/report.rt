@@ -1,8 +1,10 @@
 //! The table of rates and ratios.
 
 use crate::measuring::Measured;
-use crate::workloads::WORKLOADS;
+use crate::plot::push_bar;
+use crate::workloads::{WORKLOADS, Workload};
 use std::alloc::{AllocError, Global};
+use std::fmt::Write;
 
 /// What one run measured of a workload: operations, operations a second of the store and of the raw calls, and the ratio of
 /// these rates in thousandths.
@@ -74,7 +76,7 @@ fn middle(
 }
 
 /// A line of the table: the middle ones of all runs.
-pub(crate) fn line(alloc: Global, samples: &[Sample], place: usize) -> Result<Sample, AllocError> {
+fn line(alloc: Global, samples: &[Sample], place: usize) -> Result<Sample, AllocError> {
     let mut operations = 0;
     for sample in samples {
         if sample.place == place {
@@ -90,34 +92,56 @@ pub(crate) fn line(alloc: Global, samples: &[Sample], place: usize) -> Result<Sa
     })
 }
 
-/// The lines of all workloads, in order.
-pub(crate) fn lines(alloc: Global, samples: &[Sample]) -> Result<Vec<Sample>, AllocError> {
-    let mut lines = Vec::new(alloc);
-    for place in 0..WORKLOADS.len() {
-        lines.push(line(alloc, samples, place)?)?;
+/// A number of thousandths: the whole part, and two places behind the point.
+fn parts(thousandths: u64) -> (u64, u64) {
+    (thousandths / 1_000, thousandths / 10 % 100)
+}
+
+/// Adds a line of the table.
+fn push_line(text: &mut String, line: Sample, workload: &Workload) -> Result<(), AllocError> {
+    let Workload { name, aim, .. } = *workload;
+    let Sample {
+        operations,
+        store,
+        raw,
+        ..
+    } = line;
+    let (ratio, part) = parts(line.ratio);
+    let (aim, aim_part) = parts(aim);
+    writeln!(
+        text,
+        "{name:<22} {operations:>10} {store:>12} {raw:>12} {ratio:>4}.{part:02} {aim:>3}.{aim_part:02}"
+    )
+}
+
+/// Adds the bar of a workload.
+fn push_row(text: &mut String, ratio: u64, workload: &Workload) -> Result<(), AllocError> {
+    let name = workload.name;
+    write!(text, "{name:<22} ")?;
+    push_bar(text, ratio, workload.aim)
+}
+
+fn push_table(alloc: Global, text: &mut String, samples: &[Sample]) -> Result<(), AllocError> {
+    text.push_str("workload               operations  store ops/s    raw ops/s   ratio    aim\n")?;
+    for (place, workload) in WORKLOADS.iter().enumerate() {
+        push_line(text, line(alloc, samples, place)?, workload)?;
     }
-    Ok(lines)
+    Ok(())
 }
 
-/// A number of thousandths as text, with two places behind the point.
-fn decimal(alloc: Global, thousandths: u64) -> Result<String, AllocError> {
-    let hundredths = thousandths / 10;
-    let whole = hundredths / 100;
-    let part = hundredths % 100;
-    format!(in alloc; "{whole}.{part:02}")
+fn push_plot(alloc: Global, text: &mut String, samples: &[Sample]) -> Result<(), AllocError> {
+    for (place, workload) in WORKLOADS.iter().enumerate() {
+        let ratio = middle(alloc, samples, place, Figure::Ratio)?;
+        push_row(text, ratio, workload)?;
+    }
+    Ok(())
 }
 
-/// The text of a line.
-pub(crate) fn text(
-    alloc: Global,
-    line: Sample,
-    name: &str,
-    aim: u64,
-) -> Result<String, AllocError> {
-    let operations = line.operations;
-    let store = line.store;
-    let raw = line.raw;
-    let ratio = decimal(alloc, line.ratio)?;
-    let aim = decimal(alloc, aim)?;
-    format!(in alloc; "{name:<22} {operations:>10} {store:>12} {raw:>12} {ratio:>7} {aim:>6}")
+/// The table of all workloads, and behind it a plot of their ratios.
+pub(crate) fn report(alloc: Global, samples: &[Sample]) -> Result<String, AllocError> {
+    let mut text = String::new(alloc);
+    push_table(alloc, &mut text, samples)?;
+    text.push('\n')?;
+    push_plot(alloc, &mut text, samples)?;
+    Ok(text)
 }
