@@ -19,6 +19,9 @@ use std::thread::{Threads, for_each_mut};
 /// The places of a trail: more than a session has calls.
 const PLACES: u32 = 8_192;
 
+/// The most threads: one for each client.
+const MOST_THREADS: usize = 64;
+
 /// What clients do: each makes so many commits of one put, of numbers of its own, in a round, and syncs each or not.
 #[derive(Clone, Copy)]
 pub(crate) struct Task {
@@ -75,7 +78,7 @@ fn take_parts<D: Device + Send, B: SessionName + Send + Sync, R: Threads + Wait 
     for_each_mut(
         rt,
         clients,
-        task.clients as usize,
+        MOST_THREADS,
         &|_, me| { take_part(rt, alloc, shared, me, task) },
     );
 }
