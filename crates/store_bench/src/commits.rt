@@ -1,7 +1,7 @@
 //! Commits of batches.
 
 use crate::clock::{now, since};
-use crate::jobs::settle;
+use crate::jobs::{Written, settle};
 use crate::keys::batch_of;
 use crate::subject::Subject;
 use crate::workloads::Way;
@@ -95,17 +95,17 @@ pub(crate) fn commit_all<R: Clock + Threads + Sync, D: Device + Drop>(
     Ok(nanos)
 }
 
-/// Commits all puts, and settles the store behind each log. It answers how many pieces of tables were written.
+/// Commits all puts, and settles the store behind each log. It answers what settling wrote.
 pub(crate) fn load<R: Threads + Sync, D: Device + Drop>(
     rt: &R,
     alloc: Global,
     subject: &mut Subject<D>,
     puts: Puts,
-) -> Result<u32, Refusal> {
-    let mut written = 0_u32;
+) -> Result<Written, Refusal> {
+    let mut written = Written::nothing();
     for log in 0..puts.logs() {
         commit_log(alloc, subject, puts, log)?;
-        written = written.wrapping_add(settle(rt, alloc, subject)?);
+        written = written.and(settle(rt, alloc, subject)?);
     }
     Ok(written)
 }

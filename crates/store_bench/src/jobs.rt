@@ -16,6 +16,30 @@ const MOST_PIECES: u32 = 100_000;
 /// In how many parts a result is built.
 const PARTS: u8 = 4;
 
+/// What settling wrote: pieces of tables, each of 64 sectors at most, and roots, which rotations and installs write.
+#[derive(Clone, Copy)]
+pub(crate) struct Written {
+    pub(crate) pieces: u32,
+    pub(crate) roots: u32,
+}
+
+impl Written {
+    pub(crate) fn nothing() -> Written {
+        Written {
+            pieces: 0,
+            roots: 0,
+        }
+    }
+
+    /// This and more.
+    pub(crate) fn and(self, more: Written) -> Written {
+        Written {
+            pieces: self.pieces.wrapping_add(more.pieces),
+            roots: self.roots.wrapping_add(more.roots),
+        }
+    }
+}
+
 fn read<D: Device + Drop>(subject: &mut Subject<D>, job: u64) -> Result<(), Refusal> {
     for _ in 0..MOST_PIECES {
         if subject.job_read(job)? == 0 {
@@ -46,66 +70,70 @@ fn write<D: Device + Drop>(subject: &mut Subject<D>, job: u64) -> Result<u32, Re
     Err(Refusal::WrongState)
 }
 
-/// Does a job that was taken, and answers how many pieces were written.
+/// Does a job that was taken, and answers what it wrote.
 fn finish<R: Threads + Sync, D: Device + Drop>(
     rt: &R,
     alloc: Global,
     subject: &mut Subject<D>,
     taken: TakenJob,
-) -> Result<u32, Refusal> {
+) -> Result<Written, Refusal> {
     if taken.level.is_some() {
         read(subject, taken.number)?;
     }
     merge(rt, alloc, subject, taken.number)?;
     let pieces = write(subject, taken.number)?;
     subject.job_install(taken.number)?;
-    Ok(pieces)
+    Ok(Written { pieces, roots: 1 })
 }
 
-/// Does the next job. It answers how many pieces were written, none where there is no job.
+/// Does the next job. It answers what that wrote, none where there is no job.
 fn finish_next<R: Threads + Sync, D: Device + Drop>(
     rt: &R,
     alloc: Global,
     subject: &mut Subject<D>,
-) -> Result<Option<u32>, Refusal> {
+) -> Result<Option<Written>, Refusal> {
     match subject.job_take()? {
         Some(taken) => Ok(Some(finish(rt, alloc, subject, taken)?)),
         None => Ok(None),
     }
 }
 
-/// Does jobs until none is left, and answers how many pieces were written.
+/// Does jobs until none is left, and answers what they wrote.
 fn finish_all<R: Threads + Sync, D: Device + Drop>(
     rt: &R,
     alloc: Global,
     subject: &mut Subject<D>,
-) -> Result<u32, Refusal> {
-    let mut written = 0_u32;
+) -> Result<Written, Refusal> {
+    let mut written = Written::nothing();
     for _ in 0..MOST_JOBS {
         match finish_next(rt, alloc, subject)? {
-            Some(pieces) => written = written.wrapping_add(pieces),
+            Some(more) => written = written.and(more),
             None => return Ok(written),
         }
     }
     Err(Refusal::WrongState)
 }
 
-fn rotate<D: Device + Drop>(subject: &mut Subject<D>) -> Result<(), Refusal> {
+/// It answers what that wrote: a root, or nothing where the log is empty already.
+fn rotate<D: Device + Drop>(subject: &mut Subject<D>) -> Result<Written, Refusal> {
     match subject.rotate() {
-        Err(Refusal::NothingToRotate) => Ok(()),
-        answer => answer,
+        Ok(()) => Ok(Written {
+            pieces: 0,
+            roots: 1,
+        }),
+        Err(Refusal::NothingToRotate) => Ok(Written::nothing()),
+        Err(refusal) => Err(refusal),
     }
 }
 
-/// Moves all versions into tables, does jobs until none is left, and opens an empty log. It answers how many pieces of tables
-/// were written, each of 32 KiB at most.
+/// Moves all versions into tables, does jobs until none is left, and opens an empty log. It answers what was written.
 pub(crate) fn settle<R: Threads + Sync, D: Device + Drop>(
     rt: &R,
     alloc: Global,
     subject: &mut Subject<D>,
-) -> Result<u32, Refusal> {
+) -> Result<Written, Refusal> {
     let before = finish_all(rt, alloc, subject)?;
-    rotate(subject)?;
+    let rotated = rotate(subject)?;
     let behind = finish_all(rt, alloc, subject)?;
-    Ok(before.wrapping_add(behind))
+    Ok(before.and(rotated).and(behind))
 }

@@ -3,7 +3,7 @@
 use crate::clients::Task;
 use crate::clock::{now, since};
 use crate::commits::{Puts, commit_all, load};
-use crate::jobs::settle;
+use crate::jobs::{Written, settle};
 use crate::reads::{count_hits, count_misses, scan_often};
 use crate::sizes::Sizes;
 use crate::subject::Subject;
@@ -21,8 +21,8 @@ pub(crate) struct Measured {
     pub(crate) nanos: u64,
     pub(crate) right: u32,
     pub(crate) wanted: u32,
-    /// The pieces of tables that a load wrote, each of 32 KiB at most.
-    pub(crate) pieces: u32,
+    /// What a load wrote beside its log.
+    pub(crate) written: Written,
 }
 
 impl Measured {
@@ -33,7 +33,7 @@ impl Measured {
             nanos: 0,
             right: 0,
             wanted: operations,
-            pieces: 0,
+            written: Written::nothing(),
         }
     }
 }
@@ -77,7 +77,7 @@ fn timed_load<R: Clock + Threads + Sync, D: Device + Drop>(
 ) -> Result<Measured, Refusal> {
     let start = now(rt)?;
     let mut measured = Measured::of(puts.count);
-    measured.pieces = load(rt, alloc, subject, puts)?;
+    measured.written = load(rt, alloc, subject, puts)?;
     measured.nanos = since(rt, start)?;
     Ok(measured)
 }

@@ -3,7 +3,7 @@
 use crate::clock::{now, since};
 use crate::keys::sectors_of;
 use crate::measuring::Measured;
-use crate::sizes::{BLOCK_BYTES, KEY_BYTES, LOAD_BYTES, SECTOR_BYTES, Sizes, VALUE_BYTES};
+use crate::sizes::{BLOCK_BYTES, KEY_BYTES, PIECE_SECTORS, SECTOR_BYTES, Sizes, VALUE_BYTES};
 use crate::workloads::{Way, Work};
 use lsm_device::{FileDevice, Refusal};
 use std::alloc::Global;
@@ -29,11 +29,11 @@ impl Drop for Raw {
     }
 }
 
-/// So many writes of so many bytes each, at growing offsets, and each is synced or not.
+/// So many sectors written so many times, one by one at growing offsets, and each time synced or not.
 #[derive(Clone, Copy)]
 struct Writes {
     count: u32,
-    bytes: u32,
+    sectors: u32,
     synced: bool,
 }
 
@@ -50,6 +50,8 @@ struct Reads {
 enum Calls {
     Write(Writes),
     Read(Reads),
+    /// What a load must do that writes so many sectors and roots.
+    Load { sectors: u32, roots: u32 },
     /// What so many openings of logs of so many sectors must do.
     Open { times: u32, sectors: u32 },
 }
@@ -62,7 +64,7 @@ fn opened<R: Files<File = File>>(rt: &R, path: &str) -> Result<File, Refusal> {
 }
 
 fn zeros(alloc: Global) -> Result<Vec<u8>, Refusal> {
-    Ok(vec![in alloc; 7; LOAD_BYTES as usize]?)
+    Ok(vec![in alloc; 7; BLOCK_BYTES as usize]?)
 }
 
 impl Raw {
@@ -89,9 +91,10 @@ impl Raw {
         place.wrapping_mul(u64::from(bytes))
     }
 
-    fn write(&self, place: u32, bytes: u32) -> Result<(), Refusal> {
-        let offset = self.offset(place, bytes);
-        let count = (bytes as usize).min(self.buffer.len());
+    /// Writes the sector of a place.
+    fn write(&self, place: u32) -> Result<(), Refusal> {
+        let offset = self.offset(place, SECTOR_BYTES);
+        let count = (SECTOR_BYTES as usize).min(self.buffer.len());
         match self.file.write_at(&self.buffer[..count], offset) {
             Ok(written) if written == count => Ok(()),
             _ => Err(Refusal::Io),
@@ -114,14 +117,31 @@ impl Raw {
         }
     }
 
+    /// Writes so many sectors from a place on.
+    fn write_from(&self, first: u32, sectors: u32) -> Result<(), Refusal> {
+        for number in 0..sectors {
+            self.write(first.wrapping_add(number))?;
+        }
+        Ok(())
+    }
+
     fn write_all(&self, writes: Writes) -> Result<(), Refusal> {
-        for place in 0..writes.count {
-            self.write(place, writes.bytes)?;
+        for number in 0..writes.count {
+            self.write_from(number.wrapping_mul(writes.sectors), writes.sectors)?;
             if writes.synced {
                 self.sync()?;
             }
         }
         Ok(())
+    }
+
+    /// Roots: for each a manifest and a superblock of one sector, each synced.
+    fn write_roots(&self, roots: u32) -> Result<(), Refusal> {
+        self.write_all(Writes {
+            count: roots.wrapping_mul(2),
+            sectors: 1,
+            synced: true,
+        })
     }
 
     fn read_all(&mut self, reads: Reads) -> Result<(), Refusal> {
@@ -136,8 +156,7 @@ impl Raw {
         Ok(())
     }
 
-    /// What each opening must do: a sync, a read of each sector of the log, and a manifest and a superblock of one sector,
-    /// each synced.
+    /// What each opening must do: a sync, a read of each sector of the log, and a root.
     fn open_all(&mut self, times: u32, sectors: u32) -> Result<(), Refusal> {
         for _ in 0..times {
             self.sync()?;
@@ -146,11 +165,7 @@ impl Raw {
                 bytes: SECTOR_BYTES,
                 in_order: true,
             })?;
-            self.write_all(Writes {
-                count: 2,
-                bytes: SECTOR_BYTES,
-                synced: true,
-            })?;
+            self.write_roots(1)?;
         }
         Ok(())
     }
@@ -159,6 +174,10 @@ impl Raw {
         match calls {
             Calls::Write(writes) => self.write_all(writes),
             Calls::Read(reads) => self.read_all(reads),
+            Calls::Load { sectors, roots } => {
+                self.write_from(0, sectors)?;
+                self.write_roots(roots)
+            }
             Calls::Open { times, sectors } => self.open_all(times, sectors),
         }
     }
@@ -187,7 +206,7 @@ impl Raw {
 fn calls_of(alloc: Global, sizes: Sizes, work: Work, measured: Measured) -> Result<Calls, Refusal> {
     match work {
         Work::Commit(way) => Ok(Calls::Write(writes_of(alloc, measured.operations, way)?)),
-        Work::Load(way) => Ok(Calls::Write(load_of(alloc, way, measured)?)),
+        Work::Load(way) => load_of(alloc, way, measured),
         Work::GetHit | Work::GetMiss => Ok(Calls::Read(gets_of(measured.operations))),
         Work::Scan => Ok(Calls::Read(scan_of(measured.wanted))),
         Work::Reopen(_) => Ok(Calls::Open {
@@ -196,29 +215,29 @@ fn calls_of(alloc: Global, sizes: Sizes, work: Work, measured: Measured) -> Resu
         }),
         Work::Share { synced, .. } => Ok(Calls::Write(Writes {
             count: measured.operations,
-            bytes: SECTOR_BYTES,
+            sectors: 1,
             synced,
         })),
     }
 }
 
-/// One write of all sectors of each batch.
+/// A write of each sector of each batch.
 fn writes_of(alloc: Global, puts: u32, way: Way) -> Result<Writes, Refusal> {
     Ok(Writes {
         count: puts / way.puts.max(1),
-        bytes: sectors_of(alloc, way.puts)?.wrapping_mul(SECTOR_BYTES),
+        sectors: sectors_of(alloc, way.puts)?,
         synced: way.synced,
     })
 }
 
-/// One write for each piece of tables that a load wrote, and as many as the sectors of its batches fill.
-fn load_of(alloc: Global, way: Way, measured: Measured) -> Result<Writes, Refusal> {
+/// A write of each sector of the batches and of the pieces of tables, and the roots.
+fn load_of(alloc: Global, way: Way, measured: Measured) -> Result<Calls, Refusal> {
     let logged = writes_of(alloc, measured.operations, way)?;
-    let logs = logged.count.wrapping_mul(logged.bytes).div_ceil(LOAD_BYTES);
-    Ok(Writes {
-        count: measured.pieces.wrapping_add(logs),
-        bytes: LOAD_BYTES,
-        synced: false,
+    let in_tables = measured.written.pieces.wrapping_mul(PIECE_SECTORS);
+    let in_logs = logged.count.wrapping_mul(logged.sectors);
+    Ok(Calls::Load {
+        sectors: in_tables.wrapping_add(in_logs),
+        roots: measured.written.roots,
     })
 }
 

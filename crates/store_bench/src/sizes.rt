@@ -15,8 +15,8 @@ pub(crate) const CACHE: u32 = 4_096;
 /// The bytes of a block of a table, and of a raw read beside a get or a scan.
 pub(crate) const BLOCK_BYTES: u32 = 4_096;
 
-/// The bytes of a raw write beside a load.
-pub(crate) const LOAD_BYTES: u32 = 32_768;
+/// The sectors of a piece of tables: a job writes eight blocks at most at a time.
+pub(crate) const PIECE_SECTORS: u32 = 64;
 
 /// The bytes of a key and of a value.
 pub(crate) const KEY_BYTES: u32 = 16;
