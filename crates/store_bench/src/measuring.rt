@@ -1,0 +1,246 @@
+//! What a store does of each workload, how long it takes, and how many of its answers are right.
+
+use crate::clients::Task;
+use crate::clock::{now, since};
+use crate::commits::{Puts, commit_all, load};
+use crate::jobs::{Written, settle};
+use crate::reads::{count_hits, count_misses, scan_often};
+use crate::sizes::Sizes;
+use crate::subject::Subject;
+use crate::workloads::{Way, Work, Workload};
+use lsm_device::{Device, Refusal};
+use std::alloc::Global;
+use std::rt::Clock;
+use std::sync::Wait;
+use std::thread::Threads;
+
+/// So many operations took so many nanoseconds, and so many of the wanted answers were right.
+#[derive(Clone, Copy)]
+pub(crate) struct Measured {
+    pub(crate) operations: u32,
+    pub(crate) nanos: u64,
+    pub(crate) right: u32,
+    pub(crate) wanted: u32,
+    /// What a load wrote beside its log.
+    pub(crate) written: Written,
+}
+
+impl Measured {
+    /// So many operations, of which nothing is measured yet, and as many answers are wanted.
+    fn of(operations: u32) -> Measured {
+        Measured {
+            operations,
+            nanos: 0,
+            right: 0,
+            wanted: operations,
+            written: Written::nothing(),
+        }
+    }
+}
+
+/// All answers are right, or none where the batches are too few or too many.
+fn right_of(right: u32, batches: u64, wanted: u64) -> u32 {
+    if batches == wanted { right } else { 0 }
+}
+
+/// How many puts a way of committing makes.
+fn puts_of(sizes: Sizes, way: Way) -> u32 {
+    if !way.synced {
+        sizes.keys
+    } else if way.puts == 1 {
+        sizes.synced_puts
+    } else {
+        sizes.synced_in_batches
+    }
+}
+
+fn commits<R: Clock + Threads + Sync, D: Device + Drop>(
+    rt: &R,
+    alloc: Global,
+    subject: &mut Subject<D>,
+    puts: Puts,
+) -> Result<Measured, Refusal> {
+    let before = subject.batch_count();
+    let wanted = before.wrapping_add(u64::from(puts.batches()));
+    let mut measured = Measured::of(puts.count);
+    measured.nanos = commit_all(rt, alloc, subject, puts)?;
+    let right = count_hits(subject, puts.count, puts.round)?;
+    measured.right = right_of(right, subject.batch_count(), wanted);
+    Ok(measured)
+}
+
+fn timed_load<R: Clock + Threads + Sync, D: Device + Drop>(
+    rt: &R,
+    alloc: Global,
+    subject: &mut Subject<D>,
+    puts: Puts,
+) -> Result<Measured, Refusal> {
+    let start = now(rt)?;
+    let mut measured = Measured::of(puts.count);
+    measured.written = load(rt, alloc, subject, puts)?;
+    measured.nanos = since(rt, start)?;
+    Ok(measured)
+}
+
+fn loads<R: Clock + Threads + Sync, D: Device + Drop>(
+    rt: &R,
+    alloc: Global,
+    subject: &mut Subject<D>,
+    puts: Puts,
+) -> Result<Measured, Refusal> {
+    subject.renew(alloc)?;
+    let mut measured = timed_load(rt, alloc, subject, puts)?;
+    let right = count_hits(subject, puts.count, puts.round)?;
+    let wanted = u64::from(puts.batches());
+    measured.right = right_of(right, subject.batch_count(), wanted);
+    Ok(measured)
+}
+
+/// Gets of all keys, or of as many that have no value, or scans. Their time is not measured yet.
+fn read<D: Device + Drop>(
+    subject: &mut Subject<D>,
+    sizes: Sizes,
+    work: Work,
+    round: u8,
+) -> Result<Measured, Refusal> {
+    let mut measured = Measured::of(sizes.keys);
+    match work {
+        Work::GetHit => measured.right = count_hits(subject, sizes.keys, round)?,
+        Work::GetMiss => measured.right = count_misses(subject, sizes.keys, sizes.keys)?,
+        _ => {
+            let found = scan_often(subject, sizes.scans, round)?;
+            measured.operations = found.pages;
+            measured.right = found.rows;
+            measured.wanted = sizes.keys.wrapping_mul(sizes.scans);
+        }
+    }
+    Ok(measured)
+}
+
+fn reads<R: Clock, D: Device + Drop>(
+    rt: &R,
+    subject: &mut Subject<D>,
+    sizes: Sizes,
+    work: Work,
+    round: u8,
+) -> Result<Measured, Refusal> {
+    let start = now(rt)?;
+    let mut measured = read(subject, sizes, work, round)?;
+    measured.nanos = since(rt, start)?;
+    Ok(measured)
+}
+
+/// Fills the log, and opens the store with it. It answers the nanoseconds, and how many values were found.
+fn reopen<R: Clock + Threads + Sync, D: Device + Drop>(
+    rt: &R,
+    alloc: Global,
+    subject: &mut Subject<D>,
+    puts: Puts,
+) -> Result<(u64, u32), Refusal> {
+    commit_all(rt, alloc, subject, puts)?;
+    subject.sync()?;
+    let before = subject.batch_count();
+    let nanos = subject.reopen(rt, alloc)?;
+    let right = count_hits(subject, puts.count, puts.round)?;
+    Ok((nanos, right_of(right, subject.batch_count(), before)))
+}
+
+fn reopenings<R: Clock + Threads + Sync, D: Device + Drop>(
+    rt: &R,
+    alloc: Global,
+    subject: &mut Subject<D>,
+    puts: Puts,
+    times: u32,
+) -> Result<Measured, Refusal> {
+    let mut measured = Measured::of(times);
+    measured.wanted = puts.count.wrapping_mul(times);
+    for _ in 0..times {
+        let (nanos, right) = reopen(rt, alloc, subject, puts)?;
+        measured.nanos = measured.nanos.wrapping_add(nanos);
+        measured.right = measured.right.wrapping_add(right);
+    }
+    Ok(measured)
+}
+
+/// Sessions one after another, each of which begins with an empty log. It answers the nanoseconds.
+fn sessions<R: Clock + Threads + Wait + Sync, D: Device + Drop + Send>(
+    rt: &R,
+    alloc: Global,
+    subject: &mut Subject<D>,
+    task: Task,
+    times: u32,
+) -> Result<u64, Refusal> {
+    let mut nanos = 0_u64;
+    for _ in 0..times {
+        settle(rt, alloc, subject)?;
+        nanos = nanos.wrapping_add(subject.share(rt, alloc, task)?);
+    }
+    Ok(nanos)
+}
+
+fn shares<R: Clock + Threads + Wait + Sync, D: Device + Drop + Send>(
+    rt: &R,
+    alloc: Global,
+    subject: &mut Subject<D>,
+    task: Task,
+    times: u32,
+) -> Result<Measured, Refusal> {
+    let commits = task.commits.wrapping_mul(task.clients);
+    let mut measured = Measured::of(commits.wrapping_mul(times));
+    let before = subject.batch_count();
+    let wanted = before.wrapping_add(u64::from(measured.operations));
+    measured.nanos = sessions(rt, alloc, subject, task, times)?;
+    let right = count_hits(subject, commits, task.round)?;
+    measured.right = right_of(right, subject.batch_count(), wanted);
+    measured.wanted = commits;
+    Ok(measured)
+}
+
+/// What so many clients do in one of how many sessions.
+fn task_of(sizes: Sizes, clients: u32, synced: bool, round: u8) -> (Task, u32) {
+    let (commits, times) = if synced {
+        (sizes.shared_synced, 1)
+    } else {
+        (sizes.shared, sizes.sessions)
+    };
+    let task = Task {
+        clients,
+        commits: commits / clients.max(1),
+        synced,
+        round,
+    };
+    (task, times)
+}
+
+/// Has a store do a workload.
+pub(crate) fn measure<R: Clock + Threads + Wait + Sync, D: Device + Drop + Send>(
+    rt: &R,
+    alloc: Global,
+    subject: &mut Subject<D>,
+    sizes: Sizes,
+    workload: Workload,
+) -> Result<Measured, Refusal> {
+    let round = workload.round;
+    match workload.work {
+        Work::Commit(way) => {
+            let count = puts_of(sizes, way);
+            commits(rt, alloc, subject, Puts { way, count, round })
+        }
+        Work::Load(way) => {
+            let count = sizes.keys;
+            loads(rt, alloc, subject, Puts { way, count, round })
+        }
+        Work::GetHit | Work::GetMiss | Work::Scan => {
+            reads(rt, subject, sizes, workload.work, round)
+        }
+        Work::Reopen(way) => {
+            let count = sizes.logged;
+            let puts = Puts { way, count, round };
+            reopenings(rt, alloc, subject, puts, sizes.openings)
+        }
+        Work::Share { clients, synced } => {
+            let (task, times) = task_of(sizes, clients, synced, round);
+            shares(rt, alloc, subject, task, times)
+        }
+    }
+}
