@@ -1,4 +1,6 @@
-pub mod Weaving
-pub mod Outlasting
-pub mod Finding
 pub mod Making
+pub mod AtWork
+pub mod Ending
+pub mod Staying
+pub mod Lasting
+pub mod Finding

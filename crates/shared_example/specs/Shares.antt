@@ -1,5 +1,5 @@
--- What two clients do with a shared store, and what is found of it.
-use Rattle.std.specs.Prelude.{◌≡◌, ℕ, List, [], ◌∷◌, ◌++◌, Some}
+-- What two clients do with a shared store, and a third one that works on its jobs, and what is found of it.
+use Rattle.std.specs.Prelude.{◌≡◌, ℕ, ◌≤◌, List, [], ◌∷◌, ◌++◌, Some}
 use Rattle.std.specs.FinMap as finite
 use Rattle.lsm_codec.specs.Keys.{Bytes}
 use Rattle.lsm_codec.specs.Map.{Map, Operation}
@@ -12,7 +12,7 @@ use Rattle.lsm_store.specs.Calls.{Call, Reply}
 use Rattle.lsm_store.specs.Calls.{Commit, Sync, Refused}
 use Rattle.lsm_store.specs.Machine.{Machine}
 use Rattle.lsm_trail.specs.Begins.{Begin}
-use Rattle.lsm_trail.specs.History.{Event, called, entries_by, TrailView}
+use Rattle.lsm_trail.specs.History.{Event, called, entries_by, calls_in, TrailView}
 use Rattle.lsm_trail.specs.Knowledge.{Known}
 use Rattle.lsm_shared.specs.Sessions.{IsEnded}
 
@@ -45,13 +45,19 @@ pub record IsStored (client : ℕ) (batch : List Operation) (calls : List Event)
 abbrev pub HasStored : Known → List Operation → Known → Type 0
 HasStored old batch new = (new.number ≡ old.number) × IsStored old.number batch new.mine
 
--- A session of two clients has ended, and the trail has just these calls of each: it committed its batch and synced, and
--- both were answered.
+-- a client went on, and made no call: whatever it entered are pieces of work
+pub record MakesNoCall (old new : Known) : Type 0 where
+  pub number : new.number ≡ old.number
+  pub calls : calls_in new.mine ≡ calls_in old.mine
+
+-- A session has ended, and the trail has just these calls: each of two clients committed its batch and synced, and both were
+-- answered, and whoever else there was made none.
 pub record IsShared (b : Begin) (first second : List Operation) (store : StoreView) (trail : TrailView) : Type 0 where
   pub clients : List Known
   pub ended : IsEnded b clients store trail
   pub first_stored : IsStored 0 first (entries_by 0 trail.log)
   pub second_stored : IsStored 1 second (entries_by 1 trail.log)
+  pub others : (number : ℕ) → 2 ≤ number → calls_in (entries_by number trail.log) ≡ 0
 
 -- both values stand under their keys
 abbrev pub HasBoth : (Bytes × Bytes) → (Bytes × Bytes) → Map → Type 0

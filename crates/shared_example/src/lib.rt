@@ -4,6 +4,9 @@
 mod client;
 mod session;
 mod sharing;
+mod worker;
+mod working;
 
 pub use session::in_two_threads;
-pub use sharing::share;
+pub use sharing::{share, share_beside_a_worker};
+pub use working::in_three_threads;

@@ -27,6 +27,34 @@ fn two_of<B: SessionName>(
     Some((one, two))
 }
 
+// Lets each client commit its batch and sync, in a thread of its own.
+pub(crate) fn store_both<B: SessionName + Send + Sync, R: Threads + Wait + Sync>(
+    rt: &R,
+    shared: &Shared<MemDevice, Global, B>,
+    one: Client<Global, B>,
+    two: Client<Global, B>,
+    first: Batch,
+    second: Batch,
+) -> Result<(Client<Global, B>, Client<Global, B>), Refusal>
+    requires one { one.mine ≡ [] }
+    requires two { two.mine ≡ [] }
+    ensures one { IfOk result (λ new. HasStored one first new.0) }
+    ensures two { IfOk result (λ new. HasStored two second new.1) }
+{
+    let (stored, also) = join(
+        rt,
+        || -> Result<Client<Global, B>, Refusal>
+            requires { one.mine ≡ [] }
+            ensures { IfOk result (λ client. HasStored one first client) }
+        { store(rt, shared, one, first) },
+        || -> Result<Client<Global, B>, Refusal>
+            requires { two.mine ≡ [] }
+            ensures { IfOk result (λ client. HasStored two second client) }
+        { store(rt, shared, two, second) },
+    );
+    Ok((stored?, also?))
+}
+
 // Both clients in a list.
 fn list_of<B: SessionName>(
     alloc: Global,
@@ -58,19 +86,12 @@ pub fn in_two_threads<B: SessionName + Send + Sync, R: Threads + Wait + Sync>(
         Ok(begun) => begun,
         Err((refusal, _)) => return Err(refusal),
     };
-    let (one, two) = two_of(clients).ok_or(Refusal::NotYours)?;
-    let (one, two) = join(
-        rt,
-        || -> Result<Client<Global, B>, Refusal>
-            requires { one.mine ≡ [] }
-            ensures { IfOk result (λ client. HasStored one first client) }
-        { store(rt, &shared, one, first) },
-        || -> Result<Client<Global, B>, Refusal>
-            requires { two.mine ≡ [] }
-            ensures { IfOk result (λ client. HasStored two second client) }
-        { store(rt, &shared, two, second) },
-    );
-    let clients = list_of(alloc, one?, two?)?;
+    let (one, two) = match two_of(clients) {
+        Some(two) => two,
+        None => return Err(Refusal::NotYours),
+    };
+    let (one, two) = store_both(rt, &shared, one, two, first, second)?;
+    let clients = list_of(alloc, one, two)?;
     match shared.finish(clients) {
         Ok(ended) => Ok(ended),
         Err((refusal, _, _)) => Err(refusal),

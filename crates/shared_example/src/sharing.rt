@@ -1,16 +1,15 @@
-// A store that two threads share, and a crash.
+// A store that several threads share, and a crash.
 ghost use Rattle.std.specs.Prelude.{◌≡◌, ◌≢◌, Some, option_map, IfOk};
 ghost use Rattle.lsm_codec.specs.Keys.{Bytes};
 ghost use Rattle.lsm_device.specs.Disk.{seen};
 ghost use Rattle.lsm_device.specs.Medium.{disk};
 ghost use Rattle.lsm_device.specs.Memory.{medium_in};
-ghost use Rattle.lsm_open.specs.CrashState.{formatted};
 ghost use Rattle.lsm_store.specs.Backing.{IsBacked};
-ghost use Rattle.lsm_store.specs.Crash.{reopened};
 ghost use Rattle.shared_example.specs.Shares.{StandsForBoth, OutlastCrashes};
 
 use crate::client::batch_of;
 use crate::session::in_two_threads;
+use crate::working::in_three_threads;
 use lsm_device::{MemDevice, Refusal};
 use lsm_open::format;
 use lsm_shared::{prepare, trail_tells_what_a_crash_leaves};
@@ -22,7 +21,7 @@ use std::thread::Threads;
 
 // Makes a store.
 fn new_store(alloc: Global, device: MemDevice) -> Result<Store<MemDevice>, Refusal>
-    ensures { IfOk result (λ store. (store.state ≡ reopened 128 formatted) × IsBacked store) }
+    ensures { IfOk result (λ store. (store.state.log_sectors ≡ 128) × IsBacked store) }
 {
     let device = match format(alloc, device, 128) {
         Ok(device) => device,
@@ -44,7 +43,7 @@ fn store_both<R: Threads + Wait + Sync>(
     second_key: &[u8],
     second_value: &[u8],
 ) -> Result<Store<MemDevice>, Refusal>
-    requires state { store.state ≡ reopened 128 formatted }
+    requires sectors { store.state.log_sectors ≡ 128 }
     requires backed { IsBacked store }
     requires apart { first_key.now ≢ second_key.now }
     ensures { IfOk result (λ ended. OutlastCrashes (first_key.now, first_value.now) (second_key.now, second_value.now) ended) }
@@ -56,6 +55,32 @@ fn store_both<R: Threads + Wait + Sync>(
         Err((refusal, _)) => return Err(refusal),
     };
     let (store, _) = in_two_threads::<Brand, R>(rt, alloc, opened, one, two)?;
+    trail_tells_what_a_crash_leaves();
+    Ok(store)
+}
+
+// The same beside a third one, which works on the jobs of the store.
+fn store_beside_a_worker<R: Threads + Wait + Sync>(
+    rt: &R,
+    alloc: Global,
+    store: Store<MemDevice>,
+    first_key: &[u8],
+    first_value: &[u8],
+    second_key: &[u8],
+    second_value: &[u8],
+) -> Result<Store<MemDevice>, Refusal>
+    requires sectors { store.state.log_sectors ≡ 128 }
+    requires backed { IsBacked store }
+    requires apart { first_key.now ≢ second_key.now }
+    ensures { IfOk result (λ ended. OutlastCrashes (first_key.now, first_value.now) (second_key.now, second_value.now) ended) }
+{
+    let one = batch_of(alloc, first_key, first_value)?;
+    let two = batch_of(alloc, second_key, second_value)?;
+    let opened = match prepare(alloc, store, 3, 1_024) {
+        Ok(opened) => opened,
+        Err((refusal, _)) => return Err(refusal),
+    };
+    let (store, _) = in_three_threads::<Brand, R>(rt, alloc, opened, one, two)?;
     trail_tells_what_a_crash_leaves();
     Ok(store)
 }
@@ -77,6 +102,21 @@ fn find_both(
     let one = store.get(At::Now, first_key)?;
     let two = store.get(At::Now, second_key)?;
     Ok((one, two))
+}
+
+// Crashes the device of a store, keeping any of the pending writes, and looks both keys up.
+fn find_after_a_crash(
+    alloc: Global,
+    store: Store<MemDevice>,
+    first_key: &[u8],
+    second_key: &[u8],
+    keep: &[bool],
+) -> Result<(Option<Vec<u8>>, Option<Vec<u8>>), Refusal>
+    ensures { (first_value second_value : Bytes) → OutlastCrashes (first_key.now, first_value) (second_key.now, second_value) store
+        → IfOk result (λ found. (option_map (λ v. v.items) found.0 ≡ Some first_value) × (option_map (λ v. v.items) found.1 ≡ Some second_value)) }
+{
+    let device = store.into_device().crash(keep);
+    find_both(alloc, device, first_key, second_key)
 }
 
 /// Makes a store and shares it between two threads. Each puts a value under a key and syncs. Then the device crashes, keeping any
@@ -104,6 +144,32 @@ pub fn share<R: Threads + Wait + Sync>(
         second_key,
         second_value,
     )?;
-    let device = store.into_device().crash(keep);
-    Ok(find_both(alloc, device, first_key, second_key)?)
+    Ok(find_after_a_crash(alloc, store, first_key, second_key, keep)?)
+}
+
+/// The same with a third thread, which works on the jobs of the store meanwhile.
+pub fn share_beside_a_worker<R: Threads + Wait + Sync>(
+    rt: &R,
+    alloc: Global,
+    device: MemDevice,
+    first_key: &[u8],
+    first_value: &[u8],
+    second_key: &[u8],
+    second_value: &[u8],
+    keep: &[bool],
+) -> Result<(Option<Vec<u8>>, Option<Vec<u8>>), Refusal>
+    requires { first_key.now ≢ second_key.now }
+    ensures { IfOk result (λ found. (option_map (λ v. v.items) found.0 ≡ Some first_value.now) × (option_map (λ v. v.items) found.1 ≡ Some second_value.now)) }
+{
+    let store = new_store(alloc, device)?;
+    let store = store_beside_a_worker(
+        rt,
+        alloc,
+        store,
+        first_key,
+        first_value,
+        second_key,
+        second_value,
+    )?;
+    Ok(find_after_a_crash(alloc, store, first_key, second_key, keep)?)
 }

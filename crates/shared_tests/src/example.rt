@@ -1,14 +1,70 @@
-//! The whole caller of the library `shared_example`.
+//! The whole callers of the library `shared_example`.
 
-use lsm_device::MemDevice;
-use shared_example::share;
+ghost use Rattle.std.specs.Prelude.{◌≡◌};
+
+use crate::setup::small;
+use crate::turns::put;
+use lsm_device::{MemDevice, Refusal};
+use lsm_shared::prepare;
+use lsm_store::Store;
+use lsm_trail::Trail;
+use shared_example::{in_three_threads, share, share_beside_a_worker};
+use std::alloc::Global;
+use std::marker::Brand;
+use std::process::Abort;
+use std::sync::Wait;
+use std::thread::Threads;
+
+// What two look-ups of the values `1` and `2` find.
+type Found = Result<(Option<Vec<u8>>, Option<Vec<u8>>), Refusal>;
+
+fn has_both<R: Abort>(rt: &R, found: Found) -> bool {
+    let (one, two) = found.expect(rt, "both values");
+    one.as_deref() == Some(b"1".as_slice()) && two.as_deref() == Some(b"2".as_slice())
+}
 
 #[test]
 fn two_clients_find_both_values(rt: HostRuntime) {
     let device = MemDevice::new(rt.alloc(), 8_192).expect(&rt, "a device");
     let keep = [false, true];
     let found = share(&rt, rt.alloc(), device, b"one", b"1", b"two", b"2", &keep);
-    let (one, two) = found.expect(&rt, "both values");
-    assert!(rt; one.as_deref() == Some(b"1".as_slice()));
-    assert!(rt; two.as_deref() == Some(b"2".as_slice()));
+    assert!(rt; has_both(&rt, found));
+}
+
+#[test]
+fn two_clients_beside_a_worker_find_both_values(rt: HostRuntime) {
+    let device = MemDevice::new(rt.alloc(), 8_192).expect(&rt, "a device");
+    let keep = [false, true];
+    let found = share_beside_a_worker(&rt, rt.alloc(), device, b"one", b"1", b"two", b"2", &keep);
+    assert!(rt; has_both(&rt, found));
+}
+
+// A small store with a sealed memory table, which waits for its flush.
+fn waiting<R: Abort>(rt: &R, alloc: Global) -> Store<MemDevice> {
+    let mut store = small(rt, alloc);
+    let batch = put(alloc, b"zero", b"0").expect(rt, "a batch");
+    assert!(rt; store.commit(&batch).is_ok() && store.rotate().is_ok());
+    store
+}
+
+// Shares it between two clients and a worker.
+fn share_with_a_worker<R: Threads + Wait + Abort + Sync>(
+    rt: &R,
+    alloc: Global,
+) -> Result<(Store<MemDevice>, Trail), Refusal> {
+    let one = put(alloc, b"one", b"1")?;
+    let two = put(alloc, b"two", b"2")?;
+    match prepare(alloc, waiting(rt, alloc), 3, 64) {
+        Ok(opened) => in_three_threads::<Brand, _>(rt, alloc, opened, one, two),
+        Err((refusal, _)) => Err(refusal),
+    }
+}
+
+#[test]
+fn a_worker_flushes_beside_two_clients(rt: HostRuntime) {
+    let ended = share_with_a_worker(&rt, rt.alloc());
+    let (store, _) = ended.expect(&rt, "an end");
+    // All three batches are synced, and the first one stands in a table.
+    assert!(rt; store.synced_count() == 3);
+    assert!(rt; matches!(store.stat(), Ok(stat) if stat.tables == 1 && !stat.waiting));
 }

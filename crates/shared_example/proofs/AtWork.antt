@@ -1,0 +1,71 @@
+-- What turns of a worker, and results that it brings, add to its entries.
+use Rattle.std.proofs.Common.{◌≡◌, ℕ, ◌+◌, List, [], ◌∷◌, ◌++◌, refl, ap, ◌∙◌, arith}
+use Rattle.std.specs.Prelude.{if◌then◌else◌}
+use Rattle.lsm_device.specs.declared.refusal.Refusal.TheVariants.{NoSpace}
+use Rattle.lsm_merge.specs.Results.{MergeResult}
+use Rattle.lsm_store.specs.Calls.{Reply}
+use Rattle.lsm_store.specs.Calls.{Refused}
+use Rattle.lsm_store.specs.Machine.{Machine, Step}
+use Rattle.lsm_store.specs.Work.{Work}
+use Rattle.lsm_trail.specs.History.{Event, steps_of, is_call, calls_in}
+use Rattle.lsm_trail.specs.Knowledge.{Known, Sees}
+use Rattle.lsm_shared.specs.Clients.{Adds}
+use Rattle.lsm_shared.specs.Turns.{as_steps, pieces_among, IsTurn, TakesTurn, IsBrought, Brings}
+use Rattle.lsm_shared.specs.declared.turn.Turn.{Turn}
+use Rattle.lsm_shared.specs.declared.turn.Turn.TheVariants as turn
+use Rattle.shared_example.specs.Shares.{MakesNoCall}
+
+-- how many calls are among steps
+abbrev calls_among : List Step → ℕ
+calls_among [] = 0
+calls_among (step ∷ steps) = (if is_call step then 1 else 0) + calls_among steps
+
+of_steps : (log : List Event) → calls_in log ≡ calls_among (steps_of log)
+of_steps [] = refl
+of_steps (e ∷ log) = omega (arith, of_steps log)
+
+of_work : (pieces : List Work) → calls_among (as_steps pieces) ≡ 0
+of_work [] = refl
+of_work (piece ∷ pieces) = omega (arith, of_work pieces)
+
+of_both : (xs ys : List Event) → calls_in (xs ++ ys) ≡ calls_in xs + calls_in ys
+of_both [] ys = omega arith
+of_both (x ∷ xs) ys = omega (arith, of_both xs ys)
+
+-- entries that are pieces of work leave the calls as they are
+adds_none : (c d : Known) (others entries : List Event) → Adds c others entries d → calls_in entries ≡ 0 → MakesNoCall c d
+adds_none c d others entries adds none = record {
+  number = adds.number;
+  calls = omega (arith, ap calls_in adds.mine, of_both c.mine entries, none);
+}
+
+of_pieces : (entries : List Event) (pieces : List Work) → steps_of entries ≡ as_steps pieces → calls_in entries ≡ 0
+of_pieces entries pieces are = of_steps entries ∙ ap calls_among are ∙ of_work pieces
+
+of_turn : {A : Type 0} (m : Machine) (places : List ℕ) (number : ℕ) (turn : Turn A) (entries : List Event) → IsTurn m places number turn entries → calls_in entries ≡ 0
+of_turn m places number turn.Idle entries is = of_pieces entries (pieces_among m places) is.steps
+of_turn m places number (turn.Did reply) entries (passed, work, behind, are, is) = of_pieces entries (pieces_among m places) is.steps
+of_turn m places number (turn.Merge job result input) entries (passed, behind, are, is) = of_pieces entries (pieces_among m places) is.steps
+
+-- a turn
+pub turns : {A : Type 0} (c d : Known) (turn : Turn A) → TakesTurn c turn d → MakesNoCall c d
+turns c d turn takes = adds_none c d takes.others takes.entries takes.adds (of_turn _ _ _ turn takes.entries takes.takes)
+
+of_result : (number job result : ℕ) (made : MergeResult) (reply : Reply) (entries : List Event) → IsBrought number job result made reply entries → calls_in entries ≡ 0
+of_result number job result made (Refused NoSpace) entries brought = ap calls_in brought.3
+of_result number job result made (Refused e) entries brought = ap calls_in brought.1
+of_result number job result made reply entries brought = ap calls_in brought.1
+
+-- a result that was brought
+pub brings : (c d : Known) (job result : ℕ) (made : MergeResult) (reply : Reply) → Brings c job result made reply d → MakesNoCall c d
+brings c d job result made reply brought = adds_none c d brought.others brought.entries brought.adds (of_result _ _ _ _ reply brought.entries brought.brought)
+
+-- a look at the history
+pub looks : (c d : Known) → Sees c d → MakesNoCall c d
+looks c d sees = record { number = sees.number; calls = ap calls_in sees.mine }
+
+pub stays : (c d e : Known) → MakesNoCall c d → MakesNoCall d e → MakesNoCall c e
+stays c d e one two = record { number = two.number ∙ one.number; calls = two.calls ∙ one.calls }
+
+pub stays_itself : (c : Known) → MakesNoCall c c
+stays_itself c = record { number = refl; calls = refl }

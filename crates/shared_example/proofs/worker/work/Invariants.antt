@@ -1,0 +1,5 @@
+use Rattle.shared_example.specs.Shares.{MakesNoCall}
+use Rattle.shared_example.proofs.worker.work.Given as goal
+
+abbrev pub invariant-loop : goal.invariant-loop
+invariant-loop g l = MakesNoCall l.fn.me l.me
