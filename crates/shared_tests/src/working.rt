@@ -189,7 +189,10 @@ fn play_two<B: SessionName, R: Threads + Wait + Abort + Sync>(
     shared: &Shared<MemDevice, Global, B>,
     clients: &mut [Client<Global, B>],
 ) {
-    let [zero, one] = clients else {
+    let Some((zero, others)) = clients.split_first_mut() else {
+        return;
+    };
+    let Some(one) = others.first_mut() else {
         return;
     };
     // Looked at anew, there is something to do after the rotation.
