@@ -16,9 +16,9 @@ struct Change {
 fn change_of(step: &Step) -> Option<Change> {
     match step {
         Step::Call(Call::Commit(batch)) => {
-            let operation = batch.operations().first()?;
-            let key = *operation.key().first()?;
-            let value = match operation.value() {
+            let operation = batch.operations().next()?;
+            let key = *operation.key.first()?;
+            let value = match operation.value {
                 Some(value) => Some(*value.first()?),
                 None => None,
             };

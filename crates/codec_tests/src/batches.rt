@@ -1,18 +1,33 @@
 //! Batches and their texts.
 
 use linked_list_allocator::LocalHeap;
-use lsm_codec::{Batch, Key, Op, Value};
+use lsm_codec::{Batch, Key, Op, OpRef, Operations, Value};
 use lsm_device::Refusal;
-use std::alloc::Global;
+use std::alloc::{Allocator, Global};
 use std::process::Abort;
 
 /// Whether the operations are these, each a key with its value, or with none where it is deleted.
-fn are(operations: &[Op], wanted: &[(&[u8], Option<&[u8]>)]) -> bool {
-    let mut all = operations.len() == wanted.len();
-    for (operation, (key, value)) in operations.iter().zip(wanted) {
-        all = all && operation.key() == *key && operation.value() == *value;
+fn are(mut operations: Operations<'_>, wanted: &[(&[u8], Option<&[u8]>)]) -> bool {
+    for (key, value) in wanted {
+        match operations.next() {
+            Some(operation) if is(operation, key, *value) => (),
+            _ => return false,
+        }
     }
-    all
+    operations.next().is_none()
+}
+
+/// How many operations a batch has.
+fn count<A: Allocator>(batch: &Batch<A>) -> usize {
+    let mut count = 0usize;
+    for _operation in batch.operations() {
+        count = count.wrapping_add(1);
+    }
+    count
+}
+
+fn is(operation: OpRef<'_>, key: &[u8], value: Option<&[u8]>) -> bool {
+    operation.key == key && operation.value == value
 }
 
 /// A batch of one put.
@@ -40,9 +55,9 @@ fn is_spelled<R: Abort>(
     text: &str,
     wanted: &[(&[u8], Option<&[u8]>)],
 ) -> bool {
-    let bytes = batch.encode(alloc).expect(rt, "a text");
-    let again = read(rt, alloc, &bytes).expect(rt, "a batch");
-    hex::encode(alloc, &bytes).expect(rt, "memory").as_str() == text
+    let bytes = batch.text();
+    let again = read(rt, alloc, bytes).expect(rt, "a batch");
+    hex::encode(alloc, bytes).expect(rt, "memory").as_str() == text
         && batch.text_len() == bytes.len()
         && again.text_len() == bytes.len()
         && are(again.operations(), wanted)
@@ -113,7 +128,7 @@ fn keys_and_values_outside_their_limits(rt: HostRuntime) {
 /// Whether the batch of one put has a text of this size.
 fn takes<R: Abort>(rt: &R, alloc: Global, key: &[u8], value: &[u8], size: usize) -> bool {
     let batch = one_put(rt, alloc, key, value);
-    batch.text_len() == size && batch.encode(alloc).expect(rt, "a text").len() == size
+    batch.text_len() == size && batch.text().len() == size
 }
 
 #[test]
@@ -148,7 +163,7 @@ fn nearly_full<R: Abort>(rt: &R, alloc: Global, bytes: &[u8]) -> Batch {
 fn fills_up(batch: &mut Batch, bytes: &[u8; 2_048]) -> bool {
     batch.put(&[30], &bytes[..1_897]) == Err(Refusal::BatchTooBig)
         && batch.text_len() == 2 + 29 * 2_053
-        && batch.operations().len() == 29
+        && count(batch) == 29
         && batch.put(&[30], &bytes[..1_896]).is_ok()
         && batch.text_len() == 61_440
         && batch.delete(&[30]) == Err(Refusal::BatchTooBig)
@@ -158,7 +173,7 @@ fn fills_up(batch: &mut Batch, bytes: &[u8; 2_048]) -> bool {
 /// How many operations a text spells, if it spells a batch.
 fn count_in<R: Abort>(rt: &R, alloc: Global, text: &[u8]) -> Option<usize> {
     let batch = read(rt, alloc, text)?;
-    Some(batch.operations().len())
+    Some(count(&batch))
 }
 
 /// Whether a text of 30 operations is read, and one with an operation more is not.
@@ -174,7 +189,7 @@ fn a_batch_of_61_440_bytes_is_full(rt: HostRuntime) {
     let bytes = [7u8; 2_048];
     let mut batch = nearly_full(&rt, rt.alloc(), &bytes);
     assert!(rt; fills_up(&mut batch, &bytes));
-    let mut text = batch.encode(rt.alloc()).expect(&rt, "a text");
+    let mut text = Vec::from_slice(rt.alloc(), batch.text()).expect(&rt, "memory");
     assert!(rt; is_the_longest(&rt, rt.alloc(), &mut text));
 }
 
@@ -222,9 +237,9 @@ fn values_of_2_048_bytes_and_of_2_049(rt: HostRuntime) {
 
 /// Puts an operation more. A put that is refused has to leave the batch, or this is refused otherwise.
 fn put_one(batch: &mut Batch<&LocalHeap>) -> Result<(), Refusal> {
-    let before = batch.operations().len();
+    let before = count(batch);
     match batch.put(b"b", &[2; 40]) {
-        Err(_) if batch.operations().len() != before => Err(Refusal::WrongState),
+        Err(_) if count(batch) != before => Err(Refusal::WrongState),
         answer => answer,
     }
 }
@@ -241,8 +256,7 @@ fn put_six(batch: &mut Batch<&LocalHeap>) -> Result<(), Refusal> {
 fn size_of_seven(heap: &LocalHeap) -> Result<Option<usize>, Refusal> {
     let mut batch = Batch::new(heap, Op::put(heap, b"a", &[1; 40])?)?;
     put_six(&mut batch)?;
-    let text = batch.encode(heap)?;
-    Ok(Batch::decode(heap, &text)?.map(|again| again.text_len()))
+    Ok(Batch::decode(heap, batch.text())?.map(|again| again.text_len()))
 }
 
 /// The same in a heap of so many bytes.

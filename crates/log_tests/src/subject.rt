@@ -45,7 +45,7 @@ impl Subject {
     }
 
     /// With a batch more.
-    pub fn append(self, alloc: Global, batch: &Batch) -> Result<Subject, Refusal>
+    pub fn append(self, batch: &Batch) -> Result<Subject, Refusal>
         requires { IsReady self.log (medium_in self.device) }
         ensures { IfOk result (λ s. IsReady s.log (medium_in s.device)) }
     {
@@ -53,12 +53,12 @@ impl Subject {
             mut device,
             mut log,
         } = self;
-        append(alloc, &mut device, &mut log, batch)?;
+        append(&mut device, &mut log, batch)?;
         Ok(Subject { device, log })
     }
 
     /// The same where a batch is refused because the log is full.
-    pub fn is_full_for(self, alloc: Global, batch: &Batch) -> Result<Subject, Refusal>
+    pub fn is_full_for(self, batch: &Batch) -> Result<Subject, Refusal>
         requires { IsReady self.log (medium_in self.device) }
         ensures { IfOk result (λ s. IsReady s.log (medium_in s.device)) }
     {
@@ -66,7 +66,7 @@ impl Subject {
             mut device,
             mut log,
         } = self;
-        match append(alloc, &mut device, &mut log, batch) {
+        match append(&mut device, &mut log, batch) {
             Ok(()) => Err(Refusal::WrongState),
             Err(Refusal::LogFull) => Ok(Subject { device, log }),
             Err(refusal) => Err(refusal),
@@ -74,7 +74,7 @@ impl Subject {
     }
 
     /// What becomes of a batch where the device answers Ok to so many writes more.
-    pub fn append_with_fuse(self, alloc: Global, n: u64, batch: &Batch) -> Failed
+    pub fn append_with_fuse(self, n: u64, batch: &Batch) -> Failed
         requires { IsReady self.log (medium_in self.device) }
     {
         let Subject {
@@ -82,7 +82,7 @@ impl Subject {
             mut log,
         } = self;
         device.fuse(n);
-        let answer = append(alloc, &mut device, &mut log, batch);
+        let answer = append(&mut device, &mut log, batch);
         Failed {
             device,
             log,

@@ -46,7 +46,7 @@ fn is_laid_out(alloc: Global) -> Result<bool, Refusal> {
     if batch.text_len() != 8 || !begins(&subject.log, 2, 1) || !has(&subject.log, 0, 128, 1) {
         return Ok(false);
     }
-    let subject = subject.append(alloc, &batch)?;
+    let subject = subject.append(&batch)?;
     if !begins(&subject.log, 2, 1) || !has(&subject.log, 1, 127, 2) {
         return Ok(false);
     }
@@ -66,7 +66,7 @@ fn a_batch_lies_in_a_sector(rt: HostRuntime) -> Result<(), Fail> {
 /// Whether each operation of a batch puts this value under the key 61.
 fn puts(batch: &Batch, value: &[u8]) -> bool {
     for operation in batch.operations() {
-        if operation.key() != [0x61].as_slice() || !is_value(operation.value(), value) {
+        if operation.key != [0x61].as_slice() || !is_value(operation.value, value) {
             return false;
         }
     }
@@ -98,7 +98,7 @@ fn takes(alloc: Global, size: usize, sectors: u32) -> Result<bool, Refusal> {
         return Ok(false);
     }
     let value = &bytes[..size];
-    let subject = Subject::new(alloc, SECTORS)?.append(alloc, &put(alloc, 0x61, value)?)?;
+    let subject = Subject::new(alloc, SECTORS)?.append(&put(alloc, 0x61, value)?)?;
     if subject.log.used() != sectors || !has_counts(&subject.device, 0, sectors as u64, 0) {
         return Ok(false);
     }
@@ -150,7 +150,7 @@ fn filled(alloc: Global) -> Result<Subject, Refusal>
     if batch.text_len() != 61_440 || !subject.log.fits(&batch) {
         return Err(Refusal::WrongState);
     }
-    subject.append(alloc, &batch)
+    subject.append(&batch)
 }
 
 fn is_filled(alloc: Global) -> Result<bool, Refusal> {
@@ -162,7 +162,7 @@ fn is_filled(alloc: Global) -> Result<bool, Refusal> {
     {
         return Ok(false);
     }
-    let mut device = subject.is_full_for(alloc, &small)?.into_device();
+    let mut device = subject.is_full_for(&small)?.into_device();
     Ok(device.writes() == 128 && is_largest_read(alloc, &mut device)?)
 }
 
@@ -175,8 +175,8 @@ fn the_largest_batch_fills_the_log(rt: HostRuntime) -> Result<(), Fail> {
 /// A log with a batch in one sector and another in the next two.
 fn three_sectors(alloc: Global) -> Result<Subject, Refusal> {
     Subject::new(alloc, SECTORS)?
-        .append(alloc, &put(alloc, 0x61, &[0x31])?)?
-        .append(alloc, &put(alloc, 0x62, &[7; 600])?)
+        .append(&put(alloc, 0x61, &[0x31])?)?
+        .append(&put(alloc, 0x62, &[7; 600])?)
 }
 
 /// Whether a crash by the mask leaves so many of the two batches, and a replay reads so many sectors.
@@ -210,9 +210,9 @@ fn a_crash_leaves_a_beginning(rt: HostRuntime) -> Result<(), Fail> {
 
 fn one_stands(alloc: Global) -> Result<bool, Refusal> {
     let subject = Subject::new(alloc, SECTORS)?
-        .append(alloc, &put(alloc, 0x61, &[0x31])?)?
+        .append(&put(alloc, 0x61, &[0x31])?)?
         .settle()?
-        .append(alloc, &put(alloc, 0x61, &[0x32])?)?;
+        .append(&put(alloc, 0x61, &[0x32])?)?;
     Ok(count(alloc, &mut subject.crash(&[]), 1, 1)? == 1)
 }
 
@@ -225,11 +225,11 @@ fn a_sync_makes_batches_stand(rt: HostRuntime) -> Result<(), Fail> {
 /// A log of epoch 2 with a batch, in the region where one of epoch 1 had three.
 fn second_epoch(alloc: Global) -> Result<Subject, Refusal> {
     Subject::new(alloc, SECTORS)?
-        .append(alloc, &put(alloc, 0x61, &[1])?)?
-        .append(alloc, &put(alloc, 0x61, &[2])?)?
-        .append(alloc, &put(alloc, 0x61, &[3])?)?
+        .append(&put(alloc, 0x61, &[1])?)?
+        .append(&put(alloc, 0x61, &[2])?)?
+        .append(&put(alloc, 0x61, &[3])?)?
         .open_again()?
-        .append(alloc, &put(alloc, 0x61, &[4])?)
+        .append(&put(alloc, 0x61, &[4])?)
 }
 
 /// Whether a crash that keeps its batch, or doesn't, leaves so many batches of either epoch.
@@ -254,11 +254,11 @@ fn has_one_left(alloc: Global, one: &Batch) -> Result<Subject, Refusal>
     ensures { IfOk result (λ s. IsReady s.log (medium_in s.device)) }
 {
     let two = put(alloc, 0x62, &[7; 474])?;
-    let subject = Subject::new(alloc, 3)?.append(alloc, &two)?;
+    let subject = Subject::new(alloc, 3)?.append(&two)?;
     if subject.log.fits(&two) || !subject.log.fits(one) {
         return Err(Refusal::WrongState);
     }
-    subject.is_full_for(alloc, &two)
+    subject.is_full_for(&two)
 }
 
 fn takes_what_fits(alloc: Global) -> Result<bool, Refusal> {
@@ -267,11 +267,11 @@ fn takes_what_fits(alloc: Global) -> Result<bool, Refusal> {
     if !has(&subject.log, 2, 1, 2) || !has_counts(&subject.device, 0, 2, 0) {
         return Ok(false);
     }
-    let subject = subject.append(alloc, &one)?;
+    let subject = subject.append(&one)?;
     if !has(&subject.log, 3, 0, 3) {
         return Ok(false);
     }
-    let subject = subject.is_full_for(alloc, &one)?;
+    let subject = subject.is_full_for(&one)?;
     Ok(has(&subject.log, 3, 0, 3))
 }
 
@@ -284,8 +284,8 @@ fn a_full_log_takes_what_fits(rt: HostRuntime) -> Result<(), Fail> {
 /// Whether a batch of three sectors behind another ends with Io where so many writes of it answer Ok, and a crash that
 /// keeps what pends leaves so many batches. The write that faults pends.
 fn leaves_after_a_fault(alloc: Global, fuse: u64, batches: usize) -> Result<bool, Refusal> {
-    let subject = Subject::new(alloc, SECTORS)?.append(alloc, &put(alloc, 0x61, &[0x31])?)?;
-    let failed = subject.append_with_fuse(alloc, fuse, &put(alloc, 0x62, &[7; 1400])?);
+    let subject = Subject::new(alloc, SECTORS)?.append(&put(alloc, 0x61, &[0x31])?)?;
+    let failed = subject.append_with_fuse(fuse, &put(alloc, 0x62, &[7; 1400])?);
     if !matches!(failed.answer, Err(Refusal::Io)) || !has(&failed.log, 1, 127, 2) {
         return Ok(false);
     }
@@ -322,8 +322,8 @@ struct Texts {
 impl Texts {
     fn new(alloc: Global) -> Result<Texts, Refusal> {
         Ok(Texts {
-            short: put(alloc, 0x61, &[0x31])?.encode(alloc)?,
-            long: put(alloc, 0x61, &[7; 480])?.encode(alloc)?,
+            short: Vec::from_slice(alloc, put(alloc, 0x61, &[0x31])?.text())?,
+            long: Vec::from_slice(alloc, put(alloc, 0x61, &[7; 480])?.text())?,
         })
     }
 

@@ -30,12 +30,7 @@ pub fn begin(
 }
 
 /// Appends a batch.
-pub fn append(
-    alloc: Global,
-    device: &mut MemDevice,
-    log: &mut Log,
-    batch: &Batch,
-) -> Result<(), Refusal>
+pub fn append(device: &mut MemDevice, log: &mut Log, batch: &Batch) -> Result<(), Refusal>
     requires { IsReady log.old (medium_in device.old) }
     ensures ready { OnOk result (IsReady log.new (medium_in device.new)) }
     ensures takes { OnOk result (TakesBatch batch.now log.old log.new) }
@@ -47,8 +42,7 @@ pub fn append(
         return Err(Refusal::Exhausted);
     }
     epoch_laws();
-    let text = batch.encode(alloc)?;
-    log.append(device, batch, &text)?;
+    log.append(device, batch)?;
     Ok(())
 }
 

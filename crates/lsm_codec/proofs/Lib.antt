@@ -11,6 +11,7 @@ pub mod Padding
 pub mod SuperblockLaws
 pub mod LogSectorLaws
 pub mod BatchLaws
+pub mod Spelled
 pub mod TableRecordLaws
 pub mod ManifestLaws
 pub mod Sizes

@@ -1,6 +1,6 @@
 // Batches are appended to an open log.
 ghost use Rattle.std.specs.Prelude.{◌≡◌, ◌⊎◌, ◌↔◌, ◌<◌, ◌≤◌, ◌^◌, ◌+◌, ◌-◌, ◌*◌, [], ◌∷◌, ◌++◌, List, ℕ, length, take, drop, true, IsTrue, OnOk, OnErr, IfErr, Err, is_ok};
-ghost use Rattle.lsm_codec.specs.BatchText.{IsBatch, batch_text, sectors_of};
+ghost use Rattle.lsm_codec.specs.BatchText.{IsBatch, sectors_of};
 ghost use Rattle.lsm_codec.specs.LogSectors.{log_sector};
 ghost use Rattle.lsm_device.specs.Calls.{AtMost, faults_after};
 ghost use Rattle.lsm_device.specs.Disk.{seen};
@@ -44,16 +44,14 @@ impl Log {
         sectors_of(batch) <= self.room()
     }
 
-    /// Appends a batch, whose text the caller has made, so that no memory is taken here. It stands after the next sync.
+    /// Appends a batch, and takes no memory. It stands after the next sync.
     /// The log is full where the batch's sectors don't fit the region. Once a device call has failed, nothing more is
     /// promised of the log than what a crash may leave.
     pub fn append<D: Device, A: Allocator>(
         &mut self,
         device: &mut D,
         batch: &Batch<A>,
-        text: &[u8],
     ) -> Result<(), Refusal>
-        requires text { text.now ≡ batch_text batch.now }
         requires number { self.old.next ≤ 2 ^ 63 }
         requires within { self.old.start + self.old.sectors ≤ (D.medium device.old).size }
 
@@ -94,7 +92,7 @@ impl Log {
         if self.room() < parts {
             return Err(Refusal::LogFull);
         }
-        self.write_parts(device, batch, text, parts as u16)?;
+        self.write_parts(device, batch, parts as u16)?;
         self.used += parts;
         self.next += 1;
         Ok(())
@@ -105,11 +103,8 @@ impl Log {
         &self,
         device: &mut D,
         batch: &Batch<A>,
-        text: &[u8],
         parts: u16,
     ) -> Result<(), Fault>
-        requires whole { IsBatch batch.now }
-        requires text { text.now ≡ batch_text batch.now }
         requires count { parts ≡ sectors_of batch.now }
         requires room { self.now.used + parts ≤ self.now.sectors }
         requires within { self.now.start + self.now.sectors ≤ (D.medium device.old).size }
@@ -124,6 +119,7 @@ impl Log {
         ensures same_size { (D.medium device.new).size ≡ (D.medium device.old).size }
         ensures same_lasting { (D.medium device.new).lasting ≡ (D.medium device.old).lasting }
     {
+        let text = batch.text();
         for part in 0..parts {
             let sector = self.sector_of_part(text, part, parts);
             device.write(self.start + self.used + part as u32, &sector)?;

@@ -45,7 +45,7 @@ fn insert_all<A: Allocator + Clone>(
     let mut number = count;
     for batch in batches {
         number += 1;
-        mem.insert_owned(batch, number)?;
+        mem.insert(&batch, number)?;
     }
     Ok(())
 }

@@ -11,6 +11,7 @@ use Rattle.lsm_levels.specs.Asking.{Source}
 use Rattle.lsm_levels.specs.Levels.{Levels, places}
 use Rattle.lsm_levels.specs.Lookups.{IsLookUp}
 use Rattle.lsm_levels.specs.NamedBlocks.{HaveNone, HasNoBlock}
+use Rattle.lsm_levels.specs.Scans.{ScansRuns}
 use Rattle.lsm_levels.specs.Stored.{ArePlaced}
 use Rattle.lsm_store.specs.Backing.{StoreView, data_start}
 use Rattle.lsm_store.specs.State.{count_at}
@@ -25,6 +26,11 @@ source_of s = record { cache = s.cache; medium = s.device }
 -- cache, and the device is read for no other.
 abbrev pub IsStoreLookUp : StoreView → At → Bytes → Result (Option Bytes) Refusal → StoreView → Type 0
 IsStoreLookUp old at key answer new = IsLookUp old.work.memory old.work.sealed (places old.work.levels) (data_start old) key (count_at old.state at) answer (source_of old) (source_of new)
+
+-- A scan of a store from a key on, which ends with this refusal or with none: it asks the cache for blocks of each run of
+-- tables in turn, from the first on that doesn't end before the key, each once at most, and the device is read for no other.
+abbrev pub IsStoreScan : StoreView → Bytes → Option Refusal → StoreView → Type 0
+IsStoreScan old from refusal new = ScansRuns (data_start old) from (places old.work.levels) refusal (source_of old) (source_of new)
 
 -- The device is read alone, so many sectors at most, and a read faulted just where it isn't told that all went well. Of tables
 -- that have their places the cache goes on to have what the device has, and no blocks of others come into it.

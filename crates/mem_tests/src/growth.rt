@@ -93,54 +93,6 @@ fn inserts_both(heap: &LocalHeap, left: usize) -> Result<Option<bool>, Refusal> 
     Ok(is_whole)
 }
 
-/// Whether the second batch is taken over at once, in the same way. Where it is refused, reads at the first one's number
-/// find the table as before.
-fn takes_over_second(heap: &LocalHeap, left: usize) -> Result<Option<bool>, Refusal> {
-    let mut table = Table::new(heap)?;
-    let first = eleven_keys(heap)?; // It stays, and so leaves no gap.
-    table.insert(&first)?;
-    let second = more_keys(heap)?;
-    let is_whole = takes_over_beside(heap, &mut table, second, left);
-    let is_right = match is_whole {
-        Some(true) => has_both(heap, table.mem())?,
-        _ => lists(table.mem(), heap, b"", 1, b"a1b1e1f1g1h1i1j1k1l1m1")?,
-    };
-    if !is_right {
-        return Err(Refusal::WrongState);
-    }
-    Ok(is_whole)
-}
-
-fn takes_over_beside<'h>(
-    heap: &'h LocalHeap,
-    table: &mut Table<&'h LocalHeap>,
-    batch: Batch<&'h LocalHeap>,
-    left: usize,
-) -> Option<bool> {
-    let _taken = all_but(heap, left)?;
-    Some(table.insert_owned(batch).is_ok())
-}
-
-fn takes_over_in_heap(alloc: Global, left: usize) -> Result<Option<bool>, Fail> {
-    let heap = LocalHeap::new(alloc, HEAP)?;
-    Ok(takes_over_second(&heap, left)?)
-}
-
-#[test]
-fn each_growth_of_a_batch_that_moves_in_is_refused_in_turn(rt: HostRuntime) -> Result<(), Fail> {
-    let mut refused = 0u32;
-    let mut whole = 0u32;
-    for step in 0..120usize {
-        match takes_over_in_heap(rt.alloc(), step * 16)? {
-            Some(true) => whole = whole.wrapping_add(1),
-            Some(false) => refused = refused.wrapping_add(1),
-            None => (),
-        }
-    }
-    assert!(rt; refused > 9 && whole > 9, "{refused} {whole}");
-    Ok(())
-}
-
 fn in_heap(alloc: Global, left: usize) -> Result<Option<bool>, Fail> {
     let heap = LocalHeap::new(alloc, HEAP)?;
     Ok(inserts_both(&heap, left)?)

@@ -48,16 +48,6 @@ impl<A: Allocator + Clone> Table<A> {
         Ok(())
     }
 
-    /// Hands a batch over. Its number is used up, also where it is refused.
-    pub fn insert_owned(&mut self, batch: Batch<A>) -> Result<(), AllocError> {
-        if self.next > 1 << 62 {
-            return Err(AllocError);
-        }
-        let inserted = self.mem.insert_owned(batch, self.next);
-        self.next += 1;
-        inserted
-    }
-
     pub fn mem(&self) -> &Mem<A> {
         &self.mem
     }

@@ -33,18 +33,12 @@ fn put(alloc: Global, n: u32) -> Result<Batch, Refusal> {
 }
 
 /// Appends a batch to a log that lies within the device.
-fn append(
-    alloc: Global,
-    device: &mut MemDevice,
-    log: &mut Log,
-    batch: &Batch,
-) -> Result<(), Refusal> {
+fn append(device: &mut MemDevice, log: &mut Log, batch: &Batch) -> Result<(), Refusal> {
     let end = log.start().saturating_add(log.sectors());
     if end > device.sectors() || log.next() > 1 << 63 {
         return Err(Refusal::LogFull);
     }
-    let text = batch.encode(alloc)?;
-    match log.append(device, batch, &text) {
+    match log.append(device, batch) {
         Ok(()) => Ok(()),
         Err(refusal) => Err(refusal),
     }
@@ -62,7 +56,7 @@ pub(crate) fn add_batches(
     };
     for n in 0..count {
         let batch = put(alloc, n)?;
-        append(alloc, device, &mut open.log, &batch)?;
+        append(device, &mut open.log, &batch)?;
     }
     device.sync()?;
     Ok(())

@@ -17,9 +17,9 @@ loop-batch-preserved g c =
     let steps : into_iter_items at.batch-iterator ≡ c.in-Some.batch ∷ rest = c.in-Some.ensures.steps.0 in
     record {
       left = omega (arith, ap length steps, at.invariant.left);
-      numbered = c.insert_owned.ensures.numbered;
-      inserted = at.invariant.inserted ∙ ap (λ batches. with_batches at.number batches at.mem) steps ∙ ap (with_batches (at.number + 1) rest) (sym c.in_ok-insert_owned.ensures.ok);
-      entries = λ h. c.insert_owned.ensures.within (omega arith) (omega (arith, ap length steps, at.invariant.left, c.requires.room)) (at.invariant.entries h);
+      numbered = c.in_ok-insert.ensures.numbered;
+      inserted = at.invariant.inserted ∙ ap (λ batches. with_batches at.number batches at.mem) steps ∙ ap (with_batches (at.number + 1) rest) (sym c.in_ok-insert.ensures.ok);
+      entries = λ h. c.insert.ensures.within (omega arith) (omega (arith, ap length steps, at.invariant.left, c.requires.room)) (at.invariant.entries h);
       len = let was = at.invariant.len in let gone = c.in-Some.ensures.steps.1 in let short = ap length steps in omega arith;
     }
 

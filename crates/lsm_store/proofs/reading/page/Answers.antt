@@ -5,10 +5,11 @@ use Rattle.lsm_device.specs.Calls.{faults_after}
 use Rattle.lsm_device.specs.Refusals.{faultless}
 use Rattle.lsm_device.specs.declared.refusal.Refusal.TheVariants.{Io, NoMemory}
 use Rattle.lsm_levels.specs.Asking.{Source}
+use Rattle.lsm_levels.specs.Cursors.{refusal_of}
 use Rattle.lsm_levels.specs.Levels.{Levels, places}
 use Rattle.lsm_levels.specs.Lookups.{versions_at, sealed_versions as sealed_of}
 use Rattle.lsm_levels.specs.Orders.{IsVersionOrder}
-use Rattle.lsm_levels.specs.Scans.{blocks_in, blocks_of_runs}
+use Rattle.lsm_levels.specs.Scans.{ScansRuns, blocks_in, blocks_of_runs}
 use Rattle.lsm_levels.specs.Stored.{AreWithin, IsReadable}
 use Rattle.lsm_merge.specs.Inputs.{joined}
 use Rattle.lsm_mem.specs.Paging.{page_of}
@@ -38,6 +39,16 @@ returns-clause-answers g c =
     → MatchResult c.scan.result (λ page. page ≡ page_of (map_of (joined (versions_at p.memory p.sealed (places p.levels))) n) from to c.args.limit)
     (λ refusal. (refusal ≡ Io) ⊎ (refusal ≡ NoMemory)))
     v.mem.now _ (sealed_of v.sealed) _ v.levels.now _ v.area _ e.memory e.sealed e.levels e.area c.scan.ensures.answers
+
+pub returns-clause-scans : goal.returns-clause-scans
+returns-clause-scans g c =
+    let v = c.view_of-view.result in
+    let e = c.view_of-view.ensures in
+    let old : Source = record { cache = c.args.cache.now; medium = g.D.Device.medium c.args.device.now } in
+    let new : Source = record { cache = c.scan.new.cache; medium = g.D.Device.medium c.scan.new.device } in
+    let from = c.args.range.0.now in
+    subst (λ (a : ℕ). ScansRuns a from (places c.args.memory.now.levels) (refusal_of c.scan.result) old new) e.area
+    (subst (λ (l : Levels). ScansRuns v.area from (places l) (refusal_of c.scan.result) old new) e.levels c.scan.ensures.asks)
 
 pub returns-clause-reads : goal.returns-clause-reads
 returns-clause-reads g c =

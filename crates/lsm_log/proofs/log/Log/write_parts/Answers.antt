@@ -11,7 +11,7 @@ pub returns-in_err-write-clause-moments : goal.returns-in_err-write-clause-momen
 returns-in_err-write-clause-moments g c = λ t.
     let inv = c.loop-part.invariant in
     let log = c.args.self.now in
-    let here = sector_at log.epoch log.next c.args.batch.now c.args.text.now c.loop-part.part c.args.parts _ c.loop-part-test.true c.requires.count c.requires.text c.sector_of_part-sector.ensures in
+    let here = sector_at log.epoch log.next c.args.batch.now c.text-text.result.now c.loop-part.part c.args.parts _ c.loop-part-test.true c.requires.count c.text-text.ensures.same c.sector_of_part-sector.ensures in
     run_fault _ _ _ (log.start + log.used) (log.start + log.used + c.loop-part.part) (batch_sectors log.epoch log.next c.args.batch.now) c.loop-part.part _ (omega arith) here.0 here.1 (inv.reached t) (c.in_err-write.ensures.may_pend (rw inv.same_lasting t))
 
 pub returns-in_err-write-clause-calls : goal.returns-in_err-write-clause-calls
@@ -19,7 +19,7 @@ returns-in_err-write-clause-calls g c =
     AtMost-joined 0 c.loop-part.part 0 0 1 0 0 c.args.parts 0 _ _ _ (omega arith) (omega arith) (omega arith) c.loop-part.invariant.calls (write_made false _ _ c.in_err-write.ensures.counted)
 
 pub sector_of_part-sector-requires-clause-few : goal.sector_of_part-sector-requires-clause-few
-sector_of_part-sector-requires-clause-few g c = omega (arith, c.requires.count, (counted c.args.batch.now c.requires.whole).few)
+sector_of_part-sector-requires-clause-few g c = omega (arith, c.requires.count, (counted c.args.batch.now c.text-text.ensures.fits).few)
 
 pub loop-part-init : goal.loop-part-init
 loop-part-init g c =
@@ -36,7 +36,7 @@ pub loop-part-preserved : goal.loop-part-preserved
 loop-part-preserved g c =
     let inv = c.loop-part.invariant in
     let log = c.args.self.now in
-    let here = sector_at log.epoch log.next c.args.batch.now c.args.text.now c.loop-part.part c.args.parts _ c.loop-part-test.true c.requires.count c.requires.text c.sector_of_part-sector.ensures in
+    let here = sector_at log.epoch log.next c.args.batch.now c.text-text.result.now c.loop-part.part c.args.parts _ c.loop-part-test.true c.requires.count c.text-text.ensures.same c.sector_of_part-sector.ensures in
     record {
       same_size = c.write.ensures.same_size ∙ inv.same_size;
       same_lasting = c.write.ensures.same_lasting ∙ inv.same_lasting;
