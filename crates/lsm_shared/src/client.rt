@@ -87,7 +87,7 @@ impl<A: Allocator + Clone, B: SessionName> Client<A, B> {
         ensures made { IfOk result (λ reply. MakesCall self.old (call_of call) (reply_of reply) self.new) }
         ensures refused { IfErr result (λ e. IsNoCall self.old (call_of call) e self.new) }
     {
-        shared.session.lock(rt).serve(&shared.counters, self, call)
+        shared.hold(rt).serve(&shared.counters, self, call)
     }
 
     /// Does the next piece of work on the jobs of the store, in one hold of the lock. The four slots of jobs are asked in turn,
@@ -109,7 +109,7 @@ impl<A: Allocator + Clone, B: SessionName> Client<A, B> {
         // What was built of the input may be brought, then and later.
         ensures lent { IfOk result (λ turn. HasLent turn self.new) }
     {
-        shared.session.lock(rt).piece(&shared.counters, self)
+        shared.hold(rt).piece(&shared.counters, self)
     }
 
     /// Brings a result that was built of an input which a turn of this client handed out, in one hold of the lock. It is accepted
@@ -131,8 +131,7 @@ impl<A: Allocator + Clone, B: SessionName> Client<A, B> {
             (λ e. IsNotBrought self.old job number built.now e self.new) }
     {
         shared
-            .session
-            .lock(rt)
+            .hold(rt)
             .accept(&shared.counters, self, job, number, built)
     }
 }

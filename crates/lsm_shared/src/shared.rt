@@ -14,7 +14,20 @@ use lsm_device::{Device, Refusal};
 use lsm_store::Store;
 use lsm_trail::{Counters, Opened, Pass, SessionName, Trail};
 use std::alloc::{AllocError, Allocator};
-use std::sync::Mutex;
+use std::hint::spin_loop;
+use std::sync::{Mutex, MutexGuard, Wait};
+
+/// How often the lock is tried for before a thread sleeps.
+const TRIES: u32 = 32;
+
+/// How often the processor pauses between two tries: about as long as a commit holds the lock.
+const PAUSES: u32 = 16;
+
+fn pause() {
+    for _ in 0..PAUSES {
+        spin_loop();
+    }
+}
 
 /// A session: a store behind one lock, with one history of all calls and pieces of work.
 pub struct Shared<D: Device, A: Allocator, B: SessionName> {
@@ -118,6 +131,18 @@ impl<D: Device, A: Allocator + Clone, B: SessionName> Shared<D, A, B> {
 }
 
 impl<D: Device, A: Allocator, B: SessionName> Shared<D, A, B> {
+    // Waits for the lock. It tries for a while first, with pauses between, since most holds are shorter than what it costs to
+    // put a thread to sleep and to wake it.
+    pub(crate) fn hold<R: Wait>(&self, rt: &R) -> MutexGuard<'_, Session<D, A, B>> {
+        for _ in 0..TRIES {
+            if let Some(guard) = self.session.try_lock() {
+                return guard;
+            }
+            pause();
+        }
+        self.session.lock(rt)
+    }
+
     /// The number of the base: the snapshot that the session pins from its begin to its end. Its map is that of the begin.
     pub fn base(&self) -> u64
         ensures { result ≡ base_of B.id.begin }
