@@ -1,5 +1,5 @@
 -- What is said of an answer that is Ok.
-use Rattle.std.proofs.Common.{◌≡◌, Bool, true, false, Result, Ok, Err, sym}
+use Rattle.std.proofs.Common.{◌≡◌, false, Result, Ok, Err, sym}
 use Rattle.std.specs.Prelude.{OnOk, is_ok}
 use Rattle.std.proofs.lemmas.Bool.{false≢true}
 

@@ -1,5 +1,5 @@
 -- How a fuse burns, and what it bounds.
-use Rattle.std.proofs.Common.{◌≡◌, ◌<◌, ◌≤◌, ◌+◌, ◌-◌, ◌%◌, ◌^◌, ℕ, zero, suc, Bool, true, false, All, List, ◌∷◌, Option, None, Some, ap, arith, refl, sym, subst}
+use Rattle.std.proofs.Common.{◌≡◌, ◌≤◌, ◌+◌, ◌-◌, ◌^◌, ℕ, zero, suc, Bool, true, false, All, List, ◌∷◌, Option, None, Some, ap, arith, refl, sym, subst}
 use Rattle.std.proofs.Math.Nat.{mod-le}
 use Rattle.std.proofs.lemmas.Bool.{false≢true}
 use Rattle.std.proofs.lemmas.List.Elements.{All-cons}
@@ -9,7 +9,7 @@ use Rattle.lsm_device.specs.declared.plan.Failure.{Failure}
 use Rattle.lsm_device.specs.declared.plan.Fuse.{Fuse}
 use Rattle.lsm_device.specs.Calls.{one_more, passed_after}
 use Rattle.lsm_device.specs.Medium.{Ended, KeepsFuse}
-use Rattle.lsm_device.specs.Plan.{Burns, burnt, goes_well, left_of, set_of}
+use Rattle.lsm_device.specs.Plan.{Burns, burnt, goes_well, left_of}
 
 -- each life that a crash ended kept its fuse
 abbrev pub AllKept : List Ended → Type 0

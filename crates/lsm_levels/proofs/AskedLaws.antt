@@ -10,7 +10,6 @@ use Rattle.lsm_filter.specs.Bits.{is_perhaps}
 use Rattle.lsm_table.specs.Outlines.{Outline}
 use Rattle.lsm_table.specs.Places.{stands_before, place_from, place_of}
 use Rattle.lsm_levels.specs.Tables.{Table}
-use Rattle.lsm_cache.specs.declared.name.BlockName.{BlockName}
 use Rattle.lsm_levels.specs.Asking.{covers, covering, placed_block, asked_of_table, asked_of_run}
 use Rattle.lsm_levels.specs.Stored.{LiesWithin}
 use Rattle.lsm_levels.specs.declared.placed.PlacedBlock.{PlacedBlock}

@@ -1,5 +1,5 @@
 -- Scans: which blocks they ask for, and what is left of their sources.
-use Rattle.std.specs.Prelude.{◌≡◌, ◌⊎◌, ◌+◌, ◌*◌, ◌<◌, ◌≤◌, ℕ, Bool, true, false, List, [], ◌∷◌, ◌++◌, length, map, set, slice_get, drop, Option, Some, None, Result, Ok, Err, IsTrue}
+use Rattle.std.specs.Prelude.{◌≡◌, ◌⊎◌, ◌+◌, ◌*◌, ◌≤◌, ℕ, Bool, true, false, List, [], ◌∷◌, ◌++◌, length, map, set, slice_get, drop, Option, Some, None, Result, Ok, Err, IsTrue}
 use denote.Ref.{Bor}
 use Rattle.std.specs.List.{AllByRecursion}
 use Rattle.lsm_device.specs.declared.refusal.Refusal.{Refusal}

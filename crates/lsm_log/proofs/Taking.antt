@@ -1,10 +1,10 @@
 -- What is read after one sector more.
-use Rattle.std.proofs.Common.{◌≡◌, ℕ, ◌+◌, ◌++◌, Bool, true, false, List, [], ◌∷◌, Some, None, sym, ◌∙◌, ap}
+use Rattle.std.proofs.Common.{◌≡◌, ℕ, ◌+◌, ◌++◌, Bool, true, false, List, [], ◌∷◌, Some, sym, ◌∙◌, ap}
 use Rattle.lsm_codec.specs.BatchText.{batch_of}
 use Rattle.lsm_codec.specs.LogSectors.{Part, part_of}
 use Rattle.lsm_codec.specs.Map.{Operation}
 use Rattle.lsm_log.specs.declared.gathered.Gathered.{Gathered}
-use Rattle.lsm_log.specs.Gathered.{IsOneMore, HasEnded, HasTaken, batches_with, awaited_in}
+use Rattle.lsm_log.specs.Gathered.{HasEnded, HasTaken}
 use Rattle.lsm_log.specs.Replay.{map_while, is_awaited, texts_from, awaited_from}
 use Rattle.lsm_log.proofs.Gathering.{ends_no_batch, taken_batch}
 

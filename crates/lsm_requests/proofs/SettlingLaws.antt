@@ -1,15 +1,15 @@
 -- How a job goes on.
-use Rattle.std.proofs.Common.{◌≡◌, ◌⊎◌, ◌+◌, ◌<◌, ◌≤◌, ◌-◌, ℕ, suc, List, Option, Some, None, Result, Ok, Err, MatchResult, inl, inr, refl, ap, sym, subst, arith}
+use Rattle.std.proofs.Common.{◌≡◌, ◌+◌, ◌<◌, ◌≤◌, ◌-◌, ℕ, suc, Option, Some, Result, Ok, Err, MatchResult, inl, inr, refl, subst, arith}
 use Rattle.lsm_device.specs.declared.refusal.Refusal.{Refusal}
 use Rattle.lsm_merge.specs.Inputs.{MergeInput, kept_of}
 use Rattle.lsm_merge.specs.Results.{MergeResult}
 use Rattle.lsm_store.specs.Backing.{StoreView}
-use Rattle.lsm_store.specs.Calls.{Reply, Number, Done, Given, Handed, Refused, reply_of}
+use Rattle.lsm_store.specs.Calls.{Number, Done, Given, Handed, Refused, reply_of}
 use Rattle.lsm_store.specs.Work.{Work, Take, Ask, Accept, Write, Install}
 use Rattle.lsm_store.specs.Working.{Works, taken_reply}
 use Rattle.lsm_store.specs.declared.TakenJob.{TakenJob}
 use Rattle.lsm_table.specs.Division.{IsTables}
-use Rattle.lsm_requests.specs.Settling.{IsRefused, LeavesSome, HasLeft, GoesThrough, IsStopped, IsNoFewer, IsHeldUp, IsReadWhole, IsUnread, IsOffered, IsUnmerged, IsFinished, IsUnfinished, IsStuck, Taken, AreFinished}
+use Rattle.lsm_requests.specs.Settling.{LeavesSome, HasLeft, GoesThrough, IsHeldUp, IsReadWhole, IsOffered, IsUnmerged, IsFinished, IsStuck, Taken, AreFinished}
 
 -- ---- a piece that is done again and again
 

@@ -1,5 +1,5 @@
 -- A result that a client brings, in a hold of the lock.
-use Rattle.std.proofs.Common.{◌≡◌, ℕ, Bool, true, false, Some, List, [], ◌∷◌, refl, ap, sym, ◌∙◌, subst}
+use Rattle.std.proofs.Common.{◌≡◌, ℕ, true, false, Some, List, [], ◌∷◌, refl, ap, sym, ◌∙◌, subst}
 use Rattle.lsm_device.specs.declared.refusal.Refusal.{Refusal}
 use Rattle.lsm_device.specs.declared.refusal.Refusal.TheVariants.{NoSpace}
 use Rattle.lsm_merge.specs.Results.{MergeResult}
@@ -11,7 +11,7 @@ use Rattle.lsm_store.specs.Work.{Accept, Drop}
 use Rattle.lsm_trail.specs.History.{Event, worked, accepted}
 use Rattle.lsm_trail.specs.Knowledge.{SessionId, Known, known}
 use Rattle.lsm_shared.specs.Holds.{IsPutBack, IsBroughtBy, StopsBringing}
-use Rattle.lsm_shared.specs.Sessions.{SessionView, Finds, Enters, EntersOne}
+use Rattle.lsm_shared.specs.Sessions.{SessionView, Finds, EntersOne}
 use Rattle.lsm_shared.specs.Turns.{tells_no_space, IsBrought}
 use Rattle.lsm_shared.proofs.Holds.{enters_join, shown_before}
 

@@ -1,12 +1,10 @@
 -- What one hold of the lock does to a session.
-use Rattle.std.proofs.Common.{◌≡◌, ◌≢◌, ℕ, ◌+◌, ◌<◌, ◌≤◌, ◌==◌, Bool, true, false, is_some, Option, List, [], ◌∷◌, ◌++◌, length, Some, None, Result, Ok, Err, refl, ap, sym, ◌∙◌, subst, arith, zero-le, append_assoc, length-append}
-use Rattle.std.specs.Prelude.{IsTrue, IsNone, IsSome, IfOk, IfErr, IsErrAnd, MatchResult}
+use Rattle.std.proofs.Common.{◌≡◌, ◌≢◌, ℕ, ◌+◌, ◌<◌, ◌≤◌, ◌==◌, Bool, true, false, is_some, List, [], ◌∷◌, ◌++◌, length, Some, None, Result, Ok, Err, refl, ap, sym, ◌∙◌, subst, arith, zero-le, append_assoc, length-append}
+use Rattle.std.specs.Prelude.{IsTrue, IsNone, IfErr, IsErrAnd, MatchResult}
 use Rattle.std.proofs.lemmas.Bool.Decides.{nat_tests}
 use Rattle.std.proofs.lemmas.List.{append-nil}
-use mathlib.Core.List.{IsPrefix}
 use Rattle.lsm_device.specs.declared.refusal.Refusal.{Refusal}
-use Rattle.lsm_device.specs.declared.refusal.Refusal.TheVariants.{NoMemory, Stopped, TrailFull, NotYours}
-use Rattle.lsm_merge.specs.Inputs.{MergeInput}
+use Rattle.lsm_device.specs.declared.refusal.Refusal.TheVariants.{NoMemory}
 use Rattle.lsm_store.specs.Backing.{StoreView, IsBacked, machine_of}
 use Rattle.lsm_store.specs.Calls.{Call, Reply}
 use Rattle.lsm_store.specs.Calls.{Commit, Sync, SyncTo, Get, Scan, Snapshot, Release, Rotate, LogRoom, Number, Done, Value, Rows, Given, Handed, Refused}
@@ -15,19 +13,18 @@ use Rattle.lsm_store.specs.Machine.{Machine, Step, Called, Worked}
 use Rattle.lsm_store.specs.Run.{Allows, Admits, AllowsStep, AdmitsStep, GoesTo, asks_value, asks_page, next, next_machine}
 use Rattle.lsm_store.specs.Serving.{Serves}
 use Rattle.lsm_store.specs.State.{State}
-use Rattle.lsm_store.specs.Work.{WorkView}
 use Rattle.lsm_store.specs.WorkEffects.{work_called, work_by}
 use Rattle.lsm_store.specs.Working.{ServesStep}
 use Rattle.lsm_store.proofs.Running.{value_wanted, page_wanted}
 use Rattle.lsm_store.proofs.ServedSteps.{served_goes, served_work}
 use Rattle.lsm_store.proofs.Steps.{step_stopped}
-use Rattle.lsm_trail.specs.Begins.{Begin, base_of}
+use Rattle.lsm_trail.specs.Begins.{base_of}
 use Rattle.lsm_trail.specs.Following.{MayFollow}
-use Rattle.lsm_trail.specs.History.{Event, event, called, IsLegal, inputs_of, IsNextNumber, TakesResult, machine_after, state_after, entries_by}
+use Rattle.lsm_trail.specs.History.{Event, event, IsLegal, inputs_of, IsNextNumber, TakesResult, machine_after, entries_by}
 use Rattle.lsm_trail.specs.Knowledge.{SessionId, Known, known}
 use Rattle.lsm_trail.proofs.Histories.{after_more, legal_none, entries_by-mine}
 use Rattle.lsm_trail.proofs.Lists.{prefix_self}
-use Rattle.lsm_shared.specs.Sessions.{IsPinned, SessionView, IsSession, Knows, Finds, HasSeen, Enters, EntersOne, IsMade, IsFull, IsReserved, IsShort, IsRefused, IsLost}
+use Rattle.lsm_shared.specs.Sessions.{IsPinned, SessionView, IsSession, Knows, Finds, HasSeen, Enters, EntersOne, IsFull, IsReserved, IsShort, IsLost}
 
 -- ---- a step that a store served
 

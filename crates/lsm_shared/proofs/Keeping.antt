@@ -1,12 +1,12 @@
 -- The history that the value behind the lock keeps, with one entry more.
-use Rattle.std.proofs.Common.{◌≡◌, ℕ, ◌+◌, ◌<◌, ◌≤◌, ◌^◌, Bool, List, [], ◌∷◌, ◌++◌, length, if◌then◌else◌, refl, ap, sym, ◌∙◌, subst, arith, length-append}
+use Rattle.std.proofs.Common.{◌≡◌, ℕ, ◌+◌, ◌<◌, ◌^◌, Bool, List, [], ◌∷◌, ◌++◌, length, if◌then◌else◌, ap, sym, ◌∙◌, subst, arith, length-append}
 use Rattle.atomic_table.specs.Table.{Me}
 use Rattle.atomic_table.specs.declared.shared.Seat.{Seat}
 use Rattle.lsm_store.specs.Backing.{StoreView, machine_of}
 use Rattle.lsm_store.specs.Machine.{Machine}
 use Rattle.lsm_store.specs.RecoveryPoints.{batch_count}
 use Rattle.lsm_trail.specs.Following.{MayFollow}
-use Rattle.lsm_trail.specs.History.{Event, IsLegal, inputs_of, is_call, is_lent, calls_in, machine_after, numbers, numbers_at, TrailView}
+use Rattle.lsm_trail.specs.History.{Event, IsLegal, is_call, is_lent, calls_in, machine_after, numbers, numbers_at, TrailView}
 use Rattle.lsm_trail.specs.Knowledge.{SessionId, View, keeper_or, keeper_of, IsKeeperPass}
 use Rattle.lsm_trail.specs.declared.numbers.Numbers.{Numbers}
 use Rattle.lsm_trail.proofs.Histories.{after_more, legal_more, calls_more, lent_more, few_calls, few_lent}

@@ -1,31 +1,28 @@
 -- Pieces of work in a hold of the lock.
-use Rattle.std.proofs.Common.{◌≡◌, ◌≢◌, ℕ, ◌<◌, Option, Some, None, List, [], ◌∷◌, length, Result, Ok, Err, refl, ap, sym, ◌∙◌, subst}
-use Rattle.std.specs.Prelude.{MatchResult, IsErrAnd}
+use Rattle.std.proofs.Common.{◌≡◌, ◌≢◌, ℕ, ◌<◌, Option, Some, None, List, length, refl, ap, sym, ◌∙◌, subst}
 use Rattle.lsm_device.specs.declared.refusal.Refusal.{Refusal}
-use Rattle.lsm_device.specs.declared.refusal.Refusal.TheVariants.{NoMemory, Io, TrailFull}
+use Rattle.lsm_device.specs.declared.refusal.Refusal.TheVariants.{NoMemory, TrailFull}
 use Rattle.lsm_jobs.specs.Slots.{Slot}
 use Rattle.lsm_mem.specs.Paging.{Page}
 use Rattle.lsm_merge.specs.Inputs.{MergeInput}
-use Rattle.lsm_store.specs.Backing.{StoreView, IsBacked, machine_of}
+use Rattle.lsm_store.specs.Backing.{StoreView, machine_of}
 use Rattle.lsm_store.specs.Calls.{Reply}
 use Rattle.lsm_store.specs.Calls.{Number, Done, Value, Rows, Given, Handed, Refused}
 use Rattle.lsm_store.specs.Machine.{Machine, Worked}
 use Rattle.lsm_store.specs.Work.{Work, Take, Read, Ask, Accept, Write, Install, Drop}
 use Rattle.lsm_store.specs.WorkEffects.{work_answer}
 use Rattle.lsm_store.specs.WorkRefusals.{held, of_slot, work_refusal}
-use Rattle.lsm_store.specs.WorkReplies.{work_reply_by, work_decided, WorkAdmits}
+use Rattle.lsm_store.specs.WorkReplies.{work_reply_by, WorkAdmits}
 use Rattle.lsm_store.specs.Working.{Works}
 use Rattle.lsm_store.proofs.WorkReplies.{refused_work}
 use Rattle.lsm_lives.specs.Calls.{reply_of}
 use Rattle.lsm_lives.specs.declared.calls.Reply.{Reply as GivenReply}
 use Rattle.lsm_lives.specs.declared.calls.Reply.TheVariants as reply
-use Rattle.lsm_trail.specs.Begins.{Begin}
 use Rattle.lsm_trail.specs.History.{Event, IsNextNumber, TakesResult}
 use Rattle.lsm_trail.specs.Knowledge.{SessionId, Known, known}
 use Rattle.lsm_shared.specs.Holds.{IsPutBack}
 use Rattle.lsm_shared.specs.Pieces.{work_of}
-use Rattle.lsm_shared.specs.Sessions.{SessionView, IsSession, HasSeen, Enters, IsLost}
-use Rattle.lsm_shared.specs.Turns.{DeniesWork}
+use Rattle.lsm_shared.specs.Sessions.{SessionView, IsSession, HasSeen, IsLost}
 use Rattle.lsm_shared.specs.declared.pieces.OwnPiece.{OwnPiece}
 use Rattle.lsm_shared.specs.declared.pieces.OwnPiece.TheVariants as own
 use Rattle.lsm_shared.proofs.Holds.{entered_none}

@@ -1,14 +1,13 @@
 -- What a hold of the lock tells the client.
-use Rattle.std.proofs.Common.{◌≡◌, ℕ, ◌<◌, ◌≤◌, List, [], ◌∷◌, ◌++◌, length, Result, Ok, Err, None, refl, ap, sym, ◌∙◌, subst, arith, append_assoc}
+use Rattle.std.proofs.Common.{◌≡◌, ℕ, ◌≤◌, List, [], ◌∷◌, ◌++◌, length, Result, Ok, Err, ap, sym, ◌∙◌, subst, append_assoc}
 use Rattle.std.specs.Arc.{arc_value}
 use Rattle.std.specs.Prelude.{Contains, IfOk, IfErr, MatchResult}
 use Rattle.std.proofs.lemmas.List.Elements.{Contains-push}
 use Rattle.std.proofs.lemmas.List.{append-nil}
-use mathlib.Core.List.{IsPrefix}
 use Rattle.lsm_device.specs.declared.refusal.Refusal.{Refusal}
 use Rattle.lsm_device.specs.declared.refusal.Refusal.TheVariants.{NoMemory, TrailFull, NotYours}
 use Rattle.lsm_merge.specs.Results.{MergeResult}
-use Rattle.lsm_store.specs.Backing.{machine_of, IsBacked}
+use Rattle.lsm_store.specs.Backing.{machine_of}
 use Rattle.lsm_store.specs.Calls.{Call, Reply}
 use Rattle.lsm_store.specs.Calls.{Refused}
 use Rattle.lsm_store.specs.Machine.{Machine}
@@ -18,9 +17,8 @@ use Rattle.lsm_store.specs.State.{State}
 use Rattle.lsm_store.specs.Work.{Work}
 use Rattle.lsm_lives.specs.Calls.{reply_of}
 use Rattle.lsm_lives.specs.declared.calls.Reply.{Reply as GivenReply}
-use Rattle.lsm_trail.specs.Begins.{Begin}
-use Rattle.lsm_trail.specs.History.{Event, called, lent_to, machine_after, state_after, IsLegal, entries_by}
-use Rattle.lsm_trail.specs.Knowledge.{SessionId, Known, Sees, known}
+use Rattle.lsm_trail.specs.History.{Event, lent_to, machine_after, IsLegal, entries_by}
+use Rattle.lsm_trail.specs.Knowledge.{SessionId, Known, Sees}
 use Rattle.lsm_shared.specs.Clients.{Adds, MakesCall, Denies, IsNoCall}
 use Rattle.lsm_shared.specs.Holds.{TakesAmong, StopsAmong, IsBroughtBy, StopsBringing}
 use Rattle.lsm_shared.specs.Sessions.{SessionView, Enters, IsMade, IsRefused}

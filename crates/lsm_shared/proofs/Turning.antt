@@ -1,9 +1,9 @@
 -- Turns over the slots, one place after another.
-use Rattle.std.proofs.Common.{◌≡◌, ◌≢◌, ℕ, ◌-◌, ◌<◌, ◌≤◌, Bool, true, false, cond, Option, Some, None, is_some, List, [], ◌∷◌, ◌++◌, length, map, drop, take, get_or, Result, Ok, Err, refl, ap, sym, ◌∙◌, subst, arith, append_assoc, if◌then◌else◌}
+use Rattle.std.proofs.Common.{◌≡◌, ◌≢◌, ℕ, ◌-◌, ◌≤◌, Bool, true, false, Option, Some, None, List, [], ◌∷◌, ◌++◌, length, drop, take, get_or, Result, Ok, Err, refl, ap, sym, ◌∙◌, subst, arith, append_assoc, if◌then◌else◌}
 use Rattle.std.specs.Arc.{arc_value}
 use Rattle.std.specs.Prelude.{IsNone, MatchResult}
 use Rattle.std.proofs.Math.Seq.{take-length}
-use Rattle.std.proofs.lemmas.List.{map-append, append-nil}
+use Rattle.std.proofs.lemmas.List.{map-append}
 use Rattle.lsm_device.specs.declared.refusal.Refusal.{Refusal}
 use Rattle.lsm_device.specs.declared.refusal.Refusal.TheVariants.{NoMemory, Io, BadTable, TooManyRuns, TooManyTables}
 use Rattle.lsm_store.specs.Backing.{StoreView, machine_of}
@@ -22,7 +22,7 @@ use Rattle.lsm_trail.specs.History.{Event, worked, lent_to, steps_of}
 use Rattle.lsm_trail.specs.Knowledge.{SessionId, Known, known}
 use Rattle.lsm_shared.specs.Holds.{IsPutBack, StaysIfIdle, TakesAmong, StopsAmong}
 use Rattle.lsm_shared.specs.Sessions.{SessionView, Finds, HasSeen, Enters, EntersOne}
-use Rattle.lsm_shared.specs.Turns.{tells_full_levels, with_piece, pieces_among, as_steps, AreOfTurn, IsTurn, StopsBefore, DeniesWork}
+use Rattle.lsm_shared.specs.Turns.{tells_full_levels, with_piece, pieces_among, as_steps, AreOfTurn, IsTurn, StopsBefore}
 use Rattle.lsm_shared.specs.declared.turn.Turn.{Turn}
 use Rattle.lsm_shared.specs.declared.turn.Turn.TheVariants as turn
 use Rattle.lsm_shared.proofs.Holds.{enters_join, entered_none, shown_before}

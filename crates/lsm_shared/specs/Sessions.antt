@@ -8,7 +8,6 @@ use Rattle.lsm_store.specs.Backing.{StoreView, machine_of, IsBacked}
 use Rattle.lsm_store.specs.Calls.{Call, Reply}
 use Rattle.lsm_store.specs.Calls.{Snapshot, Release, Refused, Value, Rows}
 use Rattle.lsm_store.specs.Effects.{after}
-use Rattle.lsm_store.specs.Machine.{Machine}
 use Rattle.lsm_store.specs.Refusals.{refusals, first_refusal}
 use Rattle.lsm_store.specs.Run.{Allows, Admits}
 use Rattle.lsm_store.specs.Serving.{Serves}

@@ -43,7 +43,7 @@ use Rattle.lsm_table.proofs.Outlines.{edge_count, outline_fits}
 use Rattle.lsm_table.proofs.StoredTables.{stored_laws_hold}
 use Rattle.lsm_table.specs.BlockEdges.{edges_of}
 use Rattle.lsm_table.specs.Division.{TableBlocks, IsTable, entries_of}
-use Rattle.lsm_table.specs.Extents.{in_pieces, index_in_blocks, footer_in, extent_size, keys_of}
+use Rattle.lsm_table.specs.Extents.{in_pieces, index_in_blocks, footer_in, keys_of}
 use Rattle.lsm_table.specs.Extents as laid
 use Rattle.lsm_table.specs.Outlines.{summary_in, outline_in}
 use Rattle.lsm_table.specs.Stored.{table_of, table_in}

@@ -1,5 +1,5 @@
 -- As many commits are answered with a number as there are batches more.
-use Rattle.std.proofs.Common.{◌≡◌, ℕ, ◌+◌, Bool, true, false, ◌&&◌, cond, List, [], ◌∷◌, length, Option, Some, None, refl, sym, ap, ◌∙◌, arith}
+use Rattle.std.proofs.Common.{◌≡◌, ℕ, ◌+◌, Bool, true, false, ◌&&◌, List, [], ◌∷◌, Option, Some, None, refl, ap, ◌∙◌, arith}
 use Rattle.std.specs.Prelude.{IsTrue, is_some, nat_le, if◌then◌else◌}
 use Rattle.std.proofs.lemmas.List.{length-append}
 use Rattle.lsm_codec.specs.Map.{Operation, apply}
@@ -25,7 +25,7 @@ use Rattle.lsm_trail.specs.Begins.{Begin, base_of, first_machine}
 use Rattle.lsm_trail.specs.Entries.{is_number, told_in}
 use Rattle.lsm_trail.specs.History.{Event, TrailView, AreServed, machine_behind}
 use Rattle.lsm_trail.specs.Knowledge.{Known}
-use Rattle.lsm_shared.specs.Sessions.{IsEnded, released, ended_state}
+use Rattle.lsm_shared.specs.Sessions.{IsEnded, released}
 use Rattle.lsm_storm.specs.Storms.{is_commit, accepted_in, IsFresh}
 
 -- how many batches a state has

@@ -5,17 +5,15 @@ use Rattle.std.proofs.lemmas.List.{append-nil}
 use Rattle.std.proofs.lemmas.List.Elements.{All-push}
 use Rattle.lsm_device.specs.declared.refusal.Refusal.TheVariants.{NoMemory}
 use Rattle.lsm_merge.specs.Inputs.{MergeInput}
-use Rattle.lsm_store.specs.Backing.{IsBacked}
 use Rattle.lsm_store.specs.Calls.{Reply}
 use Rattle.lsm_store.specs.Calls.{Release, Number, Done, Value, Rows, Given, Handed, Refused}
 use Rattle.lsm_store.specs.Machine.{Machine, Step, Called}
 use Rattle.lsm_store.specs.Run.{AllowsStep, AdmitsStep, GoesTo, next_machine, Run, last_machine}
 use Rattle.lsm_store.specs.State.{State}
-use Rattle.lsm_store.specs.Work.{WorkView}
-use Rattle.lsm_store.proofs.Steps.{admits_step, stopped_run, stopped_last}
+use Rattle.lsm_store.proofs.Steps.{stopped_run, stopped_last}
 use Rattle.lsm_trail.specs.Begins.{Begin, base_of, first_machine, CanPin}
 use Rattle.lsm_trail.specs.Following.{MayFollow}
-use Rattle.lsm_trail.specs.History.{Event, steps_of, replies_of, machine_behind, AreServed, AreRun, handed, inputs_of, IsNextNumber, TakesResult, AreNumbered, IsLegal, machine_after, state_after, entries_by, is_call, is_lent, calls_in}
+use Rattle.lsm_trail.specs.History.{Event, steps_of, replies_of, machine_behind, AreServed, AreRun, handed, inputs_of, IsNextNumber, TakesResult, AreNumbered, IsLegal, machine_after, entries_by, is_call, is_lent, calls_in}
 
 -- the machine after these entries, as the replies tell it
 abbrev told_behind : Machine → List Event → Machine

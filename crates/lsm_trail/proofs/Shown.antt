@@ -1,5 +1,5 @@
 -- What an entry shows.
-use Rattle.std.proofs.Common.{◌≡◌, ℕ, Bool, true, false, Some, None, refl, sym}
+use Rattle.std.proofs.Common.{◌≡◌, ℕ, false, refl, sym}
 use Rattle.std.specs.Prelude.{◌&&◌}
 use Rattle.lsm_lives.specs.Asked.{Asked, Own, Build, AcceptBuilt}
 use Rattle.lsm_lives.specs.Calls.{reply_of}

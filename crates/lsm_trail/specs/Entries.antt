@@ -1,5 +1,5 @@
 -- What the entries of a trail show.
-use Rattle.std.specs.Prelude.{◌≡◌, ℕ, ◌&&◌, Bool, true, false, [], Option, Some, None}
+use Rattle.std.specs.Prelude.{◌≡◌, ℕ, Bool, true, false, [], Option, Some, None}
 use Rattle.lsm_merge.specs.Inputs.{MergeInput}
 use Rattle.lsm_merge.specs.Results.{MergeResult}
 use Rattle.lsm_store.specs.Calls.{Reply}

@@ -1,4 +1,4 @@
-use Rattle.std.proofs.Common.{◌≡◌, take, sym, ap, ◌∙◌, subst, List, Bool}
+use Rattle.std.proofs.Common.{take, sym, ap, ◌∙◌, subst, List, Bool}
 use Rattle.lsm_levels.specs.Tables.{Table}
 use Rattle.lsm_levels.specs.Held.{HasItsTables}
 use Rattle.levels_tests.proofs.Merges.{may_replace}

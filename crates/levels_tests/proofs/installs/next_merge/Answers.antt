@@ -1,4 +1,4 @@
-use Rattle.std.proofs.Common.{◌≡◌, ◌∷◌, [], false, Option, Some, option_map, sym, ap, ◌∙◌}
+use Rattle.std.proofs.Common.{◌≡◌, ◌∷◌, [], false, Some, option_map, sym, ap, ◌∙◌}
 use Rattle.lsm_levels.specs.Pick.{Merge, pick}
 use Rattle.lsm_levels.specs.Picks.{job_of}
 use Rattle.levels_tests.proofs.Merges.{next_has}

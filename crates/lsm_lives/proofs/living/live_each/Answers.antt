@@ -8,7 +8,7 @@ use Rattle.lsm_lives.specs.Asked.{Told}
 use Rattle.lsm_lives.specs.Calls.{told_of}
 use Rattle.lsm_lives.specs.Leading.{LifeView, life_of, AreLed}
 use Rattle.lsm_lives.specs.Living.{told_by}
-use Rattle.lsm_lives.proofs.Lifetimes.{length-places, places_left, lives_more, replies_more, led_more, some_life, room_at}
+use Rattle.lsm_lives.proofs.Lifetimes.{length-places, places_left, lives_more, replies_more, led_more, some_life}
 use Rattle.lsm_lives.proofs.living.live_each.Goals as goal
 
 pub loop-index-init : goal.loop-index-init

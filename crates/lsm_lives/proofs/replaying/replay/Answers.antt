@@ -1,4 +1,4 @@
-use Rattle.std.proofs.Common.{List, [], ◌++◌, map, ap, sym, subst, ◌∙◌, refl}
+use Rattle.std.proofs.Common.{List, [], ◌++◌, map, ap, sym, subst, ◌∙◌}
 use Rattle.lsm_lives.specs.Asked.{Told}
 use Rattle.lsm_lives.specs.declared.calls.Reply.{Reply as GivenReply}
 use Rattle.lsm_lives.specs.Calls.{asked_of, told_of}

@@ -1,4 +1,4 @@
-use Rattle.std.proofs.Common.{inl, inr, subst}
+use Rattle.std.proofs.Common.{inl, inr}
 use Rattle.std.proofs.lemmas.Result.{err_from_is_err_and}
 use Rattle.lsm_requests.proofs.SettlingLaws.{offered-answered, refused-holds}
 use Rattle.lsm_requests.proofs.settling.merge.Goals as goal

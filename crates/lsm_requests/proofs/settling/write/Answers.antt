@@ -1,4 +1,3 @@
-use Rattle.std.proofs.Common.{arith}
 use Rattle.std.proofs.lemmas.Result.{err_from_is_err_and}
 use Rattle.lsm_store.specs.Work.{Write}
 use Rattle.lsm_requests.proofs.SettlingLaws.{left-first, left-again, held_up-first, held_up-later, held_up-no_fewer, none-left, refused-holds}

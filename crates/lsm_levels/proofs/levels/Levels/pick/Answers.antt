@@ -1,6 +1,6 @@
-use Rattle.std.proofs.Common.{◌≡◌, Some, None, option_map, refl, ap, ◌∙◌}
+use Rattle.std.proofs.Common.{◌≡◌, None, option_map, refl, ap, ◌∙◌}
 use Rattle.lsm_levels.specs.Levels.{Levels}
-use Rattle.lsm_levels.specs.Pick.{Job, flush_job, level_job, or_next}
+use Rattle.lsm_levels.specs.Pick.{flush_job, level_job, or_next}
 use Rattle.lsm_levels.specs.Picks.{job_of}
 use Rattle.lsm_levels.proofs.PickLaws.{flush_first, flush_held, no_flush_waits, first_merge, passed_first, took_first}
 use Rattle.lsm_levels.proofs.levels.Levels.pick.Goals as goal

@@ -1,5 +1,4 @@
 use Rattle.std.proofs.Common.{Some, ap, sym, ◌∙◌, subst}
-use Rattle.lsm_lives.specs.Calls.{reply_of}
 use Rattle.lsm_store.specs.Calls.{Reply}
 use Rattle.lsm_store.specs.Machine.{Worked}
 use Rattle.lsm_store.specs.Work.{Accept}

@@ -1,5 +1,4 @@
 use Rattle.std.proofs.Common.{ap, ◌∙◌}
-use Rattle.lsm_store.specs.Work.{WorkView}
 use Rattle.lsm_trail.specs.History.{machine_after}
 use Rattle.lsm_shared.specs.Sessions.{SessionView, ended_state}
 use Rattle.lsm_shared.proofs.Bases.{ended_by, work_ended}

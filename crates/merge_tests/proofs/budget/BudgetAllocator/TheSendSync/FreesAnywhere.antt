@@ -1,5 +1,5 @@
 -- A block may go back from any thread from which the allocator behind takes it.
-use mir.Syntax.{Ty, Dict}
+use mir.Syntax.{Dict}
 use denote.RattleType.{RattleType}
 use denote.Param.Send.{Frees}
 use Rattle.std.specs.declared.alloc.Allocator.{Ghosts}
