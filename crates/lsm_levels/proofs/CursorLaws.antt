@@ -11,7 +11,8 @@ use Rattle.lsm_codec.specs.Entries.{entry_at, entries_from, entries_in}
 use Rattle.lsm_cache.specs.declared.name.BlockName.{BlockName}
 use Rattle.lsm_cache.specs.Reads.{block_at}
 use Rattle.lsm_levels.specs.Asking.{Source}
-use Rattle.lsm_levels.specs.Cursors.{Items, Cursor, AsksOnce, IsPlacedAt, Shows, StandsAt, Loads, EntersNext, Enters, GoesOn, Seeks, SeeksTo, first_version, first_refusal, has_item, is_faultless, is_passed, present, refusal_of, sought, left_in, IsLeft}
+use Rattle.lsm_table.specs.Items.{first_version}
+use Rattle.lsm_levels.specs.Cursors.{Items, Cursor, AsksOnce, IsPlacedAt, Shows, StandsAt, Loads, EntersNext, Enters, GoesOn, Seeks, SeeksTo, first_refusal, has_item, is_faultless, is_passed, present, refusal_of, sought, left_in, IsLeft}
 use Rattle.lsm_levels.specs.declared.placed.PlacedBlock.{PlacedBlock}
 use Rattle.lsm_levels.proofs.AskingLaws.{asks_none, asks_given, asks_denied, shown_bytes, given_shows}
 use Rattle.lsm_levels.proofs.LookingUp.{IsBad, bad_in}

@@ -1,6 +1,6 @@
 -- How many entries bytes can have.
-use Rattle.std.proofs.Common.{◌≡◌, ℕ, zero, suc, ◌+◌, ◌≤◌, true, false, cond, List, [], ◌∷◌, length, take, drop, Option, Some, None, Result, Ok, Err, refl, sym, ap, arith}
-use Rattle.std.proofs.lemmas.List.{length-append, take-append-drop}
+use Rattle.std.proofs.Common.{◌≡◌, ℕ, zero, suc, ◌+◌, ◌≤◌, true, false, cond, List, [], ◌∷◌, length, Option, Some, None, Result, Ok, Err, refl, ap, arith}
+use Rattle.std.proofs.lemmas.List.{length-append}
 use Rattle.lsm_device.specs.declared.refusal.Refusal.{Refusal}
 use Rattle.lsm_device.specs.declared.refusal.Refusal.TheVariants.{BadTable}
 use Rattle.lsm_codec.specs.Keys.{IsBytes}
@@ -14,9 +14,6 @@ Items = List (Result Version Refusal)
 
 abbrev no_items : Items
 no_items = []
-
-pub fit_behind : (bytes : List ℕ) (offset : ℕ) → IsBytes bytes → IsBytes (drop offset bytes)
-fit_behind bytes offset fits = after bytes (take offset bytes) (drop offset bytes) fits (sym (take-append-drop offset bytes))
 
 text_some : (v : Version) → 1 ≤ length (entry_text v)
 text_some v = omega arith

@@ -11,7 +11,8 @@ use Rattle.lsm_mem.specs.Paging.{Page}
 use Rattle.lsm_mem.specs.Gathering.{Gathering, page_with}
 use Rattle.lsm_merge.specs.Inputs.{joined}
 use Rattle.lsm_levels.specs.Asking.{Source}
-use Rattle.lsm_levels.specs.Cursors.{Items, Cursor, GoesOn, Gives, first_version, present}
+use Rattle.lsm_table.specs.Items.{first_version}
+use Rattle.lsm_levels.specs.Cursors.{Items, Cursor, GoesOn, Gives, present}
 use Rattle.lsm_levels.specs.Queues.{AreSpent, OneGoesOn}
 use Rattle.lsm_levels.specs.Sources.{IsNext, Splits, head_at, heads_of}
 use Rattle.lsm_levels.specs.Scans.{Advances, AllGive, AreEndingWithin, AreReady, AsksOn, blocks_to_come, ComesTo, GivesLeft, HasCome, IsFairItem, Takes, steps_left, steps_of}

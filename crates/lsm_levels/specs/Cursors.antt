@@ -11,6 +11,7 @@ use Rattle.lsm_codec.specs.Keys.{Bytes}
 use Rattle.lsm_codec.specs.Indexes.{Edge}
 use Rattle.lsm_codec.specs.Versions.{Version}
 use Rattle.lsm_codec.specs.Entries.{entries_in}
+use Rattle.lsm_table.specs.Items.{first_version}
 use Rattle.lsm_table.specs.Places.{blocks_before}
 use Rattle.lsm_cache.specs.declared.name.BlockName.{BlockName}
 use Rattle.lsm_cache.specs.Reads.{block_at}
@@ -88,12 +89,6 @@ Items = List (Result Version Refusal)
 pub record Cursor : Type 0 where
   pub items : Items
   pub blocks : List PlacedBlock
-
--- the version among items that comes first, if one does
-abbrev pub first_version : Items → Option Version
-first_version [] = None
-first_version (Ok v ∷ rest) = Some v
-first_version (Err refusal ∷ rest) = None
 
 -- the refusal among items that comes first, if one does
 abbrev pub first_refusal : Items → Option Refusal

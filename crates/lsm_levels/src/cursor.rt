@@ -1,10 +1,10 @@
 //! A cursor over a run.
 
-ghost use Rattle.std.specs.Prelude.{◌≡◌, ◌⊎◌, ◌+◌, ◌≤◌, [], false, drop, option_map, length, IfOk, IfErr, OnOk};
+ghost use Rattle.std.specs.Prelude.{◌≡◌, ◌⊎◌, ◌+◌, ◌≤◌, [], Ok, false, drop, option_map, length, IfOk, IfErr, OnOk};
 ghost use Rattle.std.specs.List.{AllByRecursion};
 ghost use Rattle.lsm_device.specs.declared.refusal.Refusal.TheVariants.{BadTable};
 ghost use Rattle.lsm_codec.specs.References.{shown};
-ghost use Rattle.lsm_table.specs.Items.{items_at, shown_item};
+ghost use Rattle.lsm_table.specs.Items.{items_at};
 ghost use Rattle.lsm_levels.specs.Cursors.{AsksOnce, EndsWithin, EntersNext, GoesOn, Loads, Seeks, SeeksTo, blocks_from_key, first_refusal, has_item, is_passed, present, refusal_of, sought};
 ghost use Rattle.lsm_levels.specs.Stored.{LiesWithin};
 
@@ -14,18 +14,22 @@ use crate::run::Run;
 use lsm_cache::Cache;
 use lsm_codec::VersionRef;
 use lsm_device::{Device, Refusal};
-use lsm_table::{Entries, EntryPlace};
+use lsm_table::{Entries, EntryPlace, EntrySpan};
 use std::alloc::{AllocError, Allocator, Global};
 use std::marker::Model;
 
-/// Whether an item of a block is passed on the way to a key: a version of a key below it.
-fn is_passed(item: &Result<VersionRef<'_>, Refusal>, from: &[u8]) -> bool
-    ensures { result ≡ is_passed from.now (shown_item item.now) }
+/// Whether an entry is passed on the way to a key: a version of a key below it.
+fn is_passed(entry: &VersionRef<'_>, from: &[u8]) -> bool
+    ensures { result ≡ is_passed from.now (Ok (shown entry.now)) }
 {
-    match item {
-        Ok(version) => version.key.cmp(from).is_lt(),
-        Err(_) => false,
-    }
+    entry.key.cmp(from).is_lt()
+}
+
+/// Whether an item comes first from a place of a block on: an entry, or bytes that are none.
+fn has_item_at(place: &EntryPlace, block: &[u8; 4_096]) -> bool
+    ensures { result ≡ has_item (items_at place.now block.now) }
+{
+    place.entries(block).next().is_some()
 }
 
 /// The place of the first version of a block, from this place on, whose key isn't below `from`. Where none is, the place is
@@ -34,11 +38,14 @@ fn sought_place(block: &[u8; 4_096], place: EntryPlace, from: &[u8]) -> EntryPla
     ensures { items_at result block.now ≡ sought from.now (items_at place block.now) }
 {
     let mut at = place;
-    for item in place.entries(block) {
-        if !is_passed(&item, from) {
+    while let Some((span, behind)) = at.first_entry(block) {
+        if !is_passed(&span.entry(block), from) {
             return at;
         }
-        at = at.next(block);
+        at = behind;
+    }
+    if has_item_at(&at, block) {
+        return at;
     }
     EntryPlace::bad(block)
 }
@@ -52,22 +59,29 @@ fn entries_at<'b>(place: &EntryPlace, block: &'b [u8; 4_096]) -> Entries<'b>
 }
 
 /// A cursor over a run, which stands at a version, or behind all of them. It keeps the bytes of one block, and lends the
-/// version out of them; blocks come through a cache. Contracts see what is left of its block, the present entry first, and
-/// the blocks to come.
+/// version out of them; blocks come through a cache. Each entry is read once, when the cursor comes to it: where it lies is
+/// kept. Contracts see what is left of its block, the present entry first, and the blocks to come.
 #[derive(Drop)]
 pub struct RunCursor<'a, A: Allocator = Global> {
     blocks: Blocks<'a, A>,
     bytes: Box<[u8; 4_096], A>,
     place: EntryPlace,
+    // Where the present entry lies, and the place behind it.
+    present: Option<(EntrySpan, EntryPlace)>,
 }
 
 impl<'a, A: Allocator> Model for RunCursor<'a, A> {
-    ghost use Rattle.lsm_table.specs.Items.{items_at};
+    ghost use Rattle.std.specs.Prelude.{◌≡◌, drop, option_map, IfSome};
+    ghost use Rattle.lsm_table.specs.Items.{first_version, items_at};
+    ghost use Rattle.lsm_table.specs.Spans.{spanned};
     ghost use Rattle.lsm_levels.specs.Cursors.{Cursor};
 
     ghost Value = { Cursor };
 
     ghost view = { λ c. record { items = items_at c.place c.bytes.value; blocks = c.blocks } };
+
+    ghost invariant = { λ c. (option_map (λ e. spanned e.0 c.bytes.value) c.present ≡ first_version (items_at c.place c.bytes.value))
+        × IfSome c.present (λ e. items_at e.1 c.bytes.value ≡ drop 1 (items_at c.place c.bytes.value)) };
 }
 
 impl<'a, A: Allocator> RunCursor<'a, A> {
@@ -81,6 +95,7 @@ impl<'a, A: Allocator> RunCursor<'a, A> {
             blocks,
             bytes,
             place,
+            present: None,
         })
     }
 
@@ -88,16 +103,16 @@ impl<'a, A: Allocator> RunCursor<'a, A> {
     pub fn current(&self) -> Option<VersionRef<'_>>
         ensures { option_map shown result ≡ present self.now }
     {
-        match self.place.entries(&self.bytes).next() {
-            Some(Ok(version)) => Some(version),
-            Some(Err(_)) | None => None,
+        match &self.present {
+            Some((span, _behind)) => Some(span.entry(&self.bytes)),
+            None => None,
         }
     }
 
     fn has_item(&self) -> bool
         ensures { result ≡ has_item self.now.items }
     {
-        self.place.entries(&self.bytes).next().is_some()
+        self.present.is_some() || has_item_at(&self.place, &self.bytes)
     }
 
     /// Refuses bytes that are no entry.
@@ -106,7 +121,11 @@ impl<'a, A: Allocator> RunCursor<'a, A> {
         ensures bad { IfErr result (λ refusal. refusal ≡ BadTable) }
         ensures few { length self.now.items ≤ 4097 }
     {
-        match entries_at(&self.place, &self.bytes).next() {
+        let mut entries = entries_at(&self.place, &self.bytes);
+        if self.present.is_some() {
+            return Ok(());
+        }
+        match entries.next() {
             Some(Err(refusal)) => Err(refusal),
             Some(Ok(_)) | None => Ok(()),
         }
@@ -116,7 +135,11 @@ impl<'a, A: Allocator> RunCursor<'a, A> {
     fn pass(&mut self)
         ensures { self.new ≡ record { items = drop 1 self.old.items; blocks = self.old.blocks } }
     {
-        self.place = self.place.next(&self.bytes);
+        self.place = match &self.present {
+            Some((_span, behind)) => *behind,
+            None => self.place.next(&self.bytes),
+        };
+        self.present = self.place.first_entry(&self.bytes);
     }
 
     /// Passes what stands in the block before a key.
@@ -124,6 +147,7 @@ impl<'a, A: Allocator> RunCursor<'a, A> {
         ensures { self.new ≡ record { items = sought from.now self.old.items; blocks = self.old.blocks } }
     {
         self.place = sought_place(&self.bytes, self.place, from);
+        self.present = self.place.first_entry(&self.bytes);
     }
 
     /// Asks for a block, and stands at its first entry.
@@ -140,14 +164,16 @@ impl<'a, A: Allocator> RunCursor<'a, A> {
             (record { cache = cache.old; medium = D.medium device.old }) (record { cache = cache.new; medium = D.medium device.new }) }
     {
         let name = block.name;
-        cache.get(
+        let given = cache.get(
             name.table,
             name.block,
             block.sector,
             device,
             &mut self.bytes,
-        )?;
+        );
         self.place = EntryPlace::first(&self.bytes);
+        self.present = self.place.first_entry(&self.bytes);
+        given?;
         Ok(())
     }
 

@@ -53,7 +53,8 @@ fn is_sooner<A: Allocator>(
     }
 }
 
-/// How many of the places in a queue a version at a place comes before.
+/// How many of the places in a queue a version at a place comes before. Most often that is all of them: the version behind the
+/// one that came last is often the next, so it is compared with the one that would come next first.
 fn count_later<A: Allocator>(
     places: &[usize],
     sources: &[SourceCursor<'_, A>],
@@ -64,6 +65,11 @@ fn count_later<A: Allocator>(
     ensures later { IsQueued (map present sources.now) places.now → take result places.now ≡ filter (λ j. is_sooner (Some (shown version.now)) place (head_at (map present sources.now) j) j) places.now }
     ensures sooner { IsQueued (map present sources.now) places.now → drop result places.now ≡ filter (λ j. not (is_sooner (Some (shown version.now)) place (head_at (map present sources.now) j) j)) places.now }
 {
+    if let Some((next, _others)) = places.split_last() {
+        if is_sooner(sources, version, place, *next) {
+            return places.len();
+        }
+    }
     places.partition_point(|other: &usize| is_sooner(sources, version, place, *other))
 }
 

@@ -10,6 +10,9 @@ use lsm_codec::VersionRef;
 use std::alloc::{AllocError, Allocator, Global};
 use std::marker::Model;
 
+/// For how many rows there is room at first. A page that a store answers has no more.
+const FIRST_ROWS: u64 = 64;
+
 /// A page that is being built of the versions of many places. They are taken in the order of entries: by key, and of a key
 /// the newest first. Of each key the newest version that is numbered at most `at` decides; a deleted key has no row.
 ///
@@ -91,7 +94,7 @@ impl<'k, A: Allocator + Clone> PageBuilder<'k, A> {
             at,
             to,
             limit,
-            rows: Vec::new(alloc.clone()?),
+            rows: Vec::with_capacity(alloc.clone()?, limit.min(FIRST_ROWS) as usize)?,
             next: None,
             deleted: Vec::new(alloc.clone()?),
             is_deleted: false,

@@ -20,11 +20,15 @@ use std::sync::{Mutex, MutexGuard, Wait};
 /// How often the lock is tried for before a thread sleeps.
 const TRIES: u32 = 32;
 
-/// How often the processor pauses between two tries: about as long as a commit holds the lock.
-const PAUSES: u32 = 16;
+/// How often the processor pauses behind the first try, a small part of the time for which a commit holds the lock.
+const FEWEST_PAUSES: u32 = 4;
 
-fn pause() {
-    for _ in 0..PAUSES {
+/// How often it pauses at most between two tries. Whoever has the lock makes some ten commits in that time, so what the lock
+/// guards stays with one processor for a while.
+const MOST_PAUSES: u32 = 512;
+
+fn pause(times: u32) {
+    for _ in 0..times {
         spin_loop();
     }
 }
@@ -131,14 +135,16 @@ impl<D: Device, A: Allocator + Clone, B: SessionName> Shared<D, A, B> {
 }
 
 impl<D: Device, A: Allocator, B: SessionName> Shared<D, A, B> {
-    // Waits for the lock. It tries for a while first, with pauses between, since most holds are shorter than what it costs to
-    // put a thread to sleep and to wake it.
+    // Waits for the lock. It tries for a while first, since most holds are shorter than what it costs to put a thread to sleep
+    // and to wake it. Each pause between two tries is twice as long as the one before, up to a longest.
     pub(crate) fn hold<R: Wait>(&self, rt: &R) -> MutexGuard<'_, Session<D, A, B>> {
+        let mut pauses = FEWEST_PAUSES;
         for _ in 0..TRIES {
             if let Some(guard) = self.session.try_lock() {
                 return guard;
             }
-            pause();
+            pause(pauses);
+            pauses = MOST_PAUSES.min(pauses.saturating_mul(2));
         }
         self.session.lock(rt)
     }

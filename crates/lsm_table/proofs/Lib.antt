@@ -15,3 +15,4 @@ pub mod Reading
 pub mod Filters
 pub mod Blocked
 pub mod StoredTables
+pub mod Spanning

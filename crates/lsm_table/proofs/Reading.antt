@@ -1,5 +1,5 @@
 -- One step of the entries of a block.
-use Rattle.std.proofs.Common.{◌≡◌, ℕ, suc, ◌-◌, ◌≤◌, ◌++◌, Bool, true, false, cond, List, [], ◌∷◌, Option, Some, None, Result, Ok, Err, sym, ap, ◌∙◌, arith, length, take, drop, append_assoc, take-append-drop, refl, subst}
+use Rattle.std.proofs.Common.{◌≡◌, ℕ, zero, suc, ◌-◌, ◌≤◌, ◌++◌, Bool, true, false, cond, List, [], ◌∷◌, Option, Some, None, Result, Ok, Err, sym, ap, ◌∙◌, arith, length, take, drop, append_assoc, take-append-drop, refl, subst}
 use Rattle.lsm_device.specs.declared.refusal.Refusal.{Refusal}
 use Rattle.lsm_device.specs.declared.refusal.Refusal.TheVariants.{BadTable}
 use Rattle.lsm_codec.specs.BatchText.{key_at}
@@ -14,6 +14,7 @@ use borrow.Rule.Slice.PartMut.{mid_of}
 use Rattle.byteorder.specs.Endian.{big_number}
 use Rattle.lsm_codec.specs.Reading.{number_at}
 use Rattle.lsm_codec.proofs.DataBlockLaws.{counted_in, none_counted}
+use Rattle.lsm_table.specs.Items.{first_version}
 
 abbrev Items : Type 0
 Items = List (Result Version Refusal)
@@ -29,7 +30,7 @@ bad_tail left bytes nothing items r view none tested zeros empty =
     sym view ∙ ap (λ (n : ℕ). entries_from n bytes) none ∙ ap (λ (b : Bool). cond b [] (Err BadTable ∷ [])) (sym tested ∙ zeros)
     ∙ ap (λ (t : Items). Err BadTable ∷ t) (sym (ap (λ (n : ℕ). entries_from n nothing) none ∙ ap (entries_from 0) empty))
 
-step : (left : ℕ) (bytes : List ℕ) (o : Option (Version × List ℕ)) → (left ≡ 0 → ⊥) → entry_at bytes ≡ o → entries_from left bytes ≡ elim o as (λ _. Items) [ None ↦ Err BadTable ∷ [] | Some x ↦ Ok x.0 ∷ entries_from (left - 1) x.1 ]
+pub step : (left : ℕ) (bytes : List ℕ) (o : Option (Version × List ℕ)) → (left ≡ 0 → ⊥) → entry_at bytes ≡ o → entries_from left bytes ≡ elim o as (λ _. Items) [ None ↦ Err BadTable ∷ [] | Some x ↦ Ok x.0 ∷ entries_from (left - 1) x.1 ]
 unfolding entries_from
 step left bytes o some read =
     let one : left ≡ suc (left - 1) = omega arith in
@@ -73,13 +74,16 @@ one_at_most : (b : Bool) → drop {A = Result Version Refusal} 1 (cond b [] (Err
 one_at_most true = refl
 one_at_most false = refl
 
-pub none_behind_last : (left : ℕ) (bytes : List ℕ) → left ≡ 0 → drop 1 (entries_from left bytes) ≡ []
+-- nothing is left behind where no entry comes first
+pub none_behind : (left : ℕ) (bytes : List ℕ) → None ≡ first_version (entries_from left bytes) → drop 1 (entries_from left bytes) ≡ []
 unfolding entries_from
-none_behind_last left bytes none =
-    ap (λ (n : ℕ). drop 1 (entries_from n bytes)) none ∙ one_at_most (are_zeros bytes)
-
-pub none_behind_bad : (left : ℕ) (bytes : List ℕ) → (left ≡ 0 → ⊥) → None ≡ entry_at bytes → drop 1 (entries_from left bytes) ≡ []
-none_behind_bad left bytes some read = ap (drop 1) (step left bytes None some (sym read))
+none_behind zero bytes none = one_at_most (are_zeros bytes)
+none_behind (suc n) bytes none = by (entry_at bytes) none
+  where
+    by : (o : Option (Version × List ℕ)) → None ≡ first_version (elim o as (λ _. Items) [ None ↦ Err BadTable ∷ [] | Some x ↦ Ok x.0 ∷ entries_from n x.1 ])
+        → drop 1 (elim o as (λ _. Items) [ None ↦ Err BadTable ∷ [] | Some x ↦ Ok x.0 ∷ entries_from n x.1 ]) ≡ []
+    by None e = refl
+    by (Some x) e = absurd (let no : None ≡ Some x.0 = e in cc)
 
 rest_of : (front rest : List ℕ) → drop (length (front ++ rest) - length rest) (front ++ rest) ≡ rest
 rest_of [] rest =
@@ -95,7 +99,7 @@ begins_at bytes offset text rest e =
     let whole : (take offset bytes ++ text) ++ rest ≡ bytes = append_assoc (take offset bytes) text rest ∙ ap (λ (t : List ℕ). take offset bytes ++ t) (sym e) ∙ take-append-drop offset bytes in
     subst (λ (b : List ℕ). drop (length b - length rest) b ≡ rest) whole (rest_of (take offset bytes ++ text) rest)
 
-fit_behind : (bytes : List ℕ) (offset : ℕ) → IsBytes bytes → IsBytes (drop offset bytes)
+pub fit_behind : (bytes : List ℕ) (offset : ℕ) → IsBytes bytes → IsBytes (drop offset bytes)
 fit_behind bytes offset fits = after bytes (take offset bytes) (drop offset bytes) fits (sym (take-append-drop offset bytes))
 
 -- what is left behind an entry

@@ -24,3 +24,9 @@ pub record Place : Type 0 where
 -- the items of a block from a place on
 abbrev pub items_at : Place → List ℕ → List (Result Version Refusal)
 items_at p bytes = entries_from p.left (drop p.offset bytes)
+
+-- the version among items that comes first, if one does
+abbrev pub first_version : List (Result Version Refusal) → Option Version
+first_version [] = None
+first_version (Ok v ∷ rest) = Some v
+first_version (Err refusal ∷ rest) = None

@@ -8,3 +8,4 @@ pub mod Extents
 pub mod Stored
 pub mod Laws
 pub mod Items
+pub mod Spans

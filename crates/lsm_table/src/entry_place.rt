@@ -1,11 +1,13 @@
 //! Places among the entries of a data block.
 
-ghost use Rattle.std.specs.Prelude.{◌≡◌, [], ◌∷◌, Err, drop};
+ghost use Rattle.std.specs.Prelude.{◌≡◌, [], ◌∷◌, Err, drop, option_map, IfSome};
 ghost use Rattle.lsm_device.specs.declared.refusal.Refusal.TheVariants.{BadTable};
 ghost use Rattle.lsm_codec.specs.Entries.{entries_in};
-ghost use Rattle.lsm_table.specs.Items.{items_at};
+ghost use Rattle.lsm_table.specs.Items.{first_version, items_at};
+ghost use Rattle.lsm_table.specs.Spans.{spanned};
 
 use crate::entries::Entries;
+use crate::entry_span::EntrySpan;
 use byteorder::{BigEndian, ByteOrder};
 use lsm_codec::VersionRef;
 use std::marker::Model;
@@ -84,18 +86,33 @@ impl EntryPlace {
         Entries::of(self.left, self.bytes_from(block))
     }
 
+    /// Where the first entry from the place on lies, and the place behind it; none where no entry comes first.
+    pub fn first_entry(&self, block: &[u8; 4_096]) -> Option<(EntrySpan, EntryPlace)>
+        ensures lies { option_map (λ e. spanned e.0 block.now) result ≡ first_version (items_at self.now block.now) }
+        ensures behind { IfSome result (λ e. items_at e.1 block.now ≡ drop 1 (items_at self.now block.now)) }
+    {
+        if self.left == 0 {
+            return None;
+        }
+        match VersionRef::read(self.bytes_from(block)) {
+            Some((entry, rest)) => {
+                let span = EntrySpan::of(self.offset, &entry);
+                let behind = EntryPlace {
+                    left: self.left - 1,
+                    offset: BLOCK - rest.len(),
+                };
+                Some((span, behind))
+            }
+            None => None,
+        }
+    }
+
     /// The place behind the first entry from the place on.
     pub fn next(&self, block: &[u8; 4_096]) -> EntryPlace
         ensures { items_at result block.now ≡ drop 1 (items_at self.now block.now) }
     {
-        if self.left == 0 {
-            return EntryPlace::end(block);
-        }
-        match VersionRef::read(self.bytes_from(block)) {
-            Some((_entry, rest)) => EntryPlace {
-                left: self.left - 1,
-                offset: BLOCK - rest.len(),
-            },
+        match self.first_entry(block) {
+            Some((_span, behind)) => behind,
             None => EntryPlace::end(block),
         }
     }

@@ -7,7 +7,7 @@ use hex::decode_to_slice;
 use linked_list_allocator::LocalHeap;
 use lsm_codec::{Entry, TableRecord};
 use lsm_device::Refusal;
-use lsm_table::{Entries, Image, Table};
+use lsm_table::{Entries, EntryPlace, EntrySpan, Image, Table};
 use std::alloc::{AllocError, Allocator, Global};
 use std::process::Abort;
 use std::test::Fail;
@@ -365,5 +365,31 @@ fn each_growth_is_refused_in_turn(rt: HostRuntime) -> Result<(), Fail> {
         }
     }
     assert!(rt; refused > 10 && whole > 10, "{refused} {whole}");
+    Ok(())
+}
+
+/// Whether an entry with this key, number and value lies there in a block.
+fn lies_at(
+    span: &EntrySpan,
+    block: &[u8; 4_096],
+    key: &[u8],
+    number: u64,
+    value: Option<&[u8]>,
+) -> bool {
+    let entry = span.entry(block);
+    entry.key == key && entry.number == number && entry.value == value
+}
+
+#[test]
+fn entries_are_lent_where_they_lie(rt: HostRuntime) -> Result<(), Fail> {
+    let block = block_of("000201610000000000000001010001310162000000000000000202").ok_or("hex")?;
+    let (put, behind) = EntryPlace::first(&block)
+        .first_entry(&block)
+        .ok_or("a put")?;
+    let (delete, end) = behind.first_entry(&block).ok_or("a delete")?;
+    assert!(rt;
+        lies_at(&put, &block, b"a", 1, Some(b"1")) && lies_at(&delete, &block, b"b", 2, None)
+    );
+    assert!(rt; end.first_entry(&block).is_none());
     Ok(())
 }

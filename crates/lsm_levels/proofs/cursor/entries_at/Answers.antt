@@ -1,7 +1,8 @@
 use Rattle.std.proofs.Common.{drop, arith}
 use Rattle.std.proofs.lemmas.List.{length-drop}
 use Rattle.lsm_codec.specs.Keys.{IsBytes}
-use Rattle.lsm_levels.proofs.EntriesFew.{entries_few, fit_behind}
+use Rattle.lsm_table.proofs.Reading.{fit_behind}
+use Rattle.lsm_levels.proofs.EntriesFew.{entries_few}
 use Rattle.lsm_levels.proofs.cursor.entries_at.Goals as goal
 
 pub returns-clause-few : goal.returns-clause-few

@@ -1,4 +1,4 @@
-use Rattle.std.proofs.Common.{◌≡◌, ◌+◌, false, true, is_none, drop, Ok, Err, None, refl, sym, ◌∙◌, subst, arith}
+use Rattle.std.proofs.Common.{◌≡◌, ◌+◌, false, is_none, drop, Ok, Err, None, refl, sym, ◌∙◌, subst, arith}
 use Rattle.std.proofs.lemmas.Result.{err_from_is_err_and}
 use Rattle.lsm_levels.specs.Asking.{Source, asked_of_run}
 use Rattle.lsm_levels.specs.Founds.{TellsOfRun, told_by}
