@@ -20,12 +20,12 @@ use std::sync::{Mutex, MutexGuard, Wait};
 /// How often the lock is tried for before a thread sleeps.
 const TRIES: u32 = 32;
 
-/// How often the processor pauses behind the first try, a small part of the time for which a commit holds the lock.
-const FEWEST_PAUSES: u32 = 4;
+/// How often the processor pauses behind the first try: for about as long as a commit holds the lock.
+const FEWEST_PAUSES: u32 = 32;
 
-/// How often it pauses at most between two tries. Whoever has the lock makes some ten commits in that time, so what the lock
-/// guards stays with one processor for a while.
-const MOST_PAUSES: u32 = 512;
+/// How often it pauses at most between two tries. Whoever has the lock makes many commits in that time, so what the lock guards
+/// stays with one processor for a while.
+const MOST_PAUSES: u32 = 1_024;
 
 fn pause(times: u32) {
     for _ in 0..times {
