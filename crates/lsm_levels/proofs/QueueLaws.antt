@@ -18,7 +18,7 @@ use Rattle.lsm_levels.specs.Sources.{head_at, is_sooner, comes_before, IsNext}
 use Rattle.lsm_levels.specs.Queues.{AreSpent, EndsIn, IsQueue, IsQueued, OneGoesOn}
 use Rattle.lsm_levels.proofs.Least.{not_less}
 use Rattle.lsm_levels.proofs.Members.{among_left, among_right, among_either}
-use Rattle.lsm_levels.proofs.Parts.{Falls, all_map, all_append, all_left, all_right, all_passed}
+use Rattle.lsm_levels.proofs.Parts.{Falls, all_map, all_append, all_left, all_right, all_passed, all_up_to_last}
 
 no : true ≡ false → ⊥
 no e = cc
@@ -60,6 +60,13 @@ falls heads v i (j ∷ rest) h = (λ e. all_map (λ k before. later k before e (
     later : (k : ℕ) → comes_before heads k j ≡ true → is_sooner (Some v) i (head_at heads j) j ≡ false → (b : Bool) → is_sooner (Some v) i (head_at heads k) k ≡ b → is_sooner (Some v) i (head_at heads k) k ≡ false
     later k before e false is = is
     later k before e true is = absurd (no (sym (both_sooner (Some v) (head_at heads k) (head_at heads j) i k j is before) ∙ e))
+
+-- and before all of them where it comes before the last
+pub comes_before_all : (heads : List (Option Version)) (v : Version) (i : ℕ) (places front : List ℕ) (next : ℕ) → places ≡ front ++ next ∷ [] → IsQueued heads places → is_sooner (Some v) i (head_at heads next) next ≡ true
+    → AllByRecursion (λ j. is_sooner (Some v) i (head_at heads j) j ≡ true) places
+comes_before_all heads v i places front next is queued sooner =
+    let later : ℕ → Bool = λ j. is_sooner (Some v) i (head_at heads j) j in
+    subst (AllByRecursion (λ j. later j ≡ true)) (sym is) (all_up_to_last later front next (subst (Falls later) is (falls heads v i places queued)) sooner)
 
 -- ---- put in
 

@@ -59,8 +59,8 @@ fn entries_at<'b>(place: &EntryPlace, block: &'b [u8; 4_096]) -> Entries<'b>
 }
 
 /// A cursor over a run, which stands at a version, or behind all of them. It keeps the bytes of one block, and lends the
-/// version out of them; blocks come through a cache. Each entry is read once, when the cursor comes to it: where it lies is
-/// kept. Contracts see what is left of its block, the present entry first, and the blocks to come.
+/// version out of them; blocks come through a cache. It keeps where the present entry lies, so that lending it reads nothing
+/// again. Contracts see what is left of its block, the present entry first, and the blocks to come.
 #[derive(Drop)]
 pub struct RunCursor<'a, A: Allocator = Global> {
     blocks: Blocks<'a, A>,
