@@ -5,7 +5,7 @@ use crate::opened::Opened;
 use crate::steps::VALUE;
 use lsm_check::Report;
 use lsm_device::Refusal;
-use lsm_store::{Page, Row, Stat};
+use lsm_store::{Page, RowRef, Stat};
 use std::alloc::Global;
 use std::collections::BTreeMap;
 
@@ -18,9 +18,9 @@ pub(crate) fn has_numbers(stat: Stat, report: Report) -> bool {
 }
 
 /// Whether a row is that of a key of one byte and of a value of equal bytes.
-fn is_row(row: Option<&Row>, key: u8, value: u8) -> bool {
+fn is_row(row: Option<RowRef<'_>>, key: u8, value: u8) -> bool {
     match row {
-        Some(row) => row.key() == [key].as_slice() && row.value() == [value; VALUE].as_slice(),
+        Some(row) => row.key == [key].as_slice() && row.value == [value; VALUE].as_slice(),
         None => false,
     }
 }

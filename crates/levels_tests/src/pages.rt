@@ -14,8 +14,8 @@ use std::process::Abort;
 fn listed(alloc: Global, page: &Page) -> Result<Vec<u8>, AllocError> {
     let mut out = Vec::new(alloc);
     for row in page.rows() {
-        out.extend_from_slice(row.key())?;
-        out.extend_from_slice(row.value())?;
+        out.extend_from_slice(row.key)?;
+        out.extend_from_slice(row.value)?;
     }
     if let Some(key) = page.next_key() {
         out.push(b'>')?;

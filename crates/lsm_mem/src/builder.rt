@@ -3,9 +3,11 @@
 ghost use Rattle.std.specs.Prelude.{◌≡◌, ◌≤◌, ◌<◌, ◌∷◌, ◌++◌, [], List, length, true, false, None, option_map, IfOk, OnOk};
 ghost use Rattle.lsm_codec.specs.References.{shown};
 ghost use Rattle.lsm_codec.specs.Versions.{Version};
+ghost use Rattle.lsm_mem.specs.Paging.{is_before};
 ghost use Rattle.lsm_mem.specs.Gathering.{gathering, is_behind, page_with, page_so_far, IsFirst, with_deleted, with_row, with_next};
 
-use crate::page::{Page, Row, is_before};
+use crate::page::Page;
+use crate::rows::RowTexts;
 use lsm_codec::VersionRef;
 use std::alloc::{AllocError, Allocator, Global};
 use std::marker::Model;
@@ -23,7 +25,7 @@ pub struct PageBuilder<'k, A: Allocator = Global> {
     at: u64,
     to: Option<&'k [u8]>,
     limit: u64,
-    rows: Vec<Row<A>, A>,
+    rows: RowTexts<A>,
     next: Option<Vec<u8, A>>,
     deleted: Vec<u8, A>,
     is_deleted: bool,
@@ -39,12 +41,12 @@ impl<'k, A: Allocator> Model for PageBuilder<'k, A> {
       at = b.at;
       to = option_map (λ to. to.now) b.to;
       limit = b.limit;
-      decided = if b.is_deleted then Some b.deleted.items else last_key b.rows.items;
-      rows = b.rows.items;
+      decided = if b.is_deleted then Some b.deleted.items else last_key b.rows;
+      rows = b.rows;
       next = option_map (λ key. key.items) b.next;
     } };
 
-    ghost invariant = { λ b. length b.rows.items ≤ b.limit };
+    ghost invariant = { λ b. length b.rows ≤ b.limit };
 }
 
 impl<'k, A: Allocator> PageBuilder<'k, A> {
@@ -65,8 +67,8 @@ impl<'k, A: Allocator> PageBuilder<'k, A> {
         if self.is_deleted {
             return self.deleted.as_slice().cmp(key).is_lt();
         }
-        match self.rows.last() {
-            Some(row) => row.key().cmp(key).is_lt(),
+        match self.rows.last_key() {
+            Some(last) => last.cmp(key).is_lt(),
             None => true,
         }
     }
@@ -94,7 +96,7 @@ impl<'k, A: Allocator + Clone> PageBuilder<'k, A> {
             at,
             to,
             limit,
-            rows: Vec::with_capacity(alloc.clone()?, limit.min(FIRST_ROWS) as usize)?,
+            rows: RowTexts::with_capacity(alloc, limit.min(FIRST_ROWS) as usize)?,
             next: None,
             deleted: Vec::new(alloc.clone()?),
             is_deleted: false,
@@ -127,7 +129,7 @@ impl<'k, A: Allocator + Clone> PageBuilder<'k, A> {
             self.leave_out(alloc, version.key)?;
             return Ok(false);
         }
-        self.push(alloc, version.key, value)?;
+        self.push(version.key, value)?;
         Ok(true)
     }
 
@@ -142,11 +144,11 @@ impl<'k, A: Allocator + Clone> PageBuilder<'k, A> {
     }
 
     // Decides that a key has a row.
-    fn push(&mut self, alloc: &A, key: &[u8], value: &[u8]) -> Result<(), AllocError>
+    fn push(&mut self, key: &[u8], value: &[u8]) -> Result<(), AllocError>
         requires { length self.old.rows < self.old.limit }
         ensures { OnOk result (self.new ≡ with_row key.now value.now self.old) }
     {
-        self.rows.push(Row::copy_of(alloc, key, value)?)?;
+        self.rows.push(key, value)?;
         self.is_deleted = false;
         Ok(())
     }
@@ -157,5 +159,15 @@ impl<'k, A: Allocator + Clone> PageBuilder<'k, A> {
     {
         self.next = Some(Vec::from_slice(alloc.clone()?, key)?);
         Ok(())
+    }
+}
+
+// Whether a key is before the end of a range, where the range has one.
+fn is_before(to: Option<&[u8]>, key: &[u8]) -> bool
+    ensures { result ≡ is_before (option_map (λ to. to.now) to.entry) key.now }
+{
+    match to {
+        Some(to) => key.cmp(to).is_lt(),
+        None => true,
     }
 }

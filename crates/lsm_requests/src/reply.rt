@@ -144,8 +144,8 @@ fn push_rows(alloc: Global, text: &mut String, page: &Page) -> Result<(), Refusa
 {
     text.push_str("rows ")?;
     for row in page.rows() {
-        let key = word(alloc, row.key())?;
-        let value = word(alloc, row.value())?;
+        let key = word(alloc, row.key)?;
+        let value = word(alloc, row.value)?;
         write!(text, "{key}={value} ")?;
     }
     push_next(alloc, text, page)?;
@@ -158,8 +158,8 @@ pub fn push_page(alloc: Global, text: &mut String, page: &Page) -> Result<(), Re
     ensures refused { IfErr result (λ e. e ≡ NoMemory) }
 {
     for row in page.rows() {
-        let key = word(alloc, row.key())?;
-        let value = word(alloc, row.value())?;
+        let key = word(alloc, row.key)?;
+        let value = word(alloc, row.value)?;
         writeln!(text, "{key} {value}")?;
     }
     push_next(alloc, text, page)?;

@@ -37,7 +37,7 @@ pub use law::{
     crashes_keep_beginnings, runs_join, stopped_refuses,
 };
 pub use lsm_jobs::TakenJob;
-pub use lsm_mem::{Page, Row};
+pub use lsm_mem::{Page, RowRef, Rows};
 pub use opened_law::{opened_work_is_sound, openings_are_opened};
 pub use pieces::Piece;
 pub use stat::Stat;

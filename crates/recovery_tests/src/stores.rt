@@ -69,17 +69,11 @@ impl TableStore {
 
 /// Whether the page has just these rows of one byte each.
 fn has_rows(page: &Page, rows: &[(u8, u8)]) -> bool {
-    if page.rows().len() != rows.len() {
-        return false;
+    let mut all = page.rows().len() == rows.len();
+    for (row, (key, value)) in page.rows().zip(rows) {
+        all = all && row.key == [*key].as_slice() && row.value == [*value].as_slice();
     }
-    for at in 0..rows.len() {
-        let (key, value) = rows[at];
-        let row = &page.rows()[at];
-        if row.key() != [key].as_slice() || row.value() != [value].as_slice() {
-            return false;
-        }
-    }
-    true
+    all
 }
 
 /// Keys, the one byte of the value of each, and the sectors that are read for it, one after another. The newest version of 61

@@ -132,8 +132,11 @@ fn is_reply(reply: &Reply, wanted: Told) -> bool {
 
 // Whether a page has this row alone, and none stands behind it.
 fn is_row(page: &Page, key: &[u8], value: &[u8]) -> bool {
-    match page.rows() {
-        [row] => row.key() == key && row.value() == value && page.next_key().is_none(),
-        _ => false,
+    let rows = page.rows();
+    match rows.get(0) {
+        Some(row) => {
+            row.key == key && row.value == value && rows.len() == 1 && page.next_key().is_none()
+        }
+        None => false,
     }
 }

@@ -4,7 +4,7 @@ use crate::keys::{is_value, key_of, value_of};
 use crate::sizes::PAGE_ROWS;
 use crate::subject::Subject;
 use lsm_device::{Device, Refusal};
-use lsm_store::{Page, Row};
+use lsm_store::Page;
 
 /// More pages than a map has.
 const MOST_PAGES: u32 = 100_000;
@@ -67,16 +67,11 @@ pub(crate) struct Scanned {
     pub(crate) rows: u32,
 }
 
-/// Whether a row has the value of its key in a round.
-fn is_right(row: &Row, round: u8) -> bool {
-    is_value(row.value(), row.key(), round)
-}
-
 /// How many rows of a page have the value of their key in a round.
 fn right_rows(page: &Page, round: u8) -> u32 {
     let mut right = 0_u32;
     for row in page.rows() {
-        if is_right(row, round) {
+        if is_value(row.value, row.key, round) {
             right = right.wrapping_add(1);
         }
     }

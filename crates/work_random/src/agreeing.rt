@@ -3,7 +3,7 @@
 use crate::plain::{KEYS, Plain, key_of};
 use crate::subject::Subject;
 use lsm_device::Refusal;
-use lsm_store::{At, Page, Row};
+use lsm_store::{At, Page, RowRef};
 
 /// Whether a value is the wanted one, or there is none where none is wanted.
 fn is_value(found: &Option<Vec<u8>>, wanted: Option<&[u8]>) -> bool {
@@ -35,9 +35,9 @@ pub(crate) fn gets_all(subject: &mut Subject, at: At, plain: &Plain) -> Result<b
 }
 
 /// Whether a row is that of a key and its value.
-fn is_row(row: Option<&Row>, key: u32, value: &[u8]) -> bool {
+fn is_row(row: Option<RowRef<'_>>, key: u32, value: &[u8]) -> bool {
     match row {
-        Some(row) => row.key() == key_of(key).as_slice() && row.value() == value,
+        Some(row) => row.key == key_of(key).as_slice() && row.value == value,
         None => false,
     }
 }

@@ -121,8 +121,9 @@ fn only(bytes: &[u8]) -> u8 {
 
 fn told_page<A: Allocator>(page: &Page<A>) -> Answer {
     let next = page.next_key().map_or(0, only);
-    match page.rows() {
-        [row] => Answer::Row(only(row.key()), only(row.value()), next),
+    let rows = page.rows();
+    match rows.get(0) {
+        Some(row) if rows.len() == 1 => Answer::Row(only(row.key), only(row.value), next),
         _ => Answer::OtherPage,
     }
 }
