@@ -1,23 +1,25 @@
 //! How sessions begin.
 
-use crate::setup::{failing, refused, small};
-use crate::turns::{Ask, Told, Turn, play};
+use crate::setup::small;
+use crate::turns::{Ask, Asked, Told, play};
 use lsm_device::Refusal;
 use lsm_shared::prepare;
 use std::alloc::Global;
 use std::process::Abort;
 
-// How no session of a small store begins, if none does. The store comes back as it was, also of an opened session.
+// How no session of a small store begins, if none does. The store comes back, also of an opened session.
 fn refusal_of<R: Abort>(rt: &R, alloc: Global, clients: u32, trail: u32) -> Option<Refusal> {
-    let (store, refusal) = match prepare(alloc, small(rt, alloc), clients, trail) {
+    match prepare(alloc, small(rt, alloc), clients, trail) {
         Ok(opened) => {
             assert!(rt; opened.clients() == clients && opened.limit() == trail);
-            (opened.into_store(), None)
+            assert!(rt; opened.into_store().log_room() == Ok(128));
+            None
         }
-        Err((refusal, store)) => (store, Some(refusal)),
-    };
-    assert!(rt; store.log_room() == Ok(128));
-    refusal
+        Err((refusal, store)) => {
+            assert!(rt; store.log_room() == Ok(128));
+            Some(refusal)
+        }
+    }
 }
 
 #[test]
@@ -38,16 +40,8 @@ fn a_session_has_1_to_64_clients_and_1_to_65536_places(rt: HostRuntime) {
     }
 }
 
-#[test]
-fn a_stopped_store_refuses_before_all_else(rt: HostRuntime) {
-    let mut store = failing(&rt, rt.alloc());
-    assert!(rt; store.sync() == Err(Refusal::Io));
-    let (refusal, store) = refused(&rt, prepare(rt.alloc(), store, 0, 0));
-    assert!(rt; refusal == Refusal::Stopped && store.log_room() == Err(Refusal::Stopped));
-}
-
 // The base has number 1.
-const ONE_PLACE: &[Turn<'static>] = &[
+const ONE_PLACE: &[Asked<'static>] = &[
     (0, Ask::Release(1), Err(Refusal::NotYours)),
     (0, Ask::Put(b"\x61", b"\x31"), Ok(Told::Number(1))),
     (0, Ask::Sync, Err(Refusal::TrailFull)),

@@ -1,13 +1,10 @@
 //! The whole callers of the library `shared_example`.
 
-ghost use Rattle.std.specs.Prelude.{◌≡◌};
-
-use crate::setup::small;
+use crate::setup::with_a_pair;
 use crate::turns::put;
 use lsm_device::{MemDevice, Refusal};
 use lsm_shared::prepare;
 use lsm_store::Store;
-use lsm_trail::Trail;
 use shared_example::{in_three_threads, share, share_beside_a_worker};
 use std::alloc::Global;
 use std::marker::Brand;
@@ -41,29 +38,31 @@ fn two_clients_beside_a_worker_find_both_values(rt: HostRuntime) {
 
 // A small store with a sealed memory table, which waits for its flush.
 fn waiting<R: Abort>(rt: &R, alloc: Global) -> Store<MemDevice> {
-    let mut store = small(rt, alloc);
-    let batch = put(alloc, b"zero", b"0").expect(rt, "a batch");
-    assert!(rt; store.commit(&batch).is_ok() && store.rotate().is_ok());
+    let mut store = with_a_pair(rt, alloc, b"zero", b"0");
+    assert!(rt; store.rotate().is_ok());
     store
 }
 
-// Shares it between two clients and a worker.
-fn share_with_a_worker<R: Threads + Wait + Abort + Sync>(
+// What is left of it once two clients and a worker shared it.
+fn shared_with_a_worker<R: Threads + Wait + Abort + Sync>(
     rt: &R,
     alloc: Global,
-) -> Result<(Store<MemDevice>, Trail), Refusal> {
-    let one = put(alloc, b"one", b"1")?;
-    let two = put(alloc, b"two", b"2")?;
-    match prepare(alloc, waiting(rt, alloc), 3, 64) {
-        Ok(opened) => in_three_threads::<Brand, _>(rt, alloc, opened, one, two),
-        Err((refusal, _)) => Err(refusal),
+) -> Store<MemDevice> {
+    let one = put(alloc, b"one", b"1").expect(rt, "a batch");
+    let two = put(alloc, b"two", b"2").expect(rt, "a batch");
+    let opened = match prepare(alloc, waiting(rt, alloc), 3, 64) {
+        Ok(opened) => opened,
+        Err((refusal, _)) => rt.panic(refusal.name()),
+    };
+    match in_three_threads::<Brand, _>(rt, alloc, opened, one, two) {
+        Ok((store, _)) => store,
+        Err(refusal) => rt.panic(refusal.name()),
     }
 }
 
 #[test]
 fn a_worker_flushes_beside_two_clients(rt: HostRuntime) {
-    let ended = share_with_a_worker(&rt, rt.alloc());
-    let (store, _) = ended.expect(&rt, "an end");
+    let store = shared_with_a_worker(&rt, rt.alloc());
     // All three batches are synced, and the first one stands in a table.
     assert!(rt; store.synced_count() == 3);
     assert!(rt; matches!(store.stat(), Ok(stat) if stat.tables == 1 && !stat.waiting));

@@ -1,12 +1,12 @@
 //! What calls reply, and what the trail keeps of them.
 
-use crate::setup::small;
-use crate::turns::{Ask, Told, Turn, play};
+use crate::setup::{Left, small};
+use crate::turns::{Ask, Asked, Told, play};
 use lsm_device::Refusal;
 use lsm_store::At;
 use lsm_trail::Trail;
 
-const BY_TURNS: &[Turn<'static>] = &[
+const BY_TURNS: &[Asked<'static>] = &[
     (0, Ask::Put(b"\x61", b"\x31"), Ok(Told::Number(1))),
     (
         1,
@@ -33,8 +33,9 @@ const BY_TURNS: &[Turn<'static>] = &[
     ),
 ];
 
-// Whether the entries of a trail are of these clients.
-fn is_of(trail: &Trail, callers: &[u32]) -> bool {
+// Whether the entries of a trail are of these clients, also once it is made of them again.
+fn is_of(trail: Trail, callers: &[u32]) -> bool {
+    let trail = Trail::from_entries(trail.into_entries());
     let entries = trail.entries();
     let mut all = trail.len() == callers.len() && entries.len() == callers.len();
     for (entry, caller) in entries.iter().zip(callers) {
@@ -45,7 +46,8 @@ fn is_of(trail: &Trail, callers: &[u32]) -> bool {
 
 #[test]
 fn two_clients_see_one_store(rt: HostRuntime) {
-    let left = play(&rt, rt.alloc(), small(&rt, rt.alloc()), (2, 16), BY_TURNS);
-    assert!(rt; left.store.batch_count() == 2 && left.store.synced_count() == 2);
-    assert!(rt; is_of(&left.trail, &[0, 1, 1, 0, 0, 1, 0, 1, 1, 1, 1]));
+    let store = small(&rt, rt.alloc());
+    let Left { store, trail, .. } = play(&rt, rt.alloc(), store, (2, 16), BY_TURNS);
+    assert!(rt; store.batch_count() == 2 && store.synced_count() == 2);
+    assert!(rt; is_of(trail, &[0, 1, 1, 0, 0, 1, 0, 1, 1, 1, 1]));
 }

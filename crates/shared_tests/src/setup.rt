@@ -1,11 +1,12 @@
-//! Sessions that the tests begin with.
+//! Stores and sessions that the tests begin with.
 
 ghost use Rattle.std.specs.Prelude.{◌≡◌};
 
+use crate::turns::put;
 use lsm_device::{MemDevice, Refusal};
 use lsm_lives::{Call, Reply};
 use lsm_open::format;
-use lsm_shared::{Client, Shared, Turn};
+use lsm_shared::{Client, Shared, Turn, prepare};
 use lsm_store::Store;
 use lsm_trail::{Numbers, Opened, SessionName, Trail};
 use std::alloc::{Allocator, Global};
@@ -22,14 +23,6 @@ pub fn given<T, E, R: Abort>(rt: &R, answer: Result<T, (Refusal, E)>) -> T {
     }
 }
 
-/// How a call is refused that must be.
-pub fn refused<T, E, R: Abort>(rt: &R, answer: Result<T, E>) -> E {
-    match answer {
-        Ok(_) => rt.panic("it is not refused"),
-        Err(error) => error,
-    }
-}
-
 /// A formatted device of so many sectors.
 pub fn formatted<R: Abort>(rt: &R, alloc: Global, sectors: u32, log_sectors: u16) -> MemDevice {
     let device = MemDevice::new(alloc, sectors).expect(rt, "a device");
@@ -42,11 +35,18 @@ pub fn small<R: Abort>(rt: &R, alloc: Global) -> Store<MemDevice> {
     given(rt, Store::open(alloc, device, CACHE))
 }
 
-/// A small store whose device fails at the next write or sync.
-pub fn failing<R: Abort>(rt: &R, alloc: Global) -> Store<MemDevice> {
+/// A small store with one pair.
+pub fn with_a_pair<R: Abort>(rt: &R, alloc: Global, key: &[u8], value: &[u8]) -> Store<MemDevice> {
     let mut store = small(rt, alloc);
-    store.fuse(0);
+    let batch = put(alloc, key, value).expect(rt, "a batch");
+    assert!(rt; store.commit(&batch).is_ok());
     store
+}
+
+/// A large store.
+pub fn large<R: Abort>(rt: &R, alloc: Global) -> Store<MemDevice> {
+    let device = formatted(rt, alloc, 65_536, 2_048);
+    given(rt, Store::open(alloc, device, CACHE))
 }
 
 /// What is left of a session.
@@ -98,28 +98,33 @@ impl<A: Allocator + Clone, B: SessionName> Session<B, A> {
         client.watch(&self.shared)
     }
 
-    /// Ends the session.
+    /// Ends the session: first without its last client, which is refused and hands all back, and then with that one before
+    /// the others.
     pub fn end<R: Abort>(self, rt: &R) -> Left<A> {
-        let Session { shared, clients } = self;
+        let Session {
+            shared,
+            mut clients,
+        } = self;
         let base = shared.base();
+        let last = clients.pop().expect(rt, "a client");
+        let (shared, mut clients) = match shared.finish(clients) {
+            Ok((_, _)) => rt.panic("a client is missing"),
+            Err((_, shared, clients)) => (shared, clients),
+        };
+        clients.insert(0, last).expect(rt, "a place");
         match shared.finish(clients) {
             Ok((store, trail)) => Left { base, store, trail },
             Err((refusal, _, _)) => rt.panic(refusal.name()),
         }
     }
+}
 
-    /// Ends the session without its last client, which is refused and hands all back, and then with that client before the
-    /// others, of which there is one.
-    pub fn end_in_two<R: Abort>(self, rt: &R) -> Left<A> {
-        let Session {
-            shared,
-            mut clients,
-        } = self;
-        let last = clients.pop().expect(rt, "a client");
-        let (refusal, shared, mut clients) = refused(rt, shared.finish(clients));
-        assert!(rt; refusal == Refusal::NotYours && clients.len() == 1);
-        clients.push(last).expect(rt, "a place");
-        clients.rotate_right(1);
-        Session { shared, clients }.end(rt)
-    }
+/// A session of a store with so many clients and so many places in its trail, which has no name yet.
+pub fn prepared<R: Abort>(
+    rt: &R,
+    alloc: Global,
+    store: Store<MemDevice>,
+    (clients, places): (u32, u32),
+) -> Opened<MemDevice> {
+    given(rt, prepare(alloc, store, clients, places))
 }

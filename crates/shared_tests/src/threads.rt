@@ -1,12 +1,13 @@
-//! Sessions of several threads.
+//! Sessions whose clients commit and work at the same time, each in a thread of its own.
 
 ghost use Rattle.std.specs.Prelude.{◌≡◌};
 
-use crate::setup::{CACHE, Left, Session, formatted, given};
+use crate::setup::{CACHE, Left, Session, given, large, prepared};
 use crate::turns::put;
-use lsm_device::{MemDevice, Refusal};
+use crate::working::{Lent, bring};
+use lsm_device::MemDevice;
 use lsm_lives::{Call, Reply, Step};
-use lsm_shared::{Client, Shared, prepare};
+use lsm_shared::{Client, Shared, Turn};
 use lsm_store::{At, Store};
 use lsm_trail::{Entry, Numbers, Opened, SessionName, Trail};
 use std::alloc::Global;
@@ -15,59 +16,131 @@ use std::process::Abort;
 use std::sync::Wait;
 use std::thread::{Threads, for_each_mut};
 
-const CLIENTS: u32 = 4;
+const COMMITTERS: u32 = 4;
+
+const WORKERS: u32 = 3;
 
 const COMMITS: u32 = 50;
 
-/// The key of a client's commit: two numbers, each in two bytes.
-pub fn key_of(client: u32, commit: u32) -> [u8; 4] {
+const TURNS: u32 = 60;
+
+// The key of a client's commit: two numbers, each in two bytes.
+fn key_of(client: u32, commit: u32) -> [u8; 4] {
     let [_, _, a, b] = client.to_be_bytes();
     let [_, _, c, d] = commit.to_be_bytes();
     [a, b, c, d]
 }
 
-/// A commit of one put, which has its key for its value.
-pub fn commit_of<R: Abort>(rt: &R, alloc: Global, key: &[u8; 4]) -> Call {
-    Call::Commit(put(alloc, key, key).expect(rt, "a batch"))
+// Commits one put as a client, which has its key for its value.
+fn commit<B: SessionName, R: Wait + Abort>(
+    rt: &R,
+    alloc: Global,
+    shared: &Shared<MemDevice, Global, B>,
+    me: &mut Client<Global, B>,
+    number: u32,
+) {
+    let key = key_of(me.number(), number);
+    let batch = put(alloc, &key, &key).expect(rt, "a batch");
+    assert!(rt;
+        matches!(
+            me.call(rt, shared, Call::Commit(batch)),
+            Ok(Reply::Number(_))
+        )
+    );
 }
 
-fn is_number(reply: &Result<Reply, Refusal>) -> bool {
-    matches!(reply, Ok(Reply::Number(_)))
+/// Takes a turn as a client, and builds and brings what is handed out. Whether there was something to do.
+pub fn work<B: SessionName, R: Threads + Wait + Abort + Sync>(
+    rt: &R,
+    alloc: Global,
+    shared: &Shared<MemDevice, Global, B>,
+    me: &mut Client<Global, B>,
+) -> bool {
+    match me.turn(rt, shared) {
+        Ok(Turn::Idle) => false,
+        Ok(Turn::Did(_)) => true,
+        Ok(Turn::Merge { job, result, input }) => {
+            bring(rt, alloc, shared, me, Lent { job, result, input });
+            true
+        }
+        Err(refusal) => rt.panic(refusal.name()),
+    }
 }
 
-// Whether a reading is later than another one, in a history of commits alone, none of them synced.
-fn is_later(numbers: Numbers, before: Numbers) -> bool {
-    before.calls < numbers.calls && numbers.batches == numbers.calls && numbers.synced == 0
+// The numbers of the history, which never fall behind those that a client read before.
+fn watch<B: SessionName, R: Abort>(
+    rt: &R,
+    shared: &Shared<MemDevice, Global, B>,
+    me: &mut Client<Global, B>,
+    before: Numbers,
+) -> Numbers {
+    let now = me.watch(shared);
+    assert!(rt;
+        before.calls <= now.calls && before.batches <= now.batches && before.synced <= now.synced
+    );
+    now
 }
 
-// Makes a client's commits, all of which must be accepted, and reads the numbers of the history after each.
+// Makes a client's commits.
 fn commit_all<B: SessionName, R: Wait + Abort>(
     rt: &R,
     alloc: Global,
     shared: &Shared<MemDevice, Global, B>,
     me: &mut Client<Global, B>,
 ) {
-    let mut before = me.watch(shared);
+    let mut numbers = me.watch(shared);
     for number in 0..COMMITS {
-        let call = commit_of(rt, alloc, &key_of(me.number(), number));
-        assert!(rt; is_number(&me.call(rt, shared, call)));
-        let numbers = me.watch(shared);
-        assert!(rt; is_later(numbers, before));
-        before = numbers;
+        commit(rt, alloc, shared, me, number);
+        numbers = watch(rt, shared, me, numbers);
     }
 }
 
-// The clients make their commits at the same time, each in a thread of its own.
-fn commit_in_threads<B: SessionName + Send + Sync, R: Threads + Wait + Abort + Sync>(
+// Takes turns, behind a rotation.
+fn work_all<B: SessionName, R: Threads + Wait + Abort + Sync>(
+    rt: &R,
+    alloc: Global,
+    shared: &Shared<MemDevice, Global, B>,
+    me: &mut Client<Global, B>,
+) {
+    let mut numbers = me.watch(shared);
+    for turn in 0..TURNS {
+        if turn % 20 == 0 {
+            assert!(rt; me.call(rt, shared, Call::Rotate).is_ok());
+        }
+        let _busy = work(rt, alloc, shared, me);
+        numbers = watch(rt, shared, me, numbers);
+    }
+}
+
+fn commit_or_work<B: SessionName, R: Threads + Wait + Abort + Sync>(
+    rt: &R,
+    alloc: Global,
+    shared: &Shared<MemDevice, Global, B>,
+    me: &mut Client<Global, B>,
+) {
+    if me.number() < COMMITTERS {
+        commit_all(rt, alloc, shared, me);
+    } else {
+        work_all(rt, alloc, shared, me);
+    }
+}
+
+fn in_threads<B: SessionName + Send + Sync, R: Threads + Wait + Abort + Sync>(
     rt: &R,
     alloc: Global,
     shared: &Shared<MemDevice, Global, B>,
     clients: &mut [Client<Global, B>],
 ) {
-    for_each_mut(rt, clients, 4, &|_, me| commit_all(rt, alloc, shared, me));
+    for_each_mut(
+        rt,
+        clients,
+        7,
+        &|_, me| commit_or_work(rt, alloc, shared, me),
+    );
 }
 
-fn in_four_threads<B: SessionName + Send + Sync, R: Threads + Wait + Abort + Sync>(
+// The first four clients commit, and the others work on jobs, all at the same time.
+fn all_at_once<B: SessionName + Send + Sync, R: Threads + Wait + Abort + Sync>(
     rt: &R,
     alloc: Global,
     opened: Opened<MemDevice>,
@@ -75,14 +148,14 @@ fn in_four_threads<B: SessionName + Send + Sync, R: Threads + Wait + Abort + Syn
     requires { opened ≡ B.id }
 {
     let mut session = Session::<B>::begin(alloc, opened).expect(rt, "a session");
-    commit_in_threads(rt, alloc, &session.shared, &mut session.clients);
+    in_threads(rt, alloc, &session.shared, &mut session.clients);
     session.end(rt)
 }
 
-// Whether an entry is a commit of this number.
-fn is_commit(entry: &Entry, number: u64) -> bool {
-    matches!(entry.step(), Step::Call(Call::Commit(_)))
-        && matches!(entry.reply(), Reply::Number(n) if *n == number)
+// What is left of a session of a large store with so many clients.
+fn left_of<R: Threads + Wait + Abort + Sync>(rt: &R, alloc: Global, clients: u32) -> Left {
+    let opened = prepared(rt, alloc, large(rt, alloc), (clients, 65_536));
+    all_at_once::<Brand, _>(rt, alloc, opened)
 }
 
 // Whether a trail is 200 commits, numbered from 1 on.
@@ -94,6 +167,12 @@ fn is_of_commits(trail: &Trail) -> bool {
     all
 }
 
+// Whether an entry is a commit of this number.
+fn is_commit(entry: &Entry, number: u64) -> bool {
+    matches!(entry.step(), Step::Call(Call::Commit(_)))
+        && matches!(entry.reply(), Reply::Number(n) if *n == number)
+}
+
 // How many of the trail's commits a store holds, if it holds a beginning of them.
 fn held(store: &mut Store<MemDevice>, trail: &Trail) -> Option<u32> {
     let mut made = [0u32; 4];
@@ -101,7 +180,7 @@ fn held(store: &mut Store<MemDevice>, trail: &Trail) -> Option<u32> {
     let mut ended = false;
     for entry in trail.entries() {
         let next = made.get_mut(entry.client() as usize)?;
-        let stands = has(store, &key_of(entry.client(), *next))?;
+        let stands = has(store, &key_of(entry.client(), *next));
         *next = next.wrapping_add(1);
         if ended && stands {
             return None;
@@ -112,31 +191,42 @@ fn held(store: &mut Store<MemDevice>, trail: &Trail) -> Option<u32> {
     Some(count)
 }
 
-/// Whether a store has a key.
-pub fn has(store: &mut Store<MemDevice>, key: &[u8; 4]) -> Option<bool> {
-    match store.get(At::Now, key) {
-        Ok(found) => Some(found.is_some()),
-        Err(_) => None,
-    }
+// Whether a store has a key.
+fn has(store: &mut Store<MemDevice>, key: &[u8; 4]) -> bool {
+    matches!(store.get(At::Now, key), Ok(Some(_)))
 }
 
 // The store after a crash that keeps the first hundred sectors, loses one, and keeps the others.
 fn crashed<R: Abort>(rt: &R, alloc: Global, store: Store<MemDevice>) -> Store<MemDevice> {
     let mut keep = [true; 200];
     keep[100] = false;
-    given(
-        rt,
-        Store::open(alloc, store.into_device().crash(&keep), CACHE),
-    )
+    let device = store.into_device().crash(&keep);
+    given(rt, Store::open(alloc, device, CACHE))
 }
 
 #[test]
 fn four_threads_make_one_history(rt: HostRuntime) {
-    let device = formatted(&rt, rt.alloc(), 65_536, 2_048);
-    let store = given(&rt, Store::open(rt.alloc(), device, CACHE));
-    let opened = given(&rt, prepare(rt.alloc(), store, CLIENTS, 65_536));
-    let Left { store, trail, .. } = in_four_threads::<Brand, _>(&rt, rt.alloc(), opened);
+    let Left { store, trail, .. } = left_of(&rt, rt.alloc(), COMMITTERS);
     assert!(rt; is_of_commits(&trail));
     let mut store = crashed(&rt, rt.alloc(), store);
     assert!(rt; held(&mut store, &trail) == Some(100));
+}
+
+// Whether a store has all keys of the commits.
+fn has_all(store: &mut Store<MemDevice>) -> bool {
+    let mut all = true;
+    for client in 0..COMMITTERS {
+        for number in 0..COMMITS {
+            all = all && has(store, &key_of(client, number));
+        }
+    }
+    all
+}
+
+#[test]
+fn four_clients_commit_and_three_work(rt: HostRuntime) {
+    let Left { mut store, .. } = left_of(&rt, rt.alloc(), COMMITTERS + WORKERS);
+    assert!(rt; has_all(&mut store) && store.batch_count() == 200);
+    // The store goes on.
+    assert!(rt; store.sync().is_ok() && store.synced_count() == 200);
 }

@@ -1,14 +1,14 @@
-//! Calls of clients in a table, each with what it must be answered.
+//! What clients of a session do one after another, in a table, each with what it must be answered.
 
 ghost use Rattle.std.specs.Prelude.{◌≡◌};
 
-use crate::setup::{Left, Session, given};
+use crate::setup::{Left, Session, prepared};
 use lsm_codec::{Batch, Op};
 use lsm_device::{MemDevice, Refusal};
 use lsm_lives::{Call, Reply};
-use lsm_shared::prepare;
+use lsm_shared::Turn;
 use lsm_store::{At, Page, Store};
-use lsm_trail::{Opened, SessionName};
+use lsm_trail::{Numbers, Opened, SessionName};
 use std::alloc::{Allocator, Global};
 use std::marker::Brand;
 use std::process::Abort;
@@ -27,6 +27,11 @@ pub enum Ask<'a> {
     Snapshot,
     Release(u64),
     Room,
+    Rotate,
+    /// The next piece of work.
+    Turn,
+    /// The numbers of the history, without the lock.
+    Watch,
 }
 
 /// What it is told.
@@ -38,46 +43,65 @@ pub enum Told<'a> {
     /// A page with this row alone, and none behind it.
     Row(&'a [u8], &'a [u8]),
     Refused(Refusal),
+    /// Its turn did a piece of work.
+    Did,
+    /// There is no work for it.
+    Idle,
+    /// Calls, batches, and synced batches.
+    Numbers(u64, u64, u64),
 }
 
-/// The number of a client, what it asks, and what it must be told, or why the call must be none.
-pub type Turn<'a> = (usize, Ask<'a>, Result<Told<'a>, Refusal>);
+/// The number of a client, what it asks, and what it must be told, or why there is no answer.
+pub type Asked<'a> = (usize, Ask<'a>, Result<Told<'a>, Refusal>);
 
-/// Begins a session of a store with so many clients and places, has its clients make the calls of a table, and ends it.
+/// What is left of a session of a store with so many clients and places, whose clients do what a table says.
 pub fn play<R: Wait + Abort>(
     rt: &R,
     alloc: Global,
     store: Store<MemDevice>,
-    (clients, places): (u32, u32),
-    turns: &[Turn],
+    of: (u32, u32),
+    table: &[Asked],
 ) -> Left {
-    let opened = given(rt, prepare(alloc, store, clients, places));
-    play_named::<Brand, _>(rt, alloc, opened, turns)
+    let opened = prepared(rt, alloc, store, of);
+    play_named::<Brand, _>(rt, alloc, opened, table)
 }
 
 fn play_named<B: SessionName, R: Wait + Abort>(
     rt: &R,
     alloc: Global,
     opened: Opened<MemDevice>,
-    turns: &[Turn],
+    table: &[Asked],
 ) -> Left
     requires { opened ≡ B.id }
 {
     let mut session = Session::<B>::begin(alloc, opened).expect(rt, "a session");
-    make_all(rt, alloc, &mut session, turns);
+    ask_all(rt, alloc, &mut session, table);
     session.end(rt)
 }
 
-/// Makes the calls, each of which must be answered as its turn says.
-pub fn make_all<B: SessionName, R: Wait + Abort>(
+/// Has clients do what a table says.
+pub fn ask_all<B: SessionName, R: Wait + Abort>(
     rt: &R,
     alloc: Global,
     session: &mut Session<B>,
-    turns: &[Turn],
+    table: &[Asked],
 ) {
-    for (place, (client, ask, wanted)) in turns.iter().enumerate() {
-        let reply = session.call(rt, *client, call_of(rt, alloc, *ask));
-        assert!(rt; is_told(&reply, *wanted), "turn {place}");
+    for (place, asked) in table.iter().enumerate() {
+        assert!(rt; is_answered(rt, alloc, session, *asked), "line {place}");
+    }
+}
+
+// Whether what a client asks is answered as it must be.
+fn is_answered<B: SessionName, R: Wait + Abort>(
+    rt: &R,
+    alloc: Global,
+    session: &mut Session<B>,
+    (client, ask, wanted): Asked,
+) -> bool {
+    match ask {
+        Ask::Watch => are(session.watch(rt, client), wanted),
+        Ask::Turn => is_turn(&session.turn(rt, client), wanted),
+        ask => is_told(&session.call(rt, client, call_of(rt, alloc, ask)), wanted),
     }
 }
 
@@ -92,6 +116,8 @@ fn call_of<R: Abort>(rt: &R, alloc: Global, ask: Ask) -> Call {
         Ask::Snapshot => Call::Snapshot,
         Ask::Release(number) => Call::Release(number),
         Ask::Room => Call::Room,
+        Ask::Rotate => Call::Rotate,
+        Ask::Turn | Ask::Watch => rt.panic("no call of the store"),
     }
 }
 
@@ -108,6 +134,23 @@ fn scan_of(alloc: Global, at: At) -> Call {
 /// A batch of one put.
 pub fn put<A: Allocator + Copy>(alloc: A, key: &[u8], value: &[u8]) -> Result<Batch<A>, Refusal> {
     Batch::new(alloc, Op::put(alloc, key, value)?)
+}
+
+fn are(numbers: Numbers, wanted: Result<Told, Refusal>) -> bool {
+    match wanted {
+        Ok(Told::Numbers(calls, batches, synced)) => {
+            (numbers.calls, numbers.batches, numbers.synced) == (calls, batches, synced)
+        }
+        _ => false,
+    }
+}
+
+fn is_turn(turn: &Result<Turn, Refusal>, wanted: Result<Told, Refusal>) -> bool {
+    match (turn, wanted) {
+        (Ok(Turn::Idle), Ok(Told::Idle)) => true,
+        (Ok(Turn::Did(_)), Ok(Told::Did)) => true,
+        _ => false,
+    }
 }
 
 fn is_told(reply: &Result<Reply, Refusal>, wanted: Result<Told, Refusal>) -> bool {

@@ -1,152 +1,19 @@
-//! Sessions of several threads in which some clients work on jobs.
+//! Two clients that work on one job at the same time.
 
 ghost use Rattle.std.specs.Prelude.{◌≡◌};
 
-use crate::setup::{CACHE, Left, Session, formatted, given, small};
-use crate::threads::{commit_of, has, key_of};
-use crate::working::{Lent, bring};
+use crate::setup::{Left, Session, prepared, small};
+use crate::threads::work;
+use crate::turns::{Ask, Asked, Told, ask_all};
 use lsm_device::{MemDevice, Refusal};
-use lsm_lives::{Call, Reply, Step, Work};
-use lsm_shared::{Client, Shared, Turn, prepare};
-use lsm_store::Store;
-use lsm_trail::{Entry, Numbers, Opened, SessionName, Trail};
+use lsm_lives::{Reply, Step, Work};
+use lsm_shared::{Client, Shared};
+use lsm_trail::{Entry, Opened, SessionName, Trail};
 use std::alloc::Global;
 use std::marker::Brand;
 use std::process::Abort;
 use std::sync::Wait;
 use std::thread::{Threads, for_each_mut};
-
-const COMMITTERS: u32 = 4;
-
-const WORKERS: u32 = 3;
-
-const COMMITS: u32 = 50;
-
-const TURNS: u32 = 60;
-
-// Takes a turn, and builds and brings what is handed out. Whether there was something to do.
-fn work<B: SessionName, R: Threads + Wait + Abort + Sync>(
-    rt: &R,
-    alloc: Global,
-    shared: &Shared<MemDevice, Global, B>,
-    me: &mut Client<Global, B>,
-) -> bool {
-    match me.turn(rt, shared) {
-        Ok(Turn::Idle) => false,
-        Ok(Turn::Did(_)) => true,
-        Ok(Turn::Merge { job, result, input }) => {
-            let _reply = bring(rt, alloc, shared, me, Lent { job, result, input });
-            true
-        }
-        Err(refusal) => rt.panic(refusal.name()),
-    }
-}
-
-// Whether a reading of the history fell behind another.
-fn fell(now: Numbers, before: Numbers) -> bool {
-    now.calls < before.calls || now.batches < before.batches || now.synced < before.synced
-}
-
-// Makes a client's commits, rotates in their midst, and reads the numbers of the history after each.
-fn commit_all<B: SessionName, R: Wait + Abort>(
-    rt: &R,
-    alloc: Global,
-    shared: &Shared<MemDevice, Global, B>,
-    me: &mut Client<Global, B>,
-) {
-    let mut before = me.watch(shared);
-    for number in 0..COMMITS {
-        let call = commit_of(rt, alloc, &key_of(me.number(), number));
-        assert!(rt; matches!(me.call(rt, shared, call), Ok(Reply::Number(_))));
-        if number == COMMITS / 2 {
-            assert!(rt; me.call(rt, shared, Call::Rotate).is_ok());
-        }
-        let numbers = me.watch(shared);
-        assert!(rt; !fell(numbers, before));
-        before = numbers;
-    }
-}
-
-// Takes turns, and reads the numbers of the history after each.
-fn work_all<B: SessionName, R: Threads + Wait + Abort + Sync>(
-    rt: &R,
-    alloc: Global,
-    shared: &Shared<MemDevice, Global, B>,
-    me: &mut Client<Global, B>,
-) {
-    let mut before = me.watch(shared);
-    for _ in 0..TURNS {
-        let _busy = work(rt, alloc, shared, me);
-        let numbers = me.watch(shared);
-        assert!(rt; !fell(numbers, before));
-        before = numbers;
-    }
-}
-
-fn commit_or_work<B: SessionName, R: Threads + Wait + Abort + Sync>(
-    rt: &R,
-    alloc: Global,
-    shared: &Shared<MemDevice, Global, B>,
-    me: &mut Client<Global, B>,
-) {
-    if me.number() < COMMITTERS {
-        commit_all(rt, alloc, shared, me);
-    } else {
-        work_all(rt, alloc, shared, me);
-    }
-}
-
-// All of them at the same time, each in a thread of its own.
-fn all_at_once<B: SessionName + Send + Sync, R: Threads + Wait + Abort + Sync>(
-    rt: &R,
-    alloc: Global,
-    shared: &Shared<MemDevice, Global, B>,
-    clients: &mut [Client<Global, B>],
-) {
-    for_each_mut(
-        rt,
-        clients,
-        7,
-        &|_, me| commit_or_work(rt, alloc, shared, me),
-    );
-}
-
-fn in_seven_threads<B: SessionName + Send + Sync, R: Threads + Wait + Abort + Sync>(
-    rt: &R,
-    alloc: Global,
-    opened: Opened<MemDevice>,
-) -> Left
-    requires { opened ≡ B.id }
-{
-    let mut session = Session::<B>::begin(alloc, opened).expect(rt, "a session");
-    all_at_once(rt, alloc, &session.shared, &mut session.clients);
-    session.end(rt)
-}
-
-// Whether a store has all keys of the commits.
-fn has_all(store: &mut Store<MemDevice>) -> bool {
-    let mut all = true;
-    for client in 0..COMMITTERS {
-        for number in 0..COMMITS {
-            all = all && has(store, &key_of(client, number)) == Some(true);
-        }
-    }
-    all
-}
-
-#[test]
-fn four_clients_commit_and_three_work(rt: HostRuntime) {
-    let device = formatted(&rt, rt.alloc(), 65_536, 2_048);
-    let store = given(&rt, Store::open(rt.alloc(), device, CACHE));
-    let opened = given(
-        &rt,
-        prepare(rt.alloc(), store, COMMITTERS + WORKERS, 65_536),
-    );
-    let Left { mut store, .. } = in_seven_threads::<Brand, _>(&rt, rt.alloc(), opened);
-    assert!(rt; has_all(&mut store) && store.batch_count() == 200);
-    // The store goes on.
-    assert!(rt; store.sync().is_ok() && store.synced_count() == 200);
-}
 
 // Works until there is nothing to do, in so many turns at most.
 fn work_until_idle<B: SessionName, R: Threads + Wait + Abort + Sync>(
@@ -175,8 +42,13 @@ fn work_if_at_the_first<B: SessionName, R: Threads + Wait + Abort + Sync>(
     }
 }
 
-// Both work at the same time, each in a thread of its own.
-fn first_and_last<B: SessionName + Send + Sync, R: Threads + Wait + Abort + Sync>(
+const BEFORE: &[Asked<'static>] = &[
+    (0, Ask::Put(b"\x61", b"\x31"), Ok(Told::Number(1))),
+    (0, Ask::Rotate, Ok(Told::Done)),
+    (0, Ask::Turn, Ok(Told::Did)),
+];
+
+fn in_threads<B: SessionName + Send + Sync, R: Threads + Wait + Abort + Sync>(
     rt: &R,
     alloc: Global,
     shared: &Shared<MemDevice, Global, B>,
@@ -190,8 +62,8 @@ fn first_and_last<B: SessionName + Send + Sync, R: Threads + Wait + Abort + Sync
     );
 }
 
-// Client 0 commits and rotates, and takes a flush. Then it and client 4, whose turns begin at the same slot, work at the same time.
-fn work_in_two_threads<B: SessionName + Send + Sync, R: Threads + Wait + Abort + Sync>(
+// Client 0 commits and rotates, and takes a flush. Then it and client 4 work at the same time, each in a thread of its own.
+fn first_and_last<B: SessionName + Send + Sync, R: Threads + Wait + Abort + Sync>(
     rt: &R,
     alloc: Global,
     opened: Opened<MemDevice>,
@@ -199,10 +71,8 @@ fn work_in_two_threads<B: SessionName + Send + Sync, R: Threads + Wait + Abort +
     requires { opened ≡ B.id }
 {
     let mut session = Session::<B>::begin(alloc, opened).expect(rt, "a session");
-    let commit = commit_of(rt, alloc, &key_of(0, 0));
-    assert!(rt; session.call(rt, 0, commit).is_ok() && session.call(rt, 0, Call::Rotate).is_ok());
-    assert!(rt; matches!(session.turn(rt, 0), Ok(Turn::Did(_))));
-    first_and_last(rt, alloc, &session.shared, &mut session.clients);
+    ask_all(rt, alloc, &mut session, BEFORE);
+    in_threads(rt, alloc, &session.shared, &mut session.clients);
     session.end(rt)
 }
 
@@ -238,8 +108,9 @@ fn accepts_in(trail: &Trail) -> Option<u32> {
 
 #[test]
 fn one_of_two_results_is_accepted(rt: HostRuntime) {
-    let opened = given(&rt, prepare(rt.alloc(), small(&rt, rt.alloc()), 5, 65_536));
-    let Left { store, trail, .. } = work_in_two_threads::<Brand, _>(&rt, rt.alloc(), opened);
-    assert!(rt; accepts_in(&trail) == Some(1));
-    assert!(rt; matches!(store.stat(), Ok(stat) if stat.tables == 1 && !stat.waiting));
+    let store = small(&rt, rt.alloc());
+    let opened = prepared(&rt, rt.alloc(), store, (5, 65_536));
+    let left = first_and_last::<Brand, _>(&rt, rt.alloc(), opened);
+    assert!(rt; accepts_in(&left.trail) == Some(1));
+    assert!(rt; matches!(left.store.stat(), Ok(stat) if stat.tables == 1 && !stat.waiting));
 }

@@ -1,4 +1,4 @@
-use Rattle.shared_tests.proofs.example.share_with_a_worker.Given as goal
+use Rattle.shared_tests.proofs.example.shared_with_a_worker.Given as goal
 
 -- the session that was just prepared
 abbrev pub ghosts-in_three_threads : goal.ghosts-in_three_threads
