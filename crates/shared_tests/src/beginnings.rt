@@ -1,24 +1,20 @@
 //! How sessions begin.
 
-use crate::setup::small;
+use crate::setup::{prepared, small};
 use crate::turns::{Ask, Asked, Told, play};
 use lsm_device::Refusal;
-use lsm_shared::prepare;
 use std::alloc::Global;
 use std::process::Abort;
 
-// How no session of a small store begins, if none does. The store comes back, also of an opened session.
+// How no session of a small store begins, if none does.
 fn refusal_of<R: Abort>(rt: &R, alloc: Global, clients: u32, trail: u32) -> Option<Refusal> {
-    match prepare(alloc, small(rt, alloc), clients, trail) {
+    match prepared(alloc, small(rt, alloc), (clients, trail)) {
         Ok(opened) => {
             assert!(rt; opened.clients() == clients && opened.limit() == trail);
             assert!(rt; opened.into_store().log_room() == Ok(128));
             None
         }
-        Err((refusal, store)) => {
-            assert!(rt; store.log_room() == Ok(128));
-            Some(refusal)
-        }
+        Err(refusal) => Some(refusal),
     }
 }
 

@@ -1,7 +1,7 @@
 //! The whole callers of the library `shared_example`.
 
-use crate::setup::with_a_pair;
-use crate::turns::put;
+use crate::setup::small;
+use crate::turns::{Ask, Asked, Told, play, put};
 use lsm_device::{MemDevice, Refusal};
 use lsm_shared::prepare;
 use lsm_store::Store;
@@ -36,10 +36,14 @@ fn two_clients_beside_a_worker_find_both_values(rt: HostRuntime) {
     assert!(rt; has_both(&rt, found));
 }
 
+const A_ROTATION: &[Asked<'static>] = &[
+    (0, Ask::Put(b"zero", b"0"), Ok(Told::Number(1))),
+    (0, Ask::Rotate, Ok(Told::Done)),
+];
+
 // A small store with a sealed memory table, which waits for its flush.
-fn waiting<R: Abort>(rt: &R, alloc: Global) -> Store<MemDevice> {
-    let mut store = with_a_pair(rt, alloc, b"zero", b"0");
-    assert!(rt; store.rotate().is_ok());
+fn waiting<R: Wait + Abort>(rt: &R, alloc: Global) -> Store<MemDevice> {
+    let (store, _) = play(rt, alloc, small(rt, alloc), (1, 2), A_ROTATION).into_parts();
     store
 }
 

@@ -2,12 +2,11 @@
 
 ghost use Rattle.std.specs.Prelude.{◌≡◌};
 
-use crate::setup::{CACHE, Session, formatted, given};
+use crate::setup::{Session, formatted, opened, prepared};
 use crate::turns::put;
 use lsm_device::{MemDevice, Refusal};
 use lsm_lives::{Call, Reply};
-use lsm_shared::prepare;
-use lsm_store::{At, Store};
+use lsm_store::At;
 use lsm_trail::{Opened, SessionName};
 use merge_tests::budget::Budget;
 use std::alloc::{Allocator, Global};
@@ -33,12 +32,12 @@ enum Reach {
 fn reached<R: Wait + Abort>(rt: &R, alloc: Global, blocks: u64) -> Reach {
     let heap = Budget::new(alloc, AMPLE);
     let device = formatted(rt, alloc, 8_192, 128);
-    let store = given(rt, Store::open(&heap, device, CACHE));
+    let store = opened(rt, &heap, device);
     heap.allow(blocks);
-    match prepare(&heap, store, 1, 16) {
+    match prepared(&heap, store, (1, 16)) {
         Ok(opened) => begun::<Brand, _, _>(rt, &heap, opened),
-        Err((Refusal::NoMemory, _)) => Reach::Unprepared,
-        Err((refusal, _)) => rt.panic(refusal.name()),
+        Err(Refusal::NoMemory) => Reach::Unprepared,
+        Err(refusal) => rt.panic(refusal.name()),
     }
 }
 

@@ -1,6 +1,6 @@
 //! What calls reply, and what the trail keeps of them.
 
-use crate::setup::{Left, small};
+use crate::setup::small;
 use crate::turns::{Ask, Asked, Told, play};
 use lsm_device::Refusal;
 use lsm_store::At;
@@ -47,7 +47,7 @@ fn is_of(trail: Trail, callers: &[u32]) -> bool {
 #[test]
 fn two_clients_see_one_store(rt: HostRuntime) {
     let store = small(&rt, rt.alloc());
-    let Left { store, trail, .. } = play(&rt, rt.alloc(), store, (2, 16), BY_TURNS);
+    let (store, trail) = play(&rt, rt.alloc(), store, (2, 16), BY_TURNS).into_parts();
     assert!(rt; store.batch_count() == 2 && store.synced_count() == 2);
     assert!(rt; is_of(trail, &[0, 1, 1, 0, 0, 1, 0, 1, 1, 1, 1]));
 }

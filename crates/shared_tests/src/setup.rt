@@ -2,7 +2,6 @@
 
 ghost use Rattle.std.specs.Prelude.{◌≡◌};
 
-use crate::turns::put;
 use lsm_device::{MemDevice, Refusal};
 use lsm_lives::{Call, Reply};
 use lsm_open::format;
@@ -13,48 +12,73 @@ use std::alloc::{Allocator, Global};
 use std::process::Abort;
 use std::sync::Wait;
 
-pub const CACHE: u32 = 256;
-
-/// What a call answers that must not be refused.
-pub fn given<T, E, R: Abort>(rt: &R, answer: Result<T, (Refusal, E)>) -> T {
-    match answer {
-        Ok(value) => value,
+/// A formatted device of so many sectors.
+pub fn formatted<R: Abort>(rt: &R, alloc: Global, sectors: u32, log_sectors: u16) -> MemDevice {
+    let device = MemDevice::new(alloc, sectors).expect(rt, "a device");
+    match format(alloc, device, log_sectors) {
+        Ok(device) => device,
         Err((refusal, _)) => rt.panic(refusal.name()),
     }
 }
 
-/// A formatted device of so many sectors.
-pub fn formatted<R: Abort>(rt: &R, alloc: Global, sectors: u32, log_sectors: u16) -> MemDevice {
-    let device = MemDevice::new(alloc, sectors).expect(rt, "a device");
-    given(rt, format(alloc, device, log_sectors))
+/// The store of a device.
+pub fn opened<A: Allocator + Clone, R: Abort>(
+    rt: &R,
+    alloc: A,
+    device: MemDevice,
+) -> Store<MemDevice, A> {
+    // With room for 256 blocks in its cache.
+    match Store::open(alloc, device, 256) {
+        Ok(store) => store,
+        Err((refusal, _)) => rt.panic(refusal.name()),
+    }
 }
 
 /// A small store.
 pub fn small<R: Abort>(rt: &R, alloc: Global) -> Store<MemDevice> {
-    let device = formatted(rt, alloc, 8_192, 128);
-    given(rt, Store::open(alloc, device, CACHE))
+    opened(rt, alloc, formatted(rt, alloc, 8_192, 128))
 }
 
-/// A small store with one pair.
-pub fn with_a_pair<R: Abort>(rt: &R, alloc: Global, key: &[u8], value: &[u8]) -> Store<MemDevice> {
-    let mut store = small(rt, alloc);
-    let batch = put(alloc, key, value).expect(rt, "a batch");
-    assert!(rt; store.commit(&batch).is_ok());
-    store
-}
-
-/// A large store.
-pub fn large<R: Abort>(rt: &R, alloc: Global) -> Store<MemDevice> {
-    let device = formatted(rt, alloc, 65_536, 2_048);
-    given(rt, Store::open(alloc, device, CACHE))
+/// A session of a store with so many clients and so many places in its trail, which has no name yet.
+pub fn prepared<A: Allocator + Clone>(
+    alloc: A,
+    store: Store<MemDevice, A>,
+    (clients, places): (u32, u32),
+) -> Result<Opened<MemDevice, A>, Refusal> {
+    match prepare(alloc, store, clients, places) {
+        Ok(opened) => Ok(opened),
+        Err((refusal, _)) => Err(refusal),
+    }
 }
 
 /// What is left of a session.
-#[derive(Drop)]
 pub struct Left<A: Allocator = Global> {
     pub base: u64,
     pub store: Store<MemDevice, A>,
     pub trail: Trail<A>,
+}
+
+// One call at each exit of a caller, in the place of the drops of all fields.
+impl<A: Allocator> Drop for Left<A> {
+    fn drop(self) {
+        let Left {
+            base: _,
+            store: _,
+            trail: _,
+        } = self;
+    }
+}
+
+impl<A: Allocator> Left<A> {
+    /// The store, and the trail.
+    pub fn into_parts(self) -> (Store<MemDevice, A>, Trail<A>) {
+        let Left {
+            base: _,
+            store,
+            trail,
+        } = self;
+        (store, trail)
+    }
 }
 
 /// A session whose calls tell the prover nothing, so that it has nothing to carry from one line of a test to the next.
@@ -117,14 +141,4 @@ impl<A: Allocator + Clone, B: SessionName> Session<B, A> {
             Err((refusal, _, _)) => rt.panic(refusal.name()),
         }
     }
-}
-
-/// A session of a store with so many clients and so many places in its trail, which has no name yet.
-pub fn prepared<R: Abort>(
-    rt: &R,
-    alloc: Global,
-    store: Store<MemDevice>,
-    (clients, places): (u32, u32),
-) -> Opened<MemDevice> {
-    given(rt, prepare(alloc, store, clients, places))
 }

@@ -2,7 +2,7 @@
 
 ghost use Rattle.std.specs.Prelude.{◌≡◌};
 
-use crate::setup::{CACHE, Left, Session, given, large, prepared};
+use crate::setup::{Left, Session, formatted, opened, prepared};
 use crate::turns::put;
 use crate::working::{Lent, bring};
 use lsm_device::MemDevice;
@@ -24,11 +24,12 @@ const COMMITS: u32 = 50;
 
 const TURNS: u32 = 60;
 
-// The key of a client's commit: two numbers, each in two bytes.
+// The key of a client's commit: its number among those of all clients, one client after another.
 fn key_of(client: u32, commit: u32) -> [u8; 4] {
-    let [_, _, a, b] = client.to_be_bytes();
-    let [_, _, c, d] = commit.to_be_bytes();
-    [a, b, c, d]
+    client
+        .wrapping_mul(COMMITS)
+        .wrapping_add(commit)
+        .to_be_bytes()
 }
 
 // Commits one put as a client, which has its key for its value.
@@ -154,7 +155,8 @@ fn all_at_once<B: SessionName + Send + Sync, R: Threads + Wait + Abort + Sync>(
 
 // What is left of a session of a large store with so many clients.
 fn left_of<R: Threads + Wait + Abort + Sync>(rt: &R, alloc: Global, clients: u32) -> Left {
-    let opened = prepared(rt, alloc, large(rt, alloc), (clients, 65_536));
+    let store = opened(rt, alloc, formatted(rt, alloc, 65_536, 2_048));
+    let opened = prepared(alloc, store, (clients, 65_536)).expect(rt, "a session");
     all_at_once::<Brand, _>(rt, alloc, opened)
 }
 
@@ -200,13 +202,12 @@ fn has(store: &mut Store<MemDevice>, key: &[u8; 4]) -> bool {
 fn crashed<R: Abort>(rt: &R, alloc: Global, store: Store<MemDevice>) -> Store<MemDevice> {
     let mut keep = [true; 200];
     keep[100] = false;
-    let device = store.into_device().crash(&keep);
-    given(rt, Store::open(alloc, device, CACHE))
+    opened(rt, alloc, store.into_device().crash(&keep))
 }
 
 #[test]
 fn four_threads_make_one_history(rt: HostRuntime) {
-    let Left { store, trail, .. } = left_of(&rt, rt.alloc(), COMMITTERS);
+    let (store, trail) = left_of(&rt, rt.alloc(), COMMITTERS).into_parts();
     assert!(rt; is_of_commits(&trail));
     let mut store = crashed(&rt, rt.alloc(), store);
     assert!(rt; held(&mut store, &trail) == Some(100));
@@ -225,8 +226,8 @@ fn has_all(store: &mut Store<MemDevice>) -> bool {
 
 #[test]
 fn four_clients_commit_and_three_work(rt: HostRuntime) {
-    let Left { mut store, .. } = left_of(&rt, rt.alloc(), COMMITTERS + WORKERS);
-    assert!(rt; has_all(&mut store) && store.batch_count() == 200);
+    let mut left = left_of(&rt, rt.alloc(), COMMITTERS + WORKERS);
+    assert!(rt; has_all(&mut left.store) && left.store.batch_count() == 200);
     // The store goes on.
-    assert!(rt; store.sync().is_ok() && store.synced_count() == 200);
+    assert!(rt; left.store.sync().is_ok() && left.store.synced_count() == 200);
 }

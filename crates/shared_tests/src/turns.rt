@@ -62,7 +62,7 @@ pub fn play<R: Wait + Abort>(
     of: (u32, u32),
     table: &[Asked],
 ) -> Left {
-    let opened = prepared(rt, alloc, store, of);
+    let opened = prepared(alloc, store, of).expect(rt, "a session");
     play_named::<Brand, _>(rt, alloc, opened, table)
 }
 

@@ -109,7 +109,7 @@ fn accepts_in(trail: &Trail) -> Option<u32> {
 #[test]
 fn one_of_two_results_is_accepted(rt: HostRuntime) {
     let store = small(&rt, rt.alloc());
-    let opened = prepared(&rt, rt.alloc(), store, (5, 65_536));
+    let opened = prepared(rt.alloc(), store, (5, 65_536)).expect(&rt, "a session");
     let left = first_and_last::<Brand, _>(&rt, rt.alloc(), opened);
     assert!(rt; accepts_in(&left.trail) == Some(1));
     assert!(rt; matches!(left.store.stat(), Ok(stat) if stat.tables == 1 && !stat.waiting));

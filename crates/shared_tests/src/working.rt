@@ -160,7 +160,7 @@ const TWO_BUILDS: &[(u32, &str)] = &[
 #[test]
 fn two_clients_build_one_result(rt: HostRuntime) {
     let store = small(&rt, rt.alloc());
-    let opened = prepared(&rt, rt.alloc(), store, (2, 64));
+    let opened = prepared(rt.alloc(), store, (2, 64)).expect(&rt, "a session");
     let left = in_turns::<Brand, _>(&rt, rt.alloc(), opened);
     assert!(rt; is_of(&left.trail, TWO_BUILDS));
     assert!(rt; left.store.batch_count() == 2 && left.store.synced_count() == 2);
