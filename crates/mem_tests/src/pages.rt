@@ -128,3 +128,33 @@ fn a_page_is_whole_where_no_version_is_left(rt: HostRuntime) -> Result<(), Fail>
     }
     Ok(())
 }
+
+/// A copy of the page of the first so many versions.
+fn copy_of(alloc: Global, count: usize) -> Result<Page, AllocError> {
+    let page = page_of(alloc, count, None, 5, 64)?;
+    page.copy()
+}
+
+/// Whether a page has this row at a place.
+fn has_row(page: &Page, place: usize, key: &[u8], value: &[u8]) -> bool {
+    match page.rows().get(place) {
+        Some(row) => row.key == key && row.value == value,
+        None => false,
+    }
+}
+
+#[test]
+fn rows_of_a_copy_are_found_by_their_place(rt: HostRuntime) -> Result<(), Fail> {
+    let page = copy_of(rt.alloc(), 9)?;
+    assert!(rt; page.rows().len() == 4 && page.rows().get(4).is_none());
+    assert!(rt; has_row(&page, 0, b"a", b"5") && has_row(&page, 3, b"e", b"1"));
+    Ok(())
+}
+
+#[test]
+fn a_page_without_rows_is_empty(rt: HostRuntime) -> Result<(), Fail> {
+    let none = copy_of(rt.alloc(), 0)?.rows().is_empty();
+    let some = copy_of(rt.alloc(), 9)?.rows().is_empty();
+    assert!(rt; none && !some);
+    Ok(())
+}
