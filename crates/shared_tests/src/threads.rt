@@ -82,21 +82,25 @@ fn watch<B: SessionName, R: Abort>(
     now
 }
 
-// Makes a client's commits.
+// Makes a client's commits, and rotates in their midst where it is to.
 fn commit_all<B: SessionName, R: Wait + Abort>(
     rt: &R,
     alloc: Global,
     shared: &Shared<MemDevice, Global, B>,
     me: &mut Client<Global, B>,
+    rotates: bool,
 ) {
     let mut numbers = me.watch(shared);
     for number in 0..COMMITS {
         commit(rt, alloc, shared, me, number);
+        if rotates && number == COMMITS / 2 {
+            assert!(rt; me.call(rt, shared, Call::Rotate).is_ok());
+        }
         numbers = watch(rt, shared, me, numbers);
     }
 }
 
-// Takes turns, behind a rotation.
+// Takes turns.
 fn work_all<B: SessionName, R: Threads + Wait + Abort + Sync>(
     rt: &R,
     alloc: Global,
@@ -104,10 +108,7 @@ fn work_all<B: SessionName, R: Threads + Wait + Abort + Sync>(
     me: &mut Client<Global, B>,
 ) {
     let mut numbers = me.watch(shared);
-    for turn in 0..TURNS {
-        if turn % 20 == 0 {
-            assert!(rt; me.call(rt, shared, Call::Rotate).is_ok());
-        }
+    for _ in 0..TURNS {
         let _busy = work(rt, alloc, shared, me);
         numbers = watch(rt, shared, me, numbers);
     }
@@ -118,9 +119,10 @@ fn commit_or_work<B: SessionName, R: Threads + Wait + Abort + Sync>(
     alloc: Global,
     shared: &Shared<MemDevice, Global, B>,
     me: &mut Client<Global, B>,
+    rotates: bool,
 ) {
     if me.number() < COMMITTERS {
-        commit_all(rt, alloc, shared, me);
+        commit_all(rt, alloc, shared, me, rotates);
     } else {
         work_all(rt, alloc, shared, me);
     }
@@ -131,12 +133,13 @@ fn in_threads<B: SessionName + Send + Sync, R: Threads + Wait + Abort + Sync>(
     alloc: Global,
     shared: &Shared<MemDevice, Global, B>,
     clients: &mut [Client<Global, B>],
+    rotates: bool,
 ) {
     for_each_mut(
         rt,
         clients,
         7,
-        &|_, me| commit_or_work(rt, alloc, shared, me),
+        &|_, me| commit_or_work(rt, alloc, shared, me, rotates),
     );
 }
 
@@ -145,19 +148,20 @@ fn all_at_once<B: SessionName + Send + Sync, R: Threads + Wait + Abort + Sync>(
     rt: &R,
     alloc: Global,
     opened: Opened<MemDevice>,
+    rotates: bool,
 ) -> Left
     requires { opened ≡ B.id }
 {
     let mut session = Session::<B>::begin(alloc, opened).expect(rt, "a session");
-    in_threads(rt, alloc, &session.shared, &mut session.clients);
+    in_threads(rt, alloc, &session.shared, &mut session.clients, rotates);
     session.end(rt)
 }
 
-// What is left of a session of a large store with so many clients.
+// What is left of a session of a large store with so many clients. Those who commit rotate where others work.
 fn left_of<R: Threads + Wait + Abort + Sync>(rt: &R, alloc: Global, clients: u32) -> Left {
     let store = opened(rt, alloc, formatted(rt, alloc, 65_536, 2_048));
     let opened = prepared(alloc, store, (clients, 65_536)).expect(rt, "a session");
-    all_at_once::<Brand, _>(rt, alloc, opened)
+    all_at_once::<Brand, _>(rt, alloc, opened, clients > COMMITTERS)
 }
 
 // Whether a trail is 200 commits, numbered from 1 on.
