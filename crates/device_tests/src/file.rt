@@ -77,3 +77,33 @@ fn a_file_that_was_cut_while_open_gives_faults(rt: HostRuntime) -> Result<(), Fa
     fs::remove_file(&rt, path)?;
     Ok(())
 }
+
+#[test]
+fn a_file_is_one_device_s_at_a_time(rt: HostRuntime) -> Result<(), Fail> {
+    let path = "a_file_is_one_device_s_at_a_time.img";
+    let mut device = FileDevice::create(&rt, path, 3)?;
+    put(&mut device, 1, &ONES)?;
+    let kept_out = FileDevice::open(&rt, path).is_err()
+        && FileDevice::create(&rt, path, 2).is_err();
+    let told = FileDevice::is_in_use(&rt, path);
+    assert!(rt; kept_out && told && begin_with(&mut device, &[0, 1, 0]));
+    drop(device);
+    let mut device = FileDevice::open(&rt, path)?;
+    let same = begin_with(&mut device, &[0, 1, 0]);
+    drop(device);
+    assert!(rt; same && !FileDevice::is_in_use(&rt, path));
+    fs::remove_file(&rt, path)?;
+    Ok(())
+}
+
+#[test]
+fn a_file_in_a_folder_is_made_with_its_name(rt: HostRuntime) -> Result<(), Fail> {
+    let folder = "a_file_in_a_folder_is_made_with_its_name";
+    let path = "a_file_in_a_folder_is_made_with_its_name/store.img";
+    fs::create_dir(&rt, folder)?;
+    drop(FileDevice::create(&rt, path, 1)?);
+    assert!(rt; FileDevice::open(&rt, path).is_ok());
+    fs::remove_file(&rt, path)?;
+    fs::remove_dir(&rt, folder)?;
+    Ok(())
+}
