@@ -274,6 +274,8 @@ fn refusals_have_numbers_and_names(rt: HostRuntime) -> Result<(), Fail> {
         (Refusal::LogFull, 4, "LogFull"),
         (Refusal::BadGeometry, 25, "BadGeometry"),
         (Refusal::TooManyClients, 29, "TooManyClients"),
+        (Refusal::GuardFailed(2), 30, "GuardFailed"),
+        (Refusal::TooManyGuards, 31, "TooManyGuards"),
     ];
     for (refusal, number, name) in rows {
         assert!(rt;
@@ -281,5 +283,8 @@ fn refusals_have_numbers_and_names(rt: HostRuntime) -> Result<(), Fail> {
             "{name}"
         );
     }
+    assert!(rt;
+        Refusal::GuardFailed(2).place() == Some(2) && Refusal::TooManyGuards.place().is_none()
+    );
     Ok(())
 }

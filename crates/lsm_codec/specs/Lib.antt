@@ -10,6 +10,7 @@ pub mod Pairs
 pub mod TableRecords
 pub mod Manifests
 pub mod Versions
+pub mod Guards
 pub mod References
 pub mod Entries
 pub mod Indexes

@@ -11,6 +11,7 @@ mod entry_text;
 mod filled;
 mod footer;
 mod geometry;
+mod guard;
 mod index;
 mod key;
 mod kind;
@@ -37,6 +38,7 @@ pub use data_block::encode_data_block;
 pub use entry::Entry;
 pub use footer::Footer;
 pub use geometry::data_blocks;
+pub use guard::Guard;
 pub use index::{Edge, Index};
 pub use key::Key;
 pub use laws::{
