@@ -6,4 +6,6 @@ mod file;
 #[cfg(test)]
 mod memory;
 #[cfg(test)]
+mod runs;
+#[cfg(test)]
 mod sectors;

@@ -1,4 +1,3 @@
 pub mod Recent
 pub mod Kept
-pub mod Blocks
 pub mod Counts

@@ -7,12 +7,8 @@ ghost use Rattle.lsm_cache.specs.Reads.{block_at, after_reads, FaultsAmong};
 
 use lsm_device::{Device, Fault};
 
-const SECTOR_BYTES: usize = 512;
-
-const BLOCK_SECTORS: u32 = 8;
-
-/// Reads the block that lies in the eight sectors from `sector` on, past any cache. The first read that faults is the last
-/// one; then `out` may have changed.
+/// Reads the block that lies in the eight sectors from `sector` on, past any cache, by one call of the device. After a fault
+/// `out` may have changed.
 pub fn read_block<D: Device>(
     device: &mut D,
     sector: u32,
@@ -26,11 +22,6 @@ pub fn read_block<D: Device>(
     ensures same_size { (D.medium device.new).size ≡ (D.medium device.old).size }
     ensures same_lasting { (D.medium device.new).lasting ≡ (D.medium device.old).lasting }
 {
-    let mut bytes = [0; SECTOR_BYTES];
-    for i in 0..BLOCK_SECTORS {
-        device.read(sector + i, &mut bytes)?;
-        let at = SECTOR_BYTES * i as usize;
-        out[at..at + SECTOR_BYTES].copy_from_slice(&bytes);
-    }
+    device.read_run(sector, out)?;
     Ok(())
 }

@@ -3,6 +3,7 @@ use Rattle.std.specs.Prelude.{◌≡◌, ℕ, zero, suc, ◌+◌, ◌*◌, ◌-�
 use Rattle.std.specs.List.{flat_map}
 use Rattle.lsm_device.specs.Disk.{Write}
 use Rattle.lsm_device.specs.Runs.{run_at}
+pub use Rattle.lsm_device.specs.Runs.{pieces as in_sectors}
 use Rattle.lsm_table.specs.Division as division
 use Rattle.lsm_table.specs.Division.{TableBlocks, IsTable, IsTables}
 use Rattle.lsm_table.specs.Extents.{extent_of, extent_size}
@@ -34,11 +35,6 @@ blocks_of t = extent_of t.number t.outline.filter (division.blocks t.versions)
 -- the blocks of tables, one after the other, each with its place in the data area
 abbrev pub placed_blocks : List Table → List Write
 placed_blocks tables = flat_map (λ t. run_at t.start (blocks_of t)) tables
-
--- a text, cut into so many sectors
-abbrev pub in_sectors : ℕ → List ℕ → List (List ℕ)
-in_sectors zero text = []
-in_sectors (suc n) text = take 512 text ∷ in_sectors n (drop 512 text)
 
 -- the writes of a block to its eight sectors, where the data area begins with the sector `area`
 abbrev pub block_writes : ℕ → Write → List Write

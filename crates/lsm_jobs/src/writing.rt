@@ -19,22 +19,7 @@ use lsm_device::{Device, Fault, Refusal};
 use lsm_levels::PlacedTable;
 use std::alloc::Allocator;
 
-const SECTOR_BYTES: usize = 512;
-
-const BLOCK_SECTORS: u32 = 8;
-
-/// One of the sectors of a block.
-fn sector_of(block: &[u8], at: usize) -> [u8; 512]
-    requires { 512 * at + 512 ≤ length block.now }
-    ensures { result ≡ take 512 (drop (512 * at) block.now) }
-{
-    let from = SECTOR_BYTES * at;
-    let mut sector = [0; SECTOR_BYTES];
-    sector.copy_from_slice(&block[from..from + SECTOR_BYTES]);
-    sector
-}
-
-/// Writes a block to the eight sectors from one on.
+/// Writes a block to the eight sectors from one on, by one call of the device.
 pub(crate) fn write_block<D: Device>(
     device: &mut D,
     sector: u32,
@@ -52,10 +37,7 @@ pub(crate) fn write_block<D: Device>(
     ensures same_size { (D.medium device.new).size ≡ (D.medium device.old).size }
     ensures same_lasting { (D.medium device.new).lasting ≡ (D.medium device.old).lasting }
 {
-    for i in 0..BLOCK_SECTORS {
-        let bytes = sector_of(block, i as usize);
-        device.write(sector + i, &bytes)?;
-    }
+    device.write_run(sector, block)?;
     Ok(())
 }
 

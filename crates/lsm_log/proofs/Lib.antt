@@ -1,8 +1,11 @@
 pub mod Cutting
 pub mod Epochs
 pub mod Gathering
+pub mod Laying
 pub mod Logs
 pub mod Longest
+pub mod RegionRuns
 pub mod Regions
 pub mod Replaying
+pub mod Taken
 pub mod Taking

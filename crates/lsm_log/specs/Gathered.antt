@@ -1,5 +1,5 @@
 -- How far a replay has come.
-use Rattle.std.specs.Prelude.{◌≡◌, ℕ, ◌+◌, Bool, true, false, List, [], ◌∷◌, ◌++◌, Some, None}
+use Rattle.std.specs.Prelude.{◌≡◌, ℕ, ◌+◌, Bool, true, false, List, [], ◌∷◌, ◌++◌, length, Some, None}
 use Rattle.lsm_log.specs.declared.gathered.Gathered.{Gathered}
 use Rattle.lsm_codec.specs.Map.{Operation}
 use Rattle.lsm_codec.specs.LogSectors.{part_of}
@@ -34,3 +34,9 @@ HasEnded false old new = (batch_of old.text.items ≡ None) × (new.batches.item
 abbrev pub HasTaken : {A : Type 0} → Bool → List ℕ → Gathered A → Gathered A → Type 0
 HasTaken true sector old new = (rest : List (List ℕ)) → (batches_with new rest ≡ batches_with old (sector ∷ rest)) × (awaited_in old (sector ∷ rest) ≡ 1 + awaited_in new rest)
 HasTaken false sector old new = (rest : List (List ℕ)) → new.batches.items ≡ batches_with old (sector ∷ rest)
+
+-- Whether sectors one after the other were all awaited. If so, they are read; if not, the replay ends before one of them, whatever
+-- follows.
+abbrev pub HaveTaken : {A : Type 0} → Bool → List (List ℕ) → Gathered A → Gathered A → Type 0
+HaveTaken true sectors old new = (rest : List (List ℕ)) → (batches_with new rest ≡ batches_with old (sectors ++ rest)) × (awaited_in old (sectors ++ rest) ≡ length sectors + awaited_in new rest)
+HaveTaken false sectors old new = (rest : List (List ℕ)) → new.batches.items ≡ batches_with old (sectors ++ rest)

@@ -2,13 +2,13 @@
 ghost use Rattle.std.specs.Prelude.{◌≡◌, ◌⊎◌, ◌↔◌, ◌<◌, ◌≤◌, ◌^◌, ◌+◌, ◌-◌, ◌*◌, [], ◌∷◌, ◌++◌, List, ℕ, length, take, drop, true, IsTrue, OnOk, OnErr, IfErr, Err, is_ok};
 ghost use Rattle.lsm_codec.specs.BatchText.{IsBatch, sectors_of};
 ghost use Rattle.lsm_codec.specs.LogSectors.{log_sector};
-ghost use Rattle.lsm_device.specs.Calls.{AtMost, faults_after};
+ghost use Rattle.lsm_device.specs.Calls.{AtMost, WriteFaultsAmong, after_writes, faults_after};
 ghost use Rattle.lsm_device.specs.Disk.{seen};
 ghost use Rattle.lsm_device.specs.History.{EachSince};
 ghost use Rattle.lsm_device.specs.Medium.{disk};
 ghost use Rattle.lsm_device.specs.Outcomes.{Leaves};
 ghost use Rattle.lsm_device.specs.Refusals.{faultless};
-ghost use Rattle.lsm_device.specs.Runs.{run_at, grown, HasSomeOf};
+ghost use Rattle.lsm_device.specs.Runs.{run_at, grown, pieces, HasSomeOf};
 ghost use Rattle.lsm_log.specs.Batches.{IsBetween, batch_sectors};
 ghost use Rattle.lsm_log.specs.Opened.{IsOpen, IsGrownBy, TakesBatch, batches_in};
 
@@ -19,6 +19,13 @@ use std::alloc::Allocator;
 
 /// The bytes of a batch's text that a sector holds.
 const PAYLOAD: usize = 480;
+
+const SECTOR_BYTES: usize = 512;
+
+/// How many sectors one call of the device writes at most.
+const RUN_SECTORS: u16 = 16;
+
+const RUN_BYTES: usize = 8_192;
 
 /// How many sectors a batch takes, at most 128.
 fn sectors_of<A: Allocator>(batch: &Batch<A>) -> u32
@@ -82,7 +89,9 @@ impl Log {
         ensures err { OnErr result (self.new ≡ self.old) }
         ensures faults { (D.medium device.new).calls.faults ≡ faults_after (faultless result) (D.medium device.old).calls.faults }
 
-        // It writes at most its sectors, 128 or fewer, and neither reads nor syncs.
+        // Its sectors are written, 128 or fewer, and nothing else is asked of the device; of Io one of these writes is the cause.
+        ensures counted { OnOk result ((D.medium device.new).calls ≡ after_writes (sectors_of batch.now) (D.medium device.old).calls) }
+        ensures faulted { result ≡ Err Refusal.Io → WriteFaultsAmong (sectors_of batch.now) (D.medium device.old).calls (D.medium device.new).calls }
         ensures calls { AtMost 0 (sectors_of batch.now) 0 (D.medium device.old).calls (D.medium device.new).calls }
         ensures few { sectors_of batch.now ≤ 128 }
         ensures same_size { (D.medium device.new).size ≡ (D.medium device.old).size }
@@ -113,18 +122,71 @@ impl Log {
             (D.medium device.old).history (D.medium device.new).history }
         ensures whole { IsTrue (D.medium device.old).lasting.tells → OnOk result
             (disk (D.medium device.new) ≡ grown (run_at (self.now.start + self.now.used) (batch_sectors self.now.epoch self.now.next batch.now)) (disk (D.medium device.old))) }
-        ensures faults { (D.medium device.new).calls.faults ≡ faults_after (is_ok result) (D.medium device.old).calls.faults }
-        ensures last { OnErr result ((D.medium device.new).calls.last_faulted ≡ true) }
-        ensures calls { AtMost 0 parts 0 (D.medium device.old).calls (D.medium device.new).calls }
+        ensures counted { OnOk result ((D.medium device.new).calls ≡ after_writes parts (D.medium device.old).calls) }
+        ensures faulted { OnErr result (WriteFaultsAmong parts (D.medium device.old).calls (D.medium device.new).calls) }
         ensures same_size { (D.medium device.new).size ≡ (D.medium device.old).size }
         ensures same_lasting { (D.medium device.new).lasting ≡ (D.medium device.old).lasting }
     {
-        let text = batch.text();
-        for part in 0..parts {
-            let sector = self.sector_of_part(text, part, parts);
-            device.write(self.start + self.used + part as u32, &sector)?;
+        if parts == 1 {
+            let sector = self.sector_of_part(batch.text(), 0, 1);
+            device.write(self.start + self.used, &sector)?;
+            return Ok(());
+        }
+        self.write_runs(device, batch, parts)?;
+        Ok(())
+    }
+
+    // Writes the sectors of a batch as runs, each by one call of the device. A batch of one sector is spared the array.
+    fn write_runs<D: Device, A: Allocator>(
+        &self,
+        device: &mut D,
+        batch: &Batch<A>,
+        parts: u16,
+    ) -> Result<(), Fault>
+        requires count { parts ≡ sectors_of batch.now }
+        requires room { self.now.used + parts ≤ self.now.sectors }
+        requires within { self.now.start + self.now.sectors ≤ (D.medium device.old).size }
+        ensures moments { IsTrue (D.medium device.old).lasting.tells → EachSince
+            (HasSomeOf (disk (D.medium device.old)) (run_at (self.now.start + self.now.used) (batch_sectors self.now.epoch self.now.next batch.now)))
+            (D.medium device.old).history (D.medium device.new).history }
+        ensures whole { IsTrue (D.medium device.old).lasting.tells → OnOk result
+            (disk (D.medium device.new) ≡ grown (run_at (self.now.start + self.now.used) (batch_sectors self.now.epoch self.now.next batch.now)) (disk (D.medium device.old))) }
+        ensures counted { OnOk result ((D.medium device.new).calls ≡ after_writes parts (D.medium device.old).calls) }
+        ensures faulted { OnErr result (WriteFaultsAmong parts (D.medium device.old).calls (D.medium device.new).calls) }
+        ensures same_size { (D.medium device.new).size ≡ (D.medium device.old).size }
+        ensures same_lasting { (D.medium device.new).lasting ≡ (D.medium device.old).lasting }
+    {
+        let mut run = [0; RUN_BYTES];
+        for turn in 0..parts.div_ceil(RUN_SECTORS) {
+            let from = RUN_SECTORS * turn;
+            let count = (parts - from).min(RUN_SECTORS);
+            self.lay_parts(batch, from, count, parts, &mut run);
+            let at = self.start + self.used + from as u32;
+            device.write_run(at, &run[..SECTOR_BYTES * count as usize])?;
         }
         Ok(())
+    }
+
+    // Lays the sectors of some parts one behind the other.
+    fn lay_parts<A: Allocator>(
+        &self,
+        batch: &Batch<A>,
+        from: u16,
+        count: u16,
+        parts: u16,
+        run: &mut [u8; RUN_BYTES],
+    )
+        requires parts { parts ≡ sectors_of batch.now }
+        requires within { from + count ≤ parts }
+        requires few { count ≤ 16 }
+        ensures { pieces count run.new ≡ take count (drop from (batch_sectors self.now.epoch self.now.next batch.now)) }
+    {
+        let text = batch.text();
+        for i in 0..count {
+            let sector = self.sector_of_part(text, from + i, parts);
+            let at = SECTOR_BYTES * i as usize;
+            run[at..at + SECTOR_BYTES].copy_from_slice(&sector);
+        }
     }
 
     // The sector of one part of the next batch.

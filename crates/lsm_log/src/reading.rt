@@ -1,20 +1,28 @@
 // The batches of a region are read back.
-ghost use Rattle.std.specs.Prelude.{◌≡◌, ◌⊎◌, ◌<◌, ◌≤◌, ◌^◌, ◌+◌, List, ℕ, length, true, Some, slice_get, IsTrue, IfOk, OnOk, IfErr, option_map};
+ghost use Rattle.std.specs.Prelude.{◌≡◌, ◌⊎◌, ◌<◌, ◌≤◌, ◌^◌, ◌+◌, ◌/◌, List, ℕ, length, true, IsTrue, IfOk, OnOk, IfErr, option_map};
 ghost use Rattle.lsm_codec.specs.LogSectors.{lent_part};
 ghost use Rattle.lsm_device.specs.Areas.{area};
 ghost use Rattle.lsm_device.specs.Calls.{AtMost, faults_after};
 ghost use Rattle.lsm_device.specs.Disk.{seen};
 ghost use Rattle.lsm_device.specs.Medium.{disk};
 ghost use Rattle.lsm_device.specs.Refusals.{faultless};
-ghost use Rattle.lsm_log.specs.Gathered.{batches_with, awaited_in, HasEnded, HasTaken};
+ghost use Rattle.lsm_device.specs.Runs.{pieces};
+ghost use Rattle.lsm_log.specs.Gathered.{batches_with, awaited_in, HasEnded, HasTaken, HaveTaken};
 ghost use Rattle.lsm_log.specs.Longest.{IsLongest};
 ghost use Rattle.lsm_log.specs.Opened.{AreNumbers};
 ghost use Rattle.lsm_log.specs.Replay.{is_awaited as is_awaited_part, awaited, replay as replay_of};
 
 use crate::gathered::Gathered;
 use lsm_codec::{Batch, LogSector};
-use lsm_device::{Device, Refusal};
+use lsm_device::{Device, Refusal, piece};
 use std::alloc::{AllocError, Allocator};
+
+const SECTOR_BYTES: usize = 512;
+
+/// How many sectors one call of the device reads at most.
+const RUN_SECTORS: u32 = 16;
+
+const RUN_BYTES: usize = 8_192;
 
 impl<A: Allocator + Clone> Gathered<A> {
     fn is_awaited(&self, sector: &LogSector) -> bool
@@ -81,26 +89,22 @@ impl<A: Allocator + Clone> Gathered<A> {
         Ok(true)
     }
 
-    // Reads a sector, and takes it if it is the awaited one.
-    fn read<D: Device>(&mut self, alloc: &A, device: &mut D, at: u32) -> Result<bool, Refusal>
-        requires { at < (D.medium device.old).size }
-        ensures taken { IsTrue (D.medium device.old).lasting.tells → IfOk result (λ taken. (bytes : List ℕ)
-            × (slice_get (seen (disk (D.medium device.old))) at ≡ Some bytes) × HasTaken taken bytes self.old self.new) }
+    // Takes sectors one after the other, up to the first that is not the awaited one.
+    fn take_run(&mut self, alloc: &A, bytes: &[u8]) -> Result<bool, Refusal>
+        ensures taken { IfOk result (λ taken. HaveTaken taken (pieces (length bytes.now / 512) bytes.now) self.old self.new) }
         ensures same_first { self.new.first ≡ self.old.first }
-        ensures refused { IfErr result (λ refusal. (refusal ≡ Refusal.NoMemory)
-            ⊎ ((refusal ≡ Refusal.Io) × ((D.medium device.new).calls.last_faulted ≡ true))) }
-        ensures faults { (D.medium device.new).calls.faults ≡ faults_after (faultless result) (D.medium device.old).calls.faults }
-        ensures calls { AtMost 1 0 0 (D.medium device.old).calls (D.medium device.new).calls }
-        ensures unchanged { IsTrue (D.medium device.old).lasting.tells → (D.medium device.new).history ≡ (D.medium device.old).history }
-        ensures same_size { (D.medium device.new).size ≡ (D.medium device.old).size }
-        ensures same_lasting { (D.medium device.new).lasting ≡ (D.medium device.old).lasting }
+        ensures refused { IfErr result (λ refusal. refusal ≡ Refusal.NoMemory) }
     {
-        let mut bytes = [0; 512];
-        device.read(at, &mut bytes)?;
-        Ok(self.take(alloc, &bytes)?)
+        for i in 0..bytes.len() / SECTOR_BYTES {
+            if !self.take(alloc, &piece(bytes, i))? {
+                return Ok(false);
+            }
+        }
+        Ok(true)
     }
 
-    // Reads sectors from the first on, up to the first that is not the awaited one.
+    // Reads sectors from the first on, as many by a call as the device gives, sixteen at most, up to those with the first that
+    // is not the awaited one.
     fn read_region<D: Device>(
         &mut self,
         alloc: &A,
@@ -123,10 +127,15 @@ impl<A: Allocator + Clone> Gathered<A> {
         ensures same_size { (D.medium device.new).size ≡ (D.medium device.old).size }
         ensures same_lasting { (D.medium device.new).lasting ≡ (D.medium device.old).lasting }
     {
-        for at in start..start + sectors {
-            if !self.read(alloc, device, at)? {
+        let mut run = [0; RUN_BYTES];
+        let mut done = 0;
+        while done < sectors {
+            let size = SECTOR_BYTES * (sectors - done).min(RUN_SECTORS) as usize;
+            let read = device.read_some(start + done, &mut run[..size])?;
+            if !self.take_run(alloc, &run[..SECTOR_BYTES * read as usize])? {
                 return Ok(());
             }
+            done += read;
         }
         Ok(())
     }

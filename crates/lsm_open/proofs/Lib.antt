@@ -4,6 +4,7 @@ pub mod NextManifests
 pub mod ReplaySteps
 pub mod NextLayouts
 pub mod Zeroed
+pub mod Zeros
 pub mod EmptyStores
 pub mod OpeningRefusals
 pub mod HeldRegions

@@ -121,13 +121,14 @@ fn own_superblock<D: Device>(device: &mut D) -> Result<Superblock, Refusal>
     Ok(superblock)
 }
 
-// The bytes of sectors, one after the other.
+// The bytes of sectors, one after the other, read by one call of the device.
 fn read_text<A: Allocator + Clone, D: Device>(
     alloc: &A,
     device: &mut D,
     at: u32,
     sectors: u16,
 ) -> Result<Vec<u8, A>, Refusal>
+    requires some { 1 ≤ sectors }
     requires within { at + sectors ≤ (D.medium device.old).size }
     ensures bytes { IsTrue (D.medium device.old).lasting.tells → IfOk result (λ text.
         text.items ≡ joined (area at sectors (seen (disk (D.medium device.old))))) }
@@ -139,12 +140,8 @@ fn read_text<A: Allocator + Clone, D: Device>(
     ensures same_size { (D.medium device.new).size ≡ (D.medium device.old).size }
     ensures same_lasting { (D.medium device.new).lasting ≡ (D.medium device.old).lasting }
 {
-    let mut text = Vec::new(alloc.clone()?);
-    let mut sector = [0; 512];
-    for part in 0..sectors {
-        device.read(at + part as u32, &mut sector)?;
-        text.extend_from_slice(&sector)?;
-    }
+    let mut text = vec![in alloc.clone()?; 0; 512 * sectors as usize]?;
+    device.read_run(at, &mut text)?;
     Ok(text)
 }
 

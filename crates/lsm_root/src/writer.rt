@@ -1,14 +1,13 @@
 // The next root is written.
-ghost use Rattle.std.specs.Prelude.{◌≡◌, ◌≤◌, ◌+◌, ◌*◌, ◌%◌, length, take, drop, IsTrue, OnOk, OnErr, is_ok};
+ghost use Rattle.std.specs.Prelude.{◌≡◌, ◌≤◌, ◌+◌, ◌*◌, ◌%◌, length, IsTrue, OnOk, OnErr, is_ok};
 ghost use Rattle.lsm_device.specs.Calls.{faults_after, AtMost};
 ghost use Rattle.lsm_device.specs.Disk.{appended, synced};
 ghost use Rattle.lsm_device.specs.History.{EachSince};
 ghost use Rattle.lsm_device.specs.Medium.{disk};
-ghost use Rattle.lsm_device.specs.Runs.{run_at, grown, HasSomeOf};
+ghost use Rattle.lsm_device.specs.Runs.{run_at, grown, pieces, HasSomeOf};
 ghost use Rattle.lsm_root.specs.Counted.{CallsMade};
 ghost use Rattle.lsm_root.specs.Installed.{IsStage};
 ghost use Rattle.lsm_root.specs.Layout.{place};
-ghost use Rattle.lsm_root.specs.Pieces.{pieces};
 
 use lsm_device::{Device, Fault};
 
@@ -18,19 +17,10 @@ pub(crate) const AREA_SECTORS: u32 = 64;
 
 const SECTOR_BYTES: usize = 512;
 
-fn piece(text: &[u8], part: u16) -> [u8; 512]
-    requires { 512 * part + 512 ≤ length text.now }
-    ensures { result ≡ take 512 (drop (512 * part) text.now) }
-{
-    let from = SECTOR_BYTES * part as usize;
-    let mut sector = [0; 512];
-    sector.copy_from_slice(&text[from..from + SECTOR_BYTES]);
-    sector
-}
-
-// Writes the text, a sector for each 512 bytes.
+// Writes the text, a sector for each 512 bytes, by one call of the device.
 fn write_text<D: Device>(device: &mut D, at: u32, text: &[u8], parts: u16) -> Result<(), Fault>
     requires size { length text.now ≡ 512 * parts }
+    requires some { 1 ≤ parts }
     requires within { at + parts ≤ (D.medium device.old).size }
     ensures moments { IsTrue (D.medium device.old).lasting.tells → EachSince
         (HasSomeOf (disk (D.medium device.old)) (run_at at (pieces parts text.now)))
@@ -44,10 +34,8 @@ fn write_text<D: Device>(device: &mut D, at: u32, text: &[u8], parts: u16) -> Re
     ensures same_size { (D.medium device.new).size ≡ (D.medium device.old).size }
     ensures same_lasting { (D.medium device.new).lasting ≡ (D.medium device.old).lasting }
 {
-    for part in 0..parts {
-        let sector = piece(text, part);
-        device.write(at + part as u32, &sector)?;
-    }
+    prove!(text.len() == SECTOR_BYTES * parts as usize);
+    device.write_run(at, text)?;
     Ok(())
 }
 
@@ -60,6 +48,7 @@ pub(crate) fn switch<D: Device>(
     superblock: &[u8; 512],
 ) -> Result<(), Fault>
     requires size { length text.now ≡ 512 * parts }
+    requires some { 1 ≤ parts }
     requires few { parts ≤ 37 }
     requires large { 130 ≤ (D.medium device.old).size }
     ensures moments { IsTrue (D.medium device.old).lasting.tells → EachSince

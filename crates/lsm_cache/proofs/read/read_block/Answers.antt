@@ -1,32 +1,12 @@
-use Rattle.std.proofs.Common.{◌≡◌, ◌∙◌, length, ap, arith}
+use Rattle.std.proofs.Common.{◌≡◌, ℕ, subst}
+use Rattle.std.specs.List.{concat}
+use Rattle.lsm_device.specs.Areas.{area}
 use Rattle.lsm_device.specs.Disk.{seen}
 use Rattle.lsm_device.specs.Medium.{disk}
-use Rattle.lsm_cache.proofs.Blocks.{one_more_sector, all_sectors, length-put_mid_within}
-use Rattle.lsm_cache.proofs.Counts.{one_more_read, all_reads}
+use Rattle.lsm_device.proofs.Pieces.{count_of}
 use Rattle.lsm_cache.proofs.read.read_block.Goals as goal
-
-pub loop-i-preserved : goal.loop-i-preserved
-loop-i-preserved g c =
-    let D = g.D.Device in
-    let inv = c.loop-i.invariant in
-    let e = c.in_ok-read.ensures in
-    let got = c.copy_from_slice.ensures.after in
-    let size : length c.copy_from_slice.new.self ≡ 512 = ap length got ∙ c.read.array_long in
-    record {
-      same_size = e.same_size ∙ inv.same_size;
-      same_lasting = e.same_lasting ∙ inv.same_lasting;
-      unchanged = λ t. e.unchanged (rw inv.same_lasting t) ∙ inv.unchanged t;
-      counted = one_more_read c.loop-i.i _ _ _ e.counted inv.counted;
-      whole = length-put_mid_within c.loop-i.i c.loop-i.out c.copy_from_slice.new.self _ (omega arith) c.loop-i-test.true inv.whole size;
-      given = λ t. one_more_sector (seen (disk (D.medium c.args.device.now))) c.args.sector c.loop-i.i c.loop-i.out c.copy_from_slice.new.self _
-          c.loop-i-test.true inv.whole size (rw (got, ← inv.unchanged t) (e.bytes (rw inv.same_lasting t))) (inv.given t);
-    }
 
 pub returns-clause-given : goal.returns-clause-given
 returns-clause-given g c = λ t.
-    let D = g.D.Device in
-    let inv = c.loop-i.invariant in
-    all_sectors (seen (disk (D.medium c.args.device.now))) c.args.sector c.loop-i.i c.loop-i.out c.loop-i-test.false c.loop-i.auto.i-end inv.whole (inv.given t)
-
-pub returns-clause-counted : goal.returns-clause-counted
-returns-clause-counted g c = all_reads c.loop-i.i _ _ c.loop-i-test.false c.loop-i.auto.i-end c.loop-i.invariant.counted
+    let sectors = seen (disk (g.D.Device.medium c.args.device.now)) in
+    subst (λ (n : ℕ). c.read_run.new.out ≡ concat (area c.args.sector n sectors)) (count_of _ 8 c.told-out) (c.in_ok-read_run.ensures.bytes t)

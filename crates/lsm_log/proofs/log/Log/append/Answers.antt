@@ -1,4 +1,6 @@
-use Rattle.std.proofs.Common.{◌≡◌, ◌+◌, ◌≤◌, ap, arith, refl, rules, ℕ}
+use Rattle.std.proofs.Common.{◌≡◌, ◌+◌, ◌≤◌, ap, arith, refl, rules, subst, ℕ}
+use Rattle.lsm_device.specs.Calls.{AtMost, one_more}
+use Rattle.lsm_device.proofs.RunCounts.{writes_are, write_fault_is}
 use Rattle.lsm_codec.specs.BatchText.{sectors_of}
 use Rattle.lsm_log.proofs.Logs.{append_nothing, written_nothing, append_moments, append_written, append_open, append_reads}
 use Rattle.lsm_log.proofs.log.Log.append.Goals as goal
@@ -49,3 +51,21 @@ returns-then-room-parts-clause-faults g c = search rules
 
 pub returns-clause-takes : goal.returns-clause-takes
 returns-clause-takes g c = record { start = refl; sectors = refl; epoch = refl; first = refl; next = refl; used = ap (λ (n : ℕ). c.args.self.now.used + n) c.sectors_of-parts.ensures.value }
+
+pub returns-in_err-write_parts-clause-calls : goal.returns-in_err-write_parts-clause-calls
+returns-in_err-write_parts-clause-calls g c =
+    subst (λ (n : ℕ). AtMost 0 n 0 (g.D.Device.medium c.args.device.now).calls (g.D.Device.medium c.write_parts.new.device).calls) c.sectors_of-parts.ensures.value
+    (write_fault_is c.sectors_of-parts.result _ _ c.in_err-write_parts.ensures.faulted).at_most
+
+pub returns-in_err-write_parts-clause-faults : goal.returns-in_err-write_parts-clause-faults
+returns-in_err-write_parts-clause-faults g c =
+    let one : (g.D.Device.medium c.write_parts.new.device).calls.faults ≡ one_more (g.D.Device.medium c.args.device.now).calls.faults = (write_fault_is c.sectors_of-parts.result _ _ c.in_err-write_parts.ensures.faulted).one_fault in
+    search rules
+
+pub returns-clause-calls : goal.returns-clause-calls
+returns-clause-calls g c =
+    subst (λ (n : ℕ). AtMost 0 n 0 (g.D.Device.medium c.args.device.now).calls (g.D.Device.medium c.write_parts.new.device).calls) c.sectors_of-parts.ensures.value
+    (writes_are c.sectors_of-parts.result _ _ c.in_ok-write_parts.ensures.counted).at_most
+
+pub returns-clause-faults : goal.returns-clause-faults
+returns-clause-faults g c = (writes_are c.sectors_of-parts.result _ _ c.in_ok-write_parts.ensures.counted).no_fault
