@@ -42,4 +42,5 @@ pub mod ScanAsking
 pub mod ScanLaws
 pub mod ScanSources
 pub mod ScanViews
+pub mod PageLaws
 pub mod NamedBlocks
