@@ -6,6 +6,7 @@ pub mod Replacing
 pub mod Runs
 pub mod Surviving
 pub mod PickLaws
+pub mod LevelVersions
 pub mod Taking
 pub mod Moving
 pub mod Parts
