@@ -26,7 +26,8 @@ mod picks;
 mod places;
 #[cfg(test)]
 mod reads;
-pub mod scans;
+#[cfg(test)]
+mod scans;
 #[cfg(test)]
 mod subject;
 #[cfg(test)]

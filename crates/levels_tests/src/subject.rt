@@ -5,7 +5,6 @@ ghost use Rattle.std.specs.Arc.{arc_value};
 ghost use Rattle.std.specs.List.{AllByRecursion};
 ghost use Rattle.lsm_codec.specs.Versions.{IsEntry};
 
-use crate::scans::walk;
 use crate::tables::{add_run, copy, run_of};
 use lsm_cache::Cache;
 use lsm_codec::{Batch, Entry};
@@ -234,22 +233,6 @@ impl<A: Allocator + Clone> Subject<A> {
         )
     }
 
-    /// Whether a cursor over the newest run of level 0 stands at just these keys from a key on, one after the other.
-    pub fn walks(&mut self, from: &[u8], keys: &[u8]) -> Result<bool, Refusal> {
-        let Some(run) = self.levels.runs().first() else {
-            return Ok(false);
-        };
-        walk(
-            run,
-            &self.alloc,
-            AREA,
-            &mut self.cache,
-            &mut self.device,
-            from,
-            keys,
-        )
-    }
-
     /// How many sectors have been read.
     pub fn reads(&self) -> u64 {
         self.device.reads()
@@ -264,5 +247,12 @@ impl<A: Allocator + Clone> Subject<A> {
     pub fn spoil<R: Abort>(&mut self, rt: &R, block: u32) {
         let sector = AREA.wrapping_add(block.wrapping_mul(8));
         write_block(rt, &mut self.device, sector, &[0; 4_096]);
+    }
+
+    /// Writes ones to the last sector of a block of the tables, counted from the first one's.
+    pub fn scribble<R: Abort>(&mut self, rt: &R, block: u32) {
+        let sector = AREA.wrapping_add(block.wrapping_mul(8)).wrapping_add(7);
+        assert!(rt; sector < self.device.sectors());
+        self.device.write(sector, &[1; 512]).expect(rt, "a write");
     }
 }

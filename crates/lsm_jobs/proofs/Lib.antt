@@ -14,7 +14,7 @@ pub mod Noted
 pub mod ReadJobs
 pub mod StoredBlocks
 pub mod StoredRuns
-pub mod RunOrders
+pub mod StoredTakings
 pub mod StoredJobs
 pub mod Outcomes
 pub mod Installs

@@ -32,7 +32,7 @@ use Rattle.lsm_jobs.specs.Outputs.{IsTableOf, AreTablesOf, AreMadeOf}
 use Rattle.lsm_jobs.specs.Taking.{runs_of}
 use Rattle.lsm_jobs.specs.Outcomes.{SeesSome, ReplaceInputs, OutputsLaw}
 use Rattle.lsm_jobs.proofs.Accepted.{tables_of}
-use Rattle.lsm_jobs.proofs.RunOrders.{is_there}
+use Rattle.lsm_levels.proofs.RunOrders.{is_there}
 
 -- ---- versions in order, from the first to the last
 

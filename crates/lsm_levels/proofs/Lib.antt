@@ -6,6 +6,7 @@ pub mod Replacing
 pub mod Runs
 pub mod Surviving
 pub mod PickLaws
+pub mod LevelVersions
 pub mod Taking
 pub mod Moving
 pub mod Parts
@@ -42,4 +43,5 @@ pub mod ScanAsking
 pub mod ScanLaws
 pub mod ScanSources
 pub mod ScanViews
+pub mod PageLaws
 pub mod NamedBlocks

@@ -1,6 +1,6 @@
 -- The test of tables that lie within a device.
 use Rattle.std.proofs.Common.{◌≡◌, ◌↔◌, ℕ, Bool, true, false, ◌&&◌, List, [], ◌∷◌, ◌++◌, IsTrue, Decides, refl, ap, sym, ◌∙◌}
-use Rattle.std.specs.List.{AllByRecursion, list_all}
+use Rattle.std.specs.List.{list_all}
 use Rattle.std.proofs.lemmas.Bool.Decides.{Decides-like}
 use Rattle.lsm_codec.proofs.Limits.{at_most-Decides, each-Decides}
 use Rattle.lsm_levels.specs.Tables.{Table}
@@ -26,9 +26,3 @@ within_tested size area newer older r e =
     let whole : r ≡ list_all (list_all (is_within size area)) (newer ++ older) = e ∙ sym (all_both (list_all (is_within size area)) newer older) in
     let d = runs-Decides size area (newer ++ older) in
     (λ t. d.0 (sym whole ∙ t), λ all. whole ∙ d.1 all)
-
--- what is tested of a run is so
-pub run_within_tested : (size area : ℕ) (run : List Table) (r : Bool) → r ≡ list_all (is_within size area) run → IsTrue r ↔ AllByRecursion (LiesWithin size area) run
-run_within_tested size area run r e =
-    let d = each-Decides _ _ (within-Decides size area) run in
-    (λ t. d.0 (sym e ∙ t), λ all. e ∙ d.1 all)

@@ -18,4 +18,5 @@ pub mod Passing
 pub mod SourceCursors
 pub mod Queues
 pub mod Scans
+pub mod Pages
 pub mod NamedBlocks

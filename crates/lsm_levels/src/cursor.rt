@@ -62,7 +62,7 @@ fn entries_at<'b>(place: &EntryPlace, block: &'b [u8; 4_096]) -> Entries<'b>
 /// version out of them; blocks come through a cache. It keeps where the present entry lies, so that lending it reads nothing
 /// again. Contracts see what is left of its block, the present entry first, and the blocks to come.
 #[derive(Drop)]
-pub struct RunCursor<'a, A: Allocator = Global> {
+pub(crate) struct RunCursor<'a, A: Allocator = Global> {
     blocks: Blocks<'a, A>,
     bytes: Box<[u8; 4_096], A>,
     place: EntryPlace,
@@ -100,7 +100,7 @@ impl<'a, A: Allocator> RunCursor<'a, A> {
     }
 
     /// The version at which it stands, none where all are behind it.
-    pub fn current(&self) -> Option<VersionRef<'_>>
+    pub(crate) fn current(&self) -> Option<VersionRef<'_>>
         ensures { option_map shown result ≡ present self.now }
     {
         match &self.present {
@@ -215,7 +215,7 @@ impl<'a, A: Allocator> RunCursor<'a, A> {
     /// Goes on to the next version of the run, which is of the same key and older, or of a later key. It asks for a block
     /// where the one that it keeps has no more. It is refused with `Io` for a read that faulted, its last, and with
     /// `BadTable` where bytes of a block are no entry; then it is of no more use. It takes no memory.
-    pub fn advance<D: Device>(
+    pub(crate) fn advance<D: Device>(
         &mut self,
         cache: &mut Cache<A>,
         device: &mut D,
@@ -286,7 +286,7 @@ impl<'a, A: Allocator> RunCursor<'a, A> {
     /// asked for: the first that doesn't end before the key, as the indexes tell. It is refused with `Io` for a read that
     /// faulted, its last, and with `BadTable` where bytes of the block that come first are no entry, or none of its versions
     /// is of such a key.
-    pub fn seek<D: Device>(
+    pub(crate) fn seek<D: Device>(
         run: &'a Run<A>,
         alloc: A,
         area: u32,

@@ -26,7 +26,6 @@ mod table;
 mod view;
 mod within;
 
-pub use cursor::RunCursor;
 pub use law::{
     caches_stay_fresh, cursors_give_their_versions, flushes_keep_the_order, installs_move_tables,
     jobs_keep_their_tables, merges_leave_other_versions, picked_jobs_have_free_tables,

@@ -1,13 +1,10 @@
 //! A run: tables that lie apart, in the order of keys.
 
 ghost use Rattle.std.specs.Prelude.{◌≡◌, ◌↔◌, ◌&&◌, [], is_ok, if◌then◌else◌, filter, true, IsTrue};
-ghost use Rattle.std.specs.List.{AllByRecursion};
-ghost use Rattle.lsm_levels.specs.Stored.{LiesWithin};
 ghost use Rattle.lsm_levels.specs.Tables.{IsRun, KeyRange, at_most, is_before_first, meets, put_at};
 
 use crate::slices::{count_before, count_up_to, cut, meeting, splice};
 use crate::table::PlacedTable;
-use crate::within::is_run_within;
 use std::alloc::{AllocError, Allocator, Global};
 use std::marker::Model;
 
@@ -75,14 +72,6 @@ impl<A: Allocator> Run<A> {
         ensures run { IsRun self.now }
     {
         &self.tables
-    }
-
-    /// Whether the data blocks of each table lie within so many sectors, where the data area begins with the sector
-    /// `area`.
-    pub fn is_within(&self, sectors: u32, area: u32) -> bool
-        ensures { IsTrue result ↔ AllByRecursion (LiesWithin sectors area) self.now }
-    {
-        is_run_within(self, sectors, area)
     }
 
     /// The tables that meet the range from a key to another.

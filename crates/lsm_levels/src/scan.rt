@@ -1,12 +1,13 @@
 //! Pages of what many sources have, in the order of keys.
 
-ghost use Rattle.std.specs.Prelude.{◌≡◌, ◌⊎◌, ◌<◌, ◌+◌, ℕ, List, Option, Some, None, true, length, map, IfOk, IfErr, MatchResult};
+ghost use Rattle.std.specs.Prelude.{◌≡◌, ◌⊎◌, ◌<◌, ◌+◌, ℕ, List, Option, Some, None, Err, true, length, map, IfOk, IfErr, MatchResult};
 ghost use Rattle.lsm_device.specs.declared.refusal.Refusal.TheVariants.{Io, BadTable, NoMemory};
 ghost use Rattle.lsm_codec.specs.Versions.{Version};
 ghost use Rattle.lsm_mem.specs.Paging.{Page as MapPage};
 ghost use Rattle.lsm_cache.specs.declared.name.BlockName.{BlockName as Name};
 ghost use Rattle.lsm_levels.specs.Cursors.{present, refusal_of};
 ghost use Rattle.lsm_levels.specs.Sources.{head_at};
+ghost use Rattle.lsm_levels.specs.Pages.{EndsWith, Gathers, GoesOrEnds};
 ghost use Rattle.lsm_levels.specs.Scans.{Advances, AreEndingWithin, AreReady, AsksOn, AsksSome, CanGoOn, ComesTo, Goes, HasCome, Takes, blocks_to_come, steps_left};
 
 use crate::queue::{Queue, current_at};
@@ -61,6 +62,9 @@ fn step<D: Device, A: Allocator + Clone>(
     device: &mut D,
 ) -> Result<bool, Refusal>
     requires { CanGoOn (D.medium device.old).size builder.old sources.old queue.old }
+    ensures gathers { MatchResult result
+        (λ goes_on. GoesOrEnds (Gathers builder.old sources.old) (Gathers builder.new sources.new) builder.new goes_on (record { cache = cache.old; medium = D.medium device.old }) (record { cache = cache.new; medium = D.medium device.new }))
+        (λ refusal. Gathers builder.old sources.old (Err refusal) (record { cache = cache.old; medium = D.medium device.old }) (record { cache = cache.new; medium = D.medium device.new })) }
     ensures asks { AsksOn (blocks_to_come sources.old) (blocks_to_come sources.new) (refusal_of result)
         (record { cache = cache.old; medium = D.medium device.old }) (record { cache = cache.new; medium = D.medium device.new }) }
     ensures comes { (place : Name → Option ℕ) (sectors : List (List ℕ)) (page : MapPage)
@@ -93,6 +97,8 @@ pub(crate) fn gather<D: Device, A: Allocator + Clone>(
     device: &mut D,
 ) -> Result<(), Refusal>
     requires { CanGoOn (D.medium device.old).size builder.old sources.old queue.old }
+    ensures gathers { EndsWith (Gathers builder.old sources.old) (refusal_of result) builder.new
+        (record { cache = cache.old; medium = D.medium device.old }) (record { cache = cache.new; medium = D.medium device.new }) }
     ensures asks { AsksSome (blocks_to_come sources.old) (refusal_of result)
         (record { cache = cache.old; medium = D.medium device.old }) (record { cache = cache.new; medium = D.medium device.new }) }
     ensures comes { (place : Name → Option ℕ) (sectors : List (List ℕ)) (page : MapPage)
@@ -118,6 +124,8 @@ pub(crate) fn gather_all<D: Device, A: Allocator + Clone>(
 ) -> Result<(), Refusal>
     requires going { builder.old.next ≡ None }
     requires ready { AreReady (D.medium device.old).size sources.old }
+    ensures gathers { EndsWith (Gathers builder.old sources.old) (refusal_of result) builder.new
+        (record { cache = cache.old; medium = D.medium device.old }) (record { cache = cache.new; medium = D.medium device.new }) }
     ensures asks { AsksSome (blocks_to_come sources.old) (refusal_of result)
         (record { cache = cache.old; medium = D.medium device.old }) (record { cache = cache.new; medium = D.medium device.new }) }
     ensures comes { (place : Name → Option ℕ) (sectors : List (List ℕ)) (page : MapPage)

@@ -4,11 +4,13 @@ ghost use Rattle.std.specs.Prelude.{◌≡◌, ◌⊎◌, ◌++◌, ◌∷◌, [
 ghost use Rattle.std.specs.List.{AllByRecursion};
 ghost use Rattle.lsm_device.specs.declared.refusal.Refusal.TheVariants.{Io, BadTable, NoMemory};
 ghost use Rattle.lsm_codec.specs.Versions.{Version};
+ghost use Rattle.lsm_mem.specs.Gathering.{Gathering};
 ghost use Rattle.lsm_mem.specs.Ranges.{from_key};
 ghost use Rattle.lsm_cache.specs.declared.name.BlockName.{BlockName as Name};
-ghost use Rattle.lsm_levels.specs.Tables.{IsRun, versions_of};
+ghost use Rattle.lsm_levels.specs.Tables.{IsRun, Table, versions_of};
 ghost use Rattle.lsm_levels.specs.Stored.{AreWithin, AreStored, ArePlaced, LiesWithin, IsStored, IsPlaced};
 ghost use Rattle.lsm_levels.specs.Cursors.{Shows, blocks_from_key, refusal_of};
+ghost use Rattle.lsm_levels.specs.Pages.{GathersRuns, GoesOver};
 ghost use Rattle.lsm_levels.specs.Scans.{AllGive, AreReady, AsksOn, blocks_of_runs, blocks_to_come};
 ghost use Rattle.lsm_levels.specs.declared.placed.PlacedBlock.{PlacedBlock};
 
@@ -31,6 +33,8 @@ fn seek_run<'a, D: Device, A: Allocator + Clone>(
 ) -> Result<(), Refusal>
     requires within { AllByRecursion (LiesWithin (D.medium device.old).size area) run.now }
     requires ready { AreReady (D.medium device.old).size sources.old.items }
+    ensures gathers { (g : Gathering) (behind : List (List Table)) → GoesOver (GathersRuns g area from.now (run.now ∷ behind) sources.old.items) (GathersRuns g area from.now behind sources.new.items) (refusal_of result)
+        (record { cache = cache.old; medium = D.medium device.old }) (record { cache = cache.new; medium = D.medium device.new }) }
     ensures asks { (behind : List (List PlacedBlock)) → AsksOn (blocks_to_come sources.old.items ++ blocks_from_key area from.now run.now ∷ behind) (blocks_to_come sources.new.items ++ behind) (refusal_of result)
         (record { cache = cache.old; medium = D.medium device.old }) (record { cache = cache.new; medium = D.medium device.new }) }
     ensures gives { (place : Name → Option ℕ) (sectors : List (List ℕ)) (lefts : List (List Version)) → IsRun run.now → AllByRecursion (IsStored sectors area) run.now → AllByRecursion (IsPlaced place area) run.now
@@ -59,6 +63,8 @@ pub(crate) fn seek_runs<'a, D: Device, A: Allocator + Clone>(
 ) -> Result<(), Refusal>
     requires within { AreWithin (D.medium device.old).size area runs.now }
     requires ready { AreReady (D.medium device.old).size sources.old.items }
+    ensures gathers { (g : Gathering) (behind : List (List Table)) → GoesOver (GathersRuns g area from.now (runs.now ++ behind) sources.old.items) (GathersRuns g area from.now behind sources.new.items) (refusal_of result)
+        (record { cache = cache.old; medium = D.medium device.old }) (record { cache = cache.new; medium = D.medium device.new }) }
     ensures asks { (behind : List (List PlacedBlock)) → AsksOn (blocks_to_come sources.old.items ++ (blocks_of_runs area from.now runs.now ++ behind)) (blocks_to_come sources.new.items ++ behind) (refusal_of result)
         (record { cache = cache.old; medium = D.medium device.old }) (record { cache = cache.new; medium = D.medium device.new }) }
     ensures gives { (place : Name → Option ℕ) (sectors : List (List ℕ)) (lefts : List (List Version)) → AllByRecursion IsRun runs.now → AreStored sectors area runs.now → ArePlaced place area runs.now

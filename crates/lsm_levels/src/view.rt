@@ -1,6 +1,6 @@
 //! What is read of a store.
 
-ghost use Rattle.std.specs.Prelude.{◌≡◌, ◌⊎◌, ◌↔◌, ◌*◌, ℕ, true, is_some, [], length, map, Option, Some, None, IsTrue, IfOk, IfErr, OnOk, MatchResult, option_map};
+ghost use Rattle.std.specs.Prelude.{◌≡◌, ◌⊎◌, ◌↔◌, ◌*◌, ℕ, true, is_some, [], length, map, Option, Some, None, Err, IsTrue, IfOk, IfErr, OnOk, MatchResult, option_map};
 ghost use Rattle.std.specs.List.{AllByRecursion};
 ghost use Rattle.std.specs.Option.{option_or};
 ghost use Rattle.std.specs.FinMap as finite;
@@ -14,7 +14,7 @@ ghost use Rattle.lsm_codec.specs.Versions.{AreOrdered, newest};
 ghost use Rattle.lsm_mem.specs.Versions.{map_of};
 ghost use Rattle.lsm_mem.specs.Ranges.{from_key, newest_each};
 ghost use Rattle.lsm_mem.specs.Paging.{page_of};
-ghost use Rattle.lsm_mem.specs.Gathering.{gathering};
+ghost use Rattle.lsm_mem.specs.Gathering.{Gathering, gathering};
 ghost use Rattle.lsm_codec.specs.Keys.{Bytes};
 ghost use Rattle.lsm_merge.specs.Inputs.{joined};
 ghost use Rattle.lsm_cache.specs.declared.name.BlockName.{BlockName as Name};
@@ -23,6 +23,7 @@ ghost use Rattle.lsm_levels.specs.Levels.{places};
 ghost use Rattle.lsm_levels.specs.Orders.{IsVersionOrder};
 ghost use Rattle.lsm_levels.specs.Stored.{AreWithin, AreNumberedBelow, ArePlaced, IsReadable};
 ghost use Rattle.lsm_levels.specs.Cursors.{refusal_of};
+ghost use Rattle.lsm_levels.specs.Pages.{EndsWith, Gathers, GathersRuns, GoesOver, IsScan, cursors_of};
 ghost use Rattle.lsm_levels.specs.Scans.{AreReady, AsksOn, AsksSome, ComesTo, HasCome, ScansRuns, blocks_of_runs, blocks_to_come, memory_places};
 ghost use Rattle.lsm_levels.specs.SourceCursors.{cursor_of_versions};
 ghost use Rattle.lsm_levels.specs.Lookups.{IsLookUp, answer_of, sealed_versions, versions_at};
@@ -193,6 +194,11 @@ impl<'a, A: Allocator + Clone> ReadView<'a, A> {
         at: u64,
     ) -> Result<Vec<SourceCursor<'a, A>, A>, Refusal>
         requires { AreWithin (D.medium device.old).size self.now.area (places self.now.levels.now) }
+        ensures gathers { (g : Gathering) → MatchResult result
+            (λ sources. GoesOver (GathersRuns g self.now.area from.now (places self.now.levels.now) (cursors_of from.now at (memory_places self.now.mem.now self.now.sealed))) (Gathers g sources.items) None
+            (record { cache = cache.old; medium = D.medium device.old }) (record { cache = cache.new; medium = D.medium device.new }))
+            (λ refusal. GathersRuns g self.now.area from.now (places self.now.levels.now) (cursors_of from.now at (memory_places self.now.mem.now self.now.sealed)) (Err refusal)
+            (record { cache = cache.old; medium = D.medium device.old }) (record { cache = cache.new; medium = D.medium device.new })) }
         ensures asks { MatchResult result
             (λ sources. AsksOn (blocks_of_runs self.now.area from.now (places self.now.levels.now)) (blocks_to_come sources.items) None
             (record { cache = cache.old; medium = D.medium device.old }) (record { cache = cache.new; medium = D.medium device.new }))
@@ -228,6 +234,8 @@ impl<'a, A: Allocator + Clone> ReadView<'a, A> {
     ) -> Result<(), Refusal>
         requires within { AreWithin (D.medium device.old).size self.now.area (places self.now.levels.now) }
         requires going { builder.old.next ≡ None }
+        ensures gathers { EndsWith (GathersRuns builder.old self.now.area from.now (places self.now.levels.now) (cursors_of from.now at (memory_places self.now.mem.now self.now.sealed))) (refusal_of result) builder.new
+            (record { cache = cache.old; medium = D.medium device.old }) (record { cache = cache.new; medium = D.medium device.new }) }
         ensures asks { AsksSome (blocks_of_runs self.now.area from.now (places self.now.levels.now)) (refusal_of result)
             (record { cache = cache.old; medium = D.medium device.old }) (record { cache = cache.new; medium = D.medium device.new }) }
         ensures comes { (place : Name → Option ℕ) (to : Option Bytes) (limit : ℕ) → IsReadable place self.now.area (places self.now.levels.now) (record { cache = cache.old; medium = D.medium device.old })
@@ -262,6 +270,11 @@ impl<'a, A: Allocator + Clone> ReadView<'a, A> {
 
         // Which blocks are asked for, and what it comes to: reads alone, eight sectors a block at most.
         ensures asks { ScansRuns self.now.area range.entry.0.now (places self.now.levels.now) (refusal_of result)
+            (record { cache = cache.old; medium = D.medium device.old }) (record { cache = cache.new; medium = D.medium device.new }) }
+
+        // The page of what the blocks that it asks for have, whatever that is; it is refused with `BadTable` just where bytes that
+        // are no entry come next in one.
+        ensures scans { IsScan self.now.mem.now (sealed_versions self.now.sealed) (places self.now.levels.now) self.now.area range.entry.0.now (option_map (λ to. to.now) range.entry.1) limit at result
             (record { cache = cache.old; medium = D.medium device.old }) (record { cache = cache.new; medium = D.medium device.new }) }
 
         // Where the tables stand, and the blocks of the cache are those of the device, the page is that of the map, unless a

@@ -15,7 +15,7 @@ fn is_within<A: Allocator>(table: &PlacedTable<A>, sectors: u32, area: u32) -> b
     area as u64 + 8 * (table.first_block() as u64 + blocks as u64) <= sectors as u64
 }
 
-pub(crate) fn is_run_within<A: Allocator>(run: &Run<A>, sectors: u32, area: u32) -> bool
+fn is_run_within<A: Allocator>(run: &Run<A>, sectors: u32, area: u32) -> bool
     ensures { result ≡ list_all (is_within sectors area) run.now }
 {
     run.tables()

@@ -24,7 +24,7 @@ use Rattle.lsm_jobs.specs.StoredJobs.{HasStored}
 use Rattle.lsm_jobs.specs.Taking.{runs_of, first_stage, given_job, slot_for, with_taken}
 use Rattle.lsm_jobs.proofs.Found.{found_there, found_number}
 use Rattle.lsm_jobs.proofs.KeptJobs.{given_taken, going_on_law, freeing_law}
-use Rattle.lsm_jobs.proofs.RunOrders.{stored_taking_law}
+use Rattle.lsm_jobs.proofs.StoredTakings.{stored_taking_law}
 use Rattle.lsm_codec.proofs.Lists.{all_left, all_right, all_append}
 use Rattle.lsm_open.specs.ToldTables.{IsOutlined}
 use Rattle.lsm_store.specs.Accounts.{extents_like, tables_like, outputs_in, AreAccounted}

@@ -11,7 +11,9 @@ use Rattle.lsm_levels.specs.Asking.{Source}
 use Rattle.lsm_levels.specs.Levels.{Levels, places}
 use Rattle.lsm_levels.specs.Lookups.{IsLookUp}
 use Rattle.lsm_levels.specs.NamedBlocks.{HaveNone, HasNoBlock}
+use Rattle.lsm_levels.specs.Pages.{IsScan}
 use Rattle.lsm_levels.specs.Scans.{ScansRuns}
+use Rattle.lsm_mem.specs.Paging.{Page}
 use Rattle.lsm_levels.specs.Stored.{ArePlaced}
 use Rattle.lsm_store.specs.Backing.{StoreView, data_start}
 use Rattle.lsm_store.specs.State.{count_at}
@@ -31,6 +33,12 @@ IsStoreLookUp old at key answer new = IsLookUp old.work.memory old.work.sealed (
 -- tables in turn, from the first on that doesn't end before the key, each once at most, and the device is read for no other.
 abbrev pub IsStoreScan : StoreView → Bytes → Option Refusal → StoreView → Type 0
 IsStoreScan old from refusal new = ScansRuns (data_start old) from (places old.work.levels) refusal (source_of old) (source_of new)
+
+-- The page of a scan of a store, at the count of batches that the read asks, or the refusal that ends it: just what memory, the
+-- sealed versions and the blocks of its tables have that it is given, whatever that is. Bytes that are no entry and come next in a
+-- block end it with BadTable.
+abbrev pub IsStorePage : StoreView → At → Bytes → Option Bytes → ℕ → Result Page Refusal → StoreView → Type 0
+IsStorePage old at from to limit answer new = IsScan old.work.memory old.work.sealed (places old.work.levels) (data_start old) from to limit (count_at old.state at) answer (source_of old) (source_of new)
 
 -- The device is read alone, so many sectors at most, and a read faulted just where it isn't told that all went well. Of tables
 -- that have their places the cache goes on to have what the device has, and no blocks of others come into it.

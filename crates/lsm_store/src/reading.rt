@@ -9,6 +9,7 @@ ghost use Rattle.lsm_levels.specs.Cursors.{refusal_of};
 ghost use Rattle.lsm_levels.specs.Levels.{places};
 ghost use Rattle.lsm_levels.specs.Lookups.{IsLookUp, answer_of, sealed_versions as sealed_of};
 ghost use Rattle.lsm_levels.specs.Orders.{IsVersionOrder};
+ghost use Rattle.lsm_levels.specs.Pages.{IsScan};
 ghost use Rattle.lsm_levels.specs.Scans.{ScansRuns, blocks_in, blocks_of_runs};
 ghost use Rattle.lsm_levels.specs.Stored.{AreWithin, IsReadable};
 ghost use Rattle.lsm_mem.specs.Paging.{page_of};
@@ -80,6 +81,8 @@ pub(crate) fn page<D: Device, A: Allocator + Clone>(
         → MatchResult result
         (λ page. page ≡ page_of (map_of (versions_in (work_of memory.now)) count) range.entry.0.now (option_map (λ to. to.now) range.entry.1) limit)
         (λ refusal. (refusal ≡ Io) ⊎ (refusal ≡ NoMemory)) }
+    ensures pages { IsScan memory.now.mem (work_of memory.now).sealed (places memory.now.levels) (first_data memory.now.regions.log_sectors) range.entry.0.now (option_map (λ to. to.now) range.entry.1) limit count result
+        (record { cache = cache.old; medium = D.medium device.old }) (record { cache = cache.new; medium = D.medium device.new }) }
     ensures scans { ScansRuns (first_data memory.now.regions.log_sectors) range.entry.0.now (places memory.now.levels) (refusal_of result)
         (record { cache = cache.old; medium = D.medium device.old }) (record { cache = cache.new; medium = D.medium device.new }) }
     ensures reads { ReadsThrough (8 * blocks_in (blocks_of_runs (first_data memory.now.regions.log_sectors) range.entry.0.now (places memory.now.levels))) (first_data memory.now.regions.log_sectors) memory.now.levels (faultless result)

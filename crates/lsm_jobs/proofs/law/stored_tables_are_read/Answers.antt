@@ -1,4 +1,4 @@
-use Rattle.lsm_jobs.proofs.RunOrders.{stored_taking_law}
+use Rattle.lsm_jobs.proofs.StoredTakings.{stored_taking_law}
 use Rattle.lsm_jobs.proofs.StoredJobs.{stored_reading_law, never_bad_law}
 use Rattle.lsm_jobs.proofs.law.stored_tables_are_read.Goals as goal
 

@@ -1,4 +1,4 @@
-use Rattle.std.proofs.Common.{Ok, Err, Some, refl, sym, subst, ◌++◌, ◌∷◌, [], ◌≡◌, ℕ}
+use Rattle.std.proofs.Common.{inl, Ok, Err, Some, refl, sym, subst, ◌++◌, ◌∷◌, [], ◌≡◌, ℕ}
 use Rattle.std.proofs.lemmas.Result.{err_from_is_err_and}
 use Rattle.lsm_device.specs.declared.refusal.Refusal.TheVariants.{NoMemory}
 use Rattle.lsm_levels.specs.Asking.{Source}
@@ -6,6 +6,7 @@ use Rattle.lsm_levels.specs.Scans.{AreReady}
 use Rattle.lsm_levels.specs.Cursors.{blocks_from_key}
 use Rattle.lsm_levels.proofs.ScanAsking.{asks_nothing}
 use Rattle.lsm_levels.proofs.ScanSources.{with_one_more, gives_more, more_asking, none_asking, ready_more, run_gives, seek_refused, sought_fair}
+use Rattle.lsm_levels.proofs.PageLaws.{run_dropped, run_refused, run_sought}
 use Rattle.lsm_levels.proofs.sources.seek_run.Goals as goal
 
 pub returns-in_err-cursor-clause-asks : goal.returns-in_err-cursor-clause-asks
@@ -61,3 +62,28 @@ returns-clause-ready g c =
     subst (AreReady new.medium.size) (sym is)
     (ready_more new.medium.size cursors c.in_ok-cursor.cursor (subst (λ (n : ℕ). AreReady n cursors) (sym c.in_ok-cursor.ensures.asks.reads.same_size) c.requires.ready) c.in_ok-cursor.ensures.within
     (sought_fair c.args.from.now blocks c.in_ok-cursor.cursor old new c.in_ok-cursor.ensures.sought))
+
+pub returns-in_err-alloc-clause-gathers : goal.returns-in_err-alloc-clause-gathers
+returns-in_err-alloc-clause-gathers g c = λ gathering behind.
+    let p = err_from_is_err_and c.from_residual.result c.from_residual.ensures.1 in
+    rw (p.1, p.2) (inl (refl, refl))
+
+pub returns-in_err-cursor-clause-gathers : goal.returns-in_err-cursor-clause-gathers
+returns-in_err-cursor-clause-gathers g c = λ gathering behind.
+    let old : Source = record { cache = c.args.cache.now; medium = g.D.Device.medium c.args.device.now } in
+    let new : Source = record { cache = c.seek.new.cache; medium = g.D.Device.medium c.seek.new.device } in
+    let p = err_from_is_err_and c.from_residual-in_err-cursor.result c.from_residual-in_err-cursor.ensures.1 in
+    rw (p.1, p.2) (run_refused gathering c.args.area c.args.from.now c.args.run.now behind c.args.sources.now.items c.in_err-cursor.field-0.0 old new c.in_err-cursor.ensures.sought)
+
+pub returns-in_err-push-clause-gathers : goal.returns-in_err-push-clause-gathers
+returns-in_err-push-clause-gathers g c = λ gathering behind.
+    let old : Source = record { cache = c.args.cache.now; medium = g.D.Device.medium c.args.device.now } in
+    let new : Source = record { cache = c.seek.new.cache; medium = g.D.Device.medium c.seek.new.device } in
+    let p = err_from_is_err_and c.from_residual-in_err-push.result c.from_residual-in_err-push.ensures.1 in
+    rw (p.1, p.2) (run_dropped gathering c.args.area c.args.from.now c.args.run.now behind c.args.sources.now.items c.in_ok-cursor.cursor old new c.in_ok-cursor.ensures.sought)
+
+pub returns-clause-gathers : goal.returns-clause-gathers
+returns-clause-gathers g c = λ gathering behind.
+    let old : Source = record { cache = c.args.cache.now; medium = g.D.Device.medium c.args.device.now } in
+    let new : Source = record { cache = c.seek.new.cache; medium = g.D.Device.medium c.seek.new.device } in
+    run_sought gathering c.args.area c.args.from.now c.args.run.now behind c.args.sources.now.items c.push.new.self.items c.in_ok-cursor.cursor old new (with_one_more c.push.new.self.items c.args.sources.now.items c.of_run.result c.in_ok-cursor.cursor c.in_ok-push.ensures.items c.of_run.ensures) c.in_ok-cursor.ensures.sought

@@ -9,6 +9,7 @@ use Rattle.lsm_levels.specs.Cursors.{refusal_of}
 use Rattle.lsm_levels.specs.Levels.{Levels, places}
 use Rattle.lsm_levels.specs.Lookups.{versions_at, sealed_versions as sealed_of}
 use Rattle.lsm_levels.specs.Orders.{IsVersionOrder}
+use Rattle.lsm_levels.specs.Pages.{IsScan}
 use Rattle.lsm_levels.specs.Scans.{ScansRuns, blocks_in, blocks_of_runs}
 use Rattle.lsm_levels.specs.Stored.{AreWithin, IsReadable}
 use Rattle.lsm_merge.specs.Inputs.{joined}
@@ -49,6 +50,17 @@ returns-clause-scans g c =
     let from = c.args.range.0.now in
     subst (λ (a : ℕ). ScansRuns a from (places c.args.memory.now.levels) (refusal_of c.scan.result) old new) e.area
     (subst (λ (l : Levels). ScansRuns v.area from (places l) (refusal_of c.scan.result) old new) e.levels c.scan.ensures.asks)
+
+pub returns-clause-pages : goal.returns-clause-pages
+returns-clause-pages g c =
+    let v = c.view_of-view.result in
+    let e = c.view_of-view.ensures in
+    let old : Source = record { cache = c.args.cache.now; medium = g.D.Device.medium c.args.device.now } in
+    let new : Source = record { cache = c.scan.new.cache; medium = g.D.Device.medium c.scan.new.device } in
+    let from = c.args.range.0.now in
+    let to = option_map (λ to. to.now) c.args.range.1 in
+    same_parts (λ (p : Parts). IsScan p.memory p.sealed (places p.levels) p.area from to c.args.limit c.args.count c.scan.result old new)
+    v.mem.now _ (sealed_of v.sealed) _ v.levels.now _ v.area _ e.memory e.sealed e.levels e.area c.scan.ensures.scans
 
 pub returns-clause-reads : goal.returns-clause-reads
 returns-clause-reads g c =

@@ -1,4 +1,4 @@
-use Rattle.std.proofs.Common.{List, None, Some, sym, subst}
+use Rattle.std.proofs.Common.{List, None, Some, Ok, Err, sym, subst}
 use Rattle.std.proofs.lemmas.Result.{err_from_is_err_and}
 use Rattle.lsm_device.specs.Disk.{seen}
 use Rattle.lsm_device.specs.Medium.{disk}
@@ -11,6 +11,7 @@ use Rattle.lsm_levels.specs.Lookups.{sealed_versions, versions_at}
 use Rattle.lsm_levels.specs.Asking.{Source}
 use Rattle.lsm_levels.specs.Cursors.{Cursor}
 use Rattle.lsm_levels.specs.Scans.{AreReady, AsksSome, ComesTo, blocks_to_come}
+use Rattle.lsm_levels.specs.Pages.{EndsWith, Gathers}
 use Rattle.lsm_levels.proofs.view.ReadView.fill.Goals as goal
 
 pub returns-in_err-sources-clause-asks : goal.returns-in_err-sources-clause-asks
@@ -74,3 +75,23 @@ returns-clause-comes g c = λ place to limit readable order is.
     let comes = subst (λ (cs : List Cursor). ComesTo place S page c.args.builder.now cs b) (sym c.deref_mut.ensures.value)
     (subst (λ (x : Gathering). ComesTo place S page x c.in_ok-sources.sources.items b) (sym is) (c.in_ok-sources.ensures.comes place readable order to limit)) in
     c.in_ok-gather_all.ensures.comes place S page comes
+
+pub returns-in_err-sources-clause-gathers : goal.returns-in_err-sources-clause-gathers
+returns-in_err-sources-clause-gathers g c =
+    let p = err_from_is_err_and c.from_residual.result c.from_residual.ensures.1 in
+    rw (p.1, p.2) (c.in_err-sources.ensures.gathers c.args.builder.now)
+
+pub returns-in_err-gather_all-clause-gathers : goal.returns-in_err-gather_all-clause-gathers
+returns-in_err-gather_all-clause-gathers g c =
+    let b : Source = record { cache = c.sources.new.cache; medium = g.D.Device.medium c.sources.new.device } in
+    let d : Source = record { cache = c.gather_all.new.cache; medium = g.D.Device.medium c.gather_all.new.device } in
+    let p = err_from_is_err_and c.from_residual-in_err-gather_all.result c.from_residual-in_err-gather_all.ensures.1 in
+    rw (p.1, p.2) (c.in_ok-sources.ensures.gathers c.args.builder.now (Err c.in_err-gather_all.field-0.0) d
+    (subst (λ (cs : List Cursor). Gathers c.args.builder.now cs (Err c.in_err-gather_all.field-0.0) b d) c.deref_mut.ensures.value c.in_err-gather_all.ensures.gathers))
+
+pub returns-clause-gathers : goal.returns-clause-gathers
+returns-clause-gathers g c = λ page is.
+    let b : Source = record { cache = c.sources.new.cache; medium = g.D.Device.medium c.sources.new.device } in
+    let d : Source = record { cache = c.gather_all.new.cache; medium = g.D.Device.medium c.gather_all.new.device } in
+    c.in_ok-sources.ensures.gathers c.args.builder.now (Ok page) d
+    (subst (λ (cs : List Cursor). EndsWith (Gathers c.args.builder.now cs) None c.gather_all.new.builder b d) c.deref_mut.ensures.value c.in_ok-gather_all.ensures.gathers page is)

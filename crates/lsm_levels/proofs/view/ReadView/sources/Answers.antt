@@ -10,9 +10,11 @@ use Rattle.lsm_levels.specs.Stored.{AreWithin, LiesWithin}
 use Rattle.lsm_levels.specs.Levels.{places}
 use Rattle.lsm_levels.specs.Asking.{Source}
 use Rattle.lsm_levels.specs.Cursors.{Cursor, Shows}
-use Rattle.lsm_levels.specs.Scans.{AllGive, AreReady}
+use Rattle.lsm_levels.specs.Scans.{AllGive, AreReady, memory_places}
 use Rattle.lsm_levels.proofs.Parts.{all_append, all_left, all_right}
 use Rattle.lsm_levels.proofs.ScanViews.{memory_ready, newer_do, older_do, view_given, view_comes, view_newer_refused, view_older_refused, view_sought}
+use Rattle.lsm_levels.specs.Pages.{cursors_of}
+use Rattle.lsm_levels.proofs.PageLaws.{all_go, newer_fail, no_memory_for, older_fail}
 use Rattle.lsm_levels.proofs.view.ReadView.sources.Goals as goal
 
 pub seek_runs-requires-clause-within : goal.seek_runs-requires-clause-within
@@ -97,3 +99,42 @@ returns-clause-comes g c = λ place readable order to limit.
     let two = older_do place sectors v.area c.args.from.now c.args.at v.mem.now v.sealed v.levels.now c.in_ok-sources.sources.items c.runs-runs.result.now c.deeper-older.result.now c.in_ok-sources.ensures.left c.runs-runs.ensures.same c.deeper-older.ensures.same all readable.stored readable.placed c.seek_runs.new.sources.items b one (λ lefts. AllGive place sectors (lefts ++ map (λ (run : List Table). from_key c.args.from.now (versions_of run)) c.deeper-older.result.now) c.seek_runs-2.new.sources.items × Shows place sectors d) (c.in_ok-seek_runs-2.ensures.gives place sectors) in
     view_comes place sectors v.area c.args.at limit c.args.from.now to v.mem.now v.sealed (places v.levels.now) c.seek_runs-2.new.sources.items d c.in_ok-sources.ensures.ordered all readable.stored order
     (view_given place sectors v.area c.args.from.now c.args.at v.mem.now v.sealed v.levels.now c.in_ok-sources.sources.items c.runs-runs.result.now c.deeper-older.result.now c.in_ok-sources.ensures.left c.runs-runs.ensures.same c.deeper-older.ensures.same all readable.stored readable.placed c.seek_runs-2.new.sources.items two.0) two.1
+
+pub returns-in_err-sources-clause-gathers : goal.returns-in_err-sources-clause-gathers
+returns-in_err-sources-clause-gathers g c = λ gathering.
+    let v = c.args.self.now in
+    let front : List Cursor = cursors_of c.args.from.now c.args.at (memory_places v.mem.now v.sealed) in
+    let a : Source = record { cache = c.args.cache.now; medium = g.D.Device.medium c.args.device.now } in
+    let p = err_from_is_err_and c.from_residual.result c.from_residual.ensures.1 in
+    rw (p.1, p.2) (no_memory_for gathering v.area c.args.from.now (places v.levels.now) front a)
+
+pub returns-in_err-seek_runs-clause-gathers : goal.returns-in_err-seek_runs-clause-gathers
+returns-in_err-seek_runs-clause-gathers g c = λ gathering.
+    let v = c.args.self.now in
+    let front : List Cursor = cursors_of c.args.from.now c.args.at (memory_places v.mem.now v.sealed) in
+    let a : Source = record { cache = c.args.cache.now; medium = g.D.Device.medium c.args.device.now } in
+    let b : Source = record { cache = c.seek_runs.new.cache; medium = g.D.Device.medium c.seek_runs.new.device } in
+    let p = err_from_is_err_and c.from_residual-in_err-seek_runs.result c.from_residual-in_err-seek_runs.ensures.1 in
+    rw (p.1, p.2) (newer_fail v.area c.args.from.now v.levels.now front c.in_ok-sources.sources.items c.runs-runs.result.now v.levels.now.deeper c.in_ok-sources.ensures.left c.runs-runs.ensures.same refl gathering
+    c.seek_runs.new.sources.items c.in_err-seek_runs.field-0.0 a b c.in_err-seek_runs.ensures.gathers)
+
+pub returns-in_err-seek_runs-2-clause-gathers : goal.returns-in_err-seek_runs-2-clause-gathers
+returns-in_err-seek_runs-2-clause-gathers g c = λ gathering.
+    let v = c.args.self.now in
+    let front : List Cursor = cursors_of c.args.from.now c.args.at (memory_places v.mem.now v.sealed) in
+    let a : Source = record { cache = c.args.cache.now; medium = g.D.Device.medium c.args.device.now } in
+    let b : Source = record { cache = c.seek_runs.new.cache; medium = g.D.Device.medium c.seek_runs.new.device } in
+    let d : Source = record { cache = c.seek_runs-2.new.cache; medium = g.D.Device.medium c.seek_runs-2.new.device } in
+    let p = err_from_is_err_and c.from_residual-in_err-seek_runs-2.result c.from_residual-in_err-seek_runs-2.ensures.1 in
+    rw (p.1, p.2) (older_fail v.area c.args.from.now v.levels.now front c.in_ok-sources.sources.items c.runs-runs.result.now c.deeper-older.result.now c.in_ok-sources.ensures.left c.runs-runs.ensures.same c.deeper-older.ensures.same gathering
+    c.seek_runs.new.sources.items c.seek_runs-2.new.sources.items c.in_err-seek_runs-2.field-0.0 a b d c.in_ok-seek_runs.ensures.gathers c.in_err-seek_runs-2.ensures.gathers)
+
+pub returns-clause-gathers : goal.returns-clause-gathers
+returns-clause-gathers g c = λ gathering.
+    let v = c.args.self.now in
+    let front : List Cursor = cursors_of c.args.from.now c.args.at (memory_places v.mem.now v.sealed) in
+    let a : Source = record { cache = c.args.cache.now; medium = g.D.Device.medium c.args.device.now } in
+    let b : Source = record { cache = c.seek_runs.new.cache; medium = g.D.Device.medium c.seek_runs.new.device } in
+    let d : Source = record { cache = c.seek_runs-2.new.cache; medium = g.D.Device.medium c.seek_runs-2.new.device } in
+    all_go v.area c.args.from.now v.levels.now front c.in_ok-sources.sources.items c.runs-runs.result.now c.deeper-older.result.now c.in_ok-sources.ensures.left c.runs-runs.ensures.same c.deeper-older.ensures.same gathering
+    c.seek_runs.new.sources.items c.seek_runs-2.new.sources.items a b d c.in_ok-seek_runs.ensures.gathers c.in_ok-seek_runs-2.ensures.gathers
