@@ -1,12 +1,12 @@
 -- Blocks that are read one after the other.
-use Rattle.std.proofs.Common.{◌≡◌, ℕ, zero, suc, ◌+◌, ◌-◌, ◌*◌, ◌<◌, ◌≤◌, Bool, true, false, List, [], ◌∷◌, ◌++◌, take, drop, get_or, refl, sym, ap, subst, ◌∙◌, arith}
+use Rattle.std.proofs.Common.{◌≡◌, ℕ, zero, suc, ◌+◌, ◌-◌, ◌*◌, ◌<◌, ◌≤◌, Bool, true, false, List, [], ◌∷◌, ◌++◌, take, drop, get_or, refl, sym, ap, ◌∙◌, arith}
 use Rattle.std.specs.List.{flat_map, concat}
 use Rattle.std.proofs.lemmas.Grind.{flat_map-append}
 use Rattle.std.proofs.lemmas.List.{drop-drop, drop-take, take-take, append-nil}
 use Rattle.lsm_cache.specs.Reads.{block_at, after_reads, FaultsAmong}
 use Rattle.lsm_cache.proofs.Counts.{reads_are, fault_is, one_fault, faults_made}
 use Rattle.lsm_device.specs.Areas.{area}
-use Rattle.lsm_device.specs.Calls.{AtMost, faults_after}
+use Rattle.lsm_device.specs.Calls.{faults_after}
 use Rattle.lsm_device.specs.Medium.{Medium}
 use Rattle.lsm_device.specs.declared.calls.Calls.{Calls}
 use Rattle.lsm_device.proofs.Counting.{none_made, AtMost-joined}
@@ -53,12 +53,6 @@ reads_then i n m ok a b c room first then_ = record {
   stops = then_.stops;
   only_reads = more_reads a b c first.only_reads then_.only_reads;
 }
-
--- each of so many tables has seven blocks, of eight sectors
-pub calls_of_tables : (tables : ℕ) (ok : Bool) (old new : Medium) → ReadsBlocks (7 * tables) ok old new → AtMost (56 * tables) 0 0 old.calls new.calls
-calls_of_tables tables ok old new reads =
-    let sectors : 8 * (7 * tables) ≡ 56 * tables = omega arith in
-    subst (λ (k : ℕ). AtMost k 0 0 old.calls new.calls) sectors reads.calls
 
 -- ---- blocks from a sector on
 

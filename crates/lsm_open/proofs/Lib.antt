@@ -40,4 +40,5 @@ pub mod StandingLevels
 pub mod ReadPlaces
 pub mod TableOpenings
 pub mod TableReads
+pub mod OpeningReads
 pub mod TableMoments

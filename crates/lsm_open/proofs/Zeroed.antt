@@ -1,6 +1,7 @@
 -- What stands on a device whose first sectors were zeroed.
-use Rattle.std.proofs.Common.{◌≡◌, ◌≤◌, ◌<◌, ℕ, ◌+◌, ◌*◌, List, [], ◌∷◌, ◌++◌, length, take, drop, replicate, refl, sym, ◌∙◌, ap, subst, arith, append_assoc, lit≤}
-use Rattle.std.proofs.lemmas.List.{length-replicate, get_or-replicate, get_or_append_left, replicate-append-replicate, drop_at, take_at}
+use Rattle.std.proofs.Common.{◌≡◌, ◌≢◌, ◌⊎◌, inl, inr, ⊎_elim, ◌≤◌, ◌<◌, ℕ, ◌+◌, ◌*◌, List, [], ◌∷◌, ◌++◌, length, drop, replicate, refl, sym, ◌∙◌, ap, subst, arith, lit≤}
+use Rattle.std.proofs.lemmas.Bool.{cases_lt}
+use Rattle.std.proofs.lemmas.List.{length-replicate, get_or-replicate, get_or_append_left}
 use Rattle.std.proofs.lemmas.List.Elements.{All-nil}
 use Rattle.lsm_codec.specs.Formats.{blank}
 use Rattle.lsm_codec.specs.Manifests.{IsManifest, IsLogRecord, sector_count}
@@ -13,9 +14,16 @@ use Rattle.lsm_device.proofs.Moments.{now_is}
 use Rattle.lsm_device.proofs.Outcomes.{seen-grown}
 use Rattle.lsm_device.proofs.Runs.{run_more, run_whole, written-run_at}
 use Rattle.lsm_root.specs.Roots.{Reading, Blank, reading_of, in_slot, newer, sector_at, superblock_in, Stands}
-use Rattle.lsm_root.specs.Installed.{IsNext, IsReady, IsInstalled}
+use Rattle.lsm_root.specs.Installed.{IsNext, IsReady, IsInstalled, KeepsOthers}
 use Rattle.lsm_root.proofs.Readings.{zeros}
 use Rattle.lsm_open.specs.Formatted.{empty_manifest, IsFormatted}
+
+pub empty_takes_one : sector_count empty_manifest ≡ 1
+empty_takes_one = omega (arith, length-manifest_text empty_manifest)
+
+-- where no sector of an empty manifest is
+outside : (at : ℕ) → at ≢ 66 → (at < 66) ⊎ (66 + sector_count empty_manifest ≤ at)
+outside at first = ⊎_elim (λ (low : at < 66). inl low) (λ (high : 66 ≤ at). inr (omega (arith, empty_takes_one, high, first))) (cases_lt at 66)
 
 -- one sector more
 pub zero_more : (old mid new : List Disk) (count at : ℕ) (bytes : List ℕ) → bytes ≡ blank → at < count → Reached old mid (run_at 0 (replicate count blank)) at
@@ -58,20 +66,13 @@ module _ (size n : ℕ) (d : Disk) (on : IsDisk size d) (fits : n ≤ size) wher
     next = subst (IsNext size log 1) (sym (blank_superblocks some)) refl;
   }
 
-  regions_are : (k : ℕ) → n ≡ 130 + k → take k (drop 130 (seen (zeroed n d))) ≡ replicate k blank
-  regions_are k is =
-      let parts : replicate n blank ≡ replicate 130 blank ++ replicate k blank = ap (λ (m : ℕ). replicate m blank) is ∙ sym (replicate-append-replicate 130 k blank) in
-      let all : seen (zeroed n d) ≡ replicate 130 blank ++ (replicate k blank ++ drop n (seen d)) = front_is ∙ ap (λ (l : List (List ℕ)). l ++ drop n (seen d)) parts ∙ append_assoc (replicate 130 blank) (replicate k blank) (drop n (seen d)) in
-      ap (λ (l : List (List ℕ)). take k (drop 130 l)) all
-      ∙ ap (λ (l : List (List ℕ)). take k l) (drop_at (replicate 130 blank) (replicate k blank ++ drop n (seen d)) 130 (length-replicate 130 blank))
-      ∙ take_at (replicate k blank) (drop n (seen d)) k (length-replicate k blank)
-
   -- with an empty manifest it is an empty store
-  pub is_formatted : (log : ℕ) (e : Disk) → n ≡ 130 + 3 * log → IsInstalled (synced (grown (run_at 0 (replicate n blank)) d)) (Stands log empty_manifest) e → IsFormatted log e
-  is_formatted log e is installed = record {
+  pub is_formatted : (log : ℕ) (e : Disk) → n ≡ 130 + 3 * log → IsInstalled (synced (grown (run_at 0 (replicate n blank)) d)) (Stands log empty_manifest) e
+      → KeepsOthers empty_manifest (seen (synced (grown (run_at 0 (replicate n blank)) d))) e.stands → IsFormatted log e
+  is_formatted log e is installed others = record {
     settled = installed.settled;
     root = installed.stands.root;
-    regions = ap (λ (l : List (List ℕ)). take (3 * log) l) installed.stands.all ∙ regions_are (3 * log) is;
+    zeros = λ at lt slot first. others at slot (outside at first) ∙ sector_is at (omega (arith, is, lt));
   }
 
 pub empty_is_manifest : IsManifest empty_manifest
@@ -80,6 +81,3 @@ empty_is_manifest = record {
   logs = record { each = All-nil (IsLogRecord 1); agree = tt; begins = tt };
   tables = no_tables_fit 1 0 1 [];
 }
-
-pub empty_takes_one : sector_count empty_manifest ≡ 1
-empty_takes_one = omega (arith, length-manifest_text empty_manifest)

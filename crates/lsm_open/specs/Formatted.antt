@@ -1,21 +1,22 @@
 -- What a format leaves, and how it answers.
-use Rattle.std.specs.Prelude.{◌≡◌, ℕ, ◌*◌, [], replicate, Result, Ok, Err}
+use Rattle.std.specs.Prelude.{◌≡◌, ◌≢◌, ◌<◌, ℕ, [], Result, Ok, Err}
 use Rattle.lsm_codec.specs.Formats.{blank}
 use Rattle.lsm_codec.specs.Manifests.{Contents}
-use Rattle.lsm_device.specs.Areas.{area}
 use Rattle.lsm_device.specs.Disk.{Disk}
 use Rattle.lsm_device.specs.declared.refusal.Refusal.{Refusal}
-use Rattle.lsm_root.specs.Roots.{Stands, root_of}
+use Rattle.lsm_open.specs.Tables.{first_data}
+use Rattle.lsm_root.specs.Roots.{Stands, sector_at, root_of}
 
 -- the manifest of an empty store
 abbrev pub empty_manifest : Contents
 empty_manifest = record { generation = 1; base = 0; next_table = 1; runs = 0; logs = []; tables = [] }
 
--- nothing pends, the root of an empty store stands, and the three log regions are zeros
+-- Nothing pends, the root of an empty store stands, and before the data area all is zeros but for the sectors that it stands
+-- in: 1 has its superblock, and 66 its manifest.
 pub record IsFormatted (log : ℕ) (d : Disk) : Type 0 where
   pub settled : d.pending ≡ []
   pub root : root_of d.stands ≡ Stands log empty_manifest
-  pub regions : area 130 (3 * log) d.stands ≡ replicate (3 * log) blank
+  pub zeros : (at : ℕ) → at < first_data log → at ≢ 1 → at ≢ 66 → sector_at d.stands at ≡ blank
 
 -- the device that an answer hands back
 abbrev pub handed_back : {D : Type 0} → Result D (Refusal × D) → D

@@ -1,10 +1,11 @@
 -- What an opening has read before it writes.
-use Rattle.std.specs.Prelude.{◌≡◌, ◌≢◌, ◌↔◌, ℕ, ◌+◌, Bool, false, IsTrue, List, [], length, Option, Some, None}
+use Rattle.std.specs.Prelude.{◌≡◌, ◌≢◌, ◌↔◌, ℕ, ◌+◌, ◌*◌, Bool, false, IsTrue, List, [], length, Option, Some, None}
 use Rattle.std.specs.List.{AllByRecursion}
 use Rattle.lsm_codec.specs.Geometry.{data_blocks_of}
 use Rattle.lsm_codec.specs.Manifests.{Contents, IsManifest}
 use Rattle.lsm_codec.specs.Versions.{Version, IsEntry, AreOrdered}
 use Rattle.lsm_codec.specs.declared.log_record.LogRecord.{LogRecord}
+use Rattle.lsm_codec.specs.declared.table_record.TableRecord.{TableRecord}
 use Rattle.lsm_device.specs.Calls.{AtMost, faults_after}
 use Rattle.lsm_device.specs.Medium.{Medium}
 use Rattle.lsm_extent.specs.Area.{Area}
@@ -19,10 +20,20 @@ use Rattle.lsm_open.specs.LogRegions.{all_batches}
 use Rattle.lsm_open.specs.RecoveredTables.{sealed_versions}
 use Rattle.lsm_open.specs.Reopening.{kept_records, HasCome}
 use Rattle.lsm_open.specs.Tables.{first_data, AreTables}
-use Rattle.lsm_open.specs.ToldTables.{told_levels, AreOutlined, HaveNamed, Held, AreThose}
+use Rattle.lsm_open.specs.ToldTables.{told_levels, blocks_beside_data, AreOutlined, HaveNamed, Held, AreThose}
 use Rattle.lsm_root.specs.Installed.{IsNext}
 use Rattle.lsm_root.specs.Layout.{IsGeometry, LieInside}
-use Rattle.lsm_root.specs.Roots.{Stands, superblock_in, root_of}
+use Rattle.lsm_root.specs.Roots.{Root, Stands, superblock_in, root_of}
+
+-- how many sectors an opening reads at most of a store with these tables: its root, footer, index and filter of each table, and
+-- the log regions
+abbrev pub sectors_read : ℕ → List TableRecord → ℕ
+sectors_read log_sectors tables = 66 + 8 * blocks_beside_data tables + 3 * log_sectors
+
+-- and by the root of the device: nothing behind it where no manifest stands
+abbrev pub sectors_read_by : Root → ℕ
+sectors_read_by (Stands log_sectors m) = sectors_read log_sectors m.tables
+sectors_read_by other = 66
 
 -- What holds of the parts that were read, whatever the device held: the manifest is within the limits and there is a next
 -- generation, its regions were replayed to the end, memory is sealed where a region is kept, and levels and extents are

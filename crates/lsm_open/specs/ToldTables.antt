@@ -135,9 +135,14 @@ abbrev pub AreRunsRead : ℕ → Bool → List (List ℕ) → Contents → ℕ �
 AreRunsRead log_sectors tells sectors m k [] = Unit {0}
 AreRunsRead log_sectors tells sectors m k (tables ∷ rest) = IsRunRead log_sectors tells sectors m k tables × AreRunsRead log_sectors tells sectors m (suc k) rest
 
--- how many tables are in the runs from a place on
-abbrev pub tables_from : Contents → ℕ → ℕ
-tables_from m k = length (filter (λ t. leb k (run_place m.runs t.run t.level)) m.tables)
+-- how many blocks these tables have beside data blocks: filter, index and footer of each
+abbrev pub blocks_beside_data : List TableRecord → ℕ
+blocks_beside_data [] = 0
+blocks_beside_data (t ∷ rest) = (t.index_blocks + 2) + blocks_beside_data rest
+
+-- and those in the runs from a place on
+abbrev pub beside_data_from : Contents → ℕ → ℕ
+beside_data_from m k = blocks_beside_data (filter (λ t. leb k (run_place m.runs t.run t.level)) m.tables)
 
 -- ---- extents
 

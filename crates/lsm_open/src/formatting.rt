@@ -123,8 +123,8 @@ fn make_empty<A: Allocator + Clone, D: Device>(
     Ok(())
 }
 
-/// Makes the device an empty store of generation 1, with log regions of so many sectors: zeroes its superblocks,
-/// manifests and log regions, and installs an empty manifest. Whatever stood there before doesn't matter.
+/// Makes the device an empty store of generation 1, with log regions of so many sectors: zeroes all sectors of its
+/// superblocks, manifests and log regions, and installs an empty manifest. Whatever stood there before is gone.
 ///
 /// `BadGeometry`, before any device call, just where the device hasn't 8,192 to 1,048,576 sectors or a log region
 /// hasn't 128 to 2,048; then `NoMemory`, also before any device call; and `Io` where a device call failed. A refusal hands

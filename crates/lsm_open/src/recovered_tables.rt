@@ -15,9 +15,10 @@ ghost use Rattle.lsm_open.specs.Image.{StandFor};
 ghost use Rattle.lsm_open.specs.Layout.{layout_of};
 ghost use Rattle.lsm_open.specs.OpeningTables.{table_refusal};
 ghost use Rattle.lsm_open.specs.Placements.{contents_for};
-ghost use Rattle.lsm_open.specs.ReadParts.{AreRead, AreToldBy, ReadsAtMost};
+ghost use Rattle.lsm_open.specs.ReadParts.{sectors_read, sectors_read_by, AreRead, AreToldBy, ReadsAtMost};
 ghost use Rattle.lsm_open.specs.RecoveredTables.{placed_in, sealed_versions, IsReopenedWithTables, IsRecoveredWithTables, AreWithinLimits, IsTableOpeningRefusal, BeginsTablesWithSync, HasWritten, StandForOne, CrashesWithTables, FailsWithTables};
 ghost use Rattle.lsm_root.specs.Layout.{IsDeviceSize};
+ghost use Rattle.lsm_root.specs.Roots.{root_of};
 
 use crate::formatting::is_device_size;
 use crate::regions::Regions;
@@ -142,6 +143,9 @@ fn read_parts<A: Allocator + Clone, D: Device>(
     ensures fair { (log_sectors : ℕ) (left : CrashState) → IsTrue (D.medium device.old).lasting.tells → StandFor log_sectors left (seen (disk (D.medium device.old)))
         → IfErr result (MayRefuseOpening left) }
     ensures refused { IfErr result IsTableOpeningRefusal }
+    ensures reads { MatchResult result
+        (λ r. AtMost (sectors_read r.loaded.log_sectors r.loaded.manifest.tables) 0 0 (D.medium device.old).calls (D.medium device.new).calls)
+        (λ e. IsTrue (D.medium device.old).lasting.tells → AtMost (sectors_read_by (root_of (seen (disk (D.medium device.old))))) 0 0 (D.medium device.old).calls (D.medium device.new).calls) }
     ensures device { ReadsAtMost 63554 (faultless result) (D.medium device.old) (D.medium device.new) }
 {
     let loaded = load(alloc.clone()?, device)?;
@@ -176,6 +180,9 @@ fn recover_tables_settled<A: Allocator + Clone, D: Device>(
     ensures unwritten { IfErr result (λ refusal. IsTrue (is_no_fault refusal) → AtMost 63554 0 0 (D.medium device.old).calls (D.medium device.new).calls) }
     ensures unchanged { IsTrue (D.medium device.old).lasting.tells → IfErr result (λ refusal. IsTrue (is_no_fault refusal) → (D.medium device.new).history ≡ (D.medium device.old).history) }
     ensures made { IfOk result (λ p. HasWritten (contents_for (placed_in (layout_of p.regions) p.levels p.records.items)) 2 (D.medium device.old).calls (D.medium device.new).calls) }
+    ensures reads { MatchResult result
+        (λ p. AtMost (sectors_read p.regions.log_sectors p.records.items) 38 2 (D.medium device.old).calls (D.medium device.new).calls)
+        (λ e. IsTrue (D.medium device.old).lasting.tells → AtMost (sectors_read_by (root_of (seen (disk (D.medium device.old))))) 38 2 (D.medium device.old).calls (D.medium device.new).calls) }
     ensures calls { AtMost 63554 38 2 (D.medium device.old).calls (D.medium device.new).calls }
     ensures faults { (D.medium device.new).calls.faults ≡ faults_after (faultless result) (D.medium device.old).calls.faults }
     ensures stops { IfErr result (λ refusal. refusal ≡ Refusal.Io → IsTrue (D.medium device.new).calls.last_faulted) }
@@ -241,6 +248,9 @@ fn recover_table_parts<A: Allocator + Clone, D: Device>(
         → Becomes (synced (disk (D.medium device.old))) (D.medium device.old).history (D.medium device.new).history) }
     ensures begins { IsDeviceSize (D.medium device.old).size → BeginsTablesWithSync (D.medium device.old).calls (D.medium device.new).calls }
     ensures made { IfOk result (λ p. HasWritten (contents_for (placed_in (layout_of p.regions) p.levels p.records.items)) 3 (D.medium device.old).calls (D.medium device.new).calls) }
+    ensures reads { MatchResult result
+        (λ p. AtMost (sectors_read p.regions.log_sectors p.records.items) 38 3 (D.medium device.old).calls (D.medium device.new).calls)
+        (λ e. IsTrue (D.medium device.old).lasting.tells → AtMost (sectors_read_by (root_of (seen (disk (D.medium device.old))))) 38 3 (D.medium device.old).calls (D.medium device.new).calls) }
     ensures calls { AtMost 63554 38 3 (D.medium device.old).calls (D.medium device.new).calls }
     ensures faults { (D.medium device.new).calls.faults ≡ faults_after (faultless result) (D.medium device.old).calls.faults }
     ensures stops { IfErr result (λ refusal. refusal ≡ Refusal.Io → IsTrue (D.medium device.new).calls.last_faulted) }
@@ -268,7 +278,9 @@ pub fn recover_with_tables<A: Allocator + Clone, D: Device>(
     alloc: A,
     device: D,
 ) -> Result<RecoveredTables<D, A>, (Refusal, D)>
-    ensures size { (IsDeviceSize (D.medium device).size → ⊥) → result ≡ Err (Refusal.BadGeometry, device) }
+    // Just where the size is outside the limits it is refused with BadGeometry before any device call, and then nothing else is
+    // answered, NoMemory neither.
+    ensures size { (result ≡ Err (Refusal.BadGeometry, device)) ↔ (IsDeviceSize (D.medium device).size → ⊥) }
 
     // Of any sectors it answers Ok only where no refusal holds, and an Err is the one that holds, or want of memory, or a
     // fault.
@@ -309,6 +321,12 @@ pub fn recover_with_tables<A: Allocator + Clone, D: Device>(
         (λ r. (D.medium r.device).calls.faults ≡ (D.medium device).calls.faults)
         (λ e. (D.medium e.1).calls.faults ≡ faults_after (is_no_fault e.0) (D.medium device).calls.faults) }
     ensures stops { IfErr result (λ e. e.0 ≡ Refusal.Io → IsTrue (D.medium e.1).calls.last_faulted) }
+
+    // Of the tables it reads no data block: at most so much is read as the root, footer, index and filter of each, and the log
+    // regions are. After Ok these are the tables of any device; an Err is so of one that tells what it holds.
+    ensures reads { MatchResult result
+        (λ r. AtMost (sectors_read r.regions.log_sectors r.records.items) 38 3 (D.medium device).calls (D.medium r.device).calls)
+        (λ e. IsTrue (D.medium device).lasting.tells → AtMost (sectors_read_by (root_of (seen (disk (D.medium device))))) 38 3 (D.medium device).calls (D.medium e.1).calls) }
     ensures calls { MatchResult result
         (λ r. AtMost 63554 38 3 (D.medium device).calls (D.medium r.device).calls)
         (λ e. AtMost 63554 38 3 (D.medium device).calls (D.medium e.1).calls) }

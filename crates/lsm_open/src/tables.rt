@@ -15,7 +15,7 @@ ghost use Rattle.lsm_levels.specs.Held.{AreRuns};
 ghost use Rattle.lsm_levels.specs.Levels.{places};
 ghost use Rattle.lsm_levels.specs.Stored.{AreWithin, AreNumberedBelow, blocks_from};
 ghost use Rattle.lsm_open.specs.Tables.{first_data, blocks_at, AreTables};
-ghost use Rattle.lsm_open.specs.ToldTables.{told_with, told_tables, told_run, told_levels, run_place, run_records, tables_from, IsRefusedFor, IsTableRefusal, IsReadable, IsNamedBy, AreOutlined, AreNamedBy, IsRunRead, AreRunsRead, HaveNamed, Held, AreThose, ReadsBlocks};
+ghost use Rattle.lsm_open.specs.ToldTables.{told_with, told_tables, told_run, told_levels, run_place, run_records, blocks_beside_data, beside_data_from, IsRefusedFor, IsTableRefusal, IsReadable, IsNamedBy, AreOutlined, AreNamedBy, IsRunRead, AreRunsRead, HaveNamed, Held, AreThose, ReadsBlocks};
 ghost use Rattle.lsm_root.specs.Layout.{IsGeometry, LieInside};
 ghost use Rattle.lsm_table.specs.Outlines.{outline_of};
 ghost use Rattle.lsm_table.specs.Stored.{outline_at};
@@ -93,7 +93,7 @@ fn read_described<A: Allocator + Clone, D: Device>(
     ensures given { IsTrue (D.medium device.old).lasting.tells → IfOk result (λ index.
         outline_of listed footer.new index.items filter.new ≡ outline_at listed (blocks_at log_sectors (seen (disk (D.medium device.old))) listed)) }
     ensures refused { IfErr result (λ refusal. (refusal ≡ Refusal.NoMemory) ⊎ (refusal ≡ Refusal.Io)) }
-    ensures device { ReadsBlocks 7 (faultless result) (D.medium device.old) (D.medium device.new) }
+    ensures device { ReadsBlocks (listed.index_blocks + 2) (faultless result) (D.medium device.old) (D.medium device.new) }
 {
     let area = data_area(log_sectors);
     let filter_at = listed.first_block + listed.data_blocks as u32;
@@ -119,7 +119,7 @@ fn read_table<A: Allocator + Clone, D: Device>(
         (IsRefusedFor (told_with versions log_sectors (seen (disk (D.medium device.old))) listed)) }
     ensures named { IfOk result (IsNamedBy listed) }
     ensures refused { IfErr result IsTableRefusal }
-    ensures device { ReadsBlocks 7 (faultless result) (D.medium device.old) (D.medium device.new) }
+    ensures device { ReadsBlocks (listed.index_blocks + 2) (faultless result) (D.medium device.old) (D.medium device.new) }
 {
     outline_law();
     let mut footer = [0; 4_096];
@@ -142,7 +142,7 @@ fn read_listed<A: Allocator + Clone, D: Device>(
         (IsRefusedFor (told_tables log_sectors (seen (disk (D.medium device.old))) listed.now)) }
     ensures named { IfOk result (λ tables. AreNamedBy listed.now tables.items) }
     ensures refused { IfErr result IsTableRefusal }
-    ensures device { ReadsBlocks (7 * length listed.now) (faultless result) (D.medium device.old) (D.medium device.new) }
+    ensures device { ReadsBlocks (blocks_beside_data listed.now) (faultless result) (D.medium device.old) (D.medium device.new) }
 {
     let mut tables = Vec::with_capacity(alloc.clone()?, listed.len())?;
     for table in listed {
@@ -205,7 +205,7 @@ fn read_run<A: Allocator + Clone, D: Device>(
     ensures read { IfOk result (IsRunRead log_sectors (D.medium device.old).lasting.tells (seen (disk (D.medium device.old))) manifest.now place) }
     ensures none { IsTrue (D.medium device.old).lasting.tells → IfErr result (IsRefusedFor (told_run log_sectors (seen (disk (D.medium device.old))) manifest.now place)) }
     ensures refused { IfErr result IsTableRefusal }
-    ensures device { ReadsBlocks (7 * length (run_records manifest.now place)) (faultless result) (D.medium device.old) (D.medium device.new) }
+    ensures device { ReadsBlocks (blocks_beside_data (run_records manifest.now place)) (faultless result) (D.medium device.old) (D.medium device.new) }
 {
     let listed = run_records(alloc.clone()?, manifest, place)?;
     let tables = read_listed(alloc, device, log_sectors, &listed)?;
@@ -229,7 +229,7 @@ fn read_deeper<A: Allocator + Clone, D: Device>(
     ensures read { IfOk result (λ levels. AreRunsRead log_sectors (D.medium device.old).lasting.tells (seen (disk (D.medium device.old))) manifest.now manifest.now.runs levels.deeper) }
     ensures none { IsTrue (D.medium device.old).lasting.tells → IfErr result (IsRefusedFor (told_levels log_sectors (seen (disk (D.medium device.old))) manifest.now)) }
     ensures refused { IfErr result IsTableRefusal }
-    ensures device { ReadsBlocks (7 * tables_from manifest.now manifest.now.runs) (faultless result) (D.medium device.old) (D.medium device.new) }
+    ensures device { ReadsBlocks (beside_data_from manifest.now manifest.now.runs) (faultless result) (D.medium device.old) (D.medium device.new) }
 {
     let runs = manifest.runs() as usize;
     let mut levels = Levels::new(alloc.clone()?)?;
@@ -259,7 +259,7 @@ fn read_newer<A: Allocator + Clone, D: Device>(
     ensures read { OnOk result (AreRunsRead log_sectors (D.medium device.old).lasting.tells (seen (disk (D.medium device.old))) manifest.now 0 (places levels.new)) }
     ensures none { IsTrue (D.medium device.old).lasting.tells → IfErr result (IsRefusedFor (told_levels log_sectors (seen (disk (D.medium device.old))) manifest.now)) }
     ensures refused { IfErr result IsTableRefusal }
-    ensures device { (reads : ℕ) × (reads + tables_from manifest.now manifest.now.runs ≤ length manifest.now.tables) × ReadsBlocks (7 * reads) (faultless result) (D.medium device.old) (D.medium device.new) }
+    ensures device { (reads : ℕ) × (reads + beside_data_from manifest.now manifest.now.runs ≤ blocks_beside_data manifest.now.tables) × ReadsBlocks reads (faultless result) (D.medium device.old) (D.medium device.new) }
 {
     let runs = manifest.runs() as usize;
     for done in 0..runs {
@@ -300,8 +300,8 @@ pub struct TablesRead<A: Allocator> {
 /// handed out.
 ///
 /// It is refused with `BadTable` where these are not those of the table that the record names, or where tables of a run are
-/// out of order; with `NoMemory`; and with `Io` where a read failed, which was its last. It writes nothing, and reads at most
-/// 56 sectors a table.
+/// out of order; with `NoMemory`; and with `Io` where a read failed, which was its last. It writes nothing, and reads each of
+/// these blocks once at most: 56 sectors a table at most.
 pub fn read_tables<A: Allocator + Clone, D: Device>(
     alloc: &A,
     device: &mut D,
@@ -334,7 +334,9 @@ pub fn read_tables<A: Allocator + Clone, D: Device>(
         (λ e. (e ≡ Refusal.NoMemory) ⊎ (e ≡ Refusal.Io)) }
     ensures refused { IfErr result IsTableRefusal }
 
-    // The device is read alone, and is refused with Io only for a read that faulted, its last.
+    // The device is read alone: at most so much as to read filter, index and footer of each table once. It is refused with Io
+    // only for a read that faulted, its last.
+    ensures reads { AtMost (8 * blocks_beside_data manifest.now.tables) 0 0 (D.medium device.old).calls (D.medium device.new).calls }
     ensures unchanged { IsTrue (D.medium device.old).lasting.tells → (D.medium device.new).history ≡ (D.medium device.old).history }
     ensures calls { AtMost (56 * length manifest.now.tables) 0 0 (D.medium device.old).calls (D.medium device.new).calls }
     ensures faults { (D.medium device.new).calls.faults ≡ faults_after (faultless result) (D.medium device.old).calls.faults }

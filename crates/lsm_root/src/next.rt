@@ -3,11 +3,12 @@ ghost use Rattle.std.specs.Prelude.{◌≡◌, ◌⊎◌, ◌↔◌, ◌<◌, �
 ghost use Rattle.lsm_codec.specs.Manifests.{IsManifest, sector_count};
 ghost use Rattle.lsm_device.specs.Calls.{faults_after, AtMost};
 ghost use Rattle.lsm_device.specs.History.{EachSince};
+ghost use Rattle.lsm_device.specs.Disk.{seen};
 ghost use Rattle.lsm_device.specs.Medium.{disk};
 ghost use Rattle.lsm_device.specs.Outcomes.{Leaves};
 ghost use Rattle.lsm_device.specs.Refusals.{faultless, is_no_fault};
 ghost use Rattle.lsm_root.specs.Counted.{CallsMade};
-ghost use Rattle.lsm_root.specs.Installed.{IsReady, IsOldOrNew, IsInstalled, KeepsBehind};
+ghost use Rattle.lsm_root.specs.Installed.{IsReady, IsOldOrNew, IsInstalled, KeepsBehind, KeepsOthers};
 ghost use Rattle.lsm_root.specs.Layout.{IsGeometry, LieInside};
 ghost use Rattle.lsm_root.specs.Roots.{Stands};
 
@@ -84,6 +85,10 @@ impl<A: Allocator> NextRoot<A> {
             (D.medium device.old).history (D.medium device.new).history }
         ensures installed { IsTrue (D.medium device.old).lasting.tells → IsReady (D.medium device.old).size self.now.log self.now.manifest.generation (disk (D.medium device.old)) → OnOk result
             (IsInstalled (disk (D.medium device.old)) (Stands self.now.log self.now.manifest) (disk (D.medium device.new))) }
+
+        // It writes its superblock and the sectors of its manifest alone.
+        ensures others { IsTrue (D.medium device.old).lasting.tells → OnOk result
+            (KeepsOthers self.now.manifest (seen (disk (D.medium device.old))) (disk (D.medium device.new)).stands) }
 
         // The next generation may be installed.
         ensures next { IsTrue (D.medium device.old).lasting.tells → IsReady (D.medium device.old).size self.now.log self.now.manifest.generation (disk (D.medium device.old)) → OnOk result

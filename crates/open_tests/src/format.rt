@@ -1,6 +1,8 @@
 //! Formats of devices in memory.
 
-use crate::devices::{SECTORS, crash, format_of, made, put_each, sector, sector_of, sync, zeros};
+use crate::devices::{
+    SECTORS, crash, format_of, made, put, put_each, sector, sector_of, sync, zeros,
+};
 use linked_list_allocator::LocalHeap;
 use lsm_device::{MemDevice, Refusal};
 use lsm_root::load;
@@ -14,16 +16,19 @@ const SUPERBLOCK: &str = "4c534d53000100000000000000010000200000800001";
 
 const MANIFEST: &str = "4c534d4d00000000000000010000000000000000000000000000000100000000";
 
-/// A device with ones in some sectors, of which two pend.
+/// A device with ones in each sector of superblocks, manifests and log regions, and in the first behind them. Two more writes
+/// of ones pend.
 fn worn<R: Abort>(rt: &R, alloc: Global) -> MemDevice {
     let mut device = zeros(rt, alloc, SECTORS);
-    put_each(rt, &mut device, &[0, 1, 2, 66, 130, 513, 514], &ONES);
+    for at in 0..515u32 {
+        put(rt, &mut device, at, &ONES);
+    }
     sync(rt, &mut device);
     put_each(rt, &mut device, &[0, 300], &ONES);
     device
 }
 
-/// Whether root and log regions are those of an empty store, and the sector behind them is as it was.
+/// Whether superblocks, manifests and log regions are those of an empty store, and the sector behind them is as it was.
 fn is_empty_store<R: Abort>(rt: &R, device: &mut MemDevice) -> bool {
     for at in 0..514u32 {
         let text = match at {

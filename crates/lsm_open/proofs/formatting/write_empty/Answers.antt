@@ -1,10 +1,12 @@
-use Rattle.std.proofs.Common.{◌≡◌, ◌+◌, ◌*◌, ◌∙◌, ℕ, ap, subst, sym, refl, arith}
+use Rattle.std.proofs.Common.{◌≡◌, ◌+◌, ◌*◌, ◌∙◌, ℕ, replicate, ap, subst, sym, refl, arith}
 use Rattle.lsm_codec.specs.Manifests.{sector_count}
-use Rattle.lsm_device.specs.Disk.{Disk}
+use Rattle.lsm_codec.specs.Formats.{blank}
+use Rattle.lsm_device.specs.Disk.{Disk, seen, synced}
 use Rattle.lsm_device.specs.Medium.{disk}
+use Rattle.lsm_device.specs.Runs.{run_at, grown}
 use Rattle.lsm_device.proofs.Counting.{AtMost-joined}
 use Rattle.lsm_root.specs.Counted.{CallsMade}
-use Rattle.lsm_root.specs.Installed.{IsReady, IsInstalled}
+use Rattle.lsm_root.specs.Installed.{IsReady, IsInstalled, KeepsOthers}
 use Rattle.lsm_root.specs.Planned.{Planned}
 use Rattle.lsm_root.specs.Roots.{Stands}
 use Rattle.lsm_root.proofs.Counting.{CallsMade-joined}
@@ -41,5 +43,8 @@ returns-clause-formatted g c = λ t.
     (subst (IsReady size c.args.log_sectors 1) (sym (c.in_ok-zero_front.ensures.zeroed t)) here)) in
     let installed : IsInstalled (disk (D.medium c.zero_front.new.device)) (Stands c.args.log_sectors empty_manifest) (disk (D.medium c.install.new.device)) =
     subst (λ (p : Planned). IsInstalled (disk (D.medium c.zero_front.new.device)) (Stands p.log p.manifest) (disk (D.medium c.install.new.device))) c.requires.root (c.in_ok-install.ensures.installed (rw c.zero_front.ensures.same_lasting t) ready) in
+    let others : KeepsOthers empty_manifest (seen (synced (grown (run_at 0 (replicate (130 + 3 * c.args.log_sectors) blank)) (disk (D.medium c.args.device.now))))) (disk (D.medium c.install.new.device)).stands =
+    subst (λ (d : Disk). KeepsOthers empty_manifest (seen d) (disk (D.medium c.install.new.device)).stands) (c.in_ok-zero_front.ensures.zeroed t)
+    (subst (λ (p : Planned). KeepsOthers p.manifest (seen (disk (D.medium c.zero_front.new.device))) (disk (D.medium c.install.new.device)).stands) c.requires.root (c.in_ok-install.ensures.others (rw c.zero_front.ensures.same_lasting t))) in
     is_formatted size (130 + 3 * c.args.log_sectors) (disk (D.medium c.args.device.now)) (g.met.D.Device.sound c.args.device.now t).now (omega (arith, c.requires.geometry.device.low, c.requires.geometry.log_high)) c.args.log_sectors (disk (D.medium c.install.new.device)) refl
-    (subst (λ (d : Disk). IsInstalled d (Stands c.args.log_sectors empty_manifest) (disk (D.medium c.install.new.device))) (c.in_ok-zero_front.ensures.zeroed t) installed)
+    (subst (λ (d : Disk). IsInstalled d (Stands c.args.log_sectors empty_manifest) (disk (D.medium c.install.new.device))) (c.in_ok-zero_front.ensures.zeroed t) installed) others

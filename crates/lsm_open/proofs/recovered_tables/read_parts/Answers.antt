@@ -17,6 +17,8 @@ use Rattle.lsm_open.specs.ToldTables.{told_levels, IsRefusedFor, Held, AreThose}
 use Rattle.lsm_open.proofs.OpeningRefusals.{from_load, from_replay}
 use Rattle.lsm_device.specs.Medium.{disk}
 use Rattle.lsm_open.proofs.TableOpenings.{named_here, memory_fair, load_fair, replay_fair, keep_fair}
+use Rattle.lsm_device.proofs.Counting.{none_made}
+use Rattle.lsm_open.proofs.OpeningReads.{root_read, tables_read, regions_read, by_root}
 use Rattle.lsm_open.proofs.TableReads.{load_says, tables_say, replay_says, keep_says, none_says, tables_passed, keep_passed, keep_no_fault, with_told, all_read, all_told, reads_none, reads_ok, reads_err, reads_wider, reads_joined}
 use Rattle.lsm_open.proofs.recovered_tables.read_parts.Goals as goal
 
@@ -201,6 +203,41 @@ returns-clause-device g c =
     let third = reads_ok (3 * n) (D.medium c.read_tables.new.device) (D.medium c.replay_regions.new.device) c.replay_regions.ensures.calls c.in_ok-replayed.ensures.faults c.replay_regions.ensures.unchanged c.replay_regions.ensures.same_size c.replay_regions.ensures.same_lasting in
     reads_joined 57410 (3 * n) 63554 true _ _ _ (omega (arith, c.in_ok-loaded.ensures.fits.0.log_high))
     (reads_joined 66 (56 * length m.tables) 57410 true _ _ _ (omega (arith, c.in_ok-loaded.ensures.fits.1.numbers.tables)) first second) third
+
+-- ---- how often it reads
+
+pub returns-in_err-clone-clause-reads : goal.returns-in_err-clone-clause-reads
+returns-in_err-clone-clause-reads g c =
+    let p = err_from_is_err_and c.from_residual.result c.from_residual.ensures.1 in
+    rw p.1 (λ t. root_read _ _ _ (none_made 66 0 0 _))
+
+pub returns-in_err-loaded-clause-reads : goal.returns-in_err-loaded-clause-reads
+returns-in_err-loaded-clause-reads g c =
+    let p = err_from_is_err_and c.from_residual-in_err-loaded.result c.from_residual-in_err-loaded.ensures.1 in
+    rw p.1 (λ t. root_read _ _ _ c.load.ensures.counts)
+
+pub returns-in_err-tables-clause-reads : goal.returns-in_err-tables-clause-reads
+returns-in_err-tables-clause-reads g c =
+    let l = c.in_ok-loaded.loaded in
+    let p = err_from_is_err_and c.from_residual-in_err-tables.result c.from_residual-in_err-tables.ensures.1 in
+    rw p.1 (λ t. by_root _ l.log_sectors l.manifest 0 0 _ _ (c.in_ok-loaded.ensures.loaded t) (tables_read l.log_sectors l.manifest.tables _ _ c.load.ensures.counts _ c.read_tables.ensures.reads))
+
+pub returns-in_err-replayed-clause-reads : goal.returns-in_err-replayed-clause-reads
+returns-in_err-replayed-clause-reads g c =
+    let l = c.in_ok-loaded.loaded in
+    let p = err_from_is_err_and c.from_residual-in_err-replayed.result c.from_residual-in_err-replayed.ensures.1 in
+    rw p.1 (λ t. by_root _ l.log_sectors l.manifest 0 0 _ _ (c.in_ok-loaded.ensures.loaded t) (regions_read l.log_sectors l.manifest.tables _ _ c.load.ensures.counts _ _ c.read_tables.ensures.reads c.replay_regions.ensures.calls))
+
+pub returns-in_err-kept-clause-reads : goal.returns-in_err-kept-clause-reads
+returns-in_err-kept-clause-reads g c =
+    let l = c.in_ok-loaded.loaded in
+    let p = err_from_is_err_and c.from_residual-in_err-kept.result c.from_residual-in_err-kept.ensures.1 in
+    rw p.1 (λ t. by_root _ l.log_sectors l.manifest 0 0 _ _ (c.in_ok-loaded.ensures.loaded t) (regions_read l.log_sectors l.manifest.tables _ _ c.load.ensures.counts _ _ c.read_tables.ensures.reads c.replay_regions.ensures.calls))
+
+pub returns-clause-reads : goal.returns-clause-reads
+returns-clause-reads g c =
+    let l = c.in_ok-loaded.loaded in
+    regions_read l.log_sectors l.manifest.tables _ _ c.load.ensures.counts _ _ c.read_tables.ensures.reads c.replay_regions.ensures.calls
 
 -- ---- fair refusals
 

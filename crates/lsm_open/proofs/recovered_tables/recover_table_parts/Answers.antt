@@ -12,10 +12,13 @@ use Rattle.lsm_open.specs.Layout.{layout_of}
 use Rattle.std.specs.Prelude.{option_map}
 use Rattle.std.specs.Arc.{arc_value}
 use Rattle.lsm_open.specs.Placements.{contents_for}
+use Rattle.lsm_open.specs.ReadParts.{sectors_read, sectors_read_by}
 use Rattle.lsm_open.specs.RecoveredTables.{placed_in, IsReopenedWithTables}
 use Rattle.lsm_open.proofs.TableMoments.{has_size, standing_after, crashes, fails, begun_fails}
+use Rattle.lsm_open.proofs.OpeningReads.{begun_alone, begun_before}
 use Rattle.lsm_open.proofs.TableReads.{written_after_sync}
 use Rattle.lsm_open.proofs.OpeningRefusals.{from_begin, begun_faults}
+use Rattle.lsm_root.specs.Roots.{root_of}
 use Rattle.lsm_open.proofs.recovered_tables.recover_table_parts.Goals as goal
 
 pub returns-in_err-begin-clause-fails : goal.returns-in_err-begin-clause-fails
@@ -103,6 +106,29 @@ returns-in_err-parts-clause-calls g c = AtMost-joined 0 0 1 63554 38 2 63554 38 
 
 pub returns-clause-calls : goal.returns-clause-calls
 returns-clause-calls g c = AtMost-joined 0 0 1 63554 38 2 63554 38 3 _ _ _ (omega arith) (omega arith) (omega arith) c.begin.ensures.calls c.recover_tables_settled.ensures.calls
+
+pub returns-in_err-begin-clause-reads : goal.returns-in_err-begin-clause-reads
+returns-in_err-begin-clause-reads g c =
+    let D = g.D.Device in
+    let p = err_from_is_err_and c.from_residual.result c.from_residual.ensures.1 in
+    rw p.1 (λ t. begun_alone _ _ (D.medium c.begin.new.device).calls _ c.begin.ensures.calls)
+
+pub returns-in_err-parts-clause-reads : goal.returns-in_err-parts-clause-reads
+returns-in_err-parts-clause-reads g c =
+    let D = g.D.Device in
+    let old = D.medium c.args.device.now in
+    let mid = D.medium c.begin.new.device in
+    let new = D.medium c.recover_tables_settled.new.device in
+    let p = err_from_is_err_and c.from_residual-in_err-parts.result c.from_residual-in_err-parts.ensures.1 in
+    rw p.1 (λ t.
+    let is = now_is (synced (disk old)) old.history mid.history (c.in_ok-begin.ensures.stands t) in
+    begun_before (sectors_read_by (root_of (seen (disk old)))) _ _ _ c.begin.ensures.calls
+    (subst (λ (d : Disk). AtMost (sectors_read_by (root_of (seen d))) 38 2 mid.calls new.calls) is (c.in_err-parts.ensures.reads (rw c.begin.ensures.same_lasting t))))
+
+pub returns-clause-reads : goal.returns-clause-reads
+returns-clause-reads g c =
+    let p = c.in_ok-parts.parts in
+    begun_before (sectors_read p.regions.log_sectors p.records.items) _ _ _ c.begin.ensures.calls c.in_ok-parts.ensures.reads
 
 pub returns-clause-reopened : goal.returns-clause-reopened
 returns-clause-reopened g c = λ t.

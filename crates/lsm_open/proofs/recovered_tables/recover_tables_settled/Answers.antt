@@ -3,7 +3,8 @@ use Rattle.std.specs.Prelude.{option_map}
 use Rattle.std.specs.Arc.{arc_value}
 use Rattle.std.proofs.lemmas.Result.{err_from_is_err_and}
 use Rattle.lsm_codec.specs.Manifests.{Contents, sector_count}
-use Rattle.lsm_device.specs.Calls.{faults_after}
+use Rattle.lsm_codec.specs.declared.table_record.TableRecord.{TableRecord}
+use Rattle.lsm_device.specs.Calls.{faults_after, AtMost}
 use Rattle.lsm_device.specs.Disk.{Disk, seen}
 use Rattle.lsm_device.specs.History.{present, EachSince}
 use Rattle.lsm_device.specs.Medium.{disk}
@@ -12,10 +13,12 @@ use Rattle.lsm_device.specs.Refusals.{is_no_fault}
 use Rattle.lsm_device.proofs.Counting.{AtMost-joined, AtMost-wider}
 use Rattle.lsm_open.specs.Layout.{layout_of}
 use Rattle.lsm_open.specs.Placements.{Placement, contents_for}
+use Rattle.lsm_open.specs.ReadParts.{sectors_read}
 use Rattle.lsm_open.specs.RecoveredTables.{placed_in, IsReopenedWithTables, IsRecoveredWithTables, AreWithinLimits}
 use Rattle.lsm_open.specs.Reopening.{next_contents}
 use Rattle.lsm_open.proofs.NextLayouts.{least_kept}
 use Rattle.lsm_open.proofs.OpeningRefusals.{from_memory}
+use Rattle.lsm_open.proofs.OpeningReads.{by_root, read_alone, then_installed}
 use Rattle.lsm_open.proofs.TableOpenings.{placed_kept, contents_kept, within_kept, reopened_kept, rests_stay_standing, installing_kept, recovered_kept, ready_kept, memory_fair}
 use Rattle.lsm_open.proofs.TableReads.{written_once}
 use Rattle.lsm_root.specs.Counted.{CallsMade}
@@ -218,6 +221,28 @@ returns-in_err-regions-clause-calls g c = AtMost-joined 63554 0 0 0 38 2 63554 3
 
 pub returns-clause-calls : goal.returns-clause-calls
 returns-clause-calls g c = AtMost-joined 63554 0 0 0 38 2 63554 38 2 _ _ _ (omega arith) (omega arith) (omega arith) c.read_parts.ensures.device.calls c.reopen.ensures.calls
+
+pub returns-in_err-read-clause-reads : goal.returns-in_err-read-clause-reads
+returns-in_err-read-clause-reads g c =
+    let D = g.D.Device in
+    let p = err_from_is_err_and c.from_residual.result c.from_residual.ensures.1 in
+    rw p.1 (λ t. read_alone _ _ (D.medium c.read_parts.new.device).calls _ (c.in_err-read.ensures.reads t))
+
+pub returns-in_err-regions-clause-reads : goal.returns-in_err-regions-clause-reads
+returns-in_err-regions-clause-reads g c =
+    let l = c.in_ok-read.read.loaded in
+    let p = err_from_is_err_and c.from_residual-in_err-regions.result c.from_residual-in_err-regions.ensures.1 in
+    rw p.1 (λ t. by_root _ l.log_sectors l.manifest 38 2 _ _ (c.in_ok-read.ensures.told t).root (then_installed (sectors_read l.log_sectors l.manifest.tables) _ _ _ c.in_ok-read.ensures.reads c.reopen.ensures.calls))
+
+pub returns-clause-reads : goal.returns-clause-reads
+returns-clause-reads g c =
+    let D = g.D.Device in
+    let r = c.in_ok-read.read in
+    let old = (D.medium c.args.device.now).calls in
+    let new = (D.medium c.reopen.new.device).calls in
+    subst (λ (ts : List TableRecord). AtMost (sectors_read c.in_ok-regions.regions.log_sectors ts) 38 2 old new) (sym c.in_ok-read.ensures.records)
+    (subst (λ (n : ℕ). AtMost (sectors_read n r.loaded.manifest.tables) 38 2 old new) (sym c.in_ok-regions.ensures.layout.log_size)
+    (then_installed (sectors_read r.loaded.log_sectors r.loaded.manifest.tables) _ _ _ c.in_ok-read.ensures.reads c.reopen.ensures.calls))
 
 pub returns-in_err-read-clause-faults : goal.returns-in_err-read-clause-faults
 returns-in_err-read-clause-faults g c =

@@ -1,4 +1,4 @@
-use Rattle.std.proofs.Common.{◌≡◌, ◌+◌, ◌-◌, ◌*◌, ℕ, Bool, true, List, length, drop, ap, subst, ◌∙◌, arith}
+use Rattle.std.proofs.Common.{◌≡◌, ◌+◌, ◌-◌, ℕ, Bool, true, List, length, drop, ap, subst, ◌∙◌, arith}
 use Rattle.std.specs.Prelude.{slice_set}
 use Rattle.std.proofs.lemmas.List.{length-set}
 use Rattle.std.proofs.lemmas.Result.{err_from_is_err_and}
@@ -7,7 +7,7 @@ use Rattle.lsm_device.specs.Medium.{disk}
 use Rattle.lsm_device.specs.Refusals.{faultless}
 use Rattle.lsm_levels.specs.Levels.{Levels}
 use Rattle.lsm_levels.specs.Tables.{Table}
-use Rattle.lsm_open.specs.ToldTables.{tables_from, run_records, IsRunRead, AreRunsRead, ReadsBlocks}
+use Rattle.lsm_open.specs.ToldTables.{blocks_beside_data, beside_data_from, run_records, IsRunRead, AreRunsRead, ReadsBlocks}
 use Rattle.lsm_open.proofs.BlockReads.{reads_then}
 use Rattle.lsm_open.proofs.RunCounts.{run_before, run_put, run_counted, fewer_from}
 use Rattle.lsm_open.proofs.tables.read_deeper.Goals as goal
@@ -24,11 +24,11 @@ returns-in_err-run-clause-device g c =
     let old = D.medium c.args.device.now in
     let mid = D.medium c.loop-done.device in
     let new = D.medium c.read_run.new.device in
-    let count : tables_from m k ≡ length (run_records m k) + tables_from m next = run_counted m k next (omega (arith, c.loop-done-test.true)) in
+    let count : beside_data_from m k ≡ blocks_beside_data (run_records m k) + beside_data_from m next = run_counted m k next (omega (arith, c.loop-done-test.true)) in
     let few = fewer_from m m.runs (3 - i) in
-    let step : ReadsBlocks (7 * length (run_records m k)) (faultless c.read_run.result) mid new = subst (λ (j : ℕ). ReadsBlocks (7 * length (run_records m j)) (faultless c.read_run.result) mid new) here c.read_run.ensures.device in
-    rw (p.1, p.2) (subst (λ (ok : Bool). ReadsBlocks (7 * tables_from m m.runs) ok old new) (ap faultless c.in_err-run.was)
-    (reads_then (7 * tables_from m next) (7 * length (run_records m k)) (7 * tables_from m m.runs) (faultless c.read_run.result) old mid new (omega (arith, count, few)) c.loop-done.invariant.device step))
+    let step : ReadsBlocks (blocks_beside_data (run_records m k)) (faultless c.read_run.result) mid new = subst (λ (j : ℕ). ReadsBlocks (blocks_beside_data (run_records m j)) (faultless c.read_run.result) mid new) here c.read_run.ensures.device in
+    rw (p.1, p.2) (subst (λ (ok : Bool). ReadsBlocks (beside_data_from m m.runs) ok old new) (ap faultless c.in_err-run.was)
+    (reads_then (beside_data_from m next) (blocks_beside_data (run_records m k)) (beside_data_from m m.runs) (faultless c.read_run.result) old mid new (omega (arith, count, few)) c.loop-done.invariant.device step))
 
 pub loop-done-preserved : goal.loop-done-preserved
 loop-done-preserved g c =
@@ -51,16 +51,16 @@ loop-done-preserved g c =
     let e = c.in_ok-run.ensures in
     let run : List Table = c.in_ok-run.run' in
     let deeper : List (List Table) = c.loop-done.levels.deeper in
-    let count : tables_from m k ≡ length (run_records m k) + tables_from m next = run_counted m k next (omega (arith, c.loop-done-test.true)) in
-    let step : ReadsBlocks (7 * length (run_records m k)) true mid new = subst (λ (j : ℕ). ReadsBlocks (7 * length (run_records m j)) true mid new) here e.device in
+    let count : beside_data_from m k ≡ blocks_beside_data (run_records m k) + beside_data_from m next = run_counted m k next (omega (arith, c.loop-done-test.true)) in
+    let step : ReadsBlocks (blocks_beside_data (run_records m k)) true mid new = subst (λ (j : ℕ). ReadsBlocks (blocks_beside_data (run_records m j)) true mid new) here e.device in
     let put : c.set_level.new.self.deeper ≡ slice_set deeper (3 - i) run = ap (λ (l : Levels). l.deeper) c.set_level.ensures ∙ ap (λ (j : ℕ). slice_set deeper j run) level in
     let read : AreRunsRead n tells S m k (drop (3 - i) (slice_set deeper (3 - i) run)) =
     run_put n tells S m k next (3 - i) (4 - i) deeper run (omega (arith, c.loop-done-test.true)) (omega (arith, c.loop-done-test.true)) (omega (arith, inv.four, c.loop-done-test.true))
     (run_before n old mid m k run inv.device.only_reads (subst (λ (j : ℕ). IsRunRead n mid.lasting.tells (seen (disk mid)) m j run) here e.read)) inv.read in
     record {
       same_size = e.device.only_reads.same_size ∙ inv.same_size;
-      device = subst (λ (j : ℕ). ReadsBlocks (7 * tables_from m j) true old new) there
-          (reads_then (7 * tables_from m next) (7 * length (run_records m k)) (7 * tables_from m k) true old mid new (omega (arith, count)) inv.device step);
+      device = subst (λ (j : ℕ). ReadsBlocks (beside_data_from m j) true old new) there
+          (reads_then (beside_data_from m next) (blocks_beside_data (run_records m k)) (beside_data_from m k) true old mid new (omega (arith, count)) inv.device step);
       runs_are = inv.runs_are;
       none = ap (λ (l : Levels). l.runs) c.set_level.ensures ∙ inv.none;
       four = ap length put ∙ length-set deeper (3 - i) run ∙ inv.four;

@@ -1,7 +1,7 @@
-use Rattle.std.proofs.Common.{◌≡◌, ◌+◌, ◌-◌, ◌*◌, [], length, drop, true}
+use Rattle.std.proofs.Common.{◌≡◌, ◌+◌, ◌-◌, [], length, drop, true}
 use Rattle.lsm_device.specs.Disk.{seen}
 use Rattle.lsm_device.specs.Medium.{disk}
-use Rattle.lsm_open.specs.ToldTables.{AreRunsRead, tables_from, ReadsBlocks}
+use Rattle.lsm_open.specs.ToldTables.{AreRunsRead, beside_data_from, ReadsBlocks}
 use Rattle.lsm_open.proofs.tables.read_deeper.Given as goal
 
 abbrev pub invariant-loop-done : goal.invariant-loop-done
@@ -10,7 +10,7 @@ invariant-loop-done g l =
     let old = D.medium l.fn.device in
     record {
       same_size : (D.medium l.device).size ≡ old.size;
-      device : ReadsBlocks (7 * tables_from l.manifest (l.manifest.runs + (4 - l.done))) true old (D.medium l.device);
+      device : ReadsBlocks (beside_data_from l.manifest (l.manifest.runs + (4 - l.done))) true old (D.medium l.device);
       runs_are : l.runs ≡ l.manifest.runs;
       none : l.levels.runs ≡ [];
       four : length l.levels.deeper ≡ 4;

@@ -20,8 +20,8 @@ returns-in_err-index-clause-device g c =
     let old = D.medium c.args.device.now in
     let mid = D.medium c.read_data_block.new.device in
     let new = D.medium c.read_data_blocks.new.device in
-    rw (p.1, p.2) (subst (λ ok. ReadsBlocks 7 ok old new) (ap faultless c.in_err-index.was)
-    (reads_then 1 x 7 (faultless c.read_data_blocks.result) old mid new (omega (arith, c.requires.readable.sizes.index_high)) c.in_ok-read_data_block.ensures.device c.read_data_blocks.ensures.device))
+    rw (p.1, p.2) (subst (λ ok. ReadsBlocks (x + 2) ok old new) (ap faultless c.in_err-index.was)
+    (reads_then 1 x (x + 2) (faultless c.read_data_blocks.result) old mid new (omega arith) c.in_ok-read_data_block.ensures.device c.read_data_blocks.ensures.device))
 
 pub returns-in_err-read_data_block-2-clause-device : goal.returns-in_err-read_data_block-2-clause-device
 returns-in_err-read_data_block-2-clause-device g c =
@@ -32,8 +32,8 @@ returns-in_err-read_data_block-2-clause-device g c =
     let mid = D.medium c.read_data_block.new.device in
     let more = D.medium c.read_data_blocks.new.device in
     let new = D.medium c.read_data_block-2.new.device in
-    rw (p.1, p.2) (subst (λ ok. ReadsBlocks 7 ok old new) (ap faultless c.in_err-read_data_block-2.was)
-    (reads_then (1 + x) 1 7 (faultless c.read_data_block-2.result) old more new (omega (arith, c.requires.readable.sizes.index_high))
+    rw (p.1, p.2) (subst (λ ok. ReadsBlocks (x + 2) ok old new) (ap faultless c.in_err-read_data_block-2.was)
+    (reads_then (1 + x) 1 (x + 2) (faultless c.read_data_block-2.result) old more new (omega arith)
     (reads_then 1 x (1 + x) true old mid more (omega arith) c.in_ok-read_data_block.ensures.device c.in_ok-index.ensures.device) c.read_data_block-2.ensures.device))
 
 pub returns-clause-given : goal.returns-clause-given
@@ -72,5 +72,5 @@ returns-clause-device g c =
     let mid = D.medium c.read_data_block.new.device in
     let more = D.medium c.read_data_blocks.new.device in
     let new = D.medium c.read_data_block-2.new.device in
-    reads_then (1 + x) 1 7 true old more new (omega (arith, c.requires.readable.sizes.index_high))
+    reads_then (1 + x) 1 (x + 2) true old more new (omega arith)
     (reads_then 1 x (1 + x) true old mid more (omega arith) c.in_ok-read_data_block.ensures.device c.in_ok-index.ensures.device) c.in_ok-read_data_block-2.ensures.device

@@ -1,6 +1,6 @@
-use Rattle.std.proofs.Common.{◌≡◌, ◌+◌, ◌*◌, ◌++◌, List, true, IsTrue, Some, take, drop, length, get_or, sym, ap, subst, ◌∙◌, arith}
+use Rattle.std.proofs.Common.{◌≡◌, ◌≤◌, ◌+◌, ◌++◌, List, true, IsTrue, Some, take, drop, get_or, sym, ap, subst, ◌∙◌, arith}
 use Rattle.std.proofs.lemmas.Result.{err_from_is_err_and}
-use Rattle.std.proofs.lemmas.List.{drop_more, take_more}
+use Rattle.std.proofs.lemmas.List.{drop_more, take_more, take_all}
 use Rattle.lsm_codec.specs.Reading.{◌>>=◌}
 use Rattle.lsm_codec.specs.declared.table_record.TableRecord.{TableRecord}
 use Rattle.lsm_device.specs.Disk.{Disk, seen}
@@ -8,8 +8,9 @@ use Rattle.lsm_device.specs.History.{present}
 use Rattle.lsm_device.specs.Medium.{Lasting, disk}
 use Rattle.lsm_device.specs.Refusals.{faultless}
 use Rattle.lsm_levels.specs.Tables.{Table}
-use Rattle.lsm_open.specs.ToldTables.{told_table, told_tables, IsRefusedFor, ReadsBlocks}
+use Rattle.lsm_open.specs.ToldTables.{told_table, told_tables, blocks_beside_data, IsRefusedFor, ReadsBlocks}
 use Rattle.lsm_open.proofs.BlockReads.{reads_then}
+use Rattle.lsm_open.proofs.RunCounts.{one_more_beside, fewer_taken}
 use Rattle.lsm_open.proofs.ToldRuns.{one_told, one_named, one_refused, all_told, drop_all}
 use Rattle.lsm_open.proofs.tables.read_listed.Goals as goal
 
@@ -31,7 +32,7 @@ loop-table-preserved g c =
     let items = c.loop-table.tables.items in
     record {
       same_size = e.device.only_reads.same_size ∙ k.same_size;
-      device = reads_then (7 * i) 7 (7 * (i + 1)) true old mid new (omega arith) k.device e.device;
+      device = reads_then (blocks_beside_data (take i all)) (t.index_blocks + 2) (blocks_beside_data (take (i + 1) all)) true old mid new (omega (arith, one_more_beside all i d c.loop-table-test.true)) k.device e.device;
       named = rw (take_more all i d c.loop-table-test.true, c.in_ok-push.ensures.items) (one_named (take i all) items t x k.named e.named);
       told = λ h.
           let tells : IsTrue mid.lasting.tells = subst (λ (l : Lasting). IsTrue l.tells) (sym k.device.only_reads.same_lasting) h in
@@ -64,23 +65,29 @@ returns-in_err-read_table-clause-device g c =
     let D = g.D.Device in
     let p = err_from_is_err_and c.from_residual-in_err-read_table.result c.from_residual-in_err-read_table.ensures.1 in
     let i = c.loop-table.table-index in
-    let m = 7 * length c.args.listed.now in
+    let all = c.args.listed.now in
+    let m = blocks_beside_data all in
+    let d : TableRecord = record { number = 0; level = 0; run = 0; first_block = 0; data_blocks = 0; index_blocks = 0; entries = 0 } in
+    let room : blocks_beside_data (take i all) + ((get_or all i d).index_blocks + 2) ≤ m = omega (arith, one_more_beside all i d c.loop-table-test.true, fewer_taken all (i + 1)) in
     let old = D.medium c.args.device.now in
     let mid = D.medium c.loop-table.device in
     let new = D.medium c.read_table.new.device in
     rw (p.1, p.2) (subst (λ ok. ReadsBlocks m ok old new) (ap faultless c.in_err-read_table.was)
-    (reads_then (7 * i) 7 m (faultless c.read_table.result) old mid new (omega (arith, c.loop-table-test.true)) c.loop-table.invariant.device c.read_table.ensures.device))
+    (reads_then (blocks_beside_data (take i all)) ((get_or all i d).index_blocks + 2) m (faultless c.read_table.result) old mid new room c.loop-table.invariant.device c.read_table.ensures.device))
 
 pub returns-in_err-push-clause-device : goal.returns-in_err-push-clause-device
 returns-in_err-push-clause-device g c =
     let D = g.D.Device in
     let p = err_from_is_err_and c.from_residual-in_err-push.result c.from_residual-in_err-push.ensures.1 in
     let i = c.loop-table.table-index in
-    let m = 7 * length c.args.listed.now in
+    let all = c.args.listed.now in
+    let m = blocks_beside_data all in
+    let d : TableRecord = record { number = 0; level = 0; run = 0; first_block = 0; data_blocks = 0; index_blocks = 0; entries = 0 } in
+    let room : blocks_beside_data (take i all) + ((get_or all i d).index_blocks + 2) ≤ m = omega (arith, one_more_beside all i d c.loop-table-test.true, fewer_taken all (i + 1)) in
     let old = D.medium c.args.device.now in
     let mid = D.medium c.loop-table.device in
     let new = D.medium c.read_table.new.device in
-    rw (p.1, p.2) (reads_then (7 * i) 7 m true old mid new (omega (arith, c.loop-table-test.true)) c.loop-table.invariant.device c.in_ok-read_table.ensures.device)
+    rw (p.1, p.2) (reads_then (blocks_beside_data (take i all)) ((get_or all i d).index_blocks + 2) m true old mid new room c.loop-table.invariant.device c.in_ok-read_table.ensures.device)
 
 pub returns-clause-told : goal.returns-clause-told
 returns-clause-told g c = λ h.
@@ -88,3 +95,9 @@ returns-clause-told g c = λ h.
     let all = c.args.listed.now in
     let i = c.loop-table.table-index in
     all_told c.args.log_sectors S all (drop i all) c.loop-table.tables.items (c.loop-table.invariant.told h) (drop_all i all (omega (arith, c.loop-table-test.false)))
+
+pub returns-clause-device : goal.returns-clause-device
+returns-clause-device g c =
+    let D = g.D.Device in
+    let all = c.args.listed.now in
+    subst (λ (ts : List TableRecord). ReadsBlocks (blocks_beside_data ts) true (D.medium c.args.device.now) (D.medium c.loop-table.device)) (take_all c.loop-table.table-index all (omega (arith, c.loop-table-test.false))) c.loop-table.invariant.device

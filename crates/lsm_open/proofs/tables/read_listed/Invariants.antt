@@ -1,10 +1,10 @@
-use Rattle.std.proofs.Common.{◌≡◌, ◌*◌, ◌++◌, IsTrue, true, List, take, drop, Some}
+use Rattle.std.proofs.Common.{◌≡◌, ◌++◌, IsTrue, true, List, take, drop, Some}
 use Rattle.lsm_codec.specs.Reading.{◌>>=◌}
 use Rattle.lsm_device.specs.Disk.{seen}
 use Rattle.lsm_device.specs.Medium.{disk}
 use Rattle.lsm_levels.specs.Tables.{Table}
 use Rattle.lsm_open.specs.Tables.{versions_at}
-use Rattle.lsm_open.specs.ToldTables.{told_tables, AreNamedBy, ReadsBlocks}
+use Rattle.lsm_open.specs.ToldTables.{told_tables, blocks_beside_data, AreNamedBy, ReadsBlocks}
 use Rattle.lsm_open.proofs.tables.read_listed.Given as goal
 
 abbrev pub invariant-loop-table : goal.invariant-loop-table
@@ -13,7 +13,7 @@ invariant-loop-table g l =
     let sectors = seen (disk (D.medium l.fn.device)) in
     record {
       same_size : (D.medium l.device).size ≡ (D.medium l.fn.device).size;
-      device : ReadsBlocks (7 * l.table-index) true (D.medium l.fn.device) (D.medium l.device);
+      device : ReadsBlocks (blocks_beside_data (take l.table-index l.listed)) true (D.medium l.fn.device) (D.medium l.device);
       named : AreNamedBy (take l.table-index l.listed) l.tables.items;
       told : IsTrue ((D.medium l.fn.device).lasting.tells) → told_tables l.log_sectors sectors l.listed ≡ (told_tables l.log_sectors sectors (drop l.table-index l.listed) >>= λ (more : List Table). Some (l.tables.items ++ more));
     }

@@ -1,4 +1,4 @@
-use Rattle.std.proofs.Common.{◌≡◌, ◌≤◌, ◌+◌, ◌-◌, ◌*◌, ◌++◌, ℕ, suc, Bool, true, List, length, sym, ap, subst, ◌∙◌, arith}
+use Rattle.std.proofs.Common.{◌≡◌, ◌≤◌, ◌+◌, ◌-◌, ◌++◌, ℕ, suc, Bool, true, List, length, sym, ap, subst, ◌∙◌, arith}
 use Rattle.std.proofs.lemmas.Result.{err_from_is_err_and}
 use Rattle.lsm_device.specs.declared.refusal.Refusal.{Refusal}
 use Rattle.lsm_device.specs.Disk.{seen}
@@ -6,9 +6,9 @@ use Rattle.lsm_device.specs.Medium.{disk}
 use Rattle.lsm_device.specs.Refusals.{faultless}
 use Rattle.lsm_levels.specs.Levels.{Levels}
 use Rattle.lsm_levels.specs.Tables.{Table}
-use Rattle.lsm_open.specs.ToldTables.{tables_from, run_records, IsRunRead, AreRunsRead, ReadsBlocks}
+use Rattle.lsm_open.specs.ToldTables.{blocks_beside_data, beside_data_from, run_records, IsRunRead, AreRunsRead, ReadsBlocks}
 use Rattle.lsm_open.proofs.BlockReads.{reads_then}
-use Rattle.lsm_open.proofs.RunCounts.{run_before, run_counted, fewer_from, few_tables, some_read, refused_before}
+use Rattle.lsm_open.proofs.RunCounts.{run_before, run_counted, fewer_from, few_blocks, some_read, refused_before}
 use Rattle.lsm_open.proofs.ToldRuns.{level_refused}
 use Rattle.lsm_open.proofs.tables.read_newer.Goals as goal
 
@@ -40,14 +40,14 @@ loop-done-preserved g c =
     let run : List Table = c.in_ok-run.run' in
     let runs : List (List Table) = c.loop-done.levels.runs in
     let deeper : List (List Table) = c.loop-done.levels.deeper in
-    let count : tables_from m k ≡ length (run_records m k) + tables_from m next = run_counted m k next follows in
-    let low : tables_from m m.runs ≤ tables_from m next = omega (arith, fewer_from m next i, ap (tables_from m) (let up : next + i ≡ m.runs = omega (arith, lt, inv.runs_are) in up)) in
-    let step : ReadsBlocks (7 * length (run_records m k)) true mid new = subst (λ (j : ℕ). ReadsBlocks (7 * length (run_records m j)) true mid new) here e.device in
+    let count : beside_data_from m k ≡ blocks_beside_data (run_records m k) + beside_data_from m next = run_counted m k next follows in
+    let low : beside_data_from m m.runs ≤ beside_data_from m next = omega (arith, fewer_from m next i, ap (beside_data_from m) (let up : next + i ≡ m.runs = omega (arith, lt, inv.runs_are) in up)) in
+    let step : ReadsBlocks (blocks_beside_data (run_records m k)) true mid new = subst (λ (j : ℕ). ReadsBlocks (blocks_beside_data (run_records m j)) true mid new) here e.device in
     let put = c.in_ok-add_run.ensures.added in
     let read : IsRunRead n tells S m k run = run_before n old mid m k run inv.device.only_reads (subst (λ (j : ℕ). IsRunRead n mid.lasting.tells (seen (disk mid)) m j run) here e.read) in
     record {
       same_size = e.device.only_reads.same_size ∙ inv.same_size;
-      device = reads_then (7 * (tables_from m next - tables_from m m.runs)) (7 * length (run_records m k)) (7 * (tables_from m k - tables_from m m.runs)) true old mid new (omega (arith, count, low)) inv.device step;
+      device = reads_then (beside_data_from m next - beside_data_from m m.runs) (blocks_beside_data (run_records m k)) (beside_data_from m k - beside_data_from m m.runs) true old mid new (omega (arith, count, low)) inv.device step;
       runs_are = inv.runs_are;
       count = ap (λ (l : Levels). length l.runs) put ∙ omega (arith, inv.count);
       same = ap (λ (l : Levels). l.deeper) put ∙ inv.same;
@@ -69,24 +69,24 @@ returns-in_err-run-clause-device g c =
     let old = D.medium c.args.device.now in
     let mid = D.medium c.loop-done.device in
     let new = D.medium c.read_run.new.device in
-    let count : tables_from m k ≡ length (run_records m k) + tables_from m next = run_counted m k next follows in
-    let low : tables_from m m.runs ≤ tables_from m next = omega (arith, fewer_from m next i, ap (tables_from m) (let up : next + i ≡ m.runs = omega (arith, lt, inv.runs_are) in up)) in
-    let reads = tables_from m k - tables_from m m.runs in
-    let few = few_tables m k in
-    let step : ReadsBlocks (7 * length (run_records m k)) (faultless c.read_run.result) mid new = subst (λ (j : ℕ). ReadsBlocks (7 * length (run_records m j)) (faultless c.read_run.result) mid new) here c.read_run.ensures.device in
+    let count : beside_data_from m k ≡ blocks_beside_data (run_records m k) + beside_data_from m next = run_counted m k next follows in
+    let low : beside_data_from m m.runs ≤ beside_data_from m next = omega (arith, fewer_from m next i, ap (beside_data_from m) (let up : next + i ≡ m.runs = omega (arith, lt, inv.runs_are) in up)) in
+    let reads = beside_data_from m k - beside_data_from m m.runs in
+    let few = few_blocks m k in
+    let step : ReadsBlocks (blocks_beside_data (run_records m k)) (faultless c.read_run.result) mid new = subst (λ (j : ℕ). ReadsBlocks (blocks_beside_data (run_records m j)) (faultless c.read_run.result) mid new) here c.read_run.ensures.device in
     rw (p.1, p.2) (
       reads,
       omega (arith, count, low, few),
-      subst (λ (ok : Bool). ReadsBlocks (7 * reads) ok old new) (ap faultless c.in_err-run.was)
-          (reads_then (7 * (tables_from m next - tables_from m m.runs)) (7 * length (run_records m k)) (7 * reads) (faultless c.read_run.result) old mid new (omega (arith, count, low)) inv.device step),
+      subst (λ (ok : Bool). ReadsBlocks reads ok old new) (ap faultless c.in_err-run.was)
+          (reads_then (beside_data_from m next - beside_data_from m m.runs) (blocks_beside_data (run_records m k)) reads (faultless c.read_run.result) old mid new (omega (arith, count, low)) inv.device step),
     )
 
 pub returns-clause-device : goal.returns-clause-device
 returns-clause-device g c =
     let m = c.args.manifest.now in
     let i = c.loop-done.done in
-    let low : tables_from m m.runs ≤ tables_from m (m.runs - i) = omega (arith, fewer_from m (m.runs - i) i, ap (tables_from m) (let up : (m.runs - i) + i ≡ m.runs = omega (arith, c.loop-done.auto.done-end, c.loop-done.invariant.runs_are) in up)) in
-    (tables_from m (m.runs - i) - tables_from m m.runs, omega (arith, low, few_tables m (m.runs - i)), c.loop-done.invariant.device)
+    let low : beside_data_from m m.runs ≤ beside_data_from m (m.runs - i) = omega (arith, fewer_from m (m.runs - i) i, ap (beside_data_from m) (let up : (m.runs - i) + i ≡ m.runs = omega (arith, c.loop-done.auto.done-end, c.loop-done.invariant.runs_are) in up)) in
+    (beside_data_from m (m.runs - i) - beside_data_from m m.runs, omega (arith, low, few_blocks m (m.runs - i)), c.loop-done.invariant.device)
 
 pub returns-in_err-run-clause-none : goal.returns-in_err-run-clause-none
 returns-in_err-run-clause-none g c = λ t.
@@ -116,9 +116,9 @@ returns-in_err-add_run-clause-device g c =
     let old = D.medium c.args.device.now in
     let mid = D.medium c.loop-done.device in
     let new = D.medium c.read_run.new.device in
-    let count : tables_from m k ≡ length (run_records m k) + tables_from m next = run_counted m k next follows in
-    let low : tables_from m m.runs ≤ tables_from m next = omega (arith, fewer_from m next i, ap (tables_from m) (let up : next + i ≡ m.runs = omega (arith, lt, inv.runs_are) in up)) in
-    let reads = tables_from m k - tables_from m m.runs in
-    let few = few_tables m k in
-    let step : ReadsBlocks (7 * length (run_records m k)) true mid new = subst (λ (j : ℕ). ReadsBlocks (7 * length (run_records m j)) true mid new) here c.in_ok-run.ensures.device in
-    rw (p.1, p.2) (reads, omega (arith, count, low, few), reads_then (7 * (tables_from m next - tables_from m m.runs)) (7 * length (run_records m k)) (7 * reads) true old mid new (omega (arith, count, low)) inv.device step)
+    let count : beside_data_from m k ≡ blocks_beside_data (run_records m k) + beside_data_from m next = run_counted m k next follows in
+    let low : beside_data_from m m.runs ≤ beside_data_from m next = omega (arith, fewer_from m next i, ap (beside_data_from m) (let up : next + i ≡ m.runs = omega (arith, lt, inv.runs_are) in up)) in
+    let reads = beside_data_from m k - beside_data_from m m.runs in
+    let few = few_blocks m k in
+    let step : ReadsBlocks (blocks_beside_data (run_records m k)) true mid new = subst (λ (j : ℕ). ReadsBlocks (blocks_beside_data (run_records m j)) true mid new) here c.in_ok-run.ensures.device in
+    rw (p.1, p.2) (reads, omega (arith, count, low, few), reads_then (beside_data_from m next - beside_data_from m m.runs) (blocks_beside_data (run_records m k)) reads true old mid new (omega (arith, count, low)) inv.device step)

@@ -1,7 +1,7 @@
-use Rattle.std.proofs.Common.{◌≡◌, ◌-◌, ◌*◌, ◌++◌, length, true}
+use Rattle.std.proofs.Common.{◌≡◌, ◌-◌, ◌++◌, length, true}
 use Rattle.lsm_device.specs.Disk.{seen}
 use Rattle.lsm_device.specs.Medium.{disk}
-use Rattle.lsm_open.specs.ToldTables.{AreRunsRead, tables_from, ReadsBlocks}
+use Rattle.lsm_open.specs.ToldTables.{AreRunsRead, beside_data_from, ReadsBlocks}
 use Rattle.lsm_open.proofs.tables.read_newer.Given as goal
 
 abbrev pub invariant-loop-done : goal.invariant-loop-done
@@ -11,7 +11,7 @@ invariant-loop-done g l =
     let m = l.manifest in
     record {
       same_size : (D.medium l.device).size ≡ old.size;
-      device : ReadsBlocks (7 * (tables_from m (m.runs - l.done) - tables_from m m.runs)) true old (D.medium l.device);
+      device : ReadsBlocks (beside_data_from m (m.runs - l.done) - beside_data_from m m.runs) true old (D.medium l.device);
       runs_are : l.runs ≡ m.runs;
       count : length l.levels.runs ≡ l.done;
       same : l.levels.deeper ≡ l.fn.levels.deeper;

@@ -8,12 +8,13 @@ use Rattle.lsm_device.specs.Medium.{disk}
 use Rattle.lsm_device.specs.Refusals.{faultless}
 use Rattle.lsm_device.specs.declared.refusal.Refusal.{Refusal}
 use Rattle.lsm_levels.specs.Levels.{places}
-use Rattle.lsm_open.specs.ToldTables.{tables_from, IsReadable}
-use Rattle.lsm_open.proofs.BlockReads.{nothing_read, reads_then, calls_of_tables}
+use Rattle.lsm_device.proofs.Counting.{AtMost-joined, AtMost-wider}
+use Rattle.lsm_open.specs.ToldTables.{blocks_beside_data, beside_data_from, IsReadable}
+use Rattle.lsm_open.proofs.BlockReads.{nothing_read, reads_then}
 use Rattle.lsm_open.proofs.LevelsTold.{levels_told}
 use Rattle.lsm_open.proofs.NamedRecords.{read_have_named}
 use Rattle.lsm_open.proofs.ReadLevels.{levels_refused_before, runs_behind, runs_before, all_within, all_outlined, all_numbered, all_readable, tables_apart}
-use Rattle.lsm_open.proofs.RunCounts.{few_tables}
+use Rattle.lsm_open.proofs.RunCounts.{few_blocks, few_for_each}
 use Rattle.lsm_open.proofs.StandingLevels.{levels_those}
 use Rattle.lsm_open.proofs.StandingRuns.{other_refusal}
 use Rattle.lsm_open.proofs.tables.read_tables.Goals as goal
@@ -74,15 +75,46 @@ returns-clause-numbered g c =
     let mid = D.medium c.read_deeper.new.device in
     all_numbered c.args.log_sectors mid.lasting.tells (seen (disk mid)) c.args.manifest.now 0 (places c.read_newer.new.levels) c.requires.fits.tables.each c.in_ok-read_newer.ensures.read
 
+-- ---- how often it reads
+
+pub returns-in_err-levels-clause-reads : goal.returns-in_err-levels-clause-reads
+returns-in_err-levels-clause-reads g c =
+    let D = g.D.Device in
+    let m = c.args.manifest.now in
+    let old = D.medium c.args.device.now in
+    let new = D.medium c.read_deeper.new.device in
+    let ok = faultless c.read_deeper.result in
+    (reads_then 0 (beside_data_from m m.runs) (blocks_beside_data m.tables) ok old old new (omega (arith, few_blocks m m.runs)) (nothing_read old) c.read_deeper.ensures.device).calls
+
+pub returns-in_err-read_newer-clause-reads : goal.returns-in_err-read_newer-clause-reads
+returns-in_err-read_newer-clause-reads g c =
+    let D = g.D.Device in
+    let m = c.args.manifest.now in
+    let old = D.medium c.args.device.now in
+    let mid = D.medium c.read_deeper.new.device in
+    let new = D.medium c.read_newer.new.device in
+    let ok = faultless c.read_newer.result in
+    let newer = c.read_newer.ensures.device in
+    (reads_then (beside_data_from m m.runs) newer.0 (blocks_beside_data m.tables) ok old mid new (omega (arith, newer.1)) c.in_ok-levels.ensures.device newer.2).calls
+
+pub returns-clause-reads : goal.returns-clause-reads
+returns-clause-reads g c =
+    let D = g.D.Device in
+    let m = c.args.manifest.now in
+    let old = D.medium c.args.device.now in
+    let mid = D.medium c.read_deeper.new.device in
+    let new = D.medium c.read_newer.new.device in
+    let newer = c.in_ok-read_newer.ensures.device in
+    (reads_then (beside_data_from m m.runs) newer.0 (blocks_beside_data m.tables) true old mid new (omega (arith, newer.1)) c.in_ok-levels.ensures.device newer.2).calls
+
 pub returns-in_err-levels-clause-calls : goal.returns-in_err-levels-clause-calls
 returns-in_err-levels-clause-calls g c =
     let D = g.D.Device in
     let m = c.args.manifest.now in
     let old = D.medium c.args.device.now in
     let new = D.medium c.read_deeper.new.device in
-    let ok = faultless c.read_deeper.result in
-    calls_of_tables (length m.tables) ok old new
-    (reads_then 0 (7 * tables_from m m.runs) (7 * length m.tables) ok old old new (omega (arith, few_tables m m.runs)) (nothing_read old) c.read_deeper.ensures.device)
+    AtMost-wider (8 * beside_data_from m m.runs) 0 0 (56 * length m.tables) 0 0 old.calls new.calls
+    (omega (arith, few_blocks m m.runs, few_for_each m.next_table m.runs m.tables c.requires.fits.tables.each)) (omega arith) (omega arith) c.read_deeper.ensures.device.calls
 
 pub returns-in_err-read_newer-clause-calls : goal.returns-in_err-read_newer-clause-calls
 returns-in_err-read_newer-clause-calls g c =
@@ -91,10 +123,9 @@ returns-in_err-read_newer-clause-calls g c =
     let old = D.medium c.args.device.now in
     let mid = D.medium c.read_deeper.new.device in
     let new = D.medium c.read_newer.new.device in
-    let ok = faultless c.read_newer.result in
     let newer = c.read_newer.ensures.device in
-    calls_of_tables (length m.tables) ok old new
-    (reads_then (7 * tables_from m m.runs) (7 * newer.0) (7 * length m.tables) ok old mid new (omega (arith, newer.1)) c.in_ok-levels.ensures.device newer.2)
+    AtMost-joined (8 * beside_data_from m m.runs) 0 0 (8 * newer.0) 0 0 (56 * length m.tables) 0 0 old.calls mid.calls new.calls
+    (omega (arith, newer.1, few_for_each m.next_table m.runs m.tables c.requires.fits.tables.each)) (omega arith) (omega arith) c.in_ok-levels.ensures.device.calls newer.2.calls
 
 pub returns-clause-calls : goal.returns-clause-calls
 returns-clause-calls g c =
@@ -104,8 +135,10 @@ returns-clause-calls g c =
     let mid = D.medium c.read_deeper.new.device in
     let new = D.medium c.read_newer.new.device in
     let newer = c.in_ok-read_newer.ensures.device in
-    calls_of_tables (length m.tables) true old new
-    (reads_then (7 * tables_from m m.runs) (7 * newer.0) (7 * length m.tables) true old mid new (omega (arith, newer.1)) c.in_ok-levels.ensures.device newer.2)
+    AtMost-joined (8 * beside_data_from m m.runs) 0 0 (8 * newer.0) 0 0 (56 * length m.tables) 0 0 old.calls mid.calls new.calls
+    (omega (arith, newer.1, few_for_each m.next_table m.runs m.tables c.requires.fits.tables.each)) (omega arith) (omega arith) c.in_ok-levels.ensures.device.calls newer.2.calls
+
+-- ---- tables that stand
 
 pub returns-in_err-levels-clause-stored : goal.returns-in_err-levels-clause-stored
 returns-in_err-levels-clause-stored g c = λ t stand.

@@ -1,5 +1,7 @@
 use Rattle.std.proofs.Common.{◌∙◌, ap, length}
+use Rattle.lsm_device.specs.Medium.{disk}
 use Rattle.lsm_root.proofs.Preparing.{fills, are_few}
+use Rattle.lsm_root.proofs.Others.{planned_others}
 use Rattle.lsm_root.proofs.Standing.{installed_ready}
 use Rattle.lsm_root.proofs.Switched.{planned_moment, planned_behind, planned_installed}
 use Rattle.lsm_root.proofs.next.NextRoot.install.Goals as goal
@@ -39,6 +41,11 @@ returns-clause-installed g c = λ t ready.
     let D = g.D.Device in
     planned_installed c.self.view_is c.self.invariant _ (D.medium c.args.device.now).history (g.met.D.Device.sound c.args.device.now t).now.size c.requires.same_device ready
     _ c.deref.ensures.value _ c.encode-sector.ensures _ (c.in_ok-switch.ensures.all t)
+
+pub returns-clause-others : goal.returns-clause-others
+returns-clause-others g c = λ t.
+    let D = g.D.Device in
+    planned_others _ _ _ c.self.view_is c.self.invariant (disk (D.medium c.args.device.now)) _ _ _ (c.in_ok-switch.ensures.all t)
 
 pub returns-clause-next : goal.returns-clause-next
 returns-clause-next g c = λ t ready.
