@@ -30,16 +30,6 @@ pub length-in_sectors : (n : ℕ) (text : List ℕ) → length (in_sectors n tex
 length-in_sectors zero text = refl
 length-in_sectors (suc n) text = ap suc (length-in_sectors n (drop 512 text))
 
-get_or-in_sectors : (n : ℕ) (text : List ℕ) (i : ℕ) → i < n → get_or (in_sectors n text) i [] ≡ take 512 (drop (512 * i) text)
-get_or-in_sectors zero text i lt = absurd (omega arith)
-get_or-in_sectors (suc n) text zero lt = let same : 0 ≡ 512 * zero = omega arith in ap (λ (k : ℕ). take 512 (drop k text)) same
-get_or-in_sectors (suc n) text (suc i) lt =
-    let place : 512 + 512 * i ≡ 512 * suc i = omega arith in
-    get_or-in_sectors n (drop 512 text) i (omega arith) ∙ ap (λ (l : List ℕ). take 512 l) (drop-drop (512 * i) 512 text ∙ ap (λ (k : ℕ). drop k text) place)
-
-pub sector_at : (text : List ℕ) (i : ℕ) (bytes : List ℕ) → i < 8 → bytes ≡ take 512 (drop (512 * i) text) → (i < length (in_sectors 8 text)) × (bytes ≡ get_or (in_sectors 8 text) i [])
-sector_at text i bytes lt is = (omega (arith, lt, length-in_sectors 8 text), is ∙ sym (get_or-in_sectors 8 text i lt))
-
 -- ---- which block stands at a place
 
 one_of_run : (at k : ℕ) (xs : List (List ℕ)) (rest : List Write) → k < length xs → take 1 (drop k (run_at at xs ++ rest)) ≡ record { at = at + k; bytes = get_or xs k [] } ∷ []

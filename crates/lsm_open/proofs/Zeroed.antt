@@ -25,17 +25,6 @@ empty_takes_one = omega (arith, length-manifest_text empty_manifest)
 outside : (at : ℕ) → at ≢ 66 → (at < 66) ⊎ (66 + sector_count empty_manifest ≤ at)
 outside at first = ⊎_elim (λ (low : at < 66). inl low) (λ (high : 66 ≤ at). inr (omega (arith, empty_takes_one, high, first))) (cases_lt at 66)
 
--- one sector more
-pub zero_more : (old mid new : List Disk) (count at : ℕ) (bytes : List ℕ) → bytes ≡ blank → at < count → Reached old mid (run_at 0 (replicate count blank)) at
-    → Becomes (record { stands = (present mid).stands; pending = (present mid).pending ++ record { at = at; bytes = bytes } ∷ [] }) mid new → Reached old new (run_at 0 (replicate count blank)) (at + 1)
-zero_more old mid new count at bytes is lt so_far becomes =
-    run_more old mid new 0 at (replicate count blank) at bytes (omega arith) (omega (arith, lt, length-replicate count blank)) (is ∙ sym (get_or-replicate count at blank [] lt)) so_far becomes
-
-pub all_zero : (old mid new : List Disk) (count at : ℕ) → count ≤ at → Reached old mid (run_at 0 (replicate count blank)) at → Becomes (synced (present mid)) mid new
-    → present new ≡ synced (grown (run_at 0 (replicate count blank)) (present old))
-all_zero old mid new count at all reached becomes =
-    now_is (synced (present mid)) mid new becomes ∙ ap synced (run_whole old mid 0 (replicate count blank) at (omega (arith, all, length-replicate count blank)) reached)
-
 -- the disk whose first n sectors were zeroed
 abbrev zeroed : ℕ → Disk → Disk
 zeroed n d = synced (grown (run_at 0 (replicate n blank)) d)

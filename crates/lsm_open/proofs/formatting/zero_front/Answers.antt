@@ -104,4 +104,3 @@ returns-clause-zeroed g c = λ t.
     let mid = (g.D.Device.medium c.loop-turn.device).history in
     now_is (synced (present mid)) mid _ (c.in_ok-sync.ensures.stands (rw inv.same_lasting t))
     ∙ ap synced (run_whole (g.D.Device.medium c.args.device.now).history mid 0 (replicate c.args.count blank) k (omega (arith, c.div_ceil-turn-end.ensures, c.loop-turn-test.false, length-replicate c.args.count blank)) (inv.reached t))
-
