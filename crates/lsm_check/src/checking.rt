@@ -18,13 +18,11 @@ use crate::epochs::has_none_above;
 use crate::finding::Finding;
 use crate::levels::check_levels;
 use crate::report::Report;
+use lsm_codec::{ROOT_SECTORS, is_device_size};
 use lsm_device::{Device, Refusal};
-use lsm_open::{TablesRead, is_device_size, read_tables, replay_regions};
+use lsm_open::{TablesRead, read_tables, replay_regions};
 use lsm_root::{Loaded, load, root_laws};
 use std::alloc::Allocator;
-
-/// The first sector of the log regions, which lie one behind the other.
-const FIRST_REGION: u32 = 130;
 
 // What an opening reads: the root, the tables that its manifest names, and how many batches there are.
 #[derive(Drop)]
@@ -108,7 +106,7 @@ fn check_all<A: Allocator + Clone, D: Device>(alloc: &A, device: &mut D) -> Resu
     ensures device { ReadsAtMost 593986 (is_faultless result) (D.medium device.old) (D.medium device.new) }
 {
     let named = read_named(alloc, device)?;
-    let area = FIRST_REGION + 3 * named.loaded.log_sectors as u32;
+    let area = ROOT_SECTORS + 3 * named.loaded.log_sectors as u32;
     let base = named.loaded.manifest.base();
     let entries = check_levels(alloc, device, area, &named.tables.levels, base)?;
     Ok(report_of(&named, entries))

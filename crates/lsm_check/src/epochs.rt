@@ -8,11 +8,8 @@ ghost use Rattle.lsm_log.specs.Opened.{is_above, HasNoneAbove};
 ghost use Rattle.lsm_open.specs.LogRegions.{first_region};
 ghost use Rattle.lsm_open.specs.ReadParts.{ReadsAtMost};
 
-use lsm_codec::LogSector;
+use lsm_codec::{LogSector, ROOT_SECTORS};
 use lsm_device::{Device, Refusal};
-
-/// The first sector of the log regions, which lie one behind the other.
-const FIRST_REGION: u32 = 130;
 
 // Whether a sector is one of a log whose epoch is above the generation.
 fn is_above(sector: &[u8; 512], generation: u64) -> bool
@@ -51,7 +48,7 @@ pub(crate) fn has_none_above<D: Device>(
     ensures device { ReadsAtMost (3 * log_sectors) (faultless result) (D.medium device.old) (D.medium device.new) }
 {
     for i in 0..3 * log_sectors as u32 {
-        if reads_above(device, FIRST_REGION + i, generation)? {
+        if reads_above(device, ROOT_SECTORS + i, generation)? {
             return Ok(false);
         }
     }

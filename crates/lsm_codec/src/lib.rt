@@ -37,7 +37,7 @@ pub use batch::Batch;
 pub use data_block::encode_data_block;
 pub use entry::Entry;
 pub use footer::Footer;
-pub use geometry::data_blocks;
+pub use geometry::{ROOT_SECTORS, data_blocks, is_device_size, is_log_size};
 pub use guard::Guard;
 pub use index::{Edge, Index};
 pub use key::Key;

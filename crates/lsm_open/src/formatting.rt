@@ -7,13 +7,13 @@ ghost use Rattle.lsm_device.specs.Medium.{disk};
 ghost use Rattle.lsm_device.specs.Refusals.{faultless, is_no_fault};
 ghost use Rattle.lsm_device.specs.Runs.{run_at, grown};
 ghost use Rattle.lsm_root.specs.Counted.{CallsMade};
-ghost use Rattle.lsm_root.specs.Layout.{IsDeviceSize, IsGeometry};
+ghost use Rattle.lsm_root.specs.Layout.{IsGeometry};
 ghost use Rattle.lsm_device.specs.Outcomes.{Leaves};
 ghost use Rattle.lsm_open.specs.CrashState.{formatted as empty_store};
 ghost use Rattle.lsm_open.specs.Image.{StandFor};
 ghost use Rattle.lsm_open.specs.Formatted.{empty_manifest, IsFormatted, handed_back, without_device};
 
-use lsm_codec::Manifest;
+use lsm_codec::{Manifest, ROOT_SECTORS, is_device_size, is_log_size};
 use lsm_device::{Device, Fault, Refusal};
 use lsm_root::NextRoot;
 use std::alloc::Allocator;
@@ -23,23 +23,13 @@ const ZERO_SECTORS: u32 = 128;
 
 const SECTOR_BYTES: usize = 512;
 
-/// The sectors before the log regions: superblocks and manifests.
-const ROOT_SECTORS: u32 = 130;
-
 const LOG_REGIONS: u32 = 3;
-
-/// Whether a device may have so many sectors: 8,192 to 1,048,576.
-pub fn is_device_size(sectors: u32) -> bool
-    ensures { IsTrue result ↔ IsDeviceSize sectors }
-{
-    (8_192..=1_048_576).contains(&sectors)
-}
 
 // Whether a device and a log region may have these sizes.
 fn is_geometry(sectors: u32, log_sectors: u16) -> bool
     ensures { IsTrue result ↔ IsGeometry sectors log_sectors }
 {
-    is_device_size(sectors) && (128..=2_048).contains(&log_sectors)
+    is_device_size(sectors) && is_log_size(log_sectors)
 }
 
 // Zeroes the first sectors, 64 KiB by a call of the device, and makes that stand.

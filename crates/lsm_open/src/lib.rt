@@ -13,7 +13,7 @@ mod reopened;
 mod replayed;
 mod tables;
 
-pub use formatting::{format, is_device_size};
+pub use formatting::format;
 pub use image_law::{
     batches_apply_to_tables, crashes_leave_beginnings, free_writes_change_nothing,
     sectors_have_one_meaning, syncs_keep_placements,

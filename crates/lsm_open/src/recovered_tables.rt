@@ -20,12 +20,11 @@ ghost use Rattle.lsm_open.specs.RecoveredTables.{placed_in, sealed_versions, IsR
 ghost use Rattle.lsm_root.specs.Layout.{IsDeviceSize};
 ghost use Rattle.lsm_root.specs.Roots.{root_of};
 
-use crate::formatting::is_device_size;
 use crate::regions::Regions;
 use crate::reopened::reopen;
 use crate::replayed::{Replayed, replay_regions};
 use crate::tables::read_tables;
-use lsm_codec::{LogRecord, Manifest, TableRecord};
+use lsm_codec::{LogRecord, Manifest, TableRecord, is_device_size};
 use lsm_device::{Device, Refusal};
 use lsm_extent::Extents;
 use lsm_levels::Levels;

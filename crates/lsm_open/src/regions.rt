@@ -5,11 +5,9 @@ ghost use Rattle.lsm_open.specs.Layout.{record_of, layout_of};
 ghost use Rattle.lsm_open.specs.Placements.{contents_for};
 ghost use Rattle.lsm_open.specs.Tables.{first_data};
 
-use lsm_codec::{LogRecord, Manifest, TableRecord};
+use lsm_codec::{LogRecord, Manifest, ROOT_SECTORS, TableRecord};
 use lsm_log::Log;
 use std::alloc::{AllocError, Allocator, Global};
-
-const FIRST_REGION: u32 = 130;
 
 /// The open log, and the number of its region, from 0 to 2.
 #[derive(Debug, Drop)]
@@ -40,7 +38,7 @@ pub struct Regions<A: Allocator = Global> {
 pub(crate) fn region_start(log_sectors: u16, region: u8) -> u32
     ensures { result ≡ region_start log_sectors region }
 {
-    FIRST_REGION + region as u32 * log_sectors as u32
+    ROOT_SECTORS + region as u32 * log_sectors as u32
 }
 
 impl OpenRegion {
