@@ -180,9 +180,9 @@ told_after_a_sync() {
 if command -v strace >strace.path && strace -qq -o trace true 2>err; then
     calls_of format traced 8192 128
     told_after_a_sync format
-    # The zeros of the new file are synced whole, before the store is written.
-    [[ $calls =~ ^w{8192}s ]] || fail "format: no sync of the new file behind its zeros"
-    [ "$(count s)" -eq 1 ] || fail "format: $(count s) syncs of the whole file"
+    # The zeros of the new file, 64 KiB by a call, are synced whole, and then the folder with its name, before the store is written.
+    [[ $calls =~ ^w{64}ss ]] || fail "format: no sync of the new file and its folder behind its zeros"
+    [ "$(count s)" -eq 2 ] || fail "format: $(count s) syncs of a whole file and its folder"
     formatting=$(count d)
     calls_of put traced 61 31
     told_after_a_sync put
@@ -190,9 +190,50 @@ if command -v strace >strace.path && strace -qq -o trace true 2>err; then
     calls_of get traced 61
     told_after_a_sync get
     getting=$(count d)
+    # A batch of 45 sectors takes four writes at most, beside the two of the opening's root.
+    {
+        printf 'commit'
+        for key in 01 02 03 04 05 06 07 08 09 0a; do printf ' +%s=%04096d' "$key" 0; done
+        printf ' +0b=%01400d\nroom\n' 0
+    } >batch
+    calls_of replay traced <batch
+    [ "$(tail -n 1 out)" = 'room 83' ] || fail "a batch of 45 sectors leaves $(tail -n 1 out)"
+    [ "$(count w)" -le 6 ] || fail "a batch of 45 sectors: $(count w) writes"
     # Format syncs its zeros, and each opening what pended; then a root is installed with two syncs. A put syncs its batch.
     [ "$formatting $putting $getting" = "3 4 3" ] || fail "syncs of data: format $formatting, put $putting, get $getting"
-    echo "files.sh: syncs of data: format $formatting and one of the whole file, put $putting, get $getting; each before the line that tells"
+    echo "files.sh: syncs of data: format $formatting and one of the whole file and its folder, put $putting, get $getting; each before the line that tells"
 else
     echo "files.sh: skipped: the count of syncs, for want of strace"
+fi
+
+# ---- a file that another program has
+
+if command -v flock >/dev/null; then
+    "$program" format held 8192 128 >out 2>err || fail "format held: $(cat err)"
+    before=$(sha256sum <held)
+    rm -f locked
+    (
+        exec 9<>held
+        flock 9
+        : >locked
+        exec sleep 60
+    ) &
+    holder=$!
+    until [ -e locked ]; do sleep 0.05; done
+    for words in 'get held 61' 'put held 61 31' 'del held 61' 'scan held empty 1' 'stat held' 'check held' 'replay held' 'format held 8192 128'; do
+        status=0
+        # The words are parted by spaces.
+        # shellcheck disable=SC2086
+        said=$("$program" $words </dev/null 2>&1) || status=$?
+        [ "$status" -eq 1 ] && [ "$said" = "$(printf 'refused 02 Io\nerror: the file is in use')" ] ||
+            fail "'$words' of a file in use ended with $status: $said"
+    done
+    kill "$holder"
+    wait "$holder" 2>/dev/null
+    [ "$(sha256sum <held)" = "$before" ] || fail "a refused run has changed a file in use"
+    said=$("$program" get held 61 2>&1) || fail "get of a file that is free again: $said"
+    [ "$said" = absent ] || fail "get of a file that is free again prints '$said'"
+    echo "files.sh: a file that another program has is left alone"
+else
+    echo "files.sh: skipped: flock is not installed, so no run met a file that another program has"
 fi

@@ -10,7 +10,7 @@ use Rattle.lsm_device.specs.declared.refusal.Refusal.TheVariants.{NoMemory}
 use Rattle.lsm_requests.specs.declared.answer.Answer.{Answer}
 use Rattle.lsm_language.specs.declared.asked.Asked.{Asked}
 use Rattle.lsm_language.specs.declared.fault.Fault.{Fault}
-use Rattle.lsm_language.specs.Faults.{Reason, mistake, refusal, unread, reason_of, status_of}
+use Rattle.lsm_language.specs.Faults.{Reason, mistake, refusal, in_use, unread, reason_of, status_of}
 use Rattle.lsm_cli.specs.Program.{has_words, program}
 use Rattle.lsm_language.specs.Requests.{reason_for}
 use Rattle.lsm_requests.specs.Answers.{lines_of}
@@ -61,11 +61,13 @@ Fails-request words input asked text reason read (inr e) = subst (Fails words in
 status_of-positive : (r : Reason) → status_of r ≡ 0 → ⊥
 status_of-positive mistake e = grind arith
 status_of-positive (refusal r) e = grind arith
+status_of-positive in_use e = grind arith
 status_of-positive unread e = grind arith
 
 status_of-mistake : (r : Reason) → status_of r ≡ 2 → r ≡ mistake
 status_of-mistake mistake e = grind arith
 status_of-mistake (refusal r) e = grind arith
+status_of-mistake in_use e = grind arith
 status_of-mistake unread e = grind arith
 
 module _ (words : List Text) (input : Option (List ℕ)) (bytes : Written) (ends : ℕ) where

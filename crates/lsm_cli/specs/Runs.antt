@@ -7,7 +7,7 @@ use Rattle.lsm_language.specs.declared.asked.Asked.{Asked}
 use Rattle.lsm_language.specs.declared.request.Request.{Request}
 use Rattle.lsm_requests.specs.declared.answer.Answer.{Answer}
 use Rattle.lsm_language.specs.declared.fault.Fault.{Fault}
-use Rattle.lsm_language.specs.Faults.{Reason, mistake, refusal, unread, reason_of}
+use Rattle.lsm_language.specs.Faults.{Reason, mistake, refusal, in_use, unread, reason_of}
 use Rattle.lsm_language.specs.Words.{after}
 use Rattle.lsm_cli.specs.Program.{program, Asks}
 use Rattle.lsm_language.specs.Requests.{Says, reason_for, wants_script}
@@ -82,6 +82,7 @@ pub record IsUnread (words : List Text) : Type 0 where
 abbrev pub IsElsewhere : List Text → Option (List ℕ) → Reason → Type 0
 IsElsewhere words input mistake = AskNothing words
 IsElsewhere words input (refusal r) = (r ≡ NoMemory) ⊎ IsTried words input
+IsElsewhere words input in_use = IsTried words input
 IsElsewhere words input unread = IsUnread words
 
 -- Why there is no answer. A mistake is one of the words or of the script, and nothing was done.

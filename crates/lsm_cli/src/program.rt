@@ -7,6 +7,7 @@ ghost use Rattle.lsm_language.specs.Faults.{mistake, reason_of};
 ghost use Rattle.lsm_cli.specs.Runs.{Fails, HasServed, IsRun, IsServed};
 
 use crate::parser::asked_for;
+use lsm_device::{FileDevice, Refusal};
 use lsm_language::fault::Fault;
 use lsm_language::input::script_text;
 use lsm_language::request::Request;
@@ -62,5 +63,18 @@ fn answer<R: Files<File = File> + AllocGlobal + Threads + Wait + Sync, S: AsStr,
     let asked = asked_for(rt.alloc(), words)?;
     let text = script_text(rt.alloc(), &asked, input)?;
     let request = Request::read(rt.alloc(), asked, &text)?;
-    Ok(calls::answer(rt, request)?)
+    let file = request.file();
+    match calls::answer(rt, request) {
+        Ok(answer) => Ok(answer),
+        Err(Refusal::Io) if is_in_use(rt, file) => Err(Fault::InUse),
+        Err(refusal) => Err(Fault::Refused(refusal)),
+    }
+}
+
+// Whether another program has the file just now.
+fn is_in_use<R: Files<File = File>>(rt: &R, file: Option<&str>) -> bool {
+    match file {
+        Some(file) => FileDevice::is_in_use(rt, file),
+        None => false,
+    }
 }

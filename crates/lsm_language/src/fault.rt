@@ -39,13 +39,15 @@ pub enum Usage {
     Misplaced { number: usize, line: String },
 }
 
-/// A mistake in the words or the script, a refusal, or a script that could not be read.
+/// A mistake in the words or the script, a refusal, a file that another program has, or a script that could not be read.
 #[derive(Debug, Drop, Error)]
 pub enum Fault {
     #[error("{0}")]
     Usage(Usage),
     #[error("{text}", text = refusal_text(.0))]
     Refused(Refusal),
+    #[error("the file is in use")]
+    InUse,
     #[error("the script could not be read: {0}")]
     Input(io::Error),
 }

@@ -71,6 +71,20 @@ pub enum Request<'a> {
 }
 
 impl<'a> Request<'a> {
+    /// The file that it is about, if it is about one.
+    pub fn file(&self) -> Option<&'a str> {
+        match self {
+            Request::Format { file, .. }
+            | Request::Commit { file, .. }
+            | Request::Get { file, .. }
+            | Request::Scan { file, .. }
+            | Request::Stat { file }
+            | Request::Check { file }
+            | Request::Replay { file, .. } => Some(*file),
+            Request::Lives { .. } | Request::Storm { .. } => None,
+        }
+    }
+
     ghost use Rattle.lsm_language.specs.Requests.{reason_for, Says};
 
     /// Reads numbers and bytes from the left, then the text of the script, then tests the limits, then makes the batch.

@@ -5,12 +5,13 @@ use Rattle.lsm_requests.specs.declared.answer.Answer.{Answer}
 use Rattle.lsm_requests.specs.declared.answer.Output.{Output}
 use Rattle.lsm_requests.specs.declared.answer.Output.TheVariants.{Formatted, Batch, Value, Absent, Lines, Found}
 use Rattle.lsm_language.specs.declared.fault.Fault.{Fault}
-use Rattle.lsm_language.specs.Faults.{Reason, mistake, refusal, unread, reason_of, status_of}
+use Rattle.lsm_language.specs.Faults.{Reason, mistake, refusal, in_use, unread, reason_of, status_of}
 use Rattle.lsm_requests.specs.Endings.{answer_status, status_after}
 
 status_of-at_most : (r : Reason) → status_of r ≤ 2
 status_of-at_most mistake = grind arith
 status_of-at_most (refusal r) = grind arith
+status_of-at_most in_use = grind arith
 status_of-at_most unread = grind arith
 
 pub answer_status-at_most : (output : Output) → answer_status output ≤ 1

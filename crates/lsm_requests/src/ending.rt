@@ -7,6 +7,7 @@ ghost use Rattle.lsm_language.specs.Faults.{reason_of};
 ghost use Rattle.lsm_requests.specs.Endings.{Concludes, IsReported, answer_status, status_after};
 
 use crate::answer::{Answer, Output};
+use lsm_device::Refusal;
 use lsm_language::fault::{Fault, Usage};
 use lsm_language::refused::refusal_text;
 use std::io;
@@ -50,7 +51,7 @@ fn status(answered: &Result<Answer, Fault>, written: &io::Result<()>) -> u8
     }
     match answered {
         Ok(answer) => answer_status(answer),
-        Err(Fault::Refused(_) | Fault::Input(_)) => REFUSED,
+        Err(Fault::Refused(_) | Fault::InUse | Fault::Input(_)) => REFUSED,
         Err(Fault::Usage(_)) => USAGE,
     }
 }
@@ -104,6 +105,10 @@ fn report<E: Write>(errors: &mut E, fault: &Fault) -> io::Result<()>
         Fault::Refused(refusal) => {
             let refused = refusal_text(refusal);
             writeln!(errors, "{refused}")?;
+        }
+        Fault::InUse => {
+            let refused = refusal_text(&Refusal::Io);
+            writeln!(errors, "{refused}\nerror: the file is in use")?;
         }
         Fault::Usage(Usage::Words(error)) => write!(errors, "{error}")?,
         _ => writeln!(errors, "error: {fault}")?,
