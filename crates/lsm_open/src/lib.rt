@@ -1,4 +1,16 @@
 //! Stores are made on a device, and found again on what a crash left of one.
+//!
+//! [`format`] makes a device an empty store; until it has answered Ok nothing is promised of the device. [`recover_with_tables`] is
+//! what an opening does below the store: it syncs, reads the root and what of each table is kept in memory, replays the log regions,
+//! and installs the next generation. What sectors stand for (`StandFor`), and what a crash inside an installation leaves, are laws here.
+//! A refusal of `format` hands the device back.
+//!
+//! ```
+//! let device = match format(alloc, device, 128) {
+//!     Ok(device) => device,
+//!     Err((refusal, _)) => return Err(refusal),
+//! };
+//! ```
 #![tactic(auto)]
 
 mod formatting;

@@ -1,4 +1,22 @@
 //! A store that many threads share: one lock, one history.
+//!
+//! [`prepare`] and [`Shared::begin`] make a session and its clients, one for each thread. [`Client::call`] makes a call in one hold of
+//! the lock; [`Client::turn`] does the next piece of a flush or a compaction, or hands out an input, which the thread merges without the
+//! lock and gives back by [`Client::bring`]; [`Client::watch`] reads the numbers of the history without the lock. [`Shared::finish`] ends
+//! the session: it gives the store, and the trail of all calls with each client's own. A trail has 65,536 entries at most; then each
+//! call answers `TrailFull`, the clients come back, and the next session begins.
+//!
+//! ```
+//! match me.turn(rt, shared)? {
+//!     Turn::Idle => Ok(false),
+//!     Turn::Did(_) => Ok(true),
+//!     Turn::Merge { job, result, input } => {
+//!         let built = build(rt, alloc, input, 2)?;
+//!         me.bring(rt, shared, job, result, &built)?;
+//!         Ok(true)
+//!     }
+//! }
+//! ```
 #![tactic(auto)]
 
 mod answer;
