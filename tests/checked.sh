@@ -158,6 +158,19 @@ checks 1 other 'finding Order table 1'
 patch other 528 401 00
 checks 1 other 'finding Order table 1'
 
+# The footer tells three entries. The second is taken out of the block, which says two and ends as the index tells; then it says
+# four, where the third comes twice.
+third=0163000000000000000101000131
+nothing=0000000000000000000000000000
+cp three other && patch other 514 0 0002 && patch other 514 16 "$third$nothing"
+checks 1 other 'finding Entries table 1'
+cp three other && patch other 514 0 0004 && patch other 514 44 "$third"
+checks 1 other 'finding Entries table 1'
+
+# The first key is another than the footer's, and the blocks are as many and end as told.
+cp three other && patch other 514 3 60
+checks 1 other 'finding Entries table 1'
+
 # The older table has a version of the key that is as new as that in the newer one.
 { echo 'commit +61=31'; flush 1; echo 'commit +61=32'; flush 2; } | made newer
 checks 0 newer 'ok generation 6 batches 2 tables 2 entries 2 free 951'

@@ -203,7 +203,7 @@ if command -v strace >strace.path && strace -qq -o trace true 2>err; then
     [ "$formatting $putting $getting" = "3 4 3" ] || fail "syncs of data: format $formatting, put $putting, get $getting"
     echo "files.sh: syncs of data: format $formatting and one of the whole file and its folder, put $putting, get $getting; each before the line that tells"
 else
-    echo "files.sh: skipped: the count of syncs, for want of strace"
+    echo "files.sh: skipped: syncs of a file, since strace is not installed or may not trace: nothing else sees whether they are made"
 fi
 
 # ---- a file that another program has

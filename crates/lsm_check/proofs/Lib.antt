@@ -1,4 +1,5 @@
 pub mod DeviceReads
+pub mod ReadCounts
 pub mod LaterEpochs
 pub mod BlockEntries
 pub mod TableEntries

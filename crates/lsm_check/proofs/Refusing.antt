@@ -1,9 +1,12 @@
--- What entries are not read for.
-use Rattle.std.proofs.Common.{◌≡◌, ◌⊎◌, inl, inr, true, sym, ap, subst}
+-- What entries, and a whole check, are refused with.
+use Rattle.std.proofs.Common.{◌≡◌, ◌⊎◌, inl, inr, true, Some, sym, ap, subst}
 use Rattle.lsm_device.specs.Refusals.{is_no_fault}
 use Rattle.lsm_device.specs.declared.refusal.Refusal.{Refusal}
-use Rattle.lsm_device.specs.declared.refusal.Refusal.TheVariants.{NoMemory, BadTable}
-use Rattle.lsm_check.specs.Images.{IsShortRefusal}
+use Rattle.lsm_device.specs.declared.refusal.Refusal.TheVariants.{NoMemory, Io, BadManifest, BadTable}
+use Rattle.lsm_open.specs.ToldTables.{IsTableRefusal}
+use Rattle.lsm_root.specs.Loaded.{refusal_of}
+use Rattle.lsm_root.specs.Roots.{Root, Missing, Damaged, OtherSize, Unreadable, Stands}
+use Rattle.lsm_check.specs.Images.{IsShortRefusal, IsCheckRefusal}
 
 -- of bytes in memory
 pub no_fault : (e : Refusal) (P : Type 0) → (e ≡ NoMemory) ⊎ ((e ≡ BadTable) × P) → is_no_fault e ≡ true
@@ -18,3 +21,40 @@ passed_on e P Q more (inr bad) = inr (bad.0, more bad.1)
 pub only_short : (e : Refusal) (P : Type 0) → (P → ⊥) → IsShortRefusal e ⊎ P → IsShortRefusal e
 only_short e P none (inl short) = short
 only_short e P none (inr bad) = absurd (none bad)
+
+-- ---- which refusals a check passes on
+
+pub memory_refused : (e : Refusal) → (e ≡ NoMemory) ⊎ (e ≡ Io) → IsCheckRefusal e
+memory_refused e (inl is) = subst IsCheckRefusal (sym is) tt
+memory_refused e (inr is) = subst IsCheckRefusal (sym is) tt
+
+short_refused : (e : Refusal) → IsShortRefusal e → IsCheckRefusal e
+short_refused NoMemory short = tt
+short_refused Io short = tt
+short_refused other short = absurd short
+
+pub block_refused : (e : Refusal) (P : Type 0) → IsShortRefusal e ⊎ ((e ≡ BadTable) × P) → IsCheckRefusal e
+block_refused e P (inl short) = short_refused e short
+block_refused e P (inr bad) = subst IsCheckRefusal (sym bad.0) tt
+
+same : (d e : Refusal) → Some d ≡ Some e → d ≡ e
+same d e is = cc
+
+root_refused : (root : Root) (e : Refusal) → refusal_of root ≡ Some e → IsCheckRefusal e
+root_refused Missing e is = subst IsCheckRefusal (same _ e is) tt
+root_refused Damaged e is = subst IsCheckRefusal (same _ e is) tt
+root_refused OtherSize e is = subst IsCheckRefusal (same _ e is) tt
+root_refused Unreadable e is = subst IsCheckRefusal (same _ e is) tt
+root_refused (Stands n m) e is = absurd cc
+
+pub load_refused : (e : Refusal) → ((root : Root) × (refusal_of root ≡ Some e)) ⊎ ((e ≡ NoMemory) ⊎ (e ≡ Io)) → IsCheckRefusal e
+load_refused e (inl found) = root_refused found.0 e found.1
+load_refused e (inr other) = memory_refused e other
+
+pub tables_refused : (e : Refusal) → IsTableRefusal e → IsCheckRefusal e
+tables_refused e (inl is) = subst IsCheckRefusal (sym is) tt
+tables_refused e (inr other) = memory_refused e other
+
+pub replay_refused : (e : Refusal) (P : Type 0) → ((e ≡ BadManifest) × P) ⊎ ((e ≡ NoMemory) ⊎ (e ≡ Io)) → IsCheckRefusal e
+replay_refused e P (inl found) = subst IsCheckRefusal (sym found.0) tt
+replay_refused e P (inr other) = memory_refused e other

@@ -6,7 +6,7 @@ use Rattle.lsm_codec.specs.Manifests.{Contents}
 use Rattle.lsm_codec.specs.declared.table_record.TableRecord.{TableRecord}
 use Rattle.lsm_device.specs.Refusals.{is_no_fault}
 use Rattle.lsm_device.specs.declared.refusal.Refusal.{Refusal}
-use Rattle.lsm_device.specs.declared.refusal.Refusal.TheVariants.{NoMemory, Io}
+use Rattle.lsm_device.specs.declared.refusal.Refusal.TheVariants.{NoMemory, Io, NotAStore, BadSuper, BadManifest, BadTable, BadGeometry}
 use Rattle.lsm_extent.specs.Area.{covers, count_below}
 use Rattle.lsm_open.specs.Image.{count_in, HoldNamed}
 use Rattle.lsm_open.specs.Tables.{table_versions}
@@ -42,6 +42,21 @@ IsShortRefusal other = ⊥
 abbrev pub IsShort : Finding → Type 0
 IsShort (Refused refusal) = IsShortRefusal refusal
 IsShort other = ⊥
+
+-- the refusals that a check may end with, of any device
+abbrev pub IsCheckRefusal : Refusal → Type 0
+IsCheckRefusal NoMemory = Unit {0}
+IsCheckRefusal Io = Unit {0}
+IsCheckRefusal NotAStore = Unit {0}
+IsCheckRefusal BadSuper = Unit {0}
+IsCheckRefusal BadGeometry = Unit {0}
+IsCheckRefusal BadManifest = Unit {0}
+IsCheckRefusal BadTable = Unit {0}
+IsCheckRefusal other = ⊥
+
+abbrev pub IsCheckFinding : Finding → Type 0
+IsCheckFinding (Refused refusal) = IsCheckRefusal refusal
+IsCheckFinding other = Unit {0}
 
 -- whether a finding tells of no read that faulted
 abbrev pub finds_no_fault : Finding → Bool

@@ -1,3 +1,4 @@
+pub mod Counted
 pub mod Images
 pub mod Named
 pub mod Seen

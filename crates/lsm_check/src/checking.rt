@@ -1,5 +1,5 @@
 // A device is checked.
-ghost use Rattle.std.specs.Prelude.{◌≡◌, ◌≤◌, ◌+◌, ◌*◌, ℕ, length, IsTrue, IfOk, IfErr, Err};
+ghost use Rattle.std.specs.Prelude.{◌≡◌, ◌≤◌, ◌+◌, ◌*◌, ℕ, length, IsTrue, IfOk, OnOk, IfErr, Err};
 ghost use Rattle.lsm_codec.specs.Geometry.{data_blocks_of};
 ghost use Rattle.lsm_codec.specs.Manifests.{IsManifest};
 ghost use Rattle.lsm_device.specs.Disk.{seen};
@@ -11,7 +11,8 @@ ghost use Rattle.lsm_open.specs.LogRegions.{first_region};
 ghost use Rattle.lsm_open.specs.ReadParts.{ReadsAtMost};
 ghost use Rattle.lsm_open.specs.ToldTables.{Held};
 ghost use Rattle.lsm_root.specs.Layout.{IsDeviceSize};
-ghost use Rattle.lsm_check.specs.Images.{blocks_in_none, IsImage, IsShort, IsShortRefusal, is_faultless};
+ghost use Rattle.lsm_check.specs.Counted.{ReadsBetween, IsReadFor};
+ghost use Rattle.lsm_check.specs.Images.{blocks_in_none, IsImage, IsShort, IsShortRefusal, IsCheckRefusal, IsCheckFinding, is_faultless};
 ghost use Rattle.lsm_check.specs.Named.{AreNamed, AreToldBy, HasBatches};
 
 use crate::epochs::has_none_above;
@@ -46,7 +47,9 @@ fn count_batches<A: Allocator + Clone, D: Device>(
         (HasBatches loaded.now.log_sectors (seen (disk (D.medium device.old))) loaded.now.manifest) }
     ensures fair { (batches : ℕ) → IsTrue (D.medium device.old).lasting.tells
         → HasBatches loaded.now.log_sectors (seen (disk (D.medium device.old))) loaded.now.manifest batches → IfErr result IsShortRefusal }
+    ensures refused { IfErr result IsCheckRefusal }
     ensures device { ReadsAtMost (6 * loaded.now.log_sectors) (faultless result) (D.medium device.old) (D.medium device.new) }
+    ensures whole { OnOk result (ReadsBetween (3 * loaded.now.log_sectors) (6 * loaded.now.log_sectors) (D.medium device.old).calls (D.medium device.new).calls) }
 {
     let replayed = replay_regions(alloc, device, loaded.log_sectors, &loaded.manifest)?;
     let count = replayed.count;
@@ -67,7 +70,9 @@ fn read_named<A: Allocator + Clone, D: Device>(
         AreToldBy n.loaded.log_sectors (seen (disk (D.medium device.old))) n.loaded.manifest n.tables.levels n.batches) }
     ensures fair { (log_sectors : ℕ) (left : CrashState) → IsTrue (D.medium device.old).lasting.tells → StandFor log_sectors left (seen (disk (D.medium device.old)))
         → IfErr result IsShortRefusal }
+    ensures refused { IfErr result IsCheckRefusal }
     ensures device { ReadsAtMost 69698 (faultless result) (D.medium device.old) (D.medium device.new) }
+    ensures whole { IfOk result (λ n. ReadsBetween (3 * n.loaded.log_sectors) 69698 (D.medium device.old).calls (D.medium device.new).calls) }
 {
     let loaded = load(alloc.clone()?, device)?;
     let tables = read_tables(alloc, device, loaded.log_sectors, &loaded.manifest)?;
@@ -103,7 +108,9 @@ fn check_all<A: Allocator + Clone, D: Device>(alloc: &A, device: &mut D) -> Resu
     ensures yes { IsTrue (D.medium device.old).lasting.tells → IfOk result (IsImage (D.medium device.old).size (seen (disk (D.medium device.old)))) }
     ensures image { (log_sectors : ℕ) (left : CrashState) → IsTrue (D.medium device.old).lasting.tells → StandFor log_sectors left (seen (disk (D.medium device.old)))
         → IfErr result IsShort }
+    ensures refused { IfErr result IsCheckFinding }
     ensures device { ReadsAtMost 593986 (is_faultless result) (D.medium device.old) (D.medium device.new) }
+    ensures whole { IsReadFor (D.medium device.old).size (D.medium device.old).calls (D.medium device.new).calls result }
 {
     let named = read_named(alloc, device)?;
     let area = ROOT_SECTORS + 3 * named.loaded.log_sectors as u32;
@@ -131,8 +138,13 @@ pub fn check<A: Allocator + Clone, D: Device>(alloc: A, device: &mut D) -> Resul
         → IfErr result IsShort }
     ensures size { (IsDeviceSize (D.medium device.old).size → ⊥) → (result ≡ Err (Finding.Refused Refusal.BadGeometry)) × (device.new ≡ device.old) }
 
-    // The device is only read, and a read faulted exactly where it answers Io, its last.
+    // Of any device, whether it tells what it holds or not, a refusal is one of these.
+    ensures refused { IfErr result IsCheckFinding }
+
+    // The device is only read, and a read faulted exactly where it answers Io, its last. A yes has read all regions and data
+    // blocks.
     ensures device { ReadsAtMost 593986 (is_faultless result) (D.medium device.old) (D.medium device.new) }
+    ensures whole { IsReadFor (D.medium device.old).size (D.medium device.old).calls (D.medium device.new).calls result }
 {
     root_laws();
     if !is_device_size(device.sectors()) {

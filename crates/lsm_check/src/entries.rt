@@ -1,5 +1,5 @@
 // The entries of a table are read, block by block.
-ghost use Rattle.std.specs.Prelude.{◌≡◌, ◌⊎◌, ◌≤◌, ◌<◌, ◌+◌, true, Some, None, length, IsTrue, IfOk, IfErr};
+ghost use Rattle.std.specs.Prelude.{◌≡◌, ◌⊎◌, ◌≤◌, ◌<◌, ◌+◌, ◌*◌, true, Some, None, length, IsTrue, IfOk, OnOk, IfErr};
 ghost use Rattle.lsm_cache.specs.Reads.{block_at};
 ghost use Rattle.lsm_codec.specs.Entries.{block_of};
 ghost use Rattle.lsm_device.specs.Disk.{seen};
@@ -7,7 +7,8 @@ ghost use Rattle.lsm_device.specs.Medium.{disk};
 ghost use Rattle.lsm_device.specs.Refusals.{faultless};
 ghost use Rattle.lsm_levels.specs.Stored.{LiesWithin, IsStored};
 ghost use Rattle.lsm_open.specs.ReadParts.{ReadsAtMost};
-ghost use Rattle.lsm_check.specs.Images.{IsShort, IsShortRefusal, is_faultless};
+ghost use Rattle.lsm_check.specs.Counted.{ReadsBetween};
+ghost use Rattle.lsm_check.specs.Images.{IsShort, IsShortRefusal, IsCheckRefusal, IsCheckFinding, is_faultless};
 ghost use Rattle.lsm_check.specs.Sound.{AreRead, ends_with};
 
 use crate::finding::Finding;
@@ -43,6 +44,7 @@ fn read_entries<D: Device, A: Allocator + Clone>(
     ensures refused { IfErr result (λ refusal. IsShortRefusal refusal ⊎ ((refusal ≡ Refusal.BadTable)
         × (IsTrue (D.medium device.old).lasting.tells → block_of (block_at (seen (disk (D.medium device.old))) sector) ≡ None))) }
     ensures device { ReadsAtMost 8 (faultless result) (D.medium device.old) (D.medium device.new) }
+    ensures whole { OnOk result (ReadsBetween 8 8 (D.medium device.old).calls (D.medium device.new).calls) }
 {
     let mut block = [0; 4_096];
     read_block(device, sector, &mut block)?;
@@ -78,7 +80,9 @@ fn add_block<D: Device, A: Allocator + Clone>(
     ensures stored { IsTrue (D.medium device.old).lasting.tells → IsStored (seen (disk (D.medium device.old))) area table.now → before ≡ true
         → IfOk result (λ ends. ends ≡ true) }
     ensures fair { IsTrue (D.medium device.old).lasting.tells → IsStored (seen (disk (D.medium device.old))) area table.now → IfErr result IsShortRefusal }
+    ensures refused { IfErr result IsCheckRefusal }
     ensures device { ReadsAtMost 8 (faultless result) (D.medium device.old) (D.medium device.new) }
+    ensures whole { OnOk result (ReadsBetween 8 8 (D.medium device.old).calls (D.medium device.new).calls) }
 {
     let edges = table.table().edges();
     let sector = area + 8 * (table.first_block() + place as u32);
@@ -100,7 +104,9 @@ pub(crate) fn entries_of<D: Device, A: Allocator + Clone>(
     ensures read { IsTrue (D.medium device.old).lasting.tells → IfOk result (λ entries.
         AreRead (seen (disk (D.medium device.old))) area (length table.now.outline.edges) table.now entries.items) }
     ensures fair { IsTrue (D.medium device.old).lasting.tells → IsStored (seen (disk (D.medium device.old))) area table.now → IfErr result IsShort }
+    ensures refused { IfErr result IsCheckFinding }
     ensures device { ReadsAtMost 512 (is_faultless result) (D.medium device.old) (D.medium device.new) }
+    ensures whole { OnOk result (ReadsBetween (8 * length table.now.outline.edges) 512 (D.medium device.old).calls (D.medium device.new).calls) }
 {
     let mut entries = Vec::new(alloc.clone()?);
     let mut ends = true;

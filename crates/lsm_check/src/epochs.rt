@@ -1,5 +1,5 @@
 // The epochs of log sectors.
-ghost use Rattle.std.specs.Prelude.{◌≡◌, ◌≤◌, ◌<◌, ◌+◌, ◌*◌, Some, slice_get, option_map, IsTrue, IfOk, IfErr, MatchBool};
+ghost use Rattle.std.specs.Prelude.{◌≡◌, ◌≤◌, ◌<◌, ◌+◌, ◌*◌, Some, slice_get, option_map, IsTrue, IfOk, OnOk, IfErr, MatchBool};
 ghost use Rattle.lsm_device.specs.Areas.{area};
 ghost use Rattle.lsm_device.specs.Disk.{seen};
 ghost use Rattle.lsm_device.specs.Medium.{disk};
@@ -7,6 +7,7 @@ ghost use Rattle.lsm_device.specs.Refusals.{faultless};
 ghost use Rattle.lsm_log.specs.Opened.{is_above, HasNoneAbove};
 ghost use Rattle.lsm_open.specs.LogRegions.{first_region};
 ghost use Rattle.lsm_open.specs.ReadParts.{ReadsAtMost};
+ghost use Rattle.lsm_check.specs.Counted.{ReadsBetween};
 
 use lsm_codec::{LogSector, ROOT_SECTORS};
 use lsm_device::{Device, Refusal};
@@ -27,6 +28,7 @@ fn reads_above<D: Device>(device: &mut D, at: u32, generation: u64) -> Result<bo
     ensures told { IsTrue (D.medium device.old).lasting.tells → IfOk result (λ above. option_map (is_above generation) (slice_get (seen (disk (D.medium device.old))) at) ≡ Some above) }
     ensures refused { IfErr result (λ refusal. refusal ≡ Refusal.Io) }
     ensures device { ReadsAtMost 1 (faultless result) (D.medium device.old) (D.medium device.new) }
+    ensures whole { OnOk result (ReadsBetween 1 1 (D.medium device.old).calls (D.medium device.new).calls) }
 {
     let mut sector = [0; 512];
     device.read(at, &mut sector)?;
@@ -46,6 +48,7 @@ pub(crate) fn has_none_above<D: Device>(
         (¬ HasNoneAbove generation (area first_region (3 * log_sectors) (seen (disk (D.medium device.old)))))) }
     ensures refused { IfErr result (λ refusal. refusal ≡ Refusal.Io) }
     ensures device { ReadsAtMost (3 * log_sectors) (faultless result) (D.medium device.old) (D.medium device.new) }
+    ensures whole { IfOk result (λ none. IsTrue none → ReadsBetween (3 * log_sectors) (3 * log_sectors) (D.medium device.old).calls (D.medium device.new).calls) }
 {
     for i in 0..3 * log_sectors as u32 {
         if reads_above(device, ROOT_SECTORS + i, generation)? {

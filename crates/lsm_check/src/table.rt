@@ -1,5 +1,5 @@
 // One table is checked.
-ghost use Rattle.std.specs.Prelude.{◌≡◌, ◌≤◌, ◌<◌, ◌+◌, ◌^◌, ◌++◌, List, length, nat_le, true, IsTrue, ◌↔◌, IfErr, OnOk, MatchResult};
+ghost use Rattle.std.specs.Prelude.{◌≡◌, ◌≤◌, ◌<◌, ◌+◌, ◌*◌, ◌^◌, ◌++◌, List, length, nat_le, true, IsTrue, ◌↔◌, IfErr, OnOk, MatchResult};
 ghost use Rattle.std.specs.List.{list_all};
 ghost use Rattle.std.specs.Ordering.{is_lt};
 ghost use Rattle.lsm_codec.specs.Versions.{Version, AreOrdered, entry_order};
@@ -9,7 +9,8 @@ ghost use Rattle.lsm_filter.specs.Bits.{is_perhaps};
 ghost use Rattle.lsm_levels.specs.Orders.{IsNewerPlace};
 ghost use Rattle.lsm_levels.specs.Stored.{LiesWithin};
 ghost use Rattle.lsm_open.specs.ReadParts.{ReadsAtMost};
-ghost use Rattle.lsm_check.specs.Images.{IsShort, is_faultless};
+ghost use Rattle.lsm_check.specs.Counted.{ReadsBetween};
+ghost use Rattle.lsm_check.specs.Images.{IsShort, IsCheckFinding, is_faultless};
 ghost use Rattle.lsm_check.specs.Seen.{IsSeen};
 ghost use Rattle.lsm_check.specs.Sound.{tells_entries, Fits, IsTold, IsSound};
 
@@ -83,6 +84,7 @@ fn test<A: Allocator>(
         (λ _. Fits table.now.outline base versions entries.now)
         (λ _. ¬ Fits table.now.outline base versions entries.now) }
     ensures few { OnOk result (length entries.now ≤ 3200) }
+    ensures refused { IfErr result IsCheckFinding }
     ensures no_fault { is_faultless result ≡ true }
 {
     let number = table.number();
@@ -119,7 +121,9 @@ pub(crate) fn check_table<D: Device, A: Allocator + Clone>(
     ensures fair { (versions : List Version) → IsSeen versions so_far.old → IsTrue (D.medium device.old).lasting.tells
         → IsSound (seen (disk (D.medium device.old))) area base table.now → IsNewerPlace versions table.now.versions → IfErr result IsShort }
     ensures few { OnOk result (so_far.new.entries ≤ so_far.old.entries + 3200) }
+    ensures refused { IfErr result IsCheckFinding }
     ensures device { ReadsAtMost 512 (is_faultless result) (D.medium device.old) (D.medium device.new) }
+    ensures whole { OnOk result (ReadsBetween (8 * length table.now.outline.edges) 512 (D.medium device.old).calls (D.medium device.new).calls) }
 {
     let entries = entries_of(alloc, device, area, table)?;
     test(table, &entries, base, so_far)?;

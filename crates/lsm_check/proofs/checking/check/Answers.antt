@@ -24,3 +24,13 @@ pub returns-in_err-report-clause-image : goal.returns-in_err-report-clause-image
 returns-in_err-report-clause-image g c = λ n left t is.
     let p = err_from_is_err_and c.from_residual.result c.from_residual.ensures.1 in
     rw (p.1, p.2) (c.in_err-report.ensures.image n left t is)
+
+pub returns-in_err-report-clause-whole : goal.returns-in_err-report-clause-whole
+returns-in_err-report-clause-whole g c =
+    let p = err_from_is_err_and c.from_residual.result c.from_residual.ensures.1 in
+    rw (p.1, p.2) c.in_err-report.ensures.whole
+
+pub returns-in_err-report-clause-refused : goal.returns-in_err-report-clause-refused
+returns-in_err-report-clause-refused g c =
+    let p = err_from_is_err_and c.from_residual.result c.from_residual.ensures.1 in
+    rw (p.1, p.2) c.in_err-report.ensures.refused

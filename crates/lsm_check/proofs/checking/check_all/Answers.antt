@@ -1,4 +1,4 @@
-use Rattle.std.proofs.Common.{◌≡◌, ◌∙◌, ℕ, true, IsTrue, List, length, subst, sym, arith}
+use Rattle.std.proofs.Common.{◌≡◌, ◌∙◌, ◌+◌, ◌*◌, ℕ, true, IsTrue, List, length, subst, sym, arith}
 use Rattle.std.specs.List.{AllByRecursion}
 use Rattle.std.proofs.lemmas.Result.{err_from_is_err_and}
 use Rattle.lsm_device.specs.Disk.{Disk, seen}
@@ -13,6 +13,8 @@ use Rattle.lsm_open.proofs.TableReads.{reads_joined, reads_wider}
 use Rattle.lsm_check.specs.Images.{finds_no_fault}
 use Rattle.lsm_check.specs.Sound.{IsTold, AreSound}
 use Rattle.lsm_check.proofs.Checked.{few_tables, levels_told, sound_image, image_sound}
+use Rattle.lsm_check.specs.Counted.{data_blocks_in, data_blocks_named}
+use Rattle.lsm_check.proofs.ReadCounts.{between_zero, between_joined, all_named, read_for_finding}
 use Rattle.lsm_check.proofs.checking.check_all.Goals as goal
 
 -- ---- what is asked of the tables
@@ -87,3 +89,46 @@ returns-in_err-entries-clause-device g c =
 
 pub returns-clause-device : goal.returns-clause-device
 returns-clause-device g c = reads_joined 69698 524288 593986 true _ _ _ (omega arith) c.in_ok-named.ensures.device c.in_ok-entries.ensures.device
+
+-- ---- what was read at least
+
+pub returns-in_err-named-clause-whole : goal.returns-in_err-named-clause-whole
+returns-in_err-named-clause-whole g c =
+    let p = err_from_is_err_and c.from_residual.result c.from_residual.ensures.1 in
+    rw (p.1, p.2) tt
+
+pub returns-in_err-entries-clause-whole : goal.returns-in_err-entries-clause-whole
+returns-in_err-entries-clause-whole g c =
+    let D = g.D.Device in
+    let old = D.medium c.args.device.now in
+    let mid = (D.medium c.read_named.new.device).calls in
+    let new = (D.medium c.check_levels.new.device).calls in
+    let n = c.in_ok-named.named.loaded.log_sectors in
+    let p = err_from_is_err_and c.from_residual-in_err-entries.result c.from_residual-in_err-entries.ensures.1 in
+    rw (p.1, p.2) (read_for_finding old.size old.calls new c.in_err-entries.field-0.0 (record {
+      log_sectors = n;
+      geometry = c.in_ok-named.ensures.named.geometry;
+      reads = between_joined (3 * n) 69698 0 524288 (3 * n) 593986 old.calls mid new (omega arith) (omega arith) c.in_ok-named.ensures.whole (between_zero 524288 mid new c.in_err-entries.ensures.device.calls);
+    }))
+
+pub returns-clause-whole : goal.returns-clause-whole
+returns-clause-whole g c =
+    let D = g.D.Device in
+    let old = D.medium c.args.device.now in
+    let n = c.in_ok-named.named.loaded.log_sectors in
+    let m = c.in_ok-named.named.loaded.manifest in
+    let x = c.in_ok-named.named.tables in
+    let blocks = data_blocks_in (all_tables (places x.levels)) in
+    let named = c.in_ok-named.ensures.named in
+    let r = c.report_of.ensures in
+    record {
+      log_sectors = n;
+      manifest = m;
+      geometry = named.geometry;
+      fits = named.fits;
+      generation = r.generation;
+      tables = r.tables;
+      free_blocks = r.free_blocks old.size named.held;
+      reads = between_joined (3 * n) 69698 (8 * blocks) 524288 (3 * n + 8 * data_blocks_named m.tables) 593986 old.calls (D.medium c.read_named.new.device).calls (D.medium c.check_levels.new.device).calls
+          (omega (arith, all_named m x.levels named.named)) (omega arith) c.in_ok-named.ensures.whole c.in_ok-entries.ensures.whole;
+    }

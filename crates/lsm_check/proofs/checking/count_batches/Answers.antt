@@ -1,4 +1,4 @@
-use Rattle.std.proofs.Common.{◌*◌, ℕ, Bool, true, IsTrue, List, subst, sym, arith}
+use Rattle.std.proofs.Common.{inr, ◌*◌, ℕ, Bool, true, IsTrue, List, subst, sym, arith}
 use Rattle.std.proofs.lemmas.Result.{err_from_is_err_and}
 use Rattle.std.specs.Prelude.{MatchBool}
 use Rattle.lsm_device.specs.Areas.{area}
@@ -10,6 +10,8 @@ use Rattle.lsm_log.specs.Opened.{HasNoneAbove}
 use Rattle.lsm_open.specs.LogRegions.{first_region}
 use Rattle.lsm_open.proofs.TableReads.{reads_ok, reads_err, reads_joined, reads_wider, with_told}
 use Rattle.lsm_check.proofs.Readings.{short_replay, short_fault, batches_had}
+use Rattle.lsm_check.proofs.ReadCounts.{between_zero, between_joined}
+use Rattle.lsm_check.proofs.Refusing.{replay_refused, memory_refused}
 use Rattle.lsm_check.proofs.checking.count_batches.Goals as goal
 
 -- ---- how many there are
@@ -89,3 +91,24 @@ returns-clause-device g c =
     let n = c.args.loaded.now.log_sectors in
     let first = reads_ok (3 * n) (D.medium c.args.device.now) (D.medium c.replay_regions.new.device) c.replay_regions.ensures.calls c.in_ok-replayed.ensures.faults c.replay_regions.ensures.unchanged c.replay_regions.ensures.same_size c.replay_regions.ensures.same_lasting in
     reads_joined (3 * n) (3 * n) (6 * n) true _ _ _ (omega arith) first c.in_ok-fresh.ensures.device
+
+pub returns-clause-whole : goal.returns-clause-whole
+returns-clause-whole g c =
+    let D = g.D.Device in
+    let n = c.args.loaded.now.log_sectors in
+    let old = (D.medium c.args.device.now).calls in
+    let mid = (D.medium c.replay_regions.new.device).calls in
+    let new = (D.medium c.has_none_above.new.device).calls in
+    between_joined 0 (3 * n) (3 * n) (3 * n) (3 * n) (6 * n) old mid new (omega arith) (omega arith) (between_zero (3 * n) old mid c.replay_regions.ensures.calls) (c.in_ok-fresh.ensures.whole c.if-not-fresh.false)
+
+-- ---- refusals
+
+pub returns-in_err-replayed-clause-refused : goal.returns-in_err-replayed-clause-refused
+returns-in_err-replayed-clause-refused g c =
+    let p = err_from_is_err_and c.from_residual.result c.from_residual.ensures.1 in
+    rw (p.1, p.2) (replay_refused c.in_err-replayed.field-0.0 _ c.in_err-replayed.ensures.refused)
+
+pub returns-in_err-fresh-clause-refused : goal.returns-in_err-fresh-clause-refused
+returns-in_err-fresh-clause-refused g c =
+    let p = err_from_is_err_and c.from_residual-in_err-fresh.result c.from_residual-in_err-fresh.ensures.1 in
+    rw (p.1, p.2) (memory_refused c.in_err-fresh.field-0.0 (inr c.in_err-fresh.ensures.refused))

@@ -14,6 +14,8 @@ use Rattle.lsm_open.proofs.TableOpenings.{named_here}
 use Rattle.lsm_open.proofs.TableReads.{reads_none, reads_ok, reads_err, reads_joined, reads_wider}
 use Rattle.lsm_check.specs.Named.{HasBatches}
 use Rattle.lsm_check.proofs.Readings.{short_memory, short_load, batches_named}
+use Rattle.lsm_check.proofs.ReadCounts.{between_zero, between_joined}
+use Rattle.lsm_check.proofs.Refusing.{load_refused, tables_refused}
 use Rattle.lsm_check.proofs.checking.read_named.Goals as goal
 
 -- ---- what was read
@@ -129,3 +131,37 @@ returns-clause-device g c =
     let second = reads_ok (56 * length m.tables) (D.medium c.load.new.device) (D.medium c.read_tables.new.device) c.read_tables.ensures.calls c.in_ok-tables.ensures.faults c.read_tables.ensures.unchanged c.read_tables.ensures.same_size c.read_tables.ensures.same_lasting in
     reads_joined 57410 (6 * n) 69698 true _ _ _ (omega (arith, c.in_ok-loaded.ensures.fits.0.log_high))
     (reads_joined 66 (56 * length m.tables) 57410 true _ _ _ (omega (arith, c.in_ok-loaded.ensures.fits.1.numbers.tables)) first second) c.in_ok-batches.ensures.device
+
+pub returns-clause-whole : goal.returns-clause-whole
+returns-clause-whole g c =
+    let D = g.D.Device in
+    let m = c.in_ok-loaded.loaded.manifest in
+    let n = c.in_ok-loaded.loaded.log_sectors in
+    let reads = 56 * length m.tables in
+    let old = (D.medium c.args.device.now).calls in
+    let loaded = (D.medium c.load.new.device).calls in
+    let mid = (D.medium c.read_tables.new.device).calls in
+    let before = between_joined 0 66 0 reads 0 57410 old loaded mid (omega arith) (omega (arith, c.in_ok-loaded.ensures.fits.1.numbers.tables)) (between_zero 66 old loaded c.load.ensures.counts) (between_zero reads loaded mid c.read_tables.ensures.calls) in
+    between_joined 0 57410 (3 * n) (6 * n) (3 * n) 69698 old mid (D.medium c.count_batches.new.device).calls (omega arith) (omega (arith, c.in_ok-loaded.ensures.fits.0.log_high)) before c.in_ok-batches.ensures.whole
+
+-- ---- refusals
+
+pub returns-in_err-clone-clause-refused : goal.returns-in_err-clone-clause-refused
+returns-in_err-clone-clause-refused g c =
+    let p = err_from_is_err_and c.from_residual.result c.from_residual.ensures.1 in
+    rw (p.1, p.2) tt
+
+pub returns-in_err-loaded-clause-refused : goal.returns-in_err-loaded-clause-refused
+returns-in_err-loaded-clause-refused g c =
+    let p = err_from_is_err_and c.from_residual-in_err-loaded.result c.from_residual-in_err-loaded.ensures.1 in
+    rw (p.1, p.2) (load_refused c.in_err-loaded.field-0.0 c.in_err-loaded.ensures.refused)
+
+pub returns-in_err-tables-clause-refused : goal.returns-in_err-tables-clause-refused
+returns-in_err-tables-clause-refused g c =
+    let p = err_from_is_err_and c.from_residual-in_err-tables.result c.from_residual-in_err-tables.ensures.1 in
+    rw (p.1, p.2) (tables_refused c.in_err-tables.field-0.0 c.in_err-tables.ensures.refused)
+
+pub returns-in_err-batches-clause-refused : goal.returns-in_err-batches-clause-refused
+returns-in_err-batches-clause-refused g c =
+    let p = err_from_is_err_and c.from_residual-in_err-batches.result c.from_residual-in_err-batches.ensures.1 in
+    rw (p.1, p.2) c.in_err-batches.ensures.refused

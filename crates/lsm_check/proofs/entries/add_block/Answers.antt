@@ -15,7 +15,7 @@ use Rattle.lsm_levels.specs.Asking.{sector_of}
 use Rattle.lsm_open.specs.ReadParts.{ReadsAtMost}
 use Rattle.lsm_table.specs.Outlines.{Outline}
 use Rattle.lsm_check.specs.Sound.{AreRead, ends_with}
-use Rattle.lsm_check.proofs.Refusing.{only_short}
+use Rattle.lsm_check.proofs.Refusing.{only_short, block_refused}
 use Rattle.lsm_check.proofs.TableEntries.{some_stored, ends_stored, block_more}
 use Rattle.lsm_check.proofs.entries.add_block.Goals as goal
 
@@ -71,3 +71,8 @@ returns-clause-read g c = λ t both before.
     let ends : ends_with block edge ≡ true = sym (c.ends_with-ends.ensures ∙ ap (λ (b : List Version). ends_with b edge) c.deref.ensures.value) ∙ parts.1 in
     let more : c.append.new.self.items ≡ c.args.entries.now.items ++ block = c.in_ok-append.ensures.items in
     subst (λ (l : List Version). AreRead S c.args.area (place + 1) table l) (sym more) (block_more S c.args.area place table c.requires.place edge block c.args.entries.now.items is spelled ends (before parts.0))
+
+pub returns-in_err-block-clause-refused : goal.returns-in_err-block-clause-refused
+returns-in_err-block-clause-refused g c =
+    let p = err_from_is_err_and c.from_residual.result c.from_residual.ensures.1 in
+    rw (p.1, p.2) (block_refused c.in_err-block.field-0.0 _ c.in_err-block.ensures.refused)

@@ -10,6 +10,7 @@ use Rattle.lsm_device.specs.Refusals.{faultless}
 use Rattle.lsm_check.specs.Sound.{AreRead}
 use Rattle.lsm_check.proofs.DeviceReads.{still_tells, still_seen}
 use Rattle.lsm_check.proofs.TableEntries.{none_read, all_read}
+use Rattle.lsm_check.proofs.ReadCounts.{between_none, between_joined}
 use Rattle.lsm_check.proofs.entries.entries_of.Goals as goal
 
 pub loop-place-init : goal.loop-place-init
@@ -18,6 +19,7 @@ loop-place-init g c =
     record {
       same_size = refl;
       device = reads_none 0 (D.medium c.args.device.now);
+      whole = between_none (D.medium c.args.device.now).calls;
       read = λ t ends. none_read (seen (disk (D.medium c.args.device.now))) c.args.area c.args.table.now c.new-entries.result.items c.new-entries.ensures.items;
       stored = λ t stored. refl;
     }
@@ -53,6 +55,7 @@ loop-place-preserved g c =
     record {
       same_size = e.device.same_size ∙ k.same_size;
       device = reads_joined (8 * place) 8 (8 * (place + 1)) true old mid (D.medium c.add_block.new.device) (omega arith) k.device e.device;
+      whole = between_joined (8 * place) (8 * place) 8 8 (8 * (place + 1)) (8 * (place + 1)) old.calls mid.calls (D.medium c.add_block.new.device).calls (omega arith) (omega arith) k.whole e.whole;
       read = λ t ends.
           let same = still_seen (8 * place) true old mid k.device t in
           let before : c.loop-place.ends ≡ true → AreRead (seen (disk mid)) c.args.area place c.args.table.now c.loop-place.entries.items = λ was. subst (λ (s : List (List ℕ)). AreRead s c.args.area place c.args.table.now c.loop-place.entries.items) (sym same) (k.read t was) in
@@ -82,3 +85,21 @@ pub returns-clause-device : goal.returns-clause-device
 returns-clause-device g c =
     let D = g.D.Device in
     reads_wider (8 * c.loop-place.place) 512 true (D.medium c.args.device.now) (D.medium c.loop-place.device) (omega (arith, c.loop-place.auto.place-end, c.data_blocks-place-end.ensures.high)) c.loop-place.invariant.device
+
+pub returns-clause-whole : goal.returns-clause-whole
+returns-clause-whole g c =
+    let D = g.D.Device in
+    let table = c.args.table.now in
+    let size : c.data_blocks-place-end.result ≡ length table.outline.edges = c.data_blocks-place-end.ensures.count ∙ ap (λ (o : Outline). length o.edges) c.table.ensures.same in
+    let count = c.loop-place.invariant.whole in
+    record {
+      count = count.count;
+      low = omega (arith, count.low, size, c.loop-place-test.false, c.loop-place.auto.place-end);
+      high = omega (arith, count.high, c.loop-place.auto.place-end, c.data_blocks-place-end.ensures.high);
+      made = count.made;
+    }
+
+pub returns-in_err-ends-clause-refused : goal.returns-in_err-ends-clause-refused
+returns-in_err-ends-clause-refused g c =
+    let p = err_from_is_err_and c.from_residual-in_err-ends.result c.from_residual-in_err-ends.ensures.1 in
+    rw (p.1, p.2) c.in_err-ends.ensures.refused

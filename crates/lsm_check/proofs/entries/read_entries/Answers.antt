@@ -8,6 +8,7 @@ use Rattle.lsm_device.specs.Refusals.{is_no_fault}
 use Rattle.lsm_open.specs.ReadParts.{ReadsAtMost}
 use Rattle.lsm_check.proofs.DeviceReads.{block_read, block_faulted}
 use Rattle.lsm_check.proofs.Refusing.{no_fault, passed_on}
+use Rattle.lsm_check.proofs.ReadCounts.{between_block}
 use Rattle.lsm_check.proofs.entries.read_entries.Goals as goal
 
 pub returns-in_err-read_block-clause-device : goal.returns-in_err-read_block-clause-device
@@ -41,3 +42,6 @@ returns-clause-device g c =
     let D = g.D.Device in
     let e = c.in_ok-read_block.ensures in
     block_read (D.medium c.args.device.now) (D.medium c.read_block.new.device) e.counted e.unchanged e.same_size e.same_lasting
+
+pub returns-clause-whole : goal.returns-clause-whole
+returns-clause-whole g c = between_block _ _ c.in_ok-read_block.ensures.counted

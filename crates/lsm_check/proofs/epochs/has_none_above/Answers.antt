@@ -10,6 +10,8 @@ use Rattle.lsm_open.specs.ReadParts.{ReadsAtMost}
 use Rattle.lsm_open.proofs.TableReads.{reads_joined}
 use Rattle.lsm_check.proofs.DeviceReads.{still_tells, still_seen}
 use Rattle.lsm_check.proofs.LaterEpochs.{none_more, one_above}
+use Rattle.lsm_check.proofs.ReadCounts.{between_joined}
+use Rattle.lsm_check.specs.Counted.{ReadsBetween}
 use Rattle.lsm_check.proofs.epochs.has_none_above.Goals as goal
 
 pub returns-in_err-reads_above-clause-device : goal.returns-in_err-reads_above-clause-device
@@ -52,6 +54,7 @@ loop-i-preserved g c =
     record {
       same_size = e.device.same_size ∙ k.same_size;
       device = reads_joined i 1 (i + 1) true old mid (D.medium c.reads_above.new.device) (omega arith) k.device e.device;
+      whole = between_joined i i 1 1 (i + 1) (i + 1) old.calls mid.calls (D.medium c.reads_above.new.device).calls (omega arith) (omega arith) k.whole e.whole;
       none = λ t.
           let told : option_map (is_above c.args.generation) (slice_get S (first_region + i)) ≡ Some false =
           ap (λ (s : List (List ℕ)). option_map (is_above c.args.generation) (slice_get s (first_region + i))) (sym (still_seen i true old mid k.device t))
@@ -65,3 +68,10 @@ returns-clause-told g c = λ t.
     let S = seen (disk (D.medium c.args.device.now)) in
     let end : c.loop-i.i ≡ 3 * c.args.log_sectors = omega (arith, c.loop-i-test.false, c.loop-i.auto.i-end) in
     subst (λ (n : ℕ). HasNoneAbove c.args.generation (area first_region n S)) end (c.loop-i.invariant.none t)
+
+pub returns-clause-whole : goal.returns-clause-whole
+returns-clause-whole g c = λ none.
+    let D = g.D.Device in
+    let n = 3 * c.args.log_sectors in
+    let end : c.loop-i.i ≡ n = omega (arith, c.loop-i-test.false, c.loop-i.auto.i-end) in
+    subst (λ (k : ℕ). ReadsBetween k k (D.medium c.args.device.now).calls (D.medium c.loop-i.device).calls) end c.loop-i.invariant.whole

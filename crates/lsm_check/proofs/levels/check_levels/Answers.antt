@@ -5,7 +5,7 @@ use Rattle.std.proofs.lemmas.Result.{err_from_is_err_and}
 use Rattle.lsm_codec.proofs.Lists.{all_left, all_right}
 use Rattle.lsm_device.specs.Disk.{seen}
 use Rattle.lsm_device.specs.Medium.{disk}
-use Rattle.lsm_levels.specs.Levels.{all_tables}
+use Rattle.lsm_levels.specs.Levels.{all_tables, places}
 use Rattle.lsm_levels.specs.Stored.{LiesWithin, AreWithin}
 use Rattle.lsm_levels.specs.Tables.{Table}
 use Rattle.lsm_open.proofs.TableReads.{reads_joined, reads_wider}
@@ -13,6 +13,8 @@ use Rattle.lsm_check.specs.Images.{finds_no_fault}
 use Rattle.lsm_check.specs.Sound.{IsTold, AreSound, AreSeen}
 use Rattle.lsm_check.proofs.DeviceReads.{still_tells, still_seen}
 use Rattle.lsm_check.proofs.SoundRuns.{seen_none, told_if_sound, places_parted, count_places}
+use Rattle.lsm_check.proofs.ReadCounts.{between_joined, blocks_parted}
+use Rattle.lsm_check.specs.Counted.{data_blocks_in}
 use Rattle.lsm_check.proofs.levels.check_levels.Goals as goal
 
 pub check_runs-requires-clause-within : goal.check_runs-requires-clause-within
@@ -111,3 +113,14 @@ returns-clause-device g c =
     let count = count_places c.args.levels.now c.runs.result.now c.deeper.result.now c.runs.ensures.same c.deeper.ensures.same in
     reads_joined (512 * length (all_tables c.runs.result.now)) (512 * length (all_tables c.deeper.result.now)) 524288 true (D.medium c.args.device.now) (D.medium c.check_runs.new.device) (D.medium c.check_runs-2.new.device)
     (omega (arith, count, c.requires.few)) c.in_ok-check_runs.ensures.device c.in_ok-check_runs-2.ensures.device
+
+pub returns-clause-whole : goal.returns-clause-whole
+returns-clause-whole g c =
+    let D = g.D.Device in
+    let levels = c.args.levels.now in
+    let newer = all_tables c.runs.result.now in
+    let older = all_tables c.deeper.result.now in
+    let count = count_places levels c.runs.result.now c.deeper.result.now c.runs.ensures.same c.deeper.ensures.same in
+    let whole = places_parted levels c.runs.result.now c.deeper.result.now c.runs.ensures.same c.deeper.ensures.same in
+    between_joined (8 * data_blocks_in newer) (512 * length newer) (8 * data_blocks_in older) (512 * length older) (8 * data_blocks_in (all_tables (places levels))) 524288 (D.medium c.args.device.now).calls (D.medium c.check_runs.new.device).calls (D.medium c.check_runs-2.new.device).calls
+    (omega (arith, blocks_parted (all_tables (places levels)) newer older whole)) (omega (arith, count, c.requires.few)) c.in_ok-check_runs.ensures.whole c.in_ok-check_runs-2.ensures.whole

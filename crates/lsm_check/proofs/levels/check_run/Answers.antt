@@ -9,6 +9,8 @@ use Rattle.lsm_check.specs.Images.{finds_no_fault}
 use Rattle.lsm_check.specs.Sound.{IsTold, IsSound, AreSound, AreSeen}
 use Rattle.lsm_check.proofs.DeviceReads.{still_tells, still_seen}
 use Rattle.lsm_check.proofs.SoundRuns.{seen_later, sound_at, older_at, told_if_sound, parted}
+use Rattle.lsm_check.proofs.ReadCounts.{between_joined, blocks_up_to}
+use Rattle.lsm_check.specs.Counted.{data_blocks_in, ReadsBetween}
 use Rattle.lsm_check.proofs.levels.check_run.Goals as goal
 
 pub returns-in_err-check_table-clause-fair : goal.returns-in_err-check_table-clause-fair
@@ -50,6 +52,8 @@ loop-table-preserved g c =
     let inv = c.loop-table.invariant in
     record {
       device = reads_joined (512 * i) 512 (512 * (i + 1)) true old mid (D.medium c.check_table.new.device) (omega arith) inv.device c.in_ok-check_table.ensures.device;
+      whole = between_joined (8 * data_blocks_in (take i run)) (512 * i) (8 * length t.outline.edges) 512 (8 * data_blocks_in (take (i + 1) run)) (512 * (i + 1)) old.calls mid.calls (D.medium c.check_table.new.device).calls
+          (omega (arith, blocks_up_to run i t c.loop-table-test.true c.table-item.is)) (omega arith) inv.whole c.in_ok-check_table.ensures.whole;
       few = omega (arith, c.in_ok-check_table.ensures.few, inv.few);
       sound = λ done tells told first.
           let same = still_seen (512 * i) true old mid inv.device tells in
@@ -64,3 +68,12 @@ returns-clause-sound g c done tells told first =
     let D = g.D.Device in
     let S = seen (disk (D.medium c.args.device.now)) in
     subst (λ (l : List Table). AreSeen S c.args.area c.args.base (done ++ l) c.loop-table.so_far) (take_all c.loop-table.table-index c.args.run.now (omega (arith, c.loop-table-test.false))) (c.loop-table.invariant.sound done tells told first)
+
+pub returns-clause-whole : goal.returns-clause-whole
+returns-clause-whole g c =
+    let D = g.D.Device in
+    let i = c.loop-table.table-index in
+    let run = c.args.run.now in
+    let all = take_all i run (omega (arith, c.loop-table-test.false)) in
+    let count = subst (λ (l : List Table). ReadsBetween (8 * data_blocks_in l) (512 * i) (D.medium c.args.device.now).calls (D.medium c.loop-table.device).calls) all c.loop-table.invariant.whole in
+    record { count = count.count; low = count.low; high = omega (arith, count.high, c.loop-table.auto.table-index-end); made = count.made }

@@ -1,4 +1,4 @@
-use Rattle.std.proofs.Common.{◌≡◌, ◌+◌, ◌*◌, ◌++◌, ℕ, List, true, length, take, drop, get_or, sym, subst, ◌∙◌, arith, take_all}
+use Rattle.std.proofs.Common.{◌≡◌, ◌+◌, ◌*◌, ◌++◌, ℕ, List, [], true, length, take, drop, get_or, sym, subst, ◌∙◌, arith, take_all}
 use Rattle.std.specs.List.{AllByRecursion}
 use Rattle.std.proofs.lemmas.List.{get_or_default}
 use Rattle.std.proofs.lemmas.Result.{err_from_is_err_and}
@@ -13,6 +13,8 @@ use Rattle.lsm_check.specs.Images.{finds_no_fault}
 use Rattle.lsm_check.specs.Sound.{IsTold, AreSound, AreSeen}
 use Rattle.lsm_check.proofs.DeviceReads.{still_tells, still_seen}
 use Rattle.lsm_check.proofs.SoundRuns.{told_if_sound, runs_parted, runs_up_to, count_up_to, count_all, all_in_runs}
+use Rattle.lsm_check.proofs.ReadCounts.{between_joined, blocks_parted}
+use Rattle.lsm_check.specs.Counted.{data_blocks_in, ReadsBetween}
 use Rattle.lsm_check.proofs.levels.check_runs.Goals as goal
 
 pub check_run-requires-clause-within : goal.check_run-requires-clause-within
@@ -82,6 +84,8 @@ loop-run-preserved g c =
     let reads = 512 * length (all_tables (take i runs)) in
     record {
       device = reads_joined reads (512 * length run) (512 * length (all_tables (take (i + 1) runs))) true old mid (D.medium c.check_run.new.device) (omega (arith, count)) inv.device c.in_ok-check_run.ensures.device;
+      whole = between_joined (8 * data_blocks_in (all_tables (take i runs))) reads (8 * data_blocks_in run) (512 * length run) (8 * data_blocks_in (all_tables (take (i + 1) runs))) (512 * length (all_tables (take (i + 1) runs))) old.calls mid.calls (D.medium c.check_run.new.device).calls
+          (omega (arith, blocks_parted (all_tables (take (i + 1) runs)) (all_tables (take i runs)) run (sym (runs_up_to [] runs i run c.loop-run-test.true is)))) (omega (arith, count)) inv.whole c.in_ok-check_run.ensures.whole;
       few = omega (arith, c.in_ok-check_run.ensures.few, inv.few, count);
       sound = λ done tells told first.
           let before = done ++ all_tables (take i runs) in
@@ -98,3 +102,9 @@ returns-clause-sound g c done tells told first =
     let D = g.D.Device in
     let S = seen (disk (D.medium c.args.device.now)) in
     subst (λ (rs : List (List Table)). AreSeen S c.args.area c.args.base (done ++ all_tables rs) c.loop-run.so_far) (take_all c.loop-run.run-index c.args.runs.now (omega (arith, c.loop-run-test.false))) (c.loop-run.invariant.sound done tells told first)
+
+pub returns-clause-whole : goal.returns-clause-whole
+returns-clause-whole g c =
+    let D = g.D.Device in
+    subst (λ (rs : List (List Table)). ReadsBetween (8 * data_blocks_in (all_tables rs)) (512 * length (all_tables rs)) (D.medium c.args.device.now).calls (D.medium c.loop-run.device).calls)
+    (take_all c.loop-run.run-index c.args.runs.now (omega (arith, c.loop-run-test.false))) c.loop-run.invariant.whole
