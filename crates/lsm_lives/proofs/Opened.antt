@@ -63,7 +63,7 @@ module _ {X : Type 0} (medium : X → Medium) (start : X) where
 
   -- what an opening answers
   pub opening : IsTrue (medium start).lasting.tells → (r : Result StoreView (Refusal × X))
-      → ((IsDeviceSize began.size → ⊥) → (r ≡ Err (BadGeometry, start)) ⊎ (r ≡ Err (NoMemory, start)))
+      → ((IsDeviceSize began.size → ⊥) → r ≡ Err (BadGeometry, start))
       → (IsDeviceSize began.size → MatchResult r (λ s. table_refusal held ≡ None) (λ e. (table_refusal held ≡ Some e.0) ⊎ ((e.0 ≡ NoMemory) ⊎ (e.0 ≡ Io))))
       → IfOk r (λ s. ReopensTo began s)
       → ((log_sectors : ℕ) (left : CrashState) → StandFor log_sectors left held → IfOk r (λ s. OpensTo began log_sectors left s))
@@ -77,7 +77,7 @@ module _ {X : Type 0} (medium : X → Medium) (start : X) where
   unfolding failed
   opening tells (Ok s) size refusal reopens opens fails faults calls called same_size lasting =
       let none : (e : Refusal × X) → Ok s ≡ Err e → ⊥ = λ e is. subst (λ (r : Result StoreView (Refusal × X)). MatchResult r (λ _. Unit {0}) (λ _. ⊥)) is tt in
-      let fits = sized began.size (λ other. ⊎_elim (none (BadGeometry, start)) (none (NoMemory, start)) (size other)) in
+      let fits = sized began.size (λ other. none (BadGeometry, start) (size other)) in
       record {
         size = fits;
         unrefused = refusal fits;
@@ -89,11 +89,11 @@ module _ {X : Type 0} (medium : X → Medium) (start : X) where
         same_lasting = lasting;
       }
   opening tells (Err e) size refusal reopens opens fails faults calls called same_size lasting = record {
-    size = λ other. ⊎_elim (λ (is : Err e ≡ Err (BadGeometry, start)). inr (ap (λ (r : Result StoreView (Refusal × X)). (failed r).0) is)) (λ (is : Err e ≡ Err (NoMemory, start)). inl (ap (λ (r : Result StoreView (Refusal × X)). (failed r).0) is)) (size other);
+    size = λ other. inr (ap (λ (r : Result StoreView (Refusal × X)). (failed r).0) (size other));
     reason = refusal;
     fault = faults;
     called = ⊎_elim (λ fits. ⊎_elim (λ uncalled. inl uncalled.1) (λ behind. inr (record { size = fits; begins = behind.begins; unwritten = behind.unwritten; settled = behind.settled tells })) (called fits))
-        (λ other. inl (⊎_elim (λ (is : Err e ≡ Err (BadGeometry, start)). ap (λ (r : Result StoreView (Refusal × X)). medium (failed r).1) is) (λ (is : Err e ≡ Err (NoMemory, start)). ap (λ (r : Result StoreView (Refusal × X)). medium (failed r).1) is) (size other))) (sized_or_not began.size);
+        (λ other. inl (ap (λ (r : Result StoreView (Refusal × X)). medium (failed r).1) (size other))) (sized_or_not began.size);
     fails = fails;
     same_size = same_size;
     same_lasting = lasting;
