@@ -14,7 +14,7 @@ use Rattle.lsm_open.specs.LogRegions.{follow_on}
 use Rattle.lsm_open.specs.Reopening.{GoesOn}
 use Rattle.lsm_open.specs.ToldTables.{extent_of, Held}
 use Rattle.lsm_open.specs.declared.replayed.Replayed.{Replayed}
-use Rattle.lsm_open.proofs.TableOpenings.{named_here}
+use Rattle.lsm_open.proofs.OpenedStores.{named_here}
 use Rattle.lsm_root.specs.Loaded.{refusal_of}
 use Rattle.lsm_root.specs.Roots.{Root, Stands, root_of}
 use Rattle.lsm_check.specs.Images.{blocks_in_none, IsShortRefusal}

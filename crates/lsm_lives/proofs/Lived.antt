@@ -10,7 +10,7 @@ use Rattle.lsm_device.specs.Outcomes.{Leaves}
 use Rattle.lsm_device.proofs.Moments.{ended}
 use Rattle.lsm_open.specs.CrashState.{CrashState, left_by_opening}
 use Rattle.lsm_open.specs.Image.{StandFor}
-use Rattle.lsm_open.specs.RecoveredTables.{StandForOne, FailsWithTables, CrashesWithTables}
+use Rattle.lsm_open.specs.Recovering.{StandForOne, FailsToOpen, CrashesWhileOpening}
 use Rattle.lsm_open.proofs.Openings.{same_again}
 use Rattle.lsm_store.specs.Backing.{StoreView, machine_of}
 use Rattle.lsm_store.specs.Calls.{Reply}
@@ -61,13 +61,13 @@ module _ (log_sectors : ℕ) (opened : CrashState) (others : List CrashState) wh
   of_held sectors (inr (left, found, is)) = (left, Contains-append_left others (left_by_opening opened) left found, is)
 
   -- a device whose opening was refused
-  refused : (before after : Medium) (refusal : Refusal) → Holds log_sectors opened others (disk before) → FailsWithTables before log_sectors opened refusal after → Leaves IsLeft (disk after)
+  refused : (before after : Medium) (refusal : Refusal) → Holds log_sectors opened others (disk before) → FailsToOpen before log_sectors opened refusal after → Leaves IsLeft (disk after)
   refused before after refusal holds fails = by fails.crash
     where
       untouched : Leaves IsLeft (disk before)
       untouched = λ mask. of_held (image mask (disk before)) (holds.crashes mask)
 
-      by : (after.history ≡ before.history) ⊎ CrashesWithTables before log_sectors opened after → Leaves IsLeft (disk after)
+      by : (after.history ≡ before.history) ⊎ CrashesWhileOpening before log_sectors opened after → Leaves IsLeft (disk after)
       by (inl same) = subst (λ (h : List Disk). Leaves IsLeft (present h)) (sym same) untouched
       by (inr crashes) = λ mask.
           let found = ended (Leaves (StandForOne log_sectors (left_by_opening opened))) crashes.synced_history after.history crashes.crash mask in

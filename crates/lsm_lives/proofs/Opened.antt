@@ -10,8 +10,8 @@ use Rattle.lsm_device.specs.Medium.{Medium, Lasting, KeepsFuse, disk}
 use Rattle.lsm_device.specs.Refusals.{is_no_fault}
 use Rattle.lsm_open.specs.CrashState.{CrashState}
 use Rattle.lsm_open.specs.Image.{StandFor}
-use Rattle.lsm_open.specs.OpeningTables.{table_refusal}
-use Rattle.lsm_open.specs.RecoveredTables.{BeginsTablesWithSync, FailsWithTables}
+use Rattle.lsm_open.specs.RefusedOpenings.{opening_refusal}
+use Rattle.lsm_open.specs.Recovering.{BeginsWithSync, FailsToOpen}
 use Rattle.lsm_root.specs.Layout.{IsDeviceSize}
 use Rattle.lsm_open.proofs.Openings.{same_again}
 use Rattle.lsm_store.specs.Backing.{StoreView}
@@ -64,13 +64,13 @@ module _ {X : Type 0} (medium : X → Medium) (start : X) where
   -- what an opening answers
   pub opening : IsTrue (medium start).lasting.tells → (r : Result StoreView (Refusal × X))
       → ((IsDeviceSize began.size → ⊥) → r ≡ Err (BadGeometry, start))
-      → (IsDeviceSize began.size → MatchResult r (λ s. table_refusal held ≡ None) (λ e. (table_refusal held ≡ Some e.0) ⊎ ((e.0 ≡ NoMemory) ⊎ (e.0 ≡ Io))))
+      → (IsDeviceSize began.size → MatchResult r (λ s. opening_refusal held ≡ None) (λ e. (opening_refusal held ≡ Some e.0) ⊎ ((e.0 ≡ NoMemory) ⊎ (e.0 ≡ Io))))
       → IfOk r (λ s. ReopensTo began s)
       → ((log_sectors : ℕ) (left : CrashState) → StandFor log_sectors left held → IfOk r (λ s. OpensTo began log_sectors left s))
-      → ((log_sectors : ℕ) (left : CrashState) → StandFor log_sectors left held → IfErr r (λ e. FailsWithTables began log_sectors left e.0 (medium e.1)))
+      → ((log_sectors : ℕ) (left : CrashState) → StandFor log_sectors left held → IfErr r (λ e. FailsToOpen began log_sectors left e.0 (medium e.1)))
       → MatchResult r (λ s. s.device.calls.faults ≡ began.calls.faults) (λ e. (medium e.1).calls.faults ≡ faults_after (is_no_fault e.0) began.calls.faults)
       → IfOk r (λ s. AtMost 63554 38 3 began.calls s.device.calls)
-      → (IsDeviceSize began.size → MatchResult r (λ s. BeginsTablesWithSync began.calls s.device.calls) (λ e. IsUncalled e.0 began (medium e.1) ⊎ IsRefusedBehindSync began e.0 (medium e.1)))
+      → (IsDeviceSize began.size → MatchResult r (λ s. BeginsWithSync began.calls s.device.calls) (λ e. IsUncalled e.0 began (medium e.1) ⊎ IsRefusedBehindSync began e.0 (medium e.1)))
       → MatchResult r (λ s. s.device.size ≡ began.size) (λ e. (medium e.1).size ≡ began.size)
       → MatchResult r (λ s. s.device.lasting ≡ began.lasting) (λ e. (medium e.1).lasting ≡ began.lasting)
       → MatchResult r (λ s. BeginsOn began s) (λ e. FailsOn began e.0 (medium e.1))

@@ -9,8 +9,8 @@ use Rattle.lsm_device.specs.declared.refusal.Refusal.{Refusal}
 use Rattle.lsm_device.specs.declared.refusal.Refusal.TheVariants.{NoMemory, Io, BadGeometry}
 use Rattle.lsm_open.specs.CrashState.{CrashState}
 use Rattle.lsm_open.specs.Image.{StandFor}
-use Rattle.lsm_open.specs.OpeningTables.{table_refusal}
-use Rattle.lsm_open.specs.RecoveredTables.{BeginsTablesWithSync, FailsWithTables}
+use Rattle.lsm_open.specs.RefusedOpenings.{opening_refusal}
+use Rattle.lsm_open.specs.Recovering.{BeginsWithSync, FailsToOpen}
 use Rattle.lsm_root.specs.Layout.{IsDeviceSize}
 use Rattle.lsm_store.specs.Backing.{StoreView}
 use Rattle.lsm_store.specs.Calls.{Number, Refused}
@@ -35,7 +35,7 @@ pub record BeginsOn (before : Medium) (s : StoreView) : Type 0 where
   -- neither the device's size nor what it holds refuses it; the store is what it replayed, and of what a crash left the one
   -- that was
   pub size : IsDeviceSize before.size
-  pub unrefused : table_refusal (seen (disk before)) ≡ None
+  pub unrefused : opening_refusal (seen (disk before)) ≡ None
   pub reopens : ReopensTo before s
   pub opens : (log_sectors : ℕ) (left : CrashState) → StandFor log_sectors left (seen (disk before)) → OpensTo before log_sectors left s
   -- no call of the device faulted in it
@@ -48,7 +48,7 @@ pub record BeginsOn (before : Medium) (s : StoreView) : Type 0 where
 -- other change: nothing was written, and what pended stands.
 pub record FailsBehindSync (before : Medium) (refusal : Refusal) (after : Medium) : Type 0 where
   pub size : IsDeviceSize before.size
-  pub begins : BeginsTablesWithSync before.calls after.calls
+  pub begins : BeginsWithSync before.calls after.calls
   pub unwritten : IsTrue (is_no_fault refusal) → AtMost 63554 0 1 before.calls after.calls
   pub settled : IsTrue (is_no_fault refusal) → Becomes (synced (disk before)) before.history after.history
 
@@ -57,12 +57,12 @@ pub record FailsOn (before : Medium) (refusal : Refusal) (after : Medium) : Type
   -- for the device's size, as what it holds calls for, or for want of memory, or with Io, which is told exactly where a call
   -- of the device faulted in it
   pub size : (IsDeviceSize before.size → ⊥) → (refusal ≡ NoMemory) ⊎ (refusal ≡ BadGeometry)
-  pub reason : IsDeviceSize before.size → (table_refusal (seen (disk before)) ≡ Some refusal) ⊎ ((refusal ≡ NoMemory) ⊎ (refusal ≡ Io))
+  pub reason : IsDeviceSize before.size → (opening_refusal (seen (disk before)) ≡ Some refusal) ⊎ ((refusal ≡ NoMemory) ⊎ (refusal ≡ Io))
   pub fault : after.calls.faults ≡ faults_after (is_no_fault refusal) before.calls.faults
   -- before it called the device, or behind a sync
   pub called : (after ≡ before) ⊎ FailsBehindSync before refusal after
   -- of what a crash left it leaves the same
-  pub fails : (log_sectors : ℕ) (left : CrashState) → StandFor log_sectors left (seen (disk before)) → FailsWithTables before log_sectors left refusal after
+  pub fails : (log_sectors : ℕ) (left : CrashState) → StandFor log_sectors left (seen (disk before)) → FailsToOpen before log_sectors left refusal after
   pub same_size : after.size ≡ before.size
   pub same_lasting : after.lasting ≡ before.lasting
 

@@ -6,7 +6,7 @@ use Rattle.lsm_device.specs.Disk.{Disk, seen}
 use Rattle.lsm_device.specs.Outcomes.{Leaves}
 use Rattle.lsm_open.specs.CrashState.{CrashState}
 use Rattle.lsm_open.specs.Image.{StandFor}
-use Rattle.lsm_open.specs.RecoveredTables.{StandForOne}
+use Rattle.lsm_open.specs.Recovering.{StandForOne}
 use Rattle.lsm_store.specs.Calls.{Reply}
 use Rattle.lsm_store.specs.Lives.{Life, Lives, KeepsLives}
 use Rattle.lsm_store.specs.Machine.{Step}

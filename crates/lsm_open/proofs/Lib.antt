@@ -38,7 +38,7 @@ pub mod StandingTables
 pub mod StandingRuns
 pub mod StandingLevels
 pub mod ReadPlaces
-pub mod TableOpenings
-pub mod TableReads
+pub mod OpenedStores
+pub mod OpeningAnswers
 pub mod OpeningReads
-pub mod TableMoments
+pub mod OpeningMoments

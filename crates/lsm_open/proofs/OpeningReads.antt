@@ -7,7 +7,7 @@ use Rattle.lsm_device.specs.declared.calls.Calls.{Calls}
 use Rattle.lsm_device.specs.declared.refusal.Refusal.{Refusal}
 use Rattle.lsm_device.proofs.Counting.{AtMost-joined, AtMost-wider}
 use Rattle.lsm_open.specs.ReadParts.{sectors_read, sectors_read_by}
-use Rattle.lsm_open.specs.RecoveredTables.{BeginsTablesWithSync}
+use Rattle.lsm_open.specs.Recovering.{BeginsWithSync}
 use Rattle.lsm_open.specs.ToldTables.{blocks_beside_data}
 use Rattle.lsm_root.specs.Roots.{Root, Missing, Damaged, OtherSize, Unreadable, Stands, root_of}
 
@@ -59,7 +59,7 @@ not_none n (suc zero) few is = omega (arith, is)
 not_none n (suc (suc zero)) few is = omega (arith, is)
 not_none n (suc (suc (suc k))) few is = omega (arith, few)
 
-pub uncalled : (old new : Calls) → BeginsTablesWithSync old new → new ≡ old → ⊥
+pub uncalled : (old new : Calls) → BeginsWithSync old new → new ≡ old → ⊥
 uncalled old new (ok, calls) same =
     let synced = calls.synced in
     not_none old.syncs synced.0 synced.1 (ap (λ (c : Calls). c.syncs) (sym same) ∙ synced.2)

@@ -5,33 +5,33 @@ use Rattle.std.proofs.lemmas.Option.{same_Some}
 use Rattle.lsm_device.specs.Refusals.{is_no_fault}
 use Rattle.lsm_device.specs.declared.refusal.Refusal.{Refusal}
 use Rattle.lsm_device.specs.declared.refusal.Refusal.TheVariants.{NoMemory, Io, NotAStore, BadSuper, BadGeometry, BadManifest}
-use Rattle.lsm_open.specs.Opening.{IsOpeningRefusal}
+use Rattle.lsm_open.specs.Opening.{IsRefusalBesideBadTable}
 use Rattle.lsm_root.specs.Loaded.{refusal_of}
 use Rattle.lsm_root.specs.Roots.{Root, Missing, Damaged, OtherSize, Unreadable, Stands}
 
-pub from_memory : (refusal : Refusal) → (refusal ≡ NoMemory) ⊎ (refusal ≡ Io) → IsOpeningRefusal refusal
-from_memory refusal (inl e) = subst IsOpeningRefusal (sym e) tt
-from_memory refusal (inr e) = subst IsOpeningRefusal (sym e) tt
+pub from_memory : (refusal : Refusal) → (refusal ≡ NoMemory) ⊎ (refusal ≡ Io) → IsRefusalBesideBadTable refusal
+from_memory refusal (inl e) = subst IsRefusalBesideBadTable (sym e) tt
+from_memory refusal (inr e) = subst IsRefusalBesideBadTable (sym e) tt
 
-of_root : (root : Root) (refusal : Refusal) → refusal_of root ≡ Some refusal → IsOpeningRefusal refusal
-of_root Missing refusal e = subst IsOpeningRefusal (same_Some NotAStore refusal e) tt
-of_root Damaged refusal e = subst IsOpeningRefusal (same_Some BadSuper refusal e) tt
-of_root OtherSize refusal e = subst IsOpeningRefusal (same_Some BadGeometry refusal e) tt
-of_root Unreadable refusal e = subst IsOpeningRefusal (same_Some BadManifest refusal e) tt
+of_root : (root : Root) (refusal : Refusal) → refusal_of root ≡ Some refusal → IsRefusalBesideBadTable refusal
+of_root Missing refusal e = subst IsRefusalBesideBadTable (same_Some NotAStore refusal e) tt
+of_root Damaged refusal e = subst IsRefusalBesideBadTable (same_Some BadSuper refusal e) tt
+of_root OtherSize refusal e = subst IsRefusalBesideBadTable (same_Some BadGeometry refusal e) tt
+of_root Unreadable refusal e = subst IsRefusalBesideBadTable (same_Some BadManifest refusal e) tt
 of_root (Stands log m) refusal e = absurd (cc)
 
-pub from_load : (refusal : Refusal) → ((root : Root) × (refusal_of root ≡ Some refusal)) ⊎ ((refusal ≡ NoMemory) ⊎ (refusal ≡ Io)) → IsOpeningRefusal refusal
+pub from_load : (refusal : Refusal) → ((root : Root) × (refusal_of root ≡ Some refusal)) ⊎ ((refusal ≡ NoMemory) ⊎ (refusal ≡ Io)) → IsRefusalBesideBadTable refusal
 from_load refusal (inl (root, e)) = of_root root refusal e
 from_load refusal (inr other) = from_memory refusal other
 
-pub from_replay : (P : Type 0) (refusal : Refusal) → ((refusal ≡ BadManifest) × P) ⊎ ((refusal ≡ NoMemory) ⊎ (refusal ≡ Io)) → IsOpeningRefusal refusal
-from_replay P refusal (inl found) = subst IsOpeningRefusal (sym found.0) tt
+pub from_replay : (P : Type 0) (refusal : Refusal) → ((refusal ≡ BadManifest) × P) ⊎ ((refusal ≡ NoMemory) ⊎ (refusal ≡ Io)) → IsRefusalBesideBadTable refusal
+from_replay P refusal (inl found) = subst IsRefusalBesideBadTable (sym found.0) tt
 from_replay P refusal (inr other) = from_memory refusal other
 
 -- what an opening begins with is refused for the size, or for a fault
-pub from_begin : (P : Type 0) (refusal : Refusal) → ((refusal ≡ BadGeometry) × P) ⊎ (refusal ≡ Io) → IsOpeningRefusal refusal
-from_begin P refusal (inl small) = subst IsOpeningRefusal (sym small.0) tt
-from_begin P refusal (inr io) = subst IsOpeningRefusal (sym io) tt
+pub from_begin : (P : Type 0) (refusal : Refusal) → ((refusal ≡ BadGeometry) × P) ⊎ (refusal ≡ Io) → IsRefusalBesideBadTable refusal
+from_begin P refusal (inl small) = subst IsRefusalBesideBadTable (sym small.0) tt
+from_begin P refusal (inr io) = subst IsRefusalBesideBadTable (sym io) tt
 
 -- and for a fair size for a fault alone
 pub begun_faults : {G : Type 0} (Fair : Type 0) (refusal : Refusal) → Fair → ((refusal ≡ BadGeometry) × (Fair → ⊥)) ⊎ (refusal ≡ Io) → IsTrue (is_no_fault refusal) → G

@@ -12,6 +12,6 @@ pub mod Replacing
 pub mod Switching
 pub mod Writing
 pub mod ToldTables
-pub mod OpeningTables
-pub mod RecoveredTables
+pub mod RefusedOpenings
+pub mod Recovering
 pub mod ReadParts

@@ -13,12 +13,12 @@ manifest_refusal log_sectors sectors manifest = if follow_on log_sectors sectors
     else Some BadManifest
 
 -- the refusals that an opening may answer besides BadTable, whatever the device holds
-abbrev pub IsOpeningRefusal : Refusal → Type 0
-IsOpeningRefusal NoMemory = Unit {0}
-IsOpeningRefusal Io = Unit {0}
-IsOpeningRefusal NotAStore = Unit {0}
-IsOpeningRefusal BadSuper = Unit {0}
-IsOpeningRefusal BadGeometry = Unit {0}
-IsOpeningRefusal BadManifest = Unit {0}
-IsOpeningRefusal Exhausted = Unit {0}
-IsOpeningRefusal other = ⊥
+abbrev pub IsRefusalBesideBadTable : Refusal → Type 0
+IsRefusalBesideBadTable NoMemory = Unit {0}
+IsRefusalBesideBadTable Io = Unit {0}
+IsRefusalBesideBadTable NotAStore = Unit {0}
+IsRefusalBesideBadTable BadSuper = Unit {0}
+IsRefusalBesideBadTable BadGeometry = Unit {0}
+IsRefusalBesideBadTable BadManifest = Unit {0}
+IsRefusalBesideBadTable Exhausted = Unit {0}
+IsRefusalBesideBadTable other = ⊥

@@ -1,6 +1,6 @@
 //! Stores are made on a device, and found again on what a crash left of one.
 //!
-//! [`format`] makes a device an empty store; until it has answered Ok nothing is promised of the device. [`recover_with_tables`] is
+//! [`format`] makes a device an empty store; until it has answered Ok nothing is promised of the device. [`recover`] is
 //! what an opening does below the store: it syncs, reads the root and what of each table is kept in memory, replays the log regions,
 //! and installs the next generation. What sectors stand for (`StandFor`), and what a crash inside an installation leaves, are laws here.
 //! A refusal of `format` hands the device back.
@@ -19,7 +19,7 @@ mod install_law;
 mod job_law;
 mod law;
 mod next;
-mod recovered_tables;
+mod recovered;
 mod regions;
 mod reopened;
 mod replayed;
@@ -39,7 +39,7 @@ pub use job_law::{
 };
 pub use law::openings_leave_the_same;
 pub use next::table_records;
-pub use recovered_tables::{RecoveredTables, recover_with_tables};
+pub use recovered::{Recovered, recover};
 pub use regions::{OpenRegion, Regions};
 pub use replayed::{Replayed, replay_regions};
 pub use tables::{TablesRead, read_tables};

@@ -2,7 +2,7 @@
 ghost use Rattle.std.specs.Prelude.{◌≡◌, ℕ, List, ◌∷◌};
 ghost use Rattle.lsm_device.specs.Medium.{disk};
 ghost use Rattle.lsm_device.specs.Outcomes.{Leaves};
-ghost use Rattle.lsm_open.specs.RecoveredTables.{StandForOne};
+ghost use Rattle.lsm_open.specs.Recovering.{StandForOne};
 ghost use Rattle.lsm_store.specs.Backing.{StoreView, machine_of, IsBacked};
 ghost use Rattle.lsm_store.specs.Calls.{Snapshot, Number};
 ghost use Rattle.lsm_store.specs.Crash.{may_leave};

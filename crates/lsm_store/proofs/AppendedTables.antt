@@ -25,7 +25,7 @@ use Rattle.lsm_open.specs.Image.{StandFor}
 use Rattle.lsm_open.specs.Layout.{record_of, open_records, open_batches, IsOther, IsClosed, IsOpened, IsLogAt}
 use Rattle.lsm_open.specs.LogRegions.{first_region, region_start, follow_on}
 use Rattle.lsm_open.specs.Placements.{Placement, contents_for, table_map, closed_in, IsStill, IsHeld, Carries, state_with}
-use Rattle.lsm_open.specs.RecoveredTables.{StandForOne}
+use Rattle.lsm_open.specs.Recovering.{StandForOne}
 use Rattle.lsm_open.specs.Tables.{extent_start, extent_length}
 use Rattle.lsm_open.specs.declared.regions.OpenRegion.{OpenRegion}
 use Rattle.lsm_open.proofs.FreeWrites.{disk_in_elsewhere}

@@ -17,7 +17,7 @@ use Rattle.lsm_levels.specs.Stored.{ArePlaced, AreStored, IsReadable}
 use Rattle.lsm_levels.proofs.NamedBlocks.{named_law}
 use Rattle.lsm_log.specs.Opened.{IsOpen, IsGrownBy, TakesBatch, batches_in}
 use Rattle.lsm_open.specs.Image.{StandFor}
-use Rattle.lsm_open.specs.RecoveredTables.{StandForOne}
+use Rattle.lsm_open.specs.Recovering.{StandForOne}
 use Rattle.lsm_open.specs.declared.regions.OpenRegion.{OpenRegion}
 use Rattle.lsm_levels.specs.NamedBlocks.{HasNoBlock}
 use Rattle.lsm_levels.specs.Tables.{Table}

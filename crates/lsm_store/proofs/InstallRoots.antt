@@ -17,7 +17,7 @@ use Rattle.lsm_levels.specs.Levels.{Levels}
 use Rattle.lsm_levels.specs.Pick.{Job, Flush, Merge, is_flush}
 use Rattle.lsm_open.specs.Layout.{Layout, layout_of}
 use Rattle.lsm_open.specs.Placements.{contents_for}
-use Rattle.lsm_open.specs.RecoveredTables.{placed_in}
+use Rattle.lsm_open.specs.Recovering.{placed_in}
 use Rattle.lsm_open.specs.ToldTables.{records_of}
 use Rattle.lsm_root.specs.Installed.{IsReady, IsOldOrNew, IsInstalled}
 use Rattle.lsm_root.specs.Planned.{Planned}

@@ -19,7 +19,7 @@ use Rattle.lsm_jobs.specs.Outputs.{AreMadeOf}
 use Rattle.lsm_jobs.specs.Slots.{Slot, Writing, is_writing, outputs_at}
 use Rattle.lsm_open.specs.CrashState.{CrashState}
 use Rattle.lsm_open.specs.Placements.{Placement, contents_for}
-use Rattle.lsm_open.specs.RecoveredTables.{StandForOne}
+use Rattle.lsm_open.specs.Recovering.{StandForOne}
 use Rattle.lsm_root.specs.Installed.{IsReady, IsInstalled}
 use Rattle.lsm_root.specs.Roots.{Stands}
 use Rattle.lsm_store.specs.Accounts.{outputs_in, tables_placed, AreNumbered}

@@ -21,7 +21,7 @@ use Rattle.lsm_open.proofs.ListPairs.{All-right, pairwise_right}
 use Rattle.lsm_open.specs.CrashState.{last_number}
 use Rattle.lsm_open.specs.Layout.{Layout, record_of, open_records}
 use Rattle.lsm_open.specs.Placements.{contents_for}
-use Rattle.lsm_open.specs.RecoveredTables.{placed_in}
+use Rattle.lsm_open.specs.Recovering.{placed_in}
 use Rattle.lsm_open.specs.ToldTables.{records_of, IsOutlined}
 use Rattle.lsm_open.specs.Tables.{first_data}
 use Rattle.lsm_levels.specs.Stored.{AreWithin}

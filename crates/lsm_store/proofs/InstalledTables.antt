@@ -22,7 +22,7 @@ use Rattle.lsm_open.specs.Image.{StandFor}
 use Rattle.lsm_open.specs.Layout.{open_records, open_batches, IsOpened}
 use Rattle.lsm_open.specs.LogRegions.{all_batches, one_if_some}
 use Rattle.lsm_open.specs.Placements.{Placement, contents_for, table_map, closed_in, present_state, MayBeLeft}
-use Rattle.lsm_open.specs.RecoveredTables.{StandForOne}
+use Rattle.lsm_open.specs.Recovering.{StandForOne}
 use Rattle.lsm_open.specs.Switching.{MayBeInstalled, IsSwitched, rotated as rotated_placement, left_rotated, MayRotate, IsInLeastFree, flushed, left_flushed, AreFlushed, merged, Parts, with_outputs, AreMerged}
 use Rattle.lsm_open.specs.Tables.{extent_start, extent_length}
 use Rattle.lsm_open.specs.declared.regions.OpenRegion.{OpenRegion}

@@ -25,7 +25,7 @@ use Rattle.lsm_jobs.specs.Outputs.{AreMadeOf}
 use Rattle.lsm_jobs.specs.Slots.{Slot, Slots, Writing, slot_of, with_held, outputs_at}
 use Rattle.lsm_open.specs.Layout.{Layout, open_batches}
 use Rattle.lsm_open.specs.Placements.{Placement, contents_for, closed_in}
-use Rattle.lsm_open.specs.RecoveredTables.{placed_in}
+use Rattle.lsm_open.specs.Recovering.{placed_in}
 use Rattle.lsm_open.specs.Switching.{flushed, AreFlushed, merged, with_outputs, AreMerged}
 use Rattle.lsm_open.specs.Tables.{first_data}
 use Rattle.lsm_open.specs.ToldTables.{records_of}

@@ -14,7 +14,7 @@ use Rattle.lsm_open.specs.Layout.{open_batches}
 use Rattle.lsm_open.specs.LogRegions.{one_if_some}
 use Rattle.lsm_open.specs.declared.regions.OpenRegion.{OpenRegion}
 use Rattle.lsm_open.specs.Placements.{Placement, table_map, closed_in, IsHeld, state_with, present_state, MayBeLeft}
-use Rattle.lsm_open.specs.RecoveredTables.{StandForOne}
+use Rattle.lsm_open.specs.Recovering.{StandForOne}
 use Rattle.lsm_open.proofs.HeldPlacements.{open_between, carried_leaves, carried_reads}
 use Rattle.lsm_open.proofs.HeldRegions.{BeginsAfter, begins_after}
 use Rattle.lsm_store.specs.Crash.{closed_with, closed_at, crash_state_at, left_between, may_leave, last_crash_state}

@@ -19,7 +19,7 @@ use Rattle.lsm_mem.proofs.Replays.{with_batches-append}
 use Rattle.lsm_open.specs.Layout.{open_records, open_batches}
 use Rattle.lsm_open.specs.LogRegions.{region_start, all_batches}
 use Rattle.lsm_open.specs.Placements.{Placement, closed_in, IsHeld}
-use Rattle.lsm_open.specs.RecoveredTables.{sealed_versions, IsReopenedWithTables}
+use Rattle.lsm_open.specs.Recovering.{sealed_versions, IsReopened}
 use Rattle.lsm_open.specs.Switching.{rotated}
 use Rattle.lsm_open.specs.declared.regions.OpenRegion.{OpenRegion}
 use Rattle.lsm_open.proofs.HeldRegions.{all_open, placed, same_all}
@@ -141,7 +141,7 @@ module _ (p : Placement) (levels : Levels) (next_table : ℕ) (outputs : List Ta
 
 -- ---- an opening
 
-module _ (sectors : List (List ℕ)) (p : Placement) (count : ℕ) (sealed : Option (List Version)) (levels : Levels) (d : Disk) (is : IsReopenedWithTables sectors p count sealed levels d) where
+module _ (sectors : List (List ℕ)) (p : Placement) (count : ℕ) (sealed : Option (List Version)) (levels : Levels) (d : Disk) (is : IsReopened sectors p count sealed levels d) where
   reads_stand : seen d ≡ d.stands
   reads_stand = ap (written d.stands) is.rests
 

@@ -16,7 +16,7 @@ use Rattle.lsm_levels.specs.Stored.{LiesWithin, AreWithin}
 use Rattle.lsm_levels.specs.Tables.{Table, record_of}
 use Rattle.lsm_open.specs.Layout.{Layout}
 use Rattle.lsm_open.specs.Placements.{contents_for}
-use Rattle.lsm_open.specs.RecoveredTables.{placed_in}
+use Rattle.lsm_open.specs.Recovering.{placed_in}
 use Rattle.lsm_open.specs.Tables.{first_data}
 use Rattle.lsm_open.specs.ToldTables.{records_of_runs, records_of_levels, records_of, IsOutlined}
 use Rattle.lsm_root.specs.Layout.{IsGeometry, LieInside}

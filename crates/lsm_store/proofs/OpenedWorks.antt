@@ -30,7 +30,7 @@ use Rattle.lsm_open.specs.CrashState.{CrashState}
 use Rattle.lsm_open.specs.Layout.{open_records, open_batches}
 use Rattle.lsm_open.specs.LogRegions.{one_if_some}
 use Rattle.lsm_open.specs.Placements.{Placement, closed_in}
-use Rattle.lsm_open.specs.RecoveredTables.{sealed_versions, IsRecoveredWithTables, AreWithinLimits}
+use Rattle.lsm_open.specs.Recovering.{sealed_versions, IsRecovered, AreWithinLimits}
 use Rattle.lsm_open.specs.Tables.{first_data}
 use Rattle.lsm_open.specs.ToldTables.{records_of, Held}
 use Rattle.lsm_open.specs.declared.regions.OpenRegion.{OpenRegion}
@@ -122,7 +122,7 @@ nothing_sealed None e = refl
 nothing_sealed (Some versions) e = absurd (false≢true (sym e))
 
 module _ (size log_sectors count : ℕ) (left : CrashState) (p : Placement) (sealed : Option (List Version)) (levels : Levels) (extents : Area) (d : Disk)
-    (within : AreWithinLimits size p count sealed levels extents) (is : IsRecoveredWithTables log_sectors left p count sealed levels d) where
+    (within : AreWithinLimits size p count sealed levels extents) (is : IsRecovered log_sectors left p count sealed levels d) where
   abbrev w : WorkView
   w = opened_work p sealed levels extents
 

@@ -18,7 +18,7 @@ use Rattle.lsm_levels.specs.Orders.{IsVersionOrder}
 use Rattle.lsm_levels.specs.Stored.{IsReadable}
 use Rattle.lsm_mem.specs.Paging.{Page, page_of}
 use Rattle.lsm_mem.specs.Versions.{map_of}
-use Rattle.lsm_open.specs.RecoveredTables.{StandForOne}
+use Rattle.lsm_open.specs.Recovering.{StandForOne}
 use Rattle.lsm_store.specs.Accounts.{tables_placed, AreNumbered}
 use Rattle.lsm_store.specs.Backing.{StoreView, IsBacked, data_start, machine_of}
 use Rattle.lsm_store.specs.Calls.{Call, Reply}

@@ -8,7 +8,7 @@ use Rattle.lsm_levels.specs.Levels.{Levels}
 use Rattle.lsm_open.specs.CrashState.{last_number}
 use Rattle.lsm_open.specs.Layout.{Layout, record_of, open_records}
 use Rattle.lsm_open.specs.Placements.{contents_for}
-use Rattle.lsm_open.specs.RecoveredTables.{placed_in}
+use Rattle.lsm_open.specs.Recovering.{placed_in}
 use Rattle.lsm_open.specs.Reopening.{least_free, new_records, HasCome}
 use Rattle.lsm_open.specs.Switching.{IsInLeastFree}
 use Rattle.lsm_open.specs.ToldTables.{records_of}

@@ -23,7 +23,7 @@ use Rattle.lsm_open.specs.Image.{StandForSome}
 use Rattle.lsm_open.specs.Layout.{open_records, open_batches}
 use Rattle.lsm_open.specs.LogRegions.{one_if_some}
 use Rattle.lsm_open.specs.Placements.{Placement, contents_for, table_map, closed_in, IsHeld, MayBeLeft, IsFreeWrite}
-use Rattle.lsm_open.specs.RecoveredTables.{StandForOne, IsRecoveredWithTables}
+use Rattle.lsm_open.specs.Recovering.{StandForOne, IsRecovered}
 use Rattle.lsm_open.specs.Tables.{extent_start, extent_length}
 use Rattle.lsm_open.specs.Writing.{IsClear, IsWritten}
 use Rattle.lsm_open.proofs.FreeWrites.{reads_elsewhere, carried_elsewhere, free_moments, tables_seen, carried_synced}
@@ -144,7 +144,7 @@ all_apart : (tables : List TableRecord) → Pairwise TablesAgree tables → Pair
 all_apart [] agree = tt
 all_apart (t ∷ rest) agree = (All-weaker (TablesAgree t) (AreApart t) (λ u is. is.apart) rest agree.0, all_apart rest agree.1)
 
-module _ (log_sectors : ℕ) (left : CrashState) (p : Placement) (count : ℕ) (sealed : Option (List Version)) (levels : Levels) (d : Disk) (is : IsRecoveredWithTables log_sectors left p count sealed levels d) where
+module _ (log_sectors : ℕ) (left : CrashState) (p : Placement) (count : ℕ) (sealed : Option (List Version)) (levels : Levels) (d : Disk) (is : IsRecovered log_sectors left p count sealed levels d) where
   abbrev found : Batches
   found = closed_in p d.stands ++ open_batches p.logs.open_region (seen d)
 

@@ -15,7 +15,7 @@ use Rattle.lsm_jobs.specs.Slots.{Slot, outputs_at, less_left, left_at}
 use Rattle.lsm_jobs.specs.Reading.{stage_with}
 use Rattle.lsm_jobs.proofs.Found.{found_there}
 use Rattle.lsm_open.specs.Placements.{Placement}
-use Rattle.lsm_open.specs.RecoveredTables.{AreWithinLimits}
+use Rattle.lsm_open.specs.Recovering.{AreWithinLimits}
 use Rattle.lsm_open.specs.ToldTables.{records_of_runs, records_of_levels, records_of}
 use Rattle.lsm_store.specs.TableLimits.{AreFew, InstallCounts, FewLaw}
 use Rattle.lsm_store.specs.Work.{WorkView, Work, Take, Read, Ask, Accept, Write, Install, Drop}

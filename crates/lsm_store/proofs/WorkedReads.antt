@@ -17,7 +17,7 @@ use Rattle.lsm_jobs.specs.StoredJobs.{HasStored}
 use Rattle.lsm_levels.specs.Pick.{is_flush}
 use Rattle.lsm_jobs.proofs.Found.{found_there, found_number}
 use Rattle.lsm_jobs.proofs.StoredJobs.{stored_reading_law, never_bad_law}
-use Rattle.lsm_open.specs.RecoveredTables.{StandForOne}
+use Rattle.lsm_open.specs.Recovering.{StandForOne}
 use Rattle.lsm_store.specs.Backing.{StoreView, HasNoneOf, IsRunOn, IsBacked, placement_of, data_start, machine_of}
 use Rattle.lsm_store.specs.Calls.{Number, Refused, Reply, reply_of}
 use Rattle.lsm_store.specs.Effects.{Use}

@@ -21,7 +21,7 @@ use Rattle.lsm_levels.specs.Pick.{Job}
 use Rattle.lsm_levels.specs.Levels.{all_tables, places}
 use Rattle.lsm_store.specs.Accounts.{outputs_in, tables_numbered, AreNumbered}
 use Rattle.lsm_jobs.specs.declared.taking.TakenJob.{TakenJob}
-use Rattle.lsm_open.specs.RecoveredTables.{sealed_versions as sealed_of}
+use Rattle.lsm_open.specs.Recovering.{sealed_versions as sealed_of}
 use Rattle.lsm_open.specs.Tables.{first_data}
 use Rattle.lsm_store.specs.declared.memory.Memory.{Memory}
 use Rattle.lsm_store.specs.declared.snapshots.Mark.{Mark}

@@ -17,7 +17,7 @@ use Rattle.lsm_jobs.specs.Slots.{JobSlots}
 use Rattle.lsm_levels.specs.Levels.{places}
 use Rattle.lsm_levels.specs.Stored.{AreStored}
 use Rattle.lsm_open.specs.Image.{StandFor}
-use Rattle.lsm_open.specs.RecoveredTables.{StandForOne}
+use Rattle.lsm_open.specs.Recovering.{StandForOne}
 use Rattle.lsm_store.specs.Accounts.{outputs_in}
 use Rattle.lsm_store.specs.Backing.{StoreView, HasNoneOf, IsRunOn, IsBacked, placement_of, data_start, machine_of}
 use Rattle.lsm_store.specs.Calls.{Refused, Reply}

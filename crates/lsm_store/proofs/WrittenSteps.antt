@@ -16,7 +16,7 @@ use Rattle.lsm_levels.specs.Tables.{Table, record_of}
 use Rattle.lsm_mem.specs.EntryOrder.{with_batches}
 use Rattle.lsm_open.specs.Layout.{open_batches}
 use Rattle.lsm_open.specs.Placements.{Placement, IsFreeWrite, closed_in}
-use Rattle.lsm_open.specs.RecoveredTables.{StandForOne}
+use Rattle.lsm_open.specs.Recovering.{StandForOne}
 use Rattle.lsm_open.specs.Tables.{first_data, extent_at}
 use Rattle.lsm_open.specs.Writing.{PlacedTable, IsWritten, ArePlacedApart, IsClear, CarriesJobs}
 use Rattle.lsm_open.proofs.FreeWrites.{reads_elsewhere, carried_elsewhere}

@@ -23,7 +23,7 @@ use Rattle.lsm_levels.specs.Levels.{all_tables, places}
 use Rattle.lsm_levels.specs.Tables.{Table}
 use Rattle.lsm_open.specs.CrashState.{CrashState}
 use Rattle.lsm_open.specs.Placements.{Placement}
-use Rattle.lsm_open.specs.RecoveredTables.{StandForOne}
+use Rattle.lsm_open.specs.Recovering.{StandForOne}
 use Rattle.lsm_store.specs.Accounts.{outputs_in}
 use Rattle.lsm_store.specs.Backing.{StoreView, HasNoneOf, IsRunOn, IsBacked, placement_of, data_start, machine_of}
 use Rattle.lsm_store.specs.Calls.{Number, Refused, Reply}

@@ -11,7 +11,7 @@ use Rattle.lsm_jobs.specs.Keeping.{AreKept}
 use Rattle.lsm_jobs.specs.Placing.{extent_of, AreHandedOut}
 use Rattle.lsm_jobs.specs.Slots.{Slots, slot_of, inputs_of, outputs_of}
 use Rattle.lsm_open.specs.Placements.{Placement}
-use Rattle.lsm_open.specs.RecoveredTables.{AreWithinLimits}
+use Rattle.lsm_open.specs.Recovering.{AreWithinLimits}
 use Rattle.lsm_store.specs.Calls.{Call}
 use Rattle.lsm_store.specs.OpenedWork.{opened_work}
 use Rattle.lsm_store.specs.Work.{WorkView, Work}

@@ -14,7 +14,7 @@ use Rattle.lsm_merge.specs.Inputs.{joined}
 use Rattle.lsm_jobs.specs.Slots.{no_jobs}
 use Rattle.lsm_open.specs.CrashState.{CrashState}
 use Rattle.lsm_open.specs.Placements.{Placement}
-use Rattle.lsm_open.specs.RecoveredTables.{sealed_versions, IsRecoveredWithTables, AreWithinLimits}
+use Rattle.lsm_open.specs.Recovering.{sealed_versions, IsRecovered, AreWithinLimits}
 use Rattle.lsm_open.specs.ToldTables.{records_of, Held}
 use Rattle.lsm_store.specs.Crash.{reopened}
 use Rattle.lsm_store.specs.JustOpened.{just_opened}
@@ -54,4 +54,4 @@ pub record OpensSound (size log_sectors : ℕ) (left : CrashState) (p : Placemen
 -- An opening makes such a machine of what a crash left.
 abbrev pub OpenedLaw : Type 0
 OpenedLaw = (size log_sectors count : ℕ) (left : CrashState) (p : Placement) (sealed : Option (List Version)) (levels : Levels) (extents : Area) (d : Disk)
-    → AreWithinLimits size p count sealed levels extents → IsRecoveredWithTables log_sectors left p count sealed levels d → OpensSound size log_sectors left p sealed (opened_machine p count sealed levels extents)
+    → AreWithinLimits size p count sealed levels extents → IsRecovered log_sectors left p count sealed levels d → OpensSound size log_sectors left p sealed (opened_machine p count sealed levels extents)

@@ -8,7 +8,7 @@ use Rattle.lsm_levels.specs.Held.{AreRuns, IsHeld}
 use Rattle.lsm_jobs.specs.Keeping.{AreKept}
 use Rattle.lsm_jobs.specs.Slots.{Slot, outputs_at}
 use Rattle.lsm_open.specs.Placements.{Placement}
-use Rattle.lsm_open.specs.RecoveredTables.{AreWithinLimits}
+use Rattle.lsm_open.specs.Recovering.{AreWithinLimits}
 use Rattle.lsm_store.specs.Work.{WorkView, Work}
 use Rattle.lsm_store.specs.WorkRefusals.{live_tables, has_too_many_runs, has_too_many_tables, running_refusal}
 use Rattle.lsm_store.specs.WorkEffects.{with_installed, work_after}

@@ -7,7 +7,7 @@ use Rattle.lsm_device.specs.Outcomes.{Leaves}
 use Rattle.lsm_device.specs.declared.refusal.Refusal.TheVariants.{NoMemory, BadTable}
 use Rattle.lsm_jobs.specs.Reading.{JobReadsOn}
 use Rattle.lsm_jobs.specs.declared.taking.TakenJob.{TakenJob}
-use Rattle.lsm_open.specs.RecoveredTables.{StandForOne}
+use Rattle.lsm_open.specs.Recovering.{StandForOne}
 use Rattle.lsm_store.specs.Calls.{Reply, Number, Given, Refused}
 use Rattle.lsm_store.specs.Effects.{Use}
 use Rattle.lsm_store.specs.Effects.{Untouched, Reads, Changes}

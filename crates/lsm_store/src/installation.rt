@@ -6,7 +6,7 @@ ghost use Rattle.lsm_jobs.specs.Refusing.{IsAtStage};
 ghost use Rattle.lsm_jobs.specs.Slots.{Slot, slot_of, is_written};
 ghost use Rattle.lsm_open.specs.Layout.{layout_of, open_records};
 ghost use Rattle.lsm_open.specs.Placements.{contents_for};
-ghost use Rattle.lsm_open.specs.RecoveredTables.{placed_in};
+ghost use Rattle.lsm_open.specs.Recovering.{placed_in};
 ghost use Rattle.lsm_open.specs.ToldTables.{records_of};
 ghost use Rattle.lsm_store.specs.Calls.{Done, reply_of};
 ghost use Rattle.lsm_store.specs.InstalledJobs.{first_open};

@@ -14,7 +14,7 @@ ghost use Rattle.lsm_levels.specs.Scans.{ScansRuns, blocks_in, blocks_of_runs};
 ghost use Rattle.lsm_levels.specs.Stored.{AreWithin, IsReadable};
 ghost use Rattle.lsm_mem.specs.Paging.{page_of};
 ghost use Rattle.lsm_mem.specs.Versions.{map_of};
-ghost use Rattle.lsm_open.specs.RecoveredTables.{sealed_versions};
+ghost use Rattle.lsm_open.specs.Recovering.{sealed_versions};
 ghost use Rattle.lsm_open.specs.Tables.{first_data};
 ghost use Rattle.lsm_store.specs.Memory.{IsInside, work_of};
 ghost use Rattle.lsm_store.specs.Reading.{ReadsThrough};

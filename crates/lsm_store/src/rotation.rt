@@ -6,7 +6,7 @@ ghost use Rattle.lsm_device.specs.Calls.{AtMost};
 ghost use Rattle.lsm_device.specs.Refusals.{is_no_fault};
 ghost use Rattle.lsm_open.specs.Layout.{layout_of};
 ghost use Rattle.lsm_open.specs.Placements.{contents_for};
-ghost use Rattle.lsm_open.specs.RecoveredTables.{placed_in};
+ghost use Rattle.lsm_open.specs.Recovering.{placed_in};
 ghost use Rattle.lsm_open.specs.Switching.{IsRotated};
 ghost use Rattle.lsm_open.specs.ToldTables.{records_of};
 ghost use Rattle.lsm_store.specs.Calls.{Rotate, Done, reply_of};

@@ -23,7 +23,7 @@ ghost use Rattle.lsm_open.specs.CrashState.{CrashState, last_number};
 ghost use Rattle.lsm_open.specs.Image.{StandFor, versions_in};
 ghost use Rattle.lsm_open.specs.Layout.{open_records};
 ghost use Rattle.lsm_open.specs.Placements.{Placement, contents_for, closed_in, IsFreeWrite};
-ghost use Rattle.lsm_open.specs.RecoveredTables.{StandForOne, IsRecoveredWithTables};
+ghost use Rattle.lsm_open.specs.Recovering.{StandForOne, IsRecovered};
 ghost use Rattle.lsm_open.specs.Switching.{rotated as rotated_placement, flushed, AreFlushed, merged, Parts, with_outputs, AreMerged, IsInLeastFree};
 ghost use Rattle.lsm_merge.specs.Inputs.{AreRuns};
 ghost use Rattle.lsm_open.specs.Tables.{first_data, extent_start};
@@ -157,7 +157,7 @@ pub fn jobs_keep_tables()
 /// What an opening with tables makes of what a crash left is a running store, in which nothing is placed yet.
 pub fn recovered_tables_are_stored()
     ensures { (log_sectors : ℕ) (left : CrashState) (p : Placement) (count : ℕ) (sealed : Option (List Version)) (levels : Levels) (d : Disk)
-        → IsRecoveredWithTables log_sectors left p count sealed levels d → IsStoredWithJobs p [] (reopened log_sectors left) d }
+        → IsRecovered log_sectors left p count sealed levels d → IsStoredWithJobs p [] (reopened log_sectors left) d }
 {}
 
 /// The tables that levels keep stay on the device, and their data blocks the same, as long as reads give what they gave in the

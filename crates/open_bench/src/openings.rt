@@ -2,7 +2,7 @@
 use crate::devices::add_batches;
 use anyhow::{Error, Result};
 use lsm_device::{MemDevice, Refusal};
-use lsm_open::{RecoveredTables, recover_with_tables};
+use lsm_open::{Recovered, recover};
 use std::alloc::Global;
 use std::time::Instant;
 
@@ -20,8 +20,8 @@ pub(crate) fn told(refusal: Refusal) -> Error {
     Error::msg(refusal.name())
 }
 
-fn recovered(alloc: Global, device: MemDevice) -> Result<RecoveredTables<MemDevice>, Refusal> {
-    match recover_with_tables(alloc, device) {
+fn parts_on(alloc: Global, device: MemDevice) -> Result<Recovered<MemDevice>, Refusal> {
+    match recover(alloc, device) {
         Ok(recovered) => Ok(recovered),
         Err((refusal, _)) => Err(refusal),
     }
@@ -33,7 +33,7 @@ pub(crate) fn with_batches(
     device: MemDevice,
     count: u32,
 ) -> Result<MemDevice, Refusal> {
-    let mut recovered = recovered(alloc, device)?;
+    let mut recovered = parts_on(alloc, device)?;
     add_batches(alloc, &mut recovered.device, &mut recovered.regions, count)?;
     Ok(recovered.device)
 }
@@ -41,7 +41,7 @@ pub(crate) fn with_batches(
 /// Opens a device. What the opening keeps in memory is let go once its time is taken.
 pub(crate) fn opened(rt: &HostRuntime, device: MemDevice) -> Result<Measured> {
     let start = Instant::now(rt)?;
-    let recovered = recovered(rt.alloc(), device).map_err(told)?;
+    let recovered = parts_on(rt.alloc(), device).map_err(told)?;
     let time = start.elapsed(rt)?.as_nanos();
     Ok(Measured {
         device: recovered.device,

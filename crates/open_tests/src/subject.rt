@@ -3,7 +3,7 @@
 use crate::devices::LOG_SECTORS;
 use lsm_codec::LogRecord;
 use lsm_device::{MemDevice, Refusal};
-use lsm_open::{RecoveredTables, recover_with_tables};
+use lsm_open::{Recovered, recover};
 use std::alloc::Global;
 use std::process::Abort;
 
@@ -11,12 +11,12 @@ use std::process::Abort;
 /// next.
 #[derive(Drop)]
 pub(crate) struct Subject {
-    store: RecoveredTables<MemDevice>,
+    store: Recovered<MemDevice>,
 }
 
 /// What an opening answers.
 fn opening(alloc: Global, device: MemDevice) -> Result<Subject, (Refusal, MemDevice)> {
-    match recover_with_tables(alloc, device) {
+    match recover(alloc, device) {
         Ok(store) => Ok(Subject { store }),
         Err(refused) => Err(refused),
     }

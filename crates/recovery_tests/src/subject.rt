@@ -6,7 +6,7 @@ use lsm_codec::{LogRecord, TableRecord};
 use lsm_device::{Device, MemDevice, Refusal};
 use lsm_levels::{ReadView, Run};
 use lsm_mem::Mem;
-use lsm_open::{RecoveredTables, recover_with_tables};
+use lsm_open::{Recovered, recover};
 use std::alloc::{Allocator, Global};
 use std::process::Abort;
 
@@ -37,7 +37,7 @@ fn are_four(records: &[TableRecord]) -> bool {
 /// A store that was opened. Its calls tell the prover nothing, so that it has nothing to carry from one line of a test to the
 /// next.
 pub(crate) struct Subject<A: Allocator = Global> {
-    store: RecoveredTables<MemDevice, A>,
+    store: Recovered<MemDevice, A>,
 }
 
 // One call at each exit of a test, in the place of all that a store is made of.
@@ -52,7 +52,7 @@ pub(crate) fn opening<A: Allocator + Clone>(
     alloc: A,
     device: MemDevice,
 ) -> Result<Subject<A>, (Refusal, MemDevice)> {
-    match recover_with_tables(alloc, device) {
+    match recover(alloc, device) {
         Ok(store) => Ok(Subject { store }),
         Err(refused) => Err(refused),
     }

@@ -7,7 +7,7 @@ use Rattle.lsm_device.proofs.Outcomes.{seen_outcome}
 use Rattle.lsm_device.specs.Memory.{medium_in}
 use Rattle.lsm_open.specs.CrashState.{formatted}
 use Rattle.lsm_open.specs.Image.{StandFor}
-use Rattle.lsm_open.specs.RecoveredTables.{StandForOne}
+use Rattle.lsm_open.specs.Recovering.{StandForOne}
 use Rattle.lsm_store.specs.Calls.{Commit, Sync, Number, Done}
 use Rattle.lsm_store.specs.Crash.{may_leave}
 use Rattle.lsm_store.specs.Run.{next}

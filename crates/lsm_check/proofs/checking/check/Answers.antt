@@ -4,8 +4,8 @@ use Rattle.std.proofs.lemmas.Result.{err_from_is_err_and}
 use Rattle.lsm_device.specs.Disk.{seen}
 use Rattle.lsm_device.specs.Medium.{disk}
 use Rattle.lsm_device.specs.Memory.{length-written}
-use Rattle.lsm_open.proofs.TableMoments.{has_size}
-use Rattle.lsm_open.proofs.TableReads.{reads_none}
+use Rattle.lsm_open.proofs.OpeningMoments.{has_size}
+use Rattle.lsm_open.proofs.OpeningAnswers.{reads_none}
 use Rattle.lsm_root.specs.Layout.{IsDeviceSize}
 use Rattle.lsm_check.proofs.checking.check.Goals as goal
 

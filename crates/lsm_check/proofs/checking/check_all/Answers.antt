@@ -9,7 +9,7 @@ use Rattle.lsm_levels.specs.Levels.{all_tables, places}
 use Rattle.lsm_levels.specs.Stored.{AreWithin}
 use Rattle.lsm_levels.specs.Tables.{versions_of}
 use Rattle.lsm_open.specs.Tables.{first_data}
-use Rattle.lsm_open.proofs.TableReads.{reads_joined, reads_wider}
+use Rattle.lsm_open.proofs.OpeningAnswers.{reads_joined, reads_wider}
 use Rattle.lsm_check.specs.Images.{finds_no_fault}
 use Rattle.lsm_check.specs.Sound.{IsTold, AreSound}
 use Rattle.lsm_check.proofs.Checked.{few_tables, levels_told, sound_image, image_sound}

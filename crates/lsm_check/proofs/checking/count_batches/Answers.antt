@@ -8,7 +8,7 @@ use Rattle.lsm_device.specs.Medium.{disk}
 use Rattle.lsm_device.specs.Refusals.{is_no_fault}
 use Rattle.lsm_log.specs.Opened.{HasNoneAbove}
 use Rattle.lsm_open.specs.LogRegions.{first_region}
-use Rattle.lsm_open.proofs.TableReads.{reads_ok, reads_err, reads_joined, reads_wider, with_told}
+use Rattle.lsm_open.proofs.OpeningAnswers.{reads_ok, reads_err, reads_joined, reads_wider, with_told}
 use Rattle.lsm_check.proofs.Readings.{short_replay, short_fault, batches_had}
 use Rattle.lsm_check.proofs.ReadCounts.{between_zero, between_joined}
 use Rattle.lsm_check.proofs.Refusing.{replay_refused, memory_refused}

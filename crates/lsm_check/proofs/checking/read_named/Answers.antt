@@ -10,8 +10,8 @@ use Rattle.lsm_levels.specs.Stored.{AreWithin}
 use Rattle.lsm_open.specs.Image.{count_in}
 use Rattle.lsm_open.specs.Tables.{first_data, AreTables}
 use Rattle.lsm_open.specs.ToldTables.{told_levels, Held}
-use Rattle.lsm_open.proofs.TableOpenings.{named_here}
-use Rattle.lsm_open.proofs.TableReads.{reads_none, reads_ok, reads_err, reads_joined, reads_wider}
+use Rattle.lsm_open.proofs.OpenedStores.{named_here}
+use Rattle.lsm_open.proofs.OpeningAnswers.{reads_none, reads_ok, reads_err, reads_joined, reads_wider}
 use Rattle.lsm_check.specs.Named.{HasBatches}
 use Rattle.lsm_check.proofs.Readings.{short_memory, short_load, batches_named}
 use Rattle.lsm_check.proofs.ReadCounts.{between_zero, between_joined}

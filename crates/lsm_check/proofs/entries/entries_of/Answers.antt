@@ -4,7 +4,7 @@ use Rattle.lsm_device.specs.Disk.{seen}
 use Rattle.lsm_device.specs.Medium.{disk}
 use Rattle.lsm_levels.specs.Stored.{IsStored}
 use Rattle.lsm_open.specs.ReadParts.{ReadsAtMost}
-use Rattle.lsm_open.proofs.TableReads.{reads_none, reads_joined, reads_wider}
+use Rattle.lsm_open.proofs.OpeningAnswers.{reads_none, reads_joined, reads_wider}
 use Rattle.lsm_table.specs.Outlines.{Outline}
 use Rattle.lsm_device.specs.Refusals.{faultless}
 use Rattle.lsm_check.specs.Sound.{AreRead}

@@ -7,7 +7,7 @@ use Rattle.lsm_device.specs.Refusals.{faultless}
 use Rattle.lsm_log.specs.Opened.{is_above, HasNoneAbove}
 use Rattle.lsm_open.specs.LogRegions.{first_region}
 use Rattle.lsm_open.specs.ReadParts.{ReadsAtMost}
-use Rattle.lsm_open.proofs.TableReads.{reads_joined}
+use Rattle.lsm_open.proofs.OpeningAnswers.{reads_joined}
 use Rattle.lsm_check.proofs.DeviceReads.{still_tells, still_seen}
 use Rattle.lsm_check.proofs.LaterEpochs.{none_more, one_above}
 use Rattle.lsm_check.proofs.ReadCounts.{between_joined}

@@ -8,7 +8,7 @@ use Rattle.lsm_device.specs.Medium.{disk}
 use Rattle.lsm_levels.specs.Levels.{all_tables, places}
 use Rattle.lsm_levels.specs.Stored.{LiesWithin, AreWithin}
 use Rattle.lsm_levels.specs.Tables.{Table}
-use Rattle.lsm_open.proofs.TableReads.{reads_joined, reads_wider}
+use Rattle.lsm_open.proofs.OpeningAnswers.{reads_joined, reads_wider}
 use Rattle.lsm_check.specs.Images.{finds_no_fault}
 use Rattle.lsm_check.specs.Sound.{IsTold, AreSound, AreSeen}
 use Rattle.lsm_check.proofs.DeviceReads.{still_tells, still_seen}

@@ -4,7 +4,7 @@ use Rattle.lsm_codec.proofs.Lists.{all_at}
 use Rattle.lsm_device.specs.Disk.{seen}
 use Rattle.lsm_device.specs.Medium.{disk}
 use Rattle.lsm_levels.specs.Tables.{Table, versions_of}
-use Rattle.lsm_open.proofs.TableReads.{reads_joined}
+use Rattle.lsm_open.proofs.OpeningAnswers.{reads_joined}
 use Rattle.lsm_check.specs.Images.{finds_no_fault}
 use Rattle.lsm_check.specs.Sound.{IsTold, IsSound, AreSound, AreSeen}
 use Rattle.lsm_check.proofs.DeviceReads.{still_tells, still_seen}

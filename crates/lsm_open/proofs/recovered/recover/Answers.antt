@@ -1,6 +1,6 @@
 use Rattle.std.proofs.Common.{ap}
 use Rattle.lsm_open.proofs.OpeningReads.{handed, uncalled}
-use Rattle.lsm_open.proofs.recovered_tables.recover_with_tables.Goals as goal
+use Rattle.lsm_open.proofs.recovered.recover.Goals as goal
 
 pub returns-in-Ok-clause-within : goal.returns-in-Ok-clause-within
 returns-in-Ok-clause-within g c = c.in-Ok.ensures.within
@@ -20,7 +20,7 @@ pub returns-in-Err-clause-size : goal.returns-in-Err-clause-size
 returns-in-Err-clause-size g c = (
   λ same size.
       let D = g.D.Device in
-      uncalled (D.medium c.args.device).calls (D.medium c.recover_table_parts.new.device).calls (c.in-Err.ensures.begins size) (ap (λ r. (D.medium (handed c.args.device r)).calls) same),
+      uncalled (D.medium c.args.device).calls (D.medium c.recover_parts.new.device).calls (c.in-Err.ensures.begins size) (ap (λ r. (D.medium (handed c.args.device r)).calls) same),
   λ other.
       let e = c.in-Err.ensures.size other in
       cc (e.0, e.1),

@@ -26,10 +26,10 @@ use Rattle.lsm_mem.specs.EntryOrder.{with_batches}
 use Rattle.lsm_open.specs.CrashState.{last_number}
 use Rattle.lsm_open.specs.Image.{count_in}
 use Rattle.lsm_open.specs.LogRegions.{all_batches, follow_on}
-use Rattle.lsm_open.specs.Opening.{manifest_refusal, IsOpeningRefusal}
-use Rattle.lsm_open.specs.OpeningTables.{named_refusal, refusal_behind, table_refusal}
+use Rattle.lsm_open.specs.Opening.{manifest_refusal, IsRefusalBesideBadTable}
+use Rattle.lsm_open.specs.RefusedOpenings.{named_refusal, refusal_behind, opening_refusal}
 use Rattle.lsm_open.specs.ReadParts.{AreRead, AreToldBy, ReadsAtMost}
-use Rattle.lsm_open.specs.RecoveredTables.{sealed_versions, HasWritten, IsTableOpeningRefusal}
+use Rattle.lsm_open.specs.Recovering.{sealed_versions, HasWritten, IsOpeningRefusal}
 use Rattle.lsm_open.specs.Reopening.{kept_records, HasCome, GoesOn}
 use Rattle.lsm_open.specs.ToldTables.{told_levels, IsRefusedFor, IsTableRefusal, AreOutlined, HaveNamed, Held, AreThose}
 use Rattle.lsm_open.specs.declared.replayed.Replayed.{Replayed}
@@ -57,50 +57,50 @@ root_named s OtherSize e is = is
 root_named s Unreadable e is = is
 root_named s (Stands n m) e is = absurd cc
 
-pub load_says : (s : Sectors) (e : Refusal) → (refusal_of (root_of s) ≡ Some e) ⊎ ((e ≡ NoMemory) ⊎ (e ≡ Io)) → OrMemory (table_refusal s) e
+pub load_says : (s : Sectors) (e : Refusal) → (refusal_of (root_of s) ≡ Some e) ⊎ ((e ≡ NoMemory) ⊎ (e ≡ Io)) → OrMemory (opening_refusal s) e
 load_says s e (inl is) = inl (root_named s (root_of s) e is)
 load_says s e (inr other) = inr other
 
 module _ (s : Sectors) (n : ℕ) (m : Contents) (root : root_of s ≡ Stands n m) where
-  stands_says : table_refusal s ≡ refusal_behind (told_levels n s m) (manifest_refusal n s m)
+  stands_says : opening_refusal s ≡ refusal_behind (told_levels n s m) (manifest_refusal n s m)
   stands_says = ap (named_refusal s) root
 
   -- a table is none
-  pub tables_say : (e : Refusal) → IsRefusedFor (told_levels n s m) e → OrMemory (table_refusal s) e
+  pub tables_say : (e : Refusal) → IsRefusedFor (told_levels n s m) e → OrMemory (opening_refusal s) e
   tables_say e (inl (is, none)) = inl (stands_says ∙ ap (λ (o : Option Levels). refusal_behind o (manifest_refusal n s m)) none ∙ ap (λ (x : Refusal). Some x) (sym is))
   tables_say e (inr other) = inr other
 
   module _ (levels : Levels) (told : told_levels n s m ≡ Some levels) where
-    behind_says : table_refusal s ≡ manifest_refusal n s m
+    behind_says : opening_refusal s ≡ manifest_refusal n s m
     behind_says = stands_says ∙ ap (λ (o : Option Levels). refusal_behind o (manifest_refusal n s m)) told
 
     -- a region's first batch is not the next
-    pub replay_says : (e : Refusal) → ((e ≡ BadManifest) × (follow_on n s (m.base + 1) m.logs ≡ false)) ⊎ ((e ≡ NoMemory) ⊎ (e ≡ Io)) → OrMemory (table_refusal s) e
+    pub replay_says : (e : Refusal) → ((e ≡ BadManifest) × (follow_on n s (m.base + 1) m.logs ≡ false)) ⊎ ((e ≡ NoMemory) ⊎ (e ≡ Io)) → OrMemory (opening_refusal s) e
     replay_says e (inl (is, none)) = inl (behind_says ∙ cond-false (follow_on n s (m.base + 1) m.logs) (cond (m.generation == last_number) (Some Exhausted) None) (Some BadManifest) none ∙ ap (λ (x : Refusal). Some x) (sym is))
     replay_says e (inr other) = inr other
 
     module _ (follows : follow_on n s (m.base + 1) m.logs ≡ true) where
-      last_says : table_refusal s ≡ cond (m.generation == last_number) (Some Exhausted) None
+      last_says : opening_refusal s ≡ cond (m.generation == last_number) (Some Exhausted) None
       last_says = behind_says ∙ cond-true (follow_on n s (m.base + 1) m.logs) (cond (m.generation == last_number) (Some Exhausted) None) (Some BadManifest) follows
 
       -- it is the last generation
-      pub keep_says : (e : Refusal) → ((e ≡ Exhausted) × (m.generation ≡ last_number)) ⊎ (e ≡ NoMemory) → OrMemory (table_refusal s) e
+      pub keep_says : (e : Refusal) → ((e ≡ Exhausted) × (m.generation ≡ last_number)) ⊎ (e ≡ NoMemory) → OrMemory (opening_refusal s) e
       keep_says e (inl (is, last)) = inl (last_says ∙ cond-true (m.generation == last_number) (Some Exhausted) None (eq-eqb m.generation last_number last) ∙ ap (λ (x : Refusal). Some x) (sym is))
       keep_says e (inr none) = inr (inl none)
 
       -- and where nothing of that holds, none
-      pub none_says : m.generation ≢ last_number → table_refusal s ≡ None
+      pub none_says : m.generation ≢ last_number → opening_refusal s ≡ None
       none_says more = last_says ∙ cond-false (m.generation == last_number) (Some Exhausted) None (ne_eqb m.generation last_number more)
 
 -- ---- which refusals are passed on
 
-pub tables_passed : (e : Refusal) → IsTableRefusal e → IsTableOpeningRefusal e
+pub tables_passed : (e : Refusal) → IsTableRefusal e → IsOpeningRefusal e
 tables_passed e (inl is) = inl is
 tables_passed e (inr other) = inr (from_memory e other)
 
-pub keep_passed : (P : Type 0) (e : Refusal) → ((e ≡ Exhausted) × P) ⊎ (e ≡ NoMemory) → IsTableOpeningRefusal e
-keep_passed P e (inl found) = inr (subst IsOpeningRefusal (sym found.0) tt)
-keep_passed P e (inr none) = inr (subst IsOpeningRefusal (sym none) tt)
+pub keep_passed : (P : Type 0) (e : Refusal) → ((e ≡ Exhausted) × P) ⊎ (e ≡ NoMemory) → IsOpeningRefusal e
+keep_passed P e (inl found) = inr (subst IsRefusalBesideBadTable (sym found.0) tt)
+keep_passed P e (inr none) = inr (subst IsRefusalBesideBadTable (sym none) tt)
 
 pub keep_no_fault : (P : Type 0) (e : Refusal) → ((e ≡ Exhausted) × P) ⊎ (e ≡ NoMemory) → is_no_fault e ≡ true
 keep_no_fault P e (inl found) = ap is_no_fault found.0

@@ -23,5 +23,5 @@ named_refusal sectors (Stands log_sectors manifest) = refusal_behind (told_level
 -- The refusal of an opening of a device that reads give these sectors of, if it is refused for what it
 -- holds: the root doesn't stand, a table that the manifest names is none, a region's first batch doesn't come next, or there is
 -- no next generation.
-abbrev pub table_refusal : List (List ℕ) → Option Refusal
-table_refusal sectors = named_refusal sectors (root_of sectors)
+abbrev pub opening_refusal : List (List ℕ) → Option Refusal
+opening_refusal sectors = named_refusal sectors (root_of sectors)

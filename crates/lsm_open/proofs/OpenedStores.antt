@@ -28,7 +28,7 @@ use Rattle.lsm_open.specs.Layout.{Layout, open_records, open_batches}
 use Rattle.lsm_open.specs.LogRegions.{all_batches, follow_on, one_if_some, regions_with_batches}
 use Rattle.lsm_open.specs.Placements.{Placement, contents_for, Carries, present_state}
 use Rattle.lsm_open.specs.ReadParts.{AreRead, AreToldBy, ReadsAtMost}
-use Rattle.lsm_open.specs.RecoveredTables.{placed_in, sealed_versions, level_versions, IsReopenedWithTables, IsRecoveredWithTables, AreWithinLimits, StandForOne}
+use Rattle.lsm_open.specs.Recovering.{placed_in, sealed_versions, level_versions, IsReopened, IsRecovered, AreWithinLimits, StandForOne}
 use Rattle.lsm_open.specs.Reopening.{kept_records, next_contents, IsNextLayout}
 use Rattle.lsm_open.specs.Switching.{MayBeInstalled, IsSwitched, IsInLeastFree, reopened_at}
 use Rattle.lsm_open.specs.Tables.{first_data, table_versions}
@@ -118,7 +118,7 @@ module _ (n count : ℕ) (m : Contents) (closed : List LogRecord) (o : Option Op
   -- ---- what is reopened
 
   pub reopened_kept : (size : ℕ) (start d : Disk) (sealed : Option (List Version)) (levels : Levels) → AreToldBy size n (seen start) m closed count sealed levels → IsInstalled start (Stands n (next_contents m closed count)) d
-      → IsReopenedWithTables (seen start) (kept_at n m closed o) count sealed levels d
+      → IsReopened (seen start) (kept_at n m closed o) count sealed levels d
   reopened_kept size start d sealed levels told installed = record {
     manifest = m;
     root = told.root;
@@ -268,7 +268,7 @@ module _ (size k n count : ℕ) (left : CrashState) (m : Contents) (closed : Lis
         ∙ ap (map_of (with_batches m.base (all_batches n (seen (present old)) m.logs) [] ++ table_versions n (seen (present old)) m.tables)) told.counts
         ∙ sym (ap (λ (x : CrashState). x.map) here.2)
 
-    recovered_at : IsRecoveredWithTables n left (reopened_at n (seen (present old)) m o) count sealed levels d
+    recovered_at : IsRecovered n left (reopened_at n (seen (present old)) m o) count sealed levels d
     recovered_at = record {
       carried = carried_here;
       present = sym present_here;
@@ -285,6 +285,6 @@ module _ (size k n count : ℕ) (left : CrashState) (m : Contents) (closed : Lis
       stored = stored_now;
     }
 
-    pub recovered_kept : IsRecoveredWithTables k left (kept_at n m closed o) count sealed levels d
-    recovered_kept = subst (λ (p : Placement). IsRecoveredWithTables k left p count sealed levels d) (sym kept_is)
-        (subst (λ (j : ℕ). IsRecoveredWithTables j left (reopened_at n (seen (present old)) m o) count sealed levels d) here.0 recovered_at)
+    pub recovered_kept : IsRecovered k left (kept_at n m closed o) count sealed levels d
+    recovered_kept = subst (λ (p : Placement). IsRecovered k left p count sealed levels d) (sym kept_is)
+        (subst (λ (j : ℕ). IsRecovered j left (reopened_at n (seen (present old)) m o) count sealed levels d) here.0 recovered_at)

@@ -14,18 +14,18 @@ use Rattle.lsm_device.proofs.Counting.{AtMost-joined, AtMost-wider}
 use Rattle.lsm_open.specs.Layout.{layout_of}
 use Rattle.lsm_open.specs.Placements.{Placement, contents_for}
 use Rattle.lsm_open.specs.ReadParts.{sectors_read}
-use Rattle.lsm_open.specs.RecoveredTables.{placed_in, IsReopenedWithTables, IsRecoveredWithTables, AreWithinLimits}
+use Rattle.lsm_open.specs.Recovering.{placed_in, IsReopened, IsRecovered, AreWithinLimits}
 use Rattle.lsm_open.specs.Reopening.{next_contents}
 use Rattle.lsm_open.proofs.NextLayouts.{least_kept}
 use Rattle.lsm_open.proofs.OpeningRefusals.{from_memory}
 use Rattle.lsm_open.proofs.OpeningReads.{by_root, read_alone, then_installed}
-use Rattle.lsm_open.proofs.TableOpenings.{placed_kept, contents_kept, within_kept, reopened_kept, rests_stay_standing, installing_kept, recovered_kept, ready_kept, memory_fair}
-use Rattle.lsm_open.proofs.TableReads.{written_once}
+use Rattle.lsm_open.proofs.OpenedStores.{placed_kept, contents_kept, within_kept, reopened_kept, rests_stay_standing, installing_kept, recovered_kept, ready_kept, memory_fair}
+use Rattle.lsm_open.proofs.OpeningAnswers.{written_once}
 use Rattle.lsm_root.specs.Counted.{CallsMade}
 use Rattle.lsm_root.specs.Installed.{IsOldOrNew, IsInstalled}
 use Rattle.lsm_root.specs.Layout.{IsGeometry, LieInside}
 use Rattle.lsm_root.specs.Roots.{Stands}
-use Rattle.lsm_open.proofs.recovered_tables.recover_tables_settled.Goals as goal
+use Rattle.lsm_open.proofs.recovered.recover_settled.Goals as goal
 
 -- ---- what the installation asks for
 
@@ -117,7 +117,7 @@ returns-clause-reopened g c = λ t.
     let installed : IsInstalled (present old) (Stands n (next_contents m r.kept.closed.items r.kept.count)) (disk (D.medium c.reopen.new.device)) =
     subst (λ (h : List Disk). IsInstalled (present h) (Stands n (next_contents m r.kept.closed.items r.kept.count)) (disk (D.medium c.reopen.new.device))) (c.read_parts.ensures.device.unchanged t)
     (c.in_ok-regions.ensures.installed (rw c.read_parts.ensures.device.same_lasting t)) in
-    subst (λ (x : Placement). IsReopenedWithTables (seen (present old)) x r.kept.count sealed r.levels (disk (D.medium c.reopen.new.device))) (sym placed)
+    subst (λ (x : Placement). IsReopened (seen (present old)) x r.kept.count sealed r.levels (disk (D.medium c.reopen.new.device))) (sym placed)
     (reopened_kept n r.kept.count m r.kept.closed.items l.open_region (least_kept n r.kept.count m r.kept.closed.items l next same) (D.medium c.args.device.now).size (present old) (disk (D.medium c.reopen.new.device)) sealed r.levels
     (c.in_ok-read.ensures.told t) installed)
 
@@ -137,7 +137,7 @@ returns-clause-recovered g c = λ k left t is.
     let installed : IsInstalled (present old) (Stands n (next_contents m r.kept.closed.items r.kept.count)) (disk (D.medium c.reopen.new.device)) =
     subst (λ (h : List Disk). IsInstalled (present h) (Stands n (next_contents m r.kept.closed.items r.kept.count)) (disk (D.medium c.reopen.new.device))) (c.read_parts.ensures.device.unchanged t)
     (c.in_ok-regions.ensures.installed (rw c.read_parts.ensures.device.same_lasting t)) in
-    subst (λ (x : Placement). IsRecoveredWithTables k left x r.kept.count sealed r.levels (disk (D.medium c.reopen.new.device))) (sym placed)
+    subst (λ (x : Placement). IsRecovered k left x r.kept.count sealed r.levels (disk (D.medium c.reopen.new.device))) (sym placed)
     (recovered_kept (D.medium c.args.device.now).size k n r.kept.count left m r.kept.closed.items l.open_region sealed r.levels r.extents old is (c.root_laws.ensures.fits (seen (present old)) n m told.root).0 (c.requires.rests t)
     c.in_ok-read.ensures.read told (least_kept n r.kept.count m r.kept.closed.items l next same) (disk (D.medium c.reopen.new.device)) installed)
 

@@ -11,7 +11,7 @@ use Rattle.lsm_device.proofs.Moments.{now_is, ended}
 use Rattle.lsm_device.proofs.Outcomes.{seen_outcome}
 use Rattle.lsm_open.specs.CrashState.{CrashState, left_by_opening, MayRefuseOpening}
 use Rattle.lsm_open.specs.Image.{StandFor}
-use Rattle.lsm_open.specs.RecoveredTables.{StandForOne, CrashesWithTables, FailsWithTables}
+use Rattle.lsm_open.specs.Recovering.{StandForOne, CrashesWhileOpening, FailsToOpen}
 use Rattle.lsm_open.proofs.Openings.{same_again}
 use Rattle.lsm_root.specs.Layout.{IsDeviceSize, IsGeometry}
 use Rattle.lsm_root.specs.Roots.{Stands, root_of}
@@ -27,10 +27,10 @@ module _ (before mid after : Medium) (n : ℕ) (left : CrashState) (is : StandFo
   pub standing_after : StandFor n left (seen (disk mid))
   standing_after = subst (λ (d : Disk). StandFor n left (seen d)) (sym (now_is (synced (disk before)) before.history mid.history begins)) is
 
-  pub crashes : EachSince (Leaves (StandForOne n (left_by_opening left))) mid.history after.history → CrashesWithTables before n left after
+  pub crashes : EachSince (Leaves (StandForOne n (left_by_opening left))) mid.history after.history → CrashesWhileOpening before n left after
   crashes each = record { synced_history = mid.history; first_sync = begins; crash = each }
 
-  pub fails : (refusal : Refusal) → MayRefuseOpening left refusal → EachSince (Leaves (StandForOne n (left_by_opening left))) mid.history after.history → FailsWithTables before n left refusal after
+  pub fails : (refusal : Refusal) → MayRefuseOpening left refusal → EachSince (Leaves (StandForOne n (left_by_opening left))) mid.history after.history → FailsToOpen before n left refusal after
   fails refusal fair each = record {
     fair = fair;
     again =
@@ -40,7 +40,7 @@ module _ (before mid after : Medium) (n : ℕ) (left : CrashState) (is : StandFo
   }
 
 -- it failed in its first sync
-fails_at_once : (before after : Medium) (n : ℕ) (left : CrashState) → StandFor n left (seen (disk before)) → after.history ≡ before.history → FailsWithTables before n left Io after
+fails_at_once : (before after : Medium) (n : ℕ) (left : CrashState) → StandFor n left (seen (disk before)) → after.history ≡ before.history → FailsToOpen before n left Io after
 fails_at_once before after n left is same = record {
   fair = tt;
   again = (left, same_again left, subst (λ (h : List Disk). StandFor n left (seen (present h))) (sym same) is);
@@ -49,6 +49,6 @@ fails_at_once before after n left is same = record {
 
 -- it ended in its beginning
 pub begun_fails : (before after : Medium) (n : ℕ) (left : CrashState) (refusal : Refusal) → StandFor n left (seen (disk before)) → IsDeviceSize before.size
-    → ((refusal ≡ BadGeometry) × (IsDeviceSize before.size → ⊥)) ⊎ (refusal ≡ Io) → after.history ≡ before.history → FailsWithTables before n left refusal after
+    → ((refusal ≡ BadGeometry) × (IsDeviceSize before.size → ⊥)) ⊎ (refusal ≡ Io) → after.history ≡ before.history → FailsToOpen before n left refusal after
 begun_fails before after n left refusal is fair (inl small) same = absurd (small.1 fair)
-begun_fails before after n left refusal is fair (inr io) same = subst (λ (r : Refusal). FailsWithTables before n left r after) (sym io) (fails_at_once before after n left is same)
+begun_fails before after n left refusal is fair (inr io) same = subst (λ (r : Refusal). FailsToOpen before n left r after) (sym io) (fails_at_once before after n left is same)

@@ -13,13 +13,13 @@ use Rattle.std.specs.Prelude.{option_map}
 use Rattle.std.specs.Arc.{arc_value}
 use Rattle.lsm_open.specs.Placements.{contents_for}
 use Rattle.lsm_open.specs.ReadParts.{sectors_read, sectors_read_by}
-use Rattle.lsm_open.specs.RecoveredTables.{placed_in, IsReopenedWithTables}
-use Rattle.lsm_open.proofs.TableMoments.{has_size, standing_after, crashes, fails, begun_fails}
+use Rattle.lsm_open.specs.Recovering.{placed_in, IsReopened}
+use Rattle.lsm_open.proofs.OpeningMoments.{has_size, standing_after, crashes, fails, begun_fails}
 use Rattle.lsm_open.proofs.OpeningReads.{begun_alone, begun_before}
-use Rattle.lsm_open.proofs.TableReads.{written_after_sync}
+use Rattle.lsm_open.proofs.OpeningAnswers.{written_after_sync}
 use Rattle.lsm_open.proofs.OpeningRefusals.{from_begin, begun_faults}
 use Rattle.lsm_root.specs.Roots.{root_of}
-use Rattle.lsm_open.proofs.recovered_tables.recover_table_parts.Goals as goal
+use Rattle.lsm_open.proofs.recovered.recover_parts.Goals as goal
 
 pub returns-in_err-begin-clause-fails : goal.returns-in_err-begin-clause-fails
 returns-in_err-begin-clause-fails g c = λ n left t is.
@@ -70,42 +70,42 @@ returns-in_err-parts-clause-settled g c = λ t size.
 pub returns-in_err-parts-clause-begins : goal.returns-in_err-parts-clause-begins
 returns-in_err-parts-clause-begins g c = λ size.
     let D = g.D.Device in
-    (true, subst (λ (k : Calls). AtMost 63554 38 2 k (D.medium c.recover_tables_settled.new.device).calls) (c.in_ok-begin.ensures.counted size) c.recover_tables_settled.ensures.calls)
+    (true, subst (λ (k : Calls). AtMost 63554 38 2 k (D.medium c.recover_settled.new.device).calls) (c.in_ok-begin.ensures.counted size) c.recover_settled.ensures.calls)
 
 pub returns-clause-begins : goal.returns-clause-begins
 returns-clause-begins g c = λ size.
     let D = g.D.Device in
-    (true, subst (λ (k : Calls). AtMost 63554 38 2 k (D.medium c.recover_tables_settled.new.device).calls) (c.in_ok-begin.ensures.counted size) c.recover_tables_settled.ensures.calls)
+    (true, subst (λ (k : Calls). AtMost 63554 38 2 k (D.medium c.recover_settled.new.device).calls) (c.in_ok-begin.ensures.counted size) c.recover_settled.ensures.calls)
 
 pub returns-clause-any_moment : goal.returns-clause-any_moment
 returns-clause-any_moment g c = λ n left t is.
     let D = g.D.Device in
     let begins = c.in_ok-begin.ensures.stands t in
-    let here = standing_after (D.medium c.args.device.now) (D.medium c.begin.new.device) (D.medium c.recover_tables_settled.new.device) n left is begins in
-    crashes (D.medium c.args.device.now) (D.medium c.begin.new.device) (D.medium c.recover_tables_settled.new.device) n left is begins (c.recover_tables_settled.ensures.any_moment n left (rw c.begin.ensures.same_lasting t) here)
+    let here = standing_after (D.medium c.args.device.now) (D.medium c.begin.new.device) (D.medium c.recover_settled.new.device) n left is begins in
+    crashes (D.medium c.args.device.now) (D.medium c.begin.new.device) (D.medium c.recover_settled.new.device) n left is begins (c.recover_settled.ensures.any_moment n left (rw c.begin.ensures.same_lasting t) here)
 
 pub returns-in_err-parts-clause-fails : goal.returns-in_err-parts-clause-fails
 returns-in_err-parts-clause-fails g c = λ n left t is.
     let D = g.D.Device in
     let begins = c.in_ok-begin.ensures.stands t in
-    let here = standing_after (D.medium c.args.device.now) (D.medium c.begin.new.device) (D.medium c.recover_tables_settled.new.device) n left is begins in
-    let each = c.recover_tables_settled.ensures.any_moment n left (rw c.begin.ensures.same_lasting t) here in
+    let here = standing_after (D.medium c.args.device.now) (D.medium c.begin.new.device) (D.medium c.recover_settled.new.device) n left is begins in
+    let each = c.recover_settled.ensures.any_moment n left (rw c.begin.ensures.same_lasting t) here in
     let says = c.in_err-parts.ensures.fair n left (rw c.begin.ensures.same_lasting t) here in
     let p = err_from_is_err_and c.from_residual-in_err-parts.result c.from_residual-in_err-parts.ensures.1 in
-    rw (p.1, p.2) (fails (D.medium c.args.device.now) (D.medium c.begin.new.device) (D.medium c.recover_tables_settled.new.device) n left is begins c.in_err-parts.field-0.0 says each)
+    rw (p.1, p.2) (fails (D.medium c.args.device.now) (D.medium c.begin.new.device) (D.medium c.recover_settled.new.device) n left is begins c.in_err-parts.field-0.0 says each)
 
 pub returns-clause-recovered : goal.returns-clause-recovered
 returns-clause-recovered g c = λ n left t is.
     let D = g.D.Device in
     let begins = c.in_ok-begin.ensures.stands t in
-    let here = standing_after (D.medium c.args.device.now) (D.medium c.begin.new.device) (D.medium c.recover_tables_settled.new.device) n left is begins in
+    let here = standing_after (D.medium c.args.device.now) (D.medium c.begin.new.device) (D.medium c.recover_settled.new.device) n left is begins in
     c.in_ok-parts.ensures.recovered n left (rw c.begin.ensures.same_lasting t) here
 
 pub returns-in_err-parts-clause-calls : goal.returns-in_err-parts-clause-calls
-returns-in_err-parts-clause-calls g c = AtMost-joined 0 0 1 63554 38 2 63554 38 3 _ _ _ (omega arith) (omega arith) (omega arith) c.begin.ensures.calls c.recover_tables_settled.ensures.calls
+returns-in_err-parts-clause-calls g c = AtMost-joined 0 0 1 63554 38 2 63554 38 3 _ _ _ (omega arith) (omega arith) (omega arith) c.begin.ensures.calls c.recover_settled.ensures.calls
 
 pub returns-clause-calls : goal.returns-clause-calls
-returns-clause-calls g c = AtMost-joined 0 0 1 63554 38 2 63554 38 3 _ _ _ (omega arith) (omega arith) (omega arith) c.begin.ensures.calls c.recover_tables_settled.ensures.calls
+returns-clause-calls g c = AtMost-joined 0 0 1 63554 38 2 63554 38 3 _ _ _ (omega arith) (omega arith) (omega arith) c.begin.ensures.calls c.recover_settled.ensures.calls
 
 pub returns-in_err-begin-clause-reads : goal.returns-in_err-begin-clause-reads
 returns-in_err-begin-clause-reads g c =
@@ -118,7 +118,7 @@ returns-in_err-parts-clause-reads g c =
     let D = g.D.Device in
     let old = D.medium c.args.device.now in
     let mid = D.medium c.begin.new.device in
-    let new = D.medium c.recover_tables_settled.new.device in
+    let new = D.medium c.recover_settled.new.device in
     let p = err_from_is_err_and c.from_residual-in_err-parts.result c.from_residual-in_err-parts.ensures.1 in
     rw p.1 (λ t.
     let is = now_is (synced (disk old)) old.history mid.history (c.in_ok-begin.ensures.stands t) in
@@ -136,9 +136,9 @@ returns-clause-reopened g c = λ t.
     let p = c.in_ok-parts.parts in
     let begins = c.in_ok-begin.ensures.stands t in
     let is = now_is (synced (disk (D.medium c.args.device.now))) (D.medium c.args.device.now).history (D.medium c.begin.new.device).history begins in
-    subst (λ (d : Disk). IsReopenedWithTables (seen d) (placed_in (layout_of p.regions) p.levels p.records.items) p.count (option_map arc_value p.sealed) p.levels (disk (D.medium c.recover_tables_settled.new.device))) is (c.in_ok-parts.ensures.reopened (rw c.begin.ensures.same_lasting t))
+    subst (λ (d : Disk). IsReopened (seen d) (placed_in (layout_of p.regions) p.levels p.records.items) p.count (option_map arc_value p.sealed) p.levels (disk (D.medium c.recover_settled.new.device))) is (c.in_ok-parts.ensures.reopened (rw c.begin.ensures.same_lasting t))
 
 pub returns-clause-made : goal.returns-clause-made
 returns-clause-made g c =
     let D = g.D.Device in
-    written_after_sync (contents_for (placed_in (layout_of c.in_ok-parts.parts.regions) c.in_ok-parts.parts.levels c.in_ok-parts.parts.records.items)) (D.medium c.args.device.now).calls (D.medium c.begin.new.device).calls (D.medium c.recover_tables_settled.new.device).calls c.in_ok-begin.ensures.made c.in_ok-parts.ensures.made
+    written_after_sync (contents_for (placed_in (layout_of c.in_ok-parts.parts.regions) c.in_ok-parts.parts.levels c.in_ok-parts.parts.records.items)) (D.medium c.args.device.now).calls (D.medium c.begin.new.device).calls (D.medium c.recover_settled.new.device).calls c.in_ok-begin.ensures.made c.in_ok-parts.ensures.made

@@ -26,7 +26,7 @@ use Rattle.lsm_open.specs.CrashState.{CrashState, last_number, in_next_generatio
 use Rattle.lsm_open.specs.Image.{count_in, StandForSome}
 use Rattle.lsm_open.specs.Layout.{Layout, open_batches}
 use Rattle.lsm_open.specs.LogRegions.{all_batches}
-use Rattle.lsm_open.specs.Opening.{IsOpeningRefusal}
+use Rattle.lsm_open.specs.Opening.{IsRefusalBesideBadTable}
 use Rattle.lsm_open.specs.Placements.{Placement, contents_for, Carries, present_state}
 use Rattle.lsm_open.specs.Reopening.{least_free}
 use Rattle.lsm_open.specs.Switching.{IsInLeastFree, reopened_at}
@@ -54,7 +54,7 @@ level_versions levels = versions_of (all_tables (places levels))
 -- hold batches are closed, and a new log is open in the least free one, all in the next generation. Memory has just the
 -- versions of these batches, sealed, where a region is closed, and levels are what the tables tell. The manifest of the
 -- new placement stands, nothing pends, and behind the root the sectors are the same.
-pub record IsReopenedWithTables (sectors : List (List ℕ)) (p : Placement) (count : ℕ) (sealed : Option (List Version)) (levels : Levels) (d : Disk) : Type 0 where
+pub record IsReopened (sectors : List (List ℕ)) (p : Placement) (count : ℕ) (sealed : Option (List Version)) (levels : Levels) (d : Disk) : Type 0 where
   pub manifest : Contents
   pub root : root_of sectors ≡ Stands p.logs.log_sectors manifest
   pub placed : p ≡ reopened_at p.logs.log_sectors sectors manifest p.logs.open_region
@@ -70,7 +70,7 @@ pub record IsReopenedWithTables (sectors : List (List ℕ)) (p : Placement) (cou
 -- regions that hold batches are closed, a log that holds none is open behind them, unless all three are closed, and nothing
 -- pends. Memory and tables have the map that was left, in the order of versions: those of tables are of batches up to the
 -- base, those in memory of later ones. And the tables stand.
-pub record IsRecoveredWithTables (log_sectors : ℕ) (left : CrashState) (p : Placement) (count : ℕ) (sealed : Option (List Version)) (levels : Levels) (d : Disk) : Type 0 where
+pub record IsRecovered (log_sectors : ℕ) (left : CrashState) (p : Placement) (count : ℕ) (sealed : Option (List Version)) (levels : Levels) (d : Disk) : Type 0 where
   pub carried : Carries d p
   pub present : present_state p d ≡ in_next_generation left
   pub all_closed : (p.logs.open_region ≡ None) ↔ (length p.logs.closed ≡ 3)
@@ -109,12 +109,12 @@ pub record AreWithinLimits (size : ℕ) (p : Placement) (count : ℕ) (sealed : 
 -- ---- what is refused, and what crashes leave
 
 -- the refusals that an opening may answer, whatever the device holds
-abbrev pub IsTableOpeningRefusal : Refusal → Type 0
-IsTableOpeningRefusal e = (e ≡ BadTable) ⊎ IsOpeningRefusal e
+abbrev pub IsOpeningRefusal : Refusal → Type 0
+IsOpeningRefusal e = (e ≡ BadTable) ⊎ IsRefusalBesideBadTable e
 
 -- The calls of such an opening: a sync, and then at most so many.
-abbrev pub BeginsTablesWithSync : Calls → Calls → Type 0
-BeginsTablesWithSync old new = (ok : Bool) × AtMost 63554 38 2 (after_sync ok old) new
+abbrev pub BeginsWithSync : Calls → Calls → Type 0
+BeginsWithSync old new = (ok : Bool) × AtMost 63554 38 2 (after_sync ok old) new
 
 -- A manifest was written, with one superblock and nothing else, among so many syncs.
 pub record HasWritten (m : Contents) (syncs : ℕ) (old new : Calls) : Type 0 where
@@ -128,14 +128,14 @@ StandForOne log_sectors all sectors = StandForSome log_sectors (Contains all) se
 -- What crashes at each moment of an opening leave. Until its first sync has answered Ok nothing changes, so they leave
 -- what they could before. That makes all that pended stand, and from then on they leave the same again, in this generation
 -- or the next.
-pub record CrashesWithTables (before : Medium) (log_sectors : ℕ) (left : CrashState) (after : Medium) : Type 0 where
+pub record CrashesWhileOpening (before : Medium) (log_sectors : ℕ) (left : CrashState) (after : Medium) : Type 0 where
   pub synced_history : List Disk
   pub first_sync : Becomes (synced (disk before)) before.history synced_history
   pub crash : EachSince (Leaves (StandForOne log_sectors (left_by_opening left))) synced_history after.history
 
 -- An opening of a device whose reads stand for a crash state was refused, and gave the device back: the refusal is fair,
 -- reads stand for the same again, and crashes too, unless nothing changed.
-pub record FailsWithTables (before : Medium) (log_sectors : ℕ) (left : CrashState) (refusal : Refusal) (after : Medium) : Type 0 where
+pub record FailsToOpen (before : Medium) (log_sectors : ℕ) (left : CrashState) (refusal : Refusal) (after : Medium) : Type 0 where
   pub fair : MayRefuseOpening left refusal
   pub again : StandForOne log_sectors (left_by_opening left) (seen (disk after))
-  pub crash : (after.history ≡ before.history) ⊎ CrashesWithTables before log_sectors left after
+  pub crash : (after.history ≡ before.history) ⊎ CrashesWhileOpening before log_sectors left after

@@ -16,11 +16,11 @@ use Rattle.lsm_open.specs.Reopening.{GoesOn}
 use Rattle.lsm_open.specs.ToldTables.{told_levels, IsRefusedFor, Held, AreThose}
 use Rattle.lsm_open.proofs.OpeningRefusals.{from_load, from_replay}
 use Rattle.lsm_device.specs.Medium.{disk}
-use Rattle.lsm_open.proofs.TableOpenings.{named_here, memory_fair, load_fair, replay_fair, keep_fair}
+use Rattle.lsm_open.proofs.OpenedStores.{named_here, memory_fair, load_fair, replay_fair, keep_fair}
 use Rattle.lsm_device.proofs.Counting.{none_made}
 use Rattle.lsm_open.proofs.OpeningReads.{root_read, tables_read, regions_read, by_root}
-use Rattle.lsm_open.proofs.TableReads.{load_says, tables_say, replay_says, keep_says, none_says, tables_passed, keep_passed, keep_no_fault, with_told, all_read, all_told, reads_none, reads_ok, reads_err, reads_wider, reads_joined}
-use Rattle.lsm_open.proofs.recovered_tables.read_parts.Goals as goal
+use Rattle.lsm_open.proofs.OpeningAnswers.{load_says, tables_say, replay_says, keep_says, none_says, tables_passed, keep_passed, keep_no_fault, with_told, all_read, all_told, reads_none, reads_ok, reads_err, reads_wider, reads_joined}
+use Rattle.lsm_open.proofs.recovered.read_parts.Goals as goal
 
 -- ---- the refusal
 

@@ -13,10 +13,10 @@ ghost use Rattle.lsm_open.specs.Answered.{OpensUnless};
 ghost use Rattle.lsm_open.specs.CrashState.{CrashState, last_number, left_by_opening, MayRefuseOpening};
 ghost use Rattle.lsm_open.specs.Image.{StandFor};
 ghost use Rattle.lsm_open.specs.Layout.{layout_of};
-ghost use Rattle.lsm_open.specs.OpeningTables.{table_refusal};
+ghost use Rattle.lsm_open.specs.RefusedOpenings.{opening_refusal};
 ghost use Rattle.lsm_open.specs.Placements.{contents_for};
 ghost use Rattle.lsm_open.specs.ReadParts.{sectors_read, sectors_read_by, AreRead, AreToldBy, ReadsAtMost};
-ghost use Rattle.lsm_open.specs.RecoveredTables.{placed_in, sealed_versions, IsReopenedWithTables, IsRecoveredWithTables, AreWithinLimits, IsTableOpeningRefusal, BeginsTablesWithSync, HasWritten, StandForOne, CrashesWithTables, FailsWithTables};
+ghost use Rattle.lsm_open.specs.Recovering.{placed_in, sealed_versions, IsReopened, IsRecovered, AreWithinLimits, IsOpeningRefusal, BeginsWithSync, HasWritten, StandForOne, CrashesWhileOpening, FailsToOpen};
 ghost use Rattle.lsm_root.specs.Layout.{IsDeviceSize};
 ghost use Rattle.lsm_root.specs.Roots.{root_of};
 
@@ -37,7 +37,7 @@ const LAST_GENERATION: u64 = 1 << 63;
 
 /// A store's parts, tables and all, as an opening recovers them.
 #[derive(Drop)]
-pub struct RecoveredTables<D: Device, A: Allocator = Global> {
+pub struct Recovered<D: Device, A: Allocator = Global> {
     pub device: D,
     /// Where the batches behind the base lie on the device.
     pub regions: Regions<A>,
@@ -55,7 +55,7 @@ pub struct RecoveredTables<D: Device, A: Allocator = Global> {
 
 // The same without the device.
 #[derive(Drop)]
-struct TableParts<A: Allocator> {
+struct RecoveredParts<A: Allocator> {
     regions: Regions<A>,
     records: Vec<TableRecord, A>,
     levels: Levels<A>,
@@ -134,14 +134,14 @@ fn read_parts<A: Allocator + Clone, D: Device>(
     alloc: &A,
     device: &mut D,
 ) -> Result<Read<A>, Refusal>
-    ensures refusal { IsTrue (D.medium device.old).lasting.tells → OpensUnless (table_refusal (seen (disk (D.medium device.old)))) result }
+    ensures refusal { IsTrue (D.medium device.old).lasting.tells → OpensUnless (opening_refusal (seen (disk (D.medium device.old)))) result }
     ensures read { IfOk result (λ r. AreRead (D.medium device.old).size r.loaded.log_sectors r.loaded.manifest r.kept.closed.items r.kept.count (option_map arc_value r.kept.sealed) r.levels r.extents) }
     ensures records { IfOk result (λ r. r.kept.records.items ≡ r.loaded.manifest.tables) }
     ensures told { IsTrue (D.medium device.old).lasting.tells → IfOk result (λ r.
         AreToldBy (D.medium device.old).size r.loaded.log_sectors (seen (disk (D.medium device.old))) r.loaded.manifest r.kept.closed.items r.kept.count (option_map arc_value r.kept.sealed) r.levels) }
     ensures fair { (log_sectors : ℕ) (left : CrashState) → IsTrue (D.medium device.old).lasting.tells → StandFor log_sectors left (seen (disk (D.medium device.old)))
         → IfErr result (MayRefuseOpening left) }
-    ensures refused { IfErr result IsTableOpeningRefusal }
+    ensures refused { IfErr result IsOpeningRefusal }
     ensures reads { MatchResult result
         (λ r. AtMost (sectors_read r.loaded.log_sectors r.loaded.manifest.tables) 0 0 (D.medium device.old).calls (D.medium device.new).calls)
         (λ e. IsTrue (D.medium device.old).lasting.tells → AtMost (sectors_read_by (root_of (seen (disk (D.medium device.old))))) 0 0 (D.medium device.old).calls (D.medium device.new).calls) }
@@ -160,22 +160,22 @@ fn read_parts<A: Allocator + Clone, D: Device>(
 }
 
 // Recovers the parts from a device where nothing pends.
-fn recover_tables_settled<A: Allocator + Clone, D: Device>(
+fn recover_settled<A: Allocator + Clone, D: Device>(
     alloc: A,
     device: &mut D,
-) -> Result<TableParts<A>, Refusal>
+) -> Result<RecoveredParts<A>, Refusal>
     requires rests { IsTrue (D.medium device.old).lasting.tells → (disk (D.medium device.old)).pending ≡ [] }
-    ensures refusal { IsTrue (D.medium device.old).lasting.tells → OpensUnless (table_refusal (seen (disk (D.medium device.old)))) result }
+    ensures refusal { IsTrue (D.medium device.old).lasting.tells → OpensUnless (opening_refusal (seen (disk (D.medium device.old)))) result }
     ensures within { IfOk result (λ p. AreWithinLimits (D.medium device.old).size (placed_in (layout_of p.regions) p.levels p.records.items) p.count (option_map arc_value p.sealed) p.levels p.extents) }
     ensures reopened { IsTrue (D.medium device.old).lasting.tells → IfOk result (λ p.
-        IsReopenedWithTables (seen (disk (D.medium device.old))) (placed_in (layout_of p.regions) p.levels p.records.items) p.count (option_map arc_value p.sealed) p.levels (disk (D.medium device.new))) }
+        IsReopened (seen (disk (D.medium device.old))) (placed_in (layout_of p.regions) p.levels p.records.items) p.count (option_map arc_value p.sealed) p.levels (disk (D.medium device.new))) }
     ensures recovered { (log_sectors : ℕ) (left : CrashState) → IsTrue (D.medium device.old).lasting.tells → StandFor log_sectors left (seen (disk (D.medium device.old)))
-        → IfOk result (λ p. IsRecoveredWithTables log_sectors left (placed_in (layout_of p.regions) p.levels p.records.items) p.count (option_map arc_value p.sealed) p.levels (disk (D.medium device.new))) }
+        → IfOk result (λ p. IsRecovered log_sectors left (placed_in (layout_of p.regions) p.levels p.records.items) p.count (option_map arc_value p.sealed) p.levels (disk (D.medium device.new))) }
     ensures any_moment { (log_sectors : ℕ) (left : CrashState) → IsTrue (D.medium device.old).lasting.tells → StandFor log_sectors left (seen (disk (D.medium device.old)))
         → EachSince (Leaves (StandForOne log_sectors (left_by_opening left))) (D.medium device.old).history (D.medium device.new).history }
     ensures fair { (log_sectors : ℕ) (left : CrashState) → IsTrue (D.medium device.old).lasting.tells → StandFor log_sectors left (seen (disk (D.medium device.old)))
         → IfErr result (MayRefuseOpening left) }
-    ensures refused { IfErr result IsTableOpeningRefusal }
+    ensures refused { IfErr result IsOpeningRefusal }
     ensures unwritten { IfErr result (λ refusal. IsTrue (is_no_fault refusal) → AtMost 63554 0 0 (D.medium device.old).calls (D.medium device.new).calls) }
     ensures unchanged { IsTrue (D.medium device.old).lasting.tells → IfErr result (λ refusal. IsTrue (is_no_fault refusal) → (D.medium device.new).history ≡ (D.medium device.old).history) }
     ensures made { IfOk result (λ p. HasWritten (contents_for (placed_in (layout_of p.regions) p.levels p.records.items)) 2 (D.medium device.old).calls (D.medium device.new).calls) }
@@ -192,7 +192,7 @@ fn recover_tables_settled<A: Allocator + Clone, D: Device>(
     let read = read_parts(&alloc, device)?;
     let kept = read.kept;
     let regions = reopen(alloc, device, &read.loaded, kept.closed, kept.count)?;
-    Ok(TableParts {
+    Ok(RecoveredParts {
         regions,
         records: kept.records,
         levels: read.levels,
@@ -225,27 +225,27 @@ fn begin<D: Device>(device: &mut D) -> Result<(), Refusal>
 }
 
 // Recovers the parts.
-fn recover_table_parts<A: Allocator + Clone, D: Device>(
+fn recover_parts<A: Allocator + Clone, D: Device>(
     alloc: A,
     device: &mut D,
-) -> Result<TableParts<A>, Refusal>
+) -> Result<RecoveredParts<A>, Refusal>
     ensures size { (IsDeviceSize (D.medium device.old).size → ⊥) → (result ≡ Err Refusal.BadGeometry) × (device.new ≡ device.old) }
     ensures refusal { IsTrue (D.medium device.old).lasting.tells → IsDeviceSize (D.medium device.old).size
-        → OpensUnless (table_refusal (seen (disk (D.medium device.old)))) result }
+        → OpensUnless (opening_refusal (seen (disk (D.medium device.old)))) result }
     ensures within { IfOk result (λ p. AreWithinLimits (D.medium device.old).size (placed_in (layout_of p.regions) p.levels p.records.items) p.count (option_map arc_value p.sealed) p.levels p.extents) }
     ensures reopened { IsTrue (D.medium device.old).lasting.tells → IfOk result (λ p.
-        IsReopenedWithTables (seen (disk (D.medium device.old))) (placed_in (layout_of p.regions) p.levels p.records.items) p.count (option_map arc_value p.sealed) p.levels (disk (D.medium device.new))) }
+        IsReopened (seen (disk (D.medium device.old))) (placed_in (layout_of p.regions) p.levels p.records.items) p.count (option_map arc_value p.sealed) p.levels (disk (D.medium device.new))) }
     ensures recovered { (log_sectors : ℕ) (left : CrashState) → IsTrue (D.medium device.old).lasting.tells → StandFor log_sectors left (seen (disk (D.medium device.old)))
-        → IfOk result (λ p. IsRecoveredWithTables log_sectors left (placed_in (layout_of p.regions) p.levels p.records.items) p.count (option_map arc_value p.sealed) p.levels (disk (D.medium device.new))) }
+        → IfOk result (λ p. IsRecovered log_sectors left (placed_in (layout_of p.regions) p.levels p.records.items) p.count (option_map arc_value p.sealed) p.levels (disk (D.medium device.new))) }
     ensures any_moment { (log_sectors : ℕ) (left : CrashState) → IsTrue (D.medium device.old).lasting.tells → StandFor log_sectors left (seen (disk (D.medium device.old)))
-        → OnOk result (CrashesWithTables (D.medium device.old) log_sectors left (D.medium device.new)) }
+        → OnOk result (CrashesWhileOpening (D.medium device.old) log_sectors left (D.medium device.new)) }
     ensures fails { (log_sectors : ℕ) (left : CrashState) → IsTrue (D.medium device.old).lasting.tells → StandFor log_sectors left (seen (disk (D.medium device.old)))
-        → IfErr result (λ refusal. FailsWithTables (D.medium device.old) log_sectors left refusal (D.medium device.new)) }
-    ensures refused { IfErr result IsTableOpeningRefusal }
+        → IfErr result (λ refusal. FailsToOpen (D.medium device.old) log_sectors left refusal (D.medium device.new)) }
+    ensures refused { IfErr result IsOpeningRefusal }
     ensures unwritten { IfErr result (λ refusal. IsTrue (is_no_fault refusal) → AtMost 63554 0 1 (D.medium device.old).calls (D.medium device.new).calls) }
     ensures settled { IsTrue (D.medium device.old).lasting.tells → IsDeviceSize (D.medium device.old).size → IfErr result (λ refusal. IsTrue (is_no_fault refusal)
         → Becomes (synced (disk (D.medium device.old))) (D.medium device.old).history (D.medium device.new).history) }
-    ensures begins { IsDeviceSize (D.medium device.old).size → BeginsTablesWithSync (D.medium device.old).calls (D.medium device.new).calls }
+    ensures begins { IsDeviceSize (D.medium device.old).size → BeginsWithSync (D.medium device.old).calls (D.medium device.new).calls }
     ensures made { IfOk result (λ p. HasWritten (contents_for (placed_in (layout_of p.regions) p.levels p.records.items)) 3 (D.medium device.old).calls (D.medium device.new).calls) }
     ensures reads { MatchResult result
         (λ p. AtMost (sectors_read p.regions.log_sectors p.records.items) 38 3 (D.medium device.old).calls (D.medium device.new).calls)
@@ -258,7 +258,7 @@ fn recover_table_parts<A: Allocator + Clone, D: Device>(
 {
     root_laws();
     begin(device)?;
-    let parts = recover_tables_settled(alloc, device)?;
+    let parts = recover_settled(alloc, device)?;
     Ok(parts)
 }
 
@@ -273,10 +273,10 @@ fn recover_table_parts<A: Allocator + Clone, D: Device>(
 /// names a table that doesn't open, or the tables of a run are out of order; with `BadManifest` where a region's first batch is
 /// not the next one; with `Exhausted` in the last generation; with `NoMemory`; and with `Io` where a device call failed, which
 /// was its last. Where several hold, the first of them in this order is answered.
-pub fn recover_with_tables<A: Allocator + Clone, D: Device>(
+pub fn recover<A: Allocator + Clone, D: Device>(
     alloc: A,
     device: D,
-) -> Result<RecoveredTables<D, A>, (Refusal, D)>
+) -> Result<Recovered<D, A>, (Refusal, D)>
     // Just where the size is outside the limits it is refused with BadGeometry before any device call, and then nothing else is
     // answered, NoMemory neither.
     ensures size { (result ≡ Err (Refusal.BadGeometry, device)) ↔ (IsDeviceSize (D.medium device).size → ⊥) }
@@ -284,27 +284,27 @@ pub fn recover_with_tables<A: Allocator + Clone, D: Device>(
     // Of any sectors it answers Ok only where no refusal holds, and an Err is the one that holds, or want of memory, or a
     // fault.
     ensures refusal { IsTrue (D.medium device).lasting.tells → IsDeviceSize (D.medium device).size → MatchResult result
-        (λ r. table_refusal (seen (disk (D.medium device))) ≡ None)
-        (λ e. (table_refusal (seen (disk (D.medium device))) ≡ Some e.0) ⊎ ((e.0 ≡ Refusal.NoMemory) ⊎ (e.0 ≡ Refusal.Io))) }
+        (λ r. opening_refusal (seen (disk (D.medium device))) ≡ None)
+        (λ e. (opening_refusal (seen (disk (D.medium device))) ≡ Some e.0) ⊎ ((e.0 ≡ Refusal.NoMemory) ⊎ (e.0 ≡ Refusal.Io))) }
 
     // Whatever the device holds, and whether it tells so or not, an Err is one of these; and after Ok the parts are within
     // the limits, and just their manifest was written.
-    ensures refused { IfErr result (λ e. IsTableOpeningRefusal e.0) }
+    ensures refused { IfErr result (λ e. IsOpeningRefusal e.0) }
     ensures made { IfOk result (λ r. HasWritten (contents_for (placed_in (layout_of r.regions) r.levels r.records.items)) 3 (D.medium device).calls (D.medium r.device).calls) }
     ensures within { IfOk result (λ r. AreWithinLimits (D.medium device).size (placed_in (layout_of r.regions) r.levels r.records.items) r.count (option_map arc_value r.sealed) r.levels r.extents) }
 
     // Where a manifest stands, base, tables and next table number stay, and memory has just the versions of the batches in
     // the listed regions.
     ensures reopened { IsTrue (D.medium device).lasting.tells → IfOk result (λ r.
-        IsReopenedWithTables (seen (disk (D.medium device))) (placed_in (layout_of r.regions) r.levels r.records.items) r.count (option_map arc_value r.sealed) r.levels (disk (D.medium r.device))) }
+        IsReopened (seen (disk (D.medium device))) (placed_in (layout_of r.regions) r.levels r.records.items) r.count (option_map arc_value r.sealed) r.levels (disk (D.medium r.device))) }
 
     // Of what a crash left it recovers the store, and is refused only fairly.
     ensures recovered { (log_sectors : ℕ) (left : CrashState) → IsTrue (D.medium device).lasting.tells → StandFor log_sectors left (seen (disk (D.medium device)))
-        → IfOk result (λ r. IsRecoveredWithTables log_sectors left (placed_in (layout_of r.regions) r.levels r.records.items) r.count (option_map arc_value r.sealed) r.levels (disk (D.medium r.device))) }
+        → IfOk result (λ r. IsRecovered log_sectors left (placed_in (layout_of r.regions) r.levels r.records.items) r.count (option_map arc_value r.sealed) r.levels (disk (D.medium r.device))) }
     ensures any_moment { (log_sectors : ℕ) (left : CrashState) → IsTrue (D.medium device).lasting.tells → StandFor log_sectors left (seen (disk (D.medium device)))
-        → IfOk result (λ r. CrashesWithTables (D.medium device) log_sectors left (D.medium r.device)) }
+        → IfOk result (λ r. CrashesWhileOpening (D.medium device) log_sectors left (D.medium r.device)) }
     ensures fails { (log_sectors : ℕ) (left : CrashState) → IsTrue (D.medium device).lasting.tells → StandFor log_sectors left (seen (disk (D.medium device)))
-        → IfErr result (λ e. FailsWithTables (D.medium device) log_sectors left e.0 (D.medium e.1)) }
+        → IfErr result (λ e. FailsToOpen (D.medium device) log_sectors left e.0 (D.medium e.1)) }
 
     // A refusal that tells of no fault has written nothing. It made one sync at most, and exactly for a size outside the
     // limits none.
@@ -312,8 +312,8 @@ pub fn recover_with_tables<A: Allocator + Clone, D: Device>(
     ensures settled { IsTrue (D.medium device).lasting.tells → IsDeviceSize (D.medium device).size → IfErr result (λ e. IsTrue (is_no_fault e.0)
         → Becomes (synced (disk (D.medium device))) (D.medium device).history (D.medium e.1).history) }
     ensures begins { IsDeviceSize (D.medium device).size → MatchResult result
-        (λ r. BeginsTablesWithSync (D.medium device).calls (D.medium r.device).calls)
-        (λ e. BeginsTablesWithSync (D.medium device).calls (D.medium e.1).calls) }
+        (λ r. BeginsWithSync (D.medium device).calls (D.medium r.device).calls)
+        (λ e. BeginsWithSync (D.medium device).calls (D.medium e.1).calls) }
 
     // A device call faulted exactly where it answers Io, and then the last.
     ensures faults { MatchResult result
@@ -333,8 +333,8 @@ pub fn recover_with_tables<A: Allocator + Clone, D: Device>(
     ensures same_lasting { MatchResult result (λ r. (D.medium r.device).lasting ≡ (D.medium device).lasting) (λ e. (D.medium e.1).lasting ≡ (D.medium device).lasting) }
 {
     let mut device = device;
-    match recover_table_parts(alloc, &mut device) {
-        Ok(parts) => Ok(RecoveredTables {
+    match recover_parts(alloc, &mut device) {
+        Ok(parts) => Ok(Recovered {
             device,
             regions: parts.regions,
             records: parts.records,

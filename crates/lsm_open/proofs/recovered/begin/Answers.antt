@@ -1,5 +1,5 @@
 use Rattle.std.proofs.Common.{rules}
-use Rattle.lsm_open.proofs.recovered_tables.begin.Goals as goal
+use Rattle.lsm_open.proofs.recovered.begin.Goals as goal
 
 pub returns-clause-stands : goal.returns-clause-stands
 returns-clause-stands g c = λ t. c.in_ok-sync.ensures.stands t
