@@ -75,7 +75,8 @@ impl<A: Allocator> Slots<A> {
     }
 
     /// The input of a frozen job, shared with it. It is refused with `NoSuchJob` exactly where no slot has the number, with
-    /// `WrongState` exactly where the job is not frozen, or with `NoMemory`, only where there are 2^63 handles of the input.
+    /// `WrongState` exactly where the job is not frozen, or with `NoMemory`. No memory is taken: that comes only of an `Arc` with 2^63
+    /// handles, but no clause says so.
     pub fn input(&self, job: u64) -> Result<Arc<Input<A>, A>, Refusal>
         ensures input { IfOk result (λ input. HasInput (arc_value input) (slot_of job self.now.slots)) }
         ensures refused { IfErr result (RefusesInput (slot_of job self.now.slots)) }

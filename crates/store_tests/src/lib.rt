@@ -8,4 +8,6 @@ mod failures;
 #[cfg(test)]
 mod growth;
 #[cfg(test)]
+mod letting_go;
+#[cfg(test)]
 mod setup;
