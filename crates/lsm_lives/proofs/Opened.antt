@@ -18,7 +18,7 @@ use Rattle.lsm_store.specs.Backing.{StoreView}
 use Rattle.lsm_store.specs.Calls.{Number, Done, Value, Rows, Given, Handed, Refused}
 use Rattle.lsm_store.specs.RecoveryPoints.{batch_count}
 use Rattle.lsm_store.specs.Serving.{OpensTo, ReopensTo, IsUncalled, IsRefusedBehindSync}
-use Rattle.lsm_lives.specs.Leading.{BeginsOn, FailsOn, IsLed, with_fuse}
+use Rattle.lsm_lives.specs.Leading.{BeginsOn, FailsOn, IsLed, HasNewCache, with_fuse}
 use Rattle.lsm_lives.specs.Asked.{Asked, Told, Replied, Built, told_stopped}
 use Rattle.lsm_lives.specs.Replaying.{MakesEach}
 use Rattle.lsm_lives.proofs.Steps.{replayed, go_on}
@@ -66,6 +66,7 @@ module _ {X : Type 0} (medium : X → Medium) (start : X) where
       → ((IsDeviceSize began.size → ⊥) → r ≡ Err (BadGeometry, start))
       → (IsDeviceSize began.size → MatchResult r (λ s. opening_refusal held ≡ None) (λ e. (opening_refusal held ≡ Some e.0) ⊎ ((e.0 ≡ NoMemory) ⊎ (e.0 ≡ Io))))
       → IfOk r (λ s. ReopensTo began s)
+      → IfOk r HasNewCache
       → ((log_sectors : ℕ) (left : CrashState) → StandFor log_sectors left held → IfOk r (λ s. OpensTo began log_sectors left s))
       → ((log_sectors : ℕ) (left : CrashState) → StandFor log_sectors left held → IfErr r (λ e. FailsToOpen began log_sectors left e.0 (medium e.1)))
       → MatchResult r (λ s. s.device.calls.faults ≡ began.calls.faults) (λ e. (medium e.1).calls.faults ≡ faults_after (is_no_fault e.0) began.calls.faults)
@@ -75,7 +76,7 @@ module _ {X : Type 0} (medium : X → Medium) (start : X) where
       → MatchResult r (λ s. s.device.lasting ≡ began.lasting) (λ e. (medium e.1).lasting ≡ began.lasting)
       → MatchResult r (λ s. BeginsOn began s) (λ e. FailsOn began e.0 (medium e.1))
   unfolding failed
-  opening tells (Ok s) size refusal reopens opens fails faults calls called same_size lasting =
+  opening tells (Ok s) size refusal reopens cache opens fails faults calls called same_size lasting =
       let none : (e : Refusal × X) → Ok s ≡ Err e → ⊥ = λ e is. subst (λ (r : Result StoreView (Refusal × X)). MatchResult r (λ _. Unit {0}) (λ _. ⊥)) is tt in
       let fits = sized began.size (λ other. none (BadGeometry, start) (size other)) in
       record {
@@ -83,12 +84,13 @@ module _ {X : Type 0} (medium : X → Medium) (start : X) where
         unrefused = refusal fits;
         reopens = reopens;
         opens = opens;
+        cache = cache;
         no_fault = faults;
         calls = calls;
         same_size = same_size;
         same_lasting = lasting;
       }
-  opening tells (Err e) size refusal reopens opens fails faults calls called same_size lasting = record {
+  opening tells (Err e) size refusal reopens cache opens fails faults calls called same_size lasting = record {
     size = λ other. inr (ap (λ (r : Result StoreView (Refusal × X)). (failed r).0) (size other));
     reason = refusal;
     fault = faults;

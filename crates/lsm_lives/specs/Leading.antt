@@ -30,6 +30,10 @@ pub record LifeView : Type 0 where
 abbrev pub life_of : {A : Type 0} → Given A → LifeView
 life_of life = record { fuse = life.fuse; steps = map asked_of life.steps.items; mask = life.mask.items }
 
+-- the cache of a store that was just opened, in a life, by a request or for a storm: it may keep 256 blocks, and has none yet
+abbrev pub HasNewCache : StoreView → Type 0
+HasNewCache s = s.cache ≡ record { blocks = []; capacity = 256; refusals = 0 }
+
 -- An opening of the device answered this store.
 pub record BeginsOn (before : Medium) (s : StoreView) : Type 0 where
   -- neither the device's size nor what it holds refuses it; the store is what it replayed, and of what a crash left the one
@@ -38,6 +42,7 @@ pub record BeginsOn (before : Medium) (s : StoreView) : Type 0 where
   pub unrefused : opening_refusal (seen (disk before)) ≡ None
   pub reopens : ReopensTo before s
   pub opens : (log_sectors : ℕ) (left : CrashState) → StandFor log_sectors left (seen (disk before)) → OpensTo before log_sectors left s
+  pub cache : HasNewCache s
   -- no call of the device faulted in it
   pub no_fault : s.device.calls.faults ≡ before.calls.faults
   pub calls : AtMost 63554 38 3 before.calls s.device.calls

@@ -25,6 +25,6 @@ pub use calls::{Call, Reply, Step, Work};
 pub use law::{
     devices_hold_what_was_left, led_lives_go_on, steps_go_on, what_is_asked_is_replayed,
 };
-pub use living::{Life, lives};
+pub use living::{CACHE_BLOCKS, Life, lives};
 pub use replaying::replay;
 pub use serving::serve;

@@ -21,8 +21,8 @@ use lsm_store::Store;
 use std::alloc::{AllocError, Allocator, Global};
 use std::thread::Threads;
 
-/// The blocks of the cache of each opening.
-const CACHE: u32 = 256;
+/// How many blocks of tables an opened store may keep in memory: in a life, and wherever else the program opens one.
+pub const CACHE_BLOCKS: u32 = 256;
 
 /// A life of a store on a device, from an opening to a crash.
 #[derive(Drop)]
@@ -218,7 +218,7 @@ fn open<A: Allocator + Clone, B: Allocator>(
     ensures { MatchResult result (λ s. BeginsOn (medium_in device) s) (λ e. FailsOn (medium_in device) e.0 (medium_in e.1)) }
 {
     match alloc.clone() {
-        Ok(alloc) => Store::open(alloc, device, CACHE),
+        Ok(alloc) => Store::open(alloc, device, CACHE_BLOCKS),
         Err(_) => Err((Refusal::NoMemory, device)),
     }
 }
