@@ -3,7 +3,7 @@ use Rattle.std.proofs.Common.{◌≡◌, ◌≢◌, ◌⊎◌, ℕ, zero, suc, �
 use Rattle.std.proofs.lemmas.Bool.Decides.{nat_tests}
 use Rattle.lsm_trail.specs.History.{Event, entries_by}
 use Rattle.lsm_trail.specs.Knowledge.{Known}
-use Rattle.lsm_shared.specs.Clients.{Told, has_client, AreAll, entries_made}
+use Rattle.lsm_shared.specs.Clients.{AgreesWith, has_client, AreAll, entries_made}
 
 abbrev one_if : Bool → ℕ
 one_if b = if b then 1 else 0
@@ -128,9 +128,9 @@ all_calls n cs (e ∷ log) all strangers =
     let s = no_stranger n e log strangers in
     omega (arith, calls_in-more e log cs, hit_once n cs e.client all s.0, all_calls n cs log all s.1)
 
-made_in : (log : List Event) (cs : List Known) → Told log cs → entries_made cs ≡ calls_in log cs
+made_in : (log : List Event) (cs : List Known) → AgreesWith log cs → entries_made cs ≡ calls_in log cs
 made_in log [] told = refl
 made_in log (c ∷ cs) told = omega (arith, ap length told.1, made_in log cs told.2)
 
-pub counted : (n : ℕ) (cs : List Known) (log : List Event) → AreAll n cs → Told log cs → Strangers n log → entries_made cs ≡ length log
+pub counted : (n : ℕ) (cs : List Known) (log : List Event) → AreAll n cs → AgreesWith log cs → Strangers n log → entries_made cs ≡ length log
 counted n cs log all told strangers = made_in log cs told ∙ all_calls n cs log all strangers

@@ -20,11 +20,14 @@ use Rattle.lsm_store.proofs.ServedSteps.{served_goes, served_work}
 use Rattle.lsm_store.proofs.Steps.{step_stopped}
 use Rattle.lsm_trail.specs.Begins.{base_of}
 use Rattle.lsm_trail.specs.Following.{MayFollow}
-use Rattle.lsm_trail.specs.History.{Event, event, IsLegal, inputs_of, IsNextNumber, TakesResult, machine_after, entries_by}
+use Rattle.lsm_trail.specs.History.{Event, event, replies_of, IsLegal, inputs_of, IsNextNumber, TakesResult, machine_after, entries_by}
 use Rattle.lsm_trail.specs.Knowledge.{SessionId, Known, known}
 use Rattle.lsm_trail.proofs.Histories.{after_more, legal_none, entries_by-mine}
 use Rattle.lsm_trail.proofs.Lists.{prefix_self}
-use Rattle.lsm_shared.specs.Sessions.{IsPinned, SessionView, IsSession, Knows, Finds, HasSeen, Enters, EntersOne, IsFull, IsReserved, IsShort, IsLost}
+use Rattle.lsm_lives.specs.Asked.{Told, Replied}
+use Rattle.lsm_shared.specs.Holds.{AreServedBy}
+use Rattle.lsm_shared.specs.Sessions.{IsPinned, SessionView, IsSession, Knows, Finds, HasSeen, Enters, EntersOne, EntersStep, IsFull, IsReserved, IsShort, IsLost}
+use Rattle.lsm_shared.proofs.Faults.{device_unused, device_entered, device_kept}
 
 -- ---- a step that a store served
 
@@ -148,6 +151,7 @@ module _ (id : SessionId) (base : ℕ) (store new : StoreView) (log : List Event
       legal = legal;
       machine = machine_entered;
       backed = λ began. served_backed store step reply new serves (session.backed began);
+      device = device_entered id.begin.store.device store log after step reply new e session.device serves (ap (λ (x : Event). x.reply) is) behind;
       room = room_left;
     }
 
@@ -195,6 +199,7 @@ session_kept id base store new log session call reply serves short = record {
   legal = session.legal;
   machine = lost_machine store new call reply serves short ∙ session.machine;
   backed = λ began. serves.backed (session.backed began);
+  device = device_kept id.begin.store.device (replies_of log) store (Called call) reply new session.device serves short;
   room = session.room;
 }
 
@@ -245,12 +250,13 @@ session_begun id base store log none pinned = subst (IsSession id base store) (s
   legal = legal_none id.begin pinned.could;
   machine = pinned.machine;
   backed = pinned.backed;
+  device = device_unused id.begin.store.device store.device pinned.unused;
   room = zero-le;
 }
 
--- an entry with an equal reply
-pub told_alike : (id : SessionId) (old new : SessionView) (c d : Known) (step : Step) (reply answer : Reply) (n : ℕ) (m : Machine) → answer ≡ reply → EntersOne id old c (event c.number step reply n m) new d → EntersOne id old c (event c.number step answer n m) new d
-told_alike id old new c d step reply answer n m is e = subst (λ (r : Reply). EntersOne id old c (event c.number step r n m) new d) (sym is) e
+-- an entry whose reply is told
+pub entered_step : (id : SessionId) (old new : SessionView) (c d : Known) (step : Step) (reply : Reply) (result : ℕ) (answer told : Told) → answer ≡ told → told ≡ Replied reply → EntersOne id old c (event c.number step reply result (machine_of new.store)) new d → EntersStep id old c step result answer new d
+entered_step id old new c d step reply result answer told alike is one = record { reply = reply; told = alike ∙ is; one = one }
 
 -- a place is left where the trail isn't full
 pub place_left : (n limit : ℕ) (full : Bool) → full ≡ (n == limit) → full ≡ false → n ≤ limit → n < limit
@@ -284,6 +290,11 @@ enters_join id old mid new c d f xs ys one two =
       own = ap (λ (n : ℕ). entries_by n new.log) (sym number) ∙ two.own ∙ ap (λ (l : List Event). l ++ ys) mine ∙ append_assoc c.mine xs ys;
       client = two.client ∙ (λ i. known id.begin (number i) new.log (mine i ++ ys)) ∙ ap (known id.begin c.number new.log) (append_assoc c.mine xs ys);
     }
+
+-- and so were they served
+pub served_join : (old mid new : StoreView) (xs ys : List Event) → AreServedBy old xs mid → AreServedBy mid ys new → AreServedBy old (xs ++ ys) new
+served_join old mid new [] ys same two = subst (λ (s : StoreView). AreServedBy s ys new) same two
+served_join old mid new (x ∷ xs) ys (first, serves, rest) two = (first, serves, served_join first mid new xs ys rest two)
 
 -- a client that made entries has seen them
 pub seen_then : (id : SessionId) (old new : SessionView) (c d : Known) (xs : List Event) → Enters id old c xs new d → HasSeen id new d

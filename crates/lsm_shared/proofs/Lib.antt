@@ -9,3 +9,4 @@ pub mod Telling
 pub mod Turning
 pub mod OwnWork
 pub mod Endings
+pub mod Faults

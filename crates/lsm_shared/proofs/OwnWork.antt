@@ -1,5 +1,5 @@
 -- Pieces of work in a hold of the lock.
-use Rattle.std.proofs.Common.{◌≡◌, ◌≢◌, ℕ, ◌<◌, Option, Some, None, List, length, refl, ap, sym, ◌∙◌, subst}
+use Rattle.std.proofs.Common.{◌≡◌, ◌≢◌, ℕ, ◌<◌, Option, Some, None, List, length, refl, ap, sym, ◌∙◌, subst, inl, inr}
 use Rattle.lsm_device.specs.declared.refusal.Refusal.{Refusal}
 use Rattle.lsm_device.specs.declared.refusal.Refusal.TheVariants.{NoMemory, TrailFull}
 use Rattle.lsm_jobs.specs.Slots.{Slot}
@@ -18,13 +18,14 @@ use Rattle.lsm_store.proofs.WorkReplies.{refused_work}
 use Rattle.lsm_lives.specs.Calls.{reply_of}
 use Rattle.lsm_lives.specs.declared.calls.Reply.{Reply as GivenReply}
 use Rattle.lsm_lives.specs.declared.calls.Reply.TheVariants as reply
-use Rattle.lsm_trail.specs.History.{Event, IsNextNumber, TakesResult}
+use Rattle.lsm_trail.specs.History.{Event, replies_of, IsNextNumber, TakesResult}
 use Rattle.lsm_trail.specs.Knowledge.{SessionId, Known, known}
 use Rattle.lsm_shared.specs.Holds.{IsPutBack}
 use Rattle.lsm_shared.specs.Pieces.{work_of}
 use Rattle.lsm_shared.specs.Sessions.{SessionView, IsSession, HasSeen, IsLost}
 use Rattle.lsm_shared.specs.declared.pieces.OwnPiece.{OwnPiece}
 use Rattle.lsm_shared.specs.declared.pieces.OwnPiece.TheVariants as own
+use Rattle.lsm_shared.proofs.Faults.{device_kept}
 use Rattle.lsm_shared.proofs.Holds.{entered_none}
 
 -- ---- numbers of results
@@ -111,6 +112,7 @@ module _ (old new : StoreView) (piece : Work) (told : Reply) (works : Works old 
     legal = session.legal;
     machine = short_machine ∙ session.machine;
     backed = λ began. works.backed (session.backed began);
+    device = device_kept id.begin.store.device (replies_of log) old (Worked piece) told new session.device works short;
     room = session.room;
   }
 
@@ -120,6 +122,7 @@ module _ (old new : StoreView) (piece : Work) (told : Reply) (works : Works old 
       subst (λ (v : SessionView). HasSeen id v c → IsPutBack id v c piece NoMemory (record { store = new; log = log }) c) is
       (λ s. record {
         enters = entered_none id (record { store = old; log = log }) new c c s.finds (λ i. known (s.finds.knows.begin i) c.number (s.all i) c.mine) short_machine works.backed;
+        out = inr (told, short, works);
         denied = (room, subst (λ (m : Machine). WorkAdmits m piece (Refused NoMemory)) s.finds.machine short_works.admitted);
       }) seen
 
@@ -127,6 +130,7 @@ module _ (old new : StoreView) (piece : Work) (told : Reply) (works : Works old 
 pub put_back_full : (id : SessionId) (old : SessionView) (c : Known) (piece : Work) → HasSeen id old c → length old.log ≡ id.begin.limit → IsPutBack id old c piece TrailFull old c
 put_back_full id old c piece s full = record {
   enters = entered_none id old old.store c c s.finds (λ i. known (s.finds.knows.begin i) c.number (s.all i) c.mine) refl (λ b. b);
+  out = inl refl;
   denied = full;
 }
 
@@ -140,6 +144,7 @@ pub put_back_short : (id : SessionId) (store : StoreView) (log : List Event) (ol
     → WorkAdmits (machine_of old.store) piece (Refused e) → IsPutBack id old c piece NoMemory old c
 put_back_short id store log old was c piece e seen room is admitted = record {
   enters = entered_none id old old.store c c seen.finds (λ i. known (seen.finds.knows.begin i) c.number (seen.all i) c.mine) refl (λ b. b);
+  out = inl refl;
   denied = (
     subst (λ (v : SessionView). length v.log < id.begin.limit) was room,
     subst (λ (m : Machine). WorkAdmits m piece (Refused NoMemory)) seen.finds.machine (subst (λ (r : Refusal). WorkAdmits (machine_of old.store) piece (Refused r)) is admitted),

@@ -8,14 +8,15 @@ use Rattle.lsm_device.specs.declared.refusal.Refusal.{Refusal}
 use Rattle.lsm_device.specs.declared.refusal.Refusal.TheVariants.{NoMemory, TrailFull, NotYours}
 use Rattle.lsm_merge.specs.Results.{MergeResult}
 use Rattle.lsm_store.specs.Backing.{machine_of}
-use Rattle.lsm_store.specs.Calls.{Call, Reply}
+use Rattle.lsm_store.specs.Calls.{Call}
 use Rattle.lsm_store.specs.Calls.{Refused}
 use Rattle.lsm_store.specs.Machine.{Machine}
 use Rattle.lsm_store.specs.Pieces.{next_piece, places_from}
 use Rattle.lsm_store.specs.Run.{Admits, Allows}
 use Rattle.lsm_store.specs.State.{State}
 use Rattle.lsm_store.specs.Work.{Work}
-use Rattle.lsm_lives.specs.Calls.{reply_of}
+use Rattle.lsm_lives.specs.Asked.{Told}
+use Rattle.lsm_lives.specs.Calls.{told_of}
 use Rattle.lsm_lives.specs.declared.calls.Reply.{Reply as GivenReply}
 use Rattle.lsm_trail.specs.History.{Event, lent_to, machine_after, IsLegal, entries_by}
 use Rattle.lsm_trail.specs.Knowledge.{SessionId, Known, Sees}
@@ -94,8 +95,14 @@ no_call id old new c d call NoMemory h =
     denied_call id old new c d call NoMemory h.enters (h.room, subst (λ (s : State). Admits s call (Refused NoMemory)) state h.admitted, λ began. subst (λ (s : State). Allows s call (Refused NoMemory)) state (h.allowed began))
 no_call id old new c d call r h = absurd h
 
-pub tells_made : {T : Type 0} (res : Result T Refusal) (f : T → Reply) (id : SessionId) (old new : SessionView) (c d : Known) (call : Call) → IfOk res (λ r. IsMade id old c call (f r) new d) → IfOk res (λ r. MakesCall c call (f r) d)
-tells_made (Ok r) f id old new c d call made = (others id old new c d _ made.enters, machine_of new.store, adds id old new c d _ made.enters)
+pub tells_made : {T : Type 0} (res : Result T Refusal) (f : T → Told) (id : SessionId) (old new : SessionView) (c d : Known) (call : Call) → IfOk res (λ r. IsMade id old c call (f r) new d) → IfOk res (λ r. MakesCall c call (f r) d)
+tells_made (Ok r) f id old new c d call made = record {
+  reply = made.reply;
+  told = made.told;
+  others = others id old new c d _ made.one.enters;
+  machine = machine_of new.store;
+  adds = adds id old new c d _ made.one.enters;
+}
 tells_made (Err e) f id old new c d call made = tt
 
 pub tells_refused : {T : Type 0} (res : Result T Refusal) (id : SessionId) (old new : SessionView) (c d : Known) (call : Call) → IfErr res (λ e. IsRefused id old c call e new d) → IfErr res (λ e. IsNoCall c call e d)
@@ -154,10 +161,10 @@ tells_lent (Err r) c d t = tt
 -- ---- results
 
 pub tells_brought : {A : Type 0} (res : Result (GivenReply A) Refusal) (id : SessionId) (old new : SessionView) (c d : Known) (job result : ℕ) (made : MergeResult)
-    → MatchResult res (λ reply. IsBroughtBy id old c job result made (reply_of reply) new d) (λ r. StopsBringing id old c job result made r new d)
-    → MatchResult res (λ reply. Brings c job result made (reply_of reply) d) (λ r. IsNotBrought c job result made r d)
+    → MatchResult res (λ reply. IsBroughtBy id old c job result made (told_of reply) new d) (λ r. StopsBringing id old c job result made r new d)
+    → MatchResult res (λ reply. Brings c job result made (told_of reply) d) (λ r. IsNotBrought c job result made r d)
 tells_brought (Ok reply) id old new c d job result made b =
-    record { others = others id old new c d b.entries b.enters; entries = b.entries; adds = adds id old new c d b.entries b.enters; brought = b.brought }
+    record { reply = b.reply; told = b.told; others = others id old new c d b.entries b.enters; entries = b.entries; adds = adds id old new c d b.entries b.enters; brought = b.brought }
 tells_brought (Err r) id old new c d job result made s = record {
   others = others id old new c d s.entries s.enters;
   entries = s.entries;

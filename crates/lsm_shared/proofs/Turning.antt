@@ -16,16 +16,17 @@ use Rattle.lsm_store.specs.WorkRefusals.{work_refusal}
 use Rattle.lsm_store.specs.WorkReplies.{work_reply_by, work_decided, WorkAdmits}
 use Rattle.lsm_store.specs.Working.{Works}
 use Rattle.lsm_store.proofs.WorkReplies.{refused_work}
-use Rattle.lsm_lives.specs.Calls.{reply_of}
+use Rattle.lsm_lives.specs.Asked.{Told, Replied}
+use Rattle.lsm_lives.specs.Calls.{told_of}
 use Rattle.lsm_lives.specs.declared.calls.Reply.{Reply as GivenReply}
 use Rattle.lsm_trail.specs.History.{Event, worked, lent_to, steps_of}
 use Rattle.lsm_trail.specs.Knowledge.{SessionId, Known, known}
-use Rattle.lsm_shared.specs.Holds.{IsPutBack, StaysIfIdle, TakesAmong, StopsAmong}
-use Rattle.lsm_shared.specs.Sessions.{SessionView, Finds, HasSeen, Enters, EntersOne}
+use Rattle.lsm_shared.specs.Holds.{AreServedBy, IsPutBack, StaysIfIdle, TakesAmong, StopsAmong}
+use Rattle.lsm_shared.specs.Sessions.{SessionView, Finds, HasSeen, Enters, EntersOne, EntersStep}
 use Rattle.lsm_shared.specs.Turns.{tells_full_levels, with_piece, pieces_among, as_steps, AreOfTurn, IsTurn, StopsBefore}
 use Rattle.lsm_shared.specs.declared.turn.Turn.{Turn}
 use Rattle.lsm_shared.specs.declared.turn.Turn.TheVariants as turn
-use Rattle.lsm_shared.proofs.Holds.{enters_join, entered_none, shown_before}
+use Rattle.lsm_shared.proofs.Holds.{enters_join, served_join, entered_none, shown_before}
 
 -- ---- the pieces at one place, and behind it
 
@@ -101,6 +102,7 @@ pub idle_nowhere : {A : Type 0} (id : SessionId) (old : SessionView) (c : Known)
 idle_nowhere {A = A} id old c places none h = subst (λ (ps : List ℕ). TakesAmong {A = A} id old c ps turn.Idle old c) (sym none) record {
   entries = [];
   enters = enters_none id old c h;
+  serves = refl;
   takes = record { steps = refl; ends = refl };
   stays = refl;
 }
@@ -108,7 +110,7 @@ idle_nowhere {A = A} id old c places none h = subst (λ (ps : List ℕ). TakesAm
 pub idle_at : {A : Type 0} (id : SessionId) (old : SessionView) (c : Known) (place : ℕ) → piece_at (machine_of old.store) place ≡ None → HasSeen id old c → TakesAmong {A = A} id old c (place ∷ []) turn.Idle old c
 idle_at id old c place at h =
     let p = pieces_none (machine_of old.store) place at in
-    record { entries = []; enters = enters_none id old c h; takes = record { steps = sym (ap as_steps p.0); ends = p.1 }; stays = refl }
+    record { entries = []; enters = enters_none id old c h; serves = refl; takes = record { steps = sym (ap as_steps p.0); ends = p.1 }; stays = refl }
 
 -- the same where the parts of the session are known
 pub idle_was : {A : Type 0} (id : SessionId) (store : StoreView) (log : List Event) (old : SessionView) → record { store = store; log = log } ≡ old → (c : Known) (place : ℕ) → None ≡ piece_at (machine_of store) place → HasSeen id old c → TakesAmong {A = A} id old c (place ∷ []) turn.Idle old c
@@ -120,24 +122,30 @@ of_one m place w e next at step is =
     let p = pieces_at m place w at in
     record { steps = ap (λ (s : Step). s ∷ []) step ∙ sym (ap as_steps p.0); ends = p.1 ∙ is }
 
+-- one entry was served
+one_served : (id : SessionId) (old new : SessionView) (c d : Known) (e : Event) → EntersOne id old c e new d → AreServedBy old.store (e ∷ []) new.store
+one_served id old new c d e one = (new.store, one.serves, refl)
+
 pub did_at : {A : Type 0} (id : SessionId) (old new : SessionView) (c d : Known) (place : ℕ) (w : Work) (reply : GivenReply A) → piece_at (machine_of old.store) place ≡ Some w → is_put_off (machine_of old.store) w ≡ false
-    → EntersOne id old c (worked c.number w (reply_of reply) (machine_of new.store)) new d → TakesAmong id old c (place ∷ []) (turn.Did reply) new d
+    → EntersStep id old c (Worked w) 0 (told_of reply) new d → TakesAmong id old c (place ∷ []) (turn.Did reply) new d
 did_at id old new c d place w reply at on e =
     let m = machine_of old.store in
-    let entry = worked c.number w (reply_of reply) (machine_of new.store) in
+    let entry = worked c.number w e.reply (machine_of new.store) in
     record {
       entries = entry ∷ [];
-      enters = e.enters;
-      takes = ([], w, machine_of new.store, refl, of_one m place w entry (Some w) at refl (ap (λ (b : Bool). if b then None else Some w) on));
+      enters = e.one.enters;
+      serves = one_served id old new c d entry e.one;
+      takes = ([], w, e.reply, machine_of new.store, e.told, refl, of_one m place w entry (Some w) at refl (ap (λ (b : Bool). if b then None else Some w) on));
       stays = tt;
     }
 
 pub lent_at : {A : Type 0} (id : SessionId) (old new : SessionView) (c d : Known) (place job : ℕ) (taken : Turn A) (e : Event) → piece_at (machine_of old.store) place ≡ Some (Ask job) → e.step ≡ Worked (Ask job)
-    → Enters id old c (e ∷ []) new d → ((AreOfTurn (machine_of old.store) (place ∷ []) (Some (Ask job)) (e ∷ [])) → IsTurn (machine_of old.store) (place ∷ []) c.number taken (e ∷ [])) → StaysIfIdle taken old new
+    → EntersOne id old c e new d → ((AreOfTurn (machine_of old.store) (place ∷ []) (Some (Ask job)) (e ∷ [])) → IsTurn (machine_of old.store) (place ∷ []) c.number taken (e ∷ [])) → StaysIfIdle taken old new
     → TakesAmong id old c (place ∷ []) taken new d
-lent_at id old new c d place job taken e at step enters makes stays = record {
+lent_at id old new c d place job taken e at step one makes stays = record {
   entries = e ∷ [];
-  enters = enters;
+  enters = one.enters;
+  serves = one_served id old new c d e one;
   takes = makes (of_one (machine_of old.store) place (Ask job) e (Some (Ask job)) at step refl);
   stays = stays;
 }
@@ -148,6 +156,9 @@ put_back_at id old new c d place w r at p = record {
   entries = [];
   enters = p.enters;
   left = w;
+  mid = old.store;
+  serves = refl;
+  out = p.out;
   stops = record { more = []; steps = sym (ap as_steps (pieces_at (machine_of old.store) place w at).0) };
   denied = p.denied;
 }
@@ -159,15 +170,15 @@ unrefused_full None none = refl
 unrefused_full (Some e) none = absurd (cc none)
 
 module _ (m : Machine) (job : ℕ) where
-  decided_by : (o : Option Refusal) → tells_full_levels (work_reply_by m (Install job) o) ≡ is_of_full_levels o
+  decided_by : (o : Option Refusal) → tells_full_levels (Replied (work_reply_by m (Install job) o)) ≡ is_of_full_levels o
   decided_by None = refl
   decided_by (Some e) = refl
 
-  decided_full : (reply : Reply) → reply ≡ work_decided m (Install job) → tells_full_levels reply ≡ is_put_off m (Install job)
-  decided_full reply is = ap tells_full_levels is ∙ decided_by (work_refusal m (Install job))
+  decided_full : (reply : Reply) → reply ≡ work_decided m (Install job) → tells_full_levels (Replied reply) ≡ is_put_off m (Install job)
+  decided_full reply is = ap (λ (r : Reply). tells_full_levels (Replied r)) is ∙ decided_by (work_refusal m (Install job))
 
   -- the reply to an install tells whether it is put off
-  full_told : (reply : Reply) → WorkAdmits m (Install job) reply → tells_full_levels reply ≡ is_put_off m (Install job)
+  full_told : (reply : Reply) → WorkAdmits m (Install job) reply → tells_full_levels (Replied reply) ≡ is_put_off m (Install job)
   full_told (Refused NoMemory) admitted = sym (unrefused_full (work_refusal m (Install job)) admitted)
   full_told (Refused Io) admitted = sym (unrefused_full (work_refusal m (Install job)) admitted.0)
   full_told (Refused BadTable) admitted = sym (unrefused_full (work_refusal m (Install job)) admitted.0)
@@ -186,7 +197,7 @@ refused_stays old new job reply e is other works =
     let next = refused_work (machine_of old.store) (Install job) e other in
     λ i. record { state = (w.state ∙ ap (λ (m : Machine). m.state) next) i; work = (w.worked ∙ ap (λ (m : Machine). m.work) next) i }
 
-full_refusal : (reply : Reply) → tells_full_levels reply ≡ true → (e : Refusal) × (reply ≡ Refused e) × (e ≢ Io)
+full_refusal : (reply : Reply) → tells_full_levels (Replied reply) ≡ true → (e : Refusal) × (reply ≡ Refused e) × (e ≢ Io)
 full_refusal (Refused TooManyRuns) full = (TooManyRuns, refl, λ e. cc)
 full_refusal (Refused TooManyTables) full = (TooManyTables, refl, λ e. cc)
 full_refusal (Refused e) full = absurd (cc full)
@@ -197,24 +208,26 @@ full_refusal (Rows page) full = absurd (cc full)
 full_refusal (Given taken) full = absurd (cc full)
 full_refusal (Handed input) full = absurd (cc full)
 
-pub passed_at : {A : Type 0} (id : SessionId) (old new : SessionView) (c d : Known) (place job : ℕ) (reply : Reply) → piece_at (machine_of old.store) place ≡ Some (Install job) → tells_full_levels reply ≡ true
-    → EntersOne id old c (worked c.number (Install job) reply (machine_of new.store)) new d → TakesAmong {A = A} id old c (place ∷ []) turn.Idle new d
-passed_at id old new c d place job reply at full e =
+pub passed_at : {A : Type 0} (id : SessionId) (old new : SessionView) (c d : Known) (place job : ℕ) (answer : Told) → piece_at (machine_of old.store) place ≡ Some (Install job) → tells_full_levels answer ≡ true
+    → EntersStep id old c (Worked (Install job)) 0 answer new d → TakesAmong {A = A} id old c (place ∷ []) turn.Idle new d
+passed_at id old new c d place job answer at full e =
     let m = machine_of old.store in
-    let entry = worked c.number (Install job) reply (machine_of new.store) in
-    let off : is_put_off m (Install job) ≡ true = sym (full_told m job reply e.serves.admitted) ∙ full in
-    let why = full_refusal reply full in
+    let entry = worked c.number (Install job) e.reply (machine_of new.store) in
+    let told : tells_full_levels (Replied e.reply) ≡ true = sym (ap tells_full_levels e.told) ∙ full in
+    let off : is_put_off m (Install job) ≡ true = sym (full_told m job e.reply e.one.serves.admitted) ∙ told in
+    let why = full_refusal e.reply told in
     record {
       entries = entry ∷ [];
-      enters = e.enters;
+      enters = e.one.enters;
+      serves = one_served id old new c d entry e.one;
       takes = of_one m place (Install job) entry None at refl (ap (λ (b : Bool). if b then None else Some (Install job)) off);
-      stays = refused_stays old new job reply why.0 why.1 why.2 e.serves;
+      stays = refused_stays old new job e.reply why.0 why.1 why.2 e.one.serves;
     }
 
-pub installed_at : {A : Type 0} (id : SessionId) (old new : SessionView) (c d : Known) (place job : ℕ) (reply : GivenReply A) → piece_at (machine_of old.store) place ≡ Some (Install job) → tells_full_levels (reply_of reply) ≡ false
-    → EntersOne id old c (worked c.number (Install job) (reply_of reply) (machine_of new.store)) new d → TakesAmong id old c (place ∷ []) (turn.Did reply) new d
+pub installed_at : {A : Type 0} (id : SessionId) (old new : SessionView) (c d : Known) (place job : ℕ) (reply : GivenReply A) → piece_at (machine_of old.store) place ≡ Some (Install job) → tells_full_levels (told_of reply) ≡ false
+    → EntersStep id old c (Worked (Install job)) 0 (told_of reply) new d → TakesAmong id old c (place ∷ []) (turn.Did reply) new d
 installed_at id old new c d place job reply at room e =
-    did_at id old new c d place (Install job) reply at (sym (full_told (machine_of old.store) job (reply_of reply) e.serves.admitted) ∙ room) e
+    did_at id old new c d place (Install job) reply at (sym (full_told (machine_of old.store) job e.reply e.one.serves.admitted) ∙ sym (ap tells_full_levels e.told) ∙ room) e
 
 -- ---- one place after another
 
@@ -237,11 +250,13 @@ module _ (id : SessionId) (old mid new : SessionView) (c d f : Known) (place : �
 
     turn_then : (taken : Turn A) (ys : List Event) → IsTurn (machine_of mid.store) rest d.number taken ys → IsTurn m (place ∷ rest) c.number taken (one.entries ++ ys)
     turn_then turn.Idle ys t = joined ys None t
-    turn_then (turn.Did reply) ys (passed, work, behind, is, are) = (
+    turn_then (turn.Did reply) ys (passed, work, answer, behind, told, is, are) = (
       one.entries ++ passed,
       work,
+      answer,
       behind,
-      ap (λ (l : List Event). one.entries ++ l) (is ∙ ap (λ (n : ℕ). passed ++ worked n work (reply_of reply) behind ∷ []) number_then) ∙ sym (append_assoc one.entries passed (worked c.number work (reply_of reply) behind ∷ [])),
+      told,
+      ap (λ (l : List Event). one.entries ++ l) (is ∙ ap (λ (n : ℕ). passed ++ worked n work answer behind ∷ []) number_then) ∙ sym (append_assoc one.entries passed (worked c.number work answer behind ∷ [])),
       joined ys (Some work) are,
     )
     turn_then (turn.Merge job result input) ys (passed, behind, is, are) = (
@@ -260,6 +275,7 @@ module _ (id : SessionId) (old mid new : SessionView) (c d f : Known) (place : �
     takes_on taken t = record {
       entries = one.entries ++ t.entries;
       enters = enters_join id old mid new c d f one.entries t.entries one.enters t.enters;
+      serves = served_join old.store mid.store new.store one.entries t.entries one.serves t.serves;
       takes = turn_then taken t.entries t.takes;
       stays = stays_then taken t.stays;
     }
@@ -272,6 +288,9 @@ module _ (id : SessionId) (old mid new : SessionView) (c d f : Known) (place : �
           entries = one.entries ++ s.entries;
           enters = enters_join id old mid new c d f one.entries s.entries one.enters s.enters;
           left = s.left;
+          mid = s.mid;
+          serves = served_join old.store mid.store s.mid one.entries s.entries one.serves s.serves;
+          out = s.out;
           stops = record {
             more = behind.more;
             steps = ap (λ (l : List Step). l ++ as_steps (s.left ∷ behind.more)) (steps-append one.entries s.entries)
@@ -297,8 +316,20 @@ module _ (id : SessionId) (old new : SessionView) (c d : Known) (place : ℕ) (r
   -- a turn that ended at the first place is one over all of them
   pub ends_first : {A : Type 0} (taken : Turn A) → taken ≢ turn.Idle → TakesAmong id old c (place ∷ []) taken new d → TakesAmong id old c (place ∷ rest) taken new d
   ends_first turn.Idle busy t = absurd (busy refl)
-  ends_first (turn.Did reply) busy t = record { entries = t.entries; enters = t.enters; takes = let (passed, work, behind, is, are) = t.takes in (passed, work, behind, is, of_more work t.entries are); stays = tt }
-  ends_first (turn.Merge job result input) busy t = record { entries = t.entries; enters = t.enters; takes = let (passed, behind, is, are) = t.takes in (passed, behind, is, of_more (Ask job) t.entries are); stays = tt }
+  ends_first (turn.Did reply) busy t = record {
+    entries = t.entries;
+    enters = t.enters;
+    serves = t.serves;
+    takes = let (passed, work, answer, behind, told, is, are) = t.takes in (passed, work, answer, behind, told, is, of_more work t.entries are);
+    stays = tt;
+  }
+  ends_first (turn.Merge job result input) busy t = record {
+    entries = t.entries;
+    enters = t.enters;
+    serves = t.serves;
+    takes = let (passed, behind, is, are) = t.takes in (passed, behind, is, of_more (Ask job) t.entries are);
+    stays = tt;
+  }
 
   -- and so is one that stopped there
   pub stops_first : (r : Refusal) → StopsAmong id old c (place ∷ []) r new d → StopsAmong id old c (place ∷ rest) r new d
@@ -308,6 +339,9 @@ module _ (id : SessionId) (old new : SessionView) (c d : Known) (place : ℕ) (r
         entries = s.entries;
         enters = s.enters;
         left = s.left;
+        mid = s.mid;
+        serves = s.serves;
+        out = s.out;
         stops = record {
           more = s.stops.more ++ tail.0;
           steps = ap (λ (l : List Step). steps_of s.entries ++ l) (as_steps-append (s.left ∷ s.stops.more) tail.0)
@@ -325,12 +359,22 @@ module _ (id : SessionId) (old new : SessionView) (c me d : Known) (finds : Find
   shown_takes taken t = record {
     entries = t.entries;
     enters = shown_before id old new c me d t.entries finds shown t.enters;
+    serves = t.serves;
     takes = subst (λ (n : ℕ). IsTurn (machine_of old.store) places n taken t.entries) (ap (λ (k : Known). k.number) shown) t.takes;
     stays = t.stays;
   }
 
   shown_stops : (r : Refusal) → StopsAmong id old me places r new d → StopsAmong id old c places r new d
-  shown_stops r s = record { entries = s.entries; enters = shown_before id old new c me d s.entries finds shown s.enters; left = s.left; stops = s.stops; denied = s.denied }
+  shown_stops r s = record {
+    entries = s.entries;
+    enters = shown_before id old new c me d s.entries finds shown s.enters;
+    left = s.left;
+    mid = s.mid;
+    serves = s.serves;
+    out = s.out;
+    stops = s.stops;
+    denied = s.denied;
+  }
 
   shown_turn : {A : Type 0} (res : Result (Turn A) Refusal) → MatchResult res (λ taken. TakesAmong id old me places taken new d) (λ r. StopsAmong id old me places r new d)
       → MatchResult res (λ taken. TakesAmong id old c places taken new d) (λ r. StopsAmong id old c places r new d)

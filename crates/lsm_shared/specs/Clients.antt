@@ -8,6 +8,7 @@ use Rattle.lsm_store.specs.Calls.{Call, Reply}
 use Rattle.lsm_store.specs.Calls.{Release, Refused}
 use Rattle.lsm_store.specs.Machine.{Machine}
 use Rattle.lsm_store.specs.Run.{Allows, Admits}
+use Rattle.lsm_lives.specs.Asked.{Told, Replied}
 use Rattle.lsm_trail.specs.Begins.{Begin, base_of}
 use Rattle.lsm_trail.specs.History.{Event, called, IsLegal, state_after, entries_by}
 use Rattle.lsm_trail.specs.Knowledge.{Known, Sees, known}
@@ -23,9 +24,13 @@ pub record Adds (c : Known) (others entries : List Event) (d : Known) : Type 0 w
   pub own : entries_by d.number d.seen ≡ d.mine
   pub room : length d.seen ≤ d.begin.limit
 
--- A client made this call, and was replied this: the history ends with it.
-abbrev pub MakesCall : Known → Call → Reply → Known → Type 0
-MakesCall c call reply d = (others : List Event) × (machine : Machine) × Adds c others (called c.number call reply machine ∷ []) d
+-- A client made this call, and was told this: a reply, with which the history ends.
+pub record MakesCall (c : Known) (call : Call) (answer : Told) (d : Known) : Type 0 where
+  pub reply : Reply
+  pub told : answer ≡ Replied reply
+  pub others : List Event
+  pub machine : Machine
+  pub adds : Adds c others (called c.number call reply machine ∷ []) d
 
 -- Why a call is no entry behind a history: the trail is full; or it has a place, and the call is to release the base, or
 -- there was no memory for a call that takes some, and that the state doesn't refuse: a look-up takes some where the state
@@ -46,9 +51,9 @@ newcomers b zero = []
 newcomers b (suc n) = newcomers b n ++ known b n [] [] ∷ []
 
 -- the history begins with what each of these clients had seen, and has just the entries that it made, in order
-abbrev pub Told : List Event → List Known → Type 0
-Told log [] = Unit {0}
-Told log (c ∷ cs) = IsPrefix c.seen log × (entries_by c.number log ≡ c.mine) × Told log cs
+abbrev pub AgreesWith : List Event → List Known → Type 0
+AgreesWith log [] = Unit {0}
+AgreesWith log (c ∷ cs) = IsPrefix c.seen log × (entries_by c.number log ≡ c.mine) × AgreesWith log cs
 
 -- how many entries they made in all
 abbrev pub entries_made : List Known → ℕ

@@ -1,20 +1,33 @@
 -- What a hold of the lock does in which a client takes a turn, or brings a result.
-use Rattle.std.specs.Prelude.{◌≡◌, ℕ, List, []}
+use Rattle.std.specs.Prelude.{◌≡◌, ◌⊎◌, ℕ, List, []}
 use Rattle.lsm_device.specs.declared.refusal.Refusal.{Refusal}
 use Rattle.lsm_merge.specs.Results.{MergeResult}
-use Rattle.lsm_store.specs.Backing.{machine_of}
+use Rattle.lsm_store.specs.Backing.{StoreView, machine_of}
 use Rattle.lsm_store.specs.Calls.{Reply}
 use Rattle.lsm_store.specs.Work.{Work}
-use Rattle.lsm_trail.specs.History.{Event}
+use Rattle.lsm_store.specs.Working.{Works}
+use Rattle.lsm_lives.specs.Asked.{Told, Replied}
+use Rattle.lsm_lives.specs.Replaying.{Replays}
+use Rattle.lsm_trail.specs.History.{Event, steps_of, replies_of}
 use Rattle.lsm_trail.specs.Knowledge.{SessionId, Known}
-use Rattle.lsm_shared.specs.Sessions.{SessionView, Enters}
+use Rattle.lsm_shared.specs.Sessions.{SessionView, Enters, IsLost}
 use Rattle.lsm_shared.specs.Turns.{IsTurn, DeniesWork, StopsBefore, IsBrought, IsLeftOfBringing}
 use Rattle.lsm_shared.specs.declared.turn.Turn.{Turn}
 use Rattle.lsm_shared.specs.declared.turn.Turn.TheVariants as turn
 
+-- The store served the steps of these entries, one after another, with their replies: so at every moment of them every crash leaves
+-- what it may.
+abbrev pub AreServedBy : StoreView → List Event → StoreView → Type 0
+AreServedBy old entries new = Replays old (steps_of entries) (replies_of entries) new
+
+-- A piece of work was not begun, or memory was short for it or for its reply.
+abbrev pub IsLeftOut : StoreView → Work → StoreView → Type 0
+IsLeftOut old work new = (new ≡ old) ⊎ ((reply : Reply) × IsLost reply × Works old work reply new)
+
 -- It made no entry of this piece of work. The history and the machine are as they were.
 pub record IsPutBack (id : SessionId) (old : SessionView) (c : Known) (work : Work) (e : Refusal) (new : SessionView) (d : Known) : Type 0 where
   pub enters : Enters id old c [] new d
+  pub out : IsLeftOut old.store work new.store
   pub denied : DeniesWork id.begin new.log work e
 
 -- an idle turn leaves the machine as it was
@@ -27,6 +40,7 @@ StaysIfIdle (turn.Merge job result input) old new = Unit {0}
 pub record TakesAmong {A : Type 0} (id : SessionId) (old : SessionView) (c : Known) (places : List ℕ) (turn : Turn A) (new : SessionView) (d : Known) : Type 0 where
   pub entries : List Event
   pub enters : Enters id old c entries new d
+  pub serves : AreServedBy old.store entries new.store
   pub takes : IsTurn (machine_of old.store) places c.number turn entries
   pub stays : StaysIfIdle turn old new
 
@@ -35,13 +49,19 @@ pub record StopsAmong (id : SessionId) (old : SessionView) (c : Known) (places :
   pub entries : List Event
   pub enters : Enters id old c entries new d
   pub left : Work
+  pub mid : StoreView
+  pub serves : AreServedBy old.store entries mid
+  pub out : IsLeftOut mid left new.store
   pub stops : StopsBefore (machine_of old.store) places entries left
   pub denied : DeniesWork id.begin new.log left e
 
--- The client brought a result.
-pub record IsBroughtBy (id : SessionId) (old : SessionView) (c : Known) (job result : ℕ) (made : MergeResult) (reply : Reply) (new : SessionView) (d : Known) : Type 0 where
+-- The client brought a result, and was told the reply to the accept.
+pub record IsBroughtBy (id : SessionId) (old : SessionView) (c : Known) (job result : ℕ) (made : MergeResult) (answer : Told) (new : SessionView) (d : Known) : Type 0 where
+  pub reply : Reply
+  pub told : answer ≡ Replied reply
   pub entries : List Event
   pub enters : Enters id old c entries new d
+  pub serves : AreServedBy old.store entries new.store
   pub brought : IsBrought c.number job result made reply entries
 
 -- It did not bring it wholly: what it did stands, and then came a piece that is no entry.
@@ -49,5 +69,8 @@ pub record StopsBringing (id : SessionId) (old : SessionView) (c : Known) (job r
   pub entries : List Event
   pub enters : Enters id old c entries new d
   pub left : Work
+  pub mid : StoreView
+  pub serves : AreServedBy old.store entries mid
+  pub out : IsLeftOut mid left new.store
   pub behind : IsLeftOfBringing c.number job result made entries left
   pub denied : DeniesWork id.begin new.log left e

@@ -4,19 +4,23 @@ use mathlib.Core.List.{IsPrefix}
 use Rattle.atomic_table.specs.declared.shared.Seat.{Seat}
 use Rattle.lsm_device.specs.declared.refusal.Refusal.{Refusal}
 use Rattle.lsm_device.specs.declared.refusal.Refusal.TheVariants.{NoMemory, Stopped, TrailFull, NotYours, BadLimit, TooManyClients}
+use Rattle.lsm_device.specs.Medium.{Medium}
 use Rattle.lsm_store.specs.Backing.{StoreView, machine_of, IsBacked}
 use Rattle.lsm_store.specs.Calls.{Call, Reply}
 use Rattle.lsm_store.specs.Calls.{Snapshot, Release, Refused, Value, Rows}
 use Rattle.lsm_store.specs.Effects.{after}
+use Rattle.lsm_store.specs.Machine.{Step, Called}
 use Rattle.lsm_store.specs.Refusals.{refusals, first_refusal}
 use Rattle.lsm_store.specs.Run.{Allows, Admits}
 use Rattle.lsm_store.specs.Serving.{Serves}
 use Rattle.lsm_store.specs.State.{State}
 use Rattle.lsm_store.specs.Working.{ServesStep}
+use Rattle.lsm_lives.specs.Asked.{Told, Replied}
+use Rattle.lsm_lives.specs.Replaying.{faults_told}
 use Rattle.lsm_trail.specs.Begins.{Begin, base_of, first_machine, CanPin}
-use Rattle.lsm_trail.specs.History.{Event, called, inputs_of, calls_in, IsLegal, machine_after, state_after, entries_by, TrailView}
+use Rattle.lsm_trail.specs.History.{Event, event, replies_of, inputs_of, calls_in, IsLegal, machine_after, state_after, entries_by, TrailView}
 use Rattle.lsm_trail.specs.Knowledge.{SessionId, Known, View, known, keeper_of, IsKeeperPass}
-use Rattle.lsm_shared.specs.Clients.{Told, entries_made}
+use Rattle.lsm_shared.specs.Clients.{AgreesWith, entries_made}
 
 -- ---- a begin
 
@@ -37,12 +41,13 @@ abbrev pub begin_with : StoreView → ℕ → ℕ → Begin
 begin_with store clients limit = record { store = store; limit = limit; clients = clients }
 
 -- The base is pinned: this is its number, and the store is the machine in which the history begins, which the device backs
--- where it did at the begin.
+-- where it did at the begin. The device was not used.
 pub record IsPinned (b : Begin) (base : ℕ) (store : StoreView) : Type 0 where
   pub could : CanPin b
   pub number : base ≡ base_of b
   pub machine : machine_of store ≡ first_machine b
   pub backed : IsBacked b.store → IsBacked store
+  pub unused : store.device ≡ b.store.device
 
 -- ---- the value behind the lock
 
@@ -63,13 +68,21 @@ pub record IsHistory (id : SessionId) (trail : TrailView) (keeper : Seat Event V
   pub calls_are : calls ≡ calls_in trail.log
   pub builds_are : builds ≡ length (inputs_of trail.log)
 
+-- A device after replies of its store: it had a fault for each of them that tells of one, and no other, and its size and what lasts
+-- are as before.
+pub record IsDeviceAfter (before : Medium) (replies : List Reply) (after : Medium) : Type 0 where
+  pub faults : after.calls.faults ≡ faults_told replies before.calls.faults
+  pub same_size : after.size ≡ before.size
+  pub same_lasting : after.lasting ≡ before.lasting
+
 -- What holds of it whenever the lock is free: it knows the number of the base, the history is legal, and the store is the
--- machine after it, which the device backs where it did at the begin.
+-- machine after it, which the device backs where it did at the begin. The device had just the faults that the history tells.
 pub record IsSession (id : SessionId) (base : ℕ) (store : StoreView) (log : List Event) : Type 0 where
   pub number : base ≡ base_of id.begin
   pub legal : IsLegal id.begin log
   pub machine : machine_of store ≡ machine_after id.begin log
   pub backed : IsBacked id.begin.store → IsBacked store
+  pub device : IsDeviceAfter id.begin.store.device (replies_of log) store.device
   pub room : length log ≤ id.begin.limit
 
 -- ---- what a hold of the lock does
@@ -112,9 +125,15 @@ pub record EntersOne (id : SessionId) (old : SessionView) (c : Known) (e : Event
   pub serves : ServesStep old.store e.step e.reply new.store
   pub machine : e.machine ≡ machine_of new.store
 
+-- It made one entry, of this step, and told its reply.
+pub record EntersStep (id : SessionId) (old : SessionView) (c : Known) (step : Step) (result : ℕ) (answer : Told) (new : SessionView) (d : Known) : Type 0 where
+  pub reply : Reply
+  pub told : answer ≡ Replied reply
+  pub one : EntersOne id old c (event c.number step reply result (machine_of new.store)) new d
+
 -- One hold of the lock made this call of the client.
-abbrev pub IsMade : SessionId → SessionView → Known → Call → Reply → SessionView → Known → Type 0
-IsMade id old c call reply new d = EntersOne id old c (called c.number call reply (machine_of new.store)) new d
+abbrev pub IsMade : SessionId → SessionView → Known → Call → Told → SessionView → Known → Type 0
+IsMade id old c call answer new d = EntersStep id old c (Called call) 0 answer new d
 
 -- a reply for which memory was short: the store's, or a value or a page of which there is no second copy
 abbrev pub IsLost : Reply → Type 0
@@ -166,13 +185,15 @@ ended_state b log = released (base_of b) (state_after b log)
 
 -- A session has ended: the trail is a legal history from its begin, which begins with what each client had seen and has just
 -- the entries that it made, with the places that it began with, and the store is in the state after it with the base released,
--- with the work after it while it runs, which the device backs where it did at the begin.
+-- with the work after it while it runs, which the device backs where it did at the begin. The device had a fault for each reply
+-- of the trail that tells of one, and no other.
 pub record IsEnded (b : Begin) (clients : List Known) (store : StoreView) (trail : TrailView) : Type 0 where
   pub legal : IsLegal b trail.log
   pub state : store.state ≡ ended_state b trail.log
   pub work : IsNone store.state.stopped → store.work ≡ (machine_after b trail.log).work
   pub backed : IsBacked b.store → IsBacked store
-  pub told : Told trail.log clients
+  pub device : IsDeviceAfter b.store.device (replies_of trail.log) store.device
+  pub told : AgreesWith trail.log clients
   pub count : length trail.log ≡ entries_made clients
   pub strangers : (client : ℕ) → b.clients ≤ client → entries_by client trail.log ≡ []
   pub room : length trail.log ≤ b.limit

@@ -11,7 +11,8 @@ use Rattle.lsm_store.specs.Machine.{Machine, Step, Worked}
 use Rattle.lsm_store.specs.Pieces.{piece_at, is_of_full_levels, is_put_off, next_among, next_piece, places_from}
 use Rattle.lsm_store.specs.Work.{Work, Ask, Accept, Drop}
 use Rattle.lsm_store.specs.WorkReplies.{WorkAdmits}
-use Rattle.lsm_lives.specs.Calls.{reply_of}
+use Rattle.lsm_lives.specs.Asked.{Told, Replied}
+use Rattle.lsm_lives.specs.Calls.{told_of}
 use Rattle.lsm_trail.specs.Begins.{Begin}
 use Rattle.lsm_trail.specs.History.{Event, worked, lent_to, accepted, steps_of, machine_after}
 use Rattle.lsm_trail.specs.Knowledge.{Known}
@@ -19,13 +20,13 @@ use Rattle.lsm_shared.specs.Clients.{Adds}
 use Rattle.lsm_shared.specs.declared.turn.Turn.{Turn}
 use Rattle.lsm_shared.specs.declared.turn.Turn.TheVariants as turn
 
--- whether a reply tells that the levels have no room for now, and that there is no room for a result
-abbrev pub tells_full_levels : Reply → Bool
-tells_full_levels (Refused e) = is_of_full_levels (Some e)
+-- whether it is told that the levels have no room for now, and that there is no room for a result
+abbrev pub tells_full_levels : Told → Bool
+tells_full_levels (Replied (Refused e)) = is_of_full_levels (Some e)
 tells_full_levels other = false
 
-abbrev pub tells_no_space : Reply → Bool
-tells_no_space (Refused NoSpace) = true
+abbrev pub tells_no_space : Told → Bool
+tells_no_space (Replied (Refused NoSpace)) = true
 tells_no_space other = false
 
 -- ---- the pieces of a turn
@@ -49,12 +50,12 @@ pub record AreOfTurn (m : Machine) (places : List ℕ) (next : Option Work) (ent
   pub steps : steps_of entries ≡ as_steps (pieces_among m places)
   pub ends : next_among m places ≡ next
 
--- A client of this number took a turn over the places: with no piece next it was idle; else it did the next piece, of which
--- this is the reply, or was lent the input of a job.
+-- A client of this number took a turn over the places: with no piece next it was idle; else it did the next piece, and was told
+-- its reply, or was lent the input of a job.
 abbrev pub IsTurn : {A : Type 0} → Machine → List ℕ → ℕ → Turn A → List Event → Type 0
 IsTurn m places number turn.Idle entries = AreOfTurn m places None entries
 IsTurn m places number (turn.Did reply) entries =
-    (passed : List Event) × (work : Work) × (behind : Machine) × (entries ≡ passed ++ worked number work (reply_of reply) behind ∷ []) × AreOfTurn m places (Some work) entries
+    (passed : List Event) × (work : Work) × (answer : Reply) × (behind : Machine) × (told_of reply ≡ Replied answer) × (entries ≡ passed ++ worked number work answer behind ∷ []) × AreOfTurn m places (Some work) entries
 IsTurn m places number (turn.Merge job result input) entries =
     (passed : List Event) × (behind : Machine) × (entries ≡ passed ++ lent_to number job (arc_value input) result behind ∷ []) × AreOfTurn m places (Some (Ask job)) entries
 
@@ -115,8 +116,10 @@ IsBrought number job result made (Refused NoSpace) entries =
     (mid : Machine) × (answer : Reply) × (behind : Machine) × (entries ≡ accepted number job result made (Refused NoSpace) mid ∷ worked number (Drop job) answer behind ∷ [])
 IsBrought number job result made reply entries = (behind : Machine) × (entries ≡ accepted number job result made reply behind ∷ [])
 
--- A client brought a result.
-pub record Brings (c : Known) (job result : ℕ) (made : MergeResult) (reply : Reply) (d : Known) : Type 0 where
+-- A client brought a result, and was told this: the reply to the accept.
+pub record Brings (c : Known) (job result : ℕ) (made : MergeResult) (answer : Told) (d : Known) : Type 0 where
+  pub reply : Reply
+  pub told : answer ≡ Replied reply
   pub others : List Event
   pub entries : List Event
   pub adds : Adds c others entries d

@@ -1,7 +1,7 @@
 // What a client is told of a reply that the trail keeps.
 ghost use Rattle.std.specs.Prelude.{◌≡◌, ◌≢◌, MatchResult};
 ghost use Rattle.lsm_device.specs.declared.refusal.Refusal.TheVariants.{NoMemory};
-ghost use Rattle.lsm_lives.specs.Calls.{reply_of};
+ghost use Rattle.lsm_lives.specs.Calls.{reply_of, told_of};
 ghost use Rattle.lsm_store.specs.Calls.{Refused};
 ghost use Rattle.lsm_shared.specs.Sessions.{IsLost};
 
@@ -13,7 +13,7 @@ use std::alloc::Allocator;
 // or a page.
 pub(crate) fn answer_of<A: Allocator + Clone>(reply: &Reply<A>) -> Result<Reply<A>, Refusal>
     ensures { MatchResult result
-        (λ answer. (reply_of answer ≡ reply_of reply.now) × (reply_of reply.now ≢ Refused NoMemory))
+        (λ answer. (told_of answer ≡ told_of reply.now) × (reply_of reply.now ≢ Refused NoMemory))
         (λ e. (e ≡ NoMemory) × IsLost (reply_of reply.now)) }
 {
     match reply {

@@ -1,6 +1,6 @@
 // The clients of a session.
 ghost use Rattle.std.specs.Prelude.{◌≡◌, [], IfOk, IfErr, MatchResult};
-ghost use Rattle.lsm_lives.specs.Calls.{call_of, reply_of};
+ghost use Rattle.lsm_lives.specs.Calls.{call_of, told_of};
 ghost use Rattle.lsm_trail.specs.History.{numbers};
 ghost use Rattle.lsm_trail.specs.Knowledge.{known, Sees, known_of, IsClientPass};
 ghost use Rattle.lsm_shared.specs.Clients.{MakesCall, IsNoCall};
@@ -84,7 +84,7 @@ impl<A: Allocator + Clone, B: SessionName> Client<A, B> {
         shared: &Shared<D, A, B>,
         call: Call<A>,
     ) -> Result<Reply<A>, Refusal>
-        ensures made { IfOk result (λ reply. MakesCall self.old (call_of call) (reply_of reply) self.new) }
+        ensures made { IfOk result (λ reply. MakesCall self.old (call_of call) (told_of reply) self.new) }
         ensures refused { IfErr result (λ e. IsNoCall self.old (call_of call) e self.new) }
     {
         shared.hold(rt).serve(&shared.counters, self, call)
@@ -127,7 +127,7 @@ impl<A: Allocator + Clone, B: SessionName> Client<A, B> {
     ) -> Result<Reply<A>, Refusal>
         requires { WasLent self.old.mine job number built.now.input }
         ensures { MatchResult result
-            (λ reply. Brings self.old job number built.now (reply_of reply) self.new)
+            (λ reply. Brings self.old job number built.now (told_of reply) self.new)
             (λ e. IsNotBrought self.old job number built.now e self.new) }
     {
         shared

@@ -1,7 +1,7 @@
 // The pieces of work that a store does by itself.
 ghost use Rattle.std.specs.Prelude.{◌≡◌};
-ghost use Rattle.lsm_lives.specs.Asked.{Own as OfItself};
-ghost use Rattle.lsm_lives.specs.Calls.{asked_of_work, reply_of};
+ghost use Rattle.lsm_lives.specs.Asked.{Own as OfItself, Replied};
+ghost use Rattle.lsm_lives.specs.Calls.{asked_of_work, reply_of, told_of};
 ghost use Rattle.lsm_store.specs.Calls.{Done, reply_of as reply_by};
 ghost use Rattle.lsm_store.specs.Machine.{Worked};
 ghost use Rattle.lsm_store.specs.Working.{Works};
@@ -38,7 +38,8 @@ impl OwnPiece {
 
     /// The store does it. What the store refuses is a reply.
     pub(crate) fn make<D: Device, A: Allocator + Clone>(self, store: &mut Store<D, A>) -> Reply<A>
-        ensures { Works store.old (work_of self) (reply_of result) store.new }
+        ensures works { Works store.old (work_of self) (reply_of result) store.new }
+        ensures told { told_of result ≡ Replied (reply_of result) }
     {
         match self {
             OwnPiece::Take => match store.job_take() {
@@ -61,7 +62,8 @@ impl OwnPiece {
 
 /// The reply to a piece that answers nothing.
 pub(crate) fn done<A: Allocator>(answered: Result<(), Refusal>) -> Reply<A>
-    ensures { reply_of result ≡ reply_by (λ _. Done) answered }
+    ensures reply { reply_of result ≡ reply_by (λ _. Done) answered }
+    ensures told { told_of result ≡ Replied (reply_of result) }
 {
     match answered {
         Ok(()) => Reply::Done,

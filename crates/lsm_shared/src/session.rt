@@ -1,12 +1,12 @@
 // The value behind the lock.
 ghost use Rattle.std.specs.Prelude.{◌≡◌, ◌≢◌, ℕ, ◌≤◌, [], length, IsNone, IfOk, IfErr, MatchBool};
 ghost use mathlib.Core.List.{IsPrefix};
-ghost use Rattle.lsm_lives.specs.Calls.{call_of, reply_of};
+ghost use Rattle.lsm_lives.specs.Calls.{call_of, told_of};
 ghost use Rattle.lsm_store.specs.Backing.{IsBacked};
 ghost use Rattle.lsm_store.specs.Calls.{Release};
-ghost use Rattle.lsm_trail.specs.History.{machine_after, IsLegal, entries_by};
+ghost use Rattle.lsm_trail.specs.History.{replies_of, machine_after, IsLegal, entries_by};
 ghost use Rattle.lsm_trail.specs.Knowledge.{known, keeper_of, IsKeeperPass};
-ghost use Rattle.lsm_shared.specs.Sessions.{IsPinned, Finds, IsMade, IsRefused, ended_state};
+ghost use Rattle.lsm_shared.specs.Sessions.{IsPinned, IsDeviceAfter, Finds, IsMade, IsRefused, ended_state};
 
 use crate::answer::answer_of;
 use crate::client::Client;
@@ -88,6 +88,7 @@ impl<D: Device, A: Allocator, B: SessionName> Session<D, A, B> {
         ensures state { result.0.state ≡ ended_state B.id.begin self.log }
         ensures work { IsNone result.0.state.stopped → result.0.work ≡ (machine_after B.id.begin self.log).work }
         ensures backed { IsBacked B.id.begin.store → IsBacked result.0 }
+        ensures device { IsDeviceAfter B.id.begin.store.device (replies_of self.log) result.0.device }
         ensures room { length self.log ≤ B.id.begin.limit }
     {
         let Session {
@@ -109,7 +110,7 @@ impl<D: Device, A: Allocator + Clone, B: SessionName> Session<D, A, B> {
         me: &mut Client<A, B>,
         call: Call<A>,
     ) -> Result<Reply<A>, Refusal>
-        ensures made { IfOk result (λ reply. IsMade B.id self.old me.old (call_of call) (reply_of reply) self.new me.new) }
+        ensures made { IfOk result (λ reply. IsMade B.id self.old me.old (call_of call) (told_of reply) self.new me.new) }
         ensures refused { IfErr result (λ e. IsRefused B.id self.old me.old (call_of call) e self.new me.new) }
     {
         self.show(counters, me);

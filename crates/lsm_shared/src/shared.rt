@@ -33,10 +33,11 @@ fn pause(times: u32) {
     }
 }
 
-/// A session: a store behind one lock, with one history of all calls and pieces of work.
+/// A session: a store behind one lock, with one history of all calls and pieces of work. Other modules of this crate come to the lock
+/// by `hold` alone.
 pub struct Shared<D: Device, A: Allocator, B: SessionName> {
     pub(crate) counters: Counters<D, A, B>,
-    pub(crate) session: Mutex<Session<D, A, B>>,
+    session: Mutex<Session<D, A, B>>,
     clients: u32,
     base: u64,
     ghost pinned: { base ≡ base_of B.id.begin },

@@ -4,16 +4,16 @@ ghost use Rattle.lsm_device.specs.declared.refusal.Refusal.TheVariants.{NoMemory
 ghost use Rattle.std.specs.Arc.{arc_value};
 ghost use Rattle.lsm_merge.specs.Inputs.{kept_of};
 ghost use Rattle.lsm_table.specs.Division.{IsTables};
-ghost use Rattle.lsm_lives.specs.Calls.{reply_of};
+ghost use Rattle.lsm_lives.specs.Calls.{told_of};
 ghost use Rattle.lsm_store.specs.Backing.{machine_of};
 ghost use Rattle.lsm_store.specs.Calls.{Handed, Refused};
 ghost use Rattle.lsm_store.specs.Pieces.{piece_at, is_put_off, places_from};
+ghost use Rattle.lsm_store.specs.Machine.{Worked};
 ghost use Rattle.lsm_store.specs.Work.{Ask, Accept, Install};
 ghost use Rattle.lsm_store.specs.Working.{Works};
-ghost use Rattle.lsm_trail.specs.History.{worked, lent_to, accepted};
 ghost use Rattle.lsm_shared.specs.Holds.{IsPutBack, TakesAmong, StopsAmong, IsBroughtBy, StopsBringing};
 ghost use Rattle.lsm_shared.specs.Pieces.{work_of};
-ghost use Rattle.lsm_shared.specs.Sessions.{HasSeen, EntersOne};
+ghost use Rattle.lsm_shared.specs.Sessions.{HasSeen, EntersStep};
 ghost use Rattle.lsm_shared.specs.Turns.{WasLent, tells_full_levels, tells_no_space};
 
 use crate::answer::answer_of;
@@ -22,15 +22,12 @@ use crate::pieces::{OwnPiece, done};
 use crate::session::Session;
 use crate::turn::Turn;
 use lsm_device::{Device, Refusal};
-use lsm_lives::{Reply, Work};
+use lsm_lives::Reply;
 use lsm_merge::{Built, Input};
 use lsm_store::Piece;
 use lsm_trail::{Counters, Entry, SessionName};
 use std::alloc::Allocator;
 use std::sync::Arc;
-
-/// In how many parts a result is to be built, as the trail says.
-const PARTS: u64 = 4;
 
 /// How many slots there are.
 const SLOTS: usize = 4;
@@ -171,7 +168,7 @@ impl<D: Device, A: Allocator + Clone, B: SessionName> Session<D, A, B> {
             return Err(Refusal::TrailFull);
         }
         let result = self.history.next_result();
-        let entry = Entry::of_build(me.number, job, PARTS, result, &input, &self.store);
+        let entry = Entry::of_build(me.number, job, result, &input, &self.store);
         self.history.enter(counters, me, entry, &self.store);
         Ok(Turn::Merge { job, result, input })
     }
@@ -196,8 +193,7 @@ impl<D: Device, A: Allocator + Clone, B: SessionName> Session<D, A, B> {
         if is_short(refusal) {
             return Err(Refusal::NoMemory);
         }
-        let work = Work::Build { job, parts: PARTS };
-        let entry = Entry::of_work(me.number, work, Reply::Refused(refusal), &self.store);
+        let entry = Entry::of_refused_build(me.number, job, refusal, &self.store);
         self.history.enter(counters, me, entry, &self.store);
         Ok(Turn::Did(Reply::Refused(refusal)))
     }
@@ -211,7 +207,7 @@ impl<D: Device, A: Allocator + Clone, B: SessionName> Session<D, A, B> {
     ) -> Result<Reply<A>, Refusal>
         requires { HasSeen B.id self.old me.old }
         ensures { MatchResult result
-            (λ reply. EntersOne B.id self.old me.old (worked me.old.number (work_of piece) (reply_of reply) (machine_of self.new.store)) self.new me.new)
+            (λ reply. EntersStep B.id self.old me.old (Worked (work_of piece)) 0 (told_of reply) self.new me.new)
             (λ e. IsPutBack B.id self.old me.old (work_of piece) e self.new me.new) }
     {
         if self.history.is_full() {
@@ -235,7 +231,7 @@ impl<D: Device, A: Allocator + Clone, B: SessionName> Session<D, A, B> {
     ) -> Result<Reply<A>, Refusal>
         requires { WasLent me.old.mine job number built.now.input }
         ensures { MatchResult result
-            (λ reply. IsBroughtBy B.id self.old me.old job number built.now (reply_of reply) self.new me.new)
+            (λ reply. IsBroughtBy B.id self.old me.old job number built.now (told_of reply) self.new me.new)
             (λ e. StopsBringing B.id self.old me.old job number built.now e self.new me.new) }
     {
         self.show(counters, me);
@@ -259,7 +255,7 @@ impl<D: Device, A: Allocator + Clone, B: SessionName> Session<D, A, B> {
         requires seen { HasSeen B.id self.old me.old }
         requires lent { WasLent me.old.mine job number built.now.input }
         ensures { MatchResult result
-            (λ reply. EntersOne B.id self.old me.old (accepted me.old.number job number built.now (reply_of reply) (machine_of self.new.store)) self.new me.new)
+            (λ reply. EntersStep B.id self.old me.old (Worked (Accept job (Some built.now))) number (told_of reply) self.new me.new)
             (λ e. IsPutBack B.id self.old me.old (Accept job (Some built.now)) e self.new me.new) }
     {
         if self.history.is_full() {
@@ -283,7 +279,7 @@ fn is_short(refusal: Refusal) -> bool
 
 // Whether a reply tells that an install is put off: the levels have no room for now.
 fn is_put_off<A: Allocator>(reply: &Reply<A>) -> bool
-    ensures { result ≡ tells_full_levels (reply_of reply.now) }
+    ensures { result ≡ tells_full_levels (told_of reply.now) }
 {
     matches!(
         reply,
@@ -293,7 +289,7 @@ fn is_put_off<A: Allocator>(reply: &Reply<A>) -> bool
 
 // Whether a reply tells that there is no room for a result.
 fn is_without_room<A: Allocator>(reply: &Reply<A>) -> bool
-    ensures { result ≡ tells_no_space (reply_of reply.now) }
+    ensures { result ≡ tells_no_space (told_of reply.now) }
 {
     matches!(reply, Reply::Refused(Refusal::NoSpace))
 }

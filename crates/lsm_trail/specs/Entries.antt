@@ -1,12 +1,12 @@
 -- What the entries of a trail show.
-use Rattle.std.specs.Prelude.{◌≡◌, ℕ, Bool, true, false, [], Option, Some, None}
+use Rattle.std.specs.Prelude.{◌≡◌, ℕ, Bool, true, false, [], Some}
 use Rattle.lsm_merge.specs.Inputs.{MergeInput}
 use Rattle.lsm_merge.specs.Results.{MergeResult}
 use Rattle.lsm_store.specs.Calls.{Reply}
-use Rattle.lsm_store.specs.Calls.{Number, Handed, Refused}
-use Rattle.lsm_store.specs.Machine.{Machine, Called, Worked}
-use Rattle.lsm_store.specs.Work.{Work, Ask, Accept}
-use Rattle.lsm_lives.specs.Asked.{Asked, Own, Build, AcceptBuilt}
+use Rattle.lsm_store.specs.Calls.{Number, Handed}
+use Rattle.lsm_store.specs.Machine.{Machine, Worked}
+use Rattle.lsm_store.specs.Work.{Ask, Accept}
+use Rattle.lsm_lives.specs.Asked.{Asked, Told, Own, Build, AcceptBuilt, Replied, Built}
 use Rattle.lsm_trail.specs.History.{Event, event}
 
 -- What contracts see of an entry that no code holds: of a build the input that was lent, and of an accept the result; and the
@@ -38,25 +38,24 @@ abbrev pub is_build : Asked → Bool
 is_build (Build job parts) = true
 is_build other = false
 
-abbrev pub is_number : Reply → Bool
-is_number (Number n) = true
+abbrev pub is_number : Told → Bool
+is_number (Replied (Number n)) = true
 is_number other = false
 
--- the piece of work of what was asked that an entry shows by itself: one of the store's own, or a build that was refused
-abbrev pub piece_in : Asked → Reply → Option Work
-piece_in (Own (Worked piece)) reply = Some piece
-piece_in (Own (Called call)) reply = None
-piece_in (Build job parts) (Refused e) = Some (Ask job)
-piece_in (Build job parts) other = None
-piece_in (AcceptBuilt job result) reply = None
+-- What may be entered: a result is to be built in 4 parts, and what is told of any step is a reply, never how many tables a result
+-- has.
+abbrev pub MayBeEntered : Asked → Told → Type 0
+MayBeEntered (Build job parts) (Replied reply) = parts ≡ 4
+MayBeEntered other (Replied reply) = Unit {0}
+MayBeEntered asked (Built result tables) = ⊥
 
--- An entry is of what was asked.
+-- An entry is of what was asked: a build of a result in 4 parts.
 abbrev pub IsOfStep : Event → Asked → Type 0
 IsOfStep e (Own step) = e.step ≡ step
-IsOfStep e (Build job parts) = e.step ≡ Worked (Ask job)
+IsOfStep e (Build job parts) = (parts ≡ 4) × (e.step ≡ Worked (Ask job))
 IsOfStep e (AcceptBuilt job result) = (e.result ≡ result) × ((made : MergeResult) × (e.step ≡ Worked (Accept job (Some made))))
 
 -- what an entry tells: of an input that was lent the number of the result
-abbrev pub told_in : Reply → ℕ → Reply
-told_in (Handed input) result = Number result
-told_in other result = other
+abbrev pub told_in : Reply → ℕ → Told
+told_in (Handed input) result = Replied (Number result)
+told_in other result = Replied other

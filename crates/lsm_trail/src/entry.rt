@@ -1,18 +1,24 @@
 // One step of a client in a history.
-ghost use Rattle.std.specs.Prelude.{◌≡◌, Some};
-ghost use Rattle.lsm_lives.specs.Calls.{call_of, asked_of, asked_of_work, reply_of};
+ghost use Rattle.std.specs.Prelude.{◌≡◌};
+ghost use Rattle.lsm_lives.specs.Asked.{Own, Replied};
+ghost use Rattle.lsm_lives.specs.Calls.{call_of, asked_of, asked_of_work, reply_of, told_of};
 ghost use Rattle.lsm_store.specs.Backing.{machine_of};
-ghost use Rattle.lsm_store.specs.Work.{Work as Piece};
-ghost use Rattle.lsm_trail.specs.Entries.{is_build, is_number, piece_in, IsOfStep, told_in};
+ghost use Rattle.lsm_store.specs.Calls.{Refused};
+ghost use Rattle.lsm_store.specs.Machine.{Worked};
+ghost use Rattle.lsm_store.specs.Work.{Work as Piece, Ask};
+ghost use Rattle.lsm_trail.specs.Entries.{is_build, is_number, MayBeEntered, IsOfStep, told_in};
 ghost use Rattle.lsm_trail.specs.History.{called, worked, lent_to, accepted, is_call, is_lent};
 
 use crate::beside::Beside;
-use lsm_device::Device;
+use lsm_device::{Device, Refusal};
 use lsm_lives::{Call, Reply, Step, Work};
 use lsm_merge::{Built, Input};
 use lsm_store::Store;
 use std::alloc::{Allocator, Global};
 use std::marker::Model;
+
+/// In how many parts a result is to be built.
+const PARTS: u64 = 4;
 
 /// A step that a client made, a call or a piece of work, and its reply. Of a build the reply is the number that its result has,
 /// or why no input was lent to it.
@@ -27,8 +33,8 @@ pub struct Entry<A: Allocator = Global> {
 impl<A: Allocator> Model for Entry<A> {
     ghost use Rattle.std.specs.Coded.{codes};
     ghost use Rattle.lsm_codec.specs.Map.{map_code};
-    ghost use Rattle.lsm_lives.specs.Calls.{asked_of, reply_of};
-    ghost use Rattle.lsm_trail.specs.Entries.{event_shown};
+    ghost use Rattle.lsm_lives.specs.Calls.{asked_of, reply_of, told_of};
+    ghost use Rattle.lsm_trail.specs.Entries.{event_shown, MayBeEntered};
     ghost use Rattle.lsm_trail.specs.History.{Event};
 
     ghost Value = { Event };
@@ -36,6 +42,8 @@ impl<A: Allocator> Model for Entry<A> {
     ghost coded = { Prim.hlevel (codes, map_code) };
 
     ghost view = { λ e. event_shown e.client (asked_of e.step) (reply_of e.reply) e.beside.shown };
+
+    ghost invariant = { λ e. MayBeEntered (asked_of e.step) (told_of e.reply) };
 }
 
 impl<A: Allocator> Entry<A> {
@@ -46,6 +54,7 @@ impl<A: Allocator> Entry<A> {
         reply: Reply<A>,
         store: &Store<D, A>,
     ) -> Entry<A>
+        requires { told_of reply ≡ Replied (reply_of reply) }
         ensures { result ≡ called client (call_of call) (reply_of reply) (machine_of store.now) }
     {
         Entry {
@@ -56,15 +65,15 @@ impl<A: Allocator> Entry<A> {
         }
     }
 
-    /// The entry of a piece of work that a client did, behind which the store is so: one that the store does by itself, or a build
-    /// to which no input was lent.
+    /// The entry of a piece of work that a client did and that the store does by itself, behind which the store is so.
     pub fn of_work<D: Device>(
         client: u32,
         work: Work,
         reply: Reply<A>,
         store: &Store<D, A>,
     ) -> Entry<A>
-        ensures { (piece : Piece) → piece_in (asked_of_work work) (reply_of reply) ≡ Some piece → result ≡ worked client piece (reply_of reply) (machine_of store.now) }
+        requires { MayBeEntered (asked_of_work work) (told_of reply) }
+        ensures { (piece : Piece) → asked_of_work work ≡ Own (Worked piece) → result ≡ worked client piece (reply_of reply) (machine_of store.now) }
     {
         Entry {
             client,
@@ -78,7 +87,6 @@ impl<A: Allocator> Entry<A> {
     pub fn of_build<D: Device>(
         client: u32,
         job: u64,
-        parts: u64,
         number: u64,
         input: &Input<A>,
         store: &Store<D, A>,
@@ -87,9 +95,26 @@ impl<A: Allocator> Entry<A> {
     {
         Entry {
             client,
-            step: Step::Work(Work::Build { job, parts }),
+            step: Step::Work(Work::Build { job, parts: PARTS }),
             reply: Reply::Number(number),
             beside: Beside::by_input(store, input),
+        }
+    }
+
+    /// The entry of a build, to which no input was lent.
+    pub fn of_refused_build<D: Device>(
+        client: u32,
+        job: u64,
+        refusal: Refusal,
+        store: &Store<D, A>,
+    ) -> Entry<A>
+        ensures { result ≡ worked client (Ask job) (Refused refusal) (machine_of store.now) }
+    {
+        Entry {
+            client,
+            step: Step::Work(Work::Build { job, parts: PARTS }),
+            reply: Reply::Refused(refusal),
+            beside: Beside::by_store(store),
         }
     }
 
@@ -102,6 +127,7 @@ impl<A: Allocator> Entry<A> {
         reply: Reply<A>,
         store: &Store<D, A>,
     ) -> Entry<A>
+        requires { told_of reply ≡ Replied (reply_of reply) }
         ensures { result ≡ accepted client job number built.now (reply_of reply) (machine_of store.now) }
     {
         Entry {
@@ -145,7 +171,7 @@ impl<A: Allocator> Entry<A> {
 
     /// What it was told.
     pub fn reply(&self) -> &Reply<A>
-        ensures { reply_of result.now ≡ told_in self.now.reply self.now.result }
+        ensures { told_of result.now ≡ told_in self.now.reply self.now.result }
     {
         &self.reply
     }
@@ -160,7 +186,7 @@ fn is_build<A: Allocator>(step: &Step<A>) -> bool
 
 // Whether a number was told.
 fn is_number<A: Allocator>(reply: &Reply<A>) -> bool
-    ensures { result ≡ is_number (reply_of reply.now) }
+    ensures { result ≡ is_number (told_of reply.now) }
 {
-    matches!(reply, Reply::Number(_) | Reply::Built { .. })
+    matches!(reply, Reply::Number(_))
 }

@@ -7,13 +7,13 @@ pub returns-in_err-reply : goal.returns-in_err-reply
 returns-in_err-reply g c = denied_with _ _ _ _ _ c.from_residual.ensures.1 refl (stopped_at_once _ _ _ _ c.args.self.now _ _ _ c.args.me.now c.show.ensures.same c.show.ensures.finds c.show.ensures.known _ _ _ _ c.in_err-reply.ensures)
 
 pub returns : goal.returns
-returns g c = was_brought _ _ _ _ c.args.self.now _ _ _ c.args.me.now c.show.ensures.same c.show.ensures.finds c.show.ensures.known _ _ _ _ _ c.in_ok-reply.ensures (sym c.is_without_room.ensures ∙ c.if-is_without_room.false)
+returns g c = was_brought _ _ _ _ c.args.self.now _ _ _ c.args.me.now c.show.ensures.same c.show.ensures.finds c.show.ensures.known _ _ _ _ c.in_ok-reply.ensures (sym c.is_without_room.ensures ∙ c.if-is_without_room.false)
 
 pub work-requires : goal.work-requires
-work-requires g c = seen_then _ _ _ _ _ _ c.in_ok-reply.ensures.enters
+work-requires g c = seen_then _ _ _ _ _ _ c.in_ok-reply.ensures.one.enters
 
 pub returns-in_err-work : goal.returns-in_err-work
-returns-in_err-work g c = denied_with _ _ _ _ _ c.from_residual-in_err-work.ensures.1 refl (stopped_then _ _ _ _ _ _ _ _ _ c.show.ensures.same c.show.ensures.finds c.show.ensures.known _ _ _ _ _ c.in_ok-reply.ensures _ (sym c.is_without_room.ensures ∙ c.if-is_without_room.true) c.in_err-work.ensures)
+returns-in_err-work g c = denied_with _ _ _ _ _ c.from_residual-in_err-work.ensures.1 refl (stopped_then _ _ _ _ _ _ _ _ _ c.show.ensures.same c.show.ensures.finds c.show.ensures.known _ _ _ _ c.in_ok-reply.ensures _ (sym c.is_without_room.ensures ∙ c.if-is_without_room.true) c.in_err-work.ensures)
 
 pub returns-then-is_without_room : goal.returns-then-is_without_room
-returns-then-is_without_room g c = was_dropped _ _ _ _ _ _ _ _ _ c.show.ensures.same c.show.ensures.finds c.show.ensures.known _ _ _ _ _ c.in_ok-reply.ensures _ _ (sym c.is_without_room.ensures ∙ c.if-is_without_room.true) c.in_ok-work.ensures
+returns-then-is_without_room g c = was_dropped _ _ _ _ _ _ _ _ _ c.show.ensures.same c.show.ensures.finds c.show.ensures.known _ _ _ _ c.in_ok-reply.ensures _ (sym c.is_without_room.ensures ∙ c.if-is_without_room.true) c.in_ok-work.ensures

@@ -25,4 +25,4 @@ returns g c =
     let works = works_inside _ _ _ _ _ c.self.view_is c.requires.lent in
     let one = entered_one _ _ _ _ _ c.self.invariant (Worked (Ask c.args.job)) _ works _ _ _ (c.of_build-entry.ensures ∙ ap (λ (x : MergeInput). lent_to c.me.inside.number c.args.job x c.next_result-result.result (machine_of c.self.inside.store)) c.deref.ensures) _ c.enter.ensures.log c.enter.ensures.legal room
     _ c.self.view_is _ _ c.requires.seen.finds (sym c.me.invariant.1 ∙ ap (λ (k : Known). k.number) c.me.view_is) c.enter.ensures.client in
-    λ place at. lent_at _ _ _ _ _ _ _ _ _ at refl one.enters (λ are. ([], _, refl, are)) tt
+    λ place at. lent_at _ _ _ _ _ _ _ _ _ at refl one (λ are. ([], _, refl, are)) tt

@@ -2,7 +2,7 @@ use Rattle.std.proofs.Common.{ap, sym, ◌∙◌}
 use Rattle.lsm_store.specs.Machine.{Called}
 use Rattle.lsm_trail.specs.Knowledge.{Known}
 use Rattle.lsm_lives.specs.Calls.{call_of}
-use Rattle.lsm_shared.proofs.Holds.{session_kept, refused_with, short_was, place_left, may_follow, keeps_base, session_entered, entered_one, knows_then, told_alike}
+use Rattle.lsm_shared.proofs.Holds.{session_kept, refused_with, short_was, place_left, may_follow, keeps_base, session_entered, entered_one, knows_then, entered_step}
 use Rattle.lsm_shared.proofs.OwnWork.{no_number}
 use Rattle.lsm_shared.proofs.session.Session.serve.Goals as goal
 
@@ -31,7 +31,7 @@ returns-clause-made g c =
     let i = c.self.invariant in
     let room = place_left _ _ _ c.is_full.ensures c.if-is_full.false i.room in
     let shown = c.me.view_is ∙ c.show.ensures.known in
-    told_alike _ _ _ _ _ _ _ _ _ _ c.in_ok-answer.ensures.0
+    entered_step _ _ _ _ _ _ _ _ _ _ c.in_ok-answer.ensures.0 c.serve-reply.ensures.told
     (entered_one _ _ _ _ _ i (Called (call_of c.args.call)) _ c.serve-reply.ensures.serves _ _ _ c.of_call-entry.ensures _ c.enter.ensures.log c.enter.ensures.legal room
     _ (c.self.view_is ∙ c.show.ensures.same) _ _ c.show.ensures.finds (sym c.me.invariant.1 ∙ ap (λ (k : Known). k.number) shown)
     (knows_then g.B.SessionName.id _ _ c.args.me.now _ _ _ c.show.ensures.known c.enter.ensures.client))

@@ -6,4 +6,4 @@ use Rattle.lsm_trail.proofs.Shown.{shown_step}
 use Rattle.lsm_trail.proofs.entry.Entry.step.Goals as goal
 
 pub returns : goal.returns
-returns g c = subst (λ (e : Event). IsOfStep e (asked_of c.self.inside.step)) c.self.view_is (shown_step _ _ _ c.self.inside.beside.shown)
+returns g c = subst (λ (e : Event). IsOfStep e (asked_of c.self.inside.step)) c.self.view_is (shown_step _ _ _ c.self.inside.beside.shown _ c.self.invariant)
