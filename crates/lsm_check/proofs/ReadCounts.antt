@@ -1,9 +1,8 @@
 -- How reads are counted, where both ends of their number are told.
-use Rattle.std.proofs.Common.{◌≡◌, ℕ, zero, suc, ◌+◌, ◌*◌, ◌<◌, ◌≤◌, Bool, true, List, [], ◌∷◌, ◌++◌, map, length, take, get_or, refl, sym, ap, subst, ◌∙◌, arith}
+use Rattle.std.proofs.Common.{◌≡◌, ℕ, zero, suc, ◌+◌, ◌<◌, ◌≤◌, true, List, [], ◌∷◌, ◌++◌, map, length, take, get_or, refl, sym, ap, ◌∙◌, arith}
 use Rattle.std.proofs.lemmas.List.{take_more}
 use Rattle.std.specs.Prelude.{Err}
 use Rattle.lsm_cache.specs.Reads.{after_reads}
-use Rattle.lsm_cache.proofs.Counts.{reads_are}
 use Rattle.lsm_codec.specs.Manifests.{Contents}
 use Rattle.lsm_codec.specs.declared.table_record.TableRecord.{TableRecord}
 use Rattle.lsm_device.specs.Calls.{one_more, more, after_read, AtMost}
@@ -11,7 +10,6 @@ use Rattle.lsm_device.specs.declared.calls.Calls.{Calls}
 use Rattle.lsm_levels.specs.Levels.{Levels, all_tables, places}
 use Rattle.lsm_levels.specs.Tables.{Table, record_of}
 use Rattle.lsm_open.specs.ToldTables.{records_of_runs, records_of_levels, HaveNamed}
-use Rattle.lsm_root.specs.Layout.{IsGeometry}
 use Rattle.lsm_check.specs.Counted.{data_blocks_in, data_blocks_named, ReadsBetween, AreRegionsRead, IsReadFor}
 use Rattle.lsm_check.specs.declared.finding.Finding.{Finding}
 use Rattle.lsm_check.specs.declared.finding.Finding.TheVariants.{Refused, Entries, Order, Filter, Versions}
