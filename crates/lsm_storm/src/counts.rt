@@ -35,11 +35,11 @@ fn is_commit(entry: &Entry) -> bool
     matches!(entry.step(), Step::Call(Call::Commit(_)))
 }
 
-// Whether an entry was answered with a number, that of a result among them.
+// Whether an entry was answered with a number.
 fn is_numbered(entry: &Entry) -> bool
     ensures { result ≡ is_number (told_in entry.now.reply entry.now.result) }
 {
-    matches!(entry.reply(), Reply::Number(_) | Reply::Built { .. })
+    matches!(entry.reply(), Reply::Number(_))
 }
 
 // Whether an entry is a commit that was answered with a number.

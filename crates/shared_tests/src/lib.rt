@@ -8,6 +8,8 @@ mod beginnings;
 #[cfg(test)]
 mod example;
 #[cfg(test)]
+mod faults;
+#[cfg(test)]
 mod growth;
 #[cfg(test)]
 mod replies;

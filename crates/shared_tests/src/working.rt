@@ -5,7 +5,7 @@ ghost use Rattle.std.specs.Arc.{arc_value};
 ghost use Rattle.lsm_shared.specs.Turns.{WasLent};
 
 use crate::setup::{Left, Session, prepared, small};
-use crate::turns::{Ask, Asked, Told, ask_all, put};
+use crate::turns::{Ask, Asked, Told, ask_all, play, put};
 use lsm_device::{MemDevice, Refusal};
 use lsm_lives::{Call, Reply, Step, Work};
 use lsm_merge::{Input, build};
@@ -157,11 +157,29 @@ const TWO_BUILDS: &[(u32, &str)] = &[
     (0, "install"),
 ];
 
+/// What is left of a session of a small store, in which two clients did a flush.
+pub fn flushed<R: Threads + Wait + Abort + Sync>(rt: &R, alloc: Global) -> Left {
+    let opened = prepared(alloc, small(rt, alloc), (2, 64)).expect(rt, "a session");
+    in_turns::<Brand, _>(rt, alloc, opened)
+}
+
 #[test]
 fn two_clients_build_one_result(rt: HostRuntime) {
-    let store = small(&rt, rt.alloc());
-    let opened = prepared(rt.alloc(), store, (2, 64)).expect(&rt, "a session");
-    let left = in_turns::<Brand, _>(&rt, rt.alloc(), opened);
+    let left = flushed(&rt, rt.alloc());
     assert!(rt; is_of(&left.trail, TWO_BUILDS));
     assert!(rt; left.store.batch_count() == 2 && left.store.synced_count() == 2);
+}
+
+// Client 1 makes no call. It is idle, and takes a flush once client 0 has rotated.
+const ANEW: &[Asked<'static>] = &[
+    (1, Ask::Turn, Ok(Told::Idle)),
+    (0, Ask::Put(b"\x61", b"\x31"), Ok(Told::Number(1))),
+    (0, Ask::Rotate, Ok(Told::Done)),
+    (1, Ask::Turn, Ok(Told::Did)),
+];
+
+#[test]
+fn an_idle_client_looks_anew(rt: HostRuntime) {
+    let left = play(&rt, rt.alloc(), small(&rt, rt.alloc()), (2, 8), ANEW);
+    assert!(rt; is_of(&left.trail, &[(0, "commit"), (0, "rotate"), (1, "take")]));
 }

@@ -1,4 +1,4 @@
-use Rattle.shared_tests.proofs.working.two_clients_build_one_result.Given as goal
+use Rattle.shared_tests.proofs.working.flushed.Given as goal
 
 -- the session that was just prepared
 abbrev pub ghosts-in_turns : goal.ghosts-in_turns
