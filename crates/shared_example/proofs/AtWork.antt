@@ -7,6 +7,7 @@ use Rattle.lsm_store.specs.Calls.{Reply}
 use Rattle.lsm_store.specs.Calls.{Refused}
 use Rattle.lsm_store.specs.Machine.{Machine, Step}
 use Rattle.lsm_store.specs.Work.{Work}
+use Rattle.lsm_lives.specs.Asked.{Told}
 use Rattle.lsm_trail.specs.History.{Event, steps_of, is_call, calls_in}
 use Rattle.lsm_trail.specs.Knowledge.{Known, Sees}
 use Rattle.lsm_shared.specs.Clients.{Adds}
@@ -44,7 +45,7 @@ of_pieces entries pieces are = of_steps entries ∙ ap calls_among are ∙ of_wo
 
 of_turn : {A : Type 0} (m : Machine) (places : List ℕ) (number : ℕ) (turn : Turn A) (entries : List Event) → IsTurn m places number turn entries → calls_in entries ≡ 0
 of_turn m places number turn.Idle entries is = of_pieces entries (pieces_among m places) is.steps
-of_turn m places number (turn.Did reply) entries (passed, work, behind, are, is) = of_pieces entries (pieces_among m places) is.steps
+of_turn m places number (turn.Did reply) entries (passed, work, answer, behind, told, are, is) = of_pieces entries (pieces_among m places) is.steps
 of_turn m places number (turn.Merge job result input) entries (passed, behind, are, is) = of_pieces entries (pieces_among m places) is.steps
 
 -- a turn
@@ -57,8 +58,8 @@ of_result number job result made (Refused e) entries brought = ap calls_in broug
 of_result number job result made reply entries brought = ap calls_in brought.1
 
 -- a result that was brought
-pub brings : (c d : Known) (job result : ℕ) (made : MergeResult) (reply : Reply) → Brings c job result made reply d → MakesNoCall c d
-brings c d job result made reply brought = adds_none c d brought.others brought.entries brought.adds (of_result _ _ _ _ reply brought.entries brought.brought)
+pub brings : (c d : Known) (job result : ℕ) (made : MergeResult) (told : Told) → Brings c job result made told d → MakesNoCall c d
+brings c d job result made told brought = adds_none c d brought.others brought.entries brought.adds (of_result _ _ _ _ brought.reply brought.entries brought.brought)
 
 -- a look at the history
 pub looks : (c d : Known) → Sees c d → MakesNoCall c d

@@ -5,7 +5,7 @@ use Rattle.lsm_store.specs.Backing.{StoreView}
 use Rattle.lsm_trail.specs.Begins.{Begin}
 use Rattle.lsm_trail.specs.History.{Event, entries_by, calls_in, TrailView}
 use Rattle.lsm_trail.specs.Knowledge.{Known, known}
-use Rattle.lsm_shared.specs.Clients.{Told}
+use Rattle.lsm_shared.specs.Clients.{AgreesWith}
 use Rattle.lsm_shared.specs.Sessions.{IsEnded}
 use Rattle.shared_example.specs.Shares.{IsStored, HasStored, MakesNoCall, IsShared}
 
@@ -26,7 +26,7 @@ module _ (b d : Begin) (is : b ≡ d) (first second : List Operation) (clients :
     (zero_old one_old zero_new one_new : Known) (zero_is : zero_old ≡ known d 0 [] []) (one_is : one_old ≡ known d 1 [] []) (zero_stored : HasStored zero_old first zero_new) (one_stored : HasStored one_old second one_new) where
   shared_by : (more : List Known) → clients ≡ zero_new ∷ one_new ∷ more → ((number : ℕ) → 2 ≤ number → calls_in (entries_by number trail.log) ≡ 0) → IsShared b first second store trail
   shared_by more are others =
-      let told = subst (Told trail.log) are ended.told in
+      let told = subst (AgreesWith trail.log) are ended.told in
       record {
         clients = clients;
         ended = subst (λ (x : Begin). IsEnded x clients store trail) (sym is) ended;
@@ -46,8 +46,8 @@ module _ (b d : Begin) (is : b ≡ d) (first second : List Operation) (clients :
   pub ends_with_three : (two_old two_new : Known) → two_old ≡ known d 2 [] [] → MakesNoCall two_old two_new → clients ≡ zero_new ∷ one_new ∷ two_new ∷ [] → b.clients ≡ 3 → IsShared b first second store trail
   ends_with_three two_old two_new two_is none are three = shared_by (two_new ∷ []) are others
     where
-      told : Told trail.log (zero_new ∷ one_new ∷ two_new ∷ [])
-      told = subst (Told trail.log) are ended.told
+      told : AgreesWith trail.log (zero_new ∷ one_new ∷ two_new ∷ [])
+      told = subst (AgreesWith trail.log) are ended.told
 
       others : (number : ℕ) → 2 ≤ number → calls_in (entries_by number trail.log) ≡ 0
       others zero far = absurd (omega (arith, far))

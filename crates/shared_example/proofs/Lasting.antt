@@ -27,6 +27,7 @@ use Rattle.lsm_store.specs.RecoveryPoints.{present_map}
 use Rattle.lsm_store.specs.Refusals.{first_refusal}
 use Rattle.lsm_store.specs.Run.{Allows, AllowsStep, Run, next, next_machine, last_machine}
 use Rattle.lsm_store.specs.State.{State}
+use Rattle.lsm_lives.specs.Asked.{Replied}
 use Rattle.lsm_trail.specs.Begins.{Begin, first_machine}
 use Rattle.lsm_trail.specs.History.{Event, called, steps_of, replies_of, entries_by, is_call, calls_in, IsLegal, state_after, TrailView}
 use Rattle.lsm_trail.specs.Knowledge.{Known}
@@ -51,7 +52,7 @@ get_other m key value other apart = get-insert nat_list_cmp_total m key value ot
 
 -- ---- calls that were answered
 
-answered : (s : State) (call : Call) (reply : Reply) → IsAnswer reply → next s call reply ≡ after s call
+answered : (s : State) (call : Call) (reply : Reply) → IsAnswer (Replied reply) → next s call reply ≡ after s call
 answered s call (Number n) is = refl
 answered s call Done is = refl
 answered s call (Value v) is = refl
@@ -61,17 +62,17 @@ answered s call (Handed input) is = refl
 answered s call (Refused e) is = absurd is
 
 -- so the state has decided it
-is_decided : (s : State) (call : Call) (reply : Reply) → IsAnswer reply → Allows s call reply → reply ≡ decided s call
+is_decided : (s : State) (call : Call) (reply : Reply) → IsAnswer (Replied reply) → Allows s call reply → reply ≡ decided s call
 is_decided s call (Refused e) is allowed = absurd is
 is_decided s call reply is allowed = allowed
 
 -- and a store that has synced was not stopped
-not_stopped : (s : State) (reply : Reply) → IsAnswer reply → Allows s Sync reply → s.stopped ≡ None
+not_stopped : (s : State) (reply : Reply) → IsAnswer (Replied reply) → Allows s Sync reply → s.stopped ≡ None
 not_stopped s reply is allowed = by s.stopped refl
   where
     by : (stopped : Option (List CrashState)) → s.stopped ≡ stopped → s.stopped ≡ None
     by None e = e
-    by (Some lefts) e = absurd (subst IsAnswer (is_decided s Sync reply is allowed ∙ ap (λ (o : Option (List CrashState)). reply_by s Sync (first_refusal ((is_some o, Stopped) ∷ []))) e) is)
+    by (Some lefts) e = absurd (subst (λ (r : Reply). IsAnswer (Replied r)) (is_decided s Sync reply is allowed ∙ ap (λ (o : Option (List CrashState)). reply_by s Sync (first_refusal ((is_some o, Stopped) ∷ []))) e) is)
 
 -- ---- the entries of one client, and those of others
 
@@ -103,7 +104,7 @@ module _ (key value : Bytes) (client : ℕ) where
       goes_on (next_machine m e.step e.reply) log alone.1 theirs.1 (stays_step key value m e.step e.reply (alone.0 theirs.0) stays)
 
   -- a sync of the client makes it so
-  syncs : (m : Machine) (e : Event) (reply : Reply) (machine : Machine) → e ≡ called client Sync reply machine → IsAnswer reply → AllowsStep m e.step e.reply → HasNow key value m.state → Stays key value (next_machine m e.step e.reply).state
+  syncs : (m : Machine) (e : Event) (reply : Reply) (machine : Machine) → e ≡ called client Sync reply machine → IsAnswer (Replied reply) → AllowsStep m e.step e.reply → HasNow key value m.state → Stays key value (next_machine m e.step e.reply).state
   syncs m e reply machine is answer allowed has = subst (λ (x : Event). Stays key value (next_machine m x.step x.reply).state) (sym is) here
     where
       allows : Allows m.state Sync reply
@@ -114,12 +115,12 @@ module _ (key value : Bytes) (client : ℕ) where
           (at_rest key value m.state has (subst (OthersHave key value) (sym (not_stopped m.state reply answer allows)) tt))
 
   -- a commit of the client puts the value there
-  commits : (m : Machine) (e : Event) (reply : Reply) (machine : Machine) → e ≡ called client (Commit (one_put key value)) reply machine → IsAnswer reply → HasNow key value (next_machine m e.step e.reply).state
+  commits : (m : Machine) (e : Event) (reply : Reply) (machine : Machine) → e ≡ called client (Commit (one_put key value)) reply machine → IsAnswer (Replied reply) → HasNow key value (next_machine m e.step e.reply).state
   commits m e reply machine is answer = subst (λ (x : Event). HasNow key value (next_machine m x.step x.reply).state) (sym is)
       (subst (HasNow key value) (sym (answered m.state (Commit (one_put key value)) reply answer))
       (ap (λ (m : Map). finite.get m key) (last_push m.state.points.first m.state.points.later (apply (present_map m.state.points) (one_put key value))) ∙ get_same (present_map m.state.points) key value))
 
-  until_sync : (m : Machine) (log : List Event) (reply : Reply) (machine : Machine) → AreRun m log → OthersLeaveAlone log → IsAnswer reply
+  until_sync : (m : Machine) (log : List Event) (reply : Reply) (machine : Machine) → AreRun m log → OthersLeaveAlone log → IsAnswer (Replied reply)
       → entries_by client log ≡ called client Sync reply machine ∷ [] → HasNow key value m.state → Stays key value (behind m log).state
   until_sync m [] reply machine run alone answer are has = absurd (cc are)
   until_sync m (e ∷ log) reply machine run alone answer are has = by (e.client == client) refl are
@@ -131,7 +132,7 @@ module _ (key value : Bytes) (client : ℕ) where
       by true mine are later = goes_on (next_machine m e.step e.reply) log alone.1 (cc are) (syncs m e reply machine (cc are) answer run.0 has)
       by false theirs are later = later theirs are
 
-  until_commit : (m : Machine) (log : List Event) (committed synced : Reply) (one two : Machine) → AreRun m log → OthersLeaveAlone log → IsAnswer committed → IsAnswer synced
+  until_commit : (m : Machine) (log : List Event) (committed synced : Reply) (one two : Machine) → AreRun m log → OthersLeaveAlone log → IsAnswer (Replied committed) → IsAnswer (Replied synced)
       → entries_by client log ≡ called client (Commit (one_put key value)) committed one ∷ called client Sync synced two ∷ [] → Stays key value (behind m log).state
   until_commit m [] committed synced one two run alone commit sync are = absurd (cc are)
   until_commit m (e ∷ log) committed synced one two run alone commit sync are = by (e.client == client) refl are

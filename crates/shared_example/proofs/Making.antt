@@ -1,21 +1,22 @@
 -- The calls of a client, one after another.
-use Rattle.std.proofs.Common.{◌≡◌, List, [], ◌∷◌, ◌++◌, ℕ, ap, ◌∙◌}
+use Rattle.std.proofs.Common.{◌≡◌, List, [], ◌∷◌, ◌++◌, ℕ, ap, ◌∙◌, subst}
 use Rattle.lsm_codec.specs.Map.{Operation}
-use Rattle.lsm_store.specs.Calls.{Call, Reply}
+use Rattle.lsm_store.specs.Calls.{Call}
 use Rattle.lsm_store.specs.Calls.{Commit, Sync}
+use Rattle.lsm_lives.specs.Asked.{Told}
 use Rattle.lsm_trail.specs.History.{Event, called}
 use Rattle.lsm_trail.specs.Knowledge.{Known}
 use Rattle.lsm_shared.specs.Clients.{MakesCall}
 use Rattle.shared_example.specs.Shares.{IsAnswer, Makes, HasStored}
 
 -- a call that was answered is one more call
-pub makes : (c d : Known) (call : Call) (reply : Reply) → IsAnswer reply → MakesCall c call reply d → Makes c call d
-makes c d call reply answer made = record {
-  number = made.2.number;
-  reply = reply;
-  answered = answer;
-  machine = made.1;
-  mine = made.2.mine;
+pub makes : (c d : Known) (call : Call) (told : Told) → IsAnswer told → MakesCall c call told d → Makes c call d
+makes c d call told answer made = record {
+  number = made.adds.number;
+  reply = made.reply;
+  answered = subst IsAnswer made.told answer;
+  machine = made.machine;
+  mine = made.adds.mine;
 }
 
 -- a commit and a sync of a client that had made no call

@@ -11,6 +11,7 @@ use Rattle.lsm_store.specs.Backing.{StoreView}
 use Rattle.lsm_store.specs.Calls.{Call, Reply}
 use Rattle.lsm_store.specs.Calls.{Commit, Sync, Refused}
 use Rattle.lsm_store.specs.Machine.{Machine}
+use Rattle.lsm_lives.specs.Asked.{Told, Replied}
 use Rattle.lsm_trail.specs.Begins.{Begin}
 use Rattle.lsm_trail.specs.History.{Event, called, entries_by, calls_in, TrailView}
 use Rattle.lsm_trail.specs.Knowledge.{Known}
@@ -20,16 +21,16 @@ use Rattle.lsm_shared.specs.Sessions.{IsEnded}
 abbrev pub one_put : Bytes → Bytes → List Operation
 one_put key value = record { key = key; value = Some value } ∷ []
 
--- a reply that is no refusal
-abbrev pub IsAnswer : Reply → Type 0
-IsAnswer (Refused e) = ⊥
+-- what was told is no refusal
+abbrev pub IsAnswer : Told → Type 0
+IsAnswer (Replied (Refused e)) = ⊥
 IsAnswer other = Unit {0}
 
 -- one more call of the client was answered
 pub record Makes (old : Known) (call : Call) (new : Known) : Type 0 where
   pub number : new.number ≡ old.number
   pub reply : Reply
-  pub answered : IsAnswer reply
+  pub answered : IsAnswer (Replied reply)
   pub machine : Machine
   pub mine : new.mine ≡ old.mine ++ called old.number call reply machine ∷ []
 
@@ -37,7 +38,7 @@ pub record Makes (old : Known) (call : Call) (new : Known) : Type 0 where
 pub record IsStored (client : ℕ) (batch : List Operation) (calls : List Event) : Type 0 where
   pub committed : Reply
   pub synced : Reply
-  pub answered : IsAnswer committed × IsAnswer synced
+  pub answered : IsAnswer (Replied committed) × IsAnswer (Replied synced)
   pub machines : Machine × Machine
   pub are : calls ≡ called client (Commit batch) committed machines.0 ∷ called client Sync synced machines.1 ∷ []
 

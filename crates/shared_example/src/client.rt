@@ -1,6 +1,6 @@
 // One client of the session.
 ghost use Rattle.std.specs.Prelude.{◌≡◌, [], IfOk, OnOk};
-ghost use Rattle.lsm_lives.specs.Calls.{call_of, reply_of};
+ghost use Rattle.lsm_lives.specs.Calls.{call_of, told_of};
 ghost use Rattle.shared_example.specs.Shares.{one_put, IsAnswer, Makes, HasStored};
 
 use lsm_codec::{Batch, Op};
@@ -20,7 +20,7 @@ pub(crate) fn batch_of(alloc: Global, key: &[u8], value: &[u8]) -> Result<Batch,
 
 // Refuses where the store did.
 fn answered(reply: Reply) -> Result<(), Refusal>
-    ensures { OnOk result (IsAnswer (reply_of reply)) }
+    ensures { OnOk result (IsAnswer (told_of reply)) }
 {
     match reply {
         Reply::Refused(refusal) => Err(refusal),
