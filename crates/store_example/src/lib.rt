@@ -1,6 +1,8 @@
 //! A caller of the store: what it is told by the contracts alone.
 #![tactic(auto)]
 
+mod first_use;
+
 ghost use Rattle.std.specs.FinMap as finite;
 ghost use Rattle.std.specs.Prelude.{◌≡◌, ℕ, Some, option_map, IfOk, OnOk};
 ghost use Rattle.lsm_device.specs.Disk.{seen};
@@ -12,6 +14,7 @@ ghost use Rattle.lsm_store.specs.Backing.{IsBacked};
 ghost use Rattle.lsm_store.specs.Calls.{Commit, Sync, Number, Done};
 ghost use Rattle.lsm_store.specs.Run.{next};
 
+pub use first_use::use_a_file;
 use lsm_codec::{Batch, Op};
 use lsm_device::{MemDevice, Refusal};
 use lsm_open::format;
