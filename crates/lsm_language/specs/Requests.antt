@@ -69,6 +69,18 @@ reason_for (asked.Storm clients commits workers) text = or_else (said_reason (nu
     (or_else (said_reason (number_said commits.now)) (or_else (said_reason (number_said workers.now))
     (load_reason (number_in clients.now) (number_in commits.now) (number_in workers.now))))
 
+-- the path of the file that a request is about, if it is about one
+abbrev pub file_of : Request → Option (List ℕ)
+file_of (request.Format path geometry) = Some path.now
+file_of (request.Commit path batch) = Some path.now
+file_of (request.Get path key) = Some path.now
+file_of (request.Scan path from limit) = Some path.now
+file_of (request.Stat path) = Some path.now
+file_of (request.Check path) = Some path.now
+file_of (request.Replay path script) = Some path.now
+file_of (request.Lives geometry script) = None
+file_of (request.Storm load) = None
+
 -- the request has the numbers and bytes that the words say, the batch of one operation on them, and what the script says
 abbrev pub Says : Asked → List ℕ → Request → Type 0
 Says (asked.Format file sectors log) text (request.Format path geometry) = (path.now ≡ file.now)

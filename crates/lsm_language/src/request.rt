@@ -72,7 +72,9 @@ pub enum Request<'a> {
 
 impl<'a> Request<'a> {
     /// The file that it is about, if it is about one.
-    pub fn file(&self) -> Option<&'a str> {
+    pub fn file(&self) -> Option<&'a str>
+        ensures { option_map (λ file. file.now) result ≡ file_of self.now }
+    {
         match self {
             Request::Format { file, .. }
             | Request::Commit { file, .. }
@@ -85,7 +87,7 @@ impl<'a> Request<'a> {
         }
     }
 
-    ghost use Rattle.lsm_language.specs.Requests.{reason_for, Says};
+    ghost use Rattle.lsm_language.specs.Requests.{file_of, reason_for, Says};
 
     /// Reads numbers and bytes from the left, then the text of the script, then tests the limits, then makes the batch.
     pub fn read(alloc: Global, asked: Asked<'a>, text: &[u8]) -> Result<Request<'a>, Fault>
