@@ -1,15 +1,16 @@
 //! Manifests with tables.
 
-use crate::manifests::{is_limited, is_spelled, sectors_of};
-use lsm_codec::{LogRecord, Manifest, TableRecord};
+use crate::manifests::{is_limited, is_limited_in, is_spelled, sectors_of};
+use crate::texts::are;
+use lsm_codec::{FormatVersion, LogRecord, Manifest, TableRecord};
 use std::alloc::Global;
 use std::process::Abort;
 
 /// A table's number, level, run, first block, data blocks, index blocks and entries.
 type Row = (u64, u8, u8, u32, u8, u8, u16);
 
-/// The table record of these numbers.
-fn record(row: &Row) -> TableRecord {
+/// The table record of these numbers, which tells so many deletes, or none.
+fn record_with(row: &Row, deletes: Option<u16>) -> TableRecord {
     TableRecord {
         number: row.0,
         level: row.1,
@@ -18,7 +19,13 @@ fn record(row: &Row) -> TableRecord {
         data_blocks: row.4,
         index_blocks: row.5,
         entries: row.6,
+        deletes,
     }
+}
+
+/// The table record of these numbers, without a delete.
+fn record(row: &Row) -> TableRecord {
+    record_with(row, Some(0))
 }
 
 /// A manifest of generation 4, with the first batch in these tables.
@@ -31,12 +38,72 @@ fn manifest<R: Abort>(rt: &R, alloc: Global, next_table: u64, runs: u8, rows: &[
 }
 
 const ONE_TABLE: &str = "4c534d4d000000000000000400000000000000010000000000000002\
-00010001000000000000000100000000000001010001";
+000100010000000000000001000000000000010100010000";
 
 #[test]
 fn a_manifest_with_a_table(rt: HostRuntime) {
     let manifest = manifest(&rt, rt.alloc(), 2, 1, &[(1, 0, 0, 0, 1, 1, 1)]);
     assert!(rt; is_spelled(&rt, rt.alloc(), &manifest, ONE_TABLE));
+}
+
+/// The same in version 1, where a record doesn't tell the deletes.
+const ONE_TABLE_OLD: &str = "4c534d4d000000000000000400000000000000010000000000000002\
+00010001000000000000000100000000000001010001";
+
+/// A manifest of two tables, which tell these deletes or none.
+fn two_tables<R: Abort>(rt: &R, alloc: Global, deletes: [Option<u16>; 2]) -> Manifest {
+    let mut tables = Vec::new(alloc);
+    let [first, second] = deletes;
+    tables
+        .push(record_with(&(1, 1, 0, 0, 1, 1, 7), first))
+        .expect(rt, "memory");
+    tables
+        .push(record_with(&(2, 1, 0, 4, 1, 1, 7), second))
+        .expect(rt, "memory");
+    Manifest::new(4, 1, 4, 0, Vec::new(alloc), tables)
+}
+
+#[test]
+fn a_manifest_of_version_1(rt: HostRuntime) {
+    let mut tables = Vec::new(rt.alloc());
+    tables
+        .push(record_with(&(1, 0, 0, 0, 1, 1, 1), None))
+        .expect(&rt, "memory");
+    let manifest = Manifest::new(4, 1, 2, 1, Vec::new(rt.alloc()), tables);
+    assert!(rt; are(&sectors_of(&rt, rt.alloc(), &manifest), ONE_TABLE_OLD));
+    assert!(rt; is_limited_in(&rt, rt.alloc(), FormatVersion::One, &manifest, true));
+}
+
+#[test]
+fn deletes_are_at_most_the_entries(rt: HostRuntime) {
+    for (deletes, fits) in [(0, true), (7, true), (8, false), (65_535, false)] {
+        let manifest = two_tables(&rt, rt.alloc(), [Some(0), Some(deletes)]);
+        assert!(rt;
+            is_limited(&rt, rt.alloc(), &manifest, fits),
+            "{deletes} deletes"
+        );
+    }
+}
+
+/// Whether the manifest with these deletes is read back in versions 1 and 2.
+fn read_back<R: Abort>(rt: &R, alloc: Global, deletes: [Option<u16>; 2]) -> (bool, bool) {
+    let sectors = sectors_of(rt, alloc, &two_tables(rt, alloc, deletes));
+    let one = Manifest::decode(alloc, FormatVersion::One, &sectors).expect(rt, "memory");
+    let two = Manifest::decode(alloc, FormatVersion::Two, &sectors).expect(rt, "memory");
+    (one.is_some(), two.is_some())
+}
+
+#[test]
+fn each_version_reads_its_own_records(rt: HostRuntime) {
+    for (deletes, one, two) in [
+        ([None, None], true, false),
+        ([Some(0), Some(3)], false, true),
+        ([None, Some(3)], false, false),
+        // The zeros behind the text are the second table's count.
+        ([Some(3), None], false, true),
+    ] {
+        assert!(rt; read_back(&rt, rt.alloc(), deletes) == (one, two));
+    }
 }
 
 /// Whether a manifest of so many runs with these tables, and table number 4 to come, is within the limits, as `fits`
@@ -149,7 +216,7 @@ fn takes<R: Abort>(rt: &R, alloc: Global, count: u16, level: u8, bytes: usize) -
 #[test]
 fn the_most_runs_and_tables(rt: HostRuntime) {
     assert!(rt; takes(&rt, rt.alloc(), 12, 0, 512));
-    assert!(rt; takes(&rt, rt.alloc(), 1_024, 1, 18_944));
+    assert!(rt; takes(&rt, rt.alloc(), 1_024, 1, 20_992));
 }
 
 #[test]

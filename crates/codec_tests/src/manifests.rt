@@ -2,7 +2,7 @@
 
 use crate::texts::are;
 use linked_list_allocator::LocalHeap;
-use lsm_codec::{LogRecord, Manifest};
+use lsm_codec::{FormatVersion, LogRecord, Manifest};
 use lsm_device::Refusal;
 use std::alloc::Global;
 use std::process::Abort;
@@ -40,9 +40,19 @@ pub fn sectors_of<R: Abort>(rt: &R, alloc: Global, manifest: &Manifest) -> Vec<u
     sectors
 }
 
-/// The manifest that the bytes spell, if they spell one.
+/// The manifest that the bytes spell in a version, if they spell one.
+fn read_in<R: Abort>(
+    rt: &R,
+    alloc: Global,
+    version: FormatVersion,
+    bytes: &[u8],
+) -> Option<Manifest> {
+    Manifest::decode(alloc, version, bytes).expect(rt, "memory")
+}
+
+/// The one that they spell in version 2.
 fn read<R: Abort>(rt: &R, alloc: Global, bytes: &[u8]) -> Option<Manifest> {
-    Manifest::decode(alloc, bytes).expect(rt, "memory")
+    read_in(rt, alloc, FormatVersion::Two, bytes)
 }
 
 const FORMATTED: &str = "4c534d4d00000000000000010000000000000000000000000000000100000000";
@@ -60,13 +70,24 @@ fn is_same(a: &Manifest, b: &Manifest) -> bool {
         && a.tables() == b.tables()
 }
 
-/// Whether the manifest is within the limits, as `fits` says, and just then read back from its sectors.
-pub fn is_limited<R: Abort>(rt: &R, alloc: Global, manifest: &Manifest, fits: bool) -> bool {
+/// Whether the manifest is within the limits, as `fits` says, and just then read back from its sectors in a version.
+pub fn is_limited_in<R: Abort>(
+    rt: &R,
+    alloc: Global,
+    version: FormatVersion,
+    manifest: &Manifest,
+    fits: bool,
+) -> bool {
     let sectors = sectors_of(rt, alloc, manifest);
-    match read(rt, alloc, &sectors) {
+    match read_in(rt, alloc, version, &sectors) {
         Some(again) => fits && manifest.is_within_limits() && is_same(&again, manifest),
         None => !fits && !manifest.is_within_limits(),
     }
+}
+
+/// The same in version 2.
+pub fn is_limited<R: Abort>(rt: &R, alloc: Global, manifest: &Manifest, fits: bool) -> bool {
+    is_limited_in(rt, alloc, FormatVersion::Two, manifest, fits)
 }
 
 /// Whether the manifest is spelled so, and read back.
@@ -198,7 +219,7 @@ fn sizes_that_hold_no_manifest(rt: HostRuntime) {
 fn is_read_back(heap: &LocalHeap) -> Result<bool, Refusal> {
     let manifest = Manifest::new(1, 0, 1, 0, Vec::new(heap), Vec::new(heap));
     let sectors = manifest.encode(heap)?;
-    Ok(Manifest::decode(heap, &sectors)?.is_some())
+    Ok(Manifest::decode(heap, FormatVersion::Two, &sectors)?.is_some())
 }
 
 /// The same in a heap of so many bytes.

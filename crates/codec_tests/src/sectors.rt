@@ -1,15 +1,18 @@
 //! Superblocks and log sectors.
 
 use crate::texts::{are, bytes_of, flipped};
-use lsm_codec::{LogSector, Superblock, data_blocks};
+use lsm_codec::{FormatVersion, LogSector, Superblock, data_blocks};
 use std::process::Abort;
 
 const FIRST_BATCH: &str = "4c534d4c00000000000000020000000000000001000000010008000000000000\
 0001010161000131";
 
-const FORMATTED: &str = "4c534d53000100000000000000010000200000800001";
+const FORMATTED: &str = "4c534d53000200000000000000010000200000800001";
 
-const OPENED: &str = "4c534d53000100000000000000020000200000800001";
+const OPENED: &str = "4c534d53000200000000000000020000200000800001";
+
+/// The superblock of a format in version 1.
+const FORMATTED_OLD: &str = "4c534d53000100000000000000010000200000800001";
 
 /// Whether two parts are the same.
 fn is_same(a: &LogSector, b: &LogSector) -> bool {
@@ -88,8 +91,9 @@ fn is_found(superblock: &Superblock, fits: bool) -> bool {
 }
 
 /// Whether the superblock of a small device is spelled so, and read back.
-fn is_superblock(generation: u64, text: &str) -> bool {
+fn is_superblock(version: FormatVersion, generation: u64, text: &str) -> bool {
     let superblock = Superblock {
+        version,
         generation,
         sectors: 8_192,
         log_sectors: 128,
@@ -100,7 +104,18 @@ fn is_superblock(generation: u64, text: &str) -> bool {
 
 #[test]
 fn superblocks_of_a_format_and_an_open(rt: HostRuntime) {
-    assert!(rt; is_superblock(1, FORMATTED) && is_superblock(2, OPENED));
+    assert!(rt; is_superblock(FormatVersion::Two, 1, FORMATTED));
+    assert!(rt; is_superblock(FormatVersion::Two, 2, OPENED));
+    assert!(rt; is_superblock(FormatVersion::One, 1, FORMATTED_OLD));
+}
+
+#[test]
+fn versions_0_and_3_are_none(rt: HostRuntime) {
+    for version in [0, 3, 255] {
+        let mut sector = bytes_of::<512>(FORMATTED).expect(&rt, "hex");
+        sector[5] = version;
+        assert!(rt; spells_nothing(&sector), "version {version}");
+    }
 }
 
 #[test]
@@ -119,6 +134,7 @@ fn superblocks_at_their_limits(rt: HostRuntime) {
         (last, 1_048_576, 2_048, 65, false), // Too many sectors.
     ] {
         let superblock = Superblock {
+            version: FormatVersion::Two,
             generation,
             sectors,
             log_sectors,

@@ -8,11 +8,11 @@ use Rattle.lsm_codec.specs.Keys.{Bytes, IsBytes}
 use Rattle.lsm_codec.specs.Map.{Operation}
 use Rattle.lsm_codec.specs.Spelling.{filled, padding, in_sectors}
 use Rattle.lsm_codec.specs.BatchText.{key_text, value_text, change_text, operation_text, batch_text}
-use Rattle.lsm_codec.specs.Superblocks.{superblock_text, superblock_sector}
+use Rattle.lsm_codec.specs.Superblocks.{version_number, superblock_text, superblock_sector}
 use Rattle.lsm_codec.specs.LogSectors.{Part, part_text, log_sector}
 use Rattle.lsm_codec.specs.Manifests.{Contents, log_record, manifest_header, manifest_text, manifest_bytes}
 use Rattle.lsm_codec.specs.Formats.{HasBytes}
-use Rattle.lsm_codec.specs.TableRecords.{table_record}
+use Rattle.lsm_codec.specs.TableRecords.{deletes_text, numbers_text, table_record}
 use Rattle.lsm_codec.specs.declared.log_record.LogRecord.{LogRecord}
 use Rattle.lsm_codec.specs.declared.table_record.TableRecord.{TableRecord}
 use Rattle.lsm_codec.specs.declared.superblock.Superblock.{Superblock}
@@ -64,7 +64,7 @@ magic a b c d p q r s = cons a _ p (cons b _ q (cons c _ r (cons d [] s none)))
 pub of_superblock : (s : Superblock) → IsBytes (superblock_sector s)
 unfolding superblock_sector
 of_superblock s =
-    in_filled 512 (superblock_text s) (append _ _ (magic 76 83 77 83 (omega arith) (omega arith) (omega arith) (omega arith)) (append _ _ (number 2 1) (append _ _ (number 8 s.generation)
+    in_filled 512 (superblock_text s) (append _ _ (magic 76 83 77 83 (omega arith) (omega arith) (omega arith) (omega arith)) (append _ _ (number 2 (version_number s.version)) (append _ _ (number 8 s.generation)
     (append _ _ (number 4 s.sectors) (append _ _ (number 2 s.log_sectors) (number 2 s.manifest_sectors))))))
 
 pub of_part : (p : Part) → IsBytes p.payload → IsBytes (log_sector p)
@@ -88,9 +88,15 @@ of_log_records : (logs : List LogRecord) → IsBytes (flat_map log_record logs)
 of_log_records [] = none
 of_log_records (r ∷ rs) = append (log_record r) (flat_map log_record rs) (of_log_record r) (of_log_records rs)
 
+of_deletes : (deletes : Option ℕ) → IsBytes (deletes_text deletes)
+of_deletes None = none
+of_deletes (Some deletes) = number 2 deletes
+
 of_table_record : (t : TableRecord) → IsBytes (table_record t)
 of_table_record t =
-    append _ _ (number 8 t.number) (append _ _ (number 1 t.level) (append _ _ (number 1 t.run) (append _ _ (number 4 t.first_block) (append _ _ (number 1 t.data_blocks) (append _ _ (number 1 t.index_blocks) (number 2 t.entries))))))
+    append (numbers_text t) (deletes_text t.deletes)
+    (append _ _ (number 8 t.number) (append _ _ (number 1 t.level) (append _ _ (number 1 t.run) (append _ _ (number 4 t.first_block) (append _ _ (number 1 t.data_blocks) (append _ _ (number 1 t.index_blocks) (number 2 t.entries)))))))
+    (of_deletes t.deletes)
 
 of_table_records : (tables : List TableRecord) → IsBytes (flat_map table_record tables)
 of_table_records [] = none

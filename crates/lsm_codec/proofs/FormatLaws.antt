@@ -14,7 +14,7 @@ use Rattle.lsm_codec.proofs.BatchLaws.{batch_format, text_length_low}
 use Rattle.lsm_codec.proofs.DataBlockLaws.{block_format, length-data_block}
 use Rattle.lsm_codec.proofs.IndexLaws.{index_format, length-index_blocks, index_low, index_high}
 use Rattle.lsm_codec.proofs.FooterLaws.{footer_format, length-footer_block}
-use Rattle.lsm_codec.proofs.ManifestLaws.{manifest_format, length-manifest_text, length-manifest_bytes}
+use Rattle.lsm_codec.proofs.ManifestLaws.{manifest_format, length-manifest_text, manifest_text_most, length-manifest_bytes}
 
 -- a sector of zeros does not begin with the letters
 superblock_of-blank : superblock_of blank ≡ None
@@ -34,8 +34,8 @@ sectors_of_high os fits = omega (arith, fits.fits)
 sector_count_low : (c : Contents) → 1 ≤ sector_count c
 sector_count_low c = omega (arith, length-manifest_text c)
 
-sector_count_high : (c : Contents) → IsManifest c → sector_count c ≤ 64
-sector_count_high c fits = omega (arith, length-manifest_text c, fits.numbers.logs, fits.numbers.tables)
+sector_count_high : (c : Contents) → IsManifest c → sector_count c ≤ 41
+sector_count_high c fits = omega (arith, manifest_text_most c, fits.numbers.logs, fits.numbers.tables)
 
 pub superblock_laws_hold : SuperblockLaws
 superblock_laws_hold = record { format = superblock_format; size = length-superblock_sector; bytes = of_superblock; none = superblock_of-blank }

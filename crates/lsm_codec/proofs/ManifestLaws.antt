@@ -1,25 +1,26 @@
 -- A manifest's sectors are read and decoded exactly.
 use Rattle.std.proofs.Common.{◌≡◌, ℕ, ◌+◌, ◌-◌, ◌*◌, ◌^◌, ◌<◌, ◌≤◌, Bool, eqb, List, [], ◌∷◌, ◌++◌, length, Some, None, Decides, refl, ap, arith, lit<, get_or}
-use Rattle.std.specs.List.{AllByRecursion, flat_map, list_all}
+use Rattle.std.specs.List.{All, AllByRecursion, flat_map, list_all}
 use Rattle.std.proofs.lemmas.Bool.{eqb-true, ne_eqb}
 use Rattle.std.proofs.lemmas.Bool.Decides.{Decides-like, Decides-not, Decides-and, Decides-ltb, Decides-eqb}
 use Rattle.std.proofs.lemmas.List.{length-append}
-use Rattle.std.proofs.lemmas.List.Elements.{All-nil, recursion_from_All}
+use Rattle.std.proofs.lemmas.List.Elements.{All-nil, All-weaker, All-from_recursion, recursion_from_All}
 use Rattle.byteorder.specs.Endian.{big_bytes}
+use Rattle.lsm_codec.specs.declared.superblock.FormatVersion.{FormatVersion}
 use Rattle.lsm_codec.specs.declared.log_record.LogRecord.{LogRecord}
 use Rattle.lsm_codec.specs.declared.table_record.TableRecord.{TableRecord}
 use Rattle.lsm_codec.specs.Keys.{IsBytes}
 use Rattle.lsm_codec.specs.Spelling.{field, padding, IsDecoded}
 use Rattle.lsm_codec.specs.Reading.{front_of}
-use Rattle.lsm_codec.specs.TableRecords.{IsTableRecord, TablesAgree, is_table_record, is_agreeing_table, table_record}
+use Rattle.lsm_codec.specs.TableRecords.{IsTableRecord, IsOfVersion, TablesAgree, is_table_record, is_of_version, is_agreeing_table, table_record}
 use Rattle.lsm_codec.specs.Pairs.{Pairwise}
-use Rattle.lsm_codec.specs.Manifests.{Contents, IsLogRecord, LogsAgree, BeginsAfter, NumbersFit, LogsFit, TablesFit, IsManifest, is_each_two, is_log_record, is_agreeing, is_after, is_numbered, is_logged, is_tabled, is_manifest, log_record, manifest_text, sector_count, manifest_bytes, log_record_at, only_number, header_at, manifest_at, manifest_of}
+use Rattle.lsm_codec.specs.Manifests.{Contents, IsLogRecord, LogsAgree, BeginsAfter, NumbersFit, LogsFit, TablesFit, IsManifest, IsManifestOf, is_each_two, is_log_record, is_agreeing, is_after, is_numbered, is_logged, is_tabled, is_manifest, is_manifest_of, log_record, manifest_text, sector_count, manifest_bytes, log_record_at, only_number, header_at, manifest_at, manifest_of}
 use Rattle.lsm_codec.specs.Formats.{IsFormat}
 use Rattle.lsm_codec.proofs.Limits.{at_most-Decides, is_within-Decides, all-Decides}
 use Rattle.lsm_codec.proofs.Readers.{Reads, number_reads, times_reads, then_reads, made_reads, kept_reads, fits_reads, too_short}
 use Rattle.lsm_codec.proofs.Fields.{there, byte_there, from_place}
 use borrow.Rule.Slice.PartMut.{mid_of}
-use Rattle.lsm_codec.proofs.TableRecordLaws.{TableFits, table_record_reads, table_fits, tables_long, table_record-Decides, agreeing_table-Decides, runs-Decides}
+use Rattle.lsm_codec.proofs.TableRecordLaws.{TableFits, table_record_reads, table_fits, of_version, records_long, table_record-Decides, of_version-Decides, agreeing_table-Decides, runs-Decides}
 use Rattle.lsm_codec.proofs.Decoding.{if_spelled-decodes, decodes-format, one_answer}
 use Rattle.lsm_codec.proofs.Padding.{length-in_sectors, padded_read, padded_refused, padded_unread}
 
@@ -47,7 +48,7 @@ pub no_log : (bytes : List ℕ) → IsBytes bytes → length bytes < 17 → log_
 no_log bytes fits short = too_short log_record_reads 17 (λ r. omega arith) bytes fits short
 
 -- what the fields of a manifest can hold
-pub record FieldsFit (c : Contents) : Type 0 where
+pub record FieldsFit (version : FormatVersion) (c : Contents) : Type 0 where
   pub generation : c.generation < 256 ^ 8
   pub base : c.base < 256 ^ 8
   pub next_table : c.next_table < 256 ^ 8
@@ -55,7 +56,7 @@ pub record FieldsFit (c : Contents) : Type 0 where
   pub logs : length c.logs < 256 ^ 1
   pub tables : length c.tables < 256 ^ 2
   pub each_log : AllByRecursion LogFits c.logs
-  pub each_table : AllByRecursion TableFits c.tables
+  pub each_table : AllByRecursion (TableFits version) c.tables
 
 abbrev Numbers : Type 0
 Numbers = ℕ × (ℕ × (ℕ × (ℕ × (ℕ × (ℕ × ℕ)))))
@@ -95,9 +96,9 @@ header_reads =
 pub no_header : (bytes : List ℕ) → IsBytes bytes → length bytes < 32 → header_at bytes ≡ None
 no_header bytes fits short = too_short header_reads 32 (λ h. omega arith) bytes fits short
 
-pub manifest_reads : Reads manifest_at FieldsFit manifest_text
+pub manifest_reads : (version : FormatVersion) → Reads (manifest_at version) (FieldsFit version) manifest_text
 unfolding manifest_at manifest_text
-manifest_reads =
+manifest_reads version =
     fits_reads
     (λ c f. record { generation = f.0.1.0; base = f.0.1.1.0; next_table = f.0.1.1.1.0; runs = f.0.1.1.1.1.1.0; logs = f.0.1.1.1.1.0; tables = f.0.1.1.1.1.1.1; each_log = f.1.0.1; each_table = f.1.1.1 })
     (λ c f. (((lit< tt, refl), (f.generation, (f.base, (f.next_table, (f.logs, (f.runs, f.tables)))))), ((refl, f.each_log), (refl, f.each_table))))
@@ -106,14 +107,14 @@ manifest_reads =
     (λ c. refl)
     (then_reads
     header_reads
-    (λ h. then_reads (times_reads h.1.1.1.1.0 log_record_reads) (λ l. times_reads h.1.1.1.1.1.1 table_record_reads))))
+    (λ h. then_reads (times_reads h.1.1.1.1.0 log_record_reads) (λ l. times_reads h.1.1.1.1.1.1 (table_record_reads version)))))
 
 log_fits : (g : ℕ) (r : LogRecord) → g ≤ 2 ^ 63 → IsLogRecord g r → LogFits r
 log_fits g r le f = record { region = omega (arith, f.region); epoch = omega (arith, f.epoch_high); first = omega (arith, f.first_high) }
 
 -- a manifest's numbers fit their fields
-pub fields_fit : (c : Contents) → IsManifest c → FieldsFit c
-fields_fit c f = record {
+pub fields_fit : (version : FormatVersion) (c : Contents) → IsManifestOf version c → FieldsFit version c
+fields_fit version c is = let f = is.fits in record {
   generation = omega (arith, f.numbers.generation_high);
   base = omega (arith, f.numbers.base);
   next_table = omega (arith, f.numbers.next_high);
@@ -121,7 +122,7 @@ fields_fit c f = record {
   logs = omega (arith, f.numbers.logs);
   tables = omega (arith, f.numbers.tables);
   each_log = recursion_from_All LogFits c.logs (λ k d lt. log_fits c.generation (get_or c.logs k d) f.numbers.generation_high (f.logs.each k d lt));
-  each_table = recursion_from_All TableFits c.tables (λ k d lt. table_fits c.next_table c.runs (get_or c.tables k d) f.numbers.next_high f.numbers.runs (f.tables.each k d lt));
+  each_table = recursion_from_All (TableFits version) c.tables (λ k d lt. table_fits version c.next_table c.runs (get_or c.tables k d) f.numbers.next_high f.numbers.runs (f.tables.each k d lt) (is.records k d lt));
 }
 
 -- ---- lengths
@@ -130,9 +131,12 @@ logs_long : (logs : List LogRecord) → length (flat_map log_record logs) ≡ 17
 logs_long [] = refl
 logs_long (r ∷ rs) = omega (arith, logs_long rs, length-append (log_record r) (flat_map log_record rs))
 
-pub length-manifest_text : (c : Contents) → length (manifest_text c) ≡ 32 + 17 * length c.logs + 18 * length c.tables
+pub length-manifest_text : (c : Contents) → length (manifest_text c) ≡ 32 + 17 * length c.logs + length (flat_map table_record c.tables)
 unfolding manifest_text
-length-manifest_text c = omega (arith, logs_long c.logs, tables_long c.tables, length-append (flat_map log_record c.logs) (flat_map table_record c.tables))
+length-manifest_text c = omega (arith, logs_long c.logs, length-append (flat_map log_record c.logs) (flat_map table_record c.tables))
+
+pub manifest_text_most : (c : Contents) → length (manifest_text c) ≤ 32 + 17 * length c.logs + 20 * length c.tables
+manifest_text_most c = omega (arith, length-manifest_text c, records_long c.tables)
 
 pub length-manifest_bytes : (c : Contents) → length (manifest_bytes c) ≡ 512 * sector_count c
 unfolding manifest_bytes
@@ -185,33 +189,45 @@ no_tables_fit generation base next logs = record { each = All-nil (IsTableRecord
 pub is_manifest-Decides : (c : Contents) → Decides (is_manifest c) (IsManifest c)
 is_manifest-Decides c = Decides-like (is_manifest c) (λ h. record { numbers = h.0; logs = h.1.0; tables = h.1.1 }) (λ h. (h.numbers, (h.logs, h.tables))) (Decides-and _ _ (numbered-Decides c) (Decides-and _ _ (logged-Decides c) (tabled-Decides c)))
 
+pub is_manifest_of-Decides : (version : FormatVersion) (c : Contents) → Decides (is_manifest_of version c) (IsManifestOf version c)
+is_manifest_of-Decides version c = Decides-like (is_manifest_of version c) (λ h. record { fits = h.0; records = h.1 }) (λ h. (h.fits, h.records))
+    (Decides-and _ _ (is_manifest-Decides c) (all-Decides (is_of_version version) (IsOfVersion version) (of_version-Decides version) c.tables))
+
 -- reading gives back the manifest that was spelled
-pub reads_back : (c : Contents) → IsManifest c → manifest_at (manifest_bytes c) ≡ Some (c, padding (length (manifest_text c)))
+pub reads_back : (version : FormatVersion) (c : Contents) → IsManifestOf version c → manifest_at version (manifest_bytes c) ≡ Some (c, padding (length (manifest_text c)))
 unfolding manifest_bytes
-reads_back c fits = manifest_reads.again c (padding (length (manifest_text c))) (fields_fit c fits)
+reads_back version c fits = (manifest_reads version).again c (padding (length (manifest_text c))) (fields_fit version c fits)
 
-pub manifest_of_exact : (sectors : List ℕ) → IsDecoded IsManifest manifest_bytes sectors (manifest_of sectors)
+pub manifest_of_exact : (version : FormatVersion) (sectors : List ℕ) → IsDecoded (IsManifestOf version) manifest_bytes sectors (manifest_of version sectors)
 unfolding manifest_of
-manifest_of_exact sectors = if_spelled-decodes is_manifest IsManifest is_manifest-Decides manifest_bytes (λ bytes. front_of (manifest_at bytes)) (λ c fits. ap front_of (reads_back c fits)) sectors
+manifest_of_exact version sectors =
+    if_spelled-decodes (is_manifest_of version) (IsManifestOf version) (is_manifest_of-Decides version) manifest_bytes (λ bytes. front_of (manifest_at version bytes)) (λ c fits. ap front_of (reads_back version c fits)) sectors
 
-pub manifest_format : IsFormat IsManifest manifest_bytes (manifest_of)
-manifest_format = decodes-format (manifest_of_exact)
+pub manifest_format : (version : FormatVersion) → IsFormat (IsManifestOf version) manifest_bytes (manifest_of version)
+manifest_format version = decodes-format (manifest_of_exact version)
 
 -- ---- what the reader of whole sectors finds
 
-module _ (bytes : List ℕ) (fits : IsBytes bytes) where
+module _ (version : FormatVersion) (bytes : List ℕ) (fits : IsBytes bytes) where
   -- the bytes behind what was read are bytes of the sectors
-  pub rest_shorter : (c : Contents) (rest : List ℕ) → manifest_at bytes ≡ Some (c, rest) → length rest ≤ length bytes
-  rest_shorter c rest read = let law = manifest_reads.found bytes (c, rest) fits read in omega (arith, ap length law.1, length-append (manifest_text c) rest)
+  pub rest_shorter : (c : Contents) (rest : List ℕ) → manifest_at version bytes ≡ Some (c, rest) → length rest ≤ length bytes
+  rest_shorter c rest read = let law = (manifest_reads version).found bytes (c, rest) fits read in omega (arith, ap length law.1, length-append (manifest_text c) rest)
 
-  pub whole : (c : Contents) (rest : List ℕ) → manifest_at bytes ≡ Some (c, rest) → rest ≡ padding (length bytes - length rest) → IsManifest c → Some c ≡ manifest_of bytes
-  unfolding manifest_bytes
-  whole c rest read zeros is = one_answer (padded_read manifest_reads fields_fit bytes fits c rest read zeros is) (manifest_of_exact bytes)
+  -- the records that were read are of the version
+  records_read : (c : Contents) (rest : List ℕ) → manifest_at version bytes ≡ Some (c, rest) → All (IsOfVersion version) c.tables
+  records_read c rest read =
+      let law = (manifest_reads version).found bytes (c, rest) fits read in
+      All-weaker (TableFits version) (IsOfVersion version) (λ t f. of_version version t.deletes f.deletes) c.tables (All-from_recursion (TableFits version) c.tables law.0.each_table)
 
-  pub not_whole : (c : Contents) (rest : List ℕ) → manifest_at bytes ≡ Some (c, rest) → ((rest ≡ padding (length bytes - length rest)) × IsManifest c → ⊥) → None ≡ manifest_of bytes
+  pub whole : (c : Contents) (rest : List ℕ) → manifest_at version bytes ≡ Some (c, rest) → rest ≡ padding (length bytes - length rest) → IsManifest c → Some c ≡ manifest_of version bytes
   unfolding manifest_bytes
-  not_whole c rest read not = one_answer (padded_refused manifest_reads fields_fit bytes fits c rest read not) (manifest_of_exact bytes)
+  whole c rest read zeros is =
+      one_answer (padded_read (manifest_reads version) (fields_fit version) bytes fits c rest read zeros (record { fits = is; records = records_read c rest read })) (manifest_of_exact version bytes)
 
-  pub unread : manifest_at bytes ≡ None → None ≡ manifest_of bytes
+  pub not_whole : (c : Contents) (rest : List ℕ) → manifest_at version bytes ≡ Some (c, rest) → ((rest ≡ padding (length bytes - length rest)) × IsManifest c → ⊥) → None ≡ manifest_of version bytes
   unfolding manifest_bytes
-  unread none = one_answer (padded_unread manifest_reads fields_fit bytes fits none) (manifest_of_exact bytes)
+  not_whole c rest read not = one_answer (padded_refused (manifest_reads version) (fields_fit version) bytes fits c rest read (λ h. not (h.0, h.1.fits))) (manifest_of_exact version bytes)
+
+  pub unread : manifest_at version bytes ≡ None → None ≡ manifest_of version bytes
+  unfolding manifest_bytes
+  unread none = one_answer (padded_unread (manifest_reads version) (fields_fit version) bytes fits none) (manifest_of_exact version bytes)

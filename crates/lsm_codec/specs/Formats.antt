@@ -6,11 +6,12 @@ use Rattle.lsm_codec.specs.Map.{Operation}
 use Rattle.lsm_codec.specs.BatchText.{IsBatch, text_length, sectors_of, batch_text, batch_of}
 use Rattle.lsm_codec.specs.Superblocks.{IsSuperblock, superblock_sector, superblock_of}
 use Rattle.lsm_codec.specs.LogSectors.{Part, IsPart, log_sector, part_of}
-use Rattle.lsm_codec.specs.Manifests.{Contents, IsManifest, sector_count, manifest_bytes, manifest_of}
+use Rattle.lsm_codec.specs.Manifests.{Contents, IsManifest, IsManifestOf, sector_count, manifest_bytes, manifest_of}
 use Rattle.lsm_codec.specs.Versions.{Version}
 use Rattle.lsm_codec.specs.Entries.{IsDataBlock, data_block, block_of}
 use Rattle.lsm_codec.specs.Indexes.{Edge, IsIndex, index_length, index_count, index_blocks, index_of}
 use Rattle.lsm_codec.specs.Footers.{Summary, IsSummary, footer_block, footer_of}
+use Rattle.lsm_codec.specs.declared.superblock.FormatVersion.{FormatVersion}
 use Rattle.lsm_codec.specs.declared.superblock.Superblock.{Superblock}
 
 -- A spelling is decoded to its value, what is decoded is spelled by the bytes, and a spelling determines its value.
@@ -48,11 +49,11 @@ pub record BatchTextLaws : Type 0 where
   pub sectors_high : (operations : List Operation) → IsBatch operations → sectors_of operations ≤ 128
 
 pub record ManifestLaws : Type 0 where
-  pub format : IsFormat IsManifest manifest_bytes manifest_of
+  pub format : (version : FormatVersion) → IsFormat (IsManifestOf version) manifest_bytes (manifest_of version)
   pub size : (c : Contents) → length (manifest_bytes c) ≡ 512 * sector_count c
   pub bytes : (c : Contents) → IsBytes (manifest_bytes c)
   pub sectors_low : (c : Contents) → 1 ≤ sector_count c
-  pub sectors_high : (c : Contents) → IsManifest c → sector_count c ≤ 64
+  pub sectors_high : (c : Contents) → IsManifest c → sector_count c ≤ 41
 
 pub record DataBlockLaws : Type 0 where
   pub format : IsFormat IsDataBlock data_block block_of

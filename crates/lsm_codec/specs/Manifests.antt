@@ -8,7 +8,8 @@ use Rattle.lsm_codec.specs.Pairs.{Pairwise}
 use Rattle.lsm_codec.specs.Reading.{number_at, then_with, both, made, kept, times, front_of}
 use Rattle.lsm_codec.specs.declared.log_record.LogRecord.{LogRecord}
 use Rattle.lsm_codec.specs.declared.table_record.TableRecord.{TableRecord}
-use Rattle.lsm_codec.specs.TableRecords.{IsTableRecord, TablesAgree, HasRuns, is_table_record, is_agreeing_table, has_runs, table_record, table_record_at}
+use Rattle.lsm_codec.specs.declared.superblock.FormatVersion.{FormatVersion}
+use Rattle.lsm_codec.specs.TableRecords.{IsTableRecord, IsOfVersion, TablesAgree, HasRuns, is_table_record, is_of_version, is_agreeing_table, has_runs, table_record, table_record_at}
 
 -- what a manifest says: every batch up to the base is in the tables, and those after it are in the regions of the log records
 pub record Contents : Type 0 where
@@ -63,6 +64,11 @@ pub record IsManifest (c : Contents) : Type 0 where
   pub logs : LogsFit c
   pub tables : TablesFit c
 
+-- a manifest of this version of the format
+pub record IsManifestOf (version : FormatVersion) (c : Contents) : Type 0 where
+  pub fits : IsManifest c
+  pub records : All (IsOfVersion version) c.tables
+
 -- the same limits, as tests
 abbrev pub is_each_two : {X : Type 0} → (X → X → Bool) → List X → Bool
 is_each_two test [] = true
@@ -89,6 +95,9 @@ is_tabled c = list_all (is_table_record c.next_table c.runs) c.tables && (is_eac
 
 abbrev pub is_manifest : Contents → Bool
 is_manifest c = is_numbered c && (is_logged c && is_tabled c)
+
+abbrev pub is_manifest_of : FormatVersion → Contents → Bool
+is_manifest_of version c = is_manifest c && list_all (is_of_version version) c.tables
 
 -- ---- text
 
@@ -122,11 +131,11 @@ only_number n size = kept (λ m. m == n) (number_at size)
 unfoldable pub header_at : List ℕ → Option ((ℕ × (ℕ × (ℕ × (ℕ × (ℕ × (ℕ × ℕ)))))) × List ℕ)
 header_at = both (only_number 0x4c534d4d 4) (both (number_at 8) (both (number_at 8) (both (number_at 8) (both (number_at 1) (both (number_at 1) (number_at 2))))))
 
-unfoldable pub manifest_at : List ℕ → Option (Contents × List ℕ)
-manifest_at =
+unfoldable pub manifest_at : FormatVersion → List ℕ → Option (Contents × List ℕ)
+manifest_at version =
     made (λ t. record { generation = t.0.1.0; base = t.0.1.1.0; next_table = t.0.1.1.1.0; runs = t.0.1.1.1.1.1.0; logs = t.1.0; tables = t.1.1 })
-    (then_with header_at (λ h. both (times h.1.1.1.1.0 log_record_at) (times h.1.1.1.1.1.1 table_record_at)))
+    (then_with header_at (λ h. both (times h.1.1.1.1.0 log_record_at) (times h.1.1.1.1.1.1 (table_record_at version))))
 
--- the manifest that the bytes of sectors spell, if they spell one
-unfoldable pub manifest_of : List ℕ → Option Contents
-manifest_of sectors = if_spelled is_manifest manifest_bytes sectors (front_of (manifest_at sectors))
+-- the manifest that the bytes of sectors spell in this version, if they spell one
+unfoldable pub manifest_of : FormatVersion → List ℕ → Option Contents
+manifest_of version sectors = if_spelled (is_manifest_of version) manifest_bytes sectors (front_of (manifest_at version sectors))

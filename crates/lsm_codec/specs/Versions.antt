@@ -1,5 +1,5 @@
 -- Versions of keys, and their order.
-use Rattle.std.specs.Prelude.{◌≡◌, ℕ, ◌≤◌, ◌^◌, Bool, false, ◌&&◌, nat_lt, nat_le, List, [], ◌∷◌, length, take, drop, Option, Some, None, if◌then◌else◌}
+use Rattle.std.specs.Prelude.{◌≡◌, ℕ, ◌≤◌, ◌^◌, Bool, false, ◌&&◌, nat_lt, nat_le, List, [], ◌∷◌, length, take, drop, sum_by, Option, Some, None, if◌then◌else◌}
 use Rattle.std.specs.declared.cmp.Ordering.{Ordering}
 use Rattle.std.specs.declared.cmp.Ordering.TheVariants.{Less}
 use Rattle.std.specs.Ordering.{is_eq, nat_cmp, ordering_then}
@@ -37,6 +37,15 @@ newer_of v (Some w) = if nat_lt v.number w.number then w else v
 abbrev pub newest : Bytes → ℕ → List Version → Option Version
 newest key n [] = None
 newest key n (v ∷ rest) = if is_version_of key n v then Some (newer_of v (newest key n rest)) else newest key n rest
+
+-- 1 where the batch deleted the key
+abbrev pub one_if_none : Option Bytes → ℕ
+one_if_none None = 1
+one_if_none (Some value) = 0
+
+-- how many of these versions are deletes
+abbrev pub deletes_in : List Version → ℕ
+deletes_in versions = sum_by (λ v. one_if_none v.value) versions
 
 -- the bytes of a value, none where the key was deleted
 abbrev pub value_length : Option Bytes → ℕ

@@ -8,6 +8,7 @@ use crate::filled::Filled;
 use crate::index::Edge;
 use crate::lending::{batch_number_at, key_at};
 use crate::records::Record;
+use crate::superblock::FormatVersion;
 use std::alloc::{AllocError, Allocator};
 
 #[tactic(auto, unfolding(crate::specs::Indexes::edge_at))]
@@ -21,11 +22,15 @@ fn edge_at(bytes: &[u8]) -> Option<((&[u8], u64), &[u8])>
 }
 
 impl<A: Allocator + Clone> Record<A> for Edge<A> {
-    ghost reading = { edge_at };
+    ghost reading = { λ version. edge_at };
 
     ghost spelling = { edge_text };
 
-    fn read<'b>(alloc: &A, bytes: &'b [u8]) -> Result<Option<(Edge<A>, &'b [u8])>, AllocError> {
+    fn read<'b>(
+        alloc: &A,
+        _version: FormatVersion,
+        bytes: &'b [u8],
+    ) -> Result<Option<(Edge<A>, &'b [u8])>, AllocError> {
         match edge_at(bytes) {
             Some(((key, number), rest)) => {
                 Ok(Some((Edge::new(alloc.clone()?, key, number)?, rest)))

@@ -7,6 +7,7 @@ ghost use Rattle.lsm_codec.specs.Indexes.{IsEdge, IsIndex, index_length, index_b
 
 use crate::key::Key;
 use crate::records::{read_all, write_all};
+use crate::superblock::FormatVersion;
 use crate::whole_units::{is_padding, put_padding};
 use lsm_device::Refusal;
 use std::alloc::{AllocError, Allocator, Global};
@@ -130,7 +131,8 @@ impl<A: Allocator + Clone> Index<A> {
         ensures answer { UnlessNoMemory result (λ index. index ≡ index_of count blocks.now) }
         ensures exact { IsDecoded (IsIndex count) index_blocks blocks.now (index_of count blocks.now) }
     {
-        match read_all::<A, Edge<A>>(&alloc, count, blocks)? {
+        // An edge's text is the same in both versions.
+        match read_all::<A, Edge<A>>(&alloc, FormatVersion::Two, count, blocks)? {
             Some((edges, rest)) => {
                 let text_len = blocks.len() - rest.len();
                 if is_padding(rest, text_len, 4_096) {

@@ -17,7 +17,8 @@ pub fn batch_text_laws()
     ensures { BatchTextLaws }
 {}
 
-/// Each manifest within the limits has one spelling, in 1 to 64 whole sectors.
+/// Each manifest within the limits has one spelling, in 1 to 41 whole sectors, and what sectors spell in a version is of that
+/// version.
 pub fn manifest_laws()
     ensures { ManifestLaws }
 {}

@@ -51,7 +51,7 @@ pub use log_sector::LogSector;
 pub use manifest::Manifest;
 pub use operation::{Op, OpRef};
 pub use operations::Operations;
-pub use superblock::Superblock;
+pub use superblock::{FormatVersion, Superblock};
 pub use table_record::TableRecord;
 pub use value::Value;
 pub use version::VersionRef;

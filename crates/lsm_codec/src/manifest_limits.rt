@@ -2,12 +2,13 @@
 
 ghost use Rattle.std.specs.Prelude.{◌≡◌, ◌≤◌, ◌<◌, ◌-◌, ◌^◌, ◌↔◌, IsTrue};
 ghost use Rattle.std.specs.List.{All};
-ghost use Rattle.lsm_codec.specs.TableRecords.{IsTableRecord};
+ghost use Rattle.lsm_codec.specs.TableRecords.{IsTableRecord, IsOfVersion};
 ghost use Rattle.lsm_codec.specs.Manifests.{BeginsAfter, NumbersFit, LogsFit, TablesFit, IsManifest};
 
 use crate::agree::each_two_agree;
 use crate::log_record::LogRecord;
 use crate::manifest::Manifest;
+use crate::superblock::FormatVersion;
 use crate::table_record::has_each_run;
 use std::alloc::Allocator;
 
@@ -56,6 +57,15 @@ impl<A: Allocator> Manifest<A> {
         self.each_table_fits()
             && each_two_agree(self.tables())
             && has_each_run(self.tables(), self.runs())
+    }
+
+    /// Whether each record of a table is one of this version of the format.
+    pub fn is_of_version(&self, version: FormatVersion) -> bool
+        ensures { IsTrue result ↔ All (IsOfVersion version) self.now.tables }
+    {
+        self.tables()
+            .iter()
+            .all(|table| table.is_of_version(version))
     }
 
     /// Whether the numbers and records are within the limits and in order, and the tables lie apart.

@@ -4,13 +4,14 @@ ghost use Rattle.std.specs.Prelude.{◌≡◌, ◌<◌, ◌≤◌, ◌*◌, ◌^
 ghost use Rattle.lsm_codec.specs.Spelling.{padding, IsDecoded};
 ghost use Rattle.lsm_codec.specs.Reading.{Lends};
 ghost use Rattle.lsm_codec.specs.Answers.{UnlessNoMemory};
-ghost use Rattle.lsm_codec.specs.Manifests.{IsManifest, sector_count, manifest_header, manifest_text, manifest_bytes, header_at, manifest_at, manifest_of};
+ghost use Rattle.lsm_codec.specs.Manifests.{IsManifestOf, sector_count, manifest_header, manifest_text, manifest_bytes, header_at, manifest_at, manifest_of};
 
 use crate::filled::Filled;
 use crate::log_record::{LOG_RECORD_BYTES, LogRecord};
 use crate::manifest::Manifest;
 use crate::records::{read_all, write_all};
-use crate::table_record::{TABLE_RECORD_BYTES, TableRecord};
+use crate::superblock::FormatVersion;
+use crate::table_record::{TableRecord, texts_len};
 use crate::whole_units::{is_padding, put_padding};
 use byteorder::{BigEndian, ByteOrder};
 use lsm_device::Refusal;
@@ -56,18 +57,20 @@ fn header_at(bytes: &[u8]) -> Option<(Header, &[u8])>
 #[tactic(auto, unfolding(crate::specs::Manifests::manifest_at))]
 fn manifest_at<'b, A: Allocator + Clone>(
     alloc: &A,
+    version: FormatVersion,
     bytes: &'b [u8],
 ) -> Result<Option<(Manifest<A>, &'b [u8])>, AllocError>
-    ensures { IfOk result (λ read. Lends (λ x. (x.0, x.1.now)) read (manifest_at bytes.now)) }
+    ensures { IfOk result (λ read. Lends (λ x. (x.0, x.1.now)) read (manifest_at version bytes.now)) }
 {
     let Some((header, rest)) = header_at(bytes) else {
         return Ok(None);
     };
-    let Some((logs, rest)) = read_all::<A, LogRecord>(alloc, header.logs as usize, rest)? else {
+    let logs = header.logs as usize;
+    let Some((logs, rest)) = read_all::<A, LogRecord>(alloc, version, logs, rest)? else {
         return Ok(None);
     };
-    let Some((tables, rest)) = read_all::<A, TableRecord>(alloc, header.tables as usize, rest)?
-    else {
+    let tables = header.tables as usize;
+    let Some((tables, rest)) = read_all::<A, TableRecord>(alloc, version, tables, rest)? else {
         return Ok(None);
     };
     Ok(Some((
@@ -108,13 +111,12 @@ impl<A: Allocator> Manifest<A> {
         ensures low { 1 ≤ result }
         ensures high { result ≤ 64 }
     {
-        let size = HEADER_BYTES
-            + LOG_RECORD_BYTES * self.logs().len()
-            + TABLE_RECORD_BYTES * self.tables().len();
+        let size = HEADER_BYTES + LOG_RECORD_BYTES * self.logs().len() + texts_len(self.tables());
         size.div_ceil(512) as u16
     }
 
-    /// The bytes of the sectors that spell the manifest, 512 for each. Want of memory is `NoMemory`.
+    /// The bytes of the sectors that spell the manifest, 512 for each, in the version of its records. Want of memory is
+    /// `NoMemory`.
     pub fn encode(&self, alloc: A) -> Result<Vec<u8, A>, Refusal>
         requires logs { length self.now.logs < 2 ^ 8 }
         requires tables { length self.now.tables < 2 ^ 16 }
@@ -131,12 +133,17 @@ impl<A: Allocator> Manifest<A> {
 }
 
 impl<A: Allocator + Clone> Manifest<A> {
-    /// The manifest that the bytes of sectors spell, if they spell one within the limits. Want of memory is `NoMemory`.
-    pub fn decode(alloc: A, sectors: &[u8]) -> Result<Option<Manifest<A>>, Refusal>
-        ensures answer { UnlessNoMemory result (λ manifest. manifest ≡ manifest_of sectors.now) }
-        ensures exact { IsDecoded IsManifest manifest_bytes sectors.now (manifest_of sectors.now) }
+    /// The manifest that the bytes of sectors spell in this version, if they spell one within the limits. Want of memory is
+    /// `NoMemory`.
+    pub fn decode(
+        alloc: A,
+        version: FormatVersion,
+        sectors: &[u8],
+    ) -> Result<Option<Manifest<A>>, Refusal>
+        ensures answer { UnlessNoMemory result (λ manifest. manifest ≡ manifest_of version sectors.now) }
+        ensures exact { IsDecoded (IsManifestOf version) manifest_bytes sectors.now (manifest_of version sectors.now) }
     {
-        match manifest_at(&alloc, sectors)? {
+        match manifest_at(&alloc, version, sectors)? {
             Some((manifest, rest)) => {
                 let is_whole = is_padding(rest, sectors.len() - rest.len(), 512);
                 if is_whole && manifest.is_within_limits() {

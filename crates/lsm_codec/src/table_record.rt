@@ -1,16 +1,22 @@
 //! A manifest's record of a table.
 
-ghost use Rattle.std.specs.Prelude.{◌≡◌, ◌↔◌, IsTrue};
-ghost use Rattle.lsm_codec.specs.TableRecords.{extent_blocks, extent_end, runs_in, HasSizes, IsTableRecord, InOrder, AreApart, TablesAgree, IsOfRun, HasRun, HasRuns, table_record, table_record_at};
+ghost use Rattle.std.specs.Prelude.{◌≡◌, ◌≤◌, ◌+◌, ◌*◌, ◌++◌, ◌↔◌, length, IsTrue, IfSome};
+ghost use Rattle.std.specs.List.{flat_map};
+ghost use Rattle.lsm_codec.specs.Reading.{Lends};
+ghost use Rattle.lsm_codec.specs.TableRecords.{extent_blocks, extent_end, runs_in, HasSizes, IsTableRecord, IsOfVersion, InOrder, AreApart, TablesAgree, IsOfRun, HasRun, HasRuns, deletes_text, table_record, deletes_at, table_record_at};
 
 use crate::agree::Agree;
 use crate::filled::Filled;
 use crate::records::Record;
+use crate::superblock::FormatVersion;
 use byteorder::{BigEndian, ByteOrder};
 use std::alloc::{AllocError, Allocator};
 
-/// The bytes of a record's text.
-pub(crate) const TABLE_RECORD_BYTES: usize = 18;
+/// The bytes of a record's text, without the deletes.
+const NUMBERS_BYTES: usize = 18;
+
+/// The bytes of a record's text at most.
+const MOST_BYTES: usize = 20;
 
 /// A table that stands, and where.
 #[derive(Clone, Copy, Debug, PartialEq, Eq)]
@@ -29,6 +35,33 @@ pub struct TableRecord {
     pub index_blocks: u8,
     /// From 1 to 3,200.
     pub entries: u16,
+    /// How many of the entries are deletes. Version 1 of the format doesn't tell it.
+    pub deletes: Option<u16>,
+}
+
+/// The deletes at the front of the bytes, where a record of this version tells them, and the bytes after them.
+fn deletes_at(version: FormatVersion, bytes: &[u8]) -> Option<(Option<u16>, &[u8])>
+    ensures { Lends (λ x. (x.0, x.1.now)) result (deletes_at version bytes.now) }
+{
+    match version {
+        FormatVersion::One => Some((None, bytes)),
+        FormatVersion::Two => {
+            if bytes.len() < 2 {
+                return None;
+            }
+            Some((Some(BigEndian::read_u16(bytes)), &bytes[2..]))
+        }
+    }
+}
+
+/// Writes the deletes at the end, where they are told.
+fn put_deletes(text: &mut Filled<MOST_BYTES>, deletes: Option<u16>)
+    requires { length text.old + 2 ≤ 20 }
+    ensures { text.new ≡ text.old ++ deletes_text deletes }
+{
+    if let Some(deletes) = deletes {
+        text.put_u16(deletes);
+    }
 }
 
 impl<A: Allocator> Record<A> for TableRecord {
@@ -38,11 +71,15 @@ impl<A: Allocator> Record<A> for TableRecord {
 
     fn read<'b>(
         _alloc: &A,
+        version: FormatVersion,
         bytes: &'b [u8],
     ) -> Result<Option<(TableRecord, &'b [u8])>, AllocError> {
-        if bytes.len() < TABLE_RECORD_BYTES {
+        if bytes.len() < NUMBERS_BYTES {
             return Ok(None);
         }
+        let Some((deletes, rest)) = deletes_at(version, &bytes[NUMBERS_BYTES..]) else {
+            return Ok(None);
+        };
         let record = TableRecord {
             number: BigEndian::read_u64(bytes),
             level: bytes[8],
@@ -51,12 +88,13 @@ impl<A: Allocator> Record<A> for TableRecord {
             data_blocks: bytes[14],
             index_blocks: bytes[15],
             entries: BigEndian::read_u16(&bytes[16..]),
+            deletes,
         };
-        Ok(Some((record, &bytes[TABLE_RECORD_BYTES..])))
+        Ok(Some((record, rest)))
     }
 
     fn write(&self, out: &mut Vec<u8, A>) -> Result<(), AllocError> {
-        let mut text = Filled::<TABLE_RECORD_BYTES>::new();
+        let mut text = Filled::<MOST_BYTES>::new();
         text.put_u64(self.number);
         text.put_u8(self.level);
         text.put_u8(self.run);
@@ -64,6 +102,7 @@ impl<A: Allocator> Record<A> for TableRecord {
         text.put_u8(self.data_blocks);
         text.put_u8(self.index_blocks);
         text.put_u16(self.entries);
+        put_deletes(&mut text, self.deletes);
         out.extend_from_slice(text.text())?;
         Ok(())
     }
@@ -91,12 +130,44 @@ impl TableRecord {
         self.first_block as u64 + self.extent_blocks() as u64
     }
 
+    /// Whether the record is one of this version of the format.
+    pub(crate) fn is_of_version(&self, version: FormatVersion) -> bool
+        ensures { IsTrue result ↔ IsOfVersion version self.now }
+    {
+        match version {
+            FormatVersion::One => self.deletes.is_none(),
+            FormatVersion::Two => self.deletes.is_some(),
+        }
+    }
+
+    /// The bytes of the record's text.
+    fn text_len(&self) -> usize
+        ensures all { result ≡ length (table_record self.now) }
+        ensures few { result ≤ 20 }
+    {
+        match self.deletes {
+            Some(_deletes) => MOST_BYTES,
+            None => NUMBERS_BYTES,
+        }
+    }
+
+    /// Whether the deletes are at most the entries, where they are told.
+    fn has_deletes_among(&self) -> bool
+        ensures { IsTrue result ↔ IfSome self.now.deletes (λ deletes. deletes ≤ self.now.entries) }
+    {
+        match self.deletes {
+            Some(deletes) => deletes <= self.entries,
+            None => true,
+        }
+    }
+
     fn has_sizes(&self) -> bool
         ensures { IsTrue result ↔ HasSizes self.now }
     {
         (1..=64).contains(&self.data_blocks)
             && (1..=5).contains(&self.index_blocks)
             && (1..=3_200).contains(&self.entries)
+            && self.has_deletes_among()
     }
 
     /// Whether the record is within its own limits, where the next table has this number and level 0 so many runs.
@@ -136,6 +207,19 @@ impl Agree for TableRecord {
     fn agrees_with(&self, later: &TableRecord) -> bool {
         self.number != later.number && self.is_before(later) && self.is_apart_from(later)
     }
+}
+
+/// The bytes of the texts of at most 1,024 records.
+pub(crate) fn texts_len(tables: &[TableRecord]) -> usize
+    requires { length tables.now ≤ 1024 }
+    ensures all { result ≡ length (flat_map table_record tables.now) }
+    ensures few { result ≤ 20 * length tables.now }
+{
+    let mut len = 0;
+    for table in tables {
+        len += table.text_len();
+    }
+    len
 }
 
 fn has_run(tables: &[TableRecord], run: u8) -> bool

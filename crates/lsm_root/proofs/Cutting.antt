@@ -1,8 +1,6 @@
 -- A text is cut into sectors, and joined again.
 use Rattle.std.proofs.Common.{◌≡◌, ◌≤◌, ℕ, zero, suc, ◌*◌, List, [], ◌++◌, length, take, drop, refl, sym, ◌∙◌, ap, arith}
 use Rattle.std.proofs.lemmas.List.{length-drop, take-append-drop, nil_from_length}
-use Rattle.lsm_codec.specs.Manifests.{Contents, IsManifest, sector_count}
-use Rattle.lsm_codec.proofs.ManifestLaws.{length-manifest_text}
 use Rattle.lsm_root.specs.Pieces.{pieces, joined}
 pub use Rattle.lsm_device.proofs.Pieces.{length-pieces}
 use Rattle.std.specs.List.{concat}
@@ -15,7 +13,3 @@ joined-pieces (suc n) text is = ap (λ (l : List ℕ). take 512 text ++ l) (join
 pub joined-concat : (sectors : List (List ℕ)) → concat sectors ≡ joined sectors
 joined-concat [] = refl
 joined-concat (s ∷ rest) = ap (λ (l : List ℕ). s ++ l) (joined-concat rest)
-
--- a manifest takes at most 37 sectors
-pub few_sectors : (c : Contents) → IsManifest c → sector_count c ≤ 37
-few_sectors c fits = omega (arith, length-manifest_text c, fits.numbers.logs, fits.numbers.tables)

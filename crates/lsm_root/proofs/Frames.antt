@@ -3,6 +3,8 @@ use Rattle.std.proofs.Common.{◌≡◌, ◌⊎◌, inl, inr, ⊎_elim, ℕ, ◌
 use Rattle.std.proofs.lemmas.List.{get_or-take, take-take, drop-take, drop-drop, get_or-set_same, get_or-set_other, length-set, take-set-le, drop-set-lt, drop_at, take_at, length-take-le}
 use Rattle.std.proofs.lemmas.List.Elements.{All-nil, All-head, All-tail, All-append, All-weaker}
 use Rattle.std.proofs.lemmas.Bool.{eq-eqb, cond-true, cond-false, le-ltb, cases_lt}
+use Rattle.lsm_codec.specs.declared.superblock.FormatVersion.{FormatVersion}
+use Rattle.lsm_codec.specs.declared.superblock.FormatVersion.TheVariants.{Two}
 use Rattle.lsm_codec.specs.declared.superblock.Superblock.{Superblock}
 use Rattle.lsm_codec.specs.Superblocks.{IsSuperblock, superblock_sector}
 use Rattle.lsm_codec.specs.Manifests.{Contents}
@@ -67,8 +69,8 @@ by_same : (r : Reading) (c e : Image) → length c ≡ length e → ((s : Superb
 by_same Blank c e long text = refl
 by_same Broken c e long text = refl
 by_same (Names s) c e long text =
-    ap (λ (n : ℕ). cond (s.sectors == n) (root_with s (manifest_of (text_in s c))) OtherSize) long
-    ∙ ap (λ (l : List ℕ). cond (s.sectors == length e) (root_with s (manifest_of l)) OtherSize) (text s refl)
+    ap (λ (n : ℕ). cond (s.sectors == n) (root_with s (manifest_of s.version (text_in s c))) OtherSize) long
+    ∙ ap (λ (l : List ℕ). cond (s.sectors == length e) (root_with s (manifest_of s.version l)) OtherSize) (text s refl)
 
 text_same : (s : Superblock) (c e : Image) → IsSuperblock s → area (place s.generation) 64 c ≡ area (place s.generation) 64 e → text_in s c ≡ text_in s e
 text_same s c e fits same =
@@ -172,38 +174,38 @@ run_stands e at sectors fits =
     ∙ take_at sectors (drop (at + length sectors) e) (length sectors) refl
 
 -- the superblock's sector, once it is written
-module _ (c : Image) (new : Superblock) (fits : IsSuperblock new) (sized : length c ≡ new.sectors) where
+module _ (c : Image) (new : Superblock) (fits : IsSuperblock new) (two : new.version ≡ Two) (sized : length c ≡ new.sectors) where
   switched : Image
   switched = set c (new.generation % 2) (superblock_sector new)
 
   pub switch_behind : behind (set c (new.generation % 2) (superblock_sector new)) ≡ behind c
   switch_behind = drop-set-lt 130 c (new.generation % 2) (superblock_sector new) (omega arith)
 
-  counts : IsNext new.sectors new.log_sectors new.generation (superblock_in c) → superblock_in (set c (new.generation % 2) (superblock_sector new)) ≡ Names new
+  pub counts : IsNext new.sectors new.log_sectors new.generation (superblock_in c) → superblock_in (set c (new.generation % 2) (superblock_sector new)) ≡ Names new
   counts next = ⊎_elim
       (λ (even : new.generation % 2 ≡ 0). let zeroth : sector_at (set c (new.generation % 2) (superblock_sector new)) 0 ≡ superblock_sector new = ap (λ (i : ℕ). sector_at (set c i (superblock_sector new)) 0) even ∙ get_or-set_same c 0 (superblock_sector new) [] (omega (arith, sized, fits.sectors_low)) in
       let first : sector_at (set c (new.generation % 2) (superblock_sector new)) 1 ≡ sector_at c 1 = ap (λ (i : ℕ). sector_at (set c i (superblock_sector new)) 1) even ∙ get_or-set_other c 0 1 (superblock_sector new) [] (omega arith) in
       ap (λ (s : List ℕ). newer (in_slot 0 (reading_of s)) (in_slot 1 (reading_of (sector_at (set c (new.generation % 2) (superblock_sector new)) 1)))) zeroth
       ∙ ap (λ (s : List ℕ). newer (in_slot 0 (reading_of (superblock_sector new))) (in_slot 1 (reading_of s))) first
       ∙ ap (λ (r : Reading). newer r (in_slot 1 (reading_of (sector_at c 1)))) (spelled_in_slot 0 new fits even)
-      ∙ even_switch new.sectors new.log_sectors new refl refl (in_slot 0 (reading_of (sector_at c 0))) (in_slot 1 (reading_of (sector_at c 1))) (placed 0 (sector_at c 0)) next even)
+      ∙ even_switch new.sectors new.log_sectors new refl refl two (in_slot 0 (reading_of (sector_at c 0))) (in_slot 1 (reading_of (sector_at c 1))) (placed 0 (sector_at c 0)) next even)
       (λ (odd : new.generation % 2 ≡ 1). let zeroth : sector_at (set c (new.generation % 2) (superblock_sector new)) 0 ≡ sector_at c 0 = ap (λ (i : ℕ). sector_at (set c i (superblock_sector new)) 0) odd ∙ get_or-set_other c 1 0 (superblock_sector new) [] (omega arith) in
       let first : sector_at (set c (new.generation % 2) (superblock_sector new)) 1 ≡ superblock_sector new = ap (λ (i : ℕ). sector_at (set c i (superblock_sector new)) 1) odd ∙ get_or-set_same c 1 (superblock_sector new) [] (omega (arith, sized, fits.sectors_low)) in
       ap (λ (s : List ℕ). newer (in_slot 0 (reading_of s)) (in_slot 1 (reading_of (sector_at (set c (new.generation % 2) (superblock_sector new)) 1)))) zeroth
       ∙ ap (λ (s : List ℕ). newer (in_slot 0 (reading_of (sector_at c 0))) (in_slot 1 (reading_of s))) first
       ∙ ap (λ (r : Reading). newer (in_slot 0 (reading_of (sector_at c 0))) r) (spelled_in_slot 1 new fits odd)
-      ∙ odd_switch new.sectors new.log_sectors new refl refl (in_slot 0 (reading_of (sector_at c 0))) (in_slot 1 (reading_of (sector_at c 1))) (placed 1 (sector_at c 1)) next odd)
+      ∙ odd_switch new.sectors new.log_sectors new refl refl two (in_slot 0 (reading_of (sector_at c 0))) (in_slot 1 (reading_of (sector_at c 1))) (placed 1 (sector_at c 1)) next odd)
       (parity new.generation)
 
   -- the root is then what the area of its generation says
-  pub switch_names : IsNext new.sectors new.log_sectors new.generation (superblock_in c) → root_of (set c (new.generation % 2) (superblock_sector new)) ≡ root_with new (manifest_of (text_in new c))
+  pub switch_names : IsNext new.sectors new.log_sectors new.generation (superblock_in c) → root_of (set c (new.generation % 2) (superblock_sector new)) ≡ root_with new (manifest_of new.version (text_in new c))
   switch_names next =
       root_whole (set c (new.generation % 2) (superblock_sector new)) (omega (arith, length-set c (new.generation % 2) (superblock_sector new), sized, fits.sectors_low))
       ∙ ap (λ (r : Reading). root_by r (set c (new.generation % 2) (superblock_sector new))) (counts next)
       ∙ cond-true (new.sectors == length (set c (new.generation % 2) (superblock_sector new))) _ OtherSize (eq-eqb _ _ (sym (length-set c (new.generation % 2) (superblock_sector new) ∙ sized)))
-      ∙ ap (λ (l : Image). root_with new (manifest_of (joined (take new.manifest_sectors l)))) (drop-set-lt (place new.generation) c (new.generation % 2) (superblock_sector new) (omega arith))
+      ∙ ap (λ (l : Image). root_with new (manifest_of new.version (joined (take new.manifest_sectors l)))) (drop-set-lt (place new.generation) c (new.generation % 2) (superblock_sector new) (omega arith))
 
-  pub switch_root : (m : Contents) → IsNext new.sectors new.log_sectors new.generation (superblock_in c) → manifest_of (text_in new c) ≡ Some m → m.generation ≡ new.generation → LieInside new.sectors new.log_sectors m.tables
+  pub switch_root : (m : Contents) → IsNext new.sectors new.log_sectors new.generation (superblock_in c) → manifest_of new.version (text_in new c) ≡ Some m → m.generation ≡ new.generation → LieInside new.sectors new.log_sectors m.tables
       → root_of (set c (new.generation % 2) (superblock_sector new)) ≡ Stands new.log_sectors m
   switch_root m next reads same inside =
       switch_names next

@@ -53,10 +53,10 @@ module _ (image : List (List ℕ)) (s : Superblock) (large : 2 ≤ length image)
   pub other_size : (size : ℕ) → length image ≡ size → (s.sectors ≡ size → ⊥) → root_of image ≡ OtherSize
   other_size size is other = root_whole image large ∙ ap (λ (r : Reading). root_by r image) names ∙ cond-false (s.sectors == length image) _ OtherSize (ne_eqb s.sectors (length image) (λ e. other (e ∙ is)))
 
-  pub root_is : (size : ℕ) (text : List ℕ) → length image ≡ size → s.sectors ≡ size → text ≡ text_in s image → root_of image ≡ root_with s (manifest_of text)
+  pub root_is : (size : ℕ) (text : List ℕ) → length image ≡ size → s.sectors ≡ size → text ≡ text_in s image → root_of image ≡ root_with s (manifest_of s.version text)
   root_is size text is same reads =
       root_whole image large ∙ ap (λ (r : Reading). root_by r image) names ∙ cond-true (s.sectors == length image) _ OtherSize (eq-eqb s.sectors (length image) (same ∙ sym is))
-      ∙ ap (λ (l : List ℕ). root_with s (manifest_of l)) (sym reads)
+      ∙ ap (λ (l : List ℕ). root_with s (manifest_of s.version l)) (sym reads)
 
 -- what the text says
 pub root_with-some : (s : Superblock) (m : Contents) (read : Option Contents) → read ≡ Some m → m.generation ≡ s.generation → LieInside s.sectors s.log_sectors m.tables → root_with s read ≡ Stands s.log_sectors m

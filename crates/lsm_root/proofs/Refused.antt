@@ -38,7 +38,7 @@ kept_none (w ∷ ws) vs mask = kept_none ws vs mask
 
 -- The superblock pends beside the manifest: a crash may keep it alone, and then it names what stood in its area.
 module _ {start : Disk} {new : Superblock} {text : List ℕ} {m : Contents} (can : CanInstall start new text m) (log : ℕ) (old : Contents) (stood : root_of (seen start) ≡ Stands log old)
-    (other : manifest_of (text_in new (seen start)) ≡ Some m → ⊥) where
+    (other : manifest_of new.version (text_in new (seen start)) ≡ Some m → ⊥) where
   flipped_alone : List (List ℕ)
   flipped_alone = set (seen start) (new.generation % 2) (superblock_sector new)
 
@@ -60,7 +60,7 @@ module _ {start : Disk} {new : Superblock} {text : List ℕ} {m : Contents} (can
       ∙ ap (λ (b : List Bool). written (image (all ++ rest) start) (kept b (run ++ last))) (drop_at all rest (length start.pending) (length-replicate (length start.pending) true))
       ∙ ap (λ (ws : List Write). written (image (all ++ rest) start) ws) (kept_none run last (true ∷ []))
       ∙ ap (λ (l : List (List ℕ)). written l last) before in
-      let root : root_of (set (seen start) (new.generation % 2) (superblock_sector new)) ≡ root_with new (manifest_of (text_in new (seen start))) = switch_names (seen start) new can.fits long can.next in
+      let root : root_of (set (seen start) (new.generation % 2) (superblock_sector new)) ≡ root_with new (manifest_of new.version (text_in new (seen start))) = switch_names (seen start) new can.fits can.version long can.next in
       ⊎_elim
       (λ (is : IsOld start (set (seen start) (new.generation % 2) (superblock_sector new))). absurd (omega (arith, older, (with_found new log old _ (sym root ∙ is.root ∙ stood)).1)))
       (λ (is : IsNew start (Stands new.log_sectors m) (set (seen start) (new.generation % 2) (superblock_sector new))). other (with_found new new.log_sectors m _ (sym root ∙ is.root)).0)

@@ -1,6 +1,8 @@
 -- What a crash may leave at each step of an installation.
 use Rattle.std.proofs.Common.{◌≡◌, inl, inr, ⊎_elim, ℕ, ◌+◌, ◌*◌, ◌%◌, ◌≤◌, Bool, true, List, [], ◌∷◌, length, take, drop, set, replicate, All, Some, refl, sym, ◌∙◌, ap, subst, arith}
 use Rattle.std.proofs.lemmas.List.Elements.{All-nil, All-cons, All-take, All-weaker}
+use Rattle.lsm_codec.specs.declared.superblock.FormatVersion.{FormatVersion}
+use Rattle.lsm_codec.specs.declared.superblock.FormatVersion.TheVariants.{Two}
 use Rattle.lsm_codec.specs.declared.superblock.Superblock.{Superblock}
 use Rattle.lsm_codec.specs.Superblocks.{IsSuperblock, superblock_sector}
 use Rattle.lsm_device.specs.Areas.{disk_in, IsOutside}
@@ -16,12 +18,12 @@ use Rattle.lsm_codec.proofs.FormatLaws.{manifest_laws_hold}
 use Rattle.lsm_root.specs.Pieces.{pieces, joined}
 use Rattle.lsm_root.specs.Layout.{LieInside, place}
 use Rattle.lsm_root.specs.Planned.{Planned, contents_in, planned, IsPrepared}
-use Rattle.lsm_root.specs.Roots.{superblock_in, Root, Stands}
+use Rattle.lsm_root.specs.Roots.{IsInVersion, superblock_in, Root, Stands}
 use Rattle.lsm_root.specs.Installed.{IsNext, IsSettled, IsReady, IsOld, IsNew, IsOldOrNew, IsInstalled, KeepsBehind, IsStage}
 use Rattle.lsm_codec.specs.Manifests.{Contents, manifest_of}
 use Rattle.lsm_root.proofs.Cutting.{length-pieces, joined-pieces}
 use Rattle.lsm_root.proofs.Preparing.{fills}
-use Rattle.lsm_root.proofs.Frames.{Image, InArea, same_length, superblock_stays, behind_stays, root_stays, root_of_outcome, superblock_of_outcome, run_stands, switch_behind, switch_root}
+use Rattle.lsm_root.proofs.Frames.{Image, InArea, same_length, superblock_stays, behind_stays, root_stays, root_of_outcome, superblock_of_outcome, run_stands, counts, switch_behind, switch_root}
 
 -- what an installation asks of the disk, the manifest's text and the superblock
 pub record CanInstall (start : Disk) (new : Superblock) (text : List ℕ) (m : Contents) : Type 0 where
@@ -30,7 +32,8 @@ pub record CanInstall (start : Disk) (new : Superblock) (text : List ℕ) (m : C
   pub next : IsNext new.sectors new.log_sectors new.generation (superblock_in (seen start))
   pub fits : IsSuperblock new
   pub whole : length text ≡ 512 * new.manifest_sectors
-  pub reads : manifest_of text ≡ Some m
+  pub version : new.version ≡ Two
+  pub reads : manifest_of new.version text ≡ Some m
   pub generation : m.generation ≡ new.generation
   pub inside : LieInside new.sectors new.log_sectors m.tables
 
@@ -69,14 +72,18 @@ module _ {start : Disk} {new : Superblock} {text : List ℕ} {m : Contents} (can
       ∙ ap joined (run_stands (seen start) (place new.generation) sectors (omega (arith, same_length start.stands start.pending, can.sized, length-pieces new.manifest_sectors text, can.fits.manifest_high, can.fits.sectors_low)))
       ∙ joined-pieces new.manifest_sectors text can.whole
 
+  still_next : IsNext new.sectors new.log_sectors new.generation (superblock_in (written (seen start) (run_of new text)))
+  still_next = subst (IsNext new.sectors new.log_sectors new.generation) (sym (superblock_stays new.generation (seen start) (run_of new text) inside)) can.next
+
   flipped_new : IsNew start (Stands new.log_sectors m) (set (written (seen start) (run_of new text)) (new.generation % 2) (superblock_sector new))
   flipped_new = record {
-    root = switch_root (written (seen start) (run_of new text)) new can.fits long m
-        (subst (IsNext new.sectors new.log_sectors new.generation) (sym (superblock_stays new.generation (seen start) (run_of new text) inside)) can.next)
-        (ap manifest_of text_stands ∙ can.reads)
+    root = switch_root (written (seen start) (run_of new text)) new can.fits can.version long m
+        still_next
+        (ap (manifest_of new.version) text_stands ∙ can.reads)
         can.generation
         can.inside;
-    all = switch_behind (written (seen start) (run_of new text)) new can.fits long ∙ behind_stays new.generation (seen start) (run_of new text) inside;
+    version = subst (IsInVersion Two) (sym (counts (written (seen start) (run_of new text)) new can.fits can.version long still_next)) can.version;
+    all = switch_behind (written (seen start) (run_of new text)) new can.fits can.version long ∙ behind_stays new.generation (seen start) (run_of new text) inside;
   }
 
   readied : seen (grown (run_of new text) start) ≡ written (seen start) (run_of new text)
@@ -154,7 +161,8 @@ can_install size d s text long same ready is = record {
   next = subst (λ (n : ℕ). IsNext n s.log_sectors s.generation (superblock_in (seen d))) same (subst (λ (n : ℕ). IsNext size s.log_sectors n (superblock_in (seen d))) is.generation ready.next);
   fits = is.superblock;
   whole = fills s text is;
-  reads = ap manifest_of is.spelled ∙ manifest_laws_hold.format.decoded (contents_in text) is.manifest;
+  version = is.version;
+  reads = ap (λ (v : FormatVersion). manifest_of v text) is.version ∙ ap (manifest_of Two) is.spelled ∙ (manifest_laws_hold.format Two).decoded (contents_in text) is.manifest;
   generation = is.generation;
   inside = is.inside;
 }

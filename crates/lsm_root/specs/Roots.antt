@@ -1,7 +1,9 @@
 -- The root of a store: what its superblocks and the manifest that they name say.
-use Rattle.std.specs.Prelude.{ℕ, ◌+◌, ◌%◌, Bool, ◌&&◌, ◌==◌, nat_le, nat_lt, List, [], length, slice_index_or, Option, Some, None, if◌then◌else◌}
+use Rattle.std.specs.Prelude.{◌≡◌, ℕ, ◌+◌, ◌%◌, Bool, true, false, ◌&&◌, ◌==◌, nat_le, nat_lt, List, [], length, slice_index_or, Option, Some, None, if◌then◌else◌}
 use Rattle.std.specs.List.{list_all}
 use Rattle.std.specs.Str.{bytes_eq}
+use Rattle.lsm_codec.specs.declared.superblock.FormatVersion.{FormatVersion}
+use Rattle.lsm_codec.specs.declared.superblock.FormatVersion.TheVariants.{One, Two}
 use Rattle.lsm_codec.specs.declared.superblock.Superblock.{Superblock}
 use Rattle.lsm_codec.specs.declared.table_record.TableRecord.{TableRecord}
 use Rattle.lsm_codec.specs.Geometry.{data_blocks_of}
@@ -33,9 +35,15 @@ in_slot slot Blank = Blank
 in_slot slot Broken = Broken
 in_slot slot (Names s) = if s.generation % 2 == slot then Names s else Broken
 
--- the second follows the first: one generation more, of the same sizes
+-- whether a version may come after another: version 1 doesn't come after version 2
+abbrev pub may_follow : FormatVersion → FormatVersion → Bool
+may_follow One later = true
+may_follow Two One = false
+may_follow Two Two = true
+
+-- the second follows the first: one generation more, of the same sizes, in a version that may come after
 abbrev pub follows : Superblock → Superblock → Bool
-follows s t = (t.generation == s.generation + 1) && ((t.sectors == s.sectors) && (t.log_sectors == s.log_sectors))
+follows s t = (t.generation == s.generation + 1) && ((t.sectors == s.sectors) && ((t.log_sectors == s.log_sectors) && may_follow s.version t.version))
 
 -- the superblock that counts: a lone one, or that of the greater generation
 abbrev pub newer : Reading → Reading → Reading
@@ -44,6 +52,12 @@ newer Broken b = Broken
 newer (Names s) Blank = Names s
 newer (Names s) Broken = Broken
 newer (Names s) (Names t) = if follows t s then Names s else (if follows s t then Names t else Broken)
+
+-- the superblock that counts is of this version
+abbrev pub IsInVersion : FormatVersion → Reading → Type 0
+IsInVersion version Blank = ⊥
+IsInVersion version Broken = ⊥
+IsInVersion version (Names s) = s.version ≡ version
 
 abbrev pub sector_at : List (List ℕ) → ℕ → List ℕ
 sector_at image at = slice_index_or image at []
@@ -83,7 +97,7 @@ root_with s (Some c) = if may_name s c then Stands s.log_sectors c else Unreadab
 abbrev pub root_by : Reading → List (List ℕ) → Root
 root_by Blank image = Missing
 root_by Broken image = Damaged
-root_by (Names s) image = if s.sectors == length image then root_with s (manifest_of (text_in s image)) else OtherSize
+root_by (Names s) image = if s.sectors == length image then root_with s (manifest_of s.version (text_in s image)) else OtherSize
 
 abbrev pub root_of : List (List ℕ) → Root
 root_of image = if nat_lt (length image) 2 then OtherSize else root_by (superblock_in image) image

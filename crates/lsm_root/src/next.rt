@@ -1,6 +1,7 @@
 // The next root is prepared, and then written.
 ghost use Rattle.std.specs.Prelude.{◌≡◌, ◌⊎◌, ◌↔◌, ◌<◌, ◌≤◌, ◌^◌, ◌+◌, IsTrue, IfOk, OnOk, OnErr, IfErr, Err, is_ok};
-ghost use Rattle.lsm_codec.specs.Manifests.{IsManifest, sector_count};
+ghost use Rattle.lsm_codec.specs.Manifests.{IsManifestOf, sector_count};
+ghost use Rattle.lsm_codec.specs.declared.superblock.FormatVersion.TheVariants.{Two};
 ghost use Rattle.lsm_device.specs.Calls.{faults_after, AtMost};
 ghost use Rattle.lsm_device.specs.History.{EachSince};
 ghost use Rattle.lsm_device.specs.Disk.{seen};
@@ -13,14 +14,14 @@ ghost use Rattle.lsm_root.specs.Layout.{IsGeometry, LieInside};
 ghost use Rattle.lsm_root.specs.Roots.{Stands};
 
 use crate::writer::switch;
-use lsm_codec::{Manifest, Superblock};
+use lsm_codec::{FormatVersion, Manifest, Superblock};
 use lsm_device::{Device, Fault, Refusal};
 use std::alloc::{Allocator, Global};
 use std::marker::Model;
 
 const LAST_GENERATION: u64 = 1 << 63;
 
-/// The root of the next generation, with all that is to be written of it. Contracts see the size of the device, LOG and
+/// The root of the next generation, with all that is to be written of it, in version 2 of the format. Contracts see the size of the device, LOG and
 /// what the manifest says.
 #[derive(Drop)]
 pub struct NextRoot<A: Allocator = Global> {
@@ -40,7 +41,7 @@ impl<A: Allocator> Model for NextRoot<A> {
 
 impl<A: Allocator> NextRoot<A> {
     /// Takes all memory that the installation of the manifest's root needs, for a device of so many sectors. Up to generation
-    /// 2^63 the manifest is within its limits, and its tables lie in the data area. No device is called. `Exhausted` just
+    /// 2^63 the manifest is within its limits, each record tells the deletes of its table, and the tables lie in the data area. No device is called. `Exhausted` just
     /// where the generation is above 2^63; else only want of memory refuses, with `NoMemory`.
     pub fn prepare(
         alloc: A,
@@ -49,7 +50,7 @@ impl<A: Allocator> NextRoot<A> {
         manifest: &Manifest<A>,
     ) -> Result<NextRoot<A>, Refusal>
         requires geometry { IsGeometry sectors log_sectors }
-        requires valid { manifest.now.generation ≤ 2 ^ 63 → IsManifest manifest.now }
+        requires valid { manifest.now.generation ≤ 2 ^ 63 → IsManifestOf Two manifest.now }
         requires inside { manifest.now.generation ≤ 2 ^ 63 → LieInside sectors log_sectors manifest.now.tables }
         ensures prepared { IfOk result (λ next. next ≡ record { size = sectors; log = log_sectors; manifest = manifest.now }) }
         ensures exhausted { (result ≡ Err Refusal.Exhausted) ↔ (2 ^ 63 < manifest.now.generation) }
@@ -61,6 +62,7 @@ impl<A: Allocator> NextRoot<A> {
         }
         let text = manifest.encode(alloc)?;
         let superblock = Superblock {
+            version: FormatVersion::Two,
             generation,
             sectors,
             log_sectors,
@@ -69,8 +71,9 @@ impl<A: Allocator> NextRoot<A> {
         Ok(NextRoot { superblock, text })
     }
 
-    /// Replaces the device's root by this one: the manifest's sectors, which are at most 37, a sync, the superblock, a sync.
-    /// A crash at any moment leaves the old root or this one, where its generation comes next. It takes no memory.
+    /// Replaces the device's root by this one: the manifest's sectors, which are at most 41, a sync, the superblock, a sync.
+    /// A crash at any moment leaves the old root, which may be of version 1, or this one, where its generation comes next. It
+    /// takes no memory.
     pub fn install<D: Device>(&self, device: &mut D) -> Result<(), Fault>
         requires same_device { (D.medium device.old).size ≡ self.now.size }
 
@@ -93,7 +96,7 @@ impl<A: Allocator> NextRoot<A> {
         // The next generation may be installed.
         ensures next { IsTrue (D.medium device.old).lasting.tells → IsReady (D.medium device.old).size self.now.log self.now.manifest.generation (disk (D.medium device.old)) → OnOk result
             (IsReady (D.medium device.new).size self.now.log (self.now.manifest.generation + 1) (disk (D.medium device.new))) }
-        ensures counts { AtMost 0 38 2 (D.medium device.old).calls (D.medium device.new).calls }
+        ensures counts { AtMost 0 42 2 (D.medium device.old).calls (D.medium device.new).calls }
         ensures made { OnOk result (CallsMade (sector_count self.now.manifest + 1) 2 (D.medium device.old).calls (D.medium device.new).calls) }
         ensures faults { (D.medium device.new).calls.faults ≡ faults_after (is_ok result) (D.medium device.old).calls.faults }
         ensures stops { OnErr result (IsTrue (D.medium device.new).calls.last_faulted) }
@@ -123,7 +126,7 @@ pub fn install<A: Allocator, D: Device>(
 ) -> Result<(), Refusal>
     requires geometry { IsGeometry (D.medium device.old).size log_sectors }
     requires ready { IsTrue (D.medium device.old).lasting.tells → IsReady (D.medium device.old).size log_sectors manifest.now.generation (disk (D.medium device.old)) }
-    requires valid { manifest.now.generation ≤ 2 ^ 63 → IsManifest manifest.now }
+    requires valid { manifest.now.generation ≤ 2 ^ 63 → IsManifestOf Two manifest.now }
     requires inside { manifest.now.generation ≤ 2 ^ 63 → LieInside (D.medium device.old).size log_sectors manifest.now.tables }
 
     // A crash at any moment leaves the old root, and behind it what a crash may have left when the call began, or the
@@ -146,7 +149,7 @@ pub fn install<A: Allocator, D: Device>(
 
     // Unless a call of it failed, the device wasn't called.
     ensures untouched { IfErr result (λ refusal. IsTrue (is_no_fault refusal) → device.new ≡ device.old) }
-    ensures counts { AtMost 0 38 2 (D.medium device.old).calls (D.medium device.new).calls }
+    ensures counts { AtMost 0 42 2 (D.medium device.old).calls (D.medium device.new).calls }
     ensures made { OnOk result (CallsMade (sector_count manifest.now + 1) 2 (D.medium device.old).calls (D.medium device.new).calls) }
     ensures faults { (D.medium device.new).calls.faults ≡ faults_after (faultless result) (D.medium device.old).calls.faults }
     ensures stops { IfErr result (λ refusal. refusal ≡ Refusal.Io → IsTrue (D.medium device.new).calls.last_faulted) }

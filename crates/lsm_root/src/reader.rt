@@ -11,11 +11,11 @@ ghost use Rattle.lsm_root.specs.Layout.{IsGeometry, LieInside};
 ghost use Rattle.lsm_root.specs.Loaded.{Tells, TellsSuperblock, TellsCounted, TellsManifest, Reads, refusal_of};
 ghost use Rattle.lsm_root.specs.Installed.{IsNext};
 ghost use Rattle.lsm_root.specs.Pieces.{joined};
-ghost use Rattle.lsm_root.specs.Roots.{Root, Names, reading_of, in_slot, follows, newer, superblock_in, root_with, root_of};
+ghost use Rattle.lsm_root.specs.Roots.{Root, Names, reading_of, in_slot, may_follow, follows, newer, superblock_in, root_with, root_of};
 
 use crate::inside::lie_inside;
 use crate::writer::{AREA_SECTORS, SUPERBLOCKS};
-use lsm_codec::{Manifest, Superblock};
+use lsm_codec::{FormatVersion, Manifest, Superblock};
 use lsm_device::{Device, Refusal};
 use std::alloc::{Allocator, Global};
 
@@ -45,13 +45,28 @@ fn superblock_in(sector: &[u8; 512], slot: u64) -> Result<Option<Superblock>, Re
     Ok(Some(superblock))
 }
 
+// Whether a version may come after another: version 1 doesn't come after version 2.
+fn may_follow(earlier: FormatVersion, later: FormatVersion) -> bool
+    ensures { result ≡ may_follow earlier later }
+{
+    match earlier {
+        FormatVersion::One => true,
+        FormatVersion::Two => match later {
+            FormatVersion::One => false,
+            FormatVersion::Two => true,
+        },
+    }
+}
+
 // Whether the later superblock follows.
 fn is_followed_by(superblock: &Superblock, later: &Superblock) -> bool
     requires { superblock.now.generation ≤ 2 ^ 63 }
     ensures { result ≡ follows superblock.now later.now }
 {
     later.generation == superblock.generation + 1
-        && (later.sectors == superblock.sectors && later.log_sectors == superblock.log_sectors)
+        && (later.sectors == superblock.sectors
+            && (later.log_sectors == superblock.log_sectors
+                && may_follow(superblock.version, later.version)))
 }
 
 // The superblock that counts.
@@ -152,11 +167,11 @@ fn loaded_from<A: Allocator + Clone>(
     text: &[u8],
 ) -> Result<Loaded<A>, Refusal>
     requires fits { IsSuperblock superblock.now }
-    ensures told { TellsManifest (root_with superblock.now (manifest_of text.now)) result }
+    ensures told { TellsManifest (root_with superblock.now (manifest_of superblock.now.version text.now)) result }
     ensures fits { IfOk result (λ l. IsGeometry superblock.now.sectors l.log_sectors × IsManifest l.manifest) }
     ensures inside { IfOk result (λ l. LieInside superblock.now.sectors l.log_sectors l.manifest.tables) }
 {
-    let Some(manifest) = Manifest::decode(alloc, text)? else {
+    let Some(manifest) = Manifest::decode(alloc, superblock.version, text)? else {
         return Err(Refusal::BadManifest);
     };
     if manifest.generation() != superblock.generation {
@@ -176,7 +191,8 @@ fn loaded_from<A: Allocator + Clone>(
 }
 
 /// Reads the root, by at most 66 reads. It answers what the root of the device's sectors is: LOG and the manifest of the
-/// greater generation, with the tables that it names, or why there is none; or `NoMemory`, or `Io` where a read failed.
+/// greater generation, in the version of its superblock, with the tables that it names, or why there is none; or `NoMemory`,
+/// or `Io` where a read failed.
 ///
 /// `NotAStore` where both superblocks are blank, `BadSuper` where else none of them counts, `BadGeometry` where the one that
 /// counts is another device's, and `BadManifest` where its sectors spell no manifest, one of another generation, or one

@@ -22,7 +22,7 @@ keys_more start entries i v key before after lt is is_key so_far grown =
     ∙ ap (fold with_key start) (map-append key_in (take i entries) (get_or entries i v ∷ []))
     ∙ fold-append with_key start (map key_in (take i entries)) (key_in (get_or entries i v) ∷ []))
 
-entries_more : {X : Type 0} (items : X → Block) (blocks : List X) (i : ℕ) (b : X) → i < length blocks → b ≡ get_or blocks i b → entries_of (map items (take (i + 1) blocks)) ≡ entries_of (map items (take i blocks)) ++ items b
+pub entries_more : {X : Type 0} (items : X → Block) (blocks : List X) (i : ℕ) (b : X) → i < length blocks → b ≡ get_or blocks i b → entries_of (map items (take (i + 1) blocks)) ≡ entries_of (map items (take i blocks)) ++ items b
 entries_more items blocks i b lt is =
     ap (λ bs. entries_of (map items bs)) (take_more blocks i b lt)
     ∙ ap entries_of (map-append items (take i blocks) (get_or blocks i b ∷ []))

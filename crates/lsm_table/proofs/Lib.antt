@@ -13,6 +13,7 @@ pub mod LastEdges
 pub mod Outlines
 pub mod Reading
 pub mod Filters
+pub mod Deletes
 pub mod Blocked
 pub mod StoredTables
 pub mod Spanning

@@ -4,15 +4,17 @@ use Rattle.lsm_codec.specs.Keys.{Bytes}
 use Rattle.lsm_codec.specs.Entries.{data_block}
 use Rattle.lsm_codec.specs.Indexes.{index_length, index_count, index_blocks}
 use Rattle.lsm_codec.specs.Footers.{footer_block}
+use Rattle.lsm_codec.specs.Versions.{deletes_in}
 use Rattle.lsm_filter.specs.Bits.{filter_of}
 use Rattle.lsm_table.specs.Division.{TableBlocks, IsTable, entries_of}
 use Rattle.lsm_table.specs.BlockEdges.{edges_of}
 use Rattle.lsm_table.specs.Outlines.{outline_in, summary_in}
 
 -- what an image keeps beside its blocks
-pub record IsImageOf (table : TableBlocks) (entries : ℕ) (filter index : List ℕ) (index_len : ℕ) : Type 0 where
+pub record IsImageOf (table : TableBlocks) (entries deletes : ℕ) (filter index : List ℕ) (index_len : ℕ) : Type 0 where
   pub is : IsTable table
   pub all : entries ≡ length (entries_of table)
+  pub counted : deletes ≡ deletes_in (entries_of table)
   pub keys : filter ≡ filter_of (map (λ v. v.key) (entries_of table))
   pub edges : index ≡ index_blocks (edges_of table)
   pub len : index_len ≡ index_length (edges_of table)

@@ -1,9 +1,10 @@
 //! Tables that are not yet written.
 
-ghost use Rattle.std.specs.Prelude.{◌≡◌, ◌+◌, ◌*◌, ◌<◌, ◌≤◌, [], length, take, drop, map, fold, slice_index_or, true, IfOk};
+ghost use Rattle.std.specs.Prelude.{◌≡◌, Some, ◌+◌, ◌*◌, ◌<◌, ◌≤◌, [], length, take, drop, map, fold, slice_index_or, true, IfOk};
 ghost use Rattle.std.specs.List.{All};
 ghost use Rattle.lsm_codec.specs.Entries.{data_block};
 ghost use Rattle.lsm_codec.specs.Indexes.{index_blocks, index_count, index_length};
+ghost use Rattle.lsm_codec.specs.Versions.{one_if_none, deletes_in};
 ghost use Rattle.lsm_filter.specs.Bits.{filter_of, with_key, is_perhaps};
 ghost use Rattle.lsm_table.specs.Division.{IsTable, entries_of};
 ghost use Rattle.lsm_table.specs.BlockEdges.{edges_of, first_key_of};
@@ -35,6 +36,42 @@ fn filter_of<A: Allocator>(alloc: A, blocks: &[Vec<Entry<A>, A>]) -> Result<Filt
         insert_keys(&mut filter, block);
     }
     Ok(filter)
+}
+
+/// 1 where the entry is a delete.
+fn one_if_delete<A: Allocator>(entry: &Entry<A>) -> usize
+    ensures count { result ≡ one_if_none entry.now.value }
+    ensures few { result ≤ 1 }
+{
+    match entry.value() {
+        Some(_value) => 0,
+        None => 1,
+    }
+}
+
+/// How many of the entries of a block are deletes.
+fn deletes_in<A: Allocator>(block: &[Entry<A>]) -> usize
+    ensures count { result ≡ deletes_in block.now }
+    ensures few { result ≤ length block.now }
+{
+    let mut deletes = 0;
+    for entry in block {
+        deletes += one_if_delete(entry);
+    }
+    deletes
+}
+
+/// How many of the entries of blocks are deletes.
+fn deletes_of<A: Allocator>(blocks: &[Vec<Entry<A>, A>]) -> usize
+    requires { length (entries_of (map (λ b. b.items) blocks.now)) ≤ 3200 }
+    ensures count { result ≡ deletes_in (entries_of (map (λ b. b.items) blocks.now)) }
+    ensures few { result ≤ length (entries_of (map (λ b. b.items) blocks.now)) }
+{
+    let mut deletes = 0;
+    for block in blocks {
+        deletes += deletes_in(block);
+    }
+    deletes
 }
 
 /// The bytes of the index of blocks, and the length of its text.
@@ -80,6 +117,7 @@ fn first_key<A: Allocator>(blocks: &[Vec<Entry<A>, A>]) -> &[u8]
 pub struct Image<A: Allocator = Global> {
     blocks: Vec<Vec<Entry<A>, A>, A>,
     entries: u32,
+    deletes: u16,
     filter: Filter<A>,
     index: Vec<u8, A>,
     index_len: usize,
@@ -94,7 +132,7 @@ impl<A: Allocator> Model for Image<A> {
 
     ghost view = { λ i. map (λ b. b.items) i.blocks.items };
 
-    ghost invariant = { λ i. IsImageOf (map (λ b. b.items) i.blocks.items) i.entries i.filter i.index.items i.index_len };
+    ghost invariant = { λ i. IsImageOf (map (λ b. b.items) i.blocks.items) i.entries i.deletes i.filter i.index.items i.index_len };
 }
 
 impl<A: Allocator + Clone> Image<A> {
@@ -108,10 +146,12 @@ impl<A: Allocator + Clone> Image<A> {
         ensures { IfOk result (λ image. image ≡ map (λ b. b.items) blocks.items) }
     {
         let (index, index_len) = index_of(&alloc, &blocks)?;
+        let deletes = deletes_of(&blocks) as u16;
         let filter = filter_of(alloc, &blocks)?;
         Ok(Image {
             blocks,
             entries,
+            deletes,
             filter,
             index,
             index_len,
@@ -135,6 +175,14 @@ impl<A: Allocator> Image<A> {
         ensures { result ≡ length (entries_of self.now) }
     {
         self.entries
+    }
+
+    /// How many of the entries are deletes.
+    pub fn deletes(&self) -> u16
+        ensures count { result ≡ deletes_in (entries_of self.now) }
+        ensures among { result ≤ length (entries_of self.now) }
+    {
+        self.deletes
     }
 
     /// How many blocks the index takes, from 1 to 5.
@@ -171,6 +219,7 @@ impl<A: Allocator> Image<A> {
 
     /// The record of the table under this number, in this level and run, whose extent begins at this block.
     pub fn table_record(&self, number: u64, level: u8, run: u8, first_block: u32) -> TableRecord
+        ensures deletes { result.deletes ≡ Some (deletes_in (entries_of self.now)) }
         ensures of { IsRecordOf result (outline_in number (filter_of (keys_of self.now)) self.now) }
         ensures level { result.level ≡ level }
         ensures run { result.run ≡ run }
@@ -184,6 +233,7 @@ impl<A: Allocator> Image<A> {
             data_blocks: self.data_blocks() as u8,
             index_blocks: self.index_blocks() as u8,
             entries: self.entries as u16,
+            deletes: Some(self.deletes()),
         }
     }
 

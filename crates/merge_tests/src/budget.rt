@@ -1,21 +1,24 @@
-//! An allocator that several threads share, and that refuses once so many blocks were taken.
+//! An allocator that several threads share, and that refuses once so many blocks were taken, or the block behind so many.
 
 ghost use Rattle.std.specs.Prelude.{◌≡◌, IfSome};
 
 use std::alloc::{AllocError, Allocator};
 use std::sync::atomic::{AtomicU64, Ordering};
 
-/// Hands each call on, but refuses a block where as many were taken as are allowed. A `&` to it is an allocator too.
+/// Hands each call on, but refuses a block where as many were asked for as are allowed, and not yet as many as are allowed
+/// again. A `&` to it is an allocator too.
 #[derive(Drop)]
 pub struct Budget<A> {
     inner: A,
-    taken: AtomicU64,
+    asked: AtomicU64,
     most: AtomicU64,
+    again: AtomicU64,
 }
 
-/// Takes one more, and tells whether it is allowed.
-fn take(taken: &AtomicU64, most: &AtomicU64) -> bool {
-    taken.fetch_add(1, Ordering::SeqCst) < most.load(Ordering::SeqCst)
+/// Whether the next block is allowed, where so many are, and again from another number on.
+fn take(asked: &AtomicU64, most: &AtomicU64, again: &AtomicU64) -> bool {
+    let before = asked.fetch_add(1, Ordering::SeqCst);
+    before < most.load(Ordering::SeqCst) || before >= again.load(Ordering::SeqCst)
 }
 
 impl<A> Budget<A> {
@@ -23,22 +26,35 @@ impl<A> Budget<A> {
     pub fn new(inner: A, blocks: u64) -> Budget<A> {
         Budget {
             inner,
-            taken: AtomicU64::new(0),
+            asked: AtomicU64::new(0),
             most: AtomicU64::new(blocks),
+            again: AtomicU64::new(u64::MAX),
         }
     }
 
     /// From now on so many more blocks are allowed.
     pub fn allow(&self, blocks: u64) {
-        self.taken.store(0, Ordering::SeqCst);
+        self.asked.store(0, Ordering::SeqCst);
         self.most.store(blocks, Ordering::SeqCst);
+        self.again.store(u64::MAX, Ordering::SeqCst);
+    }
+
+    /// From now on so many more blocks are allowed, the next one is refused, and those behind it are allowed again.
+    pub fn refuse_after(&self, blocks: u64) {
+        self.allow(blocks);
+        self.again.store(blocks.saturating_add(1), Ordering::SeqCst);
+    }
+
+    /// Whether a block was refused since the last call of the two above.
+    pub fn has_refused(&self) -> bool {
+        self.asked.load(Ordering::SeqCst) > self.most.load(Ordering::SeqCst)
     }
 
     /// The allocator that gives the next block, where one is allowed.
     fn lent(&self) -> Option<&A>
         ensures { IfSome result (λ h. h.now ≡ self.now.inner) }
     {
-        if take(&self.taken, &self.most) {
+        if take(&self.asked, &self.most, &self.again) {
             return Some(&self.inner);
         }
         None

@@ -4,7 +4,7 @@ ghost use Rattle.lsm_root.specs.Layout.{IsGeometry};
 
 use crate::quiet::Quiet;
 use linked_list_allocator::LocalHeap;
-use lsm_codec::{LogRecord, Manifest, Superblock};
+use lsm_codec::{FormatVersion, LogRecord, Manifest, Superblock};
 use lsm_device::{Device, MemDevice, Refusal};
 use lsm_root::{install, lie_inside, load};
 use std::alloc::Global;
@@ -35,8 +35,14 @@ fn manifest(alloc: Global, generation: u64, rows: &[Row]) -> Result<Manifest, Fa
 }
 
 /// A superblock's sector, of one manifest sector.
-fn superblock(generation: u64, sectors: u32, log_sectors: u16) -> [u8; 512] {
+fn superblock(
+    version: FormatVersion,
+    generation: u64,
+    sectors: u32,
+    log_sectors: u16,
+) -> [u8; 512] {
     Superblock {
+        version,
         generation,
         sectors,
         log_sectors,
@@ -84,6 +90,9 @@ fn try_install(
     }
     if !lie_inside(manifest.tables(), device.sectors(), LOG) {
         return Err("tables in the data area".into());
+    }
+    if !manifest.is_of_version(FormatVersion::Two) {
+        return Err("tables that are counted".into());
     }
     Ok(install(alloc, device, LOG, &manifest).err())
 }
@@ -230,13 +239,18 @@ enum Place {
     Ones,
     /// A superblock of this generation, this many sectors, and this LOG.
     Of(u64, u32, u16),
+    /// The same in version 1 of the format.
+    Old(u64),
 }
 
 fn sector(place: Place) -> [u8; 512] {
     match place {
         Place::Blank => BLANK,
         Place::Ones => ONES,
-        Place::Of(generation, sectors, log_sectors) => superblock(generation, sectors, log_sectors),
+        Place::Of(generation, sectors, log_sectors) => {
+            superblock(FormatVersion::Two, generation, sectors, log_sectors)
+        }
+        Place::Old(generation) => superblock(FormatVersion::One, generation, SECTORS, LOG),
     }
 }
 
@@ -265,6 +279,8 @@ fn superblocks_that_are_refused(rt: HostRuntime) -> Result<(), Fail> {
         (Place::Of(4, SECTORS, LOG), ONE, "not one apart"),
         (TWO, Place::Of(1, SECTORS, 129), "of two sizes"),
         (TWO, Place::Of(1, 8_193, LOG), "of two sizes"),
+        (Place::Old(2), ONE, "version 1 after version 2"),
+        (TWO, Place::Old(3), "version 1 after version 2"),
     ] {
         assert!(rt;
             is_refused(rt.alloc(), even, odd, Refusal::BadSuper)?,
@@ -461,5 +477,28 @@ fn is_refused_without_memory(alloc: Global) -> Result<bool, Fail> {
 #[test]
 fn an_install_whose_memory_is_short(rt: HostRuntime) -> Result<(), Fail> {
     assert!(rt; is_refused_without_memory(rt.alloc())?);
+    Ok(())
+}
+
+/// A device with these superblocks, and with the manifests of generations 1 and 2 in their places: the generation that is
+/// loaded.
+fn loaded_generation(alloc: Global, even: Place, odd: Place) -> Result<u64, Fail> {
+    let mut device = installed(alloc, 2)?;
+    put(&mut device, 0, &sector(even))?;
+    put(&mut device, 1, &sector(odd))?;
+    Ok(load(alloc, &mut device)?.manifest.generation())
+}
+
+#[test]
+fn superblocks_of_both_versions_are_loaded(rt: HostRuntime) -> Result<(), Fail> {
+    for (even, odd, generation) in [
+        (Place::Old(2), Place::Old(1), 2),
+        (TWO, Place::Old(1), 2), // The first install of version 2.
+        (TWO, ONE, 2),
+        (Place::Blank, Place::Old(1), 1),
+        (Place::Old(2), Place::Blank, 2),
+    ] {
+        assert!(rt; loaded_generation(rt.alloc(), even, odd)? == generation);
+    }
     Ok(())
 }

@@ -2,7 +2,7 @@
 
 use crate::quiet::Quiet;
 use crate::roots::{BLANK, LOG, is_geometry};
-use lsm_codec::{LogRecord, Manifest, TableRecord};
+use lsm_codec::{FormatVersion, LogRecord, Manifest, TableRecord};
 use lsm_device::{Device, MemDevice, Refusal};
 use lsm_root::{install, lie_inside, load};
 use std::alloc::Global;
@@ -21,6 +21,7 @@ fn table(number: u64, first_block: u32) -> TableRecord {
         data_blocks: 1,
         index_blocks: 1,
         entries: 1,
+        deletes: Some(0),
     }
 }
 
@@ -67,6 +68,9 @@ fn is_installed(
     if !is_geometry(sectors, log_sectors) || !manifest.is_within_limits() {
         return false;
     }
+    if !manifest.is_of_version(FormatVersion::Two) {
+        return false;
+    }
     lie_inside(manifest.tables(), sectors, log_sectors)
         && install(alloc, device, log_sectors, manifest).is_ok()
 }
@@ -88,13 +92,13 @@ fn is_found(alloc: Global, device: &mut Quiet<MemDevice>, manifest: &Manifest) -
     }
 }
 
-/// Whether it is installed with 37 sectors, a superblock and two syncs, and found with as many reads and one more.
+/// Whether it is installed with 41 sectors, a superblock and two syncs, and found with as many reads and one more.
 fn is_found_again<R: Abort>(rt: &R, alloc: Global, manifest: &Manifest) -> bool {
     let mut device = blank(rt, alloc, SECTORS);
     is_installed(alloc, &mut device, LOG, manifest)
-        && device.changes() == (38, 2)
+        && device.changes() == (42, 2)
         && is_found(alloc, &mut device, manifest)
-        && device.reads() == 39
+        && device.reads() == 43
 }
 
 #[test]
@@ -112,7 +116,7 @@ struct Two {
 
 impl Two {
     /// The device after the old one, the new one up to so many writes and syncs, and a crash under the mask; if the new one
-    /// is installed just where they were 40.
+    /// is installed just where they were 44.
     fn crashed<R: Abort>(
         &self,
         rt: &R,
@@ -125,7 +129,7 @@ impl Two {
             return None;
         }
         device.fuse(fuse);
-        if is_installed(alloc, &mut device, LOG, &self.new) != (fuse == 40) {
+        if is_installed(alloc, &mut device, LOG, &self.new) != (fuse == 44) {
             return None;
         }
         Some(device.crash(mask))
@@ -133,8 +137,8 @@ impl Two {
 
     /// Whether such a crash leaves the old root, or the new one where it must be.
     fn are_apart<R: Abort>(&self, rt: &R, alloc: Global, fuse: u64, mask: &[bool]) -> bool {
-        // The 38th of them is the sync after the manifest's sectors. Behind it the superblock's write alone pends.
-        let is_new = fuse == 40 || fuse >= 38 && mask.first() == Some(&true);
+        // The 42nd of them is the sync after the manifest's sectors. Behind it the superblock's write alone pends.
+        let is_new = fuse == 44 || fuse >= 42 && mask.first() == Some(&true);
         let wanted = if is_new { &self.new } else { &self.old };
         match self.crashed(rt, alloc, fuse, mask) {
             Some(mut device) => is_found(alloc, &mut device, wanted),
@@ -149,8 +153,8 @@ fn a_crash_leaves_the_old_root_or_the_largest(rt: HostRuntime) {
         old: empty(rt.alloc(), 3),
         new: largest(&rt, rt.alloc()),
     };
-    let masks: [&[bool]; 3] = [&[], &[true], &[true; 38]];
-    for fuse in [0, 20, 36, 37, 38, 39, 40u64] {
+    let masks: [&[bool]; 3] = [&[], &[true], &[true; 42]];
+    for fuse in [0, 20, 40, 41, 42, 43, 44u64] {
         for mask in masks {
             assert!(rt; two.are_apart(&rt, rt.alloc(), fuse, mask), "{fuse}");
         }
@@ -224,9 +228,9 @@ fn refused_with_sectors<R: Abort>(rt: &R, alloc: Global, sectors: u8) -> Option<
 #[test]
 fn a_superblock_that_names_too_few_sectors_or_too_many(rt: HostRuntime) {
     for (sectors, refusal) in [
-        (36, Some(Refusal::BadManifest)),
-        (37, None),
-        (38, Some(Refusal::BadManifest)),
+        (40, Some(Refusal::BadManifest)),
+        (41, None),
+        (42, Some(Refusal::BadManifest)),
     ] {
         assert!(rt;
             refused_with_sectors(&rt, rt.alloc(), sectors) == refusal,

@@ -238,6 +238,7 @@ fn records_of_other_tables(rt: HostRuntime) -> Result<(), Fail> {
             data_blocks,
             index_blocks,
             entries,
+            deletes: None,
         };
         assert!(rt; is_table(rt.alloc(), table, &footer, image.index())? == fits);
     }
@@ -297,6 +298,7 @@ fn each_byte_of_footer_and_index(rt: HostRuntime) -> Result<(), Fail> {
         data_blocks: 1,
         index_blocks: 1,
         entries: 1,
+        deletes: None,
     };
     // A first key below the last is allowed.
     assert!(rt; footers_among(rt.alloc(), table, &footer, &index)? == 1);
