@@ -31,7 +31,7 @@ fn is_taken<A: Allocator + Clone>(
 {
     let cuts = one_cut(alloc.clone()?)?;
     heap.allow(growths);
-    let taken = slots.take(alloc, levels, Some(sealed), cuts);
+    let taken = slots.take(alloc, levels, None, Some(sealed), cuts);
     heap.allow(AMPLE);
     match taken {
         Ok(Some(job)) if job == flush(1) && slots.has_flush() => Ok(true),

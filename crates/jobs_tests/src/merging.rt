@@ -144,7 +144,7 @@ impl<A: Allocator + Clone> Subject<A> {
         // Nothing waits sealed: the first of none.
         let sealed = Vec::new(self.alloc.clone()?);
         self.slots
-            .take(&self.alloc, &self.levels, sealed.first(), cuts)
+            .take(&self.alloc, &self.levels, None, sealed.first(), cuts)
     }
 
     /// Reads the next blocks of a job.

@@ -65,7 +65,13 @@ pub(crate) fn flushing<A: Allocator + Clone>(alloc: &A, key: u8) -> Result<Slots
     let levels = Levels::new(alloc.clone()?)?;
     let sealed = sealed_put(alloc, key)?;
     let mut slots = Slots::new(alloc.clone()?)?;
-    match slots.take(alloc, &levels, Some(&sealed), one_cut(alloc.clone()?)?)? {
+    match slots.take(
+        alloc,
+        &levels,
+        None,
+        Some(&sealed),
+        one_cut(alloc.clone()?)?,
+    )? {
         Some(job) if job == flush(1) => Ok(slots),
         _ => Err(Refusal::NoSuchJob),
     }

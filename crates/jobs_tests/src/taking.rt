@@ -15,9 +15,9 @@ fn taken(alloc: Global, slots: &mut Slots) -> Result<[Option<TakenJob>; 3], Refu
     let levels = Levels::new(alloc)?;
     let sealed = sealed_put(&alloc, 0x61)?;
     Ok([
-        slots.take(&alloc, &levels, None, one_cut(alloc)?)?,
-        slots.take(&alloc, &levels, Some(&sealed), one_cut(alloc)?)?,
-        slots.take(&alloc, &levels, Some(&sealed), one_cut(alloc)?)?,
+        slots.take(&alloc, &levels, None, None, one_cut(alloc)?)?,
+        slots.take(&alloc, &levels, None, Some(&sealed), one_cut(alloc)?)?,
+        slots.take(&alloc, &levels, None, Some(&sealed), one_cut(alloc)?)?,
     ])
 }
 

@@ -20,9 +20,7 @@ use std::thread::Threads;
 fn take(subject: &mut Subject, alloc: Global, sealed: &Sealed) -> Result<Option<TakenJob>, Refusal>
     requires { AllByRecursion IsEntry sealed.now }
 {
-    subject
-        .slots
-        .take(&alloc, &subject.levels, Some(sealed), one_cut(alloc)?)
+    subject.slots.take(&alloc, &subject.levels, None, Some(sealed), one_cut(alloc)?)
 }
 
 /// Takes a flush and drops it: its slot is free for the next one, under another number.

@@ -11,6 +11,8 @@ pub enum Slots {
     Flush,
     /// A merge of a level, which takes in one table.
     Merge { level: u8, table: u64 },
+    /// A merge of the tables 90 and 91 of level 1.
+    Several,
 }
 
 impl HeldJobs for Slots {
@@ -24,15 +26,27 @@ impl HeldJobs for Slots {
 
     fn has_level_0(&self) -> bool {
         match self {
-            Slots::Free | Slots::Flush => false,
+            Slots::Free | Slots::Flush | Slots::Several => false,
             Slots::Merge { level, table: _ } => *level == 0,
         }
+    }
+
+    fn has_merge(&self) -> bool {
+        match self {
+            Slots::Free | Slots::Flush => false,
+            Slots::Merge { level: _, table: _ } | Slots::Several => true,
+        }
+    }
+
+    fn has_several(&self) -> bool {
+        matches!(self, Slots::Several)
     }
 
     fn takes_in(&self, number: u64) -> bool {
         match self {
             Slots::Free | Slots::Flush => false,
             Slots::Merge { level: _, table } => *table == number,
+            Slots::Several => number == 90 || number == 91,
         }
     }
 }

@@ -25,6 +25,8 @@ mod picks;
 #[cfg(test)]
 mod places;
 #[cfg(test)]
+mod policies;
+#[cfg(test)]
 mod reads;
 #[cfg(test)]
 mod scans;

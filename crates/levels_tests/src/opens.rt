@@ -17,6 +17,7 @@ const LISTED: TableRecord = TableRecord {
     data_blocks: 1,
     index_blocks: 1,
     entries: 2,
+    deletes: Some(0),
 };
 
 /// Opens the table 7 of the keys 61 and 65 by a record.
@@ -30,7 +31,14 @@ fn open<A: Allocator + Clone, R: Abort>(
     let image = images.first().expect(rt, "an image");
     let mut filter = [0; 4_096];
     filter.copy_from_slice(image.filter().block());
-    PlacedTable::open(alloc, listed, &image.footer(7), image.index(), &filter)
+    PlacedTable::open(
+        alloc,
+        listed,
+        image.deletes(),
+        &image.footer(7),
+        image.index(),
+        &filter,
+    )
 }
 
 /// Whether a table tells what its keys, its extent and its records in two levels are.

@@ -2,7 +2,8 @@
 
 use crate::jobs::Slots;
 use crate::tables::{Put, have_numbers, levels_of, with_level_1};
-use lsm_levels::{Levels, Pick};
+use lsm_levels::{Choice, Levels, Pick};
+use std::alloc::Global;
 use std::process::Abort;
 
 /// A job that is wanted: a flush, or a merge of a level with the numbers of its upper and lower tables.
@@ -28,6 +29,14 @@ fn is_wanted(job: &Pick<'_>, wanted: Wanted<'_>) -> bool {
             },
             Wanted::Merge(from, [above], below),
         ) => *level == from && upper.number() == *above && have_numbers(lower, below),
+        (
+            Pick::Neighbours {
+                level,
+                upper,
+                lower,
+            },
+            Wanted::Merge(from, above, below),
+        ) => *level == from && have_numbers(upper, above) && have_numbers(lower, below),
         _ => false,
     }
 }
@@ -57,6 +66,9 @@ fn jobs_of_four_runs(rt: HostRuntime) {
         // A job of level 0 bars another, and so does one that has an input.
         (false, Slots::Merge { level: 0, table: 9 }, Wanted::Nothing),
         (false, Slots::Merge { level: 1, table: 5 }, Wanted::Nothing),
+        // A merge of several tables bars all but a flush.
+        (false, Slots::Several, Wanted::Nothing),
+        (true, Slots::Several, Wanted::Flush),
     ] {
         assert!(rt; is_next(&levels, waiting, held, wanted));
     }
@@ -102,5 +114,91 @@ fn a_level_over_its_limit_gives_its_least_table(rt: HostRuntime) {
         let levels = with_level_1(&rt, &rt.alloc(), count, &[(200, 60)]);
         let held = Slots::Merge { level: 1, table };
         assert!(rt; is_next(&levels, false, held, wanted), "{count} {table}");
+    }
+}
+
+/// The choice of tables from one to another.
+fn tables(first: u64, last: u64) -> Choice {
+    Choice::Tables { first, last }
+}
+
+/// The choice of one table.
+fn one(number: u64) -> Choice {
+    tables(number, number)
+}
+
+/// Whether the wanted job is that of a choice, where slots are held so.
+fn is_chosen(levels: &Levels, choice: Choice, held: Slots, wanted: Wanted<'_>) -> bool {
+    match levels.choose(choice, &held) {
+        Some(job) => is_wanted(&job, wanted),
+        None => matches!(wanted, Wanted::Nothing),
+    }
+}
+
+/// A run of level 0, neighbours of level 1, and what they meet.
+fn chosen_from<R: Abort>(rt: &R, alloc: &Global) -> Levels {
+    levels_of(
+        rt,
+        alloc,
+        &FOUR[..1],
+        &[&[(5, 0x61), (4, 0x62), (7, 0x63)], &[(6, 0x62), (8, 0x63)]],
+    )
+}
+
+#[test]
+fn what_is_free_may_be_chosen(rt: HostRuntime) {
+    let levels = chosen_from(&rt, &rt.alloc());
+    for (choice, held, wanted) in [
+        // One run, and levels far below their limits.
+        (Choice::OldestRun, Slots::Free, Wanted::Merge(0, &[2], &[5])),
+        (one(7), Slots::Free, Wanted::Merge(1, &[7], &[8])),
+        (one(5), Slots::Free, Wanted::Merge(1, &[5], &[])),
+        (one(8), Slots::Free, Wanted::Merge(2, &[8], &[])),
+        // Neighbours from one to another with those between, and what meets their hull.
+        (
+            tables(5, 7),
+            Slots::Free,
+            Wanted::Merge(1, &[5, 4, 7], &[6, 8]),
+        ),
+        (tables(5, 4), Slots::Flush, Wanted::Merge(1, &[5, 4], &[6])),
+        // Others have what it would take in, or a job of level 0 goes on.
+        (one(7), Slots::Merge { level: 2, table: 8 }, Wanted::Nothing),
+        (
+            Choice::OldestRun,
+            Slots::Merge { level: 1, table: 5 },
+            Wanted::Nothing,
+        ),
+        (
+            Choice::OldestRun,
+            Slots::Merge { level: 0, table: 9 },
+            Wanted::Nothing,
+        ),
+    ] {
+        assert!(rt; is_chosen(&levels, choice, held, wanted));
+    }
+}
+
+#[test]
+fn there_must_be_what_is_chosen(rt: HostRuntime) {
+    let levels = chosen_from(&rt, &rt.alloc());
+    // From behind to before, over two levels, a table of level 0, and none.
+    for choice in [tables(7, 5), tables(5, 8), one(2), one(9)] {
+        assert!(rt; is_chosen(&levels, choice, Slots::Free, Wanted::Nothing));
+    }
+}
+
+#[test]
+fn several_stand_beside_no_other_merge(rt: HostRuntime) {
+    let levels = chosen_from(&rt, &rt.alloc());
+    let other = Slots::Merge { level: 3, table: 9 };
+    for (choice, held, wanted) in [
+        (tables(5, 4), other, Wanted::Nothing),
+        (one(5), other, Wanted::Merge(1, &[5], &[])),
+        (Choice::OldestRun, other, Wanted::Merge(0, &[2], &[5])),
+        (tables(5, 4), Slots::Several, Wanted::Nothing),
+        (one(5), Slots::Several, Wanted::Nothing),
+        (Choice::OldestRun, Slots::Several, Wanted::Nothing),
+    ] {
+        assert!(rt; is_chosen(&levels, choice, held, wanted));
     }
 }

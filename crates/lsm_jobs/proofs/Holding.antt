@@ -2,9 +2,10 @@
 use Rattle.std.proofs.Common.{◌≡◌, ℕ, suc, ◌+◌, ◌-◌, ◌<◌, ◌≤◌, Bool, true, false, cond, ◌||◌, [], ◌∷◌, length, set, replicate, Option, Some, None, refl, sym, ap, ◌∙◌, arith}
 use Rattle.std.specs.List.{list_any}
 use Rattle.lsm_levels.specs.Levels.{Levels}
-use Rattle.lsm_levels.specs.Pick.{Job, pick}
+use Rattle.lsm_levels.specs.Pick.{Job}
+use Rattle.lsm_levels.specs.declared.choosing.Choice.{Choice}
 use Rattle.lsm_jobs.specs.Slots.{Slot, Slots, JobSlots, held_jobs, has_free, with_slot}
-use Rattle.lsm_jobs.specs.Taking.{given_job}
+use Rattle.lsm_jobs.specs.Taking.{asked_job, given_job}
 use Rattle.lsm_jobs.specs.Holding.{holds, free_from}
 
 any_held : (p : Job → Bool) (slots : Slots) → list_any (holds p) slots ≡ list_any p (held_jobs slots)
@@ -49,16 +50,16 @@ some_free (None ∷ rest) n place e = refl
 some_free (Some held ∷ rest) n place e = some_free rest (n + 1) place e
 
 -- where no slot is free no job is given
-pub none_given : (waiting : Bool) (levels : Levels) (shown items : Slots) (next : ℕ) (s : JobSlots) → None ≡ free_from 0 shown → shown ≡ items → record { next = next; slots = items } ≡ s → None ≡ given_job waiting levels s.slots
-none_given waiting levels shown items next s none same view =
+pub none_given : (waiting : Bool) (asked : Option Choice) (levels : Levels) (shown items : Slots) (next : ℕ) (s : JobSlots) → None ≡ free_from 0 shown → shown ≡ items → record { next = next; slots = items } ≡ s → None ≡ given_job waiting asked levels s.slots
+none_given waiting asked levels shown items next s none same view =
     let full : has_free s.slots ≡ false = ap (λ (v : JobSlots). has_free v.slots) (sym view) ∙ ap has_free (sym same) ∙ none_free shown 0 (sym none) in
-    sym (ap (λ b. cond b (pick waiting levels (held_jobs s.slots)) None) full)
+    sym (ap (λ b. cond b (asked_job waiting asked levels (held_jobs s.slots)) None) full)
 
--- where one is free it is the one that comes next
-pub next_given : (waiting : Bool) (levels : Levels) (shown items : Slots) (next place : ℕ) (s : JobSlots) (job : Option Job) → Some place ≡ free_from 0 shown → shown ≡ items → record { next = next; slots = items } ≡ s → job ≡ pick waiting levels (held_jobs s.slots) → job ≡ given_job waiting levels s.slots
-next_given waiting levels shown items next place s job some same view picked =
+-- where one is free it is the one that is asked for
+pub next_given : (waiting : Bool) (asked : Option Choice) (levels : Levels) (shown items : Slots) (next place : ℕ) (s : JobSlots) (job : Option Job) → Some place ≡ free_from 0 shown → shown ≡ items → record { next = next; slots = items } ≡ s → job ≡ asked_job waiting asked levels (held_jobs s.slots) → job ≡ given_job waiting asked levels s.slots
+next_given waiting asked levels shown items next place s job some same view picked =
     let free : has_free s.slots ≡ true = ap (λ (v : JobSlots). has_free v.slots) (sym view) ∙ ap has_free (sym same) ∙ some_free shown 0 place (sym some) in
-    picked ∙ sym (ap (λ b. cond b (pick waiting levels (held_jobs s.slots)) None) free)
+    picked ∙ sym (ap (λ b. cond b (asked_job waiting asked levels (held_jobs s.slots)) None) free)
 
 abbrev these : ℕ → Slots → JobSlots
 these next slots = record { next = next; slots = slots }

@@ -1,15 +1,17 @@
 -- Slots, and what is kept of their jobs.
 use Rattle.std.proofs.Common.{◌≡◌, ◌≢◌, ◌⊎◌, inl, inr, ⊎_elim, ℕ, suc, ◌+◌, ◌<◌, Bool, true, false, cond, eqb, List, [], ◌∷◌, Option, Some, None, refl, sym, ap, ◌∙◌, subst, arith}
-use Rattle.std.proofs.lemmas.Bool.{eqb-true, eqb-false, ne_eqb}
+use Rattle.std.proofs.lemmas.Bool.{eqb-true, eqb-false, ne_eqb, false≢true}
 use Rattle.lsm_codec.specs.Versions.{Version}
 use Rattle.lsm_levels.specs.Among.{IsAmong}
 use Rattle.lsm_levels.specs.Levels.{Levels}
-use Rattle.lsm_levels.specs.Pick.{Job, pick}
-use Rattle.lsm_levels.specs.Held.{AreRuns, IsHeld, AreApart}
+use Rattle.lsm_levels.specs.Pick.{Job, is_flush}
+use Rattle.lsm_levels.specs.Held.{AreRuns, IsHeld, AreApart, MayTake}
+use Rattle.lsm_levels.specs.declared.choosing.Choice.{Choice}
 use Rattle.lsm_levels.proofs.Surviving.{survival_law}
-use Rattle.lsm_levels.proofs.PickLaws.{pick_law}
+use Rattle.lsm_levels.proofs.PickLaws.{pick_law, flush_waits}
+use Rattle.lsm_levels.proofs.ChoiceLaws.{choice_law, chosen_merges}
 use Rattle.lsm_jobs.specs.Slots.{Slot, Slots, slot_of, held_jobs, has_free, with_slot, with_held}
-use Rattle.lsm_jobs.specs.Taking.{given_job, slot_for}
+use Rattle.lsm_jobs.specs.Taking.{asked_job, given_job, slot_for}
 use Rattle.lsm_jobs.specs.Keeping.{AreNumbered, AreKept, TakingLaw, InstallingLaw, GoingOnLaw, FreeingLaw}
 use Rattle.lsm_jobs.proofs.Found.{found_there}
 
@@ -125,11 +127,10 @@ job_held (Some held ∷ rest) s (inl e) = inl (ap (λ (x : Slot). x.job) (some_s
 job_held (Some held ∷ rest) s (inr a) = inr (job_held rest s a)
 
 pub apart_turned : (a b : Job) → AreApart a b → AreApart b a
-apart_turned a b h = record { tables = λ t u x y e. h.tables u t y x (sym e); one_flush = λ x y. h.one_flush y x }
+apart_turned a b h = record { tables = λ t u x y e. h.tables u t y x (sym e); one_flush = λ x y. h.one_flush y x; alone = h.others_alone; others_alone = h.alone }
 
 pub taking_law : TakingLaw
-taking_law waiting levels next slots new runs kept picked number bottom =
-    let is = pick_law waiting levels (held_jobs slots) new.job runs picked in
+taking_law levels next slots new kept is number bottom =
     record {
       held = λ s a. ⊎_elim
           (λ e. subst (λ (x : Slot). IsHeld levels x.input.bottom x.job) (sym e) (subst (λ b. IsHeld levels b new.job) (sym bottom) is.held))
@@ -152,21 +153,38 @@ taking_law waiting levels next slots new runs kept picked number bottom =
       numbered = numbered_taken new slots kept.numbered (λ s a. let below = kept.given s a in omega (arith, below, number));
     }
 
--- a job that is given is the one that comes next
-pub given_picked : (waiting : Bool) (levels : Levels) (slots : Slots) (job : Job) → given_job waiting levels slots ≡ Some job → pick waiting levels (held_jobs slots) ≡ Some job
-given_picked waiting levels slots job e = by (has_free slots) e
-  where
-    by : (b : Bool) → cond b (pick waiting levels (held_jobs slots)) None ≡ Some job → pick waiting levels (held_jobs slots) ≡ Some job
-    by true f = f
-    by false f = absurd (none_job job f)
+module _ (waiting : Bool) (levels : Levels) where
+  -- a job that is asked for may be taken, and is a flush only where sealed versions wait
+  asked_law : (asked : Option Choice) (jobs : List Job) (job : Job) → AreRuns levels → asked_job waiting asked levels jobs ≡ Some job → MayTake levels jobs job
+  asked_law None jobs job runs e = pick_law waiting levels jobs job runs e
+  asked_law (Some choice) jobs job runs e = choice_law levels jobs choice job runs e
 
--- and it may be taken
-pub given_taken : (waiting : Bool) (levels : Levels) (next : ℕ) (slots : Slots) (sealed : List Version) (cuts : List ℕ) (job : Job) → AreRuns levels → AreKept levels next slots → given_job waiting levels slots ≡ Some job
+  pub asked_waits : (asked : Option Choice) (jobs : List Job) (job : Job) → asked_job waiting asked levels jobs ≡ Some job → is_flush job ≡ true → waiting ≡ true
+  asked_waits None jobs job e flush = flush_waits waiting levels jobs job e flush
+  asked_waits (Some choice) jobs job e flush = absurd (false≢true (sym (chosen_merges levels jobs choice job e) ∙ flush))
+
+  module _ (asked : Option Choice) (slots : Slots) (job : Job) (given : given_job waiting asked levels slots ≡ Some job) where
+    -- a job that is given is the one that is asked for
+    given_asked : asked_job waiting asked levels (held_jobs slots) ≡ Some job
+    given_asked = by (has_free slots) given
+      where
+        by : (b : Bool) → cond b (asked_job waiting asked levels (held_jobs slots)) None ≡ Some job → asked_job waiting asked levels (held_jobs slots) ≡ Some job
+        by true f = f
+        by false f = absurd (none_job job f)
+
+    pub given_may : AreRuns levels → MayTake levels (held_jobs slots) job
+    given_may runs = asked_law asked (held_jobs slots) job runs given_asked
+
+    pub given_waits : is_flush job ≡ true → waiting ≡ true
+    given_waits flush = asked_waits asked (held_jobs slots) job given_asked flush
+
+-- a job that may be taken is kept
+pub may_taken : (levels : Levels) (next : ℕ) (slots : Slots) (sealed : List Version) (cuts : List ℕ) (job : Job) → AreKept levels next slots → MayTake levels (held_jobs slots) job
     → AreKept levels (next + 1) (with_slot (slot_for next sealed cuts levels job) slots)
-given_taken waiting levels next slots sealed cuts job runs kept given =
+may_taken levels next slots sealed cuts job kept may =
     let more : suc next ≡ next + 1 = omega arith in
     subst (λ n. AreKept levels n (with_slot (slot_for next sealed cuts levels job) slots)) more
-    (taking_law waiting levels next slots (slot_for next sealed cuts levels job) runs kept (given_picked waiting levels slots job given) refl refl)
+    (taking_law levels next slots (slot_for next sealed cuts levels job) kept may refl refl)
 
 none_some : (s : Slot) → None ≡ Some s → ⊥
 none_some s e = cc

@@ -1,10 +1,10 @@
 -- Jobs in slots have what they were taken with, and share no table.
-use Rattle.std.specs.Prelude.{◌≡◌, ◌≢◌, ℕ, suc, ◌<◌, Bool, List, [], ◌∷◌, Some, None}
+use Rattle.std.specs.Prelude.{◌≡◌, ◌≢◌, ℕ, suc, ◌<◌, List, [], ◌∷◌, Some, None}
 use Rattle.lsm_levels.specs.Among.{IsAmong}
 use Rattle.lsm_levels.specs.Tables.{Table}
 use Rattle.lsm_levels.specs.Levels.{Levels}
-use Rattle.lsm_levels.specs.Pick.{pick, is_bottom, installed}
-use Rattle.lsm_levels.specs.Held.{AreRuns, IsHeld, AreApart, AreOutputs}
+use Rattle.lsm_levels.specs.Pick.{is_bottom, installed}
+use Rattle.lsm_levels.specs.Held.{AreRuns, IsHeld, AreApart, AreOutputs, MayTake}
 use Rattle.lsm_jobs.specs.Slots.{Slot, Slots, slot_of, held_jobs, with_slot, with_held}
 
 -- no two jobs have one number
@@ -20,10 +20,10 @@ pub record AreKept (levels : Levels) (next : ℕ) (slots : Slots) : Type 0 where
   pub given : (s : Slot) → IsAmong (Some s) slots → s.number < next
   pub numbered : AreNumbered slots
 
--- a taking of the job that is picked, with its bottom flag
+-- a taking of a job that may be taken, with its bottom flag
 abbrev pub TakingLaw : Type 0
-TakingLaw = (waiting : Bool) (levels : Levels) (next : ℕ) (slots : Slots) (new : Slot) → AreRuns levels → AreKept levels next slots
-    → pick waiting levels (held_jobs slots) ≡ Some new.job → new.number ≡ next → new.input.bottom ≡ is_bottom levels new.job → AreKept levels (suc next) (with_slot new slots)
+TakingLaw = (levels : Levels) (next : ℕ) (slots : Slots) (new : Slot) → AreKept levels next slots
+    → MayTake levels (held_jobs slots) new.job → new.number ≡ next → new.input.bottom ≡ is_bottom levels new.job → AreKept levels (suc next) (with_slot new slots)
 
 -- an install of one job's outputs, whose slot is free then
 abbrev pub InstallingLaw : Type 0

@@ -4,13 +4,20 @@ use Rattle.lsm_codec.specs.Versions.{Version}
 use Rattle.lsm_levels.specs.Tables.{versions_of}
 use Rattle.lsm_levels.specs.Levels.{Levels}
 use Rattle.lsm_levels.specs.Pick.{Job, Flush, Merge, pick, is_bottom}
+use Rattle.lsm_levels.specs.Choices.{chosen}
+use Rattle.lsm_levels.specs.declared.choosing.Choice.{Choice}
 use Rattle.lsm_jobs.specs.Gathering.{data_blocks, run_if_some}
 use Rattle.lsm_jobs.specs.declared.taking.TakenJob.{TakenJob}
 use Rattle.lsm_jobs.specs.Slots.{Stage, Reading, Frozen, Slot, Slots, JobSlots, held_jobs, has_free, with_slot}
 
--- the job that is given: none where no slot is free, and else the one that comes next
-abbrev pub given_job : Bool → Levels → Slots → Option Job
-given_job waiting levels slots = if has_free slots then pick waiting levels (held_jobs slots) else None
+-- the job that is asked for: the one that is chosen, or where none is the one that comes next
+abbrev pub asked_job : Bool → Option Choice → Levels → List Job → Option Job
+asked_job waiting None levels jobs = pick waiting levels jobs
+asked_job waiting (Some choice) levels jobs = chosen levels jobs choice
+
+-- the job that is given: none where no slot is free, and else the one that is asked for
+abbrev pub given_job : Bool → Option Choice → Levels → Slots → Option Job
+given_job waiting asked levels slots = if has_free slots then asked_job waiting asked levels (held_jobs slots) else None
 
 -- the level of a job's upper tables, none of a flush
 abbrev pub level_of : Job → Option ℕ

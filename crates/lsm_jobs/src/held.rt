@@ -3,7 +3,7 @@
 ghost use Rattle.std.specs.Prelude.{◌≡◌, ◌≤◌, ◌==◌, ◌++◌, ◌∷◌, [], true, false, Some, MatchOption};
 ghost use Rattle.std.specs.Arc.{arc_value};
 ghost use Rattle.std.specs.List.{list_any};
-ghost use Rattle.lsm_levels.specs.Pick.{is_flush, is_of_level_0, inputs};
+ghost use Rattle.lsm_levels.specs.Pick.{is_flush, is_merge, is_of_level_0, is_several, inputs};
 ghost use Rattle.lsm_jobs.specs.Outputs.{AreMadeOf};
 ghost use Rattle.lsm_jobs.specs.Installing.{IsWhole};
 ghost use Rattle.lsm_jobs.specs.Slots.{Frozen, Writing, is_frozen, is_writing, is_written, left_at, less_left, outputs_at};
@@ -68,6 +68,21 @@ impl<A: Allocator> HeldJob<A> {
     {
         match &self.tables {
             Some(tables) => tables.is_of_level_0(),
+            None => false,
+        }
+    }
+
+    pub(crate) fn is_merge(&self) -> bool
+        ensures { result ≡ is_merge self.now.job }
+    {
+        self.tables.is_some()
+    }
+
+    pub(crate) fn is_several(&self) -> bool
+        ensures { result ≡ is_several self.now.job }
+    {
+        match &self.tables {
+            Some(tables) => tables.is_several(),
             None => false,
         }
     }

@@ -3,7 +3,7 @@
 ghost use Rattle.std.specs.Prelude.{◌≡◌, ◌==◌, ◌++◌, List, IfOk, OnOk};
 ghost use Rattle.std.specs.List.{list_any};
 ghost use Rattle.lsm_levels.specs.Tables.{Table};
-ghost use Rattle.lsm_levels.specs.Pick.{inputs, is_of_level_0};
+ghost use Rattle.lsm_levels.specs.Pick.{inputs, is_of_level_0, is_several};
 ghost use Rattle.lsm_jobs.specs.Numbers.{AreNumbersOf, merge_of};
 ghost use Rattle.lsm_jobs.specs.Installing.{job_told, outputs_told};
 
@@ -115,6 +115,13 @@ impl<A: Allocator> MergeTables<A> {
         ensures { result ≡ is_of_level_0 (merge_of self.now) }
     {
         self.level == 0
+    }
+
+    /// Whether it takes several tables of a level from 1 to 3.
+    pub(crate) fn is_several(&self) -> bool
+        ensures { result ≡ is_several (merge_of self.now) }
+    {
+        self.level > 0 && self.upper.len() > 1
     }
 
     /// Whether it takes in the table of this number.

@@ -3,7 +3,7 @@
 ghost use Rattle.std.specs.Prelude.{◌≡◌, ◌==◌, ◌<◌, ◌≤◌, length, is_some, IfOk, IfErr, None, Some, ℕ};
 ghost use Rattle.std.specs.List.{list_any};
 ghost use Rattle.lsm_device.specs.declared.refusal.Refusal.TheVariants.{NoSuchJob};
-ghost use Rattle.lsm_levels.specs.Pick.{is_flush, is_of_level_0, inputs};
+ghost use Rattle.lsm_levels.specs.Pick.{is_flush, is_merge, is_of_level_0, is_several, inputs};
 ghost use Rattle.lsm_jobs.specs.Slots.{Slot, no_jobs, slot_of, with_held, left_at, less_left};
 ghost use Rattle.lsm_jobs.specs.Shown.{slot_shown};
 ghost use Rattle.lsm_jobs.specs.Holding.{holds, free_from, has_number, place_from, IsAt};
@@ -48,6 +48,24 @@ fn holds_level_0<A: Allocator>(slot: &Option<HeldJob<A>>) -> bool
     }
 }
 
+fn holds_merge<A: Allocator>(slot: &Option<HeldJob<A>>) -> bool
+    ensures { result ≡ holds is_merge slot.now }
+{
+    match slot {
+        Some(job) => job.is_merge(),
+        None => false,
+    }
+}
+
+fn holds_several<A: Allocator>(slot: &Option<HeldJob<A>>) -> bool
+    ensures { result ≡ holds is_several slot.now }
+{
+    match slot {
+        Some(job) => job.is_several(),
+        None => false,
+    }
+}
+
 fn holds_table<A: Allocator>(slot: &Option<HeldJob<A>>, number: u64) -> bool
     ensures { result ≡ holds (λ job. list_any (λ t. t.number == number) (inputs job)) slot.now }
 {
@@ -67,6 +85,18 @@ fn hold_level_0<A: Allocator>(slots: &[Option<HeldJob<A>>]) -> bool
     ensures { result ≡ list_any (holds is_of_level_0) slots.now }
 {
     slots.iter().any(|slot| holds_level_0(slot))
+}
+
+fn hold_merge<A: Allocator>(slots: &[Option<HeldJob<A>>]) -> bool
+    ensures { result ≡ list_any (holds is_merge) slots.now }
+{
+    slots.iter().any(|slot| holds_merge(slot))
+}
+
+fn hold_several<A: Allocator>(slots: &[Option<HeldJob<A>>]) -> bool
+    ensures { result ≡ list_any (holds is_several) slots.now }
+{
+    slots.iter().any(|slot| holds_several(slot))
 }
 
 fn hold_table<A: Allocator>(slots: &[Option<HeldJob<A>>], number: u64) -> bool
@@ -170,6 +200,14 @@ impl<A: Allocator> HeldJobs for Slots<A> {
 
     fn has_level_0(&self) -> bool {
         hold_level_0(&self.slots)
+    }
+
+    fn has_merge(&self) -> bool {
+        hold_merge(&self.slots)
+    }
+
+    fn has_several(&self) -> bool {
+        hold_several(&self.slots)
     }
 
     fn takes_in(&self, number: u64) -> bool {

@@ -7,8 +7,8 @@ ghost use Rattle.lsm_merge.specs.Inputs.{IsCuts};
 ghost use Rattle.lsm_levels.specs.Pick.{Flush, Merge, is_flush};
 ghost use Rattle.lsm_levels.specs.Picks.{job_of};
 ghost use Rattle.lsm_device.specs.declared.refusal.Refusal.TheVariants.{NoMemory, Exhausted};
-ghost use Rattle.lsm_jobs.specs.Taking.{given_job, level_of, told_of, sealed_versions, slot_with, slot_for, with_taken};
-ghost use Rattle.lsm_jobs.specs.Slots.{Frozen, with_slot};
+ghost use Rattle.lsm_jobs.specs.Taking.{asked_job, given_job, level_of, told_of, sealed_versions, slot_with, slot_for, with_taken};
+ghost use Rattle.lsm_jobs.specs.Slots.{Frozen, held_jobs, with_slot};
 ghost use Rattle.lsm_jobs.specs.Holding.{free_from};
 
 use crate::gathering::Gathering;
@@ -16,7 +16,7 @@ use crate::held::{HeldJob, Work};
 use crate::merge::{MergeTables, shared};
 use crate::slots::{Slots, free_place};
 use lsm_device::Refusal;
-use lsm_levels::{Levels, Pick, PlacedTable};
+use lsm_levels::{Choice, Levels, Pick, PlacedTable};
 use lsm_mem::Sealed;
 use lsm_merge::Input;
 use std::alloc::{AllocError, Allocator};
@@ -37,6 +37,11 @@ fn level_of<A: Allocator>(job: &Pick<'_, A>) -> Option<usize>
         Pick::Flush => None,
         Pick::OldestRun { upper: _, lower: _ } => Some(0),
         Pick::OneTable {
+            level,
+            upper: _,
+            lower: _,
+        } => Some(*level),
+        Pick::Neighbours {
             level,
             upper: _,
             lower: _,
@@ -144,20 +149,49 @@ fn job_for<A: Allocator + Clone>(
             let tables = tables_of(alloc, *level, upper, lower)?;
             merge_of(alloc, number, tables, cuts, bottom)
         }
+        Pick::Neighbours {
+            level,
+            upper,
+            lower,
+        } => {
+            let upper = shared(alloc.clone()?, upper)?;
+            let tables = tables_of(alloc, *level, upper, lower)?;
+            merge_of(alloc, number, tables, cuts, bottom)
+        }
     }
 }
 
 impl<A: Allocator> Slots<A> {
-    /// The job that comes next, and the least free slot for it.
-    fn next_job<'l>(&self, levels: &'l Levels<A>, waiting: bool) -> Option<(usize, Pick<'l, A>)>
-        ensures given { option_map (λ n. job_of n.1) result ≡ given_job waiting levels.now self.now.slots }
+    /// The job that is asked for: the one that is chosen, or where none is the one that comes next.
+    fn asked_job<'l>(
+        &self,
+        levels: &'l Levels<A>,
+        asked: Option<Choice>,
+        waiting: bool,
+    ) -> Option<Pick<'l, A>>
+        ensures { option_map job_of result ≡ asked_job waiting asked levels.now (held_jobs self.now.slots) }
+    {
+        match asked {
+            Some(choice) => levels.choose(choice, self),
+            None => levels.pick(waiting, self),
+        }
+    }
+
+    /// The job that is asked for, and the least free slot for it.
+    fn next_job<'l>(
+        &self,
+        levels: &'l Levels<A>,
+        asked: Option<Choice>,
+        waiting: bool,
+    ) -> Option<(usize, Pick<'l, A>)>
+        ensures given { option_map (λ n. job_of n.1) result ≡ given_job waiting asked levels.now self.now.slots }
         ensures place { IfSome result (λ n. free_from 0 self.now.slots ≡ Some n.0) }
         ensures waits { IfSome result (λ n. is_flush (job_of n.1) ≡ true → waiting ≡ true) }
     {
         let Some(place) = free_place(&self.slots) else {
             return None;
         };
-        match levels.pick(waiting, self) {
+        match self.asked_job(levels, asked, waiting) {
             Some(job) => Some((place, job)),
             None => None,
         }
@@ -176,28 +210,35 @@ impl<A: Allocator> Slots<A> {
         number
     }
 
-    /// Whether a job comes next and a slot is free for it. It is refused with `Exhausted` exactly where that is so and the
-    /// number 2^63 was given out, as [`take`](Slots::take) then is. It takes no memory.
-    pub fn has_next(&self, levels: &Levels<A>, waiting: bool) -> Result<bool, Refusal>
-        ensures given { IfOk result (λ given. given ≡ is_some (given_job waiting levels.now self.now.slots)) }
-        ensures exhausted { (result ≡ Err Exhausted) ↔ ((is_some (given_job waiting levels.now self.now.slots) ≡ true) × (2 ^ 63 < self.now.next)) }
+    /// Whether there is a job as it is asked for, and a slot is free for it: the one that is chosen, or where none is the one
+    /// that comes next. It is refused with `Exhausted` exactly where that is so and the number 2^63 was given out, as
+    /// [`take`](Slots::take) then is. It takes no memory.
+    pub fn has_next(
+        &self,
+        levels: &Levels<A>,
+        asked: Option<Choice>,
+        waiting: bool,
+    ) -> Result<bool, Refusal>
+        ensures given { IfOk result (λ given. given ≡ is_some (given_job waiting asked levels.now self.now.slots)) }
+        ensures exhausted { (result ≡ Err Exhausted) ↔ ((is_some (given_job waiting asked levels.now self.now.slots) ≡ true) × (2 ^ 63 < self.now.next)) }
         ensures refusals { IfErr result (λ refusal. refusal ≡ Exhausted) }
     {
-        let has_next = self.next_job(levels, waiting).is_some();
+        let has_next = self.next_job(levels, asked, waiting).is_some();
         if has_next && self.next > 1 << 63 {
             return Err(Refusal::Exhausted);
         }
         Ok(has_next)
     }
 
-    /// Takes the job that comes next: it goes into the least free slot, with these cuts and under a number of its own. It
-    /// answers that number, and the level of the job's upper tables. None where all slots are held or no job comes next. It
-    /// is refused with `Exhausted` exactly where there is such a job and the number 2^63 was given out, or else with
-    /// `NoMemory`; then nothing has changed.
+    /// Takes the job that is chosen, or where none is the one that comes next: it goes into the least free slot, with these
+    /// cuts and under a number of its own. It answers that number, and the level of the job's upper tables. None where all
+    /// slots are held or there is no such job. It is refused with `Exhausted` exactly where there is such a job and the number
+    /// 2^63 was given out, or else with `NoMemory`; then nothing has changed.
     pub fn take(
         &mut self,
         alloc: &A,
         levels: &Levels<A>,
+        asked: Option<Choice>,
         sealed: Option<&Sealed<A>>,
         cuts: Vec<u64, A>,
     ) -> Result<Option<TakenJob>, Refusal>
@@ -205,13 +246,13 @@ impl<A: Allocator> Slots<A> {
         A: Clone,
         requires entries { IfSome sealed (λ s. AllByRecursion IsEntry s.now) }
         requires cuts { IsCuts cuts.items }
-        ensures given { IfOk result (λ taken. taken ≡ option_map (told_of self.old.next) (given_job (is_some sealed.entry) levels.now self.old.slots)) }
-        ensures taken { OnOk result (self.new ≡ with_taken (sealed_versions (option_map (λ s. s.now) sealed.entry)) cuts.items levels.now (given_job (is_some sealed.entry) levels.now self.old.slots) self.old) }
-        ensures exhausted { (result ≡ Err Exhausted) ↔ ((is_some (given_job (is_some sealed.entry) levels.now self.old.slots) ≡ true) × (2 ^ 63 < self.old.next)) }
+        ensures given { IfOk result (λ taken. taken ≡ option_map (told_of self.old.next) (given_job (is_some sealed.entry) asked levels.now self.old.slots)) }
+        ensures taken { OnOk result (self.new ≡ with_taken (sealed_versions (option_map (λ s. s.now) sealed.entry)) cuts.items levels.now (given_job (is_some sealed.entry) asked levels.now self.old.slots) self.old) }
+        ensures exhausted { (result ≡ Err Exhausted) ↔ ((is_some (given_job (is_some sealed.entry) asked levels.now self.old.slots) ≡ true) × (2 ^ 63 < self.old.next)) }
         ensures refusals { IfErr result (λ refusal. (refusal ≡ Exhausted) ⊎ (refusal ≡ NoMemory)) }
         ensures unchanged { OnErr result (self.new ≡ self.old) }
     {
-        let Some((place, job)) = self.next_job(levels, sealed.is_some()) else {
+        let Some((place, job)) = self.next_job(levels, asked, sealed.is_some()) else {
             return Ok(None);
         };
         if self.next > 1 << 63 {

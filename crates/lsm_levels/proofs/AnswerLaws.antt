@@ -1,5 +1,5 @@
 -- What a look-up of memory, sealed memory and runs comes to, whatever it answers.
-use Rattle.std.proofs.Common.{◌≡◌, ◌⊎◌, inl, inr, ⊎_elim, ℕ, true, is_some, List, length, IsTrue, Option, Some, None, Result, Ok, Err, refl, ap, sym, subst, ◌∙◌}
+use Rattle.std.proofs.Common.{◌≡◌, ◌⊎◌, inl, inr, ⊎_elim, ℕ, Bool, true, is_some, List, length, IsTrue, Option, Some, None, Result, Ok, Err, refl, ap, sym, subst, ◌∙◌}
 use Rattle.std.specs.Prelude.{IfErr, MatchResult, Vec, option_map}
 use Rattle.std.specs.Option.{option_or}
 use Rattle.std.specs.List.{AllByRecursion}
@@ -10,6 +10,7 @@ use Rattle.lsm_device.specs.Calls.{faults_after}
 use Rattle.lsm_device.specs.Disk.{seen}
 use Rattle.lsm_device.specs.Medium.{disk}
 use Rattle.lsm_device.specs.Refusals.{faultless}
+use Rattle.lsm_codec.specs.Guards.{Condition, is_met}
 use Rattle.lsm_codec.specs.Keys.{Bytes}
 use Rattle.lsm_codec.specs.Versions.{Version, newest}
 use Rattle.lsm_mem.specs.Versions.{map_of}
@@ -19,10 +20,10 @@ use Rattle.lsm_cache.specs.Fresh.{IsFresh, IsNumberedBelow}
 use Rattle.lsm_levels.specs.Tables.{Table, IsRun}
 use Rattle.lsm_levels.specs.Orders.{IsVersionOrder}
 use Rattle.lsm_levels.specs.Asking.{Source, OnlyReads}
-use Rattle.lsm_levels.specs.Lookups.{CopiesFound, IsLookUp, LooksUpUnless, answer_of, versions_at}
+use Rattle.lsm_levels.specs.Lookups.{CopiesFound, IsLookUp, IsTest, LooksUpUnless, answer_of, met_by, versions_at}
 use Rattle.lsm_levels.specs.Stored.{AreNumberedBelow, ArePlaced, IsReadable}
 use Rattle.lsm_levels.proofs.LookingUp.{IsCounted, Outcome, Stays, looks_counted, looks_fresh, looks_numbered, looks_only_reads, no_reads, nothing_counted}
-use Rattle.lsm_levels.proofs.Finding.{refusal_found, value_found}
+use Rattle.lsm_levels.proofs.Finding.{met_found, refusal_found, refusal_tested, value_found}
 
 -- ---- an answer has the refusal of what was found, or that of its copy
 
@@ -112,3 +113,50 @@ module _ {Z : Type 0} (memory sealed : List Version) (runs : List (List Table)) 
       (λ refusal. (refusal ≡ Io) ⊎ ((refusal ≡ NoMemory) × (is_some (finite.get (map_of (joined (versions_at memory sealed runs)) n) key) ≡ true)))
   look_answers (Ok value) old new look place r readable order = value_found place memory sealed runs area key n r (option_map (λ v. v.items) value) old new look readable order
   look_answers (Err e) old new look place r readable order = refusal_found place memory sealed runs area key n r e old new look readable order
+
+-- ---- a test
+
+met_faultless : (found : Outcome) (condition : Condition) (result : Result Bool Refusal) → result ≡ met_by found condition → faultless found ≡ faultless result
+met_faultless (Ok o) condition result is = sym (ap (λ (r : Result Bool Refusal). faultless r) is)
+met_faultless (Err e) condition result is = sym (ap (λ (r : Result Bool Refusal). faultless r) is)
+
+met_refusal : (found : Outcome) (condition : Condition) (e : Refusal) → Err e ≡ met_by found condition → found ≡ Err e
+met_refusal (Ok o) condition e is = absurd cc
+met_refusal (Err x) condition e is = let same : e ≡ x = cc in ap (λ (y : Refusal). Err y) (sym same)
+
+module _ (memory sealed : List Version) (runs : List (List Table)) (area : ℕ) (condition : Condition) (n : ℕ) (result : Result Bool Refusal) (old new : Source) (test : IsTest memory sealed runs area condition n result old new) where
+  abbrev in_memory : Option Version
+  in_memory = option_or (newest condition.key n memory) (newest condition.key n sealed)
+
+  pub test_counted : IsCounted (length runs) test.found old.medium.calls new.medium.calls
+  test_counted = unless_counted area condition.key n runs test.found old new in_memory test.looks
+
+  pub test_only_reads : OnlyReads old.medium new.medium
+  test_only_reads = unless_only_reads area condition.key n runs test.found old new in_memory test.looks
+
+  pub test_faults : new.medium.calls.faults ≡ faults_after (faultless result) old.medium.calls.faults
+  test_faults = test_counted.faults ∙ ap (λ b. faults_after b old.medium.calls.faults) (met_faultless test.found condition result test.answers)
+
+  pub test_numbered : (number : ℕ) → AreNumberedBelow number runs → IsNumberedBelow number old.cache → IsNumberedBelow number new.cache
+  test_numbered number all below = unless_numbered area condition.key n runs test.found old new in_memory number test.looks all below
+
+  pub test_fresh : (place : BlockName → Option ℕ) → IsTrue old.medium.lasting.tells → ArePlaced place area runs → IsFresh place (seen (disk old.medium)) old.cache → IsFresh place (seen (disk new.medium)) new.cache
+  test_fresh place tells placed fresh =
+      let st = unless_fresh area condition.key n runs test.found old new in_memory place (seen (disk old.medium)) test.looks placed (tells, refl, fresh) in
+      subst (λ (held : List (List ℕ)). IsFresh place held new.cache) (sym st.1) st.2
+
+module _ (memory sealed : List Version) (runs : List (List Table)) (area : ℕ) (condition : Condition) (n : ℕ) where
+  pub test_refused : (result : Result Bool Refusal) (old new : Source) → IsTest memory sealed runs area condition n result old new → IfErr result (λ refusal. (refusal ≡ Io) ⊎ (refusal ≡ BadTable))
+  test_refused (Ok met) old new test = tt
+  test_refused (Err e) old new test = (test_counted memory sealed runs area condition n (Err e) old new test).refusals e (met_refusal test.found condition e test.answers)
+
+  pub test_stops : (result : Result Bool Refusal) (old new : Source) → IsTest memory sealed runs area condition n result old new → IfErr result (λ refusal. refusal ≡ Io → IsTrue new.medium.calls.last_faulted)
+  test_stops (Ok met) old new test = tt
+  test_stops (Err e) old new test = λ io.
+      (test_counted memory sealed runs area condition n (Err e) old new test).stops (met_refusal test.found condition e test.answers ∙ ap (λ (x : Refusal). Err x) io)
+
+  pub test_answers : (result : Result Bool Refusal) (old new : Source) → IsTest memory sealed runs area condition n result old new
+      → (place : BlockName → Option ℕ) → AllByRecursion IsRun runs → IsReadable place area runs old → IsVersionOrder (versions_at memory sealed runs)
+      → MatchResult result (λ met. met ≡ is_met (map_of (joined (versions_at memory sealed runs)) n) condition) (λ refusal. refusal ≡ Io)
+  test_answers (Ok met) old new test place r readable order = met_found place memory sealed runs area condition n r met old new test readable order
+  test_answers (Err e) old new test place r readable order = refusal_tested place memory sealed runs area condition n r e old new test readable order

@@ -1,5 +1,5 @@
 -- What a look-up finds where tables stand.
-use Rattle.std.proofs.Common.{◌≡◌, ◌⊎◌, inl, inr, ⊎_elim, ℕ, true, is_some, List, [], ◌∷◌, map, Option, Some, None, Result, Ok, Err, refl, ap, sym, subst, ◌∙◌}
+use Rattle.std.proofs.Common.{◌≡◌, ◌⊎◌, inl, inr, ⊎_elim, ℕ, Bool, true, is_some, List, [], ◌∷◌, map, Option, Some, None, Result, Ok, Err, refl, ap, sym, subst, ◌∙◌}
 use Rattle.std.specs.Option.{option_or}
 use Rattle.std.specs.List.{AllByRecursion}
 use Rattle.std.specs.FinMap as finite
@@ -7,6 +7,7 @@ use Rattle.lsm_device.specs.declared.refusal.Refusal.{Refusal}
 use Rattle.lsm_device.specs.declared.refusal.Refusal.TheVariants.{Io, NoMemory}
 use Rattle.lsm_device.specs.Disk.{seen}
 use Rattle.lsm_device.specs.Medium.{disk}
+use Rattle.lsm_codec.specs.Guards.{Condition, is_same_value, is_met}
 use Rattle.lsm_codec.specs.Keys.{Bytes}
 use Rattle.lsm_codec.specs.Versions.{Version, newest}
 use Rattle.lsm_mem.specs.Versions.{map_of}
@@ -16,7 +17,8 @@ use Rattle.lsm_cache.specs.declared.name.BlockName.{BlockName}
 use Rattle.lsm_levels.specs.Tables.{Table, IsRun, versions_of}
 use Rattle.lsm_levels.specs.Orders.{IsVersionOrder}
 use Rattle.lsm_levels.specs.Asking.{Source, Says, SaysOnce, IsDenied, said_in, asked_of_run}
-use Rattle.lsm_levels.specs.Lookups.{EndsOr, LooksUp, LooksUpUnless, CopiesFound, IsLookUp, value_of, versions_at}
+use Rattle.lsm_levels.specs.Founds.{TestsRuns}
+use Rattle.lsm_levels.specs.Lookups.{EndsOr, LooksUp, LooksUpUnless, CopiesFound, IsLookUp, IsTest, met_by, value_of, versions_at}
 use Rattle.lsm_levels.specs.Stored.{IsStored, IsPlaced, AreStored, ArePlaced, IsReadable}
 use Rattle.lsm_levels.specs.declared.placed.PlacedBlock.{PlacedBlock}
 use Rattle.lsm_levels.proofs.LookingUp.{Outcome, same_refusal, given_bytes, Stays, says_fresh, placed_stands}
@@ -91,16 +93,16 @@ module _ (place : BlockName → Option ℕ) (memory sealed : List Version) (runs
   value_of_all : value_of newest_of_all ≡ finite.get (map_of (joined (versions_at memory sealed runs)) n) key
   value_of_all = value-from_newest (joined (versions_at memory sealed runs)) n key newest_of_all refl
 
-  found_is : (answer : Result (Option Bytes) Refusal) (old new : Source) → (look : IsLookUp memory sealed runs area key n answer old new) → IsReadable place area runs old → IsVersionOrder (versions_at memory sealed runs)
-      → Finds look.found newest_of_all
-  found_is answer old new look s order =
+  found_is : (found : Outcome) (old new : Source) → LooksUpUnless (option_or (newest key n memory) (newest key n sealed)) area key n runs found old new → IsReadable place area runs old → IsVersionOrder (versions_at memory sealed runs)
+      → Finds found newest_of_all
+  found_is found old new looks s order =
       let all : option_or (option_or (newest key n memory) (newest key n sealed)) (first_found key n runs) ≡ newest_of_all =
       or_both (newest key n memory) (newest key n sealed) (first_found key n runs)
       ∙ ap (λ (o : Option Version). option_or (newest key n memory) (option_or (newest key n sealed) o)) (first_newest key n runs order.1.1)
       ∙ ap (option_or (newest key n memory)) (sym (newest_place key n sealed (map versions_of runs) order.1))
       ∙ sym (newest_place key n memory (sealed ∷ map versions_of runs) order) in
-      subst (Finds look.found) all
-      (unless_finds place (seen (disk old.medium)) area key n (option_or (newest key n memory) (newest key n sealed)) runs r s.stored s.placed look.found old new (s.tells, refl, s.fresh) look.looks)
+      subst (Finds found) all
+      (unless_finds place (seen (disk old.medium)) area key n (option_or (newest key n memory) (newest key n sealed)) runs r s.stored s.placed found old new (s.tells, refl, s.fresh) looks)
 
   -- the value of the map
   pub value_found : (value : Option Bytes) (old new : Source) → IsLookUp memory sealed runs area key n (Ok value) old new → IsReadable place area runs old → IsVersionOrder (versions_at memory sealed runs)
@@ -113,7 +115,7 @@ module _ (place : BlockName → Option ℕ) (memory sealed : List Version) (runs
       (λ (e : Ok value ≡ Ok (value_of newest_of_all)). let same : value ≡ value_of newest_of_all = cc in same ∙ value_of_all)
       (λ (e : (Ok value ≡ Err NoMemory) × (is_some (value_of newest_of_all) ≡ true)). absurd (let no : Ok value ≡ Err NoMemory = e.0 in cc))
       (subst (λ (f : Outcome). CopiesFound f (Ok value)) is look.answers))
-      (found_is (Ok value) old new look s order)
+      (found_is look.found old new look.looks s order)
 
   -- or a read faulted, or memory was refused for the copy of a value that the map has
   pub refusal_found : (e : Refusal) (old new : Source) → IsLookUp memory sealed runs area key n (Err e) old new → IsReadable place area runs old → IsVersionOrder (versions_at memory sealed runs)
@@ -128,7 +130,33 @@ module _ (place : BlockName → Option ℕ) (memory sealed : List Version) (runs
       (λ (k : (Err e ≡ Err NoMemory) × (is_some (value_of newest_of_all) ≡ true)).
       inr (same_refusal e NoMemory (no_answer e) refl k.0, ap (λ (o : Option Bytes). is_some o) (sym value_of_all) ∙ k.1))
       (subst (λ (f : Outcome). CopiesFound f (Err e)) is look.answers))
-      (found_is (Err e) old new look s order)
+      (found_is look.found old new look.looks s order)
+
+-- ---- a test
+
+module _ (place : BlockName → Option ℕ) (memory sealed : List Version) (runs : List (List Table)) (area : ℕ) (condition : Condition) (n : ℕ) (r : AllByRecursion IsRun runs) where
+  abbrev found_so : Option Version
+  found_so = newest_of_all place memory sealed runs area condition.key n r
+
+  -- whether the map meets the condition
+  pub met_found : (met : Bool) (old new : Source) → IsTest memory sealed runs area condition n (Ok met) old new → IsReadable place area runs old → IsVersionOrder (versions_at memory sealed runs)
+      → met ≡ is_met (map_of (joined (versions_at memory sealed runs)) n) condition
+  met_found met old new test s order =
+      ⊎_elim
+      (λ (io : test.found ≡ Err Io). absurd (let no : Ok met ≡ Err Io = subst (λ (f : Outcome). Ok met ≡ met_by f condition) io test.answers in cc))
+      (λ (is : test.found ≡ Ok found_so).
+      let one : Ok met ≡ Ok (is_same_value (value_of found_so) condition.value) = subst (λ (f : Outcome). Ok met ≡ met_by f condition) is test.answers in
+      let same : met ≡ is_same_value (value_of found_so) condition.value = cc in
+      same ∙ ap (λ (o : Option Bytes). is_same_value o condition.value) (value_of_all place memory sealed runs area condition.key n r))
+      (found_is place memory sealed runs area condition.key n r test.found old new test.looks s order)
+
+  -- or a read faulted
+  pub refusal_tested : (e : Refusal) (old new : Source) → IsTest memory sealed runs area condition n (Err e) old new → IsReadable place area runs old → IsVersionOrder (versions_at memory sealed runs) → e ≡ Io
+  refusal_tested e old new test s order =
+      ⊎_elim
+      (λ (io : test.found ≡ Err Io). let one : Err e ≡ Err Io = subst (λ (f : Outcome). Err e ≡ met_by f condition) io test.answers in cc)
+      (λ (is : test.found ≡ Ok found_so). absurd (let no : Err e ≡ Ok (is_same_value (value_of found_so) condition.value) = subst (λ (f : Outcome). Err e ≡ met_by f condition) is test.answers in cc))
+      (found_is place memory sealed runs area condition.key n r test.found old new test.looks s order)
 
 -- ---- where a look-up ends
 
@@ -140,3 +168,17 @@ module _ (memory sealed : List Version) (runs : List (List Table)) (area : ℕ) 
   -- in runs
   pub ends_in_runs : (found : Outcome) (answer : Result (Option Bytes) Refusal) (old new : Source) → None ≡ option_or (newest key n memory) (newest key n sealed) → LooksUp area key n runs found old new → CopiesFound found answer → IsLookUp memory sealed runs area key n answer old new
   ends_in_runs found answer old new e looks a = record { found = found; looks = subst (λ (o : Option Version). LooksUpUnless o area key n runs found old new) e looks; answers = a }
+
+-- ---- and where a test ends
+
+module _ (memory sealed : List Version) (runs : List (List Table)) (area : ℕ) (condition : Condition) (n : ℕ) where
+  abbrev newer_than_runs : Option Version
+  newer_than_runs = option_or (newest condition.key n memory) (newest condition.key n sealed)
+
+  -- in memory
+  pub tests_in_memory : (v : Version) (answer : Result Bool Refusal) (s : Source) → Some v ≡ newer_than_runs → answer ≡ met_by (Ok (Some v)) condition → IsTest memory sealed runs area condition n answer s s
+  tests_in_memory v answer s e a = record { found = Ok (Some v); looks = subst (λ (o : Option Version). LooksUpUnless o area condition.key n runs (Ok (Some v)) s s) e (refl, refl); answers = a }
+
+  -- in runs
+  pub tests_in_runs : (answer : Result Bool Refusal) (old new : Source) → None ≡ newer_than_runs → TestsRuns area condition.key n runs condition answer old new → IsTest memory sealed runs area condition n answer old new
+  tests_in_runs answer old new e t = record { found = t.found; looks = subst (λ (o : Option Version). LooksUpUnless o area condition.key n runs t.found old new) e t.looks; answers = t.tells }

@@ -4,8 +4,10 @@ pub mod Ranges
 pub mod HullLaws
 pub mod Replacing
 pub mod Runs
+pub mod TablesMet
 pub mod Surviving
 pub mod PickLaws
+pub mod ChoiceLaws
 pub mod LevelVersions
 pub mod Taking
 pub mod Moving

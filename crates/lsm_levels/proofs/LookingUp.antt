@@ -1,8 +1,7 @@
 -- What holds of look-ups, step by step.
-use Rattle.std.proofs.Common.{◌≡◌, ◌⊎◌, inl, inr, ℕ, zero, suc, ◌+◌, ◌*◌, ◌<◌, ◌≤◌, ◌==◌, Bool, true, false, cond, IsTrue, is_some, List, [], ◌∷◌, ◌++◌, length, drop, get_or, Option, Some, None, Result, Ok, Err, refl, ap, sym, subst, ◌∙◌, arith}
+use Rattle.std.proofs.Common.{◌≡◌, ◌⊎◌, inl, inr, ℕ, zero, suc, ◌+◌, ◌*◌, ◌<◌, ◌≤◌, ◌==◌, Bool, true, false, cond, IsTrue, is_some, List, [], ◌∷◌, ◌++◌, length, Option, Some, None, Result, Ok, Err, refl, ap, sym, subst, ◌∙◌, arith}
 use Rattle.std.specs.Prelude.{IfSome}
 use Rattle.std.specs.List.{AllByRecursion}
-use Rattle.std.proofs.lemmas.List.{drop_more}
 use Rattle.lsm_device.specs.declared.refusal.Refusal.{Refusal}
 use Rattle.lsm_device.specs.declared.refusal.Refusal.TheVariants.{Io, BadTable}
 use Rattle.lsm_device.specs.declared.calls.Calls.{Calls}
@@ -269,17 +268,3 @@ looks_append area key n (run ∷ newer) older first found old mid new h ends =
     joined (Err x) later k =
         let e : (found ≡ Err x) × (new ≡ mid) = subst (λ (f : Outcome). EndsOr f ((found ≡ f) × (new ≡ mid)) (LooksUp area key n older found mid new)) k.0 ends in
         (e.0, e.1 ∙ k.1)
-
--- the run at a place comes next
-pub looks_at : (area : ℕ) (key : Bytes) (n : ℕ) (runs : List (List Table)) (i : ℕ) (run : List Table) (first found : Outcome) (old mid new : Source) → i < length runs → run ≡ get_or runs i run → Says key n (asked_of_run area key n run) first old mid
-    → EndsOr first ((found ≡ first) × (new ≡ mid)) (LooksUp area key n (drop (i + 1) runs) found mid new) → LooksUp area key n (drop i runs) found old new
-looks_at area key n runs i run first found old mid new lt is says ends =
-    let here : drop i runs ≡ run ∷ drop (i + 1) runs = drop_more runs i run lt ∙ ap (λ (r : List Table). r ∷ drop (i + 1) runs) (sym is) in
-    subst (λ (rs : List (List Table)). LooksUp area key n rs found old new) (sym here) (first, mid, says, ends)
-
--- no run is left
-pub none_left_over : (area : ℕ) (key : Bytes) (n : ℕ) (runs : List (List Table)) (i : ℕ) (s : Source) → length runs ≤ i → LooksUp area key n (drop i runs) (Ok None) s s
-none_left_over area key n [] zero s le = (refl, refl)
-none_left_over area key n [] (suc i) s le = (refl, refl)
-none_left_over area key n (run ∷ runs) zero s le = absurd (omega arith)
-none_left_over area key n (run ∷ runs) (suc i) s le = none_left_over area key n runs i s (omega arith)

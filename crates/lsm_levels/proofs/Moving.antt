@@ -1,10 +1,9 @@
 -- How many tables an install leaves: those that were there, without its inputs and with its outputs.
-use Rattle.std.proofs.Common.{◌≡◌, inl, inr, ⊎_elim, ℕ, zero, suc, ◌+◌, ◌-◌, ◌<◌, ◌≤◌, Bool, true, false, cond, ◌&&◌, List, [], ◌∷◌, ◌++◌, length, get_or, set, filter, ◌⊎◌, Option, refl, sym, ap, ◌∙◌, subst, arith}
+use Rattle.std.proofs.Common.{◌≡◌, ⊎_elim, ℕ, zero, suc, ◌+◌, ◌-◌, ◌<◌, ◌≤◌, Bool, true, false, cond, List, [], ◌∷◌, ◌++◌, length, get_or, set, filter, Option, refl, sym, ap, ◌∙◌, subst, arith}
 use Rattle.std.specs.List.{AllByRecursion}
 use Rattle.std.proofs.lemmas.List.{length-append, length-take, get_or-set_other}
 use Rattle.std.proofs.lemmas.List.Elements.{filter-append}
-use Rattle.lsm_levels.specs.Among.{IsAmong}
-use Rattle.lsm_levels.specs.Tables.{Table, KeyRange, range_of, at_most, is_below, hull, meets, meeting, put_at, IsRun}
+use Rattle.lsm_levels.specs.Tables.{Table, KeyRange, at_most, is_below, hull, meets, meeting, put_at, IsRun}
 use Rattle.lsm_levels.specs.Levels.{Levels, all_tables, level, places, newer_runs, last_run, merged_at, replaced}
 use Rattle.lsm_levels.specs.Pick.{Flush, Merge}
 use Rattle.lsm_levels.specs.Held.{AreRuns, HasItsTables}
@@ -12,48 +11,10 @@ use Rattle.lsm_levels.specs.Moving.{MovingLaw, LowerLaw}
 use Rattle.lsm_levels.proofs.KeyOrder.{below_not, below_at_most, below_then}
 use Rattle.lsm_levels.proofs.Members.{among_passed, passed_among}
 use Rattle.lsm_levels.proofs.Parts.{filter_step}
-use Rattle.lsm_levels.proofs.Ranges.{no, of_all, all_of, in_run, run_order, apart_left, apart_right, sides, meets_ends}
+use Rattle.lsm_levels.proofs.Ranges.{no, all_of, run_order, sides, meets_ends}
 use Rattle.lsm_levels.proofs.Replacing.{newer_cons, last_cons}
-use Rattle.lsm_levels.proofs.Runs.{run_at, run_filter, upper_order}
-use Rattle.lsm_levels.proofs.Surviving.{single_range}
-
--- ---- two runs of the same tables are one
-
-not_behind : (x : Table) (xs : List Table) → IsRun (x ∷ xs) → IsAmong x xs → ⊥
-not_behind x xs run a = no (sym run.0 ∙ below_not x.last x.first (of_all (λ u. is_below x.last u.first ≡ true) xs run.1 x a))
-
--- neither lies before the other
-not_both_before : (x y : Table) → at_most x.first x.last ≡ true → at_most y.first y.last ≡ true → is_below x.last y.first ≡ true → is_below y.last x.first ≡ true → ⊥
-not_both_before x y own other before behind =
-    let up : is_below x.last y.last ≡ true = below_then x.last y.first y.last before other in
-    let over : is_below x.last x.first ≡ true = below_then x.last y.last x.first up (below_at_most y.last x.first behind) in
-    no (sym own ∙ below_not x.last x.first over)
-
-abbrev AreIn : List Table → List Table → Type 0
-AreIn xs ys = (t : Table) → IsAmong t xs → IsAmong t ys
-
-same_head : (x y : Table) (xs ys : List Table) → IsRun (x ∷ xs) → IsRun (y ∷ ys) → AreIn (x ∷ xs) (y ∷ ys) → AreIn (y ∷ ys) (x ∷ xs) → x ≡ y
-same_head x y xs ys r s f g = by (f x (inl refl)) (g y (inl refl))
-  where
-    by : IsAmong x (y ∷ ys) → IsAmong y (x ∷ xs) → x ≡ y
-    by (inl e) b = e
-    by (inr a) (inl e) = sym e
-    by (inr a) (inr b) = absurd (not_both_before x y r.0 s.0 (of_all (λ u. is_below x.last u.first ≡ true) xs r.1 y b) (of_all (λ u. is_below y.last u.first ≡ true) ys s.1 x a))
-
-tail_in : (x y : Table) (xs ys : List Table) → x ≡ y → IsRun (x ∷ xs) → AreIn (x ∷ xs) (y ∷ ys) → AreIn xs ys
-tail_in x y xs ys same r f t a = by (f t (inr a))
-  where
-    by : IsAmong t (y ∷ ys) → IsAmong t ys
-    by (inl e) = absurd (not_behind x xs r (subst (λ (u : Table). IsAmong u xs) (e ∙ sym same) a))
-    by (inr b) = b
-
-pub same_run : (xs ys : List Table) → IsRun xs → IsRun ys → AreIn xs ys → AreIn ys xs → xs ≡ ys
-same_run [] [] r s f g = refl
-same_run [] (y ∷ ys) r s f g = absurd (g y (inl refl))
-same_run (x ∷ xs) [] r s f g = absurd (f x (inl refl))
-same_run (x ∷ xs) (y ∷ ys) r s f g =
-    let head = same_head x y xs ys r s f g in
-    ap (λ (t : Table). t ∷ xs) head ∙ ap (λ (l : List Table). y ∷ l) (same_run xs ys r.2 s.2 (tail_in x y xs ys head r f) (tail_in y x ys xs (sym head) s g))
+use Rattle.lsm_levels.proofs.Runs.{run_at, run_filter, upper_is, upper_order}
+use Rattle.lsm_levels.proofs.TablesMet.{same_run}
 
 -- ---- the inputs of a merge
 
@@ -67,24 +28,6 @@ pub lower_law : LowerLaw
 lower_law levels flag i upper lower runs h =
     let next : suc i ≡ i + 1 = omega arith in
     lower_met levels runs flag i upper lower h ∙ ap (λ (n : ℕ). filter (meets h.range) (level levels n)) next ∙ ap (λ (o : Option KeyRange). meeting o (level levels (i + 1))) (sym h.hull_is)
-
--- of a run one table alone meets the range of one
-one_met : (run : List Table) (t : Table) → IsRun run → IsAmong t run → t ∷ [] ≡ filter (meets (range_of t)) run
-one_met run t r a = same_run (t ∷ []) (filter (meets (range_of t)) run) (run_order run r t a, tt, tt) (run_filter (meets (range_of t)) run r)
-    (λ u b. subst (λ (x : Table). IsAmong x (filter (meets (range_of t)) run)) (sym (only u b)) (among_passed (meets (range_of t)) t run a itself))
-    (λ u b. let both = passed_among (meets (range_of t)) u run b in alone u (in_run run r t u a both.0) both.1)
-  where
-    only : (u : Table) → IsAmong u (t ∷ []) → u ≡ t
-    only u (inl e) = e
-    only u (inr none) = absurd none
-
-    itself : meets (range_of t) t ≡ true
-    itself = ap (λ b. b && at_most t.first t.last) (run_order run r t a) ∙ run_order run r t a
-
-    alone : (u : Table) → (t ≡ u) ⊎ ((is_below t.last u.first ≡ true) ⊎ (is_below u.last t.first ≡ true)) → meets (range_of t) u ≡ true → IsAmong u (t ∷ [])
-    alone u (inl e) met = inl (sym e)
-    alone u (inr (inl before)) met = absurd (no (sym met ∙ apart_right (range_of t) u before))
-    alone u (inr (inr behind)) met = absurd (no (sym met ∙ apart_left (range_of t) u behind))
 
 -- ---- counting
 
@@ -203,13 +146,6 @@ each_own : (run : List Table) → IsRun run → AllByRecursion (λ t. at_most t.
 each_own run r = all_of (λ t. at_most t.first t.last ≡ true) run (run_order run r)
 
 module _ (levels : Levels) (runs : AreRuns levels) (flag : Bool) (upper lower new : List Table) where
-  -- the tables that meet the hull of the upper ones, in their own level
-  upper_met : (i : ℕ) (h : HasItsTables levels flag (suc i) upper lower) → upper ≡ filter (meets h.range) (level levels (suc i))
-  upper_met i h =
-      let t = h.uppers.0 in
-      h.uppers.1 ∙ one_met (level levels (suc i)) t (run_at levels runs i) h.uppers.2
-      ∙ ap (λ (r : KeyRange). filter (meets r) (level levels (suc i))) (sym (single_range t upper h.range h.uppers.1 h.hull_is))
-
   module _ (p : Table → Bool) where
     abbrev Moved : Levels → Type 0
     Moved after = length (filter p (all_tables (places after))) + length (filter p (upper ++ lower)) ≡ length (filter p (all_tables (places levels))) + length (filter p new)
@@ -251,7 +187,7 @@ module _ (levels : Levels) (runs : AreRuns levels) (flag : Bool) (upper lower ne
           cut_is,
           count_put p r order [] above (each_own above (run_at levels runs i)),
           count_put p r order new below (each_own below (run_at levels runs (suc i))),
-          ap (λ (l : List Table). length (filter p l)) (upper_met i h),
+          ap (λ (l : List Table). length (filter p l)) (upper_is levels i upper h.range h.hull_is h.uppers),
           ap (λ (l : List Table). length (filter p l)) (lower_met levels runs flag (suc i) upper lower h),
           count_append p upper lower,
         )

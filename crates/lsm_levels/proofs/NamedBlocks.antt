@@ -179,5 +179,6 @@ named_law = record {
   kept = fresh_kept;
   others = fresh_others;
   looked = λ memory sealed runs area key n number answer old new h all lacks. unless_lacks number (option_or (newest key n memory) (newest key n sealed)) area key n runs h.found old new h.looks all lacks;
+  tested = λ memory sealed runs area condition n number met old new h all lacks. unless_lacks number (option_or (newest condition.key n memory) (newest condition.key n sealed)) area condition.key n runs h.found old new h.looks all lacks;
   scanned = λ area key runs number refusal old new h all lacks. asks_lacks number (blocks_of_runs area key runs) h.asks.asked refusal old new h.asks.in_turn (runs_other number area key runs all) lacks;
 }

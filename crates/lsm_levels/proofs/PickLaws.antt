@@ -1,18 +1,20 @@
 -- A job that is picked has its tables, and no other job has them as input.
-use Rattle.std.proofs.Common.{◌≡◌, ◌≢◌, inl, inr, ⊎_elim, ℕ, zero, suc, ◌<◌, ◌≤◌, Bool, true, false, cond, not, ◌&&◌, ◌==◌, leb, ltb, List, [], ◌∷◌, ◌++◌, length, get_or, filter, sum_by, Option, Some, None, option_map, refl, sym, ap, ◌∙◌, subst, arith}
+use Rattle.std.proofs.Common.{◌≡◌, ◌≢◌, inl, inr, ⊎_elim, ℕ, zero, suc, ◌<◌, ◌≤◌, Bool, true, false, cond, not, ◌&&◌, ◌||◌, ◌==◌, leb, ltb, List, [], ◌∷◌, ◌++◌, length, get_or, filter, sum_by, Option, Some, None, option_map, refl, sym, ap, ◌∙◌, subst, arith}
 use Rattle.std.proofs.lemmas.Bool.{leb-true, eq-eqb}
 use Rattle.std.specs.List.{AllByRecursion, list_any, list_all}
+use Rattle.lsm_codec.specs.Keys.{Bytes}
 use Rattle.lsm_levels.specs.Among.{IsAmong}
 use Rattle.lsm_levels.proofs.Members.{among_left, among_right, among_either, among_passed, passed_among, any_of}
 use Rattle.lsm_levels.specs.Tables.{Table, KeyRange, range_of, spanned, hull, meets, meeting, IsRun}
 use Rattle.lsm_levels.specs.Levels.{Levels, level, last_run}
-use Rattle.lsm_levels.specs.Pick.{Job, Flush, inputs, is_flush, is_of_level_0, is_input, is_free, lower_of, can_merge, merge_of, least_numbered, lesser, flush_job, level_0_job, level_job, or_next, pick, below_output, meets_none, is_bottom}
-use Rattle.lsm_levels.specs.Held.{AreRuns, IsUpper, HasItsTables, AreApart, IsPicked, PickLaw}
+use Rattle.lsm_levels.specs.Pick.{Job, Flush, inputs, is_flush, is_merge, is_several, are_several, is_of_level_0, is_input, is_free, lower_of, can_merge, merge_of, least_numbered, lesser, flush_job, level_0_job, is_mostly_deletes, least_job, delete_job, level_job, limit_of, or_next, of_least_level, next_merge, pick, below_output, meets_none, is_bottom}
+use Rattle.lsm_levels.specs.Held.{AreRuns, IsUpper, HasItsTables, AreApart, MayTake, PickLaw}
 use Rattle.lsm_levels.proofs.Ranges.{no}
 use Rattle.lsm_levels.proofs.Replacing.{last_cons}
 use Rattle.lsm_levels.proofs.Runs.{run_at, run_filter}
+use Rattle.lsm_levels.proofs.TablesMet.{one_met, met_own}
 
-in_both : (a b : Bool) → (a && b) ≡ true → (a ≡ true) × (b ≡ true)
+pub in_both : (a b : Bool) → (a && b) ≡ true → (a ≡ true) × (b ≡ true)
 in_both true b h = (refl, h)
 in_both false b h = absurd cc
 
@@ -20,7 +22,7 @@ not_true : (b : Bool) → not b ≡ true → b ≡ false
 not_true true h = absurd cc
 not_true false h = refl
 
-some_job : (a b : Job) → Some a ≡ Some b → a ≡ b
+pub some_job : (a b : Job) → Some a ≡ Some b → a ≡ b
 some_job a b e = cc
 
 some_range : (a b : KeyRange) → Some a ≡ Some b → a ≡ b
@@ -36,9 +38,18 @@ none_table : (a : Table) → None ≡ Some a → ⊥
 none_table a e = cc
 
 -- what a test that holds gives
-taken : (b : Bool) (job : Job) (o : Option Job) → cond b o None ≡ Some job → (b ≡ true) × (o ≡ Some job)
+pub taken : (b : Bool) (job : Job) (o : Option Job) → cond b o None ≡ Some job → (b ≡ true) × (o ≡ Some job)
 taken true job o e = (refl, e)
 taken false job o e = absurd (none_job job e)
+
+-- or one that doesn't
+barred : (b : Bool) (job : Job) (o : Option Job) → cond b None o ≡ Some job → (b ≡ false) × (o ≡ Some job)
+barred true job o e = absurd (none_job job e)
+barred false job o e = (refl, e)
+
+one_few : (b : Bool) → (b && false) ≡ false
+one_few true = refl
+one_few false = refl
 
 module _ {X : Type 0} where
   all_pass : (p : X → Bool) (xs : List X) → list_all p xs ≡ true → (x : X) → IsAmong x xs → p x ≡ true
@@ -85,28 +96,51 @@ passed_first (Some j) next e = absurd (none_job j (sym e))
 pub took_first : (a : Option Job) (j : Job) (next : Option Job) → a ≡ Some j → Some j ≡ or_next a next
 took_first a j next e = ap (λ (o : Option Job). or_next o next) (sym e)
 
-module _ (waiting : Bool) (levels : Levels) (jobs : List Job) (no_flush : flush_job waiting jobs ≡ None) (runs deeper : List (List Table)) (runs_are : runs ≡ levels.runs) (deeper_are : deeper ≡ levels.deeper) (long : 4 ≤ length deeper)
-    (l1 l2 l3 l4 : List Table) (first : l1 ≡ get_or deeper 0 l1) (second : l2 ≡ get_or deeper 1 l2) (third : l3 ≡ get_or deeper 2 l3) (fourth : l4 ≡ get_or deeper 3 l4) where
-  level_is : (m : ℕ) (l : List Table) → m < length deeper → l ≡ get_or deeper m l → l ≡ level levels (suc m)
-  level_is m l lt is = is ∙ get_or_any deeper m l [] lt ∙ ap (λ (xs : List (List Table)). get_or xs m []) deeper_are
+-- where no flush comes next, it is the first merge that may stand
+pub merge_next : (waiting several : Bool) (levels : Levels) (jobs : List Job) → flush_job waiting jobs ≡ None → several ≡ list_any is_several jobs → several ≡ false → next_merge levels jobs ≡ pick waiting levels jobs
+merge_next waiting several levels jobs none is may =
+    ap (λ (b : Bool). cond b None (next_merge levels jobs)) (sym may ∙ is) ∙ passed_first (flush_job waiting jobs) _ none
 
-  -- where no flush comes next, it is the first of the four merges
-  pub first_merge : (a b c d : Option Job) → a ≡ level_0_job runs l1 jobs → b ≡ level_job l1 l2 jobs 1 256 → c ≡ level_job l2 l3 jobs 2 2048 → d ≡ level_job l3 l4 jobs 3 16384
-      → or_next a (or_next b (or_next c d)) ≡ pick waiting levels jobs
-  first_merge a b c d ea eb ec ed =
-      let e1 = level_is 0 l1 (omega (arith, long)) first in
-      let e2 = level_is 1 l2 (omega (arith, long)) second in
-      let e3 = level_is 2 l3 (omega (arith, long)) third in
-      let e4 = level_is 3 l4 (omega (arith, long)) fourth in
+pub none_next : (waiting several : Bool) (levels : Levels) (jobs : List Job) → flush_job waiting jobs ≡ None → several ≡ list_any is_several jobs → several ≡ true → None ≡ pick waiting levels jobs
+none_next waiting several levels jobs none is may =
+    ap (λ (b : Bool). cond b None (next_merge levels jobs)) (sym may ∙ is) ∙ passed_first (flush_job waiting jobs) _ none
+
+-- the level at a place
+pub level_at : (levels : Levels) (deeper : List (List Table)) (m : ℕ) (l : List Table) → deeper ≡ levels.deeper → m < length deeper → l ≡ get_or deeper m l → l ≡ level levels (suc m)
+level_at levels deeper m l same lt is = is ∙ get_or_any deeper m l [] lt ∙ ap (λ (xs : List (List Table)). get_or xs m []) same
+
+-- a rule on a level and the next one
+abbrev LevelRule : Type 0
+LevelRule = List Table → List Table → ℕ → Option Job
+
+module _ (rule : LevelRule) (levels : Levels) (deeper : List (List Table)) (deeper_are : deeper ≡ levels.deeper) (long : 4 ≤ length deeper)
+    (l1 l2 l3 l4 : List Table) (first : l1 ≡ get_or deeper 0 l1) (second : l2 ≡ get_or deeper 1 l2) (third : l3 ≡ get_or deeper 2 l3) (fourth : l4 ≡ get_or deeper 3 l4) where
+  -- the first of its jobs in three levels
+  pub least_level : (a b c : Option Job) → a ≡ rule l1 l2 1 → b ≡ rule l2 l3 2 → c ≡ rule l3 l4 3
+      → or_next a (or_next b c) ≡ of_least_level (λ i. rule (level levels i) (level levels (suc i)) i)
+  least_level a b c ea eb ec =
+      let e1 = level_at levels deeper 0 l1 deeper_are (omega (arith, long)) first in
+      let e2 = level_at levels deeper 1 l2 deeper_are (omega (arith, long)) second in
+      let e3 = level_at levels deeper 2 l3 deeper_are (omega (arith, long)) third in
+      let e4 = level_at levels deeper 3 l4 deeper_are (omega (arith, long)) fourth in
+      let fa : a ≡ rule (level levels 1) (level levels 2) 1 = ea ∙ ap (λ (l : List Table). rule l l2 1) e1 ∙ ap (λ (l : List Table). rule (level levels 1) l 1) e2 in
+      let fb : b ≡ rule (level levels 2) (level levels 3) 2 = eb ∙ ap (λ (l : List Table). rule l l3 2) e2 ∙ ap (λ (l : List Table). rule (level levels 2) l 2) e3 in
+      let fc : c ≡ rule (level levels 3) (level levels 4) 3 = ec ∙ ap (λ (l : List Table). rule l l4 3) e3 ∙ ap (λ (l : List Table). rule (level levels 3) l 3) e4 in
+      ap (λ (o : Option Job). or_next o (or_next b c)) fa
+      ∙ ap (λ (o : Option Job). or_next (rule (level levels 1) (level levels 2) 1) (or_next o c)) fb
+      ∙ ap (λ (o : Option Job). or_next (rule (level levels 1) (level levels 2) 1) (or_next (rule (level levels 2) (level levels 3) 2) o)) fc
+
+module _ (levels : Levels) (jobs : List Job) (runs deeper : List (List Table)) (runs_are : runs ≡ levels.runs) (deeper_are : deeper ≡ levels.deeper) (long : 1 ≤ length deeper)
+    (l1 : List Table) (first : l1 ≡ get_or deeper 0 l1) where
+  -- it is the first of the merges
+  pub first_merge : (a b c : Option Job) → a ≡ level_0_job runs l1 jobs → b ≡ of_least_level (λ i. delete_job (level levels i) (level levels (suc i)) jobs i)
+      → c ≡ of_least_level (λ i. level_job (level levels i) (level levels (suc i)) jobs i (limit_of i)) → or_next a (or_next b c) ≡ next_merge levels jobs
+  first_merge a b c ea eb ec =
+      let e1 = level_at levels deeper 0 l1 deeper_are (omega (arith, long)) first in
       let fa : a ≡ level_0_job levels.runs (level levels 1) jobs = ea ∙ ap (λ (r : List (List Table)). level_0_job r l1 jobs) runs_are ∙ ap (λ (l : List Table). level_0_job levels.runs l jobs) e1 in
-      let fb : b ≡ level_job (level levels 1) (level levels 2) jobs 1 256 = eb ∙ ap (λ (l : List Table). level_job l l2 jobs 1 256) e1 ∙ ap (λ (l : List Table). level_job (level levels 1) l jobs 1 256) e2 in
-      let fc : c ≡ level_job (level levels 2) (level levels 3) jobs 2 2048 = ec ∙ ap (λ (l : List Table). level_job l l3 jobs 2 2048) e2 ∙ ap (λ (l : List Table). level_job (level levels 2) l jobs 2 2048) e3 in
-      let fd : d ≡ level_job (level levels 3) (level levels 4) jobs 3 16384 = ed ∙ ap (λ (l : List Table). level_job l l4 jobs 3 16384) e3 ∙ ap (λ (l : List Table). level_job (level levels 3) l jobs 3 16384) e4 in
-      ap (λ (o : Option Job). or_next o (or_next b (or_next c d))) fa
-      ∙ ap (λ (o : Option Job). or_next (level_0_job levels.runs (level levels 1) jobs) (or_next o (or_next c d))) fb
-      ∙ ap (λ (o : Option Job). or_next (level_0_job levels.runs (level levels 1) jobs) (or_next (level_job (level levels 1) (level levels 2) jobs 1 256) (or_next o d))) fc
-      ∙ ap (λ (o : Option Job). or_next (level_0_job levels.runs (level levels 1) jobs) (or_next (level_job (level levels 1) (level levels 2) jobs 1 256) (or_next (level_job (level levels 2) (level levels 3) jobs 2 2048) o))) fd
-      ∙ passed_first (flush_job waiting jobs) _ no_flush
+      ap (λ (o : Option Job). or_next o (or_next b c)) fa
+      ∙ ap (λ (o : Option Job). or_next (level_0_job levels.runs (level levels 1) jobs) (or_next o c)) eb
+      ∙ ap (λ (o : Option Job). or_next (level_0_job levels.runs (level levels 1) jobs) (or_next (of_least_level (λ i. delete_job (level levels i) (level levels (suc i)) jobs i)) o)) ec
 
 -- ---- free tables
 
@@ -115,8 +149,9 @@ free_apart jobs t free other a u b same =
     absurd (no (sym (any_of (λ job. list_any (λ x. x.number == t.number) (inputs job)) other jobs a (any_of (λ x. x.number == t.number) u (inputs other) b (eq-eqb u.number t.number (sym same))))
     ∙ not_true (is_input jobs t.number) free))
 
-free_merge : (jobs : List Job) (i : ℕ) (upper below : List Table) → can_merge jobs upper below ≡ true → (other : Job) → IsAmong other jobs → AreApart (merge_of i upper below) other
-free_merge jobs i upper below can other a =
+pub merge_apart : (jobs : List Job) (i : ℕ) (upper below : List Table) → can_merge jobs upper below ≡ true → list_any is_several jobs ≡ false → (are_several i upper ≡ true → list_any is_merge jobs ≡ false)
+    → (other : Job) → IsAmong other jobs → AreApart (merge_of i upper below) other
+merge_apart jobs i upper below can none lone other a =
     let parts = in_both (list_all (is_free jobs) upper) (list_all (is_free jobs) (lower_of upper below)) can in
     record {
       tables = λ t u b c. ⊎_elim
@@ -124,7 +159,13 @@ free_merge jobs i upper below can other a =
           (λ low. free_apart jobs t (all_pass (is_free jobs) (lower_of upper below) parts.1 t low) other a u c)
           (among_either t upper (lower_of upper below) b);
       one_flush = λ e f. absurd (no (sym e));
+      alone = λ e. by (is_flush other) refl (lone e);
+      others_alone = λ e. absurd (no (sym (any_of is_several other jobs a e) ∙ none));
     }
+  where
+    by : (b : Bool) → is_flush other ≡ b → list_any is_merge jobs ≡ false → b ≡ true
+    by true e f = refl
+    by false e f = absurd (no (sym (any_of is_merge other jobs a (ap not e)) ∙ f))
 
 -- ---- the tables below its output
 
@@ -168,7 +209,7 @@ module _ (levels : Levels) (runs : AreRuns levels) where
       by true f = absurd (no (sym (any_of (meets w) t tables a (ap (λ (r : KeyRange). meets r t) (some_range w whole e) ∙ f)) ∙ not_true (list_any (meets w) tables) h))
 
   -- a merge of upper tables whose hull there is
-  held_merge : (i : ℕ) (upper : List Table) (range : KeyRange) → i ≤ 3 → hull upper ≡ Some range → IsUpper levels i upper
+  pub held_merge : (i : ℕ) (upper : List Table) (range : KeyRange) → i ≤ 3 → hull upper ≡ Some range → IsUpper levels i upper
       → HasItsTables levels (is_bottom levels (merge_of i upper (level levels (suc i)))) i upper (lower_of upper (level levels (suc i)))
   held_merge i upper range small is uppers =
       let lower_is : lower_of upper (level levels (suc i)) ≡ filter (meets range) (level levels (suc i)) = ap (λ (o : Option KeyRange). meeting o (level levels (suc i))) is in
@@ -187,29 +228,31 @@ module _ (levels : Levels) (runs : AreRuns levels) where
 
 -- ---- the rules
 
-flush_rule : (waiting : Bool) (levels : Levels) (jobs : List Job) (job : Job) → flush_job waiting jobs ≡ Some job → IsPicked levels jobs job
+flush_rule : (waiting : Bool) (levels : Levels) (jobs : List Job) (job : Job) → flush_job waiting jobs ≡ Some job → MayTake levels jobs job
 flush_rule waiting levels jobs job e =
     let test = taken (waiting && not (list_any is_flush jobs)) job (Some Flush) e in
     let none = not_true (list_any is_flush jobs) (in_both waiting (not (list_any is_flush jobs)) test.0).1 in
-    subst (IsPicked levels jobs) (some_job Flush job test.1) (record {
+    subst (MayTake levels jobs) (some_job Flush job test.1) (record {
       held = refl;
       apart = λ other a. record {
         tables = λ t u b c. absurd b;
         one_flush = λ mine theirs. no (sym (any_of is_flush other jobs a theirs) ∙ none);
+        alone = λ e. absurd (no (sym e));
+        others_alone = λ e. refl;
       };
     })
 
-hull_there : (upper : List Table) → 0 < length upper → (range : KeyRange) × (hull upper ≡ Some range)
+pub hull_there : (upper : List Table) → 0 < length upper → (range : KeyRange) × (hull upper ≡ Some range)
 hull_there [] some = absurd (omega (arith, some))
 hull_there (t ∷ rest) some = (spanned t (hull rest), refl)
 
-last_in : (P : List Table → Type 0) (runs : List (List Table)) → 1 ≤ length runs → AllByRecursion P runs → P (last_run runs)
+pub last_in : (P : List Table → Type 0) (runs : List (List Table)) → 1 ≤ length runs → AllByRecursion P runs → P (last_run runs)
 last_in P [] le h = absurd (omega (arith, le))
 last_in P (x ∷ []) le h = h.0
 last_in P (x ∷ y ∷ rest) le h = subst P (sym (last_cons x y rest)) (last_in P (y ∷ rest) (omega arith) h.1)
 
-level_0_rule : (levels : Levels) (jobs : List Job) (job : Job) → AreRuns levels → level_0_job levels.runs (level levels 1) jobs ≡ Some job → IsPicked levels jobs job
-level_0_rule levels jobs job runs e =
+level_0_rule : (levels : Levels) (jobs : List Job) (job : Job) → AreRuns levels → list_any is_several jobs ≡ false → level_0_job levels.runs (level levels 1) jobs ≡ Some job → MayTake levels jobs job
+level_0_rule levels jobs job runs none e =
     let oldest = last_run levels.runs in
     let can : Bool = can_merge jobs oldest (level levels 1) in
     let test = taken (leb 4 (length levels.runs) && (not (list_any is_of_level_0 jobs) && can)) job (Some (merge_of 0 oldest (level levels 1))) e in
@@ -217,9 +260,9 @@ level_0_rule levels jobs job runs e =
     let then = in_both (not (list_any is_of_level_0 jobs)) can first.1 in
     let many = leb-true 4 (length levels.runs) first.0 in
     let there = hull_there oldest (last_in (λ run. 0 < length run) levels.runs (omega (arith, many)) runs.some) in
-    subst (IsPicked levels jobs) (some_job (merge_of 0 oldest (level levels 1)) job test.1) (record {
+    subst (MayTake levels jobs) (some_job (merge_of 0 oldest (level levels 1)) job test.1) (record {
       held = held_merge levels runs 0 oldest there.0 (omega arith) there.1 (omega (arith, many), refl);
-      apart = free_merge jobs 0 oldest (level levels 1) then.1;
+      apart = merge_apart jobs 0 oldest (level levels 1) then.1 none (λ f. absurd (no (sym f)));
     })
 
 least_among : (tables : List Table) (t : Table) → least_numbered tables ≡ Some t → IsAmong t tables
@@ -238,32 +281,52 @@ mapped : (f : Table → Job) (o : Option Table) (job : Job) → option_map f o �
 mapped f (Some t) job e = (t, refl, some_job (f t) job e)
 mapped f None job e = absurd (none_job job e)
 
-level_rule : (i limit : ℕ) (levels : Levels) (jobs : List Job) (job : Job) → suc i ≤ 3 → AreRuns levels → level_job (level levels (suc i)) (level levels (suc (suc i))) jobs (suc i) limit ≡ Some job → IsPicked levels jobs job
-level_rule i limit levels jobs job small runs e =
+-- the least-numbered of the tables of a level that pass a test
+least_rule : (test : Table → Bool) (i : ℕ) (levels : Levels) (jobs : List Job) (job : Job) → suc i ≤ 3 → AreRuns levels → list_any is_several jobs ≡ false
+    → least_job test (level levels (suc i)) (level levels (suc (suc i))) jobs (suc i) ≡ Some job → MayTake levels jobs job
+least_rule test i levels jobs job small runs none e =
     let tables = level levels (suc i) in
     let below = level levels (suc (suc i)) in
-    let test = taken (ltb limit (sum_by (λ t. t.blocks) tables)) job (option_map (λ t. merge_of (suc i) (t ∷ []) below) (least_numbered (filter (λ t. can_merge jobs (t ∷ []) below) tables))) e in
-    let found = mapped (λ t. merge_of (suc i) (t ∷ []) below) (least_numbered (filter (λ t. can_merge jobs (t ∷ []) below) tables)) job test.1 in
+    let found = mapped (λ t. merge_of (suc i) (t ∷ []) below) (least_numbered (filter (λ t. test t && can_merge jobs (t ∷ []) below) tables)) job e in
     let t = found.0 in
-    let passed = passed_among (λ u. can_merge jobs (u ∷ []) below) t tables (least_among (filter (λ u. can_merge jobs (u ∷ []) below) tables) t found.1) in
-    subst (IsPicked levels jobs) found.2 (record {
-      held = held_merge levels runs (suc i) (t ∷ []) (range_of t) small refl (t, refl, passed.0);
-      apart = free_merge jobs (suc i) (t ∷ []) below passed.1;
+    let passed = passed_among (λ u. test u && can_merge jobs (u ∷ []) below) t tables (least_among (filter (λ u. test u && can_merge jobs (u ∷ []) below) tables) t found.1) in
+    subst (MayTake levels jobs) found.2 (record {
+      held = held_merge levels runs (suc i) (t ∷ []) (range_of t) small refl (one_met tables t (run_at levels runs i) passed.0);
+      apart = merge_apart jobs (suc i) (t ∷ []) below (in_both (test t) (can_merge jobs (t ∷ []) below) passed.1).1 none (λ f. absurd (no (sym f ∙ one_few (ltb 0 (suc i)))));
     })
 
+level_rule : (i limit : ℕ) (levels : Levels) (jobs : List Job) (job : Job) → suc i ≤ 3 → AreRuns levels → list_any is_several jobs ≡ false
+    → level_job (level levels (suc i)) (level levels (suc (suc i))) jobs (suc i) limit ≡ Some job → MayTake levels jobs job
+level_rule i limit levels jobs job small runs none e =
+    let tables = level levels (suc i) in
+    let below = level levels (suc (suc i)) in
+    let test = taken (ltb limit (sum_by (λ t. t.blocks) tables)) job (least_job (λ t. true) tables below jobs (suc i)) e in
+    least_rule (λ t. true) i levels jobs job small runs none test.1
+
 -- the first of two that there is
-of_next : (P : Job → Type 0) (a b : Option Job) (job : Job) → ((x : Job) → a ≡ Some x → P x) → ((x : Job) → b ≡ Some x → P x) → or_next a b ≡ Some job → P job
+pub of_next : (P : Job → Type 0) (a b : Option Job) (job : Job) → ((x : Job) → a ≡ Some x → P x) → ((x : Job) → b ≡ Some x → P x) → or_next a b ≡ Some job → P job
 of_next P (Some x) b job f g e = f job e
 of_next P None b job f g e = g job e
+
+-- the first of three
+pub of_levels : (P : Job → Type 0) (f : ℕ → Option Job) (job : Job) → ((x : Job) → f 1 ≡ Some x → P x) → ((x : Job) → f 2 ≡ Some x → P x) → ((x : Job) → f 3 ≡ Some x → P x) → of_least_level f ≡ Some job → P job
+of_levels P f job one two three e = of_next P (f 1) (or_next (f 2) (f 3)) job one (λ x. of_next P (f 2) (f 3) x two three) e
+
+abbrev NoFlush : Job → Type 0
+NoFlush j = is_flush j ≡ false
 
 -- a flush is picked only where sealed versions wait
 pub flush_waits : (waiting : Bool) (levels : Levels) (jobs : List Job) (job : Job) → pick waiting levels jobs ≡ Some job → is_flush job ≡ true → waiting ≡ true
 flush_waits waiting levels jobs job e =
     let P : Job → Type 0 = λ j. is_flush j ≡ true → waiting ≡ true in
     of_next P _ _ job (λ x f flush. (in_both waiting (not (list_any is_flush jobs)) (taken (waiting && not (list_any is_flush jobs)) x (Some Flush) f).0).0)
-    (λ x. of_next P _ _ x (λ y f flush. absurd (not_flush y (level_0_merge y f) flush))
-    (λ x. of_next P _ _ x (λ y f flush. absurd (not_flush y (level_merge 1 256 (level levels 1) (level levels 2) y f) flush))
-    (λ x. of_next P _ _ x (λ y f flush. absurd (not_flush y (level_merge 2 2048 (level levels 2) (level levels 3) y f) flush)) (λ y f flush. absurd (not_flush y (level_merge 3 16384 (level levels 3) (level levels 4) y f) flush))))) e
+    (λ x g. of_next P _ _ x (λ y f flush. absurd (not_flush y (level_0_merge y f) flush))
+    (λ x. of_next P _ _ x
+    (λ y f flush. absurd (not_flush y (of_levels NoFlush (λ i. delete_job (level levels i) (level levels (suc i)) jobs i) y
+    (least_merge 1 is_mostly_deletes (level levels 1) (level levels 2)) (least_merge 2 is_mostly_deletes (level levels 2) (level levels 3)) (least_merge 3 is_mostly_deletes (level levels 3) (level levels 4)) f) flush))
+    (λ y f flush. absurd (not_flush y (of_levels NoFlush (λ i. level_job (level levels i) (level levels (suc i)) jobs i (limit_of i)) y
+    (level_merge 1 256 (level levels 1) (level levels 2)) (level_merge 2 2048 (level levels 2) (level levels 3)) (level_merge 3 16384 (level levels 3) (level levels 4)) f) flush)))
+    (barred (list_any is_several jobs) x (next_merge levels jobs) g).1) e
   where
     not_flush : (j : Job) → is_flush j ≡ false → is_flush j ≡ true → ⊥
     not_flush j a b = no (sym b ∙ a)
@@ -273,16 +336,27 @@ flush_waits waiting levels jobs job e =
         let test = taken (leb 4 (length levels.runs) && (not (list_any is_of_level_0 jobs) && can_merge jobs (last_run levels.runs) (level levels 1))) j (Some (merge_of 0 (last_run levels.runs) (level levels 1))) f in
         sym (ap is_flush (some_job (merge_of 0 (last_run levels.runs) (level levels 1)) j test.1))
 
+    least_merge : (i : ℕ) (test : Table → Bool) (tables below : List Table) (j : Job) → least_job test tables below jobs i ≡ Some j → is_flush j ≡ false
+    least_merge i test tables below j f =
+        let found = mapped (λ t. merge_of i (t ∷ []) below) (least_numbered (filter (λ t. test t && can_merge jobs (t ∷ []) below) tables)) j f in
+        sym (ap is_flush found.2)
+
     level_merge : (i limit : ℕ) (tables below : List Table) (j : Job) → level_job tables below jobs i limit ≡ Some j → is_flush j ≡ false
     level_merge i limit tables below j f =
-        let test = taken (ltb limit (sum_by (λ t. t.blocks) tables)) j (option_map (λ t. merge_of i (t ∷ []) below) (least_numbered (filter (λ t. can_merge jobs (t ∷ []) below) tables))) f in
-        let found = mapped (λ t. merge_of i (t ∷ []) below) (least_numbered (filter (λ t. can_merge jobs (t ∷ []) below) tables)) j test.1 in
-        sym (ap is_flush found.2)
+        least_merge i (λ t. true) tables below j (taken (ltb limit (sum_by (λ t. t.blocks) tables)) j (least_job (λ t. true) tables below jobs i) f).1
 
 pub pick_law : PickLaw
 pick_law waiting levels jobs job runs e =
-    let P : Job → Type 0 = IsPicked levels jobs in
+    let P : Job → Type 0 = MayTake levels jobs in
     of_next P _ _ job (flush_rule waiting levels jobs)
-    (λ x. of_next P _ _ x (λ y. level_0_rule levels jobs y runs)
-    (λ x. of_next P _ _ x (λ y. level_rule 0 256 levels jobs y (omega arith) runs)
-    (λ x. of_next P _ _ x (λ y. level_rule 1 2048 levels jobs y (omega arith) runs) (λ y. level_rule 2 16384 levels jobs y (omega arith) runs)))) e
+    (λ x f. let free = barred (list_any is_several jobs) x (next_merge levels jobs) f in merge_rule x free.0 free.1) e
+  where
+    merge_rule : (x : Job) → list_any is_several jobs ≡ false → next_merge levels jobs ≡ Some x → MayTake levels jobs x
+    merge_rule x none f =
+        let P : Job → Type 0 = MayTake levels jobs in
+        of_next P _ _ x (λ y. level_0_rule levels jobs y runs none)
+        (λ y. of_next P _ _ y
+        (λ z. of_levels P (λ i. delete_job (level levels i) (level levels (suc i)) jobs i) z
+        (λ w. least_rule is_mostly_deletes 0 levels jobs w (omega arith) runs none) (λ w. least_rule is_mostly_deletes 1 levels jobs w (omega arith) runs none) (λ w. least_rule is_mostly_deletes 2 levels jobs w (omega arith) runs none))
+        (λ z. of_levels P (λ i. level_job (level levels i) (level levels (suc i)) jobs i (limit_of i)) z
+        (λ w. level_rule 0 256 levels jobs w (omega arith) runs none) (λ w. level_rule 1 2048 levels jobs w (omega arith) runs none) (λ w. level_rule 2 16384 levels jobs w (omega arith) runs none))) f

@@ -1,12 +1,12 @@
 -- The levels stay runs.
-use Rattle.std.proofs.Common.{◌≡◌, inl, inr, ⊎_elim, ℕ, zero, suc, ◌-◌, ◌<◌, Bool, true, false, cond, List, [], ◌∷◌, ◌++◌, length, take, get_or, set, filter, Option, Some, refl, sym, ap, ◌∙◌, subst}
+use Rattle.std.proofs.Common.{◌≡◌, inl, inr, ⊎_elim, ℕ, zero, suc, ◌-◌, ◌<◌, Bool, true, false, cond, List, [], ◌∷◌, ◌++◌, length, take, get_or, set, filter, Option, Some, None, refl, sym, ap, ◌∙◌, subst}
 use Rattle.std.specs.List.{AllByRecursion}
 use Rattle.lsm_levels.specs.Among.{IsAmong}
 use Rattle.lsm_levels.proofs.Members.{passed_among, among_either}
-use Rattle.lsm_levels.specs.Tables.{Table, KeyRange, range_of, at_most, is_below, hull, meets, put_at, IsRun}
+use Rattle.lsm_levels.specs.Tables.{Table, KeyRange, range_of, at_most, is_below, hull, meets, meeting, put_at, IsRun}
 use Rattle.lsm_levels.specs.Levels.{Levels, level, last_run, merged_at, replaced}
 use Rattle.lsm_levels.specs.Pick.{Flush, Merge}
-use Rattle.lsm_levels.specs.Held.{AreRuns, HasItsTables, IsWithin, RunsLaw}
+use Rattle.lsm_levels.specs.Held.{AreRuns, IsUpper, HasItsTables, IsWithin, RunsLaw}
 use Rattle.lsm_levels.proofs.KeyOrder.{below_then, below_at_most, at_most_trans}
 use Rattle.lsm_levels.proofs.Ranges.{all_of, of_all, run_order, other_apart, within_left, within_right, apart_left, apart_right}
 use Rattle.lsm_levels.proofs.HullLaws.{hull_order, all_right, all_left}
@@ -96,6 +96,20 @@ module _ (r : KeyRange) (order : at_most r.first r.last ≡ true) (xs : List Tab
           within_right (range_of y) (upper ++ lower) n (of_all (IsWithin (upper ++ lower)) new within n a)
           (all_left upper lower r (range_of y) is meet (run_order xs run y p.0) (λ l b. lone y l p.0 (apart_right r y p.1) b) p.1)
 
+-- ---- the upper tables of a level from 1 to 3
+
+in_meeting : (o : Option KeyRange) (tables : List Table) (x : Table) → IsAmong x (meeting o tables) → IsAmong x tables
+in_meeting None tables x a = absurd a
+in_meeting (Some r) tables x a = (passed_among (meets r) x tables a).0
+
+-- they are tables of it,
+pub upper_among : (levels : Levels) (i : ℕ) (upper : List Table) → IsUpper levels (suc i) upper → (x : Table) → IsAmong x upper → IsAmong x (level levels (suc i))
+upper_among levels i upper u x a = in_meeting (hull upper) (level levels (suc i)) x (subst (λ (l : List Table). IsAmong x l) u a)
+
+-- all that meet their hull
+pub upper_is : (levels : Levels) (i : ℕ) (upper : List Table) (r : KeyRange) → hull upper ≡ Some r → IsUpper levels (suc i) upper → upper ≡ filter (meets r) (level levels (suc i))
+upper_is levels i upper r is u = u ∙ ap (λ (o : Option KeyRange). meeting o (level levels (suc i))) is
+
 -- the upper tables' ranges are not empty
 pub upper_order : (levels : Levels) (bottom : Bool) (i : ℕ) (upper lower : List Table) → AreRuns levels → (h : HasItsTables levels bottom i upper lower) → at_most h.range.first h.range.last ≡ true
 upper_order levels bottom zero upper lower runs h =
@@ -103,8 +117,7 @@ upper_order levels bottom zero upper lower runs h =
     (λ x a. run_order (last_run levels.runs) (all_or IsRun levels.runs (length levels.runs - 1) [] runs.runs tt) x (subst (λ (run : List Table). IsAmong x run) (sym h.uppers.1) a))
 upper_order levels bottom (suc i) upper lower runs h =
     hull_order upper h.range h.hull_is
-    (λ x a. let t = h.uppers.0 in
-    ⊎_elim (λ e. subst (λ (y : Table). at_most y.first y.last ≡ true) (sym e) (run_order (level levels (suc i)) (run_at levels runs i) t h.uppers.2)) (λ none. absurd none) (subst (IsAmong x) h.uppers.1 a))
+    (λ x a. run_order (level levels (suc i)) (run_at levels runs i) x (upper_among levels i upper h.uppers x a))
 
 length_set : {X : Type 0} (xs : List X) (i : ℕ) (y : X) → length (set xs i y) ≡ length xs
 length_set [] i y = refl
@@ -112,7 +125,7 @@ length_set (x ∷ xs) zero y = refl
 length_set (x ∷ xs) (suc i) y = ap suc (length_set xs i y)
 
 module _ (levels : Levels) (bottom : Bool) (upper lower new : List Table) (runs : AreRuns levels) (made : IsRun new) (within : AllByRecursion (IsWithin (upper ++ lower)) new) where
-  replaced_runs : (i : ℕ) (h : HasItsTables levels bottom i upper lower) → AreRuns (replaced i h.range new levels)
+  pub replaced_runs : (i : ℕ) (h : HasItsTables levels bottom i upper lower) → AreRuns (replaced i h.range new levels)
   replaced_runs zero h = record {
     four = length_set levels.deeper 0 (put_at h.range new (get_or levels.deeper 0 [])) ∙ runs.four;
     runs = all_take IsRun (length levels.runs - 1) levels.runs runs.runs;

@@ -1,17 +1,18 @@
 -- A job keeps its tables while others install.
-use Rattle.std.proofs.Common.{◌≡◌, ◌⊎◌, inl, inr, ⊎_elim, ℕ, zero, suc, ◌-◌, ◌<◌, ◌≤◌, Bool, true, false, List, [], ◌∷◌, ◌++◌, length, Option, Some, None, refl, sym, ap, ◌∙◌, subst, arith}
+use Rattle.std.proofs.Common.{◌≡◌, ◌⊎◌, inl, inr, ⊎_elim, ℕ, zero, suc, ◌-◌, ◌<◌, ◌≤◌, Bool, true, false, ◌&&◌, ltb, List, [], ◌∷◌, ◌++◌, length, Option, Some, None, refl, sym, ap, ◌∙◌, subst, arith}
 use Rattle.std.specs.List.{AllByRecursion}
-use Rattle.std.proofs.lemmas.Bool.{cases_lt}
+use Rattle.std.proofs.lemmas.Bool.{cases_lt, lt-ltb}
 use Rattle.lsm_levels.specs.Among.{IsAmong}
 use Rattle.lsm_levels.proofs.Members.{among_left, among_right, among_either}
-use Rattle.lsm_levels.specs.Tables.{Table, KeyRange, range_of, at_most, is_below, hull, meets, IsRun}
+use Rattle.lsm_levels.specs.Tables.{Table, KeyRange, range_of, at_most, is_below, hull, meets, meeting, IsRun}
 use Rattle.lsm_levels.specs.Levels.{Levels, level, last_run, flushed, merged_at, replaced}
-use Rattle.lsm_levels.specs.Pick.{Flush, Merge}
+use Rattle.lsm_levels.specs.Pick.{Flush, Merge, are_several}
 use Rattle.lsm_levels.specs.Held.{AreRuns, IsUpper, HasItsTables, AreApart, IsWithin, SurvivalLaw}
 use Rattle.lsm_levels.proofs.Ranges.{no, of_all, sides, run_order, other_apart}
 use Rattle.lsm_levels.proofs.HullLaws.{hull_order, beside_output, beside_hull}
 use Rattle.lsm_levels.proofs.Replacing.{last_cons, after_cases, stays_after}
-use Rattle.lsm_levels.proofs.Runs.{all_or, run_at}
+use Rattle.lsm_levels.proofs.Runs.{all_or, run_at, upper_among, replaced_runs}
+use Rattle.lsm_levels.proofs.TablesMet.{one_met}
 
 some_same : (a b : KeyRange) → Some a ≡ Some b → a ≡ b
 some_same a b e = cc
@@ -25,11 +26,37 @@ not_met true h = absurd (h refl)
 not_met false h = refl
 
 -- a table whose range a hull is of
-pub single_range : (t : Table) (upper : List Table) (r : KeyRange) → upper ≡ t ∷ [] → hull upper ≡ Some r → r ≡ range_of t
+single_range : (t : Table) (upper : List Table) (r : KeyRange) → upper ≡ t ∷ [] → hull upper ≡ Some r → r ≡ range_of t
 single_range t upper r single is = sym (some_same (range_of t) r (sym (ap hull single) ∙ is))
+
+-- of a merge that takes no several tables: they are the oldest run of level 0, or one table of another level
+abbrev IsSingle : Levels → ℕ → List Table → Type 0
+IsSingle levels zero upper = (1 ≤ length levels.runs) × (last_run levels.runs ≡ upper)
+IsSingle levels (suc i) upper = (t : Table) × (upper ≡ t ∷ []) × IsAmong t (level levels (suc i))
+
+to_single : (levels : Levels) (i : ℕ) (upper : List Table) (r : KeyRange) → hull upper ≡ Some r → are_several i upper ≡ false → IsUpper levels i upper → IsSingle levels i upper
+to_single levels zero upper r is few u = u
+to_single levels (suc i) [] r is few u = absurd (none_some r is)
+to_single levels (suc i) (t ∷ []) r is few u = (t, refl, upper_among levels i (t ∷ []) u t (inl refl))
+to_single levels (suc i) (t ∷ v ∷ rest) r is few u = absurd (no (sym (both (ltb 0 (suc i)) (ltb 1 (length (t ∷ v ∷ rest))) (lt-ltb 0 (suc i) (omega arith)) (lt-ltb 1 (length (t ∷ v ∷ rest)) (omega arith))) ∙ few))
+  where
+    both : (a b : Bool) → a ≡ true → b ≡ true → (a && b) ≡ true
+    both a b e f = ap (λ x. x && b) e ∙ f
+
+from_single : (levels : Levels) → AreRuns levels → (i : ℕ) (upper : List Table) → IsSingle levels i upper → IsUpper levels i upper
+from_single levels runs zero upper u = u
+from_single levels runs (suc i) upper u =
+    subst (λ (l : List Table). l ≡ meeting (hull l) (level levels (suc i))) (sym u.1) (one_met (level levels (suc i)) u.0 (run_at levels runs i) u.2)
 
 module _ (levels : Levels) (runs : AreRuns levels) (bottom flag : Bool) (i j : ℕ) (upper lower other_upper other_lower : List Table)
     (h : HasItsTables levels bottom i upper lower) (c : HasItsTables levels flag j other_upper other_lower) (apart : AreApart (Merge i upper lower) (Merge j other_upper other_lower)) where
+  -- neither takes several tables
+  mine_at : IsSingle levels i upper
+  mine_at = to_single levels i upper h.range h.hull_is (not_met (are_several i upper) (λ e. no (sym (apart.alone e)))) h.uppers
+
+  theirs_at : IsSingle levels j other_upper
+  theirs_at = to_single levels j other_upper c.range c.hull_is (not_met (are_several j other_upper) (λ e. no (sym (apart.others_alone e)))) c.uppers
+
   -- no input of the one is an input of the other
   abbrev Mine : Table → Type 0
   Mine t = IsAmong t (upper ++ lower)
@@ -47,11 +74,11 @@ module _ (levels : Levels) (runs : AreRuns levels) (bottom flag : Bool) (i j : �
   not_both : i ≡ 0 → j ≡ 0 → ⊥
   not_both e f = by upper refl
     where
-      mine : (n : ℕ) → n ≡ 0 → IsUpper levels n upper → last_run levels.runs ≡ upper
+      mine : (n : ℕ) → n ≡ 0 → IsSingle levels n upper → last_run levels.runs ≡ upper
       mine zero e u = u.1
       mine (suc n) e u = absurd (omega (arith, e))
 
-      others : (n : ℕ) → n ≡ 0 → IsUpper levels n other_upper → last_run levels.runs ≡ other_upper
+      others : (n : ℕ) → n ≡ 0 → IsSingle levels n other_upper → last_run levels.runs ≡ other_upper
       others zero e u = u.1
       others (suc n) e u = absurd (omega (arith, e))
 
@@ -59,13 +86,13 @@ module _ (levels : Levels) (runs : AreRuns levels) (bottom flag : Bool) (i j : �
       by [] is = none_some h.range (sym (ap hull is) ∙ h.hull_is)
       by (t ∷ rest) is =
           let a : IsAmong t upper = subst (λ (l : List Table). IsAmong t l) (sym is) (inl refl) in
-          shared t (among_left t upper lower a) (among_left t other_upper other_lower (subst (IsAmong t) (sym (mine i e h.uppers) ∙ others j f c.uppers) a))
+          shared t (among_left t upper lower a) (among_left t other_upper other_lower (subst (IsAmong t) (sym (mine i e mine_at) ∙ others j f theirs_at) a))
 
   -- the one table of a level that a merge takes
   abbrev IsOne : ℕ → Table → List Table → Type 0
   IsOne n t tables = (tables ≡ t ∷ []) × IsAmong t (level levels n)
 
-  one_table : (n : ℕ) → 1 ≤ n → (tables : List Table) → IsUpper levels n tables → (t : Table) × IsOne n t tables
+  one_table : (n : ℕ) → 1 ≤ n → (tables : List Table) → IsSingle levels n tables → (t : Table) × IsOne n t tables
   one_table zero le tables u = absurd (omega (arith, le))
   one_table (suc n) le tables u = (u.0, (u.1, u.2))
 
@@ -80,7 +107,7 @@ module _ (levels : Levels) (runs : AreRuns levels) (bottom flag : Bool) (i j : �
 
   module _ (deep : 1 ≤ j) where
     theirs : (t : Table) × IsOne j t other_upper
-    theirs = one_table j deep other_upper c.uppers
+    theirs = one_table j deep other_upper theirs_at
 
     abbrev it : Table
     it = theirs.0
@@ -110,7 +137,7 @@ module _ (levels : Levels) (runs : AreRuns levels) (bottom flag : Bool) (i j : �
       (λ e deep. beside_it deep t a (subst (λ n. IsAmong t (level levels n)) e at))
       (λ e f last. fine e f)
 
-  module _ (new : List Table) (within : AllByRecursion (IsWithin (other_upper ++ other_lower)) new) where
+  module _ (new : List Table) (made : IsRun new) (within : AllByRecursion (IsWithin (other_upper ++ other_lower)) new) where
     abbrev after : Levels
     after = replaced j c.range new levels
 
@@ -118,7 +145,7 @@ module _ (levels : Levels) (runs : AreRuns levels) (bottom flag : Bool) (i j : �
     runs_same zero le r = absurd (omega (arith, le))
     runs_same (suc n) le r = refl
 
-    uppers_after : (n : ℕ) → n ≡ i → IsUpper levels n upper → IsUpper after n upper
+    uppers_after : (n : ℕ) → n ≡ i → IsSingle levels n upper → IsSingle after n upper
     uppers_after zero e u = ⊎_elim
         (λ (none : j ≡ 0). absurd (not_both (sym e) none))
         (λ (deep : 1 ≤ j). let same = runs_same j deep c.range in
@@ -140,7 +167,7 @@ module _ (levels : Levels) (runs : AreRuns levels) (bottom flag : Bool) (i j : �
     beside_mine : i ≡ j → (n : Table) → IsAmong n new → meets h.range n ≡ false
     beside_mine e n a =
         let deep : 1 ≤ j = nonzero j (λ f. not_both (e ∙ f) f) in
-        let mine = one_table i (subst (λ m. 1 ≤ m) (sym e) deep) upper h.uppers in
+        let mine = one_table i (subst (λ m. 1 ≤ m) (sym e) deep) upper mine_at in
         let t = mine.0 in
         let range : h.range ≡ range_of t = single_range t upper h.range mine.1.0 h.hull_is in
         let at : IsAmong t (level levels j) = subst (λ m. IsAmong t (level levels m)) e mine.1.1 in
@@ -192,12 +219,12 @@ module _ (levels : Levels) (runs : AreRuns levels) (bottom flag : Bool) (i j : �
             one_or_more le = ⊎_elim (λ s. inr s) (λ (ge : j ≤ suc i). inl (let e : j ≡ suc i = omega (arith, le, ge) in e)) (cases_lt (suc i) j)
 
     whole_order : (whole : KeyRange) → hull (upper ++ lower) ≡ Some whole → at_most whole.first whole.last ≡ true
-    whole_order whole is = hull_order (upper ++ lower) whole is (λ x a. ⊎_elim (λ b. of_upper i h.uppers x b) (λ b. run_order (level levels (suc i)) (run_at levels runs i) x (h.lowers x b)) (either x a))
+    whole_order whole is = hull_order (upper ++ lower) whole is (λ x a. ⊎_elim (λ b. of_upper i mine_at x b) (λ b. run_order (level levels (suc i)) (run_at levels runs i) x (h.lowers x b)) (either x a))
       where
         either : (x : Table) → IsAmong x (upper ++ lower) → IsAmong x upper ⊎ IsAmong x lower
         either x a = among_either x upper lower a
 
-        of_upper : (n : ℕ) → IsUpper levels n upper → (x : Table) → IsAmong x upper → at_most x.first x.last ≡ true
+        of_upper : (n : ℕ) → IsSingle levels n upper → (x : Table) → IsAmong x upper → at_most x.first x.last ≡ true
         of_upper zero u x a = run_order (last_run levels.runs) (all_or IsRun levels.runs (length levels.runs - 1) [] runs.runs tt) x (subst (λ (l : List Table). IsAmong x l) (sym u.1) a)
         of_upper (suc n) u x a =
             ⊎_elim (λ e. subst (λ (y : Table). at_most y.first y.last ≡ true) (sym e) (run_order (level levels (suc n)) (run_at levels runs n) u.0 u.2)) (λ none. absurd none) (subst (IsAmong x) u.1 a)
@@ -207,7 +234,7 @@ module _ (levels : Levels) (runs : AreRuns levels) (bottom flag : Bool) (i j : �
       known = h.known;
       range = h.range;
       hull_is = h.hull_is;
-      uppers = uppers_after i refl h.uppers;
+      uppers = from_single after (replaced_runs levels flag other_upper other_lower new runs made within j c) i upper (uppers_after i refl mine_at);
       lowers = λ t a. stays (suc i) t (among_right t upper lower a) (h.lowers t a) new (λ e f. omega (arith, e));
       lower_run = h.lower_run;
       meet = h.meet;
@@ -252,4 +279,4 @@ survival_law levels bottom flag Flush other new runs held other_held apart outpu
 survival_law levels bottom flag (Merge i upper lower) Flush new runs held other_held apart outputs = flush_survives levels bottom i upper lower new held
 survival_law levels bottom flag (Merge i upper lower) (Merge j other_upper other_lower) new runs held other_held apart outputs =
     subst (λ (o : Option KeyRange). HasItsTables (merged_at j o new levels) bottom i upper lower) (sym other_held.hull_is)
-    (merge_survives levels runs bottom flag i j upper lower other_upper other_lower held other_held apart new outputs.1)
+    (merge_survives levels runs bottom flag i j upper lower other_upper other_lower held other_held apart new outputs.0 outputs.1)

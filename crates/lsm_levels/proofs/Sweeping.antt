@@ -112,15 +112,15 @@ meets_left key u rest h = filter_twice (ends_on key) (meets (range_of u)) rest �
     by (x ∷ xs) = ap (λ (b : Bool). cond b (x ∷ filter (λ y. ends_on key y && meets (range_of u) y) xs) (filter (λ y. ends_on key y && meets (range_of u) y) xs)) (one x (at_most key x.last) refl)
         ∙ ap (λ (ys : List Table). cond (meets (range_of u) x) (x ∷ ys) ys) (by xs)
 
-module _ (jobs : List Job) where
+module _ (jobs : List Job) (wanted : Table → Bool) where
   abbrev may : List Table → Table → Bool
-  may below t = can_merge jobs (t ∷ []) below
+  may below t = wanted t && can_merge jobs (t ∷ []) below
 
   -- so it is with all tables from one of a run on
   same_merges : (key : Bytes) (rest tables : List Table) → AllByRecursion (λ u. at_most key u.first ≡ true) tables → filter (may (filter (ends_on key) rest)) tables ≡ filter (may rest) tables
   same_merges key rest [] h = refl
   same_merges key rest (u ∷ us) h =
-      ap (λ (xs : List Table). cond ((is_free jobs u && true) && list_all (is_free jobs) xs) (u ∷ filter (may (filter (ends_on key) rest)) us) (filter (may (filter (ends_on key) rest)) us)) (meets_left key u rest h.0)
+      ap (λ (xs : List Table). cond (wanted u && ((is_free jobs u && true) && list_all (is_free jobs) xs)) (u ∷ filter (may (filter (ends_on key) rest)) us) (filter (may (filter (ends_on key) rest)) us)) (meets_left key u rest h.0)
       ∙ ap (λ (ys : List Table). cond (may rest u) (u ∷ ys) ys) (same_merges key rest us h.1)
 
   from_first : (t : Table) (us : List Table) → IsRun (t ∷ us) → AllByRecursion (λ u. at_most t.first u.first ≡ true) us

@@ -5,7 +5,7 @@ use Rattle.std.proofs.lemmas.Bool.{cases_lt}
 use Rattle.std.proofs.lemmas.List.{get_or-set_same, get_or-set_other}
 use Rattle.lsm_codec.specs.Versions.{Version}
 use Rattle.lsm_levels.specs.Among.{IsAmong}
-use Rattle.lsm_levels.proofs.Members.{among_left, among_right, among_either}
+use Rattle.lsm_levels.proofs.Members.{among_left, among_right, among_either, among_passed}
 use Rattle.lsm_levels.specs.Tables.{Table, KeyRange, range_of, at_most, spanned, hull, meets, put_at, versions_of}
 use Rattle.lsm_levels.specs.Levels.{Levels, all_tables, level, places, newer_runs, last_run, flushed, replaced, merged_at}
 use Rattle.lsm_levels.specs.Orders.{IsNewerPlace, IsVersionOrder}
@@ -14,8 +14,7 @@ use Rattle.lsm_levels.proofs.KeyOrder.{at_most_trans}
 use Rattle.lsm_levels.proofs.Ranges.{no, all_of, in_run, apart_left, apart_right}
 use Rattle.lsm_levels.proofs.HullLaws.{hull_covers}
 use Rattle.lsm_levels.proofs.Replacing.{put_cases, put_new, newer_among, newer_or_last, deeper_after, at_upper, at_lower, at_other, same_or_not, stays_after}
-use Rattle.lsm_levels.proofs.Runs.{run_at}
-use Rattle.lsm_levels.proofs.Surviving.{single_range}
+use Rattle.lsm_levels.proofs.Runs.{run_at, upper_among, upper_is}
 use Rattle.lsm_levels.proofs.LevelVersions.{deep_in, older_level, newer_runs_order}
 pub use Rattle.lsm_levels.proofs.LevelVersions.{in_tables, of_table, level_of_place, place_of_level, covers_meets, newer_than}
 
@@ -44,16 +43,14 @@ module _ (levels : Levels) (runs : AreRuns levels) (flag : Bool) (i : ℕ) (uppe
           (λ newer. inr (subst (λ n. IsAmong t (level after n)) (sym f) (subst (λ n. IsAmong t (level (replaced n h.range new levels) n)) e newer)))
           (λ last. inl (among_left t upper lower (subst (IsAmong t) u.1 last)))
           (newer_or_last levels.runs t (subst (λ n. IsAmong t (level levels n)) (f ∙ sym e) a))
-      up (suc m) e f u =
-          let it = u.0 in
-          let at : IsAmong t (level levels (suc m)) = subst (λ n. IsAmong t (level levels n)) (f ∙ sym e) a in
-          let range : h.range ≡ range_of it = single_range it upper h.range u.1 h.hull_is in
-          let apart : meets (range_of it) t ≡ false → IsAmong t (upper ++ lower) ⊎ IsAmong t (level after k) =
-          λ no_meet. inr (stay (λ g. absurd (omega (arith, f, g))) (λ g deep. subst (λ (r : KeyRange). meets r t ≡ false) (sym range) no_meet) (λ g z last. absurd (omega (arith, e, z)))) in
-          ⊎_elim
-          (λ same. inl (among_left t upper lower (subst (IsAmong t) (sym u.1) (inl same))))
-          (λ beside. ⊎_elim (λ s. apart (apart_left (range_of it) t s)) (λ s. apart (apart_right (range_of it) t s)) beside)
-          (in_run (level levels (suc m)) (run_at levels runs m) t it at u.2)
+      up (suc m) e f u = by (meets h.range t) refl
+        where
+          at : IsAmong t (level levels (suc m))
+          at = subst (λ n. IsAmong t (level levels n)) (f ∙ sym e) a
+
+          by : (b : Bool) → meets h.range t ≡ b → IsAmong t (upper ++ lower) ⊎ IsAmong t (level after k)
+          by true met = inl (among_left t upper lower (subst (IsAmong t) (sym (upper_is levels m upper h.range h.hull_is u)) (among_passed (meets h.range) t (level levels (suc m)) at met)))
+          by false apart = inr (stay (λ g. absurd (omega (arith, f, g))) (λ g deep. apart) (λ g z last. absurd (omega (arith, e, z))))
 
   -- an output stands in the output level
   new_stands : (t : Table) → IsAmong t new → IsAmong t (level after (suc i))
@@ -149,7 +146,7 @@ module _ (levels : Levels) (runs : AreRuns levels) (flag : Bool) (i : ℕ) (uppe
     where
       up : (n : ℕ) → IsUpper levels n upper → IsAmong t upper → (k : ℕ) × IsAmong t (level levels k)
       up zero u b = (0, deep_in levels.runs (length levels.runs - 1) t (subst (λ (run : List Table). IsAmong t run) (sym u.1) b))
-      up (suc n) u b = (suc n, ⊎_elim (λ e. subst (λ (x : Table). IsAmong x (level levels (suc n))) (sym e) u.2) (λ none. absurd none) (subst (IsAmong t) u.1 b))
+      up (suc n) u b = (suc n, upper_among levels n upper u t b)
 
   module _ (order : IsVersionOrder (map versions_of (places levels))) (ranged : (k : ℕ) (t : Table) → IsAmong t (level levels k) → IsRanged t) (bottom : flag ≡ true) (whole : KeyRange) (whole_is : hull (upper ++ lower) ≡ Some whole)
       (t u : Table) (v w : Version) (v_in : IsAmong v t.versions) (w_in : IsAmong w u.versions) (same : w.key ≡ v.key) (older : w.number < v.number) (k : ℕ) (at : Stood k u) where
@@ -182,7 +179,7 @@ module _ (levels : Levels) (runs : AreRuns levels) (flag : Bool) (i : ℕ) (uppe
         by (suc zero) f there last c = no (sym (meets_by h.range c.0 c.1 (ranged 0 t there)) ∙ at.lower_apart (let g : k ≡ suc i = omega (arith, e, f) in g))
         by (suc (suc m)) f there last c = below_all (omega (arith, e, f)) (among_left t upper lower a) (ranged 0 t there)
     upper_case (suc n) e q a =
-        let there : IsAmong t (level levels (suc n)) = ⊎_elim (λ s. subst (λ (x : Table). IsAmong x (level levels (suc n))) (sym s) q.2) (λ none. absurd none) (subst (IsAmong t) q.1 a) in
+        let there : IsAmong t (level levels (suc n)) = upper_among levels n upper q t a in
         let c = hull_covers upper h.range h.hull_is t a in
         by there c (cases_lt k (suc n)) (cases_lt (suc (suc n)) k)
       where
@@ -303,7 +300,7 @@ module _ (levels : Levels) (runs : AreRuns levels) (flag : Bool) (i : ℕ) (uppe
     where
       up : (n : ℕ) → IsUpper levels n upper → (x : Table) → IsAmong x upper → IsAmong x (level levels n)
       up zero u x c = deep_in levels.runs (length levels.runs - 1) x (subst (λ (run : List Table). IsAmong x run) (sym u.1) c)
-      up (suc n) u x c = ⊎_elim (λ e. subst (λ (y : Table). IsAmong y (level levels (suc n))) (sym e) u.2) (λ none. absurd none) (subst (IsAmong x) u.1 c)
+      up (suc n) u x c = upper_among levels n upper u x c
 
   -- what stood above the output level, or in the upper one, is newer than the outputs
   newer_than_output : (k : ℕ) (t u : Table) (v w : Version) → Stood levels runs flag i upper lower new h k t → k < suc i → IsAmong u new → IsAmong v t.versions → IsAmong w u.versions → v.key ≡ w.key → w.number < v.number

@@ -1,12 +1,14 @@
 -- What holds of a job from its taking to its install, whatever other jobs install meanwhile.
-use Rattle.std.specs.Prelude.{◌≡◌, ◌≢◌, ◌⊎◌, ℕ, zero, suc, ◌<◌, ◌≤◌, Bool, true, false, List, [], ◌∷◌, ◌++◌, length, map, Some}
+use Rattle.std.specs.Prelude.{◌≡◌, ◌≢◌, ◌⊎◌, ℕ, zero, suc, ◌<◌, ◌≤◌, Bool, true, false, List, ◌++◌, length, map, Some}
 use Rattle.std.specs.List.{AllByRecursion}
 use Rattle.lsm_codec.specs.Versions.{Version}
 use Rattle.lsm_levels.specs.Among.{IsAmong}
-use Rattle.lsm_levels.specs.Tables.{Table, KeyRange, at_most, hull, meets, IsRun, versions_of}
+use Rattle.lsm_levels.specs.Tables.{Table, KeyRange, at_most, hull, meets, meeting, IsRun, versions_of}
 use Rattle.lsm_levels.specs.Levels.{Levels, level, places, last_run}
 use Rattle.lsm_levels.specs.Orders.{IsNewerPlace, IsVersionOrder}
-use Rattle.lsm_levels.specs.Pick.{Job, Flush, Merge, inputs, is_flush, pick, is_bottom, installed}
+use Rattle.lsm_levels.specs.Pick.{Job, Flush, Merge, inputs, is_flush, is_several, pick, is_bottom, installed}
+use Rattle.lsm_levels.specs.Choices.{chosen}
+use Rattle.lsm_levels.specs.declared.choosing.Choice.{Choice}
 
 -- There are four deeper levels, and each run is one; those of level 0 have a table at least.
 pub record AreRuns (levels : Levels) : Type 0 where
@@ -15,10 +17,10 @@ pub record AreRuns (levels : Levels) : Type 0 where
   pub deeper : AllByRecursion IsRun levels.deeper
   pub some : AllByRecursion (λ run. 0 < length run) levels.runs
 
--- where the upper tables stand: they are the oldest run of level 0, or one table of another level
+-- where the upper tables stand: they are the oldest run of level 0, or all of another level that meet their hull
 abbrev pub IsUpper : Levels → ℕ → List Table → Type 0
 IsUpper levels zero upper = (1 ≤ length levels.runs) × (last_run levels.runs ≡ upper)
-IsUpper levels (suc i) upper = (t : Table) × (upper ≡ t ∷ []) × IsAmong t (level levels (suc i))
+IsUpper levels (suc i) upper = upper ≡ meeting (hull upper) (level levels (suc i))
 
 -- A merge still has what it was taken with: its upper tables in their level, its lower ones in the next, a run, which are all
 -- there that meet the hull of the upper ones; and with the bottom flag nothing below meets the hull of all its inputs.
@@ -37,10 +39,13 @@ abbrev pub IsHeld : Levels → Bool → Job → Type 0
 IsHeld levels bottom Flush = bottom ≡ false
 IsHeld levels bottom (Merge i upper lower) = HasItsTables levels bottom i upper lower
 
--- two jobs share no input, and only one is a flush
+-- Two jobs share no input, and only one is a flush. Beside a merge of several tables stands no other merge: its outputs could
+-- come between these, and be taken out with them.
 pub record AreApart (a b : Job) : Type 0 where
   pub tables : (t u : Table) → IsAmong t (inputs a) → IsAmong u (inputs b) → t.number ≢ u.number
   pub one_flush : is_flush a ≡ true → is_flush b ≡ true → ⊥
+  pub alone : is_several a ≡ true → is_flush b ≡ true
+  pub others_alone : is_several b ≡ true → is_flush a ≡ true
 
 -- An output of a merge lies within its inputs: its first key in one of them, its last in one of them.
 pub record IsWithin (tables : List Table) (t : Table) : Type 0 where
@@ -76,13 +81,18 @@ pub record HasVersion (levels : Levels) (v : Version) : Type 0 where
   pub there : IsAmong table (level levels place)
   pub has : IsAmong v table.versions
 
--- A job that is picked has its tables, and shares none with the others.
-pub record IsPicked (levels : Levels) (jobs : List Job) (job : Job) : Type 0 where
+-- A job may be taken beside others: it has its tables, and shares none with them.
+pub record MayTake (levels : Levels) (jobs : List Job) (job : Job) : Type 0 where
   pub held : IsHeld levels (is_bottom levels job) job
   pub apart : (other : Job) → IsAmong other jobs → AreApart job other
 
+-- So the job that comes next may be taken,
 abbrev pub PickLaw : Type 0
-PickLaw = (waiting : Bool) (levels : Levels) (jobs : List Job) (job : Job) → AreRuns levels → pick waiting levels jobs ≡ Some job → IsPicked levels jobs job
+PickLaw = (waiting : Bool) (levels : Levels) (jobs : List Job) (job : Job) → AreRuns levels → pick waiting levels jobs ≡ Some job → MayTake levels jobs job
+
+-- and so may one that is chosen.
+abbrev pub ChoiceLaw : Type 0
+ChoiceLaw = (levels : Levels) (jobs : List Job) (choice : Choice) (job : Job) → AreRuns levels → chosen levels jobs choice ≡ Some job → MayTake levels jobs job
 
 abbrev pub SurvivalLaw : Type 0
 SurvivalLaw = (levels : Levels) (bottom flag : Bool) (job other : Job) (new : List Table) → AreRuns levels → IsHeld levels bottom job → IsHeld levels flag other → AreApart job other → AreOutputs other new

@@ -5,6 +5,7 @@ pub mod Hulls
 pub mod Levels
 pub mod Pick
 pub mod Picks
+pub mod Choices
 pub mod Orders
 pub mod Held
 pub mod Moving

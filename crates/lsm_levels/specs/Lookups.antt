@@ -1,9 +1,10 @@
 -- Look-ups: which places are asked, and what is found.
-use Rattle.std.specs.Prelude.{◌≡◌, ◌⊎◌, ℕ, true, is_some, List, [], ◌∷◌, map, Option, Some, None, option_map, option_and_then, Result, Ok, Err, Vec}
+use Rattle.std.specs.Prelude.{◌≡◌, ◌⊎◌, ℕ, Bool, true, is_some, List, [], ◌∷◌, map, Option, Some, None, option_map, option_and_then, Result, Ok, Err, Vec}
 use Rattle.std.specs.Option.{option_or}
 use denote.Ref.{Bor}
 use Rattle.lsm_device.specs.declared.refusal.Refusal.{Refusal}
 use Rattle.lsm_device.specs.declared.refusal.Refusal.TheVariants.{NoMemory}
+use Rattle.lsm_codec.specs.Guards.{Condition, is_same_value}
 use Rattle.lsm_codec.specs.Keys.{Bytes}
 use Rattle.lsm_codec.specs.Versions.{Version, newest}
 use Rattle.lsm_levels.specs.Tables.{Table, versions_of}
@@ -30,10 +31,19 @@ LooksUpUnless None area key n runs found old new = LooksUp area key n runs found
 abbrev pub value_of : Option Version → Option Bytes
 value_of found = option_and_then (λ v. v.value) found
 
--- what is answered of what was found: a copy of its value, or the refusal, or that memory for the copy was refused
+-- what is answered of a value: a copy of it, or that memory for the copy was refused
+abbrev pub Copies : Option Bytes → Result (Option Bytes) Refusal → Type 0
+Copies value answer = (answer ≡ Ok value) ⊎ ((answer ≡ Err NoMemory) × (is_some value ≡ true))
+
+-- what is answered of what was found: a copy of its value, or the refusal
 abbrev pub CopiesFound : Result (Option Version) Refusal → Result (Option Bytes) Refusal → Type 0
-CopiesFound (Ok found) answer = (answer ≡ Ok (value_of found)) ⊎ ((answer ≡ Err NoMemory) × (is_some (value_of found) ≡ true))
+CopiesFound (Ok found) answer = Copies (value_of found) answer
 CopiesFound (Err refusal) answer = answer ≡ Err refusal
+
+-- whether what was found meets a condition, or the refusal
+abbrev pub met_by : Result (Option Version) Refusal → Condition → Result Bool Refusal
+met_by (Ok found) condition = Ok (is_same_value (value_of found) condition.value)
+met_by (Err refusal) condition = Err refusal
 
 -- an answer, as a clause sees it
 abbrev pub answer_of : {Z : Type 0} → Result (Option (Vec ℕ Z)) Refusal → Result (Option Bytes) Refusal
@@ -45,6 +55,12 @@ pub record IsLookUp (memory sealed : List Version) (runs : List (List Table)) (a
   pub found : Result (Option Version) Refusal
   pub looks : LooksUpUnless (option_or (newest key n memory) (newest key n sealed)) area key n runs found old new
   pub answers : CopiesFound found answer
+
+-- A condition is tested: its key is looked up so, and what is found meets it or doesn't.
+pub record IsTest (memory sealed : List Version) (runs : List (List Table)) (area : ℕ) (condition : Condition) (n : ℕ) (answer : Result Bool Refusal) (old new : Source) : Type 0 where
+  pub found : Result (Option Version) Refusal
+  pub looks : LooksUpUnless (option_or (newest condition.key n memory) (newest condition.key n sealed)) area condition.key n runs found old new
+  pub answers : answer ≡ met_by found condition
 
 -- the versions in each place, the newer first: memory, sealed memory, and runs
 abbrev pub versions_at : List Version → List Version → List (List Table) → List (List Version)

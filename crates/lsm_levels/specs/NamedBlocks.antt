@@ -2,6 +2,7 @@
 use Rattle.std.specs.Prelude.{◌≡◌, ◌≢◌, ◌⊎◌, ◌==◌, ◌&&◌, ltb, ℕ, Bool, List, [], ◌∷◌, length, All, Option, Some, None, Result, if◌then◌else◌}
 use Rattle.std.specs.List.{AllByRecursion}
 use Rattle.lsm_device.specs.declared.refusal.Refusal.{Refusal}
+use Rattle.lsm_codec.specs.Guards.{Condition}
 use Rattle.lsm_codec.specs.Keys.{Bytes}
 use Rattle.lsm_codec.specs.Versions.{Version}
 use Rattle.lsm_cache.specs.declared.name.BlockName.{BlockName}
@@ -10,7 +11,7 @@ use Rattle.lsm_cache.specs.Recency.{Cached}
 use Rattle.lsm_levels.specs.Among.{IsAmong}
 use Rattle.lsm_levels.specs.Asking.{Source, sector_of}
 use Rattle.lsm_levels.specs.Levels.{all_tables}
-use Rattle.lsm_levels.specs.Lookups.{IsLookUp}
+use Rattle.lsm_levels.specs.Lookups.{IsLookUp, IsTest}
 use Rattle.lsm_levels.specs.Scans.{ScansRuns}
 use Rattle.lsm_levels.specs.Stored.{ArePlaced, blocks_from}
 use Rattle.lsm_levels.specs.Tables.{Table}
@@ -42,12 +43,15 @@ abbrev pub HaveNone : ℕ → List (List Table) → Type 0
 HaveNone number runs = AllByRecursion (AllByRecursion (λ t. t.number ≢ number)) runs
 
 -- Each data block of tables with numbers of their own has its place. A cache stays fresh where the data blocks stay, and for
--- other tables, each of which was there before or has no block in it. A look-up and a scan take in blocks of their tables alone.
+-- other tables, each of which was there before or has no block in it. A look-up, a test and a scan take in
+-- blocks of their tables alone.
 pub record NamedLaw : Type 0 where
   pub placed : (area : ℕ) (runs : List (List Table)) → AreNumberedApart (all_tables runs) → ArePlaced (place_among area (all_tables runs)) area runs
   pub kept : (area : ℕ) (old new : List (List ℕ)) (tables : List Table) (c : Cached) → AllByRecursion (HasSameBlocks area old new) tables → IsFresh (place_among area tables) old c → IsFresh (place_among area tables) new c
   pub others : (area : ℕ) (sectors : List (List ℕ)) (before after : List Table) (c : Cached) → AreNumberedApart before → ((t : Table) → IsAmong t after → IsAmong t before ⊎ HasNoBlock t.number c)
       → IsFresh (place_among area before) sectors c → IsFresh (place_among area after) sectors c
   pub looked : (memory sealed : List Version) (runs : List (List Table)) (area : ℕ) (key : Bytes) (n number : ℕ) (answer : Result (Option Bytes) Refusal) (old new : Source) → IsLookUp memory sealed runs area key n answer old new
+      → HaveNone number runs → HasNoBlock number old.cache → HasNoBlock number new.cache
+  pub tested : (memory sealed : List Version) (runs : List (List Table)) (area : ℕ) (condition : Condition) (n number : ℕ) (met : Result Bool Refusal) (old new : Source) → IsTest memory sealed runs area condition n met old new
       → HaveNone number runs → HasNoBlock number old.cache → HasNoBlock number new.cache
   pub scanned : (area : ℕ) (key : Bytes) (runs : List (List Table)) (number : ℕ) (refusal : Option Refusal) (old new : Source) → ScansRuns area key runs refusal old new → HaveNone number runs → HasNoBlock number old.cache → HasNoBlock number new.cache

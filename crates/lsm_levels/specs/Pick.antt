@@ -1,5 +1,5 @@
 -- Which job comes next.
-use Rattle.std.specs.Prelude.{ℕ, zero, suc, Bool, true, false, not, ◌&&◌, nat_le, nat_lt, ◌==◌, List, [], ◌∷◌, ◌++◌, filter, sum_by, length, Option, Some, None, option_map, if◌then◌else◌}
+use Rattle.std.specs.Prelude.{ℕ, zero, suc, ◌*◌, Bool, true, false, not, ◌&&◌, nat_le, nat_lt, ◌==◌, List, [], ◌∷◌, ◌++◌, filter, sum_by, length, Option, Some, None, option_map, if◌then◌else◌}
 use Rattle.std.specs.List.{list_any, list_all}
 use Rattle.lsm_levels.specs.Tables.{Table, KeyRange, hull, meets, meeting}
 use Rattle.lsm_levels.specs.Levels.{Levels, level, last_run, flushed, merged}
@@ -22,6 +22,17 @@ is_flush (Merge i upper lower) = false
 abbrev pub is_of_level_0 : Job → Bool
 is_of_level_0 Flush = false
 is_of_level_0 (Merge i upper lower) = i == 0
+
+-- whether a merge takes several tables of a level from 1 to 3, which may leave room for others between them
+abbrev pub are_several : ℕ → List Table → Bool
+are_several i upper = nat_lt 0 i && nat_lt 1 (length upper)
+
+abbrev pub is_several : Job → Bool
+is_several Flush = false
+is_several (Merge i upper lower) = are_several i upper
+
+abbrev pub is_merge : Job → Bool
+is_merge job = not (is_flush job)
 
 -- whether some job takes in the table of this number
 abbrev pub is_input : List Job → ℕ → Bool
@@ -51,6 +62,15 @@ abbrev pub least_numbered : List Table → Option Table
 least_numbered [] = None
 least_numbered (t ∷ rest) = Some (lesser t (least_numbered rest))
 
+-- of a level: the least-numbered table that passes a test and is free, as are all tables of the next level that meet it, with
+-- these
+abbrev pub least_job : (Table → Bool) → List Table → List Table → List Job → ℕ → Option Job
+least_job test tables below jobs i = option_map (λ t. merge_of i (t ∷ []) below) (least_numbered (filter (λ t. test t && can_merge jobs (t ∷ []) below) tables))
+
+-- half of a table's entries or more are deletes
+abbrev pub is_mostly_deletes : Table → Bool
+is_mostly_deletes t = nat_le t.outline.entries (2 * t.deletes)
+
 -- a flush, where sealed versions wait and no flush holds a slot
 abbrev pub flush_job : Bool → List Job → Option Job
 flush_job waiting jobs = if waiting && not (list_any is_flush jobs) then Some Flush else None
@@ -61,22 +81,39 @@ abbrev pub level_0_job : List (List Table) → List Table → List Job → Optio
 level_0_job runs below jobs =
     if nat_le 4 (length runs) && (not (list_any is_of_level_0 jobs) && can_merge jobs (last_run runs) below) then Some (merge_of 0 (last_run runs) below) else None
 
+-- of a level, of the tables of which half the entries or more are deletes: the least-numbered one that is free, as are all
+-- tables of the next level that meet it, with these
+abbrev pub delete_job : List Table → List Table → List Job → ℕ → Option Job
+delete_job tables below jobs i = least_job is_mostly_deletes tables below jobs i
+
 -- of a level that is over its limit in blocks: the least-numbered table that is free, as are all tables of the next level
 -- that meet it, with these
 abbrev pub level_job : List Table → List Table → List Job → ℕ → ℕ → Option Job
 level_job tables below jobs i limit =
-    if nat_lt limit (sum_by (λ t. t.blocks) tables) then option_map (λ t. merge_of i (t ∷ []) below) (least_numbered (filter (λ t. can_merge jobs (t ∷ []) below) tables)) else None
+    if nat_lt limit (sum_by (λ t. t.blocks) tables) then least_job (λ t. true) tables below jobs i else None
 
 abbrev pub or_next : Option Job → Option Job → Option Job
 or_next (Some job) next = Some job
 or_next None next = next
 
--- The job that comes next: the first of these that there is.
+-- the limit of a level from 1 to 3, in blocks
+abbrev pub limit_of : ℕ → ℕ
+limit_of i = if i == 1 then 256 else if i == 2 then 2048 else 16384
+
+-- the job of the least level from 1 to 3 that has one
+abbrev pub of_least_level : (ℕ → Option Job) → Option Job
+of_least_level job = or_next (job 1) (or_next (job 2) (job 3))
+
+-- the first of the merges that there is
+abbrev pub next_merge : Levels → List Job → Option Job
+next_merge levels jobs =
+    or_next (level_0_job levels.runs (level levels 1) jobs)
+    (or_next (of_least_level (λ i. delete_job (level levels i) (level levels (suc i)) jobs i))
+    (of_least_level (λ i. level_job (level levels i) (level levels (suc i)) jobs i (limit_of i))))
+
+-- The job that comes next: the first of these that there is. Beside a merge of several tables no other merge does.
 abbrev pub pick : Bool → Levels → List Job → Option Job
-pick waiting levels jobs =
-    or_next (flush_job waiting jobs) (or_next (level_0_job levels.runs (level levels 1) jobs)
-    (or_next (level_job (level levels 1) (level levels 2) jobs 1 256)
-    (or_next (level_job (level levels 2) (level levels 3) jobs 2 2048) (level_job (level levels 3) (level levels 4) jobs 3 16384))))
+pick waiting levels jobs = or_next (flush_job waiting jobs) (if list_any is_several jobs then None else next_merge levels jobs)
 
 -- the tables below the output level of a merge
 abbrev pub below_output : Levels → ℕ → List Table

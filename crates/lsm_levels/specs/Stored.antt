@@ -3,6 +3,7 @@ use Rattle.std.specs.Prelude.{◌≡◌, ℕ, zero, suc, ◌+◌, ◌*◌, ◌<�
 use Rattle.std.specs.List.{AllByRecursion}
 use Rattle.lsm_device.specs.Disk.{seen}
 use Rattle.lsm_device.specs.Medium.{disk}
+use Rattle.lsm_codec.specs.Versions.{deletes_in}
 use Rattle.lsm_filter.specs.Bits.{is_perhaps}
 use Rattle.lsm_table.specs.Division.{TableBlocks, entries_of}
 use Rattle.lsm_table.specs.Places.{IsSorted}
@@ -43,13 +44,13 @@ abbrev pub blocks_from : List (List ℕ) → ℕ → ℕ → List (List ℕ)
 blocks_from sectors at zero = []
 blocks_from sectors at (suc n) = block_at sectors at ∷ blocks_from sectors (at + 8) n
 
--- A table stands: its data blocks spell its versions in order, its first key and edges are those of the blocks, and its
--- filter has each of its keys.
+-- A table stands: its data blocks spell its versions in order, its first key and edges are those of the blocks, so many of
+-- the versions are deletes as it tells, and its filter has each of its keys.
 pub record IsStored (sectors : List (List ℕ)) (area : ℕ) (t : Table) : Type 0 where
   pub blocks : TableBlocks
   pub spelled : table_of (blocks_from sectors (sector_of area t 0) (length t.outline.edges)) ≡ Some blocks
   pub sorted : IsSorted blocks
-  pub told : t ≡ table_at (outline_in t.number t.outline.filter blocks) t.start (entries_of blocks)
+  pub told : t ≡ table_at (outline_in t.number t.outline.filter blocks) t.start (deletes_in (entries_of blocks)) (entries_of blocks)
   pub members : AllByRecursion (λ v. is_perhaps t.outline.filter v.key ≡ true) (entries_of blocks)
 
 -- all tables of runs stand

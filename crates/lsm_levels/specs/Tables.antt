@@ -3,7 +3,7 @@ use Rattle.std.specs.Prelude.{◌≡◌, ℕ, ◌+◌, Bool, true, ◌&&◌, Lis
 use Rattle.std.specs.List.{AllByRecursion}
 use Rattle.std.specs.Ordering.{is_le, is_lt}
 use Rattle.lsm_codec.specs.Keys.{Bytes, byte_order}
-use Rattle.lsm_codec.specs.Versions.{Version}
+use Rattle.lsm_codec.specs.Versions.{Version, deletes_in}
 use Rattle.lsm_codec.specs.Indexes.{index_count}
 use Rattle.lsm_codec.specs.declared.table_record.TableRecord.{TableRecord}
 use Rattle.lsm_table.specs.BlockEdges.{last_key}
@@ -21,25 +21,28 @@ pub record Table : Type 0 where
   -- the first block of its extent, and how many blocks it has in all
   pub start : ℕ
   pub blocks : ℕ
+  -- how many of its entries are deletes, as its manifest's record tells
+  pub deletes : ℕ
   -- what footer, index and filter tell
   pub outline : Outline
   pub versions : List Version
 
--- the table of an outline whose extent begins at this block, with these versions
-abbrev pub table_at : Outline → ℕ → List Version → Table
-table_at o start versions = record {
+-- the table of an outline whose extent begins at this block, with so many deletes, and with these versions
+abbrev pub table_at : Outline → ℕ → ℕ → List Version → Table
+table_at o start deletes versions = record {
   number = o.number;
   first = o.first;
   last = last_key o.edges;
   start = start;
   blocks = length o.edges + index_count o.edges + 2;
+  deletes = deletes;
   outline = o;
   versions = versions;
 }
 
 -- the table of an image under this number
 abbrev pub table_of : ℕ → ℕ → TableBlocks → Table
-table_of number start image = table_at (outline_in number (filter_of (keys_of image)) image) start (entries_of image)
+table_of number start image = table_at (outline_in number (filter_of (keys_of image)) image) start (deletes_in (entries_of image)) (entries_of image)
 
 -- the outline of a table that was opened, if it was
 abbrev pub outline_opened : {E : Type 0} → Result Table E → Result Outline E
@@ -56,6 +59,7 @@ record_of level run t = record {
   data_blocks = length t.outline.edges;
   index_blocks = index_count t.outline.edges;
   entries = t.outline.entries;
+  deletes = Some t.deletes;
 }
 
 -- a range of keys, both ends inside

@@ -1,7 +1,7 @@
 //! Laws of the definitions.
 
 ghost use Rattle.lsm_levels.specs.Cursors.{CursorLaw};
-ghost use Rattle.lsm_levels.specs.Held.{PickLaw, SurvivalLaw, RunsLaw, MergingLaw, OrderLaw, FlushLaw};
+ghost use Rattle.lsm_levels.specs.Held.{PickLaw, ChoiceLaw, SurvivalLaw, RunsLaw, MergingLaw, OrderLaw, FlushLaw};
 ghost use Rattle.lsm_levels.specs.Moving.{MovingLaw, LowerLaw};
 ghost use Rattle.lsm_levels.specs.NamedBlocks.{NamedLaw};
 ghost use Rattle.lsm_levels.specs.Sources.{NextLaw, PageLaw};
@@ -9,6 +9,11 @@ ghost use Rattle.lsm_levels.specs.Sources.{NextLaw, PageLaw};
 /// A job that is picked takes tables that no other job has as input, and all that it needs.
 pub fn picked_jobs_have_free_tables()
     ensures { PickLaw }
+{}
+
+/// So does one that is chosen, whether or not a level is over its limit.
+pub fn chosen_jobs_have_free_tables()
+    ensures { ChoiceLaw }
 {}
 
 /// Another job's install leaves a job its tables, and the levels stay runs.

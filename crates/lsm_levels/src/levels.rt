@@ -3,13 +3,16 @@
 ghost use Rattle.std.specs.Prelude.{◌≡◌, ◌≤◌, ◌<◌, ◌-◌, [], slice_set, suc, Bool, List, length, is_ok, if◌then◌else◌, IfOk, IfErr, IfSome, OnOk, OnErr, option_map};
 ghost use Rattle.lsm_levels.specs.Tables.{IsRun, hull, put_at};
 ghost use Rattle.lsm_levels.specs.Levels.{level as level_of, newer_runs, no_tables, flushed, merged};
-ghost use Rattle.lsm_levels.specs.Pick.{Merge, below_output, is_bottom, meets_none, pick};
-ghost use Rattle.lsm_levels.specs.Picks.{job_of};
+ghost use Rattle.lsm_levels.specs.Pick.{Merge, below_output, is_bottom, meets_none, of_least_level, next_merge, pick};
+ghost use Rattle.lsm_levels.specs.Choices.{chosen};
+ghost use Rattle.lsm_levels.specs.Picks.{job_of, rule_job};
 ghost use Rattle.lsm_levels.specs.Hulls.{range_shown};
 ghost use Rattle.lsm_levels.specs.Held.{AreRuns, HasItsTables, AreOutputs};
+ghost use Rattle.lsm_levels.specs.declared.choosing.Choice.TheVariants.{OldestRun, Tables};
 
+use crate::choosing::{Choice, run_job, tables_job};
 use crate::hulls::{KeyRange, hull_onto, is_met, spanned};
-use crate::picking::{HeldJobs, Pick, level_0_job, level_job};
+use crate::picking::{HeldJobs, Pick, Rule, level_0_job, rule_job};
 use crate::run::Run;
 use crate::slices::ends;
 use crate::table::PlacedTable;
@@ -143,13 +146,32 @@ impl<A: Allocator> Levels<A> {
         put
     }
 
+    /// The job of a rule, of the least level from 1 to 3 that has one.
+    fn rule_job<H: HeldJobs>(&self, rule: Rule, held: &H) -> Option<Pick<'_, A>>
+        ensures { option_map job_of result ≡ of_least_level (λ i. rule_job rule (level_of self.now i) (level_of self.now (suc i)) (H.jobs held.now) i) }
+    {
+        let [level_1, level_2, level_3, level_4] = self.deeper() else {
+            return None;
+        };
+        if let Some(job) = rule_job(rule, 1, level_1, level_2, held) {
+            return Some(job);
+        }
+        if let Some(job) = rule_job(rule, 2, level_2, level_3, held) {
+            return Some(job);
+        }
+        rule_job(rule, 3, level_3, level_4, held)
+    }
+
     /// The job that comes next, where sealed versions wait or not, and slots are held by these jobs: the first of these that
     /// there is.
     ///
-    /// 1. A flush, where sealed versions wait and no flush holds a slot.
+    /// 1. A flush, where sealed versions wait and no flush holds a slot. Beside a merge of several tables of a level from 1 to 3
+    ///    nothing else comes.
     /// 2. With 4 or more runs of level 0 and no job of it: the oldest run with the tables of level 1 that meet its hull, if
     ///    all of them are free. A table is free where no job has it as input.
-    /// 3. Of the least level from 1 to 3 that has more blocks than its limit, 256, 2,048 and 16,384, and such a table: the
+    /// 3. Of the least level from 1 to 3 that has such a table: the least-numbered table of which half the entries or more are
+    ///    deletes, and that is free, as are all tables of the next level that meet it, with these.
+    /// 4. Of the least level from 1 to 3 that has more blocks than its limit, 256, 2,048 and 16,384, and such a table: the
     ///    least-numbered table that is free, as are all tables of the next level that meet it, with these.
     ///
     /// It takes no memory.
@@ -159,19 +181,67 @@ impl<A: Allocator> Levels<A> {
         if waiting && !held.has_flush() {
             return Some(Pick::Flush);
         }
-        let [level_1, level_2, level_3, level_4] = self.deeper() else {
+        if held.has_several() {
+            return None;
+        }
+        self.next_merge(held)
+    }
+
+    /// The first of the merges that there is.
+    fn next_merge<H: HeldJobs>(&self, held: &H) -> Option<Pick<'_, A>>
+        ensures { option_map job_of result ≡ next_merge self.now (H.jobs held.now) }
+    {
+        let [level_1, ..] = self.deeper() else {
             return None;
         };
         if let Some(job) = level_0_job(&self.runs, level_1, held) {
             return Some(job);
         }
-        if let Some(job) = level_job(1, 256, level_1, level_2, held) {
+        if let Some(job) = self.rule_job(Rule::ManyDeletes, held) {
             return Some(job);
         }
-        if let Some(job) = level_job(2, 2_048, level_2, level_3, held) {
+        self.rule_job(Rule::OverLimit, held)
+    }
+
+    /// The job of the tables from one to another, of a level from 1 to 3.
+    fn choose_tables<H: HeldJobs>(&self, first: u64, last: u64, held: &H) -> Option<Pick<'_, A>>
+        ensures { option_map job_of result ≡ chosen self.now (H.jobs held.now) (Tables first last) }
+    {
+        let [level_1, level_2, level_3, level_4] = self.deeper() else {
+            return None;
+        };
+        if let Some(job) = tables_job(first, last, 1, level_1, level_2, held) {
             return Some(job);
         }
-        level_job(3, 16_384, level_3, level_4, held)
+        if let Some(job) = tables_job(first, last, 2, level_2, level_3, held) {
+            return Some(job);
+        }
+        tables_job(first, last, 3, level_3, level_4, held)
+    }
+
+    /// The job of the oldest run of level 0.
+    fn choose_run<H: HeldJobs>(&self, held: &H) -> Option<Pick<'_, A>>
+        ensures { option_map job_of result ≡ chosen self.now (H.jobs held.now) OldestRun }
+    {
+        let [level_1, ..] = self.deeper() else {
+            return None;
+        };
+        run_job(&self.runs, level_1, held)
+    }
+
+    /// The job of a caller's choice, where slots are held by these jobs: the tables that are chosen, with those of the next
+    /// level that meet their hull. None where there are no such tables, where one of all these is not free, where a job of level
+    /// 0 holds a slot and the oldest run is chosen, or where it or a job that holds a slot is a merge of several tables of a level
+    /// from 1 to 3, and the other a merge. Whether a level is over its limit doesn't matter.
+    ///
+    /// It takes no memory.
+    pub fn choose<H: HeldJobs>(&self, choice: Choice, held: &H) -> Option<Pick<'_, A>>
+        ensures { option_map job_of result ≡ chosen self.now (H.jobs held.now) choice }
+    {
+        match choice {
+            Choice::OldestRun => self.choose_run(held),
+            Choice::Tables { first, last } => self.choose_tables(first, last, held),
+        }
     }
 
     /// Whether no table below the level of a merge's outputs meets the hull of its inputs.
@@ -202,6 +272,11 @@ impl<A: Allocator> Levels<A> {
                 upper,
                 lower,
             } => self.meets_none_below(*level, Some(spanned(upper, hull_onto(lower, None)))),
+            Pick::Neighbours {
+                level,
+                upper,
+                lower,
+            } => self.meets_none_below(*level, hull_onto(upper, hull_onto(lower, None))),
         }
     }
 }

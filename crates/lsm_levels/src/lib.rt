@@ -3,6 +3,7 @@
 
 mod asking;
 mod blocks;
+mod choosing;
 mod contents;
 mod covered;
 mod cursor;
@@ -26,10 +27,11 @@ mod table;
 mod view;
 mod within;
 
+pub use choosing::Choice;
 pub use law::{
-    caches_stay_fresh, cursors_give_their_versions, flushes_keep_the_order, installs_move_tables,
-    jobs_keep_their_tables, merges_leave_other_versions, picked_jobs_have_free_tables,
-    sources_come_to_a_page,
+    caches_stay_fresh, chosen_jobs_have_free_tables, cursors_give_their_versions,
+    flushes_keep_the_order, installs_move_tables, jobs_keep_their_tables,
+    merges_leave_other_versions, picked_jobs_have_free_tables, sources_come_to_a_page,
 };
 pub use levels::Levels;
 pub use picking::{HeldJobs, Pick};

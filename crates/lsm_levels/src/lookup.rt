@@ -1,18 +1,23 @@
 //! Look-ups in runs, from newer to older ones.
 
-ghost use Rattle.std.specs.Prelude.{◌≡◌};
+ghost use Rattle.std.specs.Prelude.{◌≡◌, option_map};
 ghost use Rattle.std.specs.List.{AllByRecursion};
+ghost use Rattle.lsm_table.specs.Spans.{spanned};
+ghost use Rattle.lsm_levels.specs.Asking.{Says, asked_of_run};
 ghost use Rattle.lsm_levels.specs.Levels.{places};
+ghost use Rattle.lsm_levels.specs.Lookups.{LooksUp, answer_of, value_of};
 ghost use Rattle.lsm_levels.specs.Stored.{LiesWithin, AreWithin};
-ghost use Rattle.lsm_levels.specs.Founds.{TellsOfRun, TellsOfRuns};
+ghost use Rattle.lsm_levels.specs.Founds.{CopiesOfRuns, TestsRuns, spanned_in};
 
 use crate::asking::asked_of_run;
-use crate::found::Found;
+use crate::found::copied;
 use crate::levels::Levels;
 use crate::reading::find_in_block;
 use crate::run::Run;
 use lsm_cache::Cache;
+use lsm_codec::Guard;
 use lsm_device::{Device, Refusal};
+use lsm_table::EntrySpan;
 use std::alloc::Allocator;
 
 /// What is looked for: the newest version of a key that is numbered at most `at`, in tables whose blocks begin at the
@@ -24,66 +29,105 @@ pub(crate) struct Query<'k> {
     pub at: u64,
 }
 
+/// Where a version lies in the one block of a run that may have one. The bytes of the block come to `bytes`.
 fn find_in_run<D: Device, A: Allocator + Clone>(
     run: &Run<A>,
     query: Query<'_>,
-    alloc: &A,
+    bytes: &mut [u8; 4_096],
     cache: &mut Cache<A>,
     device: &mut D,
-) -> Result<Found<A>, Refusal>
+) -> Result<Option<EntrySpan>, Refusal>
     requires { AllByRecursion (LiesWithin (D.medium device.old).size query.area) run.now }
-    ensures { TellsOfRun query.entry.area query.entry.key.now query.entry.at run.now result
+    ensures { Says query.entry.key.now query.entry.at (asked_of_run query.entry.area query.entry.key.now query.entry.at run.now) (spanned_in bytes.new result)
         (record { cache = cache.old; medium = D.medium device.old }) (record { cache = cache.new; medium = D.medium device.new }) }
 {
     let Some(block) = asked_of_run(run, query.area, query.key, query.at) else {
-        return Ok(Found::Nothing);
+        return Ok(None);
     };
-    let mut bytes = [0; 4_096];
     cache.get(
         block.name.table,
         block.name.block,
         block.sector,
         device,
-        &mut bytes,
+        bytes,
     )?;
-    Ok(find_in_block(alloc, &bytes, query.key, query.at)?)
+    Ok(find_in_block(bytes, query.key, query.at)?)
 }
 
 fn find_in_runs<D: Device, A: Allocator + Clone>(
     runs: &[Run<A>],
     query: Query<'_>,
-    alloc: &A,
+    bytes: &mut [u8; 4_096],
     cache: &mut Cache<A>,
     device: &mut D,
-) -> Result<Found<A>, Refusal>
+) -> Result<Option<EntrySpan>, Refusal>
     requires { AreWithin (D.medium device.old).size query.area runs.now }
-    ensures { TellsOfRuns query.entry.area query.entry.key.now query.entry.at runs.now result
+    ensures { LooksUp query.entry.area query.entry.key.now query.entry.at runs.now (spanned_in bytes.new result)
         (record { cache = cache.old; medium = D.medium device.old }) (record { cache = cache.new; medium = D.medium device.new }) }
 {
     for run in runs {
-        let found = find_in_run(run, query, alloc, cache, device)?;
-        if !found.is_nothing() {
-            return Ok(found);
+        if let Some(span) = find_in_run(run, query, bytes, cache, device)? {
+            return Ok(Some(span));
         }
     }
-    Ok(Found::Nothing)
+    Ok(None)
 }
 
-/// What the runs of the levels say, the newer first.
-pub(crate) fn find_in_levels<D: Device, A: Allocator + Clone>(
+/// Where a version lies that the runs of the levels have, the newer asked first. The bytes of its block come to `bytes`.
+fn find_in_levels<D: Device, A: Allocator + Clone>(
+    levels: &Levels<A>,
+    query: Query<'_>,
+    bytes: &mut [u8; 4_096],
+    cache: &mut Cache<A>,
+    device: &mut D,
+) -> Result<Option<EntrySpan>, Refusal>
+    requires { AreWithin (D.medium device.old).size query.area (places levels.now) }
+    ensures { LooksUp query.entry.area query.entry.key.now query.entry.at (places levels.now) (spanned_in bytes.new result)
+        (record { cache = cache.old; medium = D.medium device.old }) (record { cache = cache.new; medium = D.medium device.new }) }
+{
+    if let Some(span) = find_in_runs(levels.runs(), query, bytes, cache, device)? {
+        return Ok(Some(span));
+    }
+    Ok(find_in_runs(levels.deeper(), query, bytes, cache, device)?)
+}
+
+// The value of a version where it lies, none where there is no version or it deletes its key.
+fn value_at(block: &[u8; 4_096], found: Option<EntrySpan>) -> Option<&[u8]>
+    ensures { option_map (λ v. v.now) result ≡ value_of (option_map (λ s. spanned s block.now) found) }
+{
+    found?.entry(block).value
+}
+
+/// What the runs of the levels say of a key, the newer asked first, with the value copied.
+pub(crate) fn copy_from_levels<D: Device, A: Allocator + Clone>(
     levels: &Levels<A>,
     query: Query<'_>,
     alloc: &A,
     cache: &mut Cache<A>,
     device: &mut D,
-) -> Result<Found<A>, Refusal>
+) -> Result<Option<Vec<u8, A>>, Refusal>
     requires { AreWithin (D.medium device.old).size query.area (places levels.now) }
-    ensures { TellsOfRuns query.entry.area query.entry.key.now query.entry.at (places levels.now) result
+    ensures { CopiesOfRuns query.entry.area query.entry.key.now query.entry.at (places levels.now) (answer_of result)
         (record { cache = cache.old; medium = D.medium device.old }) (record { cache = cache.new; medium = D.medium device.new }) }
 {
-    let newer = find_in_runs(levels.runs(), query, alloc, cache, device)?;
-    if !newer.is_nothing() {
-        return Ok(newer);
-    }
-    Ok(find_in_runs(levels.deeper(), query, alloc, cache, device)?)
+    let mut bytes = [0; 4_096];
+    let found = find_in_levels(levels, query, &mut bytes, cache, device)?;
+    copied(alloc, value_at(&bytes, found))
+}
+
+/// Whether what the runs of the levels say of a key meets a guard, compared where it lies.
+pub(crate) fn test_in_levels<D: Device, A: Allocator + Clone>(
+    levels: &Levels<A>,
+    query: Query<'_>,
+    guard: &Guard<A>,
+    cache: &mut Cache<A>,
+    device: &mut D,
+) -> Result<bool, Refusal>
+    requires { AreWithin (D.medium device.old).size query.area (places levels.now) }
+    ensures { TestsRuns query.entry.area query.entry.key.now query.entry.at (places levels.now) guard.now result
+        (record { cache = cache.old; medium = D.medium device.old }) (record { cache = cache.new; medium = D.medium device.new }) }
+{
+    let mut bytes = [0; 4_096];
+    let found = find_in_levels(levels, query, &mut bytes, cache, device)?;
+    Ok(guard.is_met_by(value_at(&bytes, found)))
 }

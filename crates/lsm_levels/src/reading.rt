@@ -3,14 +3,14 @@
 ghost use Rattle.std.specs.Prelude.{◌≡◌, ◌&&◌};
 ghost use Rattle.lsm_codec.specs.References.{shown};
 ghost use Rattle.lsm_codec.specs.Versions.{is_version_of};
+ghost use Rattle.lsm_table.specs.Items.{items_at};
 ghost use Rattle.lsm_levels.specs.Asking.{said_in};
-ghost use Rattle.lsm_levels.specs.Founds.{shown_result, Tells};
+ghost use Rattle.lsm_levels.specs.Cursors.{first_refusal, refusal_of};
+ghost use Rattle.lsm_levels.specs.Founds.{spanned_in};
 
-use crate::found::Found;
 use lsm_codec::VersionRef;
 use lsm_device::Refusal;
-use lsm_table::Entries;
-use std::alloc::Allocator;
+use lsm_table::{EntryPlace, EntrySpan};
 
 /// Whether it is a version of the key, numbered at most `at`.
 fn is_version_of(version: &VersionRef<'_>, key: &[u8], at: u64) -> bool
@@ -19,33 +19,32 @@ fn is_version_of(version: &VersionRef<'_>, key: &[u8], at: u64) -> bool
     key.cmp(version.key).is_eq() && version.number <= at
 }
 
-/// The first version of the key among the entries of a block that is numbered at most `at`. It is refused with `BadTable`
-/// where bytes that are no entry come before.
-fn first_in<'b>(
-    block: &'b [u8; 4_096],
-    key: &[u8],
-    at: u64,
-) -> Result<Option<VersionRef<'b>>, Refusal>
-    ensures { shown_result result ≡ said_in key.now at block.now }
+/// Refuses bytes that are no entry and come first from a place of a block on.
+fn test_from(place: &EntryPlace, block: &[u8; 4_096]) -> Result<(), Refusal>
+    ensures { refusal_of result ≡ first_refusal (items_at place.now block.now) }
 {
-    for item in Entries::new(block) {
-        let version = item?;
-        if is_version_of(&version, key, at) {
-            return Ok(Some(version));
-        }
+    match place.entries(block).next() {
+        Some(Err(refusal)) => Err(refusal),
+        Some(Ok(_)) | None => Ok(()),
     }
-    Ok(None)
 }
 
-/// What a block says of the key at a count of batches, with the value copied.
-pub(crate) fn find_in_block<A: Allocator + Clone>(
-    alloc: &A,
+/// Where the first version of the key lies among the entries of a block that is numbered at most `at`. It is refused with
+/// `BadTable` where bytes that are no entry come before.
+pub(crate) fn find_in_block(
     block: &[u8; 4_096],
     key: &[u8],
     at: u64,
-) -> Result<Found<A>, Refusal>
-    ensures { Tells (said_in key.now at block.now) result }
+) -> Result<Option<EntrySpan>, Refusal>
+    ensures { spanned_in block.now result ≡ said_in key.now at block.now }
 {
-    let version = first_in(block, key, at)?;
-    Ok(Found::of(alloc, version)?)
+    let mut place = EntryPlace::first(block);
+    while let Some((span, behind)) = place.first_entry(block) {
+        if is_version_of(&span.entry(block), key, at) {
+            return Ok(Some(span));
+        }
+        place = behind;
+    }
+    test_from(&place, block)?;
+    Ok(None)
 }

@@ -1,11 +1,13 @@
 //! Tables as the levels hold them.
 
 ghost use Rattle.std.specs.Prelude.{◌≡◌, ◌≤◌, ◌^◌, List, IfOk, IfErr};
-ghost use Rattle.lsm_codec.specs.Versions.{Version};
+ghost use Rattle.lsm_codec.specs.Versions.{Version, deletes_in};
 ghost use Rattle.lsm_device.specs.declared.refusal.Refusal.TheVariants.{NoMemory};
 ghost use Rattle.lsm_filter.specs.Bits.{filter_of};
 ghost use Rattle.lsm_table.specs.Outlines.{IsRecordOf, Opens, outline_in, outline_of};
+ghost use Rattle.lsm_table.specs.Division.{entries_of};
 ghost use Rattle.lsm_table.specs.Extents.{keys_of};
+ghost use Rattle.lsm_levels.specs.Pick.{is_mostly_deletes};
 ghost use Rattle.lsm_levels.specs.Tables.{at_most, is_below, meets, table_at, table_of, record_of, outline_opened};
 
 use crate::contents::Contents;
@@ -21,6 +23,7 @@ use std::sync::Arc;
 struct Placed<A: Allocator> {
     table: Table<A>,
     listed: TableRecord,
+    deletes: u16,
     contents: Contents,
 }
 
@@ -30,7 +33,7 @@ impl<A: Allocator> Model for Placed<A> {
 
     ghost Value = { Table };
 
-    ghost view = { λ t. table_at t.table t.listed.first_block t.contents.versions };
+    ghost view = { λ t. table_at t.table t.listed.first_block t.deletes t.contents.versions };
 
     ghost invariant = { λ t. IsRecordOf t.listed t.table };
 }
@@ -54,7 +57,7 @@ impl<A: Allocator> Model for PlacedTable<A> {
 impl<A: Allocator> Placed<A> {
     fn table(&self) -> &Table<A>
         ensures same { result.now ≡ self.now.outline }
-        ensures whole { self.now ≡ table_at self.now.outline self.now.start self.now.versions }
+        ensures whole { self.now ≡ table_at self.now.outline self.now.start self.now.deletes self.now.versions }
     {
         &self.table
     }
@@ -70,6 +73,7 @@ impl<A: Allocator> Placed<A> {
             data_blocks: self.listed.data_blocks,
             index_blocks: self.listed.index_blocks,
             entries: self.listed.entries,
+            deletes: Some(self.deletes),
         }
     }
 
@@ -84,30 +88,44 @@ impl<A: Allocator> Placed<A> {
     {
         self.listed.first_block
     }
+
+    fn deletes(&self) -> u16
+        ensures { result ≡ self.now.deletes }
+    {
+        self.deletes
+    }
 }
 
 impl<A: Allocator> PlacedTable<A> {
-    /// A table with these versions, in the extent that its record lists.
-    fn new(alloc: A, table: Table<A>, listed: TableRecord) -> Result<PlacedTable<A>, AllocError>
+    /// A table with these versions, of which so many are deletes, in the extent that its record lists.
+    fn new(
+        alloc: A,
+        table: Table<A>,
+        listed: TableRecord,
+        deletes: u16,
+    ) -> Result<PlacedTable<A>, AllocError>
         ghost versions: { List Version }
         requires { IsRecordOf listed table }
-        ensures { IfOk result (λ t. t ≡ table_at table listed.first_block versions) }
+        ensures { IfOk result (λ t. t ≡ table_at table listed.first_block deletes versions) }
     {
         let contents = Contents::of();
         let placed = Placed {
             table,
             listed,
+            deletes,
             contents,
         };
         let shared = Arc::new(alloc, placed)?;
         Ok(PlacedTable { shared })
     }
 
-    /// Opens the table that a manifest lists, with this footer block, these index blocks and this filter block, as a table
-    /// with these versions. `BadTable` where they are not those of such a table; want of memory is `NoMemory`.
+    /// Opens the table that a manifest lists, with so many deletes, with this footer block, these index blocks and this filter
+    /// block, as a table with these versions. `BadTable` where they are not those of such a table; want of memory is
+    /// `NoMemory`.
     pub fn open(
         alloc: A,
         listed: TableRecord,
+        deletes: u16,
         footer: &[u8; 4_096],
         index: &[u8],
         filter: &[u8; 4_096],
@@ -115,12 +133,12 @@ impl<A: Allocator> PlacedTable<A> {
     where
         A: Clone,
         ghost versions: { List Version }
-        ensures opened { IfOk result (λ t. t ≡ table_at t.outline listed.first_block versions) }
+        ensures opened { IfOk result (λ t. t ≡ table_at t.outline listed.first_block deletes versions) }
         ensures told { Opens (outline_of listed footer.now index.now filter.now) (outline_opened result) }
     {
         outline_law();
         let table = Table::open(alloc.clone()?, listed, footer, index, filter)?;
-        Ok(PlacedTable::new(alloc, table, listed)?)
+        Ok(PlacedTable::new(alloc, table, listed, deletes)?)
     }
 
     /// Opens an image as a table with these versions.
@@ -134,7 +152,7 @@ impl<A: Allocator> PlacedTable<A> {
         A: Clone,
         ghost versions: { List Version }
         requires { number ≤ 2 ^ 63 }
-        ensures placed { IfOk result (λ t. t ≡ table_at (outline_in number (filter_of (keys_of image.now)) image.now) first_block versions) }
+        ensures placed { IfOk result (λ t. t ≡ table_at (outline_in number (filter_of (keys_of image.now)) image.now) first_block (deletes_in (entries_of image.now)) versions) }
         ensures memory { IfErr result (λ refusal. refusal ≡ NoMemory) }
     {
         outline_law();
@@ -142,7 +160,14 @@ impl<A: Allocator> PlacedTable<A> {
         let _blocks = image.data_blocks();
         let mut filter = [0; 4_096];
         filter.copy_from_slice(image.filter().block());
-        PlacedTable::open(alloc, listed, &image.footer(number), image.index(), &filter)
+        PlacedTable::open(
+            alloc,
+            listed,
+            image.deletes(),
+            &image.footer(number),
+            image.index(),
+            &filter,
+        )
     }
 
     /// The table of an image under a number up to 2^63, in the extent from this block on. It is refused for want of memory
@@ -173,7 +198,7 @@ impl<A: Allocator> PlacedTable<A> {
     /// What footer, index and filter tell of it.
     pub fn table(&self) -> &Table<A>
         ensures same { result.now ≡ self.now.outline }
-        ensures whole { self.now ≡ table_at self.now.outline self.now.start self.now.versions }
+        ensures whole { self.now ≡ table_at self.now.outline self.now.start self.now.deletes self.now.versions }
     {
         self.shared.table()
     }
@@ -218,6 +243,27 @@ impl<A: Allocator> PlacedTable<A> {
         ensures { result ≡ self.now.start }
     {
         self.shared.first_block()
+    }
+
+    /// How many of its entries are deletes.
+    pub fn deletes(&self) -> u16
+        ensures { result ≡ self.now.deletes }
+    {
+        self.shared.deletes()
+    }
+
+    /// How many entries it has.
+    pub fn entries(&self) -> u32
+        ensures { result ≡ self.now.outline.entries }
+    {
+        self.table().entries()
+    }
+
+    /// Whether half of its entries or more are deletes.
+    pub(crate) fn is_mostly_deletes(&self) -> bool
+        ensures { result ≡ is_mostly_deletes self.now }
+    {
+        self.entries() <= 2 * self.deletes() as u32
     }
 
     /// Whether it begins at a key or before it.

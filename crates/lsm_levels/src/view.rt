@@ -9,6 +9,7 @@ ghost use Rattle.lsm_device.specs.Calls.{AtMost, faults_after};
 ghost use Rattle.lsm_device.specs.Disk.{seen};
 ghost use Rattle.lsm_device.specs.Medium.{disk};
 ghost use Rattle.lsm_device.specs.Refusals.{faultless};
+ghost use Rattle.lsm_codec.specs.Guards.{is_met};
 ghost use Rattle.lsm_codec.specs.References.{shown};
 ghost use Rattle.lsm_codec.specs.Versions.{AreOrdered, newest};
 ghost use Rattle.lsm_mem.specs.Versions.{map_of};
@@ -26,17 +27,17 @@ ghost use Rattle.lsm_levels.specs.Cursors.{refusal_of};
 ghost use Rattle.lsm_levels.specs.Pages.{EndsWith, Gathers, GathersRuns, GoesOver, IsScan, cursors_of};
 ghost use Rattle.lsm_levels.specs.Scans.{AreReady, AsksOn, AsksSome, ComesTo, HasCome, ScansRuns, blocks_of_runs, blocks_to_come, memory_places};
 ghost use Rattle.lsm_levels.specs.SourceCursors.{cursor_of_versions};
-ghost use Rattle.lsm_levels.specs.Lookups.{IsLookUp, answer_of, sealed_versions, versions_at};
+ghost use Rattle.lsm_levels.specs.Lookups.{IsLookUp, IsTest, answer_of, sealed_versions, versions_at};
 
-use crate::found::Found;
+use crate::found::copied;
 use crate::levels::Levels;
-use crate::lookup::{Query, find_in_levels};
+use crate::lookup::{Query, copy_from_levels, test_in_levels};
 use crate::scan::gather_all;
 use crate::source::SourceCursor;
 use crate::sources::seek_runs;
 use crate::within::are_within;
 use lsm_cache::Cache;
-use lsm_codec::VersionRef;
+use lsm_codec::{Guard, VersionRef};
 use lsm_device::{Device, Refusal};
 use lsm_mem::{Mem, Page, PageBuilder, Sealed};
 use std::alloc::{AllocError, Allocator, Global};
@@ -86,16 +87,37 @@ impl<'a, A: Allocator + Clone> ReadView<'a, A> {
             (record { cache = cache.old; medium = D.medium device.old }) (record { cache = cache.new; medium = D.medium device.new }) }
     {
         if let Some(version) = self.newest_in_memory(key, at) {
-            let found = Found::of(alloc, Some(version))?;
-            return Ok(found.into_value());
+            return copied(alloc, version.value);
         }
         let query = Query {
             area: self.area,
             key,
             at,
         };
-        let found = find_in_levels(self.levels, query, alloc, cache, device)?;
-        Ok(found.into_value())
+        copy_from_levels(self.levels, query, alloc, cache, device)
+    }
+
+    /// Whether what memory, sealed memory and the runs of the levels say of a guard's key meets it.
+    fn tested<D: Device>(
+        &self,
+        cache: &mut Cache<A>,
+        device: &mut D,
+        guard: &Guard<A>,
+        at: u64,
+    ) -> Result<bool, Refusal>
+        requires { AreWithin (D.medium device.old).size self.now.area (places self.now.levels.now) }
+        ensures { IsTest self.now.mem.now (sealed_versions self.now.sealed) (places self.now.levels.now) self.now.area guard.now at result
+            (record { cache = cache.old; medium = D.medium device.old }) (record { cache = cache.new; medium = D.medium device.new }) }
+    {
+        if let Some(version) = self.newest_in_memory(guard.key(), at) {
+            return Ok(guard.is_met_by(version.value));
+        }
+        let query = Query {
+            area: self.area,
+            key: guard.key(),
+            at,
+        };
+        test_in_levels(self.levels, query, guard, cache, device)
     }
 
     /// The value of a key at a count of batches, or none where it has none. Memory is asked first, then sealed memory, then
@@ -145,6 +167,49 @@ impl<'a, A: Allocator + Clone> ReadView<'a, A> {
     {
         let _runs = self.levels.runs();
         let answer = self.look_up(alloc, cache, device, key, at);
+        answer
+    }
+
+    /// Whether the map at a count of batches meets a guard. Its key is looked up as [`ReadView::find`] looks keys up, and what is
+    /// found is compared where it lies: no memory is taken.
+    ///
+    /// It is refused with `Io` for a read that faulted, its last; and with `BadTable` where bytes of a block are no entry.
+    pub fn meets_guard<D: Device>(
+        &self,
+        cache: &mut Cache<A>,
+        device: &mut D,
+        guard: &Guard<A>,
+        at: u64,
+    ) -> Result<bool, Refusal>
+        requires { AreWithin (D.medium device.old).size self.now.area (places self.now.levels.now) }
+
+        // Which blocks are asked for, how they are given, and what they say.
+        ensures tests { IsTest self.now.mem.now (sealed_versions self.now.sealed) (places self.now.levels.now) self.now.area guard.now at result
+            (record { cache = cache.old; medium = D.medium device.old }) (record { cache = cache.new; medium = D.medium device.new }) }
+
+        // Where the tables stand, and the blocks of the cache are those of the device, the answer is that of the map, unless a
+        // read faults.
+        ensures answers { (place : Name → Option ℕ) → IsReadable place self.now.area (places self.now.levels.now) (record { cache = cache.old; medium = D.medium device.old })
+            → IsVersionOrder (versions_at self.now.mem.now (sealed_versions self.now.sealed) (places self.now.levels.now))
+            → MatchResult result
+            (λ met. met ≡ is_met (map_of (joined (versions_at self.now.mem.now (sealed_versions self.now.sealed) (places self.now.levels.now))) at) guard.now)
+            (λ refusal. refusal ≡ Io) }
+
+        // Cache and device are used as for a look-up.
+        ensures fresh { (place : Name → Option ℕ) → IsTrue (D.medium device.old).lasting.tells
+            → ArePlaced place self.now.area (places self.now.levels.now)
+            → IsFresh place (seen (disk (D.medium device.old))) cache.old → IsFresh place (seen (disk (D.medium device.new))) cache.new }
+        ensures numbered { (number : ℕ) → AreNumberedBelow number (places self.now.levels.now) → IsNumberedBelow number cache.old → IsNumberedBelow number cache.new }
+        ensures refused { IfErr result (λ refusal. (refusal ≡ Io) ⊎ (refusal ≡ BadTable)) }
+        ensures faults { (D.medium device.new).calls.faults ≡ faults_after (faultless result) (D.medium device.old).calls.faults }
+        ensures stops { IfErr result (λ refusal. refusal ≡ Io → IsTrue (D.medium device.new).calls.last_faulted) }
+        ensures calls { AtMost (8 * length (places self.now.levels.now)) 0 0 (D.medium device.old).calls (D.medium device.new).calls }
+        ensures unchanged { IsTrue (D.medium device.old).lasting.tells → (D.medium device.new).history ≡ (D.medium device.old).history }
+        ensures same_size { (D.medium device.new).size ≡ (D.medium device.old).size }
+        ensures same_lasting { (D.medium device.new).lasting ≡ (D.medium device.old).lasting }
+    {
+        let _runs = self.levels.runs();
+        let answer = self.tested(cache, device, guard, at);
         answer
     }
 

@@ -14,3 +14,8 @@ pub returns-in-OneTable : goal.returns-in-OneTable
 returns-in-OneTable g c =
     flag_is c.args.self.now c.in-OneTable.level (c.in-OneTable.upper.now ∷ []) c.in-OneTable.lower.now (option_map range_shown c.hull_onto-in-OneTable.result) (Some (range_shown c.spanned.result)) c.meets_none_below-in-OneTable.result c.hull_onto-in-OneTable.ensures (ap Some c.spanned.ensures) c.meets_none_below-in-OneTable.ensures
     ∙ sym (ap (λ job. is_bottom c.args.self.now (job_of job)) c.in-OneTable.is)
+
+pub returns-in-Neighbours : goal.returns-in-Neighbours
+returns-in-Neighbours g c =
+    flag_is c.args.self.now c.in-Neighbours.level c.in-Neighbours.upper.now c.in-Neighbours.lower.now (option_map range_shown c.hull_onto-in-Neighbours.result) (option_map range_shown c.hull_onto-in-Neighbours-2.result) c.meets_none_below-in-Neighbours.result c.hull_onto-in-Neighbours.ensures c.hull_onto-in-Neighbours-2.ensures c.meets_none_below-in-Neighbours.ensures
+    ∙ sym (ap (λ job. is_bottom c.args.self.now (job_of job)) c.in-Neighbours.is)

@@ -1,0 +1,44 @@
+-- Which job a caller may choose, beside the one that comes next.
+use Rattle.std.specs.Prelude.{ℕ, suc, ◌==◌, ◌&&◌, ◌||◌, not, nat_le, Bool, List, [], length, filter, Option, Some, None, if◌then◌else◌}
+use Rattle.std.specs.List.{find, list_any}
+use Rattle.lsm_levels.specs.Tables.{Table, meets}
+use Rattle.lsm_levels.specs.Levels.{Levels, level, last_run}
+use Rattle.lsm_levels.specs.Pick.{Job, is_merge, is_of_level_0, is_several, are_several, can_merge, merge_of, of_least_level}
+use Rattle.lsm_levels.specs.declared.choosing.Choice.{Choice}
+use Rattle.lsm_levels.specs.declared.choosing.Choice.TheVariants as choice
+
+-- whether a merge of these tables of a level may stand beside others: where one of them is of several tables, none may
+abbrev pub may_stand : List Job → ℕ → List Table → Bool
+may_stand jobs i upper = not (list_any is_several jobs) && (not (are_several i upper) || not (list_any is_merge jobs))
+
+-- the merge of upper tables with those of the next level that they meet, if it may stand and all of them are free
+abbrev pub free_merge : ℕ → List Table → List Table → List Job → Option Job
+free_merge i upper below jobs = if may_stand jobs i upper && can_merge jobs upper below then Some (merge_of i upper below) else None
+
+-- that of the oldest run of level 0, if there is a run and no job of level 0
+abbrev pub run_job : List (List Table) → List Table → List Job → Option Job
+run_job runs below jobs = if nat_le 1 (length runs) && not (list_any is_of_level_0 jobs) then free_merge 0 (last_run runs) below jobs else None
+
+-- the tables from one to another, if there are both
+abbrev pub tables_from : List Table → Option Table → Option Table → List Table
+tables_from tables None b = []
+tables_from tables (Some a) None = []
+tables_from tables (Some a) (Some b) = filter (meets (record { first = a.first; last = b.last })) tables
+
+-- those from the table of a number to that of another: all of the level whose keys are not before the one's or behind the other's
+abbrev pub neighbours : ℕ → ℕ → List Table → List Table
+neighbours first last tables = tables_from tables (find (λ t. t.number == first) tables) (find (λ t. t.number == last) tables)
+
+-- that of tables in a level, if there are any
+abbrev pub some_job : ℕ → List Table → List Table → List Job → Option Job
+some_job i upper below jobs = if nat_le 1 (length upper) then free_merge i upper below jobs else None
+
+-- that of neighbours in a level
+abbrev pub tables_job : ℕ → ℕ → ℕ → List Table → List Table → List Job → Option Job
+tables_job first last i tables below jobs = some_job i (neighbours first last tables) below jobs
+
+-- The job of a choice: none where there are no such tables, where one that it would take in is not free, where a job of level 0
+-- goes on beside the oldest run, or where it may not stand beside the others.
+abbrev pub chosen : Levels → List Job → Choice → Option Job
+chosen levels jobs choice.OldestRun = run_job levels.runs (level levels 1) jobs
+chosen levels jobs (choice.Tables first last) = of_least_level (λ i. tables_job first last i (level levels i) (level levels (suc i)) jobs)

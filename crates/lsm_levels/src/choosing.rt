@@ -1,0 +1,114 @@
+//! Which job a caller may choose, beside the one that comes next.
+
+ghost use Rattle.std.specs.Prelude.{◌≡◌, ◌==◌, ◌&&◌, option_map};
+ghost use Rattle.std.specs.List.{find, list_all};
+ghost use Rattle.std.specs.Option.{option_copied};
+ghost use Rattle.lsm_levels.specs.Tables.{IsRun};
+ghost use Rattle.lsm_levels.specs.Pick.{is_free};
+ghost use Rattle.lsm_levels.specs.Choices.{neighbours, may_stand, run_job, tables_job};
+ghost use Rattle.lsm_levels.specs.Picks.{job_of};
+
+use crate::picking::{HeldJobs, Pick, are_free, lower_of, oldest};
+use crate::run::Run;
+use crate::table::PlacedTable;
+use std::alloc::Allocator;
+
+/// What a job takes in, with the tables of the next level that meet its hull.
+#[derive(Clone, Copy, Debug, PartialEq, Eq)]
+pub enum Choice {
+    /// The oldest run of level 0.
+    OldestRun,
+    /// Neighbouring tables of a level from 1 to 3: from the table of one number to that of another, which may be the same.
+    Tables { first: u64, last: u64 },
+}
+
+/// The table of a number.
+fn table_of<A: Allocator>(tables: &[PlacedTable<A>], number: u64) -> Option<&PlacedTable<A>>
+    ensures { option_copied result ≡ find (λ t. t.number == number) tables.now }
+{
+    for table in tables {
+        if table.number() == number {
+            return Some(table);
+        }
+    }
+    None
+}
+
+/// The tables of a run from one to another, by their numbers; none where one of both is not in it.
+fn neighbours<A: Allocator>(tables: &Run<A>, first: u64, last: u64) -> &[PlacedTable<A>]
+    ensures same { result.now ≡ neighbours first last tables.now }
+    ensures run { IsRun result.now }
+{
+    let Some(first) = table_of(tables.tables(), first) else {
+        return &[];
+    };
+    let Some(last) = table_of(tables.tables(), last) else {
+        return &[];
+    };
+    tables.meeting(first.first(), last.last())
+}
+
+/// Whether a merge of so many tables of a level may stand beside others: where one of them is of several tables, none may.
+fn may_stand<H: HeldJobs, A: Allocator>(held: &H, level: usize, upper: &[PlacedTable<A>]) -> bool
+    ensures { result ≡ may_stand (H.jobs held.now) level upper.now }
+{
+    let are_several = level > 0 && upper.len() > 1;
+    !held.has_several() && (!are_several || !held.has_merge())
+}
+
+/// Whether a merge of these tables may stand beside others, and all that it takes in are free.
+fn is_free_merge<H: HeldJobs, A: Allocator>(
+    held: &H,
+    level: usize,
+    upper: &[PlacedTable<A>],
+    lower: &[PlacedTable<A>],
+) -> bool
+    ensures { result ≡ (may_stand (H.jobs held.now) level upper.now && (list_all (is_free (H.jobs held.now)) upper.now && list_all (is_free (H.jobs held.now)) lower.now)) }
+{
+    may_stand(held, level, upper) && (are_free(held, upper) && are_free(held, lower))
+}
+
+/// The tables of a level from one to another with those of the next level that meet their hull, if all of them are free.
+pub(crate) fn tables_job<'a, H: HeldJobs, A: Allocator>(
+    first: u64,
+    last: u64,
+    level: usize,
+    tables: &'a Run<A>,
+    below: &'a Run<A>,
+    held: &H,
+) -> Option<Pick<'a, A>>
+    ensures { option_map job_of result ≡ tables_job first last level tables.now below.now (H.jobs held.now) }
+{
+    let upper = neighbours(tables, first, last);
+    if upper.is_empty() {
+        return None;
+    }
+    let lower = lower_of(upper, below);
+    if is_free_merge(held, level, upper, lower) {
+        return Some(Pick::Neighbours {
+            level,
+            upper,
+            lower,
+        });
+    }
+    None
+}
+
+/// The oldest run of level 0 with the tables of level 1 that meet its hull, if all of them are free and no job is of level 0.
+pub(crate) fn run_job<'a, H: HeldJobs, A: Allocator>(
+    runs: &'a [Run<A>],
+    below: &'a Run<A>,
+    held: &H,
+) -> Option<Pick<'a, A>>
+    ensures { option_map job_of result ≡ run_job runs.now below.now (H.jobs held.now) }
+{
+    if runs.is_empty() || held.has_level_0() {
+        return None;
+    }
+    let upper = oldest(runs);
+    let lower = lower_of(upper, below);
+    if is_free_merge(held, 0, upper, lower) {
+        return Some(Pick::OldestRun { upper, lower });
+    }
+    None
+}

@@ -1,0 +1,25 @@
+//! Which merge to choose next, so that few blocks are written and no store dies of small tables.
+//!
+//! A store merges what its caller chooses. [`Policy::next_choice`] says what to take next: the oldest run of level 0, or of a
+//! level that is over its limit the neighbours that go down for the fewest blocks of the next level a block of their own. If room is
+//! scarce the oldest table goes, with as many neighbours as find room, so that deletes come to what they delete. A choice takes in no
+//! more blocks than are free, so that its outputs find room. It keeps nothing, so it goes on where it was after each opening.
+//!
+//! ```
+//! let policy = Policy::new();
+//! let free_blocks = store.stat()?.free_blocks;
+//! if let Some(choice) = policy.next_choice(store.levels(), free_blocks, store.jobs()) {
+//!     let job = store.job_take_of(choice)?;
+//! }
+//! ```
+//!
+//! Flushes come first, by `job_take`. Contracts say that what is advised may be taken, and count exactly; how little is written is
+//! measured.
+#![tactic(auto)]
+
+mod neighbours;
+mod policy;
+mod room;
+
+pub use policy::Policy;
+pub use room::takes_in_at_most;

@@ -1,0 +1,163 @@
+//! What to merge next.
+
+ghost use Rattle.std.specs.Prelude.{◌≡◌, ◌*◌, ◌||◌, ltb, nat_le, is_some, true, IfSome};
+ghost use Rattle.lsm_levels.specs.Choices.{chosen};
+ghost use Rattle.lsm_levels.specs.Moving.{table_count};
+ghost use Rattle.lsm_policy.specs.Room.{taken_blocks};
+
+use crate::neighbours::{Bounds, best, blocks_of};
+use crate::room::{has_at_most, takes_at_most, takes_in_at_most};
+use lsm_levels::{Choice, HeldJobs, Levels, Run};
+use std::alloc::Allocator;
+
+/// A level's limit is at most this part of all blocks.
+const PART: u64 = 8;
+
+/// But it is so many blocks at least.
+const LEAST_LIMIT: u64 = 16;
+
+/// The numbers by which merges are chosen. [`Policy::new`] has good ones.
+#[derive(Clone, Copy, Debug)]
+pub struct Policy {
+    /// From so many runs on the oldest run of level 0 goes down.
+    pub runs: usize,
+    /// The limits of levels 1 to 3, in blocks. In a small data area a level's limit is an eighth of the blocks instead.
+    pub limits: [u64; 3],
+    /// Several neighbours take in so many blocks at most.
+    pub most_blocks: u64,
+    /// Room is scarce with more tables than so many, and with less than half of the blocks free.
+    pub most_tables: usize,
+    /// There is room for more while tables take at most so many blocks for each that is free.
+    pub taken_for_each_free: u32,
+}
+
+impl Policy {
+    /// Three runs; limits of 224, 1,400 and 8,192 blocks; 512 blocks; 768 tables; two blocks for each that is free.
+    ///
+    /// Runs and limits are below those by which jobs come next: so where all that is chosen is done, no merge comes next but of a
+    /// table that is mostly deletes.
+    pub fn new() -> Policy
+        ensures tables { result.most_tables ≡ 768 }
+        ensures room { result.taken_for_each_free ≡ 2 }
+    {
+        Policy {
+            runs: 3,
+            limits: [224, 1_400, 8_192],
+            most_blocks: 512,
+            most_tables: 768,
+            taken_for_each_free: 2,
+        }
+    }
+
+    /// Whether room is scarce where so many blocks are free: less than half of them, or there are too many tables.
+    pub fn is_scarce<A: Allocator>(&self, levels: &Levels<A>, free_blocks: u32) -> bool
+        ensures { result ≡ (ltb free_blocks (taken_blocks levels.now) || ltb self.now.most_tables (table_count levels.now)) }
+    {
+        !takes_at_most(levels, u64::from(free_blocks)) || !has_at_most(levels, self.most_tables)
+    }
+
+    /// Whether there is room for more entries where so many blocks are free: with two blocks taken for each that is free, at least a
+    /// third of all. A store that puts no more where there is none can be emptied by deletes: each delete wants a table first.
+    pub fn has_room<A: Allocator>(&self, levels: &Levels<A>, free_blocks: u32) -> bool
+        ensures { result ≡ nat_le (taken_blocks levels.now) (self.now.taken_for_each_free * free_blocks) }
+    {
+        takes_at_most(
+            levels,
+            u64::from(self.taken_for_each_free) * u64::from(free_blocks),
+        )
+    }
+
+    /// The merge to choose next where so many blocks are free, and slots are held by these jobs: the first of these that there is,
+    /// that may be taken, and that takes in no more blocks than are free.
+    ///
+    /// 1. The oldest run of level 0, from [`runs`](Policy::runs) on.
+    /// 2. Of the least level from 1 to 3 that is over its limit: the neighbours that go down for the fewest blocks of the next level
+    ///    a block of their own. If room is scarce those with the oldest table. Of equal ones the widest. Several tables go only where
+    ///    no other merge is held.
+    ///
+    /// It takes no memory, and time linear in the number of tables by that of the neighbours which may go at once.
+    pub fn next_choice<H: HeldJobs, A: Allocator>(
+        &self,
+        levels: &Levels<A>,
+        free_blocks: u32,
+        held: &H,
+    ) -> Option<Choice>
+        ensures { IfSome result (λ choice. is_some (chosen levels.now (H.jobs held.now) choice) ≡ true) }
+    {
+        let bounds = Bounds {
+            joins: !held.has_merge(),
+            most_blocks: self.most_blocks,
+            is_scarce: self.is_scarce(levels, free_blocks),
+            room: u64::from(free_blocks),
+        };
+        let choice = self.first_of(levels, bounds, held)?;
+        if levels.choose(choice, held).is_none() {
+            return None;
+        }
+        Some(choice)
+    }
+
+    /// The first of these choices that there is.
+    fn first_of<H: HeldJobs, A: Allocator>(
+        &self,
+        levels: &Levels<A>,
+        bounds: Bounds,
+        held: &H,
+    ) -> Option<Choice> {
+        if levels.runs().len() >= self.runs && run_finds_room(levels, bounds.room, held) {
+            return Some(Choice::OldestRun);
+        }
+        let [level_1, level_2, level_3, level_4] = levels.deeper() else {
+            return None;
+        };
+        let most = (area_of(levels, bounds.room) / PART).max(LEAST_LIMIT);
+        let [limit_1, limit_2, limit_3] = self.limits;
+        if let Some(choice) = tables_of(level_1, level_2, limit_1.min(most), bounds, held) {
+            return Some(choice);
+        }
+        if let Some(choice) = tables_of(level_2, level_3, limit_2.min(most), bounds, held) {
+            return Some(choice);
+        }
+        tables_of(level_3, level_4, limit_3.min(most), bounds, held)
+    }
+}
+
+/// The blocks of all tables, with those that are free.
+fn area_of<A: Allocator>(levels: &Levels<A>, room: u64) -> u64 {
+    let mut blocks = room;
+    for run in levels.runs() {
+        blocks = blocks.saturating_add(blocks_of(run.tables()));
+    }
+    for run in levels.deeper() {
+        blocks = blocks.saturating_add(blocks_of(run.tables()));
+    }
+    blocks
+}
+
+/// Whether the oldest run of level 0 may go down, and finds room.
+fn run_finds_room<H: HeldJobs, A: Allocator>(levels: &Levels<A>, room: u64, held: &H) -> bool {
+    match levels.choose(Choice::OldestRun, held) {
+        Some(job) => takes_in_at_most(&job, room),
+        None => false,
+    }
+}
+
+/// The best neighbours of a level that is over its limit.
+fn tables_of<H: HeldJobs, A: Allocator>(
+    tables: &Run<A>,
+    below: &Run<A>,
+    limit: u64,
+    bounds: Bounds,
+    held: &H,
+) -> Option<Choice> {
+    if blocks_of(tables.tables()) <= limit {
+        return None;
+    }
+    match best(tables.tables(), below.tables(), bounds, held) {
+        Some(found) => Some(Choice::Tables {
+            first: found.first,
+            last: found.last,
+        }),
+        None => None,
+    }
+}
