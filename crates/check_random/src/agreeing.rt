@@ -26,7 +26,7 @@ fn is_row(row: Option<RowRef<'_>>, key: u8, value: u8) -> bool {
 }
 
 /// Whether a page is a whole map.
-fn is_map(page: &Page, map: &BTreeMap<u8, u8>) -> bool {
+pub(crate) fn is_map(page: &Page, map: &BTreeMap<u8, u8>) -> bool {
     let mut count = 0_usize;
     for (key, value) in map.iter() {
         if !is_row(page.rows().get(count), *key, *value) {

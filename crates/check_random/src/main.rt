@@ -1,18 +1,23 @@
 //! Random lives of a store in memory, after each of which a check finds its image sound, with the numbers that an opening
-//! then finds. The opening finds the map that the first so many of the batches make.
+//! then finds. The opening finds the map that the first so many of the batches make. And random images of version 1 of the format,
+//! whose first openings are stopped at each write and sync, and the next ones so too: their maps stay.
 #![tactic(auto)]
 
 mod agreeing;
 mod draws;
 mod history;
+mod images;
 mod opened;
 mod steps;
+mod stops;
 
 use crate::agreeing::{has_map, has_numbers};
 use crate::draws::Draws;
 use crate::history::History;
+use crate::images::{make_old, sum_behind};
 use crate::opened::Opened;
-use crate::steps::life;
+use crate::steps::{life, life_with_tables};
+use crate::stops::{Tried, stop_twice};
 use anyhow::Result;
 use lsm_check::{Finding, Report, check};
 use lsm_device::{MemDevice, Refusal};
@@ -28,6 +33,9 @@ const SCRIPTS: u64 = 1_000;
 
 /// The lives of a script.
 const LIVES: u32 = 3;
+
+/// How many images of version 1 are opened, where no argument says so.
+const IMAGES: u64 = 200;
 
 /// What went wrong.
 enum Trouble {
@@ -161,6 +169,76 @@ fn run<R: Threads + Sync>(rt: &R, alloc: Global, scripts: u64) -> Result<u64, Tr
     Ok(with_tables)
 }
 
+/// A store with tables, of which up to three logs hold batches, and what was committed. It has been led through one to three lives,
+/// of which the first flushes.
+fn with_tables<R: Threads + Sync>(
+    rt: &R,
+    alloc: Global,
+    draws: &mut Draws,
+) -> Result<(MemDevice, History), Trouble> {
+    let mut device = formatted(alloc)?;
+    let mut history = History::new(alloc);
+    let mut flushes = draws.below(9).wrapping_add(2);
+    for _ in 0..draws.below(3).wrapping_add(1) {
+        let life = life_with_tables(alloc, draws, flushes)?;
+        device = led(rt, alloc, device, life, &mut history)?;
+        flushes = 0;
+    }
+    Ok((device, history))
+}
+
+/// Whether an image of version 1 has some of each: tables, deletes in them, and closed log regions.
+type Had = (bool, bool, bool);
+
+/// Makes an image of version 1, and stops its openings.
+fn old_image<R: Threads + Sync>(
+    rt: &R,
+    alloc: Global,
+    draws: &mut Draws,
+    tried: &mut Tried,
+) -> Result<Had, Trouble> {
+    let (device, history) = with_tables(rt, alloc, draws)?;
+    let map = history.map(alloc)?;
+    let mut device = device;
+    let (tables, deletes, logs) = make_old(alloc, &mut device)?;
+    let sum = sum_behind(&mut device)?;
+    let mut device = stop_twice(alloc, device, &map, tried)?;
+    if sum_behind(&mut device)? != sum {
+        return Err(Trouble::Found);
+    }
+    Ok((tables > 3, deletes > 0, logs > 1))
+}
+
+/// Tries so many images of version 1, and answers whether there were some of each kind among them.
+fn old_images<R: Threads + Sync>(
+    rt: &R,
+    alloc: Global,
+    images: u64,
+    tried: &mut Tried,
+) -> Result<Had, Trouble> {
+    let mut draws = Draws::new();
+    let mut all = (false, false, false);
+    for _ in 0..images {
+        let had = old_image(rt, alloc, &mut draws, tried)?;
+        all = (all.0 | had.0, all.1 | had.1, all.2 | had.2);
+    }
+    Ok(all)
+}
+
+/// Tries so many scripts and so many images. It answers in how many scripts tables were left, and whether there were some images
+/// of each kind.
+fn run_all<R: Threads + Sync>(
+    rt: &R,
+    alloc: Global,
+    scripts: u64,
+    images: u64,
+    tried: &mut Tried,
+) -> Result<(u64, bool), Trouble> {
+    let with_tables = run(rt, alloc, scripts)?;
+    let (tables, deletes, logs) = old_images(rt, alloc, images, tried)?;
+    Ok((with_tables, tables && deletes && logs))
+}
+
 /// What is told of a trouble.
 fn told(trouble: Trouble) -> &'static str {
     match trouble {
@@ -171,16 +249,32 @@ fn told(trouble: Trouble) -> &'static str {
     }
 }
 
+/// The number that a word spells, or another where there is no word.
+fn number(word: Option<String>, default: u64) -> Result<u64> {
+    match word {
+        Some(word) => Ok(word.parse::<u64>()?),
+        None => Ok(default),
+    }
+}
+
 fn main(rt: HostRuntime) -> Result<ExitCode> {
-    let scripts = match env::args(&rt)?.nth(1) {
-        Some(word) => word.parse::<u64>()?,
-        None => SCRIPTS,
-    };
-    match run(&rt, rt.alloc(), scripts) {
-        Ok(with_tables) => {
-            eprintln!(rt; "{with_tables} with tables")?;
+    let mut words = env::args(&rt)?.skip(1);
+    let scripts = number(words.next(), SCRIPTS)?;
+    let images = number(words.next(), IMAGES)?;
+    let mut tried = Tried::nothing();
+    match run_all(&rt, rt.alloc(), scripts, images, &mut tried) {
+        Ok((with_tables, had)) => {
+            let (devices, differences) = (tried.devices, tried.differences);
+            eprintln!(rt; "{with_tables} with tables, {devices} devices that were stopped")?;
             let among = if with_tables > 0 { "some" } else { "none" };
             println!(rt; "{scripts} scripts checked, {among} with tables")?;
+            let among = if had { "some" } else { "none" };
+            println!(rt;
+                "{images} old images stopped twice, {among} with many tables, deletes and closed logs: {differences} differences"
+            )?;
+            if differences > 0 {
+                return Ok(ExitCode::FAILURE);
+            }
             Ok(ExitCode::SUCCESS)
         }
         Err(trouble) => {

@@ -7,6 +7,22 @@ use std::alloc::Global;
 /// How many blocks the cache keeps.
 const CACHE: u32 = 16;
 
+/// Whether an opening ends that fails behind so many writes and syncs, and what a crash then leaves that keeps these writes.
+pub(crate) fn stopped(
+    alloc: Global,
+    device: MemDevice,
+    fuse: u64,
+    mask: &[bool],
+) -> Result<(bool, MemDevice), Refusal> {
+    let mut device = device;
+    device.fuse(fuse);
+    match Store::open(alloc, device, CACHE) {
+        Ok(store) => Ok((true, store.into_device().crash(mask))),
+        Err((Refusal::Io, device)) => Ok((false, device.crash(mask))),
+        Err((refusal, _)) => Err(refusal),
+    }
+}
+
 /// A store that was opened.
 pub(crate) struct Opened {
     store: Store<MemDevice>,

@@ -1,6 +1,6 @@
 //! Reads that fail.
 
-use crate::setup::{NUMBERS, left};
+use crate::setup::{NUMBERS, left, left_old};
 use lsm_check::{Finding, check};
 use lsm_device::{MemDevice, Refusal};
 use std::alloc::Global;
@@ -39,5 +39,9 @@ fn a_check_tells_each_read_that_fails(rt: HostRuntime) -> Result<(), Fail> {
     let mut device = left(&rt, rt.alloc())?;
     let failing = failing_reads(rt.alloc(), &mut device)?;
     assert!(rt; failing == READS);
+    // In version 1 the data block is read once more, to count its deletes.
+    let mut old = left_old(&rt, rt.alloc())?;
+    let failing = failing_reads(rt.alloc(), &mut old)?;
+    assert!(rt; failing == READS + 8);
     Ok(())
 }

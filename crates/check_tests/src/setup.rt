@@ -2,7 +2,7 @@
 
 use lsm_check::Report;
 use lsm_codec::{Batch, Op};
-use lsm_device::{MemDevice, Refusal};
+use lsm_device::{Device, MemDevice, Refusal};
 use lsm_lives::{Call, Life, Step, Work, lives};
 use lsm_open::format;
 use std::alloc::Global;
@@ -62,4 +62,30 @@ pub fn left<R: Threads + Sync>(rt: &R, alloc: Global) -> Result<MemDevice, Fail>
         Ok((_replies, device)) => Ok(device),
         Err((refusal, _)) => Err(Fail::from(refusal.name())),
     }
+}
+
+/// Makes the superblock in a sector of a device one of version 1 of the format.
+fn put_version_1(device: &mut MemDevice, at: u32) -> Result<(), Refusal> {
+    if at >= device.sectors() {
+        return Err(Refusal::BadGeometry);
+    }
+    let mut sector = [0; 512];
+    device.read(at, &mut sector)?;
+    sector[5] = 1;
+    device.write(at, &sector)?;
+    Ok(())
+}
+
+/// Makes both superblocks of a device those of version 1 of the format. Nothing pends then, and no call was counted.
+fn in_version_1(device: MemDevice) -> Result<MemDevice, Refusal> {
+    let mut device = device;
+    put_version_1(&mut device, 0)?;
+    put_version_1(&mut device, 1)?;
+    device.sync()?;
+    Ok(device.crash(&[]))
+}
+
+/// The device of `left` in version 1. The manifest is the same, since its only table has no delete.
+pub fn left_old<R: Threads + Sync>(rt: &R, alloc: Global) -> Result<MemDevice, Fail> {
+    Ok(in_version_1(left(rt, alloc)?)?)
 }

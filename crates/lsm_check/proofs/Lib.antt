@@ -11,5 +11,5 @@ pub mod SoundRuns
 pub mod ToldTables
 pub mod RunsAscend
 pub mod StandSoundly
-pub mod Checked
 pub mod Readings
+pub mod Checked

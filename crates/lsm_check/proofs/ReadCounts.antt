@@ -1,6 +1,7 @@
 -- How reads are counted, where both ends of their number are told.
 use Rattle.std.proofs.Common.{◌≡◌, ℕ, zero, suc, ◌+◌, ◌<◌, ◌≤◌, true, List, [], ◌∷◌, ◌++◌, map, length, take, get_or, refl, sym, ap, ◌∙◌, arith}
 use Rattle.std.proofs.lemmas.List.{take_more}
+use Rattle.std.proofs.lemmas.List.Sums.{sum_by-append}
 use Rattle.std.specs.Prelude.{Err}
 use Rattle.lsm_cache.specs.Reads.{after_reads}
 use Rattle.lsm_codec.specs.Manifests.{Contents}
@@ -9,8 +10,9 @@ use Rattle.lsm_device.specs.Calls.{one_more, more, after_read, AtMost}
 use Rattle.lsm_device.specs.declared.calls.Calls.{Calls}
 use Rattle.lsm_levels.specs.Levels.{Levels, all_tables, places}
 use Rattle.lsm_levels.specs.Tables.{Table, record_of}
+use Rattle.lsm_open.specs.Counting.{all_data}
 use Rattle.lsm_open.specs.ToldTables.{records_of_runs, records_of_levels, HaveNamed}
-use Rattle.lsm_check.specs.Counted.{data_blocks_in, data_blocks_named, ReadsBetween, AreRegionsRead, IsReadFor}
+use Rattle.lsm_check.specs.Counted.{data_blocks_in, ReadsBetween, AreRegionsRead, IsReadFor}
 use Rattle.lsm_check.specs.declared.finding.Finding.{Finding}
 use Rattle.lsm_check.specs.declared.finding.Finding.TheVariants.{Refused, Entries, Order, Filter, Versions}
 
@@ -48,9 +50,8 @@ blocks-append : (xs ys : List Table) → data_blocks_in (xs ++ ys) ≡ data_bloc
 blocks-append [] ys = omega arith
 blocks-append (x ∷ xs) ys = omega (arith, blocks-append xs ys)
 
-named-append : (xs ys : List TableRecord) → data_blocks_named (xs ++ ys) ≡ data_blocks_named xs + data_blocks_named ys
-named-append [] ys = omega arith
-named-append (x ∷ xs) ys = omega (arith, named-append xs ys)
+named-append : (xs ys : List TableRecord) → all_data (xs ++ ys) ≡ all_data xs + all_data ys
+named-append xs ys = sum_by-append (λ (t : TableRecord). t.data_blocks) xs ys
 
 -- one table more of a run, and one run more
 pub blocks_up_to : (run : List Table) (i : ℕ) (t : Table) → i < length run → t ≡ get_or run i t → data_blocks_in (take (i + 1) run) ≡ data_blocks_in (take i run) + length t.outline.edges
@@ -59,15 +60,15 @@ blocks_up_to run i t lt is =
     omega (arith, ap (λ (ts : List Table). data_blocks_in ts) whole, blocks-append (take i run) (t ∷ []))
 
 -- each record names the blocks of its table
-named_by : (level run : ℕ) (ts : List Table) → data_blocks_named (map (record_of level run) ts) ≡ data_blocks_in ts
+named_by : (level run : ℕ) (ts : List Table) → all_data (map (record_of level run) ts) ≡ data_blocks_in ts
 named_by level run [] = refl
-named_by level run (t ∷ ts) = omega (arith, named_by level run ts)
+named_by level run (t ∷ ts) = omega (arith, named_by level run ts, named-append (record_of level run t ∷ []) (map (record_of level run) ts))
 
-named_levels : (k : ℕ) (xs : List (List Table)) → data_blocks_named (records_of_levels k xs) ≡ data_blocks_in (all_tables xs)
+named_levels : (k : ℕ) (xs : List (List Table)) → all_data (records_of_levels k xs) ≡ data_blocks_in (all_tables xs)
 named_levels k [] = refl
 named_levels k (x ∷ xs) = omega (arith, named-append (map (record_of k 0) x) (records_of_levels (suc k) xs), named_by k 0 x, blocks-append x (all_tables xs), named_levels (suc k) xs)
 
-named_runs : (k : ℕ) (xs deeper : List (List Table)) → data_blocks_named (records_of_runs k xs ++ records_of_levels 1 deeper) ≡ data_blocks_in (all_tables (xs ++ deeper))
+named_runs : (k : ℕ) (xs deeper : List (List Table)) → all_data (records_of_runs k xs ++ records_of_levels 1 deeper) ≡ data_blocks_in (all_tables (xs ++ deeper))
 named_runs k [] deeper = named_levels 1 deeper
 named_runs k (x ∷ xs) deeper =
     omega (
@@ -80,8 +81,8 @@ named_runs k (x ∷ xs) deeper =
       named_runs (suc k) xs deeper,
     )
 
-pub all_named : (m : Contents) (levels : Levels) → HaveNamed m levels → data_blocks_in (all_tables (places levels)) ≡ data_blocks_named m.tables
-all_named m levels named = sym (named_runs 0 levels.runs levels.deeper) ∙ ap (λ (ts : List TableRecord). data_blocks_named ts) named.records
+pub all_named : (m : Contents) (levels : Levels) → HaveNamed m levels → data_blocks_in (all_tables (places levels)) ≡ all_data m.tables
+all_named m levels named = sym (named_runs 0 levels.runs levels.deeper) ∙ ap (λ (ts : List TableRecord). all_data ts) named.records
 
 -- the blocks of two parts of a list of tables
 pub blocks_parted : (whole xs ys : List Table) → whole ≡ xs ++ ys → data_blocks_in whole ≡ data_blocks_in xs + data_blocks_in ys

@@ -8,6 +8,7 @@ use Rattle.lsm_codec.specs.declared.table_record.TableRecord.{TableRecord}
 use Rattle.lsm_device.specs.declared.refusal.Refusal.{Refusal}
 use Rattle.lsm_device.specs.declared.refusal.Refusal.TheVariants.{NoMemory, Io, BadManifest}
 use Rattle.lsm_extent.specs.Area.{Area, covers, count_below, free_count, is_free, is_held}
+use Rattle.lsm_open.specs.Counting.{IsCountedRoot}
 use Rattle.lsm_open.specs.CrashState.{CrashState}
 use Rattle.lsm_open.specs.Image.{count_in, StandFor}
 use Rattle.lsm_open.specs.LogRegions.{follow_on}
@@ -15,8 +16,6 @@ use Rattle.lsm_open.specs.Reopening.{GoesOn}
 use Rattle.lsm_open.specs.ToldTables.{extent_of, Held}
 use Rattle.lsm_open.specs.declared.replayed.Replayed.{Replayed}
 use Rattle.lsm_open.proofs.OpenedStores.{named_here}
-use Rattle.lsm_root.specs.Loaded.{refusal_of}
-use Rattle.lsm_root.specs.Roots.{Root, Stands, root_of}
 use Rattle.lsm_check.specs.Images.{blocks_in_none, IsShortRefusal}
 use Rattle.lsm_check.specs.Named.{HasBatches}
 
@@ -34,11 +33,6 @@ pub short_replay : (e : Refusal) (follows : Bool) → follows ≡ true → ((e �
 short_replay e follows on (inl found) = absurd (false≢true (sym found.1 ∙ on))
 short_replay e follows on (inr other) = short_memory e other
 
--- and where a root stands, neither is a loading
-pub short_load : (root : Root) (n : ℕ) (m : Contents) (e : Refusal) → root ≡ Stands n m → (refusal_of root ≡ Some e) ⊎ ((e ≡ NoMemory) ⊎ (e ≡ Io)) → IsShortRefusal e
-short_load root n m e stands (inl is) = absurd (let none : None ≡ Some e = sym (ap refusal_of stands) ∙ is in cc)
-short_load root n m e stands (inr other) = short_memory e other
-
 -- ---- batches
 
 -- what a replay of all regions came to
@@ -46,13 +40,13 @@ pub batches_had : {A : Type 0} (n : ℕ) (s : List (List ℕ)) (m : Contents) (r
 batches_had n s m r goes = (goes.follows, omega (arith, goes.counts))
 
 -- of the image of a store
-pub batches_named : (k n : ℕ) (left : CrashState) (m : Contents) (s : List (List ℕ)) → StandFor k left s → root_of s ≡ Stands n m → HasBatches n s m (count_in n s m)
+pub batches_named : (k n : ℕ) (left : CrashState) (m : Contents) (s : List (List ℕ)) → StandFor k left s → IsCountedRoot n m s → HasBatches n s m (count_in n s m)
 batches_named k n left m s is root = let named = named_here k n left m s is root in
     record { follows = named.1.follows; fresh = named.1.fresh; counted = refl }
 
 -- ---- blocks in no table
 
-count_same : (p q : ℕ → Bool) (n : ℕ) → ((k : ℕ) → k < n → p k ≡ q k) → count_below p n ≡ count_below q n
+pub count_same : (p q : ℕ → Bool) (n : ℕ) → ((k : ℕ) → k < n → p k ≡ q k) → count_below p n ≡ count_below q n
 unfolding count_below
 count_same p q zero same = refl
 count_same p q (suc k) same =

@@ -47,13 +47,13 @@ root_refused OtherSize e is = subst IsCheckRefusal (same _ e is) tt
 root_refused Unreadable e is = subst IsCheckRefusal (same _ e is) tt
 root_refused (Stands n m) e is = absurd cc
 
-pub load_refused : (e : Refusal) → ((root : Root) × (refusal_of root ≡ Some e)) ⊎ ((e ≡ NoMemory) ⊎ (e ≡ Io)) → IsCheckRefusal e
-load_refused e (inl found) = root_refused found.0 e found.1
-load_refused e (inr other) = memory_refused e other
-
 pub tables_refused : (e : Refusal) → IsTableRefusal e → IsCheckRefusal e
 tables_refused e (inl is) = subst IsCheckRefusal (sym is) tt
 tables_refused e (inr other) = memory_refused e other
+
+pub loaded_refused : (e : Refusal) → ((root : Root) × (refusal_of root ≡ Some e)) ⊎ IsTableRefusal e → IsCheckRefusal e
+loaded_refused e (inl found) = root_refused found.0 e found.1
+loaded_refused e (inr other) = tables_refused e other
 
 pub replay_refused : (e : Refusal) (P : Type 0) → ((e ≡ BadManifest) × P) ⊎ ((e ≡ NoMemory) ⊎ (e ≡ Io)) → IsCheckRefusal e
 replay_refused e P (inl found) = subst IsCheckRefusal (sym found.0) tt

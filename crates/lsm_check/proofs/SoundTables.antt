@@ -1,12 +1,12 @@
 -- Whether a table is sound, by the entries that were read of it.
-use Rattle.std.proofs.Common.{◌≡◌, ℕ, ◌<◌, ◌≤◌, nat_le, ◌==◌, Bool, true, List, [], ◌∷◌, length, refl, sym, ap, subst, ◌∙◌, arith, take_all}
+use Rattle.std.proofs.Common.{◌≡◌, ℕ, ◌<◌, ◌≤◌, nat_le, ◌==◌, ◌&&◌, Bool, true, List, [], ◌∷◌, length, refl, sym, ap, subst, ◌∙◌, arith, take_all}
 use Rattle.std.specs.List.{AllByRecursion, list_all}
 use Rattle.std.proofs.lemmas.Bool.{and_parts, and_from, eqb-true, eq-eqb}
 use Rattle.std.proofs.lemmas.Option.{same_Some}
 use Rattle.lsm_codec.specs.Entries.{IsDataBlock}
 use Rattle.lsm_codec.specs.Indexes.{Edge}
 use Rattle.lsm_codec.specs.Keys.{Bytes}
-use Rattle.lsm_codec.specs.Versions.{Version, IsEntry, AreOrdered, is_same_key}
+use Rattle.lsm_codec.specs.Versions.{Version, IsEntry, AreOrdered, deletes_in, is_same_key}
 use Rattle.lsm_codec.proofs.KeyOrder.{same_key, key_itself}
 use Rattle.lsm_codec.proofs.Limits.{at_most-Decides, each-Decides}
 use Rattle.lsm_codec.proofs.Lists.{all_append}
@@ -77,8 +77,9 @@ module _ (sectors : Sectors) (area : ℕ) (t : Table) where
   pub told_if_stored : IsStored sectors area t → IsTold sectors area t
   told_if_stored stored =
       stored.told
-      ∙ ap (λ (o : Outline). table_at o t.start (entries_of stored.blocks)) (sym (ap (λ (x : Table). x.outline) stored.told))
-      ∙ ap (λ (vs : List Version). table_at t.outline t.start vs) (sym (ap versions_if stored.spelled))
+      ∙ ap (λ (o : Outline). table_at o t.start (deletes_in (entries_of stored.blocks)) (entries_of stored.blocks)) (sym (ap (λ (x : Table). x.outline) stored.told))
+      ∙ ap (λ (d : ℕ). table_at t.outline t.start d (entries_of stored.blocks)) (sym (ap (λ (x : Table). x.deletes) stored.told))
+      ∙ ap (λ (vs : List Version). table_at t.outline t.start t.deletes vs) (sym (ap versions_if stored.spelled))
 
   module _ (base : ℕ) (newer entries : List Version) (read : AreRead sectors area (length t.outline.edges) t entries) where
     edges : edges_of read.blocks ≡ t.outline.edges
@@ -89,24 +90,35 @@ module _ (sectors : Sectors) (area : ℕ) (t : Table) where
 
     -- ---- from its entries to the table
 
-    module _ (told : IsTold sectors area t) (fits : Fits t.outline base newer entries) where
+    module _ (told : IsTold sectors area t) (fits : Fits t base newer entries) where
       same_versions : entries ≡ t.versions
       same_versions = read.whole ∙ sym (ap (λ (x : Table). x.versions) told ∙ ap versions_if read.spelled)
 
       outline_same : t.outline ≡ outline_in t.number t.outline.filter read.blocks
       outline_same =
-          let parts = and_parts (t.outline.entries == length entries) (is_same_key t.outline.first (first_in entries)) fits.told in
+          let parts = and_parts (t.outline.entries == length entries) (is_same_key t.outline.first (first_in entries) && (t.deletes == deletes_in entries)) fits.told in
+          let more = and_parts (is_same_key t.outline.first (first_in entries)) (t.deletes == deletes_in entries) parts.1 in
           outline_is t.outline t.number (length (entries_of read.blocks)) (first_key_of read.blocks) (edges_of read.blocks) (sym (ap (λ (x : Table). x.number) told))
           (eqb-true t.outline.entries (length entries) parts.0 ∙ ap (λ (vs : List Version). length vs) read.whole)
-          (same_key t.outline.first (first_in entries) parts.1 ∙ ap first_in read.whole ∙ sym (first_key read.blocks (some_each read.blocks each_spelled)))
+          (same_key t.outline.first (first_in entries) more.0 ∙ ap first_in read.whole ∙ sym (first_key read.blocks (some_each read.blocks each_spelled)))
           (sym edges)
+
+      deletes_same : t.deletes ≡ deletes_in (entries_of read.blocks)
+      deletes_same =
+          let parts = and_parts (t.outline.entries == length entries) (is_same_key t.outline.first (first_in entries) && (t.deletes == deletes_in entries)) fits.told in
+          let more = and_parts (is_same_key t.outline.first (first_in entries)) (t.deletes == deletes_in entries) parts.1 in
+          eqb-true t.deletes (deletes_in entries) more.1 ∙ ap deletes_in read.whole
 
       stands : IsStored sectors area t
       stands = record {
         blocks = read.blocks;
         spelled = read.spelled;
         sorted = record { ordered = subst AreOrdered read.whole fits.ordered; versions = entries_fit read.blocks each_spelled; nonempty = some_each read.blocks each_spelled };
-        told = told ∙ ap (λ (o : Outline). table_at o t.start (spelled_versions sectors area t)) outline_same ∙ ap (λ (vs : List Version). table_at (outline_in t.number t.outline.filter read.blocks) t.start vs) (ap versions_if read.spelled);
+        told =
+            told
+            ∙ ap (λ (o : Outline). table_at o t.start t.deletes (spelled_versions sectors area t)) outline_same
+            ∙ ap (λ (d : ℕ). table_at (outline_in t.number t.outline.filter read.blocks) t.start d (spelled_versions sectors area t)) deletes_same
+            ∙ ap (λ (vs : List Version). table_at (outline_in t.number t.outline.filter read.blocks) t.start (deletes_in (entries_of read.blocks)) vs) (ap versions_if read.spelled);
         members = subst (λ (vs : List Version). AllByRecursion (λ v. is_perhaps t.outline.filter v.key ≡ true) vs) read.whole (members-tested t.outline.filter entries fits.keys);
       }
 
@@ -121,18 +133,21 @@ module _ (sectors : Sectors) (area : ℕ) (t : Table) where
     -- ---- from the table to its entries
 
     -- the entries of a table that is sound, and older than what was seen, fit
-    pub fits_if_sound : IsSound sectors area base t → IsNewerPlace newer t.versions → Fits t.outline base newer entries
+    pub fits_if_sound : IsSound sectors area base t → IsNewerPlace newer t.versions → Fits t base newer entries
     fits_if_sound sound older =
         let stored = sound.stored in
         let same : stored.blocks ≡ read.blocks = same_Some stored.blocks read.blocks (sym stored.spelled ∙ read.spelled) in
         let whole : entries_of stored.blocks ≡ entries = ap entries_of same ∙ sym read.whole in
         let outline : t.outline ≡ outline_in t.number t.outline.filter stored.blocks = ap (λ (x : Table). x.outline) stored.told in
         let versions : t.versions ≡ entries = ap (λ (x : Table). x.versions) stored.told ∙ whole in
+        let deletes : t.deletes ≡ deletes_in entries = ap (λ (x : Table). x.deletes) stored.told ∙ ap deletes_in whole in
         let first : t.outline.first ≡ first_in entries = ap (λ (o : Outline). o.first) outline ∙ first_key stored.blocks stored.sorted.nonempty ∙ ap first_in whole in
         record {
-          told = and_from (t.outline.entries == length entries) (is_same_key t.outline.first (first_in entries))
+          told = and_from (t.outline.entries == length entries) (is_same_key t.outline.first (first_in entries) && (t.deletes == deletes_in entries))
               (eq-eqb t.outline.entries (length entries) (ap (λ (o : Outline). o.entries) outline ∙ ap (λ (vs : List Version). length vs) whole))
-              (subst (λ (k : Bytes). is_same_key t.outline.first k ≡ true) first (key_itself t.outline.first));
+              (and_from (is_same_key t.outline.first (first_in entries)) (t.deletes == deletes_in entries)
+              (subst (λ (k : Bytes). is_same_key t.outline.first k ≡ true) first (key_itself t.outline.first))
+              (eq-eqb t.deletes (deletes_in entries) deletes));
           ordered = subst AreOrdered whole stored.sorted.ordered;
           keys = tested-members t.outline.filter entries (subst (λ (vs : List Version). AllByRecursion (λ v. is_perhaps t.outline.filter v.key ≡ true) vs) whole stored.members);
           numbered = tested-numbered base entries (subst (λ (vs : List Version). NumberedAtMost base vs) versions sound.numbered);

@@ -1,9 +1,11 @@
 -- Tables that are told are sound exactly where those of the manifest stand.
-use Rattle.std.proofs.Common.{◌≡◌, ℕ, List, [], ◌∷◌, All, Some, sym, ap, subst, ◌∙◌}
+use Rattle.std.proofs.Common.{◌≡◌, ℕ, List, [], ◌∷◌, All, Option, Some, sym, ap, subst, ◌∙◌}
+use Rattle.std.specs.Prelude.{IfSome, is_some}
 use Rattle.std.specs.List.{AllByRecursion}
 use Rattle.std.proofs.lemmas.List.Elements.{All-nil, All-cons, All-head, All-tail}
 use Rattle.lsm_codec.specs.Manifests.{Contents}
 use Rattle.lsm_codec.specs.Pairs.{Pairwise}
+use Rattle.lsm_codec.specs.Versions.{deletes_in}
 use Rattle.lsm_codec.specs.declared.table_record.TableRecord.{TableRecord}
 use Rattle.lsm_codec.proofs.Lists.{all_map, all_left, all_right}
 use Rattle.lsm_levels.specs.Held.{AreRuns}
@@ -12,7 +14,7 @@ use Rattle.lsm_levels.specs.Orders.{IsVersionOrder}
 use Rattle.lsm_levels.specs.Stored.{AreStored}
 use Rattle.lsm_levels.specs.Tables.{Table}
 use Rattle.lsm_mem.specs.Versions.{NumberedAtMost}
-use Rattle.lsm_open.specs.Tables.{first_data, IsTableAt, AscendInRun, AreTables}
+use Rattle.lsm_open.specs.Tables.{first_data, versions_at, IsTableAt, AscendInRun, AreTables}
 use Rattle.lsm_open.specs.ToldTables.{told_tables, HaveNamed}
 use Rattle.lsm_open.proofs.StandingTables.{told_stored}
 use Rattle.lsm_table.specs.Outlines.{Outline, outline_in}
@@ -25,7 +27,7 @@ module _ (n base : ℕ) (s : List (List ℕ)) where
 
   sound_one : (t : TableRecord) (u : Table) → IsOneTold n s t u → IsTableAt n base s t → IsSound s (first_data n) base u
   sound_one t u one is =
-      let both = told_stored n base s t u is one.told one.recorded in
+      let both = told_stored n base s t u is (ap is_some one.tells) one.told one.recorded in
       record { stored = both.0; numbered = subst (NumberedAtMost base) (sym both.1) is.numbered }
 
   each_sound : (ts : List TableRecord) (us : List Table) → AreEachTold n s ts us → All (IsTableAt n base s) ts → AllByRecursion (IsSound s (first_data n) base) us
@@ -43,8 +45,12 @@ module _ (n base : ℕ) (s : List (List ℕ)) where
     told = one.outline ∙ ap (λ (o : Outline). Some o) its_outline;
     members = is.stored.members;
     numbered = subst (NumberedAtMost base) (told_versions n s t u one) is.numbered;
+    counted = subst (λ (o : Option ℕ). IfSome o (λ deletes. deletes ≡ deletes_in (versions_at n s t))) (sym one.tells) its_deletes;
   }
     where
+      its_deletes : u.deletes ≡ deletes_in (versions_at n s t)
+      its_deletes = ap (λ (x : Table). x.deletes) is.stored.told ∙ ap deletes_in (sym (ap (λ (x : Table). x.versions) is.stored.told) ∙ told_versions n s t u one)
+
       number : u.number ≡ t.number
       number = ap (λ (x : Table). x.number) one.is_at ∙ sym one.recorded.number
 

@@ -18,6 +18,7 @@ use Rattle.lsm_open.specs.Tables.{first_data, extent_start, blocks_at, versions_
 use Rattle.lsm_open.specs.ToldTables.{told_table, told_tables, run_if, run_records, told_run, told_runs, told_levels, levels_of}
 use Rattle.lsm_open.proofs.BlockReads.{extent_is, some_blocks}
 use Rattle.lsm_open.proofs.NamedRecords.{records_from, run_and_behind, none_behind, all_from_first}
+use Rattle.lsm_open.proofs.ToldRuns.{told_with_deletes}
 use Rattle.lsm_table.specs.Outlines.{Outline, IsRecordOf, outline_of}
 use Rattle.lsm_table.specs.Stored.{table_of, table_in, outline_at}
 use Rattle.lsm_table.proofs.Outlines.{outline_laws_hold}
@@ -114,28 +115,37 @@ outline_recorded t blocks o told =
     recorded_by t (slice_index_or blocks (t.data_blocks + t.index_blocks + 1) []) (flat_map (λ b. b) (take t.index_blocks (drop (t.data_blocks + 1) blocks))) (slice_index_or blocks t.data_blocks []) o told
 
 module _ (n : ℕ) (s : Sectors) where
-  -- the table of a record with this outline
-  abbrev its_table : TableRecord → Outline → Table
-  its_table t o = table_at o t.first_block (versions_at n s t)
+  -- the table of a record with this outline and so many deletes
+  abbrev its_table : TableRecord → ℕ → Outline → Table
+  its_table t deletes o = table_at o t.first_block deletes (versions_at n s t)
 
-  -- A table is told of a record: it has the outline that is told, whose record that is, and the versions of the record.
+  -- A table is told of a record: it has the outline that is told, whose record that is, the deletes that the record tells, and
+  -- its versions.
   pub record IsOneTold (t : TableRecord) (u : Table) : Type 0 where
     pub told : told_table n s t ≡ Some u
     pub outline : outline_at t (blocks_at n s t) ≡ Some u.outline
     pub recorded : IsRecordOf t u.outline
-    pub is_at : u ≡ table_at u.outline t.first_block (versions_at n s t)
+    pub tells : t.deletes ≡ Some u.deletes
+    pub is_at : u ≡ table_at u.outline t.first_block u.deletes (versions_at n s t)
 
-  with_outline : (t : TableRecord) (o : Outline) → outline_at t (blocks_at n s t) ≡ Some o → IsOneTold t (its_table t o)
-  with_outline t o e = record { told = ap (option_map (its_table t)) e; outline = e; recorded = outline_recorded t (blocks_at n s t) o e; is_at = refl }
+  with_outline : (t : TableRecord) (deletes : ℕ) (o : Outline) → t.deletes ≡ Some deletes → outline_at t (blocks_at n s t) ≡ Some o → IsOneTold t (its_table t deletes o)
+  with_outline t deletes o tells e = record {
+    told = told_with_deletes n s t deletes (versions_at n s t) tells ∙ ap (option_map (its_table t deletes)) e;
+    outline = e;
+    recorded = outline_recorded t (blocks_at n s t) o e;
+    tells = tells;
+    is_at = refl;
+  }
 
   one_is_told : (t : TableRecord) (u : Table) → told_table n s t ≡ Some u → IsOneTold t u
   one_is_told t u told =
-      let found = map_some (its_table t) (outline_at t (blocks_at n s t)) u told in
-      subst (IsOneTold t) found.2 (with_outline t found.0 found.1)
+      let tells = bind_some t.deletes (λ (deletes : ℕ). option_map (its_table t deletes) (outline_at t (blocks_at n s t))) u told in
+      let found = map_some (its_table t tells.0) (outline_at t (blocks_at n s t)) u tells.2 in
+      subst (IsOneTold t) found.2 (with_outline t tells.0 found.0 tells.1 found.1)
 
   -- its data blocks are those of the record's extent
-  at_record : (t : TableRecord) (o : Outline) → IsRecordOf t o → table_of (blocks_from s (sector_of (first_data n) (its_table t o) 0) (length o.edges)) ≡ table_in t.data_blocks (blocks_at n s t)
-  at_record t o recorded =
+  at_record : (t : TableRecord) (deletes : ℕ) (o : Outline) → IsRecordOf t o → table_of (blocks_from s (sector_of (first_data n) (its_table t deletes o) 0) (length o.edges)) ≡ table_in t.data_blocks (blocks_at n s t)
+  at_record t deletes o recorded =
       ap (λ (k : ℕ). table_of (blocks_from s k (length o.edges))) at
       ∙ ap (λ (k : ℕ). table_of (blocks_from s (extent_start n t + 8 * 0) k)) (sym recorded.data_blocks)
       ∙ ap table_of (sym (some_blocks s (extent_start n t) (extent_blocks t) 0 t.data_blocks few))
@@ -144,11 +154,11 @@ module _ (n : ℕ) (s : Sectors) where
       few : 0 + t.data_blocks ≤ extent_blocks t
       few = omega arith
 
-      at : sector_of (first_data n) (its_table t o) 0 ≡ extent_start n t + 8 * 0
+      at : sector_of (first_data n) (its_table t deletes o) 0 ≡ extent_start n t + 8 * 0
       at = omega arith
 
   pub same_blocks : (t : TableRecord) (u : Table) → IsOneTold t u → table_of (blocks_from s (sector_of (first_data n) u 0) (length u.outline.edges)) ≡ table_in t.data_blocks (blocks_at n s t)
-  same_blocks t u one = ap (λ (x : Table). table_of (blocks_from s (sector_of (first_data n) x 0) (length u.outline.edges))) one.is_at ∙ at_record t u.outline one.recorded
+  same_blocks t u one = ap (λ (x : Table). table_of (blocks_from s (sector_of (first_data n) x 0) (length u.outline.edges))) one.is_at ∙ at_record t u.deletes u.outline one.recorded
 
   pub told_versions : (t : TableRecord) (u : Table) → IsOneTold t u → u.versions ≡ versions_at n s t
   told_versions t u one = ap (λ (x : Table). x.versions) one.is_at
@@ -158,7 +168,7 @@ module _ (n : ℕ) (s : Sectors) where
   told_spelled t u one =
       let start : u.start ≡ t.first_block = ap (λ (x : Table). x.start) one.is_at in
       let spelled : spelled_versions s (first_data n) u ≡ versions_at n s t = ap versions_if (same_blocks t u one) in
-      one.is_at ∙ ap (λ (k : ℕ). table_at u.outline k (versions_at n s t)) (sym start) ∙ ap (λ (vs : List Version). table_at u.outline u.start vs) (sym spelled)
+      one.is_at ∙ ap (λ (k : ℕ). table_at u.outline k u.deletes (versions_at n s t)) (sym start) ∙ ap (λ (vs : List Version). table_at u.outline u.start u.deletes vs) (sym spelled)
 
   -- ---- each table
 

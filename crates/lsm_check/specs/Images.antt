@@ -20,8 +20,8 @@ use Rattle.lsm_check.specs.declared.report.Report.{Report}
 abbrev pub blocks_in_none : ℕ → List TableRecord → ℕ
 blocks_in_none blocks tables = count_below (λ block. not (list_any (λ t. covers block (extent_of t)) tables)) blocks
 
--- The sectors of a device of this size are the image of a store, and these are its numbers: a manifest stands there, and they
--- hold what it names.
+-- The sectors of a device of this size are the image of a store, and these are its numbers: a manifest stands there, of either
+-- version of the format, and they hold what it names.
 pub record IsImage (size : ℕ) (sectors : List (List ℕ)) (report : Report) : Type 0 where
   pub log_sectors : ℕ
   pub manifest : Contents

@@ -2,15 +2,18 @@
 ghost use Rattle.std.specs.Prelude.{◌≡◌, ◌≤◌, ◌+◌, ◌*◌, ℕ, length, IsTrue, IfOk, OnOk, IfErr, Err};
 ghost use Rattle.lsm_codec.specs.Geometry.{data_blocks_of};
 ghost use Rattle.lsm_codec.specs.Manifests.{IsManifest};
+ghost use Rattle.lsm_device.specs.Calls.{AtMost};
 ghost use Rattle.lsm_device.specs.Disk.{seen};
 ghost use Rattle.lsm_device.specs.Medium.{disk};
 ghost use Rattle.lsm_device.specs.Refusals.{faultless};
+ghost use Rattle.lsm_open.specs.Counting.{uncounted_by};
 ghost use Rattle.lsm_open.specs.CrashState.{CrashState};
 ghost use Rattle.lsm_open.specs.Image.{StandFor};
 ghost use Rattle.lsm_open.specs.LogRegions.{first_region};
 ghost use Rattle.lsm_open.specs.ReadParts.{ReadsAtMost};
 ghost use Rattle.lsm_open.specs.ToldTables.{Held};
 ghost use Rattle.lsm_root.specs.Layout.{IsDeviceSize};
+ghost use Rattle.lsm_root.specs.Roots.{root_of};
 ghost use Rattle.lsm_check.specs.Counted.{ReadsBetween, IsReadFor};
 ghost use Rattle.lsm_check.specs.Images.{blocks_in_none, IsImage, IsShort, IsShortRefusal, IsCheckRefusal, IsCheckFinding, is_faultless};
 ghost use Rattle.lsm_check.specs.Named.{AreNamed, AreToldBy, HasBatches};
@@ -21,11 +24,11 @@ use crate::levels::check_levels;
 use crate::report::Report;
 use lsm_codec::{ROOT_SECTORS, is_device_size};
 use lsm_device::{Device, Refusal};
-use lsm_open::{TablesRead, read_tables, replay_regions};
-use lsm_root::{Loaded, load, root_laws};
+use lsm_open::{TablesRead, load_counted, read_tables, replay_regions};
+use lsm_root::{Loaded, root_laws};
 use std::alloc::Allocator;
 
-// What an opening reads: the root, the tables that its manifest names, and how many batches there are.
+// What an opening reads: the root, with each table counted, the tables that its manifest names, and how many batches there are.
 #[derive(Drop)]
 struct Named<A: Allocator> {
     loaded: Loaded<A>,
@@ -60,7 +63,7 @@ fn count_batches<A: Allocator + Clone, D: Device>(
     Ok(count)
 }
 
-// Reads what an opening reads, and no data block.
+// Reads what an opening reads: data blocks only of tables whose records tell no deletes.
 fn read_named<A: Allocator + Clone, D: Device>(
     alloc: &A,
     device: &mut D,
@@ -71,10 +74,11 @@ fn read_named<A: Allocator + Clone, D: Device>(
     ensures fair { (log_sectors : ℕ) (left : CrashState) → IsTrue (D.medium device.old).lasting.tells → StandFor log_sectors left (seen (disk (D.medium device.old)))
         → IfErr result IsShortRefusal }
     ensures refused { IfErr result IsCheckRefusal }
-    ensures device { ReadsAtMost 69698 (faultless result) (D.medium device.old) (D.medium device.new) }
-    ensures whole { IfOk result (λ n. ReadsBetween (3 * n.loaded.log_sectors) 69698 (D.medium device.old).calls (D.medium device.new).calls) }
+    ensures reads { IsTrue (D.medium device.old).lasting.tells → AtMost (69698 + 8 * uncounted_by (root_of (seen (disk (D.medium device.old))))) 0 0 (D.medium device.old).calls (D.medium device.new).calls }
+    ensures device { ReadsAtMost 593986 (faultless result) (D.medium device.old) (D.medium device.new) }
+    ensures whole { IfOk result (λ n. ReadsBetween (3 * n.loaded.log_sectors) 593986 (D.medium device.old).calls (D.medium device.new).calls) }
 {
-    let loaded = load(alloc.clone()?, device)?;
+    let loaded = load_counted(alloc, device)?;
     let tables = read_tables(alloc, device, loaded.log_sectors, &loaded.manifest)?;
     let batches = count_batches(alloc, device, &loaded)?;
     Ok(Named {
@@ -109,7 +113,8 @@ fn check_all<A: Allocator + Clone, D: Device>(alloc: &A, device: &mut D) -> Resu
     ensures image { (log_sectors : ℕ) (left : CrashState) → IsTrue (D.medium device.old).lasting.tells → StandFor log_sectors left (seen (disk (D.medium device.old)))
         → IfErr result IsShort }
     ensures refused { IfErr result IsCheckFinding }
-    ensures device { ReadsAtMost 593986 (is_faultless result) (D.medium device.old) (D.medium device.new) }
+    ensures reads { IsTrue (D.medium device.old).lasting.tells → AtMost (593986 + 8 * uncounted_by (root_of (seen (disk (D.medium device.old))))) 0 0 (D.medium device.old).calls (D.medium device.new).calls }
+    ensures device { ReadsAtMost 1118274 (is_faultless result) (D.medium device.old) (D.medium device.new) }
     ensures whole { IsReadFor (D.medium device.old).size (D.medium device.old).calls (D.medium device.new).calls result }
 {
     let named = read_named(alloc, device)?;
@@ -119,12 +124,14 @@ fn check_all<A: Allocator + Clone, D: Device>(alloc: &A, device: &mut D) -> Resu
     Ok(report_of(&named, entries))
 }
 
-/// Checks whether a device holds, as it reads, the image of a store, and answers the numbers of the image. It reads alone: it
-/// makes no write and no sync, and reads each data block of each table once. Memory holds the entries of one table at a time,
-/// and beside what an opening keeps of tables the keys of all of them.
+/// Checks whether a device holds, as it reads, the image of a store, in either version of the format, and answers the numbers of
+/// the image. It reads alone: it makes no write and no sync, and reads each data block of each table once, and once before where
+/// its record tells no deletes. Memory holds the entries of one table at a time, and beside what an opening keeps of tables the
+/// keys of all of them.
 ///
 /// It finds first what an opening would be refused with, in its order, but for the last generation: `BadGeometry` before any
 /// device call where the device has fewer than 8,192 sectors or more than 1,048,576; what the root says; `BadTable` for a table
+/// whose record tells no deletes and whose data blocks spell no entries, or not as many as the record says; `BadTable` for a table
 /// that doesn't open; `BadManifest` for a region whose first batch is not the next one, and for a log sector of a later
 /// generation. Then it goes over the tables in the order of the manifest, and of each it finds the first of these: `BadTable`,
 /// where one of its data blocks, whichever, spells no entries; `Entries`, `Order`, `Filter`, `Versions`. Want of memory is
@@ -141,9 +148,11 @@ pub fn check<A: Allocator + Clone, D: Device>(alloc: A, device: &mut D) -> Resul
     // Of any device, whether it tells what it holds or not, a refusal is one of these.
     ensures refused { IfErr result IsCheckFinding }
 
-    // The device is only read, and a read faulted exactly where it answers Io, its last. A yes has read all regions and data
-    // blocks.
-    ensures device { ReadsAtMost 593986 (is_faultless result) (D.medium device.old) (D.medium device.new) }
+    // The device is only read, and a read faulted exactly where it answers Io, its last. Data blocks of tables whose records tell
+    // no deletes are read twice at most, as in version 1 of the format all are, and in version 2 none. A yes has read all regions
+    // and data blocks.
+    ensures reads { IsTrue (D.medium device.old).lasting.tells → AtMost (593986 + 8 * uncounted_by (root_of (seen (disk (D.medium device.old))))) 0 0 (D.medium device.old).calls (D.medium device.new).calls }
+    ensures device { ReadsAtMost 1118274 (is_faultless result) (D.medium device.old) (D.medium device.new) }
     ensures whole { IsReadFor (D.medium device.old).size (D.medium device.old).calls (D.medium device.new).calls result }
 {
     root_laws();

@@ -11,8 +11,8 @@ pub enum Finding {
     /// An opening would be refused so, or there was no memory, or a read failed; or the bytes of a table's data block are no
     /// entries, which is `BadTable`; or a log sector is of a later generation, which is `BadManifest`.
     Refused(Refusal),
-    /// The entries of the table of this number are not those that its footer and index tell: another count, another first
-    /// key, or another end of a block.
+    /// The entries of the table of this number are not those that its footer, index and record tell: another count, another
+    /// first key, another end of a block, or another count of deletes.
     Entries(u64),
     /// The entries of the table of this number are out of order.
     Order(u64),

@@ -2,7 +2,7 @@
 ghost use Rattle.std.specs.Prelude.{◌≡◌, ◌≤◌, ◌<◌, ◌+◌, ◌*◌, ◌^◌, ◌++◌, List, length, nat_le, true, IsTrue, ◌↔◌, IfErr, OnOk, MatchResult};
 ghost use Rattle.std.specs.List.{list_all};
 ghost use Rattle.std.specs.Ordering.{is_lt};
-ghost use Rattle.lsm_codec.specs.Versions.{Version, AreOrdered, entry_order};
+ghost use Rattle.lsm_codec.specs.Versions.{Version, AreOrdered, one_if_none, deletes_in, entry_order};
 ghost use Rattle.lsm_device.specs.Disk.{seen};
 ghost use Rattle.lsm_device.specs.Medium.{disk};
 ghost use Rattle.lsm_filter.specs.Bits.{is_perhaps};
@@ -24,14 +24,41 @@ use lsm_table::Table;
 use std::alloc::Allocator;
 use std::cmp::Ordering;
 
-// Whether a table's footer tells the count of these entries, and their first key.
-fn tells_entries<A: Allocator>(table: &Table<A>, entries: &[Entry<A>]) -> bool
+// 1 where an entry is a delete.
+fn one_if_delete<A: Allocator>(entry: &Entry<A>) -> usize
+    ensures count { result ≡ one_if_none entry.now.value }
+    ensures few { result ≤ 1 }
+{
+    match entry.value() {
+        Some(_value) => 0,
+        None => 1,
+    }
+}
+
+// How many of these entries are deletes.
+fn deletes_in<A: Allocator>(entries: &[Entry<A>]) -> usize
+    ensures { result ≡ deletes_in entries.now }
+{
+    let mut deletes = 0;
+    for entry in entries {
+        deletes += one_if_delete(entry);
+    }
+    deletes
+}
+
+// Whether a table's footer tells the count of these entries and their first key, and its record how many of them are deletes.
+fn tells_entries<A: Allocator>(table: &PlacedTable<A>, entries: &[Entry<A>]) -> bool
     ensures told { result ≡ tells_entries table.now entries.now }
     ensures few { IsTrue result → length entries.now ≤ 3200 }
 {
-    let count = table.entries() as usize;
+    let outline = table.table();
+    let count = outline.entries() as usize;
     match entries.first() {
-        Some(first) => count == entries.len() && table.first().cmp(first.key()).is_eq(),
+        Some(first) => {
+            count == entries.len()
+                && (outline.first().cmp(first.key()).is_eq()
+                    && table.deletes() as usize == deletes_in(entries))
+        }
         None => false,
     }
 }
@@ -81,14 +108,14 @@ fn test<A: Allocator>(
     so_far: &Seen<A>,
 ) -> Result<(), Finding>
     ensures fits { (versions : List Version) → IsSeen versions so_far.now → MatchResult result
-        (λ _. Fits table.now.outline base versions entries.now)
-        (λ _. ¬ Fits table.now.outline base versions entries.now) }
+        (λ _. Fits table.now base versions entries.now)
+        (λ _. ¬ Fits table.now base versions entries.now) }
     ensures few { OnOk result (length entries.now ≤ 3200) }
     ensures refused { IfErr result IsCheckFinding }
     ensures no_fault { is_faultless result ≡ true }
 {
     let number = table.number();
-    if !tells_entries(table.table(), entries) {
+    if !tells_entries(table, entries) {
         return Err(Finding::Entries(number));
     }
     if !are_ordered(entries) {

@@ -78,6 +78,7 @@ module _ (n : ℕ) (c : Sectors) where
     told = outline_pushed t (blocks_at n c t) ∙ is.told;
     members = is.members;
     numbered = all_map (λ v k. omega (arith, k, le)) (versions_at n c t) is.numbered;
+    counted = is.counted;
   }
 
   pushed_tables : (low high : ℕ) → low ≤ high → (ts : List TableRecord) → All (IsTableAt n low c) ts → All (IsTableAt n high c) (map pushed ts)

@@ -21,6 +21,10 @@ pub mod Rotating
 pub mod RotatedRegions
 pub mod Flushing
 pub mod Merging
+pub mod CountedTables
+pub mod UncountedTables
+pub mod CountedReads
+pub mod CountedManifests
 pub mod OpeningSteps
 pub mod OneMeaning
 pub mod Beginnings

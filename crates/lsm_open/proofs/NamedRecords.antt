@@ -2,15 +2,16 @@
 use Rattle.std.proofs.Common.{◌≡◌, ⊎_elim, ◌⊎◌, inl, inr, ℕ, zero, suc, ◌+◌, ◌<◌, ◌≤◌, Bool, true, false, cond, leb, List, [], ◌∷◌, ◌++◌, length, map, filter, refl, sym, ap, subst, ◌∙◌, append_assoc, arith}
 use Rattle.std.specs.List.{All, AllByRecursion}
 use Rattle.std.proofs.lemmas.Bool.{eq-eqb, eqb-true, ne_eqb, le-leb, lt-leb}
-use Rattle.std.proofs.lemmas.List.Elements.{All-head, All-tail}
+use Rattle.std.proofs.lemmas.List.Elements.{All-nil, All-cons, All-append, All-head, All-tail}
 use Rattle.lsm_codec.proofs.Lists.{filter_step, filter_none, filter_all, all_map}
 use Rattle.lsm_codec.specs.Manifests.{Contents, IsManifest}
 use Rattle.lsm_codec.specs.Pairs.{Pairwise}
-use Rattle.lsm_codec.specs.TableRecords.{IsTableRecord, InOrder, TablesAgree, runs_in}
+use Rattle.lsm_codec.specs.TableRecords.{IsTableRecord, IsOfVersion, InOrder, TablesAgree, runs_in}
+use Rattle.lsm_codec.specs.declared.superblock.FormatVersion.TheVariants.{Two}
 use Rattle.lsm_codec.specs.declared.table_record.TableRecord.{TableRecord}
 use Rattle.lsm_levels.specs.Levels.{Levels, places}
 use Rattle.lsm_levels.specs.Tables.{Table, record_of}
-use Rattle.lsm_open.specs.ToldTables.{run_place, is_in_run, run_records, records_of_runs, records_of_levels, AreNamedBy, AreRunsRead, HaveNamed}
+use Rattle.lsm_open.specs.ToldTables.{run_place, is_in_run, run_records, records_of_runs, records_of_levels, records_of, AreNamedBy, AreRunsRead, HaveNamed}
 
 -- whether the run of a record is at a place or behind it
 abbrev pub is_from : ℕ → ℕ → TableRecord → Bool
@@ -198,3 +199,21 @@ module _ (m : Contents) (is : IsManifest m) where
       runs = runs;
       records = all_named 0 levels.runs levels.deeper (omega (arith, runs)) four read ∙ all_from_first m;
     }
+
+-- ---- records of levels tell the deletes
+
+run_told : (level run : ℕ) (us : List Table) → All (IsOfVersion Two) (map (record_of level run) us)
+run_told level run [] = All-nil (IsOfVersion Two)
+run_told level run (u ∷ us) = All-cons (IsOfVersion Two) (record_of level run u) (map (record_of level run) us) refl (run_told level run us)
+
+runs_told : (run : ℕ) (runs : List (List Table)) → All (IsOfVersion Two) (records_of_runs run runs)
+runs_told run [] = All-nil (IsOfVersion Two)
+runs_told run (us ∷ rest) = All-append (IsOfVersion Two) (map (record_of 0 run) us) (records_of_runs (suc run) rest) (run_told 0 run us) (runs_told (suc run) rest)
+
+levels_told : (level : ℕ) (runs : List (List Table)) → All (IsOfVersion Two) (records_of_levels level runs)
+levels_told level [] = All-nil (IsOfVersion Two)
+levels_told level (us ∷ rest) = All-append (IsOfVersion Two) (map (record_of level 0) us) (records_of_levels (suc level) rest) (run_told level 0 us) (levels_told (suc level) rest)
+
+-- a manifest of the tables in levels is one of version 2
+pub records_told : (levels : Levels) → All (IsOfVersion Two) (records_of levels)
+records_told levels = All-append (IsOfVersion Two) (records_of_runs 0 levels.runs) (records_of_levels 1 levels.deeper) (runs_told 0 levels.runs) (levels_told 1 levels.deeper)

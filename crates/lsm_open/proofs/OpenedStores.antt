@@ -22,6 +22,7 @@ use Rattle.lsm_levels.specs.Stored.{AreStored}
 use Rattle.lsm_levels.specs.Tables.{versions_of}
 use Rattle.lsm_mem.specs.EntryOrder.{with_batches}
 use Rattle.lsm_mem.specs.Versions.{map_of}
+use Rattle.lsm_open.specs.Counting.{counted, with_tables, IsCountedRoot}
 use Rattle.lsm_open.specs.CrashState.{CrashState, last_number, in_next_generation, left_by_opening, MayRefuseOpening}
 use Rattle.lsm_open.specs.Image.{count_in, left_in, HoldNamed, StandFor}
 use Rattle.lsm_open.specs.Layout.{Layout, open_records, open_batches}
@@ -31,9 +32,11 @@ use Rattle.lsm_open.specs.ReadParts.{AreRead, AreToldBy, ReadsAtMost}
 use Rattle.lsm_open.specs.Recovering.{placed_in, sealed_versions, level_versions, IsReopened, IsRecovered, AreWithinLimits, StandForOne}
 use Rattle.lsm_open.specs.Reopening.{kept_records, next_contents, IsNextLayout}
 use Rattle.lsm_open.specs.Switching.{MayBeInstalled, IsSwitched, IsInLeastFree, reopened_at}
-use Rattle.lsm_open.specs.Tables.{first_data, table_versions}
-use Rattle.lsm_open.specs.ToldTables.{AreThose}
+use Rattle.lsm_open.specs.Tables.{first_data, table_versions, AreTables}
+use Rattle.lsm_open.specs.ToldTables.{AreThose, IsRefusedFor}
 use Rattle.lsm_open.specs.declared.regions.OpenRegion.{OpenRegion}
+use Rattle.std.proofs.lemmas.Option.{same_Some}
+use Rattle.lsm_open.proofs.CountedTables.{counted_all, manifest_counted, counts_stand}
 use Rattle.lsm_open.proofs.KeptRecords.{count_kept}
 use Rattle.lsm_open.proofs.NextLayouts.{layout_says, opened_in}
 use Rattle.lsm_open.proofs.NextManifests.{none_free, closed_few, next_fits}
@@ -135,21 +138,39 @@ module _ (n count : ℕ) (m : Contents) (closed : List LogRecord) (o : Option Op
 -- ---- what a crash left
 
 -- what sectors stand for, by the manifest that was read
-pub named_here : (k n : ℕ) (left : CrashState) (m : Contents) (s : Sectors) → StandFor k left s → root_of s ≡ Stands n m → (n ≡ k) × HoldNamed n m s × (left ≡ left_in n s m)
-named_here k n left m s is root =
+pub stood_here : (k n : ℕ) (left : CrashState) (m : Contents) (s : Sectors) → StandFor k left s → root_of s ≡ Stands n m → (n ≡ k) × StandFor n left s × AreTables n m.base m.tables s
+stood_here k n left m s is root =
     let same = same_stands n k m is.manifest (sym root ∙ is.root) in
-    let holds : HoldNamed n m s = subst (λ (j : ℕ). HoldNamed j m s) (sym same.0) (subst (λ (c : Contents). HoldNamed k c s) (sym same.1) is.holds) in
-    let left_is : left ≡ left_in n s m = is.left_is ∙ ap (left_in k s) (sym same.1) ∙ ap (λ (j : ℕ). left_in j s m) (sym same.0) in
-    (same.0, holds, left_is)
+    let stand : StandFor n left s = subst (λ (j : ℕ). StandFor j left s) (sym same.0) is in
+    (same.0, stand, subst (λ (j : ℕ). AreTables j m.base m.tables s) (sym same.0) (subst (λ (c : Contents). AreTables k c.base c.tables s) (sym same.1) is.holds.tables))
+
+pub named_here : (k n : ℕ) (left : CrashState) (m : Contents) (s : Sectors) → StandFor k left s → IsCountedRoot n m s → (n ≡ k) × HoldNamed n m s × (left ≡ left_in n s m)
+named_here k n left m s is root =
+    let stood = stood_here k n left root.stood s is root.root in
+    let there = counts_stand n s left stood.1 in
+    let same_root = same_stands n n root.stood stood.1.manifest (sym root.root ∙ stood.1.root) in
+    let same : there.0 ≡ m = same_Some there.0 m (sym there.1 ∙ ap (counted n s) (sym same_root.1) ∙ root.counted_is) in
+    (stood.0, subst (λ (x : Contents). HoldNamed n x s) same there.3, subst (λ (x : Contents). left ≡ left_in n s x) same there.4)
+
+-- what a crash left is counted
+pub counted_here : (k n : ℕ) (left : CrashState) (m : Contents) (s : Sectors) → StandFor k left s → root_of s ≡ Stands n m → counted n s m ≡ None → ⊥
+counted_here k n left m s is root none =
+    let stood = stood_here k n left m s is root in
+    absurd (let no : None ≡ Some (with_tables m (counted_all n s m.tables)) = sym none ∙ manifest_counted n s m stood.2 in cc)
+
+-- so its count is refused for another reason
+pub count_fair : (k n : ℕ) (left : CrashState) (m : Contents) (s : Sectors) (e : Refusal) → StandFor k left s → root_of s ≡ Stands n m → IsRefusedFor (counted n s m) e → (e ≡ NoMemory) ⊎ (e ≡ Io)
+count_fair k n left m s e is root (inl bad) = absurd (counted_here k n left m s is root bad.1)
+count_fair k n left m s e is root (inr other) = other
 
 -- of what a crash left an opening is refused fairly
 pub memory_fair : (left : CrashState) (e : Refusal) → (e ≡ NoMemory) ⊎ (e ≡ Io) → MayRefuseOpening left e
 memory_fair left e (inl is) = subst (MayRefuseOpening left) (sym is) tt
 memory_fair left e (inr is) = subst (MayRefuseOpening left) (sym is) tt
 
-pub load_fair : (k : ℕ) (left : CrashState) (s : Sectors) (e : Refusal) → StandFor k left s → (refusal_of (root_of s) ≡ Some e) ⊎ ((e ≡ NoMemory) ⊎ (e ≡ Io)) → MayRefuseOpening left e
+pub load_fair : (k : ℕ) (left : CrashState) (s : Sectors) (e : Refusal) → StandFor k left s → (refusal_of (root_of s) ≡ Some e) ⊎ ((e ≡ NoMemory) ⊎ (e ≡ Io)) → (e ≡ NoMemory) ⊎ (e ≡ Io)
 load_fair k left s e is (inl says) = absurd (let none : None ≡ Some e = sym (ap refusal_of is.root) ∙ says in cc)
-load_fair k left s e is (inr other) = memory_fair left e other
+load_fair k left s e is (inr other) = other
 
 pub replay_fair : (n : ℕ) (left : CrashState) (m : Contents) (s : Sectors) (e : Refusal) → follow_on n s (m.base + 1) m.logs ≡ true → ((e ≡ BadManifest) × (follow_on n s (m.base + 1) m.logs ≡ false)) ⊎ ((e ≡ NoMemory) ⊎ (e ≡ Io)) → MayRefuseOpening left e
 replay_fair n left m s e follows (inl says) = absurd (let no : true ≡ false = sym follows ∙ says.1 in cc)
@@ -160,7 +181,7 @@ keep_fair n left m s e is (inl says) = subst (MayRefuseOpening left) (sym says.0
 keep_fair n left m s e is (inr none) = subst (MayRefuseOpening left) (sym none) tt
 
 -- the next generation may be installed after reads alone of a device where nothing pends
-pub ready_kept : (n count : ℕ) (m : Contents) (closed : List LogRecord) (sealed : Option (List Version)) (levels : Levels) (old mid : Medium) → ReadsAtMost 63554 true old mid → (IsTrue old.lasting.tells → (disk old).pending ≡ [])
+pub ready_kept : (n count : ℕ) (m : Contents) (closed : List LogRecord) (sealed : Option (List Version)) (levels : Levels) (old mid : Medium) → ReadsAtMost 587842 true old mid → (IsTrue old.lasting.tells → (disk old).pending ≡ [])
     → (IsTrue old.lasting.tells → AreToldBy old.size n (seen (disk old)) m closed count sealed levels) → IsTrue mid.lasting.tells → IsReady mid.size n (m.generation + 1) (disk mid)
 ready_kept n count m closed sealed levels old mid reads rests told t =
     let first : IsTrue old.lasting.tells = subst (λ x. IsTrue x.tells) reads.same_lasting t in
@@ -187,8 +208,8 @@ module _ (size k n count : ℕ) (left : CrashState) (m : Contents) (closed : Lis
   here : (n ≡ k) × HoldNamed n m (seen (present old)) × (left ≡ left_in n (seen (present old)) m)
   here = named_here k n left m (seen (present old)) is told.root
 
-  abbrev stands : StandFor n left (seen (present old))
-  stands = record { manifest = m; root = told.root; holds = here.1; left_is = here.2 }
+  stands : StandFor n left (seen (present old))
+  stands = subst (λ (j : ℕ). StandFor j left (seen (present old))) (sym here.0) is
 
   abbrev q : Placement
   q = reopened_at n (seen (present old)) m o
@@ -200,7 +221,7 @@ module _ (size k n count : ℕ) (left : CrashState) (m : Contents) (closed : Lis
   least_here = subst (λ (c : ℕ). IsInLeastFree n (m.generation + 1) c (kept_records n (seen (present old)) m.logs) o) told.counts (subst (λ (x : List LogRecord). IsInLeastFree n (m.generation + 1) count x o) told.kept least)
 
   may_install : MayBeInstalled (reopened_at n (seen (present old)) m o) (in_next_generation left) (present old)
-  may_install = opening_installs n left (present old) stands (may_reopen n count m closed (seen (present old)) geometry read.fits read.has_next read.come told.kept told.counts) o least_here
+  may_install = opening_installs n left (present old) m here.1 here.2 (may_reopen n count m closed (seen (present old)) geometry read.fits read.has_next read.come told.kept told.counts) o least_here
 
   kept_is : kept_at n m closed o ≡ reopened_at n (seen (present old)) m o
   kept_is = ap (λ (x : List LogRecord). kept_at n m x o) told.kept

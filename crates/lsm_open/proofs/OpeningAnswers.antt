@@ -1,5 +1,5 @@
 -- What an opening is refused for, and how often it reads, writes and syncs.
-use Rattle.std.proofs.Common.{◌≡◌, ◌≢◌, ◌⊎◌, inl, inr, ℕ, zero, suc, ◌+◌, ◌≤◌, ◌==◌, Bool, true, false, cond, IsTrue, List, [], ◌∷◌, length, Some, None, refl, sym, ◌∙◌, ap, subst, arith}
+use Rattle.std.proofs.Common.{◌≡◌, ◌≢◌, ◌⊎◌, inl, inr, ℕ, zero, suc, ◌+◌, ◌*◌, ◌≤◌, ◌==◌, Bool, true, false, cond, IsTrue, List, [], ◌∷◌, length, Some, None, refl, sym, ◌∙◌, ap, subst, arith}
 use Rattle.std.specs.Prelude.{◌↔◌, Option}
 use Rattle.std.proofs.lemmas.Bool.{eq-eqb, ne_eqb, cond-true, cond-false}
 use Rattle.std.proofs.lemmas.List.{append-nil}
@@ -26,12 +26,13 @@ use Rattle.lsm_mem.specs.EntryOrder.{with_batches}
 use Rattle.lsm_open.specs.CrashState.{last_number}
 use Rattle.lsm_open.specs.Image.{count_in}
 use Rattle.lsm_open.specs.LogRegions.{all_batches, follow_on}
+use Rattle.lsm_open.specs.Counting.{counted, IsCountedRoot}
 use Rattle.lsm_open.specs.Opening.{manifest_refusal, IsRefusalBesideBadTable}
-use Rattle.lsm_open.specs.RefusedOpenings.{named_refusal, refusal_behind, opening_refusal}
+use Rattle.lsm_open.specs.RefusedOpenings.{counted_refusal, named_refusal, refusal_behind, opening_refusal}
 use Rattle.lsm_open.specs.ReadParts.{AreRead, AreToldBy, ReadsAtMost}
 use Rattle.lsm_open.specs.Recovering.{sealed_versions, HasWritten, IsOpeningRefusal}
 use Rattle.lsm_open.specs.Reopening.{kept_records, HasCome, GoesOn}
-use Rattle.lsm_open.specs.ToldTables.{told_levels, IsRefusedFor, IsTableRefusal, AreOutlined, HaveNamed, Held, AreThose}
+use Rattle.lsm_open.specs.ToldTables.{ReadsBlocks, told_levels, IsRefusedFor, IsTableRefusal, AreOutlined, HaveNamed, Held, AreThose}
 use Rattle.lsm_open.specs.declared.replayed.Replayed.{Replayed}
 use Rattle.lsm_open.proofs.KeptRecords.{same_batches}
 use Rattle.lsm_open.proofs.OpeningRefusals.{from_memory}
@@ -61,9 +62,14 @@ pub load_says : (s : Sectors) (e : Refusal) → (refusal_of (root_of s) ≡ Some
 load_says s e (inl is) = inl (root_named s (root_of s) e is)
 load_says s e (inr other) = inr other
 
-module _ (s : Sectors) (n : ℕ) (m : Contents) (root : root_of s ≡ Stands n m) where
+-- a table can't be counted
+pub count_says : (s : Sectors) (n : ℕ) (m : Contents) (e : Refusal) → root_of s ≡ Stands n m → IsRefusedFor (counted n s m) e → OrMemory (opening_refusal s) e
+count_says s n m e root (inl (is, none)) = inl (ap (named_refusal s) root ∙ ap (counted_refusal n s) none ∙ ap (λ (x : Refusal). Some x) (sym is))
+count_says s n m e root (inr other) = inr other
+
+module _ (s : Sectors) (n : ℕ) (m : Contents) (root : IsCountedRoot n m s) where
   stands_says : opening_refusal s ≡ refusal_behind (told_levels n s m) (manifest_refusal n s m)
-  stands_says = ap (named_refusal s) root
+  stands_says = ap (named_refusal s) root.root ∙ ap (counted_refusal n s) root.counted_is
 
   -- a table is none
   pub tables_say : (e : Refusal) → IsRefusedFor (told_levels n s m) e → OrMemory (opening_refusal s) e
@@ -165,6 +171,17 @@ reads_wider a c ok old new le reads = record {
   same_lasting = reads.same_lasting;
 }
 
+-- eight sectors a block
+pub blocks_read : (blocks c : ℕ) (ok : Bool) (old new : Medium) → 8 * blocks ≤ c → ReadsBlocks blocks ok old new → ReadsAtMost c ok old new
+blocks_read blocks c ok old new le reads = record {
+  calls = AtMost-wider (8 * blocks) 0 0 c 0 0 old.calls new.calls le (omega arith) (omega arith) reads.calls;
+  faults = reads.faults;
+  stops = reads.stops;
+  unchanged = reads.only_reads.unchanged;
+  same_size = reads.only_reads.same_size;
+  same_lasting = reads.only_reads.same_lasting;
+}
+
 -- ---- how often it writes and syncs
 
 none_more : (k n m : ℕ) → k ≤ 0 → m ≡ more k n → m ≡ n
@@ -215,7 +232,7 @@ module _ (size n count now_count : ℕ) (m : Contents) (closed now_closed : List
     held = held;
   }
 
-  pub all_told : {A : Type 0} (s : Sectors) (replayed : Replayed A) → closed ≡ replayed.closed.items → count ≡ replayed.count → mem ≡ replayed.mem → root_of s ≡ Stands n m → IsNext size n (m.generation + 1) (superblock_in s) → GoesOn n s m replayed []
+  pub all_told : {A : Type 0} (s : Sectors) (replayed : Replayed A) → closed ≡ replayed.closed.items → count ≡ replayed.count → mem ≡ replayed.mem → IsCountedRoot n m s → IsNext size n (m.generation + 1) (superblock_in s) → GoesOn n s m replayed []
       → told_levels n s m ≡ Some levels → (AreTables n m.base m.tables s → AreThose n m.base s m.tables levels) → AreToldBy size n s m now_closed now_count sealed levels
   all_told s replayed closed_is count_is mem_is root next goes told stored = record {
     root = root;

@@ -6,6 +6,8 @@ use Rattle.lsm_device.specs.Refusals.{is_no_fault}
 use Rattle.lsm_device.specs.declared.refusal.Refusal.{Refusal}
 use Rattle.lsm_device.specs.declared.refusal.Refusal.TheVariants.{NoMemory, Io, NotAStore, BadSuper, BadGeometry, BadManifest}
 use Rattle.lsm_open.specs.Opening.{IsRefusalBesideBadTable}
+use Rattle.lsm_open.specs.Recovering.{IsOpeningRefusal}
+use Rattle.lsm_open.specs.ToldTables.{IsTableRefusal}
 use Rattle.lsm_root.specs.Loaded.{refusal_of}
 use Rattle.lsm_root.specs.Roots.{Root, Missing, Damaged, OtherSize, Unreadable, Stands}
 
@@ -20,9 +22,15 @@ of_root OtherSize refusal e = subst IsRefusalBesideBadTable (same_Some BadGeomet
 of_root Unreadable refusal e = subst IsRefusalBesideBadTable (same_Some BadManifest refusal e) tt
 of_root (Stands log m) refusal e = absurd (cc)
 
-pub from_load : (refusal : Refusal) → ((root : Root) × (refusal_of root ≡ Some refusal)) ⊎ ((refusal ≡ NoMemory) ⊎ (refusal ≡ Io)) → IsRefusalBesideBadTable refusal
-from_load refusal (inl (root, e)) = of_root root refusal e
-from_load refusal (inr other) = from_memory refusal other
+-- the root's refusals, and those of a count of tables behind it
+pub load_refused : (refusal : Refusal) → ((root : Root) × (refusal_of root ≡ Some refusal)) ⊎ ((refusal ≡ NoMemory) ⊎ (refusal ≡ Io)) → ((root : Root) × (refusal_of root ≡ Some refusal)) ⊎ IsTableRefusal refusal
+load_refused refusal (inl found) = inl found
+load_refused refusal (inr other) = inr (inr other)
+
+pub from_counted : (refusal : Refusal) → ((root : Root) × (refusal_of root ≡ Some refusal)) ⊎ IsTableRefusal refusal → IsOpeningRefusal refusal
+from_counted refusal (inl (root, e)) = inr (of_root root refusal e)
+from_counted refusal (inr (inl bad)) = inl bad
+from_counted refusal (inr (inr other)) = inr (from_memory refusal other)
 
 pub from_replay : (P : Type 0) (refusal : Refusal) → ((refusal ≡ BadManifest) × P) ⊎ ((refusal ≡ NoMemory) ⊎ (refusal ≡ Io)) → IsRefusalBesideBadTable refusal
 from_replay P refusal (inl found) = subst IsRefusalBesideBadTable (sym found.0) tt

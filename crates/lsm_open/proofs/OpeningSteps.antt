@@ -11,7 +11,7 @@ use Rattle.lsm_device.specs.Outcomes.{Leaves}
 use Rattle.lsm_open.specs.CrashState.{CrashState, last_number, in_next_generation}
 use Rattle.lsm_open.specs.LogRegions.{all_batches, regions_with_batches}
 use Rattle.lsm_open.specs.Layout.{open_batches}
-use Rattle.lsm_open.specs.Image.{count_in, base_map, StandFor, StandForSome}
+use Rattle.lsm_open.specs.Image.{count_in, base_map, left_in, HoldNamed, StandFor, StandForSome}
 use Rattle.lsm_open.specs.Placements.{Placement, IsHeld, state_with}
 use Rattle.lsm_open.specs.Reopening.{kept_records, HasCome}
 use Rattle.lsm_open.specs.Switching.{MayBeInstalled, IsInLeastFree, reopened_at, MayReopen}
@@ -29,53 +29,53 @@ Sectors = List (List ℕ)
 abbrev Batches : Type 0
 Batches = List (List Operation)
 
-module _ (n : ℕ) (left : CrashState) (c : Sectors) (is : StandFor n left c) (may : MayReopen n is.manifest c) (o : Option OpenRegion)
-    (new : IsInLeastFree n (is.manifest.generation + 1) (count_in n c is.manifest) (kept_records n c is.manifest.logs) o) where
+module _ (n : ℕ) (left : CrashState) (c : Sectors) (m : Contents) (holds : HoldNamed n m c) (left_is : left ≡ left_in n c m) (may : MayReopen n m c) (o : Option OpenRegion)
+    (new : IsInLeastFree n (m.generation + 1) (count_in n c m) (kept_records n c m.logs) o) where
   abbrev q : Placement
-  q = reopened_at n c is.manifest o
+  q = reopened_at n c m o
 
-  closed_are : all_batches n c (kept_records n c is.manifest.logs) ≡ all_batches n c is.manifest.logs
-  closed_are = same_batches n c is.manifest.logs
+  closed_are : all_batches n c (kept_records n c m.logs) ≡ all_batches n c m.logs
+  closed_are = same_batches n c m.logs
 
-  holds_all : HoldsAll (reopened_at n c is.manifest o) is.manifest.generation (count_in n c is.manifest) c
+  holds_all : HoldsAll (reopened_at n c m o) m.generation (count_in n c m) c
   holds_all = record {
     generation = refl;
     inside = may.inside;
-    closed = λ k r lt. record { region = may.low k r lt; some = all_hold n c is.manifest.logs k r lt };
-    follows = same_follow n c (is.manifest.base + 1) is.manifest.logs is.holds.follows;
-    counts = ap (λ (t : Batches). is.manifest.base + length t) (sym closed_are);
-    fresh = is.holds.fresh;
-    tables = is.holds.tables;
+    closed = λ k r lt. record { region = may.low k r lt; some = all_hold n c m.logs k r lt };
+    follows = same_follow n c (m.base + 1) m.logs holds.follows;
+    counts = ap (λ (t : Batches). m.base + length t) (sym closed_are);
+    fresh = holds.fresh;
+    tables = holds.tables;
     generation_high = may.generation;
     count_high = may.count;
   }
 
-  pub reopen_held : IsHeld (reopened_at n c is.manifest o) (at_rest c)
-  reopen_held = new_held (reopened_at n c is.manifest o) is.manifest.generation (count_in n c is.manifest) c holds_all new
+  pub reopen_held : IsHeld (reopened_at n c m o) (at_rest c)
+  reopen_held = new_held (reopened_at n c m o) m.generation (count_in n c m) c holds_all new
 
   none_open : open_batches o c ≡ []
-  none_open = new_empty (reopened_at n c is.manifest o) is.manifest.generation (count_in n c is.manifest) c holds_all new
+  none_open = new_empty (reopened_at n c m o) m.generation (count_in n c m) c holds_all new
 
-  applied : left ≡ record { count = is.manifest.base + length (all_batches n c is.manifest.logs); map = apply_all (base_map n c is.manifest) (all_batches n c is.manifest.logs); closed = regions_with_batches n c is.manifest.logs; generation = is.manifest.generation }
-  applied = is.left_is ∙ state_applied n c is.manifest is.holds.tables
+  applied : left ≡ record { count = m.base + length (all_batches n c m.logs); map = apply_all (base_map n c m) (all_batches n c m.logs); closed = regions_with_batches n c m.logs; generation = m.generation }
+  applied = left_is ∙ state_applied n c m holds.tables
 
   abbrev made : Batches → ℕ → CrashState
-  made bs k = record { count = is.manifest.base + length bs; map = apply_all (base_map n c is.manifest) bs; closed = k; generation = is.manifest.generation + 1 }
+  made bs k = record { count = m.base + length bs; map = apply_all (base_map n c m) bs; closed = k; generation = m.generation + 1 }
 
   -- what the next manifest names stands for the same in the next generation
-  pub reopen_left : state_with (reopened_at n c is.manifest o) c (open_batches o c) ≡ in_next_generation left
+  pub reopen_left : state_with (reopened_at n c m o) c (open_batches o c) ≡ in_next_generation left
   reopen_left =
-      let kept = kept_records n c is.manifest.logs in
-      let counted : length kept + 0 ≡ regions_with_batches n c is.manifest.logs = omega (arith, count_kept n c is.manifest.logs) in
+      let kept = kept_records n c m.logs in
+      let counted : length kept + 0 ≡ regions_with_batches n c m.logs = omega (arith, count_kept n c m.logs) in
       ap (λ (t : Batches). state_with q c t) none_open
       ∙ ap (λ (t : Batches). made t (length kept + 0)) (append-nil (all_batches n c kept) ∙ closed_are)
-      ∙ ap (λ (k : ℕ). made (all_batches n c is.manifest.logs) k) counted
+      ∙ ap (λ (k : ℕ). made (all_batches n c m.logs) k) counted
       ∙ sym (ap in_next_generation applied)
 
-pub opening_installs : (n : ℕ) (left : CrashState) (d : Disk) (is : StandFor n left (seen d)) → MayReopen n is.manifest (seen d) → (o : Option OpenRegion)
-    → IsInLeastFree n (is.manifest.generation + 1) (count_in n (seen d) is.manifest) (kept_records n (seen d) is.manifest.logs) o
-    → MayBeInstalled (reopened_at n (seen d) is.manifest o) (in_next_generation left) d
-opening_installs n left d is may o new = record { held = reopen_held n left (seen d) is may o new; left_is = sym (reopen_left n left (seen d) is may o new) }
+pub opening_installs : (n : ℕ) (left : CrashState) (d : Disk) (m : Contents) → HoldNamed n m (seen d) → left ≡ left_in n (seen d) m → MayReopen n m (seen d) → (o : Option OpenRegion)
+    → IsInLeastFree n (m.generation + 1) (count_in n (seen d) m) (kept_records n (seen d) m.logs) o
+    → MayBeInstalled (reopened_at n (seen d) m o) (in_next_generation left) d
+opening_installs n left d m holds left_is may o new = record { held = reopen_held n left (seen d) m holds left_is may o new; left_is = sym (reopen_left n left (seen d) m holds left_is may o new) }
 
 -- a disk at rest leaves what reads give
 pub rests_stand : (n : ℕ) (left : CrashState) (d : Disk) → d.pending ≡ [] → StandFor n left (seen d) → Leaves (StandForSome n (λ x. x ≡ left)) d

@@ -6,7 +6,9 @@ use Rattle.std.proofs.lemmas.List.{append-nil, length-append, map-append}
 use Rattle.std.proofs.lemmas.List.Elements.{All-filter}
 use Rattle.lsm_codec.specs.Manifests.{Contents, IsManifest}
 use Rattle.lsm_codec.specs.Reading.{◌>>=◌}
+use Rattle.lsm_codec.specs.TableRecords.{IsOfVersion}
 use Rattle.lsm_codec.specs.Versions.{Version}
+use Rattle.lsm_codec.specs.declared.superblock.FormatVersion.TheVariants.{Two}
 use Rattle.lsm_codec.specs.declared.table_record.TableRecord.{TableRecord}
 use Rattle.lsm_levels.specs.Levels.{Levels, all_tables, places}
 use Rattle.lsm_levels.specs.Orders.{IsNewerPlace, IsVersionOrder}
@@ -47,13 +49,13 @@ all_versions (r ∷ rest) = versions_joined r (all_tables rest) ∙ ap (λ (l : 
 order_first : (place : Versions) (others : List Versions) → IsNewerPlace place (joined others) → IsVersionOrder others → IsVersionOrder (place ∷ others)
 order_first place others newer order = order_join (place ∷ []) others (tt, tt) order (subst (λ (l : Versions). IsNewerPlace l (joined others)) (sym (append-nil place)) newer)
 
-module _ (n : ℕ) (s : List (List ℕ)) (m : Contents) (is : IsManifest m) (stand : AreTables n m.base m.tables s) where
+module _ (n : ℕ) (s : List (List ℕ)) (m : Contents) (is : IsManifest m) (two : All (IsOfVersion Two) m.tables) (stand : AreTables n m.base m.tables s) where
   its_tables : (k : ℕ) → All (IsTableAt n m.base s) (run_records m k)
   its_tables k = All-filter (is_in_run m.runs k) (IsTableAt n m.base s) m.tables stand.each
 
   -- a run that was read stands
   run_stored : (k : ℕ) (r : List Table) (tells : Bool) → IsTrue tells → IsRunRead n tells s m k r → AllByRecursion (IsStored s (first_data n)) r × (versions_of r ≡ table_versions n s (run_records m k))
-  run_stored k r tells t read = all_told_stored n m.base s (run_records m k) r (its_tables k) (told_as_run (told_tables n s (run_records m k)) r (read.told t)) read.named
+  run_stored k r tells t read = all_told_stored n m.base s (run_records m k) r (its_tables k) (All-filter (is_in_run m.runs k) (IsOfVersion Two) m.tables two) (told_as_run (told_tables n s (run_records m k)) r (read.told t)) read.named
 
   -- runs from a place on stand, in the order of versions
   record StandFrom (k : ℕ) (runs : List (List Table)) : Type 0 where

@@ -12,7 +12,8 @@ use Rattle.lsm_codec.specs.Keys.{Bytes, byte_order}
 use Rattle.lsm_codec.specs.Manifests.{Contents}
 use Rattle.lsm_codec.specs.Pairs.{Pairwise}
 use Rattle.lsm_codec.specs.Reading.{◌>>=◌}
-use Rattle.lsm_codec.specs.TableRecords.{HasSizes, IsTableRecord, runs_in, extent_blocks}
+use Rattle.lsm_codec.specs.TableRecords.{HasSizes, IsTableRecord, IsOfVersion, runs_in, extent_blocks}
+use Rattle.lsm_codec.specs.declared.superblock.FormatVersion.TheVariants.{Two}
 use Rattle.lsm_codec.specs.Versions.{Version, entry_order, AreOrdered}
 use Rattle.lsm_codec.specs.declared.table_record.TableRecord.{TableRecord}
 use Rattle.lsm_device.specs.declared.refusal.Refusal.{Refusal}
@@ -117,16 +118,16 @@ module _ (n base : ℕ) (s : List (List ℕ)) where
     is_one : IsRun tables
     behind : (k : Bytes) → All (IsAbove k) ts → AllByRecursion (λ u. is_below k u.first ≡ true) tables
 
-  run_stands : (ts : List TableRecord) → All (IsTableAt n base s) ts → All HasSizes ts → Pairwise Ascend ts → RunStands ts
-  run_stands [] stand sizes ascend = record { tables = []; told = refl; is_one = tt; behind = λ k above. tt }
-  run_stands (t ∷ rest) stand sizes ascend =
+  run_stands : (ts : List TableRecord) → All (IsTableAt n base s) ts → All (IsOfVersion Two) ts → All HasSizes ts → Pairwise Ascend ts → RunStands ts
+  run_stands [] stand two sizes ascend = record { tables = []; told = refl; is_one = tt; behind = λ k above. tt }
+  run_stands (t ∷ rest) stand two sizes ascend =
       let is : IsTableAt n base s t = All-head (IsTableAt n base s) t rest stand in
       let its : HasSizes t = All-head HasSizes t rest sizes in
       let table : Table = standing n base s t is in
-      let more : RunStands rest = run_stands rest (All-tail (IsTableAt n base s) t rest stand) (All-tail HasSizes t rest sizes) ascend.1 in
+      let more : RunStands rest = run_stands rest (All-tail (IsTableAt n base s) t rest stand) (All-tail (IsOfVersion Two) t rest two) (All-tail HasSizes t rest sizes) ascend.1 in
       record {
         tables = table ∷ more.tables;
-        told = ap (λ (o : Option Table). o >>= λ (x : Table). told_tables n s rest >>= λ (xs : List Table). Some (x ∷ xs)) (told_standing n base s t is) ∙ ap (λ (o : Option (List Table)). o >>= λ (xs : List Table). Some (table ∷ xs)) more.told;
+        told = ap (λ (o : Option Table). o >>= λ (x : Table). told_tables n s rest >>= λ (xs : List Table). Some (x ∷ xs)) (told_standing n base s t is (All-head (IsOfVersion Two) t rest two)) ∙ ap (λ (o : Option (List Table)). o >>= λ (xs : List Table). Some (table ∷ xs)) more.told;
         is_one = (range_some t is its, more.behind table.last (All-weaker (Ascend t) (IsAbove table.last) (last_below t is its) rest ascend.0), more.is_one);
         behind = λ k above. (key_below t is its k (All-head (IsAbove k) t rest above), more.behind k (All-tail (IsAbove k) t rest above));
       }
@@ -162,7 +163,7 @@ same_place runs (suc a) x (suc b) y low high same = (omega (arith, same), omega 
 
 -- ---- all runs
 
-module _ (n : ℕ) (s : List (List ℕ)) (m : Contents) (all : All (IsTableRecord m.next_table m.runs) m.tables) (stand : AreTables n m.base m.tables s) where
+module _ (n : ℕ) (s : List (List ℕ)) (m : Contents) (all : All (IsTableRecord m.next_table m.runs) m.tables) (two : All (IsOfVersion Two) m.tables) (stand : AreTables n m.base m.tables s) where
   run_ascends : (k : ℕ) → Pairwise (Ascend n m.base s) (run_records m k)
   run_ascends k = filtered_pairs (is_in_run m.runs k) (AscendInRun n s) (Ascend n m.base s) (IsTableRecord m.next_table m.runs)
       (λ t u pt pu ist isu ascend. ascend (same_place m.runs t.level t.run u.level u.run ist.run isu.run (eqb-true (run_place m.runs t.run t.level) k pt ∙ sym (eqb-true (run_place m.runs u.run u.level) k pu)))) m.tables all stand.ascend
@@ -170,6 +171,7 @@ module _ (n : ℕ) (s : List (List ℕ)) (m : Contents) (all : All (IsTableRecor
   one_run : (k : ℕ) → RunStands n m.base s (run_records m k)
   one_run k = run_stands n m.base s (run_records m k)
       (All-filter (is_in_run m.runs k) (IsTableAt n m.base s) m.tables stand.each)
+      (All-filter (is_in_run m.runs k) (IsOfVersion Two) m.tables two)
       (All-filter (is_in_run m.runs k) HasSizes m.tables (All-weaker (IsTableRecord m.next_table m.runs) HasSizes (λ t is. is.sizes) m.tables all)) (run_ascends k)
 
   run_told : (k : ℕ) → (run : List Table) × (told_run n s m k ≡ Some run)

@@ -11,7 +11,8 @@ use Rattle.lsm_codec.specs.Manifests.{Contents}
 use Rattle.lsm_codec.specs.Map.{Map, Operation, apply_all}
 use Rattle.lsm_codec.specs.Pairs.{Pairwise}
 use Rattle.lsm_codec.specs.TableRecords.{extent_blocks}
-use Rattle.lsm_codec.specs.Versions.{Version}
+use Rattle.std.specs.Prelude.{IfSome}
+use Rattle.lsm_codec.specs.Versions.{Version, deletes_in}
 use Rattle.lsm_codec.proofs.Lists.{all_append}
 use Rattle.lsm_device.specs.Areas.{area}
 use Rattle.lsm_levels.specs.Orders.{IsVersionOrder}
@@ -57,6 +58,7 @@ module _ (n : ℕ) (c e : Sectors) where
     told = ap (λ (x : Sectors). outline_at t x) (same_blocks t same) ∙ is.told;
     members = is.members;
     numbered = subst (NumberedAtMost base) (sym (same_versions t same)) is.numbered;
+    counted = subst (λ (vs : Versions). IfSome t.deletes (λ deletes. deletes ≡ deletes_in vs)) (sym (same_versions t same)) is.counted;
   }
 
   pub same_all_versions : (ts : List TableRecord) → All SameExtent ts → table_versions n c ts ≡ table_versions n e ts

@@ -11,24 +11,38 @@ use Rattle.lsm_device.specs.declared.refusal.Refusal.{Refusal}
 use Rattle.lsm_device.specs.declared.refusal.Refusal.TheVariants.{NoMemory, BadTable}
 use Rattle.lsm_levels.specs.Tables.{Table, IsRun, is_run, table_at}
 use Rattle.lsm_levels.proofs.RunTests.{run_tested, tested_run}
-use Rattle.lsm_open.specs.ToldTables.{told_table, told_tables, run_if, told_run, told_runs, told_levels, levels_of, IsRefusedFor, IsNamedBy, AreNamedBy}
+use Rattle.lsm_open.specs.Tables.{blocks_at}
+use Rattle.lsm_open.specs.ToldTables.{told_with, told_table, told_tables, run_if, told_run, told_runs, told_levels, levels_of, IsRefusedFor, IsNamedBy, AreNamedBy}
 use Rattle.lsm_table.specs.Outlines.{Outline, IsRecordOf}
+use Rattle.lsm_table.specs.Stored.{outline_at}
 
 -- ---- one table
 
-pub named_by : (t : TableRecord) (o : Outline) (versions : List Version) → IsRecordOf t o → IsNamedBy t (table_at o t.first_block versions)
-named_by t o versions is = record {
+pub named_by : (t : TableRecord) (o : Outline) (deletes : ℕ) (versions : List Version) → t.deletes ≡ Some deletes → IsRecordOf t o → IsNamedBy t (table_at o t.first_block deletes versions)
+named_by t o deletes versions told is = record {
   listed =
-      ap (λ (k : ℕ). let r : TableRecord = record { number = k; level = t.level; run = t.run; first_block = t.first_block; data_blocks = length o.edges; index_blocks = index_count o.edges; entries = o.entries } in r) (sym is.number)
-      ∙ ap (λ (k : ℕ). let r : TableRecord = record { number = t.number; level = t.level; run = t.run; first_block = t.first_block; data_blocks = k; index_blocks = index_count o.edges; entries = o.entries } in r) (sym is.data_blocks)
-      ∙ ap (λ (k : ℕ). let r : TableRecord = record { number = t.number; level = t.level; run = t.run; first_block = t.first_block; data_blocks = t.data_blocks; index_blocks = k; entries = o.entries } in r) (sym is.index_blocks)
-      ∙ ap (λ (k : ℕ). let r : TableRecord = record { number = t.number; level = t.level; run = t.run; first_block = t.first_block; data_blocks = t.data_blocks; index_blocks = t.index_blocks; entries = k } in r) (sym is.entries);
+      ap (λ (k : ℕ). let r : TableRecord = record { number = k; level = t.level; run = t.run; first_block = t.first_block; data_blocks = length o.edges; index_blocks = index_count o.edges; entries = o.entries; deletes = Some deletes } in r) (sym is.number)
+      ∙ ap (λ (k : ℕ). let r : TableRecord = record { number = t.number; level = t.level; run = t.run; first_block = t.first_block; data_blocks = k; index_blocks = index_count o.edges; entries = o.entries; deletes = Some deletes } in r) (sym is.data_blocks)
+      ∙ ap (λ (k : ℕ). let r : TableRecord = record { number = t.number; level = t.level; run = t.run; first_block = t.first_block; data_blocks = t.data_blocks; index_blocks = k; entries = o.entries; deletes = Some deletes } in r) (sym is.index_blocks)
+      ∙ ap (λ (k : ℕ). let r : TableRecord = record { number = t.number; level = t.level; run = t.run; first_block = t.first_block; data_blocks = t.data_blocks; index_blocks = t.index_blocks; entries = k; deletes = Some deletes } in r) (sym is.entries)
+      ∙ ap (λ (d : Option ℕ). let r : TableRecord = record t { deletes = d } in r) (sym told);
   outlined = refl;
 }
 
 -- a table that can't be opened is refused so
 pub not_opened : {X Y : Type 0} (told : Option X) (f : X → Y) (e : Refusal) → (e ≡ NoMemory) ⊎ ((e ≡ BadTable) × (told ≡ None)) → IsRefusedFor (option_map f told) e
 not_opened told f e = ⊎_elim (λ h. inr (inl h)) (λ h. inl (h.0, ap (option_map f) h.1))
+
+-- a record that tells its deletes
+pub told_with_deletes : (n : ℕ) (sectors : List (List ℕ)) (t : TableRecord) (deletes : ℕ) (versions : List Version) → t.deletes ≡ Some deletes
+    → told_with versions n sectors t ≡ option_map (λ o. table_at o t.first_block deletes versions) (outline_at t (blocks_at n sectors t))
+told_with_deletes n sectors t deletes versions told =
+    ap (λ (o : Option ℕ). o >>= λ d. option_map (λ o. table_at o t.first_block d versions) (outline_at t (blocks_at n sectors t))) told
+
+-- and one that doesn't is not told
+pub told_without_deletes : (n : ℕ) (sectors : List (List ℕ)) (t : TableRecord) (versions : List Version) → t.deletes ≡ None → told_with versions n sectors t ≡ None
+told_without_deletes n sectors t versions told =
+    ap (λ (o : Option ℕ). o >>= λ d. option_map (λ o. table_at o t.first_block d versions) (outline_at t (blocks_at n sectors t))) told
 
 -- ---- tables one after the other
 

@@ -5,7 +5,7 @@ use Rattle.std.proofs.lemmas.List.{length-replicate, get_or-replicate, get_or_ap
 use Rattle.std.proofs.lemmas.List.Elements.{All-nil}
 use Rattle.lsm_codec.specs.Formats.{blank}
 use Rattle.lsm_codec.specs.Manifests.{IsManifest, IsLogRecord, sector_count}
-use Rattle.lsm_codec.proofs.ManifestLaws.{length-manifest_text, no_tables_fit}
+use Rattle.lsm_codec.proofs.ManifestLaws.{length-manifest_text, manifest_text_most, no_tables_fit}
 use Rattle.lsm_device.specs.Disk.{Disk, Write, IsDisk, seen, synced}
 use Rattle.lsm_device.specs.History.{present, Becomes}
 use Rattle.lsm_device.specs.Memory.{length-written}
@@ -19,7 +19,7 @@ use Rattle.lsm_root.proofs.Readings.{zeros}
 use Rattle.lsm_open.specs.Formatted.{empty_manifest, IsFormatted}
 
 pub empty_takes_one : sector_count empty_manifest ≡ 1
-empty_takes_one = omega (arith, length-manifest_text empty_manifest)
+empty_takes_one = omega (arith, length-manifest_text empty_manifest, manifest_text_most empty_manifest)
 
 -- where no sector of an empty manifest is
 outside : (at : ℕ) → at ≢ 66 → (at < 66) ⊎ (66 + sector_count empty_manifest ≤ at)
@@ -61,6 +61,7 @@ module _ (size n : ℕ) (d : Disk) (on : IsDisk size d) (fits : n ≤ size) wher
   is_formatted log e is installed others = record {
     settled = installed.settled;
     root = installed.stands.root;
+    version = installed.stands.version;
     zeros = λ at lt slot first. others at slot (outside at first) ∙ sector_is at (omega (arith, is, lt));
   }
 

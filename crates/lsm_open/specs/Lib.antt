@@ -1,6 +1,7 @@
 pub mod CrashState
 pub mod LogRegions
 pub mod Tables
+pub mod Counting
 pub mod Image
 pub mod Opening
 pub mod Layout

@@ -14,6 +14,7 @@ use Rattle.lsm_levels.specs.Levels.{Levels, places}
 use Rattle.lsm_levels.specs.Stored.{AreWithin, AreNumberedBelow}
 use Rattle.lsm_mem.specs.EntryOrder.{with_batches}
 use Rattle.lsm_mem.specs.Versions.{NumberedBelow}
+use Rattle.lsm_open.specs.Counting.{IsCountedRoot, all_uncounted, all_data}
 use Rattle.lsm_open.specs.CrashState.{last_number}
 use Rattle.lsm_open.specs.Image.{count_in}
 use Rattle.lsm_open.specs.LogRegions.{all_batches}
@@ -25,15 +26,20 @@ use Rattle.lsm_root.specs.Installed.{IsNext}
 use Rattle.lsm_root.specs.Layout.{IsGeometry, LieInside}
 use Rattle.lsm_root.specs.Roots.{Root, Stands, superblock_in, root_of}
 
--- how many sectors an opening reads at most of a store with these tables: its root, footer, index and filter of each table, and
--- the log regions
-abbrev pub sectors_read : ℕ → List TableRecord → ℕ
-sectors_read log_sectors tables = 66 + 8 * blocks_beside_data tables + 3 * log_sectors
+-- how many sectors an opening reads at most of a store with these tables, where it reads so many data blocks: its root, footer,
+-- index and filter of each table, these blocks, and the log regions
+abbrev pub sectors_read : ℕ → ℕ → List TableRecord → ℕ
+sectors_read blocks log_sectors tables = 66 + 8 * (blocks_beside_data tables + blocks) + 3 * log_sectors
 
--- and by the root of the device: nothing behind it where no manifest stands
+-- and by the root of the device: the data blocks are those of tables whose records tell no deletes, which are all in version 1 of
+-- the format and none in version 2; nothing behind the root is read where no manifest stands
 abbrev pub sectors_read_by : Root → ℕ
-sectors_read_by (Stands log_sectors m) = sectors_read log_sectors m.tables
+sectors_read_by (Stands log_sectors m) = sectors_read (all_uncounted m.tables) log_sectors m.tables
 sectors_read_by other = 66
+
+-- and of any device, by the tables that the next manifest names
+abbrev pub sectors_read_most : ℕ → List TableRecord → ℕ
+sectors_read_most log_sectors tables = sectors_read (all_data tables) log_sectors tables
 
 -- What holds of the parts that were read, whatever the device held: the manifest is within the limits and there is a next
 -- generation, its regions were replayed to the end, memory is sealed where a region is kept, and levels and extents are
@@ -55,9 +61,9 @@ pub record AreRead (size log_sectors : ℕ) (m : Contents) (closed : List LogRec
   pub numbers : AreNumberedBelow m.next_table (places levels)
   pub held : Held (data_blocks_of size log_sectors) m.tables extents
 
--- What they say of the sectors that they were read from.
+-- What they say of the sectors that they were read from: the manifest is the one that stands there, with each table counted.
 pub record AreToldBy (size log_sectors : ℕ) (sectors : List (List ℕ)) (m : Contents) (closed : List LogRecord) (count : ℕ) (sealed : Option (List Version)) (levels : Levels) : Type 0 where
-  pub root : root_of sectors ≡ Stands log_sectors m
+  pub root : IsCountedRoot log_sectors m sectors
   pub next : IsNext size log_sectors (m.generation + 1) (superblock_in sectors)
   pub kept : closed ≡ kept_records log_sectors sectors m.logs
   pub counts : count ≡ count_in log_sectors sectors m

@@ -22,6 +22,7 @@ use Rattle.lsm_levels.specs.Tables.{versions_of}
 use Rattle.lsm_mem.specs.EntryOrder.{with_batches}
 use Rattle.lsm_mem.specs.Versions.{NumberedAtMost, NumberedBelow, map_of}
 use Rattle.lsm_open.specs.Answered.{IsInsideIfOpen}
+use Rattle.lsm_open.specs.Counting.{IsCountedRoot}
 use Rattle.lsm_open.specs.CrashState.{CrashState, last_number, in_next_generation, left_by_opening, MayRefuseOpening}
 use Rattle.lsm_open.specs.Image.{count_in, StandForSome}
 use Rattle.lsm_open.specs.Layout.{Layout, open_batches}
@@ -50,13 +51,13 @@ sealed_versions (Some versions) = versions
 abbrev pub level_versions : Levels → List Version
 level_versions levels = versions_of (all_tables (places levels))
 
--- What an opening makes of sectors, where a manifest stands there: base, tables and next table number stay, the regions that
+-- What an opening makes of sectors, where a manifest stands there, each of its tables counted: base, tables and next table number stay, the regions that
 -- hold batches are closed, and a new log is open in the least free one, all in the next generation. Memory has just the
 -- versions of these batches, sealed, where a region is closed, and levels are what the tables tell. The manifest of the
 -- new placement stands, nothing pends, and behind the root the sectors are the same.
 pub record IsReopened (sectors : List (List ℕ)) (p : Placement) (count : ℕ) (sealed : Option (List Version)) (levels : Levels) (d : Disk) : Type 0 where
   pub manifest : Contents
-  pub root : root_of sectors ≡ Stands p.logs.log_sectors manifest
+  pub root : IsCountedRoot p.logs.log_sectors manifest sectors
   pub placed : p ≡ reopened_at p.logs.log_sectors sectors manifest p.logs.open_region
   pub least : IsInLeastFree p.logs.log_sectors (manifest.generation + 1) count p.logs.closed p.logs.open_region
   pub counts : count ≡ count_in p.logs.log_sectors sectors manifest
@@ -114,7 +115,7 @@ IsOpeningRefusal e = (e ≡ BadTable) ⊎ IsRefusalBesideBadTable e
 
 -- The calls of such an opening: a sync, and then at most so many.
 abbrev pub BeginsWithSync : Calls → Calls → Type 0
-BeginsWithSync old new = (ok : Bool) × AtMost 63554 38 2 (after_sync ok old) new
+BeginsWithSync old new = (ok : Bool) × AtMost 587842 42 2 (after_sync ok old) new
 
 -- A manifest was written, with one superblock and nothing else, among so many syncs.
 pub record HasWritten (m : Contents) (syncs : ℕ) (old new : Calls) : Type 0 where

@@ -1,11 +1,11 @@
 -- What the extents hold of the tables that a manifest names.
-use Rattle.std.specs.Prelude.{◌≡◌, ℕ, ◌+◌, ◌*◌, true, List, [], ◌∷◌, ◌++◌, map, All, Option, Some, None}
+use Rattle.std.specs.Prelude.{◌≡◌, ℕ, ◌+◌, ◌*◌, true, List, [], ◌∷◌, ◌++◌, map, All, Option, Some, None, IfSome}
 use Rattle.std.specs.List.{AllByRecursion}
 use Rattle.std.specs.declared.cmp.Ordering.TheVariants.{Less}
 use Rattle.lsm_codec.specs.Keys.{byte_order}
 use Rattle.lsm_codec.specs.Pairs.{Pairwise}
 use Rattle.lsm_codec.specs.TableRecords.{extent_blocks}
-use Rattle.lsm_codec.specs.Versions.{Version}
+use Rattle.lsm_codec.specs.Versions.{Version, deletes_in}
 use Rattle.lsm_codec.specs.declared.table_record.TableRecord.{TableRecord}
 use Rattle.lsm_device.specs.Areas.{area}
 use Rattle.lsm_filter.specs.Bits.{is_perhaps}
@@ -50,7 +50,8 @@ table_versions log_sectors sectors [] = []
 table_versions log_sectors sectors (t ∷ rest) = versions_at log_sectors sectors t ++ table_versions log_sectors sectors rest
 
 -- A table stands in its extent: its data blocks spell entries in order, footer, index and filter are those of the entries
--- and of the record, the filter has each of their keys, and no version is above the base.
+-- and of the record, the filter has each of their keys, no version is above the base, and as many are deletes as the record
+-- tells, where it does: in version 1 of the format none does.
 pub record IsTableAt (log_sectors base : ℕ) (sectors : List (List ℕ)) (t : TableRecord) : Type 0 where
   pub table : TableBlocks
   pub filter : List ℕ
@@ -59,6 +60,7 @@ pub record IsTableAt (log_sectors base : ℕ) (sectors : List (List ℕ)) (t : T
   pub told : outline_at t (blocks_at log_sectors sectors t) ≡ Some (outline_in t.number filter table)
   pub members : AllByRecursion (λ v. is_perhaps filter v.key ≡ true) (entries_of table)
   pub numbered : NumberedAtMost base (versions_at log_sectors sectors t)
+  pub counted : IfSome t.deletes (λ deletes. deletes ≡ deletes_in (versions_at log_sectors sectors t))
 
 abbrev pub IsSameRun : TableRecord → TableRecord → Type 0
 IsSameRun t u = (t.level ≡ u.level) × (t.run ≡ u.run)

@@ -24,9 +24,9 @@ use Rattle.lsm_table.specs.Stored.{outline_at}
 -- ---- tables
 
 -- the table that a record names, with these versions, as filter, index and footer in its extent tell it; none where they are
--- not those of such a table
+-- not those of such a table, or where the record tells no deletes
 abbrev pub told_with : List Version → ℕ → List (List ℕ) → TableRecord → Option Table
-told_with versions log_sectors sectors t = option_map (λ o. table_at o t.first_block versions) (outline_at t (blocks_at log_sectors sectors t))
+told_with versions log_sectors sectors t = t.deletes >>= λ deletes. option_map (λ o. table_at o t.first_block deletes versions) (outline_at t (blocks_at log_sectors sectors t))
 
 -- with the versions that its data blocks spell
 abbrev pub told_table : ℕ → List (List ℕ) → TableRecord → Option Table
@@ -107,7 +107,7 @@ pub record HaveNamed (m : Contents) (levels : Levels) : Type 0 where
 
 -- a table is that of its outline
 abbrev pub IsOutlined : Table → Type 0
-IsOutlined t = t ≡ table_at t.outline t.start t.versions
+IsOutlined t = t ≡ table_at t.outline t.start t.deletes t.versions
 
 -- so are all tables of runs
 abbrev pub AreOutlined : List (List Table) → Type 0

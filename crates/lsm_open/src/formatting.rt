@@ -79,7 +79,7 @@ fn write_empty<A: Allocator, D: Device>(
     requires geometry { IsGeometry (D.medium device.old).size log_sectors }
     requires root { root.now ≡ record { size = (D.medium device.old).size; log = log_sectors; manifest = empty_manifest } }
     ensures formatted { IsTrue (D.medium device.old).lasting.tells → OnOk result (IsFormatted log_sectors (disk (D.medium device.new))) }
-    ensures counts { AtMost 0 (168 + 3 * log_sectors) 3 (D.medium device.old).calls (D.medium device.new).calls }
+    ensures counts { AtMost 0 (172 + 3 * log_sectors) 3 (D.medium device.old).calls (D.medium device.new).calls }
     ensures made { OnOk result (CallsMade (132 + 3 * log_sectors) 3 (D.medium device.old).calls (D.medium device.new).calls) }
     ensures faults { (D.medium device.new).calls.faults ≡ faults_after (is_ok result) (D.medium device.old).calls.faults }
     ensures stops { OnErr result (IsTrue (D.medium device.new).calls.last_faulted) }
@@ -101,7 +101,7 @@ fn make_empty<A: Allocator + Clone, D: Device>(
     ensures formatted { IsTrue (D.medium device.old).lasting.tells → OnOk result (IsFormatted log_sectors (disk (D.medium device.new))) }
     ensures refused { IfErr result (λ refusal. (refusal ≡ Refusal.NoMemory) ⊎ (refusal ≡ Refusal.Io)) }
     ensures untouched { IfErr result (λ refusal. IsTrue (is_no_fault refusal) → device.new ≡ device.old) }
-    ensures counts { AtMost 0 (168 + 3 * log_sectors) 3 (D.medium device.old).calls (D.medium device.new).calls }
+    ensures counts { AtMost 0 (172 + 3 * log_sectors) 3 (D.medium device.old).calls (D.medium device.new).calls }
     ensures made { OnOk result (CallsMade (132 + 3 * log_sectors) 3 (D.medium device.old).calls (D.medium device.new).calls) }
     ensures faults { (D.medium device.new).calls.faults ≡ faults_after (faultless result) (D.medium device.old).calls.faults }
     ensures stops { IfErr result (λ refusal. refusal ≡ Refusal.Io → IsTrue (D.medium device.new).calls.last_faulted) }
@@ -133,7 +133,7 @@ pub fn format<A: Allocator + Clone, D: Device>(
     // Only a device call that failed refuses once the device was called: all memory is taken before.
     ensures untouched { IfErr (without_device result) (λ refusal. IsTrue (is_no_fault refusal) → handed_back result ≡ device) }
     ensures refused { IfErr (without_device result) (λ refusal. (refusal ≡ Refusal.BadGeometry) ⊎ ((refusal ≡ Refusal.NoMemory) ⊎ (refusal ≡ Refusal.Io))) }
-    ensures counts { AtMost 0 (168 + 3 * log_sectors) 3 (D.medium device).calls (D.medium (handed_back result)).calls }
+    ensures counts { AtMost 0 (172 + 3 * log_sectors) 3 (D.medium device).calls (D.medium (handed_back result)).calls }
     ensures made { IfOk result (λ made. CallsMade (132 + 3 * log_sectors) 3 (D.medium device).calls (D.medium made).calls) }
     ensures faults { (D.medium (handed_back result)).calls.faults ≡ faults_after (faultless (without_device result)) (D.medium device).calls.faults }
     ensures stops { IfErr (without_device result) (λ refusal. refusal ≡ Refusal.Io → IsTrue (D.medium (handed_back result)).calls.last_faulted) }

@@ -1,11 +1,13 @@
 // Laws of installations: what may be installed, and what each moment of that leaves.
 ghost use Rattle.std.specs.Prelude.{◌≡◌, ◌≤◌, ℕ, ◌+◌, List, [], length, Option, Some};
+ghost use Rattle.lsm_codec.specs.Manifests.{Contents};
 ghost use Rattle.lsm_codec.specs.declared.table_record.TableRecord.{TableRecord};
 ghost use Rattle.lsm_device.specs.Disk.{Disk, seen};
 ghost use Rattle.lsm_device.specs.History.{present, EachSince};
 ghost use Rattle.lsm_device.specs.Outcomes.{Leaves};
 ghost use Rattle.lsm_open.specs.CrashState.{CrashState, in_next_generation};
 ghost use Rattle.lsm_open.specs.Layout.{open_records};
+ghost use Rattle.lsm_open.specs.Counting.{counted};
 ghost use Rattle.lsm_open.specs.Image.{count_in, StandFor};
 ghost use Rattle.lsm_open.specs.Placements.{Placement, contents_for, closed_in, Carries, present_state, MayBeLeft};
 ghost use Rattle.lsm_open.specs.Reopening.{kept_records};
@@ -52,10 +54,11 @@ pub fn merges_may_be_installed()
         → MayBeInstalled (merged p next_table runs (with_outputs x new)) (in_next_generation (present_state p d)) d }
 {}
 
-/// An opening may be installed: the regions that hold batches are closed, and a new log is open in the least free
-/// one, if one is free. It leaves the same in the next generation.
+/// An opening may be installed, over either version of the format: each table is counted, the regions that hold batches are
+/// closed, and a new log is open in the least free one, if one is free. It leaves the same in the next generation.
 pub fn openings_may_be_installed()
-    ensures { (log_sectors : ℕ) (left : CrashState) (d : Disk) (o : Option OpenRegion) → (is : StandFor log_sectors left (seen d)) → MayReopen log_sectors is.manifest (seen d)
-        → IsInLeastFree log_sectors (is.manifest.generation + 1) (count_in log_sectors (seen d) is.manifest) (kept_records log_sectors (seen d) is.manifest.logs) o
-        → MayBeInstalled (reopened_at log_sectors (seen d) is.manifest o) (in_next_generation left) d }
+    ensures { (log_sectors : ℕ) (left : CrashState) (d : Disk) (m : Contents) (o : Option OpenRegion) → (is : StandFor log_sectors left (seen d)) → counted log_sectors (seen d) is.manifest ≡ Some m
+        → MayReopen log_sectors m (seen d)
+        → IsInLeastFree log_sectors (m.generation + 1) (count_in log_sectors (seen d) m) (kept_records log_sectors (seen d) m.logs) o
+        → MayBeInstalled (reopened_at log_sectors (seen d) m o) (in_next_generation left) d }
 {}

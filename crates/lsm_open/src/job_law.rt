@@ -1,5 +1,5 @@
 // Laws of what jobs write of tables before these are installed.
-ghost use Rattle.std.specs.Prelude.{◌≡◌, ◌≤◌, ℕ, ◌+◌, ◌^◌, true, List, [], ◌∷◌, ◌++◌, length, take, drop, All};
+ghost use Rattle.std.specs.Prelude.{◌≡◌, ◌≤◌, ℕ, ◌+◌, ◌^◌, true, List, [], ◌∷◌, ◌++◌, length, take, drop, All, IfSome};
 ghost use Rattle.std.specs.List.{AllByRecursion};
 ghost use Rattle.lsm_codec.specs.declared.table_record.TableRecord.{TableRecord};
 ghost use Rattle.lsm_codec.specs.Pairs.{Pairwise};
@@ -8,6 +8,7 @@ ghost use Rattle.lsm_device.specs.Disk.{Disk, seen, synced};
 ghost use Rattle.lsm_device.specs.Runs.{run_at, grown};
 ghost use Rattle.lsm_filter.specs.Bits.{is_perhaps};
 ghost use Rattle.lsm_levels.specs.Stored.{blocks_from};
+ghost use Rattle.lsm_codec.specs.Versions.{deletes_in};
 ghost use Rattle.lsm_mem.specs.Versions.{NumberedAtMost};
 ghost use Rattle.lsm_open.specs.Placements.{Placement, contents_for, closed_in, Carries, IsFreeWrite};
 ghost use Rattle.lsm_open.specs.Switching.{flushed, AreFlushed, merged, Parts, with_outputs, AreMerged};
@@ -53,5 +54,6 @@ pub fn written_tables_stand()
     ensures all { (log_sectors : ℕ) (d : Disk) (x : PlacedTable) → IsWritten log_sectors d x → x.done ≡ length x.image → extent_at log_sectors (seen d) x.table ≡ x.image }
     ensures stands { (log_sectors base : ℕ) (sectors : List (List ℕ)) (t : TableRecord) (filter : List ℕ) (table : TableBlocks)
         → blocks_from (extent_at log_sectors sectors t) 0 (extent_blocks t) ≡ extent_of t.number filter table → IsTable table → t.number ≤ 2 ^ 63 → IsRecordOf t (outline_in t.number filter table)
-        → AllByRecursion (λ v. is_perhaps filter v.key ≡ true) (entries_of table) → NumberedAtMost base (entries_of table) → IsTableAt log_sectors base sectors t }
+        → AllByRecursion (λ v. is_perhaps filter v.key ≡ true) (entries_of table) → NumberedAtMost base (entries_of table)
+        → IfSome t.deletes (λ deletes. deletes ≡ deletes_in (entries_of table)) → IsTableAt log_sectors base sectors t }
 {}

@@ -13,6 +13,8 @@
 //! ```
 #![tactic(auto)]
 
+mod counting;
+mod counting_law;
 mod formatting;
 mod image_law;
 mod install_law;
@@ -25,6 +27,8 @@ mod reopened;
 mod replayed;
 mod tables;
 
+pub use counting::load_counted;
+pub use counting_law::{counted_roots_stand, counts_leave_the_same, only_old_tables_are_counted};
 pub use formatting::format;
 pub use image_law::{
     batches_apply_to_tables, crashes_leave_beginnings, free_writes_change_nothing,

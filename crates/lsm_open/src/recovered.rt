@@ -1,7 +1,6 @@
 // A store is recovered from its device, with the tables that its manifest names.
 ghost use Rattle.std.specs.Prelude.{◌≡◌, ◌≢◌, ◌⊎◌, ◌↔◌, ◌<◌, ◌≤◌, ◌^◌, ◌+◌, ◌*◌, ◌==◌, ℕ, [], true, false, Some, None, length, option_map, if◌then◌else◌, IsTrue, IfOk, OnOk, OnErr, IfErr, Err, is_ok, MatchResult};
 ghost use Rattle.std.specs.Arc.{arc_value};
-ghost use Rattle.lsm_codec.specs.Manifests.{IsManifest};
 ghost use Rattle.lsm_codec.specs.Versions.{AreOrdered};
 ghost use Rattle.lsm_device.specs.Calls.{after_sync, faults_after, AtMost};
 ghost use Rattle.lsm_device.specs.Disk.{seen, synced};
@@ -15,11 +14,12 @@ ghost use Rattle.lsm_open.specs.Image.{StandFor};
 ghost use Rattle.lsm_open.specs.Layout.{layout_of};
 ghost use Rattle.lsm_open.specs.RefusedOpenings.{opening_refusal};
 ghost use Rattle.lsm_open.specs.Placements.{contents_for};
-ghost use Rattle.lsm_open.specs.ReadParts.{sectors_read, sectors_read_by, AreRead, AreToldBy, ReadsAtMost};
+ghost use Rattle.lsm_open.specs.ReadParts.{sectors_read_by, sectors_read_most, AreRead, AreToldBy, ReadsAtMost};
 ghost use Rattle.lsm_open.specs.Recovering.{placed_in, sealed_versions, IsReopened, IsRecovered, AreWithinLimits, IsOpeningRefusal, BeginsWithSync, HasWritten, StandForOne, CrashesWhileOpening, FailsToOpen};
 ghost use Rattle.lsm_root.specs.Layout.{IsDeviceSize};
 ghost use Rattle.lsm_root.specs.Roots.{root_of};
 
+use crate::counting::load_counted;
 use crate::regions::Regions;
 use crate::reopened::reopen;
 use crate::replayed::{Replayed, replay_regions};
@@ -29,7 +29,7 @@ use lsm_device::{Device, Refusal};
 use lsm_extent::Extents;
 use lsm_levels::Levels;
 use lsm_mem::{Mem, Sealed};
-use lsm_root::{Loaded, load, root_laws};
+use lsm_root::{Loaded, root_laws};
 use std::alloc::{Allocator, Global};
 use std::sync::Arc;
 
@@ -129,7 +129,8 @@ fn keep<A: Allocator + Clone>(
     })
 }
 
-// Reads the root, the tables that its manifest names, and its regions. All that is kept of them is in memory then.
+// Reads the root, the tables that its manifest names, which are counted where it doesn't tell their deletes, and its regions.
+// All that is kept of them is in memory then.
 fn read_parts<A: Allocator + Clone, D: Device>(
     alloc: &A,
     device: &mut D,
@@ -142,12 +143,11 @@ fn read_parts<A: Allocator + Clone, D: Device>(
     ensures fair { (log_sectors : ℕ) (left : CrashState) → IsTrue (D.medium device.old).lasting.tells → StandFor log_sectors left (seen (disk (D.medium device.old)))
         → IfErr result (MayRefuseOpening left) }
     ensures refused { IfErr result IsOpeningRefusal }
-    ensures reads { MatchResult result
-        (λ r. AtMost (sectors_read r.loaded.log_sectors r.loaded.manifest.tables) 0 0 (D.medium device.old).calls (D.medium device.new).calls)
-        (λ e. IsTrue (D.medium device.old).lasting.tells → AtMost (sectors_read_by (root_of (seen (disk (D.medium device.old))))) 0 0 (D.medium device.old).calls (D.medium device.new).calls) }
-    ensures device { ReadsAtMost 63554 (faultless result) (D.medium device.old) (D.medium device.new) }
+    ensures reads { IsTrue (D.medium device.old).lasting.tells → AtMost (sectors_read_by (root_of (seen (disk (D.medium device.old))))) 0 0 (D.medium device.old).calls (D.medium device.new).calls }
+    ensures most { IfOk result (λ r. AtMost (sectors_read_most r.loaded.log_sectors r.loaded.manifest.tables) 0 0 (D.medium device.old).calls (D.medium device.new).calls) }
+    ensures device { ReadsAtMost 587842 (faultless result) (D.medium device.old) (D.medium device.new) }
 {
-    let loaded = load(alloc.clone()?, device)?;
+    let loaded = load_counted(alloc, device)?;
     let tables = read_tables(alloc, device, loaded.log_sectors, &loaded.manifest)?;
     let replayed = replay_regions(alloc, device, loaded.log_sectors, &loaded.manifest)?;
     let kept = keep(alloc, &loaded.manifest, replayed)?;
@@ -176,13 +176,12 @@ fn recover_settled<A: Allocator + Clone, D: Device>(
     ensures fair { (log_sectors : ℕ) (left : CrashState) → IsTrue (D.medium device.old).lasting.tells → StandFor log_sectors left (seen (disk (D.medium device.old)))
         → IfErr result (MayRefuseOpening left) }
     ensures refused { IfErr result IsOpeningRefusal }
-    ensures unwritten { IfErr result (λ refusal. IsTrue (is_no_fault refusal) → AtMost 63554 0 0 (D.medium device.old).calls (D.medium device.new).calls) }
+    ensures unwritten { IfErr result (λ refusal. IsTrue (is_no_fault refusal) → AtMost 587842 0 0 (D.medium device.old).calls (D.medium device.new).calls) }
     ensures unchanged { IsTrue (D.medium device.old).lasting.tells → IfErr result (λ refusal. IsTrue (is_no_fault refusal) → (D.medium device.new).history ≡ (D.medium device.old).history) }
     ensures made { IfOk result (λ p. HasWritten (contents_for (placed_in (layout_of p.regions) p.levels p.records.items)) 2 (D.medium device.old).calls (D.medium device.new).calls) }
-    ensures reads { MatchResult result
-        (λ p. AtMost (sectors_read p.regions.log_sectors p.records.items) 38 2 (D.medium device.old).calls (D.medium device.new).calls)
-        (λ e. IsTrue (D.medium device.old).lasting.tells → AtMost (sectors_read_by (root_of (seen (disk (D.medium device.old))))) 38 2 (D.medium device.old).calls (D.medium device.new).calls) }
-    ensures calls { AtMost 63554 38 2 (D.medium device.old).calls (D.medium device.new).calls }
+    ensures reads { IsTrue (D.medium device.old).lasting.tells → AtMost (sectors_read_by (root_of (seen (disk (D.medium device.old))))) 42 2 (D.medium device.old).calls (D.medium device.new).calls }
+    ensures most { IfOk result (λ p. AtMost (sectors_read_most p.regions.log_sectors p.records.items) 42 2 (D.medium device.old).calls (D.medium device.new).calls) }
+    ensures calls { AtMost 587842 42 2 (D.medium device.old).calls (D.medium device.new).calls }
     ensures faults { (D.medium device.new).calls.faults ≡ faults_after (faultless result) (D.medium device.old).calls.faults }
     ensures stops { IfErr result (λ refusal. refusal ≡ Refusal.Io → IsTrue (D.medium device.new).calls.last_faulted) }
     ensures same_size { (D.medium device.new).size ≡ (D.medium device.old).size }
@@ -242,15 +241,14 @@ fn recover_parts<A: Allocator + Clone, D: Device>(
     ensures fails { (log_sectors : ℕ) (left : CrashState) → IsTrue (D.medium device.old).lasting.tells → StandFor log_sectors left (seen (disk (D.medium device.old)))
         → IfErr result (λ refusal. FailsToOpen (D.medium device.old) log_sectors left refusal (D.medium device.new)) }
     ensures refused { IfErr result IsOpeningRefusal }
-    ensures unwritten { IfErr result (λ refusal. IsTrue (is_no_fault refusal) → AtMost 63554 0 1 (D.medium device.old).calls (D.medium device.new).calls) }
+    ensures unwritten { IfErr result (λ refusal. IsTrue (is_no_fault refusal) → AtMost 587842 0 1 (D.medium device.old).calls (D.medium device.new).calls) }
     ensures settled { IsTrue (D.medium device.old).lasting.tells → IsDeviceSize (D.medium device.old).size → IfErr result (λ refusal. IsTrue (is_no_fault refusal)
         → Becomes (synced (disk (D.medium device.old))) (D.medium device.old).history (D.medium device.new).history) }
     ensures begins { IsDeviceSize (D.medium device.old).size → BeginsWithSync (D.medium device.old).calls (D.medium device.new).calls }
     ensures made { IfOk result (λ p. HasWritten (contents_for (placed_in (layout_of p.regions) p.levels p.records.items)) 3 (D.medium device.old).calls (D.medium device.new).calls) }
-    ensures reads { MatchResult result
-        (λ p. AtMost (sectors_read p.regions.log_sectors p.records.items) 38 3 (D.medium device.old).calls (D.medium device.new).calls)
-        (λ e. IsTrue (D.medium device.old).lasting.tells → AtMost (sectors_read_by (root_of (seen (disk (D.medium device.old))))) 38 3 (D.medium device.old).calls (D.medium device.new).calls) }
-    ensures calls { AtMost 63554 38 3 (D.medium device.old).calls (D.medium device.new).calls }
+    ensures reads { IsTrue (D.medium device.old).lasting.tells → AtMost (sectors_read_by (root_of (seen (disk (D.medium device.old))))) 42 3 (D.medium device.old).calls (D.medium device.new).calls }
+    ensures most { IfOk result (λ p. AtMost (sectors_read_most p.regions.log_sectors p.records.items) 42 3 (D.medium device.old).calls (D.medium device.new).calls) }
+    ensures calls { AtMost 587842 42 3 (D.medium device.old).calls (D.medium device.new).calls }
     ensures faults { (D.medium device.new).calls.faults ≡ faults_after (faultless result) (D.medium device.old).calls.faults }
     ensures stops { IfErr result (λ refusal. refusal ≡ Refusal.Io → IsTrue (D.medium device.new).calls.last_faulted) }
     ensures same_size { (D.medium device.new).size ≡ (D.medium device.old).size }
@@ -262,15 +260,15 @@ fn recover_parts<A: Allocator + Clone, D: Device>(
     Ok(parts)
 }
 
-/// Recovers a store's parts from its device, with the tables that its manifest names. It begins with a sync, loads the root,
-/// opens the tables and replays the listed regions in order. A region that gave no batch is free; the least free one
-/// opens under the next generation as its epoch, and with none free no log is open. What the replayed batches made of their
-/// keys is sealed. It installs that generation, with the same tables, and a refusal hands the device back. All memory
-/// is taken before it writes.
+/// Recovers a store's parts from its device, with the tables that its manifest names. It begins with a sync, loads the root, counts
+/// the deletes of tables whose records don't tell them, opens the tables and replays the listed regions in order. A region that
+/// gave no batch is free; the least free one opens under the next generation as its epoch, and with none free no log is open. What
+/// the replayed batches made of their keys is sealed. It installs that generation, in version 2 of the format, with the same tables,
+/// and a refusal hands the device back. All memory is taken before it writes.
 ///
 /// It is refused with `BadGeometry` before any device call where the device has fewer than 8,192 sectors or more than
 /// 1,048,576; with `NotAStore`, `BadSuper`, `BadGeometry` or `BadManifest` as the root says; with `BadTable` where the manifest
-/// names a table that doesn't open, or the tables of a run are out of order; with `BadManifest` where a region's first batch is
+/// names a table that can't be counted or doesn't open, or the tables of a run are out of order; with `BadManifest` where a region's first batch is
 /// not the next one; with `Exhausted` in the last generation; with `NoMemory`; and with `Io` where a device call failed, which
 /// was its last. Where several hold, the first of them in this order is answered.
 pub fn recover<A: Allocator + Clone, D: Device>(
@@ -308,7 +306,7 @@ pub fn recover<A: Allocator + Clone, D: Device>(
 
     // A refusal that tells of no fault has written nothing. It made one sync at most, and exactly for a size outside the
     // limits none.
-    ensures unwritten { IfErr result (λ e. IsTrue (is_no_fault e.0) → AtMost 63554 0 1 (D.medium device).calls (D.medium e.1).calls) }
+    ensures unwritten { IfErr result (λ e. IsTrue (is_no_fault e.0) → AtMost 587842 0 1 (D.medium device).calls (D.medium e.1).calls) }
     ensures settled { IsTrue (D.medium device).lasting.tells → IsDeviceSize (D.medium device).size → IfErr result (λ e. IsTrue (is_no_fault e.0)
         → Becomes (synced (disk (D.medium device))) (D.medium device).history (D.medium e.1).history) }
     ensures begins { IsDeviceSize (D.medium device).size → MatchResult result
@@ -321,14 +319,16 @@ pub fn recover<A: Allocator + Clone, D: Device>(
         (λ e. (D.medium e.1).calls.faults ≡ faults_after (is_no_fault e.0) (D.medium device).calls.faults) }
     ensures stops { IfErr result (λ e. e.0 ≡ Refusal.Io → IsTrue (D.medium e.1).calls.last_faulted) }
 
-    // Of the tables it reads no data block: at most so much is read as the root, footer, index and filter of each, and the log
-    // regions are. After Ok these are the tables of any device; an Err is so of one that tells what it holds.
-    ensures reads { MatchResult result
-        (λ r. AtMost (sectors_read r.regions.log_sectors r.records.items) 38 3 (D.medium device).calls (D.medium r.device).calls)
-        (λ e. IsTrue (D.medium device).lasting.tells → AtMost (sectors_read_by (root_of (seen (disk (D.medium device))))) 38 3 (D.medium device).calls (D.medium e.1).calls) }
+    // Of the tables it reads footer, index and filter, and data blocks only of those whose records tell no deletes: in version 1
+    // of the format each once, to count them, and in version 2 none. So it is of a device that tells what it holds, whatever is
+    // answered. Of another device it is known after Ok that it reads at most all these blocks of the tables that are answered.
+    ensures reads { IsTrue (D.medium device).lasting.tells → MatchResult result
+        (λ r. AtMost (sectors_read_by (root_of (seen (disk (D.medium device))))) 42 3 (D.medium device).calls (D.medium r.device).calls)
+        (λ e. AtMost (sectors_read_by (root_of (seen (disk (D.medium device))))) 42 3 (D.medium device).calls (D.medium e.1).calls) }
+    ensures most { IfOk result (λ r. AtMost (sectors_read_most r.regions.log_sectors r.records.items) 42 3 (D.medium device).calls (D.medium r.device).calls) }
     ensures calls { MatchResult result
-        (λ r. AtMost 63554 38 3 (D.medium device).calls (D.medium r.device).calls)
-        (λ e. AtMost 63554 38 3 (D.medium device).calls (D.medium e.1).calls) }
+        (λ r. AtMost 587842 42 3 (D.medium device).calls (D.medium r.device).calls)
+        (λ e. AtMost 587842 42 3 (D.medium device).calls (D.medium e.1).calls) }
     ensures same_size { MatchResult result (λ r. (D.medium r.device).size ≡ (D.medium device).size) (λ e. (D.medium e.1).size ≡ (D.medium device).size) }
     ensures same_lasting { MatchResult result (λ r. (D.medium r.device).lasting ≡ (D.medium device).lasting) (λ e. (D.medium e.1).lasting ≡ (D.medium device).lasting) }
 {

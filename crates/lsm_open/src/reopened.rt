@@ -1,6 +1,7 @@
 // The log of the next generation is opened.
 ghost use Rattle.std.specs.Prelude.{Option, ◌≡◌, ◌≢◌, ◌⊎◌, ◌<◌, ◌≤◌, ◌^◌, ◌+◌, [], IsTrue, IfOk, OnOk, IfErr, option_map};
-ghost use Rattle.lsm_codec.specs.Manifests.{IsManifest, sector_count};
+ghost use Rattle.lsm_codec.specs.Manifests.{IsManifestOf, sector_count};
+ghost use Rattle.lsm_codec.specs.declared.superblock.FormatVersion.TheVariants.{Two};
 ghost use Rattle.lsm_device.specs.Calls.{faults_after, AtMost};
 ghost use Rattle.lsm_device.specs.History.{EachSince};
 ghost use Rattle.lsm_device.specs.Medium.{disk};
@@ -97,7 +98,7 @@ pub(crate) fn reopen<A: Allocator + Clone, D: Device>(
     count: u64,
 ) -> Result<Regions<A>, Refusal>
     requires geometry { IsGeometry (D.medium device.old).size loaded.now.log_sectors }
-    requires fits { IsManifest loaded.now.manifest }
+    requires fits { IsManifestOf Two loaded.now.manifest }
     requires inside { LieInside (D.medium device.old).size loaded.now.log_sectors loaded.now.manifest.tables }
     requires has_next { loaded.now.manifest.generation ≢ last_number }
     requires come { HasCome loaded.now.manifest count closed.items [] }
@@ -117,7 +118,7 @@ pub(crate) fn reopen<A: Allocator + Clone, D: Device>(
     // Unless a call of it failed, the device wasn't called.
     ensures untouched { IfErr result (λ refusal. IsTrue (is_no_fault refusal) → device.new ≡ device.old) }
     ensures made { OnOk result (CallsMade (sector_count (next_contents loaded.now.manifest closed.items count) + 1) 2 (D.medium device.old).calls (D.medium device.new).calls) }
-    ensures calls { AtMost 0 38 2 (D.medium device.old).calls (D.medium device.new).calls }
+    ensures calls { AtMost 0 42 2 (D.medium device.old).calls (D.medium device.new).calls }
     ensures faults { (D.medium device.new).calls.faults ≡ faults_after (faultless result) (D.medium device.old).calls.faults }
     ensures stops { IfErr result (λ refusal. refusal ≡ Refusal.Io → IsTrue (D.medium device.new).calls.last_faulted) }
     ensures same_size { (D.medium device.new).size ≡ (D.medium device.old).size }

@@ -3,7 +3,8 @@ ghost use Rattle.std.specs.Prelude.{◌≡◌, ◌⊎◌, ◌≤◌, ◌<◌, �
 ghost use Rattle.std.specs.List.{flat_map};
 ghost use Rattle.lsm_cache.specs.Reads.{block_at};
 ghost use Rattle.lsm_codec.specs.Geometry.{data_blocks_of};
-ghost use Rattle.lsm_codec.specs.Manifests.{IsManifest};
+ghost use Rattle.lsm_codec.specs.Manifests.{IsManifestOf};
+ghost use Rattle.lsm_codec.specs.declared.superblock.FormatVersion.TheVariants.{Two};
 ghost use Rattle.lsm_codec.specs.Pairs.{Pairwise};
 ghost use Rattle.lsm_codec.specs.TableRecords.{HasRuns, AreApart, extent_end};
 ghost use Rattle.lsm_codec.specs.Versions.{Version};
@@ -32,7 +33,7 @@ use std::alloc::{AllocError, Allocator};
 const BLOCK_BYTES: usize = 4_096;
 
 // The first sector of the data area.
-fn data_area(log_sectors: u16) -> u32
+pub(crate) fn data_area(log_sectors: u16) -> u32
     requires { log_sectors ≤ 2048 }
     ensures { result ≡ first_data log_sectors }
 {
@@ -40,7 +41,7 @@ fn data_area(log_sectors: u16) -> u32
 }
 
 // Reads a block of the data area.
-fn read_data_block<D: Device>(
+pub(crate) fn read_data_block<D: Device>(
     device: &mut D,
     area: u32,
     block: u32,
@@ -104,7 +105,7 @@ fn read_described<A: Allocator + Clone, D: Device>(
     Ok(index)
 }
 
-// Opens the table of a record, as a table with these versions.
+// Opens the table of a record, as a table with these versions. `BadTable` where the record tells no deletes.
 fn read_table<A: Allocator + Clone, D: Device>(
     alloc: &A,
     device: &mut D,
@@ -122,10 +123,13 @@ fn read_table<A: Allocator + Clone, D: Device>(
     ensures device { ReadsBlocks (listed.index_blocks + 2) (faultless result) (D.medium device.old) (D.medium device.new) }
 {
     outline_law();
+    let Some(deletes) = listed.deletes else {
+        return Err(Refusal::BadTable);
+    };
     let mut footer = [0; 4_096];
     let mut filter = [0; 4_096];
     let index = read_described(alloc, device, log_sectors, listed, &mut footer, &mut filter)?;
-    Ok(PlacedTable::open(alloc.clone()?, listed, &footer, &index, &filter)?)
+    Ok(PlacedTable::open(alloc.clone()?, listed, deletes, &footer, &index, &filter)?)
 }
 
 // Opens the tables of these records, one after the other.
@@ -309,7 +313,7 @@ pub fn read_tables<A: Allocator + Clone, D: Device>(
     manifest: &Manifest<A>,
 ) -> Result<TablesRead<A>, Refusal>
     requires geometry { IsGeometry (D.medium device.old).size log_sectors }
-    requires fits { IsManifest manifest.now }
+    requires fits { IsManifestOf Two manifest.now }
     requires inside { LieInside (D.medium device.old).size log_sectors manifest.now.tables }
 
     // Of any sectors: Ok exactly where each table is told and each run is one, with just these levels; BadTable exactly where

@@ -1,6 +1,6 @@
 //! Devices whose root names tables.
 use crate::devices::{LOG_SECTORS, SECTORS, VALUE, formatted, key_of};
-use lsm_codec::{Entry, Manifest, Superblock, TableRecord};
+use lsm_codec::{Entry, FormatVersion, Manifest, Superblock, TableRecord};
 use lsm_device::{Device, MemDevice, Refusal};
 use lsm_table::Image;
 use std::alloc::Global;
@@ -85,6 +85,7 @@ fn write_root(alloc: Global, device: &mut MemDevice, manifest: &Manifest) -> Res
         return Err(Refusal::TooManyTables);
     }
     let superblock = Superblock {
+        version: FormatVersion::Two,
         generation: manifest.generation(),
         sectors: SECTORS,
         log_sectors: LOG_SECTORS,

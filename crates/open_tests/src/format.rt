@@ -12,7 +12,7 @@ use std::process::Abort;
 const ONES: [u8; 512] = [0xff; 512];
 
 /// The superblock and the manifest of generation 1 on 8,192 sectors with log regions of 128.
-const SUPERBLOCK: &str = "4c534d53000100000000000000010000200000800001";
+const SUPERBLOCK: &str = "4c534d53000200000000000000010000200000800001";
 
 const MANIFEST: &str = "4c534d4d00000000000000010000000000000000000000000000000100000000";
 

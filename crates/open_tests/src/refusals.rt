@@ -33,8 +33,8 @@ fn with_byte<R: Abort>(rt: &R, alloc: Global, at: u32, place: usize, byte: u8) -
 
 #[test]
 fn damaged_superblocks(rt: HostRuntime) {
-    // The magic, and the generation in sector 0 where sector 1 has 1.
-    for (place, byte) in [(0, 0), (13, 4)] {
+    // The magic, versions that aren't, and in sector 0 the generation where sector 1 has 1, and version 1 where that has 2.
+    for (place, byte) in [(0, 0), (5, 0), (5, 3), (13, 4), (5, 1)] {
         let device = with_byte(&rt, rt.alloc(), 0, place, byte);
         let is_refused = is_refused_with(&rt, rt.alloc(), device, Refusal::BadSuper);
         assert!(rt; is_refused, "{place}");

@@ -8,7 +8,7 @@ use std::alloc::Global;
 use std::process::Abort;
 
 /// The superblock of generation 2 on 8,192 sectors with log regions of 128.
-const SUPERBLOCK: &str = "4c534d53000100000000000000020000200000800001";
+const SUPERBLOCK: &str = "4c534d53000200000000000000020000200000800001";
 
 /// The manifest of generation 2, with a log in region 0.
 const MANIFEST: &str =

@@ -1,7 +1,7 @@
 //! Openings that are stopped within, and opened again.
 
 use crate::devices::{SECTORS, crash};
-use crate::images::with_four;
+use crate::images::{with_four, with_four_old};
 use crate::largest::{is_many, with_many};
 use crate::subject::{Subject, opened, opening};
 use lsm_device::{MemDevice, Refusal};
@@ -85,7 +85,7 @@ fn has_four_again<R: Abort>(rt: &R, alloc: Global, stops: [Stop; 2]) -> bool {
     store.is_four(generation) && store.finds_its_keys(alloc) == Ok(true)
 }
 
-/// Whether 28 tables and the batch are there after two openings that were stopped. Their manifest has 570 bytes.
+/// Whether 28 tables and the batch are there after two openings that were stopped. Their manifest has 626 bytes.
 fn has_many_again<R: Abort>(rt: &R, alloc: Global, stops: [Stop; 2]) -> bool {
     let device = with_many(rt, alloc, SECTORS, 12, 28);
     let (store, generation) = reopened(rt, alloc, device, 2, stops);
@@ -109,6 +109,26 @@ fn stopped_at_each_change_and_once_more(rt: HostRuntime) {
         for second in [(2, 2), (3, 1), (5, 1)] {
             let stops = [(first as u64 / 4, first % 4), second];
             assert!(rt; has_many_again(&rt, rt.alloc(), stops), "{stops:?}");
+        }
+    }
+}
+
+/// Whether the four tables, of version 1 of the format at first, and the batch are there after two openings that were stopped,
+/// and each record tells that its table has no delete.
+fn has_four_counted<R: Abort>(rt: &R, alloc: Global, stops: [Stop; 2]) -> bool {
+    let (mut store, generation) = reopened(rt, alloc, with_four_old(rt, alloc), 1, stops);
+    store.is_four(generation) && store.finds_its_keys(alloc) == Ok(true)
+}
+
+#[test]
+fn an_old_image_stopped_at_each_change_and_once_more(rt: HostRuntime) {
+    for first in 0..12u8 {
+        for second in 0..12u8 {
+            let stops = [
+                (first as u64 / 2, first % 2),
+                (second as u64 / 2, second % 2),
+            ];
+            assert!(rt; has_four_counted(&rt, rt.alloc(), stops), "{stops:?}");
         }
     }
 }

@@ -75,15 +75,15 @@ fn tables_that_are_none(rt: HostRuntime) {
             assert!(rt; is_refused, "{what} of {table}");
         }
     }
-    // The last of the four records begins at byte 103: number, level, run, first block, data blocks, index blocks, entries.
+    // The last of the four records begins at byte 109: number, level, run, first block, data blocks, index blocks, entries.
     let records: [(&str, usize, u8); 7] = [
-        ("another number", 110, 0),
-        ("another data block", 117, 2),
-        ("another index block", 118, 2),
-        ("another entry", 120, 3),
-        ("more entries", 119, 1),
-        ("the block behind the first", 116, 13),
-        ("an extent of zeros", 116, 20),
+        ("another number", 116, 0),
+        ("another data block", 123, 2),
+        ("another index block", 124, 2),
+        ("another entry", 126, 3),
+        ("more entries", 125, 1),
+        ("the block behind the first", 122, 13),
+        ("an extent of zeros", 122, 20),
     ];
     for (what, place, byte) in records {
         let is_refused = is_no_table(&rt, rt.alloc(), &[(MANIFEST, place, byte)]);
@@ -110,7 +110,7 @@ fn blocks_of_zeros_and_of_another_table(rt: HostRuntime) {
         }
     }
     // The extents of the last two tables, each in the other's place.
-    let exchanged = [(MANIFEST, 98, 12), (MANIFEST, 116, 8)];
+    let exchanged = [(MANIFEST, 102, 12), (MANIFEST, 122, 8)];
     assert!(rt; is_no_table(&rt, rt.alloc(), &exchanged));
 }
 

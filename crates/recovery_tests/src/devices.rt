@@ -36,6 +36,23 @@ pub(crate) fn put_byte<R: Abort>(rt: &R, device: &mut MemDevice, at: u32, place:
     device.write(at, &bytes).expect(rt, "a write");
 }
 
+/// A sector that begins with these bytes, in hex, and goes on with zeros.
+pub(crate) fn sector_of<R: Abort>(rt: &R, text: &str) -> [u8; 512] {
+    let mut sector = [0; 512];
+    let bytes = text.len() / 2;
+    assert!(rt; bytes <= 512);
+    decode_to_slice(text, &mut sector[..bytes]).expect(rt, "hex");
+    sector
+}
+
+/// Whether a sector has these bytes.
+pub(crate) fn holds<R: Abort>(rt: &R, device: &mut MemDevice, at: u32, bytes: &[u8; 512]) -> bool {
+    assert!(rt; at < device.sectors());
+    let mut found = [0; 512];
+    device.read(at, &mut found).expect(rt, "a read");
+    found == *bytes
+}
+
 /// Puts a text of whole sectors into those from one on.
 pub(crate) fn put_text<R: Abort>(rt: &R, device: &mut MemDevice, first: u32, text: &[u8]) {
     let mut at = first;
@@ -49,8 +66,7 @@ pub(crate) fn put_text<R: Abort>(rt: &R, device: &mut MemDevice, first: u32, tex
 
 /// The log sector of a batch of epoch 2 that puts 62 = 32.
 fn log_sector<R: Abort>(rt: &R, number: u64) -> [u8; 512] {
-    let mut sector = [0; 512];
-    decode_to_slice(BATCH, &mut sector[..40]).expect(rt, "hex");
+    let mut sector = sector_of(rt, BATCH);
     sector[12..20].copy_from_slice(&number.to_be_bytes());
     sector[36] = 0x62;
     sector[39] = 0x32;

@@ -1,7 +1,9 @@
 //! Devices whose roots name tables.
 
-use crate::devices::{DATA, LOG_SECTORS, SECTORS, crash, formatted, log, put, put_text, sync};
-use lsm_codec::{Entry, LogRecord, Manifest, Superblock, TableRecord, VersionRef};
+use crate::devices::{
+    DATA, LOG_SECTORS, SECTORS, crash, formatted, log, put, put_byte, put_text, sync,
+};
+use lsm_codec::{Entry, FormatVersion, LogRecord, Manifest, Superblock, TableRecord, VersionRef};
 use lsm_device::{Device, MemDevice};
 use lsm_table::Image;
 use std::alloc::Global;
@@ -106,10 +108,20 @@ fn one_log<R: Abort>(rt: &R, alloc: Global, base: u8) -> Vec<LogRecord> {
     logs
 }
 
+/// The version of the format that a manifest is written in: the first where each of its records leaves the deletes out.
+fn version_of(manifest: &Manifest) -> FormatVersion {
+    if !manifest.tables().is_empty() && manifest.is_of_version(FormatVersion::One) {
+        FormatVersion::One
+    } else {
+        FormatVersion::Two
+    }
+}
+
 /// Puts the root of a manifest into its sectors.
 fn put_manifest<R: Abort>(rt: &R, alloc: Global, device: &mut MemDevice, manifest: &Manifest) {
     assert!(rt; manifest.logs().len() <= 3 && manifest.tables().len() <= 1_024);
     let superblock = Superblock {
+        version: version_of(manifest),
         generation: manifest.generation(),
         sectors: device.sectors(),
         log_sectors: LOG_SECTORS,
@@ -151,4 +163,16 @@ pub(crate) fn with_tables<R: Abort>(rt: &R, alloc: Global, tables: Tables) -> Me
 /// The small device with the four tables.
 pub(crate) fn with_four<R: Abort>(rt: &R, alloc: Global) -> MemDevice {
     with_tables(rt, alloc, FOUR)
+}
+
+/// The four tables in version 1 of the format, whose records leave the deletes out. So is the superblock before.
+pub(crate) fn with_four_old<R: Abort>(rt: &R, alloc: Global) -> MemDevice {
+    let mut device = formatted(rt, alloc, SECTORS);
+    put_byte(rt, &mut device, 1, 5, 1);
+    let (runs, base, listed) = FOUR;
+    let mut records = add_tables(rt, alloc, &mut device, listed);
+    for record in &mut records {
+        record.deletes = None;
+    }
+    with_root(rt, alloc, device, runs, base, records)
 }

@@ -61,9 +61,9 @@ pub(crate) fn is_many<R: Abort>(
 /// The sectors of a device whose data area has 4,096 blocks: those of 1,024 tables.
 const SECTORS: u32 = DATA + 8 * 4_096;
 
-/// The reads of the first opening: two superblocks; 37 sectors of manifest, of 32 bytes, 17 for a log and 18 for each table;
+/// The reads of the first opening: two superblocks; 41 sectors of manifest, of 32 bytes, 17 for a log and 20 for each table;
 /// filter, index and footer of each table; two sectors of the log. It writes the manifest and a superblock.
-const CALLS: (u64, u64, u64) = (2 + 37 + 1_024 * 3 * 8 + 2, 38, 3);
+const CALLS: (u64, u64, u64) = (2 + 41 + 1_024 * 3 * 8 + 2, 42, 3);
 
 /// Whether the first key, those at the ends of level 0, and the last one are found, and none behind it.
 fn finds_keys(store: &mut Subject, alloc: Global) -> bool {

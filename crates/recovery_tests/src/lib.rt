@@ -18,6 +18,8 @@ mod jobs;
 #[cfg(test)]
 mod largest;
 #[cfg(test)]
+mod old;
+#[cfg(test)]
 mod openings;
 #[cfg(test)]
 mod roots;

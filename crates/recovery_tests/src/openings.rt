@@ -7,7 +7,7 @@ use crate::subject::opened;
 /// What an opening of the four tables answers: the generation, and the reads, writes and syncs that it makes.
 type Opening = (u64, (u64, u64, u64));
 
-/// Each opening reads two superblocks and a sector of manifest (32 bytes, 17 for a log and 18 for a table); of each table
+/// Each opening reads two superblocks and a sector of manifest (32 bytes, 17 for a log and 20 for a table); of each table
 /// filter, index and footer, a block of eight sectors each; and of region 0 the sector of the batch and the one behind it,
 /// which holds none. The second one reads the first sector of region 1 too, which the manifest of the first one lists. Each
 /// writes a manifest and a superblock, and syncs at first and behind both.

@@ -20,9 +20,9 @@ type Two = (usize, u8, usize, u8);
 #[test]
 fn manifests_that_are_none(rt: HostRuntime) {
     // Magic, generation, base, next number, and the counts of log records, of runs and of table records take 32 bytes. A log
-    // record of 17 follows: region, epoch and first batch. Each of the four table records has 18: number, level, run, first
-    // block, data blocks, index blocks and entries. The text ends at byte 121.
-    let cases: [(&str, usize, u8); 27] = [
+    // record of 17 follows: region, epoch and first batch. Each of the four table records has 20: number, level, run, first
+    // block, data blocks, index blocks, entries and deletes. The text ends at byte 129.
+    let cases: [(&str, usize, u8); 28] = [
         ("the magic", 0, 0),
         ("another generation", 11, 3),
         ("a base behind the first batch", 19, 4),
@@ -38,18 +38,19 @@ fn manifests_that_are_none(rt: HostRuntime) {
         ("an epoch above the generation", 40, 3),
         ("a first batch that isn't the next", 48, 5),
         ("the first extent ends in the second", 63, 2),
-        ("the second extent begins in the first", 80, 3),
-        ("one extent twice", 116, 8),
-        ("an extent behind the data area", 114, 1),
-        ("a level above the last", 111, 5),
-        ("a number twice", 74, 1),
-        ("the next number", 110, 5),
-        ("no data block", 117, 0),
-        ("more data blocks than a table has", 117, 65),
-        ("no index block", 118, 0),
-        ("more index blocks than a table has", 118, 6),
-        ("no entry", 120, 0),
-        ("a byte behind the text", 121, 1),
+        ("the second extent begins in the first", 82, 3),
+        ("one extent twice", 122, 8),
+        ("an extent behind the data area", 120, 1),
+        ("a level above the last", 117, 5),
+        ("a number twice", 76, 1),
+        ("the next number", 116, 5),
+        ("no data block", 123, 0),
+        ("more data blocks than a table has", 123, 65),
+        ("no index block", 124, 0),
+        ("more index blocks than a table has", 124, 6),
+        ("no entry", 126, 0),
+        ("more deletes than entries", 128, 3),
+        ("a byte behind the text", 129, 1),
     ];
     for (what, place, byte) in cases {
         let is_refused = is_no_manifest(&rt, rt.alloc(), &[(MANIFEST, place, byte)]);
@@ -58,13 +59,13 @@ fn manifests_that_are_none(rt: HostRuntime) {
     let pairs: [(&str, Two); 6] = [
         (
             "an extent that ends behind the data area",
-            (115, 3, 116, 188),
+            (121, 3, 122, 188),
         ),
-        ("a run that is left out", (29, 3, 76, 2)),
-        ("the later run first", (58, 1, 76, 0)),
-        ("the later level first", (57, 1, 75, 0)),
-        ("a run in level 1", (94, 1, 112, 1)),
-        ("more entries than a table has", (119, 12, 120, 129)),
+        ("a run that is left out", (29, 3, 78, 2)),
+        ("the later run first", (58, 1, 78, 0)),
+        ("the later level first", (57, 1, 77, 0)),
+        ("a run in level 1", (98, 1, 118, 1)),
+        ("more entries than a table has", (125, 12, 126, 129)),
     ];
     for (what, (first, byte, second, other)) in pairs {
         let changes = [(MANIFEST, first, byte), (MANIFEST, second, other)];

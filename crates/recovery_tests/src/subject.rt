@@ -20,6 +20,7 @@ fn record(number: u64, level: u8, run: u8, first_block: u32, entries: u16) -> Ta
         data_blocks: 1,
         index_blocks: 1,
         entries,
+        deletes: Some(0),
     }
 }
 

@@ -18,7 +18,7 @@ returns-then-not-is_device_size-clause-image g c = λ n left t is.
     absurd (false≢true (sym c.if-not-is_device_size.true ∙ c.is_device_size.ensures.1 (subst IsDeviceSize (sym c.sectors.ensures) fair)))
 
 pub returns-then-not-is_device_size-clause-device : goal.returns-then-not-is_device_size-clause-device
-returns-then-not-is_device_size-clause-device g c = reads_none 593986 _
+returns-then-not-is_device_size-clause-device g c = reads_none 1118274 _
 
 pub returns-in_err-report-clause-image : goal.returns-in_err-report-clause-image
 returns-in_err-report-clause-image g c = λ n left t is.

@@ -5,15 +5,18 @@ use Rattle.lsm_device.specs.Disk.{Disk, seen}
 use Rattle.lsm_device.specs.History.{present}
 use Rattle.lsm_device.specs.Medium.{disk}
 use Rattle.lsm_device.specs.Refusals.{is_no_fault}
+use Rattle.lsm_device.proofs.Counting.{AtMost-joined, AtMost-wider}
 use Rattle.lsm_levels.specs.Levels.{all_tables, places}
 use Rattle.lsm_levels.specs.Stored.{AreWithin}
 use Rattle.lsm_levels.specs.Tables.{versions_of}
+use Rattle.lsm_open.specs.Counting.{all_data, uncounted_by}
 use Rattle.lsm_open.specs.Tables.{first_data}
 use Rattle.lsm_open.proofs.OpeningAnswers.{reads_joined, reads_wider}
+use Rattle.lsm_root.specs.Roots.{root_of}
 use Rattle.lsm_check.specs.Images.{finds_no_fault}
 use Rattle.lsm_check.specs.Sound.{IsTold, AreSound}
 use Rattle.lsm_check.proofs.Checked.{few_tables, levels_told, sound_image, image_sound}
-use Rattle.lsm_check.specs.Counted.{data_blocks_in, data_blocks_named}
+use Rattle.lsm_check.specs.Counted.{data_blocks_in}
 use Rattle.lsm_check.proofs.ReadCounts.{between_zero, between_joined, all_named, read_for_finding}
 use Rattle.lsm_check.proofs.checking.check_all.Goals as goal
 
@@ -27,7 +30,7 @@ check_levels-requires-clause-within g c =
 pub check_levels-requires-clause-few : goal.check_levels-requires-clause-few
 check_levels-requires-clause-few g c =
     let named = c.in_ok-named.ensures.named in
-    few_tables c.in_ok-named.named.loaded.manifest c.in_ok-named.named.tables.levels named.fits named.named
+    few_tables c.in_ok-named.named.loaded.manifest c.in_ok-named.named.tables.levels named.fits.fits named.named
 
 -- ---- a yes
 
@@ -80,15 +83,35 @@ returns-in_err-entries-clause-image g c = λ k left t is.
 pub returns-in_err-named-clause-device : goal.returns-in_err-named-clause-device
 returns-in_err-named-clause-device g c =
     let p = err_from_is_err_and c.from_residual.result c.from_residual.ensures.1 in
-    rw (p.1, p.2) (reads_wider 69698 593986 (is_no_fault c.in_err-named.field-0.0) _ _ (omega arith) c.in_err-named.ensures.device)
+    rw (p.1, p.2) (reads_wider 593986 1118274 (is_no_fault c.in_err-named.field-0.0) _ _ (omega arith) c.in_err-named.ensures.device)
 
 pub returns-in_err-entries-clause-device : goal.returns-in_err-entries-clause-device
 returns-in_err-entries-clause-device g c =
     let p = err_from_is_err_and c.from_residual-in_err-entries.result c.from_residual-in_err-entries.ensures.1 in
-    rw (p.1, p.2) (reads_joined 69698 524288 593986 (finds_no_fault c.in_err-entries.field-0.0) _ _ _ (omega arith) c.in_ok-named.ensures.device c.in_err-entries.ensures.device)
+    rw (p.1, p.2) (reads_joined 593986 524288 1118274 (finds_no_fault c.in_err-entries.field-0.0) _ _ _ (omega arith) c.in_ok-named.ensures.device c.in_err-entries.ensures.device)
 
 pub returns-clause-device : goal.returns-clause-device
-returns-clause-device g c = reads_joined 69698 524288 593986 true _ _ _ (omega arith) c.in_ok-named.ensures.device c.in_ok-entries.ensures.device
+returns-clause-device g c = reads_joined 593986 524288 1118274 true _ _ _ (omega arith) c.in_ok-named.ensures.device c.in_ok-entries.ensures.device
+
+-- ---- what was read at most, by the root
+
+pub returns-in_err-named-clause-reads : goal.returns-in_err-named-clause-reads
+returns-in_err-named-clause-reads g c = λ t.
+    let D = g.D.Device in
+    let uncounted = uncounted_by (root_of (seen (disk (D.medium c.args.device.now)))) in
+    AtMost-wider (69698 + 8 * uncounted) 0 0 (593986 + 8 * uncounted) 0 0 _ _ (omega arith) (omega arith) (omega arith) (c.read_named.ensures.reads t)
+
+pub returns-in_err-entries-clause-reads : goal.returns-in_err-entries-clause-reads
+returns-in_err-entries-clause-reads g c = λ t.
+    let D = g.D.Device in
+    let uncounted = uncounted_by (root_of (seen (disk (D.medium c.args.device.now)))) in
+    AtMost-joined (69698 + 8 * uncounted) 0 0 524288 0 0 (593986 + 8 * uncounted) 0 0 _ _ _ (omega arith) (omega arith) (omega arith) (c.read_named.ensures.reads t) c.in_err-entries.ensures.device.calls
+
+pub returns-clause-reads : goal.returns-clause-reads
+returns-clause-reads g c = λ t.
+    let D = g.D.Device in
+    let uncounted = uncounted_by (root_of (seen (disk (D.medium c.args.device.now)))) in
+    AtMost-joined (69698 + 8 * uncounted) 0 0 524288 0 0 (593986 + 8 * uncounted) 0 0 _ _ _ (omega arith) (omega arith) (omega arith) (c.read_named.ensures.reads t) c.in_ok-entries.ensures.device.calls
 
 -- ---- what was read at least
 
@@ -108,7 +131,7 @@ returns-in_err-entries-clause-whole g c =
     rw (p.1, p.2) (read_for_finding old.size old.calls new c.in_err-entries.field-0.0 (record {
       log_sectors = n;
       geometry = c.in_ok-named.ensures.named.geometry;
-      reads = between_joined (3 * n) 69698 0 524288 (3 * n) 593986 old.calls mid new (omega arith) (omega arith) c.in_ok-named.ensures.whole (between_zero 524288 mid new c.in_err-entries.ensures.device.calls);
+      reads = between_joined (3 * n) 593986 0 524288 (3 * n) 1118274 old.calls mid new (omega arith) (omega arith) c.in_ok-named.ensures.whole (between_zero 524288 mid new c.in_err-entries.ensures.device.calls);
     }))
 
 pub returns-clause-whole : goal.returns-clause-whole
@@ -125,10 +148,10 @@ returns-clause-whole g c =
       log_sectors = n;
       manifest = m;
       geometry = named.geometry;
-      fits = named.fits;
+      fits = named.fits.fits;
       generation = r.generation;
       tables = r.tables;
       free_blocks = r.free_blocks old.size named.held;
-      reads = between_joined (3 * n) 69698 (8 * blocks) 524288 (3 * n + 8 * data_blocks_named m.tables) 593986 old.calls (D.medium c.read_named.new.device).calls (D.medium c.check_levels.new.device).calls
+      reads = between_joined (3 * n) 593986 (8 * blocks) 524288 (3 * n + 8 * all_data m.tables) 1118274 old.calls (D.medium c.read_named.new.device).calls (D.medium c.check_levels.new.device).calls
           (omega (arith, all_named m x.levels named.named)) (omega arith) c.in_ok-named.ensures.whole c.in_ok-entries.ensures.whole;
     }

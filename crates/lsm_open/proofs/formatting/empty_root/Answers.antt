@@ -1,5 +1,8 @@
 use Rattle.std.proofs.Common.{◌≡◌, ◌∙◌, List, [], ap, subst, sym}
-use Rattle.lsm_codec.specs.Manifests.{Contents, IsManifest}
+use Rattle.std.proofs.lemmas.List.Elements.{All-nil}
+use Rattle.lsm_codec.specs.Manifests.{Contents, IsManifestOf}
+use Rattle.lsm_codec.specs.TableRecords.{IsOfVersion}
+use Rattle.lsm_codec.specs.declared.superblock.FormatVersion.TheVariants.{Two}
 use Rattle.lsm_codec.specs.declared.log_record.LogRecord.{LogRecord}
 use Rattle.lsm_codec.specs.declared.table_record.TableRecord.{TableRecord}
 use Rattle.lsm_open.specs.Formatted.{empty_manifest}
@@ -15,7 +18,7 @@ pub prepare-requires-clause-valid : goal.prepare-requires-clause-valid
 prepare-requires-clause-valid g c = λ low.
     let manifest : c.new-manifest.result ≡ empty_manifest =
     c.new-manifest.ensures ∙ ap (λ (logs : List LogRecord). with_records logs c.new-tables.result.items) c.new-logs.ensures.items ∙ ap (with_records []) c.new-tables.ensures.items in
-    subst IsManifest (sym manifest) empty_is_manifest
+    subst (IsManifestOf Two) (sym manifest) (record { fits = empty_is_manifest; records = All-nil (IsOfVersion Two) })
 
 pub prepare-requires-clause-inside : goal.prepare-requires-clause-inside
 prepare-requires-clause-inside g c = λ low. none_elsewhere c.args.sectors c.args.log_sectors _ (ap (λ (m : Contents). m.tables) c.new-manifest.ensures ∙ c.new-tables.ensures.items)

@@ -19,11 +19,11 @@ install-requires g c = record { same_device = c.zero_front.ensures.same_size ∙
 
 pub returns-in_err-install-clause-counts : goal.returns-in_err-install-clause-counts
 returns-in_err-install-clause-counts g c =
-    AtMost-joined 0 (130 + 3 * c.args.log_sectors) 1 0 38 2 0 (168 + 3 * c.args.log_sectors) 3 _ _ _ (omega arith) (omega arith) (omega arith) c.zero_front.ensures.counts c.install.ensures.counts
+    AtMost-joined 0 (130 + 3 * c.args.log_sectors) 1 0 42 2 0 (172 + 3 * c.args.log_sectors) 3 _ _ _ (omega arith) (omega arith) (omega arith) c.zero_front.ensures.counts c.install.ensures.counts
 
 pub returns-clause-counts : goal.returns-clause-counts
 returns-clause-counts g c =
-    AtMost-joined 0 (130 + 3 * c.args.log_sectors) 1 0 38 2 0 (168 + 3 * c.args.log_sectors) 3 _ _ _ (omega arith) (omega arith) (omega arith) c.zero_front.ensures.counts c.install.ensures.counts
+    AtMost-joined 0 (130 + 3 * c.args.log_sectors) 1 0 42 2 0 (172 + 3 * c.args.log_sectors) 3 _ _ _ (omega arith) (omega arith) (omega arith) c.zero_front.ensures.counts c.install.ensures.counts
 
 pub returns-clause-made : goal.returns-clause-made
 returns-clause-made g c =

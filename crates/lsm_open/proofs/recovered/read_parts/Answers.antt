@@ -14,20 +14,19 @@ use Rattle.lsm_open.specs.LogRegions.{follow_on}
 use Rattle.lsm_open.specs.ReadParts.{ReadsAtMost}
 use Rattle.lsm_open.specs.Reopening.{GoesOn}
 use Rattle.lsm_open.specs.ToldTables.{told_levels, IsRefusedFor, Held, AreThose}
-use Rattle.lsm_open.proofs.OpeningRefusals.{from_load, from_replay}
+use Rattle.lsm_open.proofs.OpeningRefusals.{from_counted, from_replay}
 use Rattle.lsm_device.specs.Medium.{disk}
-use Rattle.lsm_open.proofs.OpenedStores.{named_here, memory_fair, load_fair, replay_fair, keep_fair}
-use Rattle.lsm_device.proofs.Counting.{none_made}
+use Rattle.lsm_open.proofs.OpenedStores.{named_here, memory_fair, replay_fair, keep_fair}
 use Rattle.lsm_open.proofs.OpeningReads.{root_read, tables_read, regions_read, by_root}
-use Rattle.lsm_open.proofs.OpeningAnswers.{load_says, tables_say, replay_says, keep_says, none_says, tables_passed, keep_passed, keep_no_fault, with_told, all_read, all_told, reads_none, reads_ok, reads_err, reads_wider, reads_joined}
+use Rattle.lsm_open.proofs.OpeningAnswers.{tables_say, replay_says, keep_says, none_says, tables_passed, keep_passed, keep_no_fault, with_told, all_read, all_told, reads_ok, reads_err, reads_wider, reads_joined}
 use Rattle.lsm_open.proofs.recovered.read_parts.Goals as goal
 
 -- ---- the refusal
 
 pub returns-in_err-loaded-clause-refusal : goal.returns-in_err-loaded-clause-refusal
 returns-in_err-loaded-clause-refusal g c = λ t.
-    let p = err_from_is_err_and c.from_residual-in_err-loaded.result c.from_residual-in_err-loaded.ensures.1 in
-    rw (p.1, p.2) (load_says _ c.in_err-loaded.field-0.0 (c.in_err-loaded.ensures.loaded t))
+    let p = err_from_is_err_and c.from_residual.result c.from_residual.ensures.1 in
+    rw (p.1, p.2) (c.in_err-loaded.ensures.refusal t)
 
 pub returns-in_err-tables-clause-refusal : goal.returns-in_err-tables-clause-refusal
 returns-in_err-tables-clause-refusal g c = λ t.
@@ -36,7 +35,7 @@ returns-in_err-tables-clause-refusal g c = λ t.
     let k = c.in_ok-loaded.loaded.log_sectors in
     let e = c.in_err-tables.field-0.0 in
     let p = err_from_is_err_and c.from_residual-in_err-tables.result c.from_residual-in_err-tables.ensures.1 in
-    let says = subst (λ (h : List Disk). IsRefusedFor (told_levels k (seen (present h)) m) e) (c.load.ensures.unchanged t) (c.in_err-tables.ensures.told (rw c.load.ensures.same_lasting t)) in
+    let says = subst (λ (h : List Disk). IsRefusedFor (told_levels k (seen (present h)) m) e) (c.load_counted.ensures.device.unchanged t) (c.in_err-tables.ensures.told (rw c.load_counted.ensures.device.same_lasting t)) in
     rw (p.1, p.2) (tables_say _ k m (c.in_ok-loaded.ensures.loaded t) e says)
 
 pub returns-in_err-replayed-clause-refusal : goal.returns-in_err-replayed-clause-refusal
@@ -48,10 +47,10 @@ returns-in_err-replayed-clause-refusal g c = λ t.
     let levels = c.in_ok-tables.tables.levels in
     let e = c.in_err-replayed.field-0.0 in
     let p = err_from_is_err_and c.from_residual-in_err-replayed.result c.from_residual-in_err-replayed.ensures.1 in
-    let t1 : IsTrue (D.medium c.load.new.device).lasting.tells = rw c.load.ensures.same_lasting t in
-    let t2 : IsTrue (D.medium c.read_tables.new.device).lasting.tells = rw (c.read_tables.ensures.same_lasting ∙ c.load.ensures.same_lasting) t in
-    let told : told_levels k (seen (present old)) m ≡ Some levels = subst (λ (h : List Disk). told_levels k (seen (present h)) m ≡ Some levels) (c.load.ensures.unchanged t) (c.in_ok-tables.ensures.told t1) in
-    let says = subst (λ (h : List Disk). ((e ≡ BadManifest) × (follow_on k (seen (present h)) (m.base + 1) m.logs ≡ false)) ⊎ ((e ≡ NoMemory) ⊎ (e ≡ Io))) (c.read_tables.ensures.unchanged t1 ∙ c.load.ensures.unchanged t)
+    let t1 : IsTrue (D.medium c.load_counted.new.device).lasting.tells = rw c.load_counted.ensures.device.same_lasting t in
+    let t2 : IsTrue (D.medium c.read_tables.new.device).lasting.tells = rw (c.read_tables.ensures.same_lasting ∙ c.load_counted.ensures.device.same_lasting) t in
+    let told : told_levels k (seen (present old)) m ≡ Some levels = subst (λ (h : List Disk). told_levels k (seen (present h)) m ≡ Some levels) (c.load_counted.ensures.device.unchanged t) (c.in_ok-tables.ensures.told t1) in
+    let says = subst (λ (h : List Disk). ((e ≡ BadManifest) × (follow_on k (seen (present h)) (m.base + 1) m.logs ≡ false)) ⊎ ((e ≡ NoMemory) ⊎ (e ≡ Io))) (c.read_tables.ensures.unchanged t1 ∙ c.load_counted.ensures.device.unchanged t)
     (with_told _ _ _ _ t2 c.in_err-replayed.ensures.refused) in
     rw (p.1, p.2) (replay_says _ k m (c.in_ok-loaded.ensures.loaded t) levels told e says)
 
@@ -65,10 +64,10 @@ returns-in_err-kept-clause-refusal g c = λ t.
     let r = c.in_ok-replayed.replayed in
     let e = c.in_err-kept.field-0.0 in
     let p = err_from_is_err_and c.from_residual-in_err-kept.result c.from_residual-in_err-kept.ensures.1 in
-    let t1 : IsTrue (D.medium c.load.new.device).lasting.tells = rw c.load.ensures.same_lasting t in
-    let t2 : IsTrue (D.medium c.read_tables.new.device).lasting.tells = rw (c.read_tables.ensures.same_lasting ∙ c.load.ensures.same_lasting) t in
-    let told : told_levels k (seen (present old)) m ≡ Some levels = subst (λ (h : List Disk). told_levels k (seen (present h)) m ≡ Some levels) (c.load.ensures.unchanged t) (c.in_ok-tables.ensures.told t1) in
-    let goes : GoesOn k (seen (present old)) m r [] = subst (λ (h : List Disk). GoesOn k (seen (present h)) m r []) (c.read_tables.ensures.unchanged t1 ∙ c.load.ensures.unchanged t) (c.in_ok-replayed.ensures.replayed t2) in
+    let t1 : IsTrue (D.medium c.load_counted.new.device).lasting.tells = rw c.load_counted.ensures.device.same_lasting t in
+    let t2 : IsTrue (D.medium c.read_tables.new.device).lasting.tells = rw (c.read_tables.ensures.same_lasting ∙ c.load_counted.ensures.device.same_lasting) t in
+    let told : told_levels k (seen (present old)) m ≡ Some levels = subst (λ (h : List Disk). told_levels k (seen (present h)) m ≡ Some levels) (c.load_counted.ensures.device.unchanged t) (c.in_ok-tables.ensures.told t1) in
+    let goes : GoesOn k (seen (present old)) m r [] = subst (λ (h : List Disk). GoesOn k (seen (present h)) m r []) (c.read_tables.ensures.unchanged t1 ∙ c.load_counted.ensures.device.unchanged t) (c.in_ok-replayed.ensures.replayed t2) in
     rw (p.1, p.2) (keep_says _ k m (c.in_ok-loaded.ensures.loaded t) levels told goes.follows e c.in_err-kept.ensures.refused)
 
 pub returns-clause-refusal : goal.returns-clause-refusal
@@ -79,18 +78,18 @@ returns-clause-refusal g c = λ t.
     let k = c.in_ok-loaded.loaded.log_sectors in
     let levels = c.in_ok-tables.tables.levels in
     let r = c.in_ok-replayed.replayed in
-    let t1 : IsTrue (D.medium c.load.new.device).lasting.tells = rw c.load.ensures.same_lasting t in
-    let t2 : IsTrue (D.medium c.read_tables.new.device).lasting.tells = rw (c.read_tables.ensures.same_lasting ∙ c.load.ensures.same_lasting) t in
-    let told : told_levels k (seen (present old)) m ≡ Some levels = subst (λ (h : List Disk). told_levels k (seen (present h)) m ≡ Some levels) (c.load.ensures.unchanged t) (c.in_ok-tables.ensures.told t1) in
-    let goes : GoesOn k (seen (present old)) m r [] = subst (λ (h : List Disk). GoesOn k (seen (present h)) m r []) (c.read_tables.ensures.unchanged t1 ∙ c.load.ensures.unchanged t) (c.in_ok-replayed.ensures.replayed t2) in
+    let t1 : IsTrue (D.medium c.load_counted.new.device).lasting.tells = rw c.load_counted.ensures.device.same_lasting t in
+    let t2 : IsTrue (D.medium c.read_tables.new.device).lasting.tells = rw (c.read_tables.ensures.same_lasting ∙ c.load_counted.ensures.device.same_lasting) t in
+    let told : told_levels k (seen (present old)) m ≡ Some levels = subst (λ (h : List Disk). told_levels k (seen (present h)) m ≡ Some levels) (c.load_counted.ensures.device.unchanged t) (c.in_ok-tables.ensures.told t1) in
+    let goes : GoesOn k (seen (present old)) m r [] = subst (λ (h : List Disk). GoesOn k (seen (present h)) m r []) (c.read_tables.ensures.unchanged t1 ∙ c.load_counted.ensures.device.unchanged t) (c.in_ok-replayed.ensures.replayed t2) in
     none_says _ k m (c.in_ok-loaded.ensures.loaded t) levels told goes.follows c.in_ok-kept.ensures.has_next
 
 -- ---- which refusals
 
 pub returns-in_err-loaded-clause-refused : goal.returns-in_err-loaded-clause-refused
 returns-in_err-loaded-clause-refused g c =
-    let p = err_from_is_err_and c.from_residual-in_err-loaded.result c.from_residual-in_err-loaded.ensures.1 in
-    rw (p.1, p.2) (inr (from_load c.in_err-loaded.field-0.0 c.in_err-loaded.ensures.refused))
+    let p = err_from_is_err_and c.from_residual.result c.from_residual.ensures.1 in
+    rw (p.1, p.2) (from_counted c.in_err-loaded.field-0.0 c.in_err-loaded.ensures.refused)
 
 pub returns-in_err-tables-clause-refused : goal.returns-in_err-tables-clause-refused
 returns-in_err-tables-clause-refused g c =
@@ -116,9 +115,9 @@ returns-clause-read g c =
     let k = c.in_ok-kept.kept in
     let r = c.in_ok-replayed.replayed in
     let x = c.in_ok-tables.tables in
-    let size = c.load.ensures.same_size in
+    let size = c.load_counted.ensures.device.same_size in
     all_read (D.medium c.args.device.now).size l.log_sectors r.count k.count l.manifest r.closed.items k.closed.items r.mem (option_map arc_value k.sealed) x.levels c.in_ok-kept.ensures.closed c.in_ok-kept.ensures.count c.in_ok-kept.ensures.sealed
-    x.extents c.in_ok-loaded.ensures.fits.0 c.in_ok-loaded.ensures.fits.1 c.in_ok-loaded.ensures.inside c.in_ok-kept.ensures.has_next c.in_ok-replayed.ensures.come c.in_ok-replayed.ensures.numbered c.in_ok-replayed.ensures.entries c.in_ok-kept.ensures.ordered c.in_ok-tables.ensures.named c.in_ok-tables.ensures.runs
+    x.extents c.in_ok-loaded.ensures.fits.0 c.in_ok-loaded.ensures.fits.1.fits c.in_ok-loaded.ensures.inside c.in_ok-kept.ensures.has_next c.in_ok-replayed.ensures.come c.in_ok-replayed.ensures.numbered c.in_ok-replayed.ensures.entries c.in_ok-kept.ensures.ordered c.in_ok-tables.ensures.named c.in_ok-tables.ensures.runs
     (subst (λ (z : ℕ). AreWithin z (first_data l.log_sectors) (places x.levels)) size c.in_ok-tables.ensures.within) c.in_ok-tables.ensures.outlined c.in_ok-tables.ensures.numbered
     (subst (λ (z : ℕ). Held (data_blocks_of z l.log_sectors) l.manifest.tables x.extents) size c.in_ok-tables.ensures.extents)
 
@@ -132,29 +131,23 @@ returns-clause-told g c = λ t.
     let k = c.in_ok-kept.kept in
     let r = c.in_ok-replayed.replayed in
     let x = c.in_ok-tables.tables in
-    let t1 : IsTrue (D.medium c.load.new.device).lasting.tells = rw c.load.ensures.same_lasting t in
-    let t2 : IsTrue (D.medium c.read_tables.new.device).lasting.tells = rw (c.read_tables.ensures.same_lasting ∙ c.load.ensures.same_lasting) t in
-    let told : told_levels n (seen (present old)) m ≡ Some x.levels = subst (λ (h : List Disk). told_levels n (seen (present h)) m ≡ Some x.levels) (c.load.ensures.unchanged t) (c.in_ok-tables.ensures.told t1) in
-    let goes : GoesOn n (seen (present old)) m r [] = subst (λ (h : List Disk). GoesOn n (seen (present h)) m r []) (c.read_tables.ensures.unchanged t1 ∙ c.load.ensures.unchanged t) (c.in_ok-replayed.ensures.replayed t2) in
+    let t1 : IsTrue (D.medium c.load_counted.new.device).lasting.tells = rw c.load_counted.ensures.device.same_lasting t in
+    let t2 : IsTrue (D.medium c.read_tables.new.device).lasting.tells = rw (c.read_tables.ensures.same_lasting ∙ c.load_counted.ensures.device.same_lasting) t in
+    let told : told_levels n (seen (present old)) m ≡ Some x.levels = subst (λ (h : List Disk). told_levels n (seen (present h)) m ≡ Some x.levels) (c.load_counted.ensures.device.unchanged t) (c.in_ok-tables.ensures.told t1) in
+    let goes : GoesOn n (seen (present old)) m r [] = subst (λ (h : List Disk). GoesOn n (seen (present h)) m r []) (c.read_tables.ensures.unchanged t1 ∙ c.load_counted.ensures.device.unchanged t) (c.in_ok-replayed.ensures.replayed t2) in
     let stored : AreTables n m.base m.tables (seen (present old)) → AreThose n m.base (seen (present old)) m.tables x.levels =
-    subst (λ (h : List Disk). AreTables n m.base m.tables (seen (present h)) → AreThose n m.base (seen (present h)) m.tables x.levels) (c.load.ensures.unchanged t) (c.in_ok-tables.ensures.stored t1) in
+    subst (λ (h : List Disk). AreTables n m.base m.tables (seen (present h)) → AreThose n m.base (seen (present h)) m.tables x.levels) (c.load_counted.ensures.device.unchanged t) (c.in_ok-tables.ensures.stored t1) in
     all_told (D.medium c.args.device.now).size n r.count k.count m r.closed.items k.closed.items r.mem (option_map arc_value k.sealed) x.levels c.in_ok-kept.ensures.closed c.in_ok-kept.ensures.count c.in_ok-kept.ensures.sealed
     (seen (present old)) r refl refl refl (c.in_ok-loaded.ensures.loaded t) (c.in_ok-loaded.ensures.next t) goes told stored
 
 -- ---- the device
 
-pub returns-in_err-clone-clause-device : goal.returns-in_err-clone-clause-device
-returns-in_err-clone-clause-device g c =
-    let p = err_from_is_err_and c.from_residual.result c.from_residual.ensures.1 in
-    rw (p.1, p.2) (reads_none 63554 _)
-
 pub returns-in_err-loaded-clause-device : goal.returns-in_err-loaded-clause-device
 returns-in_err-loaded-clause-device g c =
     let D = g.D.Device in
-    let p = err_from_is_err_and c.from_residual-in_err-loaded.result c.from_residual-in_err-loaded.ensures.1 in
+    let p = err_from_is_err_and c.from_residual.result c.from_residual.ensures.1 in
     let e = c.in_err-loaded.field-0.0 in
-    rw (p.1, p.2) (reads_wider 66 63554 (is_no_fault e) _ _ (omega arith)
-    (reads_err 66 e (D.medium c.args.device.now) (D.medium c.load.new.device) c.load.ensures.counts c.in_err-loaded.ensures.faults c.in_err-loaded.ensures.stops c.load.ensures.unchanged c.load.ensures.same_size c.load.ensures.same_lasting))
+    rw (p.1, p.2) (reads_wider 524354 587842 (is_no_fault e) _ _ (omega arith) c.in_err-loaded.ensures.device)
 
 pub returns-in_err-tables-clause-device : goal.returns-in_err-tables-clause-device
 returns-in_err-tables-clause-device g c =
@@ -162,9 +155,9 @@ returns-in_err-tables-clause-device g c =
     let p = err_from_is_err_and c.from_residual-in_err-tables.result c.from_residual-in_err-tables.ensures.1 in
     let e = c.in_err-tables.field-0.0 in
     let m = c.in_ok-loaded.loaded.manifest in
-    let first = reads_ok 66 (D.medium c.args.device.now) (D.medium c.load.new.device) c.load.ensures.counts c.in_ok-loaded.ensures.faults c.load.ensures.unchanged c.load.ensures.same_size c.load.ensures.same_lasting in
-    let second = reads_err (56 * length m.tables) e (D.medium c.load.new.device) (D.medium c.read_tables.new.device) c.read_tables.ensures.calls c.in_err-tables.ensures.faults c.in_err-tables.ensures.stops c.read_tables.ensures.unchanged c.read_tables.ensures.same_size c.read_tables.ensures.same_lasting in
-    rw (p.1, p.2) (reads_joined 66 (56 * length m.tables) 63554 (is_no_fault e) _ _ _ (omega (arith, c.in_ok-loaded.ensures.fits.1.numbers.tables)) first second)
+    let first = c.in_ok-loaded.ensures.device in
+    let second = reads_err (56 * length m.tables) e (D.medium c.load_counted.new.device) (D.medium c.read_tables.new.device) c.read_tables.ensures.calls c.in_err-tables.ensures.faults c.in_err-tables.ensures.stops c.read_tables.ensures.unchanged c.read_tables.ensures.same_size c.read_tables.ensures.same_lasting in
+    rw (p.1, p.2) (reads_joined 524354 (56 * length m.tables) 587842 (is_no_fault e) _ _ _ (omega (arith, c.in_ok-loaded.ensures.fits.1.fits.numbers.tables)) first second)
 
 pub returns-in_err-replayed-clause-device : goal.returns-in_err-replayed-clause-device
 returns-in_err-replayed-clause-device g c =
@@ -173,11 +166,11 @@ returns-in_err-replayed-clause-device g c =
     let e = c.in_err-replayed.field-0.0 in
     let m = c.in_ok-loaded.loaded.manifest in
     let n = c.in_ok-loaded.loaded.log_sectors in
-    let first = reads_ok 66 (D.medium c.args.device.now) (D.medium c.load.new.device) c.load.ensures.counts c.in_ok-loaded.ensures.faults c.load.ensures.unchanged c.load.ensures.same_size c.load.ensures.same_lasting in
-    let second = reads_ok (56 * length m.tables) (D.medium c.load.new.device) (D.medium c.read_tables.new.device) c.read_tables.ensures.calls c.in_ok-tables.ensures.faults c.read_tables.ensures.unchanged c.read_tables.ensures.same_size c.read_tables.ensures.same_lasting in
+    let first = c.in_ok-loaded.ensures.device in
+    let second = reads_ok (56 * length m.tables) (D.medium c.load_counted.new.device) (D.medium c.read_tables.new.device) c.read_tables.ensures.calls c.in_ok-tables.ensures.faults c.read_tables.ensures.unchanged c.read_tables.ensures.same_size c.read_tables.ensures.same_lasting in
     let third = reads_err (3 * n) e (D.medium c.read_tables.new.device) (D.medium c.replay_regions.new.device) c.replay_regions.ensures.calls c.in_err-replayed.ensures.faults c.in_err-replayed.ensures.stops c.replay_regions.ensures.unchanged c.replay_regions.ensures.same_size c.replay_regions.ensures.same_lasting in
-    rw (p.1, p.2) (reads_joined 57410 (3 * n) 63554 (is_no_fault e) _ _ _ (omega (arith, c.in_ok-loaded.ensures.fits.0.log_high))
-    (reads_joined 66 (56 * length m.tables) 57410 true _ _ _ (omega (arith, c.in_ok-loaded.ensures.fits.1.numbers.tables)) first second) third)
+    rw (p.1, p.2) (reads_joined 581698 (3 * n) 587842 (is_no_fault e) _ _ _ (omega (arith, c.in_ok-loaded.ensures.fits.0.log_high))
+    (reads_joined 524354 (56 * length m.tables) 581698 true _ _ _ (omega (arith, c.in_ok-loaded.ensures.fits.1.fits.numbers.tables)) first second) third)
 
 pub returns-in_err-kept-clause-device : goal.returns-in_err-kept-clause-device
 returns-in_err-kept-clause-device g c =
@@ -186,70 +179,60 @@ returns-in_err-kept-clause-device g c =
     let e = c.in_err-kept.field-0.0 in
     let m = c.in_ok-loaded.loaded.manifest in
     let n = c.in_ok-loaded.loaded.log_sectors in
-    let first = reads_ok 66 (D.medium c.args.device.now) (D.medium c.load.new.device) c.load.ensures.counts c.in_ok-loaded.ensures.faults c.load.ensures.unchanged c.load.ensures.same_size c.load.ensures.same_lasting in
-    let second = reads_ok (56 * length m.tables) (D.medium c.load.new.device) (D.medium c.read_tables.new.device) c.read_tables.ensures.calls c.in_ok-tables.ensures.faults c.read_tables.ensures.unchanged c.read_tables.ensures.same_size c.read_tables.ensures.same_lasting in
+    let first = c.in_ok-loaded.ensures.device in
+    let second = reads_ok (56 * length m.tables) (D.medium c.load_counted.new.device) (D.medium c.read_tables.new.device) c.read_tables.ensures.calls c.in_ok-tables.ensures.faults c.read_tables.ensures.unchanged c.read_tables.ensures.same_size c.read_tables.ensures.same_lasting in
     let third = reads_ok (3 * n) (D.medium c.read_tables.new.device) (D.medium c.replay_regions.new.device) c.replay_regions.ensures.calls c.in_ok-replayed.ensures.faults c.replay_regions.ensures.unchanged c.replay_regions.ensures.same_size c.replay_regions.ensures.same_lasting in
-    rw (p.1, p.2) (subst (λ (ok : Bool). ReadsAtMost 63554 ok (D.medium c.args.device.now) (D.medium c.replay_regions.new.device)) (sym (keep_no_fault _ e c.in_err-kept.ensures.refused))
-    (reads_joined 57410 (3 * n) 63554 true _ _ _ (omega (arith, c.in_ok-loaded.ensures.fits.0.log_high))
-    (reads_joined 66 (56 * length m.tables) 57410 true _ _ _ (omega (arith, c.in_ok-loaded.ensures.fits.1.numbers.tables)) first second) third))
+    rw (p.1, p.2) (subst (λ (ok : Bool). ReadsAtMost 587842 ok (D.medium c.args.device.now) (D.medium c.replay_regions.new.device)) (sym (keep_no_fault _ e c.in_err-kept.ensures.refused))
+    (reads_joined 581698 (3 * n) 587842 true _ _ _ (omega (arith, c.in_ok-loaded.ensures.fits.0.log_high))
+    (reads_joined 524354 (56 * length m.tables) 581698 true _ _ _ (omega (arith, c.in_ok-loaded.ensures.fits.1.fits.numbers.tables)) first second) third))
 
 pub returns-clause-device : goal.returns-clause-device
 returns-clause-device g c =
     let D = g.D.Device in
     let m = c.in_ok-loaded.loaded.manifest in
     let n = c.in_ok-loaded.loaded.log_sectors in
-    let first = reads_ok 66 (D.medium c.args.device.now) (D.medium c.load.new.device) c.load.ensures.counts c.in_ok-loaded.ensures.faults c.load.ensures.unchanged c.load.ensures.same_size c.load.ensures.same_lasting in
-    let second = reads_ok (56 * length m.tables) (D.medium c.load.new.device) (D.medium c.read_tables.new.device) c.read_tables.ensures.calls c.in_ok-tables.ensures.faults c.read_tables.ensures.unchanged c.read_tables.ensures.same_size c.read_tables.ensures.same_lasting in
+    let first = c.in_ok-loaded.ensures.device in
+    let second = reads_ok (56 * length m.tables) (D.medium c.load_counted.new.device) (D.medium c.read_tables.new.device) c.read_tables.ensures.calls c.in_ok-tables.ensures.faults c.read_tables.ensures.unchanged c.read_tables.ensures.same_size c.read_tables.ensures.same_lasting in
     let third = reads_ok (3 * n) (D.medium c.read_tables.new.device) (D.medium c.replay_regions.new.device) c.replay_regions.ensures.calls c.in_ok-replayed.ensures.faults c.replay_regions.ensures.unchanged c.replay_regions.ensures.same_size c.replay_regions.ensures.same_lasting in
-    reads_joined 57410 (3 * n) 63554 true _ _ _ (omega (arith, c.in_ok-loaded.ensures.fits.0.log_high))
-    (reads_joined 66 (56 * length m.tables) 57410 true _ _ _ (omega (arith, c.in_ok-loaded.ensures.fits.1.numbers.tables)) first second) third
+    reads_joined 581698 (3 * n) 587842 true _ _ _ (omega (arith, c.in_ok-loaded.ensures.fits.0.log_high))
+    (reads_joined 524354 (56 * length m.tables) 581698 true _ _ _ (omega (arith, c.in_ok-loaded.ensures.fits.1.fits.numbers.tables)) first second) third
 
 -- ---- how often it reads
 
-pub returns-in_err-clone-clause-reads : goal.returns-in_err-clone-clause-reads
-returns-in_err-clone-clause-reads g c =
-    let p = err_from_is_err_and c.from_residual.result c.from_residual.ensures.1 in
-    rw p.1 (λ t. root_read _ _ _ (none_made 66 0 0 _))
-
 pub returns-in_err-loaded-clause-reads : goal.returns-in_err-loaded-clause-reads
-returns-in_err-loaded-clause-reads g c =
-    let p = err_from_is_err_and c.from_residual-in_err-loaded.result c.from_residual-in_err-loaded.ensures.1 in
-    rw p.1 (λ t. root_read _ _ _ c.load.ensures.counts)
+returns-in_err-loaded-clause-reads g c = λ t. root_read _ _ _ (c.load_counted.ensures.reads t)
 
 pub returns-in_err-tables-clause-reads : goal.returns-in_err-tables-clause-reads
-returns-in_err-tables-clause-reads g c =
+returns-in_err-tables-clause-reads g c = λ t.
     let l = c.in_ok-loaded.loaded in
-    let p = err_from_is_err_and c.from_residual-in_err-tables.result c.from_residual-in_err-tables.ensures.1 in
-    rw p.1 (λ t. by_root _ l.log_sectors l.manifest 0 0 _ _ (c.in_ok-loaded.ensures.loaded t) (tables_read l.log_sectors l.manifest.tables _ _ c.load.ensures.counts _ c.read_tables.ensures.reads))
+    by_root _ l.log_sectors l.manifest (c.in_ok-loaded.ensures.loaded t) _ _ (tables_read _ l.log_sectors l.manifest.tables _ _ (c.load_counted.ensures.reads t) _ c.read_tables.ensures.reads)
 
 pub returns-in_err-replayed-clause-reads : goal.returns-in_err-replayed-clause-reads
-returns-in_err-replayed-clause-reads g c =
+returns-in_err-replayed-clause-reads g c = λ t.
     let l = c.in_ok-loaded.loaded in
-    let p = err_from_is_err_and c.from_residual-in_err-replayed.result c.from_residual-in_err-replayed.ensures.1 in
-    rw p.1 (λ t. by_root _ l.log_sectors l.manifest 0 0 _ _ (c.in_ok-loaded.ensures.loaded t) (regions_read l.log_sectors l.manifest.tables _ _ c.load.ensures.counts _ _ c.read_tables.ensures.reads c.replay_regions.ensures.calls))
+    by_root _ l.log_sectors l.manifest (c.in_ok-loaded.ensures.loaded t) _ _ (regions_read _ l.log_sectors l.manifest.tables _ _ (c.load_counted.ensures.reads t) _ _ c.read_tables.ensures.reads c.replay_regions.ensures.calls)
 
 pub returns-in_err-kept-clause-reads : goal.returns-in_err-kept-clause-reads
-returns-in_err-kept-clause-reads g c =
+returns-in_err-kept-clause-reads g c = λ t.
     let l = c.in_ok-loaded.loaded in
-    let p = err_from_is_err_and c.from_residual-in_err-kept.result c.from_residual-in_err-kept.ensures.1 in
-    rw p.1 (λ t. by_root _ l.log_sectors l.manifest 0 0 _ _ (c.in_ok-loaded.ensures.loaded t) (regions_read l.log_sectors l.manifest.tables _ _ c.load.ensures.counts _ _ c.read_tables.ensures.reads c.replay_regions.ensures.calls))
+    by_root _ l.log_sectors l.manifest (c.in_ok-loaded.ensures.loaded t) _ _ (regions_read _ l.log_sectors l.manifest.tables _ _ (c.load_counted.ensures.reads t) _ _ c.read_tables.ensures.reads c.replay_regions.ensures.calls)
 
 pub returns-clause-reads : goal.returns-clause-reads
-returns-clause-reads g c =
+returns-clause-reads g c = λ t.
     let l = c.in_ok-loaded.loaded in
-    regions_read l.log_sectors l.manifest.tables _ _ c.load.ensures.counts _ _ c.read_tables.ensures.reads c.replay_regions.ensures.calls
+    by_root _ l.log_sectors l.manifest (c.in_ok-loaded.ensures.loaded t) _ _ (regions_read _ l.log_sectors l.manifest.tables _ _ (c.load_counted.ensures.reads t) _ _ c.read_tables.ensures.reads c.replay_regions.ensures.calls)
+
+pub returns-clause-most : goal.returns-clause-most
+returns-clause-most g c =
+    let l = c.in_ok-loaded.loaded in
+    regions_read _ l.log_sectors l.manifest.tables _ _ c.in_ok-loaded.ensures.most _ _ c.read_tables.ensures.reads c.replay_regions.ensures.calls
 
 -- ---- fair refusals
 
-pub returns-in_err-clone-clause-fair : goal.returns-in_err-clone-clause-fair
-returns-in_err-clone-clause-fair g c = λ k left t is.
-    let p = err_from_is_err_and c.from_residual.result c.from_residual.ensures.1 in
-    rw (p.1, p.2) tt
-
 pub returns-in_err-loaded-clause-fair : goal.returns-in_err-loaded-clause-fair
 returns-in_err-loaded-clause-fair g c = λ k left t is.
-    let p = err_from_is_err_and c.from_residual-in_err-loaded.result c.from_residual-in_err-loaded.ensures.1 in
-    rw (p.1, p.2) (load_fair k left _ c.in_err-loaded.field-0.0 is (c.in_err-loaded.ensures.loaded t))
+    let p = err_from_is_err_and c.from_residual.result c.from_residual.ensures.1 in
+    rw (p.1, p.2) (memory_fair left c.in_err-loaded.field-0.0 (c.in_err-loaded.ensures.fair k left t is))
 
 pub returns-in_err-tables-clause-fair : goal.returns-in_err-tables-clause-fair
 returns-in_err-tables-clause-fair g c = λ k left t is.
@@ -258,8 +241,8 @@ returns-in_err-tables-clause-fair g c = λ k left t is.
     let n = c.in_ok-loaded.loaded.log_sectors in
     let p = err_from_is_err_and c.from_residual-in_err-tables.result c.from_residual-in_err-tables.ensures.1 in
     let named = named_here k n left m _ is (c.in_ok-loaded.ensures.loaded t) in
-    let there : AreTables n m.base m.tables (seen (disk (D.medium c.load.new.device))) = subst (λ (h : List Disk). AreTables n m.base m.tables (seen (present h))) (sym (c.load.ensures.unchanged t)) named.1.tables in
-    rw (p.1, p.2) (memory_fair left c.in_err-tables.field-0.0 (c.in_err-tables.ensures.stored (rw c.load.ensures.same_lasting t) there))
+    let there : AreTables n m.base m.tables (seen (disk (D.medium c.load_counted.new.device))) = subst (λ (h : List Disk). AreTables n m.base m.tables (seen (present h))) (sym (c.load_counted.ensures.device.unchanged t)) named.1.tables in
+    rw (p.1, p.2) (memory_fair left c.in_err-tables.field-0.0 (c.in_err-tables.ensures.stored (rw c.load_counted.ensures.device.same_lasting t) there))
 
 pub returns-in_err-replayed-clause-fair : goal.returns-in_err-replayed-clause-fair
 returns-in_err-replayed-clause-fair g c = λ k left t is.
@@ -268,10 +251,10 @@ returns-in_err-replayed-clause-fair g c = λ k left t is.
     let n = c.in_ok-loaded.loaded.log_sectors in
     let e = c.in_err-replayed.field-0.0 in
     let p = err_from_is_err_and c.from_residual-in_err-replayed.result c.from_residual-in_err-replayed.ensures.1 in
-    let t1 : IsTrue (D.medium c.load.new.device).lasting.tells = rw c.load.ensures.same_lasting t in
-    let t2 : IsTrue (D.medium c.read_tables.new.device).lasting.tells = rw (c.read_tables.ensures.same_lasting ∙ c.load.ensures.same_lasting) t in
+    let t1 : IsTrue (D.medium c.load_counted.new.device).lasting.tells = rw c.load_counted.ensures.device.same_lasting t in
+    let t2 : IsTrue (D.medium c.read_tables.new.device).lasting.tells = rw (c.read_tables.ensures.same_lasting ∙ c.load_counted.ensures.device.same_lasting) t in
     let named = named_here k n left m _ is (c.in_ok-loaded.ensures.loaded t) in
-    let says = subst (λ (h : List Disk). ((e ≡ BadManifest) × (follow_on n (seen (present h)) (m.base + 1) m.logs ≡ false)) ⊎ ((e ≡ NoMemory) ⊎ (e ≡ Io))) (c.read_tables.ensures.unchanged t1 ∙ c.load.ensures.unchanged t)
+    let says = subst (λ (h : List Disk). ((e ≡ BadManifest) × (follow_on n (seen (present h)) (m.base + 1) m.logs ≡ false)) ⊎ ((e ≡ NoMemory) ⊎ (e ≡ Io))) (c.read_tables.ensures.unchanged t1 ∙ c.load_counted.ensures.device.unchanged t)
     (with_told _ _ _ _ t2 c.in_err-replayed.ensures.refused) in
     rw (p.1, p.2) (replay_fair n left m _ e named.1.follows says)
 

@@ -12,7 +12,7 @@ use Rattle.lsm_open.specs.Layout.{layout_of}
 use Rattle.std.specs.Prelude.{option_map}
 use Rattle.std.specs.Arc.{arc_value}
 use Rattle.lsm_open.specs.Placements.{contents_for}
-use Rattle.lsm_open.specs.ReadParts.{sectors_read, sectors_read_by}
+use Rattle.lsm_open.specs.ReadParts.{sectors_read_by, sectors_read_most}
 use Rattle.lsm_open.specs.Recovering.{placed_in, IsReopened}
 use Rattle.lsm_open.proofs.OpeningMoments.{has_size, standing_after, crashes, fails, begun_fails}
 use Rattle.lsm_open.proofs.OpeningReads.{begun_alone, begun_before}
@@ -38,7 +38,7 @@ returns-in_err-begin-clause-refused g c =
 pub returns-in_err-begin-clause-unwritten : goal.returns-in_err-begin-clause-unwritten
 returns-in_err-begin-clause-unwritten g c =
     let p = err_from_is_err_and c.from_residual.result c.from_residual.ensures.1 in
-    rw (p.1, p.2) (λ none. AtMost-wider 0 0 1 63554 0 1 _ _ (omega arith) (omega arith) (omega arith) c.begin.ensures.calls)
+    rw (p.1, p.2) (λ none. AtMost-wider 0 0 1 587842 0 1 _ _ (omega arith) (omega arith) (omega arith) c.begin.ensures.calls)
 
 pub returns-in_err-begin-clause-settled : goal.returns-in_err-begin-clause-settled
 returns-in_err-begin-clause-settled g c = λ t size.
@@ -48,7 +48,7 @@ returns-in_err-begin-clause-settled g c = λ t size.
 pub returns-in_err-begin-clause-begins : goal.returns-in_err-begin-clause-begins
 returns-in_err-begin-clause-begins g c = λ size.
     let D = g.D.Device in
-    (false, subst (λ (k : Calls). AtMost 63554 38 2 k (D.medium c.begin.new.device).calls) (c.in_err-begin.ensures.counted size) (none_made 63554 38 2 _))
+    (false, subst (λ (k : Calls). AtMost 587842 42 2 k (D.medium c.begin.new.device).calls) (c.in_err-begin.ensures.counted size) (none_made 587842 42 2 _))
 
 pub returns-in_err-parts-clause-refused : goal.returns-in_err-parts-clause-refused
 returns-in_err-parts-clause-refused g c =
@@ -58,7 +58,7 @@ returns-in_err-parts-clause-refused g c =
 pub returns-in_err-parts-clause-unwritten : goal.returns-in_err-parts-clause-unwritten
 returns-in_err-parts-clause-unwritten g c =
     let p = err_from_is_err_and c.from_residual-in_err-parts.result c.from_residual-in_err-parts.ensures.1 in
-    rw (p.1, p.2) (λ none. AtMost-joined 0 0 1 63554 0 0 63554 0 1 _ _ _ (omega arith) (omega arith) (omega arith) c.begin.ensures.calls (c.in_err-parts.ensures.unwritten none))
+    rw (p.1, p.2) (λ none. AtMost-joined 0 0 1 587842 0 0 587842 0 1 _ _ _ (omega arith) (omega arith) (omega arith) c.begin.ensures.calls (c.in_err-parts.ensures.unwritten none))
 
 pub returns-in_err-parts-clause-settled : goal.returns-in_err-parts-clause-settled
 returns-in_err-parts-clause-settled g c = λ t size.
@@ -70,12 +70,12 @@ returns-in_err-parts-clause-settled g c = λ t size.
 pub returns-in_err-parts-clause-begins : goal.returns-in_err-parts-clause-begins
 returns-in_err-parts-clause-begins g c = λ size.
     let D = g.D.Device in
-    (true, subst (λ (k : Calls). AtMost 63554 38 2 k (D.medium c.recover_settled.new.device).calls) (c.in_ok-begin.ensures.counted size) c.recover_settled.ensures.calls)
+    (true, subst (λ (k : Calls). AtMost 587842 42 2 k (D.medium c.recover_settled.new.device).calls) (c.in_ok-begin.ensures.counted size) c.recover_settled.ensures.calls)
 
 pub returns-clause-begins : goal.returns-clause-begins
 returns-clause-begins g c = λ size.
     let D = g.D.Device in
-    (true, subst (λ (k : Calls). AtMost 63554 38 2 k (D.medium c.recover_settled.new.device).calls) (c.in_ok-begin.ensures.counted size) c.recover_settled.ensures.calls)
+    (true, subst (λ (k : Calls). AtMost 587842 42 2 k (D.medium c.recover_settled.new.device).calls) (c.in_ok-begin.ensures.counted size) c.recover_settled.ensures.calls)
 
 pub returns-clause-any_moment : goal.returns-clause-any_moment
 returns-clause-any_moment g c = λ n left t is.
@@ -102,33 +102,40 @@ returns-clause-recovered g c = λ n left t is.
     c.in_ok-parts.ensures.recovered n left (rw c.begin.ensures.same_lasting t) here
 
 pub returns-in_err-parts-clause-calls : goal.returns-in_err-parts-clause-calls
-returns-in_err-parts-clause-calls g c = AtMost-joined 0 0 1 63554 38 2 63554 38 3 _ _ _ (omega arith) (omega arith) (omega arith) c.begin.ensures.calls c.recover_settled.ensures.calls
+returns-in_err-parts-clause-calls g c = AtMost-joined 0 0 1 587842 42 2 587842 42 3 _ _ _ (omega arith) (omega arith) (omega arith) c.begin.ensures.calls c.recover_settled.ensures.calls
 
 pub returns-clause-calls : goal.returns-clause-calls
-returns-clause-calls g c = AtMost-joined 0 0 1 63554 38 2 63554 38 3 _ _ _ (omega arith) (omega arith) (omega arith) c.begin.ensures.calls c.recover_settled.ensures.calls
+returns-clause-calls g c = AtMost-joined 0 0 1 587842 42 2 587842 42 3 _ _ _ (omega arith) (omega arith) (omega arith) c.begin.ensures.calls c.recover_settled.ensures.calls
 
 pub returns-in_err-begin-clause-reads : goal.returns-in_err-begin-clause-reads
-returns-in_err-begin-clause-reads g c =
+returns-in_err-begin-clause-reads g c = λ t.
     let D = g.D.Device in
-    let p = err_from_is_err_and c.from_residual.result c.from_residual.ensures.1 in
-    rw p.1 (λ t. begun_alone _ _ (D.medium c.begin.new.device).calls _ c.begin.ensures.calls)
+    begun_alone _ _ (D.medium c.begin.new.device).calls _ c.begin.ensures.calls
 
 pub returns-in_err-parts-clause-reads : goal.returns-in_err-parts-clause-reads
-returns-in_err-parts-clause-reads g c =
+returns-in_err-parts-clause-reads g c = λ t.
     let D = g.D.Device in
     let old = D.medium c.args.device.now in
     let mid = D.medium c.begin.new.device in
     let new = D.medium c.recover_settled.new.device in
-    let p = err_from_is_err_and c.from_residual-in_err-parts.result c.from_residual-in_err-parts.ensures.1 in
-    rw p.1 (λ t.
     let is = now_is (synced (disk old)) old.history mid.history (c.in_ok-begin.ensures.stands t) in
     begun_before (sectors_read_by (root_of (seen (disk old)))) _ _ _ c.begin.ensures.calls
-    (subst (λ (d : Disk). AtMost (sectors_read_by (root_of (seen d))) 38 2 mid.calls new.calls) is (c.in_err-parts.ensures.reads (rw c.begin.ensures.same_lasting t))))
+    (subst (λ (d : Disk). AtMost (sectors_read_by (root_of (seen d))) 42 2 mid.calls new.calls) is (c.recover_settled.ensures.reads (rw c.begin.ensures.same_lasting t)))
 
 pub returns-clause-reads : goal.returns-clause-reads
-returns-clause-reads g c =
+returns-clause-reads g c = λ t.
+    let D = g.D.Device in
+    let old = D.medium c.args.device.now in
+    let mid = D.medium c.begin.new.device in
+    let new = D.medium c.recover_settled.new.device in
+    let is = now_is (synced (disk old)) old.history mid.history (c.in_ok-begin.ensures.stands t) in
+    begun_before (sectors_read_by (root_of (seen (disk old)))) _ _ _ c.begin.ensures.calls
+    (subst (λ (d : Disk). AtMost (sectors_read_by (root_of (seen d))) 42 2 mid.calls new.calls) is (c.recover_settled.ensures.reads (rw c.begin.ensures.same_lasting t)))
+
+pub returns-clause-most : goal.returns-clause-most
+returns-clause-most g c =
     let p = c.in_ok-parts.parts in
-    begun_before (sectors_read p.regions.log_sectors p.records.items) _ _ _ c.begin.ensures.calls c.in_ok-parts.ensures.reads
+    begun_before (sectors_read_most p.regions.log_sectors p.records.items) _ _ _ c.begin.ensures.calls c.in_ok-parts.ensures.most
 
 pub returns-clause-reopened : goal.returns-clause-reopened
 returns-clause-reopened g c = λ t.

@@ -1,8 +1,10 @@
-use Rattle.std.proofs.Common.{◌≡◌, ◌∙◌, ◌+◌, ℕ, List, ap, inr, sym, subst, arith}
+use Rattle.std.proofs.Common.{◌≡◌, ◌∙◌, ◌+◌, ℕ, List, All, ap, inr, sym, subst, arith}
 use Rattle.std.specs.Prelude.{option_map}
 use Rattle.std.specs.Arc.{arc_value}
 use Rattle.std.proofs.lemmas.Result.{err_from_is_err_and}
 use Rattle.lsm_codec.specs.Manifests.{Contents, sector_count}
+use Rattle.lsm_codec.specs.TableRecords.{IsOfVersion}
+use Rattle.lsm_codec.specs.declared.superblock.FormatVersion.TheVariants.{Two}
 use Rattle.lsm_codec.specs.declared.table_record.TableRecord.{TableRecord}
 use Rattle.lsm_device.specs.Calls.{faults_after, AtMost}
 use Rattle.lsm_device.specs.Disk.{Disk, seen}
@@ -13,12 +15,13 @@ use Rattle.lsm_device.specs.Refusals.{is_no_fault}
 use Rattle.lsm_device.proofs.Counting.{AtMost-joined, AtMost-wider}
 use Rattle.lsm_open.specs.Layout.{layout_of}
 use Rattle.lsm_open.specs.Placements.{Placement, contents_for}
-use Rattle.lsm_open.specs.ReadParts.{sectors_read}
+use Rattle.lsm_open.specs.ReadParts.{sectors_read_most}
 use Rattle.lsm_open.specs.Recovering.{placed_in, IsReopened, IsRecovered, AreWithinLimits}
 use Rattle.lsm_open.specs.Reopening.{next_contents}
+use Rattle.lsm_open.proofs.NamedRecords.{records_told}
 use Rattle.lsm_open.proofs.NextLayouts.{least_kept}
 use Rattle.lsm_open.proofs.OpeningRefusals.{from_memory}
-use Rattle.lsm_open.proofs.OpeningReads.{by_root, read_alone, then_installed}
+use Rattle.lsm_open.proofs.OpeningReads.{read_alone, then_installed}
 use Rattle.lsm_open.proofs.OpenedStores.{placed_kept, contents_kept, within_kept, reopened_kept, rests_stay_standing, installing_kept, recovered_kept, ready_kept, memory_fair}
 use Rattle.lsm_open.proofs.OpeningAnswers.{written_once}
 use Rattle.lsm_root.specs.Counted.{CallsMade}
@@ -33,7 +36,9 @@ pub reopen-requires-clause-geometry : goal.reopen-requires-clause-geometry
 reopen-requires-clause-geometry g c = subst (λ (z : ℕ). IsGeometry z c.in_ok-read.read.loaded.log_sectors) (sym c.read_parts.ensures.device.same_size) c.in_ok-read.ensures.read.geometry
 
 pub reopen-requires-clause-fits : goal.reopen-requires-clause-fits
-reopen-requires-clause-fits g c = c.in_ok-read.ensures.read.fits
+reopen-requires-clause-fits g c =
+    let read = c.in_ok-read.ensures.read in
+    record { fits = read.fits; records = subst (All (IsOfVersion Two)) read.named.records (records_told c.in_ok-read.read.levels) }
 
 pub reopen-requires-clause-inside : goal.reopen-requires-clause-inside
 reopen-requires-clause-inside g c =
@@ -138,7 +143,7 @@ returns-clause-recovered g c = λ k left t is.
     subst (λ (h : List Disk). IsInstalled (present h) (Stands n (next_contents m r.kept.closed.items r.kept.count)) (disk (D.medium c.reopen.new.device))) (c.read_parts.ensures.device.unchanged t)
     (c.in_ok-regions.ensures.installed (rw c.read_parts.ensures.device.same_lasting t)) in
     subst (λ (x : Placement). IsRecovered k left x r.kept.count sealed r.levels (disk (D.medium c.reopen.new.device))) (sym placed)
-    (recovered_kept (D.medium c.args.device.now).size k n r.kept.count left m r.kept.closed.items l.open_region sealed r.levels r.extents old is (c.root_laws.ensures.fits (seen (present old)) n m told.root).0 (c.requires.rests t)
+    (recovered_kept (D.medium c.args.device.now).size k n r.kept.count left m r.kept.closed.items l.open_region sealed r.levels r.extents old is (c.root_laws.ensures.fits (seen (present old)) n told.root.stood told.root.root).0 (c.requires.rests t)
     c.in_ok-read.ensures.read told (least_kept n r.kept.count m r.kept.closed.items l next same) (disk (D.medium c.reopen.new.device)) installed)
 
 -- ---- at each moment
@@ -158,7 +163,7 @@ returns-in_err-regions-clause-any_moment g c = λ k left t is.
     let each : EachSince (Leaves (IsOldOrNew (present old) (Stands n (next_contents m r.kept.closed.items r.kept.count)))) old (D.medium c.reopen.new.device).history =
     subst (λ (h : List Disk). EachSince (Leaves (IsOldOrNew (present h) (Stands n (next_contents m r.kept.closed.items r.kept.count)))) h (D.medium c.reopen.new.device).history) (c.read_parts.ensures.device.unchanged t)
     (c.reopen.ensures.any_moment (rw c.read_parts.ensures.device.same_lasting t)) in
-    installing_kept (D.medium c.args.device.now).size k n r.kept.count left m r.kept.closed.items log.0 (option_map arc_value r.kept.sealed) r.levels r.extents old is (c.root_laws.ensures.fits (seen (present old)) n m told.root).0 (c.requires.rests t)
+    installing_kept (D.medium c.args.device.now).size k n r.kept.count left m r.kept.closed.items log.0 (option_map arc_value r.kept.sealed) r.levels r.extents old is (c.root_laws.ensures.fits (seen (present old)) n told.root.stood told.root.root).0 (c.requires.rests t)
     c.in_ok-read.ensures.read told log.1 (D.medium c.reopen.new.device).history each
 
 pub returns-clause-any_moment : goal.returns-clause-any_moment
@@ -173,7 +178,7 @@ returns-clause-any_moment g c = λ k left t is.
     let each : EachSince (Leaves (IsOldOrNew (present old) (Stands n (next_contents m r.kept.closed.items r.kept.count)))) old (D.medium c.reopen.new.device).history =
     subst (λ (h : List Disk). EachSince (Leaves (IsOldOrNew (present h) (Stands n (next_contents m r.kept.closed.items r.kept.count)))) h (D.medium c.reopen.new.device).history) (c.read_parts.ensures.device.unchanged t)
     (c.reopen.ensures.any_moment (rw c.read_parts.ensures.device.same_lasting t)) in
-    installing_kept (D.medium c.args.device.now).size k n r.kept.count left m r.kept.closed.items log.0 (option_map arc_value r.kept.sealed) r.levels r.extents old is (c.root_laws.ensures.fits (seen (present old)) n m told.root).0 (c.requires.rests t)
+    installing_kept (D.medium c.args.device.now).size k n r.kept.count left m r.kept.closed.items log.0 (option_map arc_value r.kept.sealed) r.levels r.extents old is (c.root_laws.ensures.fits (seen (present old)) n told.root.stood told.root.root).0 (c.requires.rests t)
     c.in_ok-read.ensures.read told log.1 (D.medium c.reopen.new.device).history each
 
 -- ---- the calls
@@ -210,39 +215,38 @@ returns-clause-made g c =
     let says : contents_for (placed_in l r.levels r.kept.records.items) ≡ next_contents m r.kept.closed.items r.kept.count =
     ap contents_for (placed_kept n r.kept.count m r.kept.closed.items l r.levels r.kept.records.items next same c.in_ok-read.ensures.read.named.runs c.in_ok-read.ensures.records)
     ∙ contents_kept n r.kept.count m r.kept.closed.items l.open_region (least_kept n r.kept.count m r.kept.closed.items l next same) in
-    written_once 63554 (contents_for (placed_in l r.levels r.kept.records.items)) (D.medium c.args.device.now).calls (D.medium c.read_parts.new.device).calls (D.medium c.reopen.new.device).calls c.read_parts.ensures.device.calls
+    written_once 587842 (contents_for (placed_in l r.levels r.kept.records.items)) (D.medium c.args.device.now).calls (D.medium c.read_parts.new.device).calls (D.medium c.reopen.new.device).calls c.read_parts.ensures.device.calls
     (subst (λ (x : Contents). CallsMade (sector_count x + 1) 2 (D.medium c.read_parts.new.device).calls (D.medium c.reopen.new.device).calls) (sym says) c.in_ok-regions.ensures.made)
 
 pub returns-in_err-read-clause-calls : goal.returns-in_err-read-clause-calls
-returns-in_err-read-clause-calls g c = AtMost-wider 63554 0 0 63554 38 2 _ _ (omega arith) (omega arith) (omega arith) c.read_parts.ensures.device.calls
+returns-in_err-read-clause-calls g c = AtMost-wider 587842 0 0 587842 42 2 _ _ (omega arith) (omega arith) (omega arith) c.read_parts.ensures.device.calls
 
 pub returns-in_err-regions-clause-calls : goal.returns-in_err-regions-clause-calls
-returns-in_err-regions-clause-calls g c = AtMost-joined 63554 0 0 0 38 2 63554 38 2 _ _ _ (omega arith) (omega arith) (omega arith) c.read_parts.ensures.device.calls c.reopen.ensures.calls
+returns-in_err-regions-clause-calls g c = AtMost-joined 587842 0 0 0 42 2 587842 42 2 _ _ _ (omega arith) (omega arith) (omega arith) c.read_parts.ensures.device.calls c.reopen.ensures.calls
 
 pub returns-clause-calls : goal.returns-clause-calls
-returns-clause-calls g c = AtMost-joined 63554 0 0 0 38 2 63554 38 2 _ _ _ (omega arith) (omega arith) (omega arith) c.read_parts.ensures.device.calls c.reopen.ensures.calls
+returns-clause-calls g c = AtMost-joined 587842 0 0 0 42 2 587842 42 2 _ _ _ (omega arith) (omega arith) (omega arith) c.read_parts.ensures.device.calls c.reopen.ensures.calls
 
 pub returns-in_err-read-clause-reads : goal.returns-in_err-read-clause-reads
-returns-in_err-read-clause-reads g c =
+returns-in_err-read-clause-reads g c = λ t.
     let D = g.D.Device in
-    let p = err_from_is_err_and c.from_residual.result c.from_residual.ensures.1 in
-    rw p.1 (λ t. read_alone _ _ (D.medium c.read_parts.new.device).calls _ (c.in_err-read.ensures.reads t))
+    read_alone _ _ (D.medium c.read_parts.new.device).calls _ (c.read_parts.ensures.reads t)
 
 pub returns-in_err-regions-clause-reads : goal.returns-in_err-regions-clause-reads
-returns-in_err-regions-clause-reads g c =
-    let l = c.in_ok-read.read.loaded in
-    let p = err_from_is_err_and c.from_residual-in_err-regions.result c.from_residual-in_err-regions.ensures.1 in
-    rw p.1 (λ t. by_root _ l.log_sectors l.manifest 38 2 _ _ (c.in_ok-read.ensures.told t).root (then_installed (sectors_read l.log_sectors l.manifest.tables) _ _ _ c.in_ok-read.ensures.reads c.reopen.ensures.calls))
+returns-in_err-regions-clause-reads g c = λ t. then_installed _ _ _ _ (c.read_parts.ensures.reads t) c.reopen.ensures.calls
 
 pub returns-clause-reads : goal.returns-clause-reads
-returns-clause-reads g c =
+returns-clause-reads g c = λ t. then_installed _ _ _ _ (c.read_parts.ensures.reads t) c.reopen.ensures.calls
+
+pub returns-clause-most : goal.returns-clause-most
+returns-clause-most g c =
     let D = g.D.Device in
     let r = c.in_ok-read.read in
     let old = (D.medium c.args.device.now).calls in
     let new = (D.medium c.reopen.new.device).calls in
-    subst (λ (ts : List TableRecord). AtMost (sectors_read c.in_ok-regions.regions.log_sectors ts) 38 2 old new) (sym c.in_ok-read.ensures.records)
-    (subst (λ (n : ℕ). AtMost (sectors_read n r.loaded.manifest.tables) 38 2 old new) (sym c.in_ok-regions.ensures.layout.log_size)
-    (then_installed (sectors_read r.loaded.log_sectors r.loaded.manifest.tables) _ _ _ c.in_ok-read.ensures.reads c.reopen.ensures.calls))
+    subst (λ (ts : List TableRecord). AtMost (sectors_read_most c.in_ok-regions.regions.log_sectors ts) 42 2 old new) (sym c.in_ok-read.ensures.records)
+    (subst (λ (n : ℕ). AtMost (sectors_read_most n r.loaded.manifest.tables) 42 2 old new) (sym c.in_ok-regions.ensures.layout.log_size)
+    (then_installed (sectors_read_most r.loaded.log_sectors r.loaded.manifest.tables) _ _ _ c.in_ok-read.ensures.most c.reopen.ensures.calls))
 
 pub returns-in_err-read-clause-faults : goal.returns-in_err-read-clause-faults
 returns-in_err-read-clause-faults g c =

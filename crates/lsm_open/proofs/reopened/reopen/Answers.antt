@@ -23,7 +23,7 @@ pub install-requires-clause-valid : goal.install-requires-clause-valid
 install-requires-clause-valid g c = λ le.
     let m = c.args.loaded.now.manifest in
     let says = installs c.args.loaded.now.log_sectors c.args.count m c.in_ok-manifest.manifest c.args.closed.items c.runs.result c.tables.result.now (layout_of c.next_regions-regions.result) c.in_ok-manifest.ensures c.runs.ensures c.tables.ensures c.next_regions-regions.ensures.layout c.next_regions-regions.ensures.kept in
-    rw says (next_fits m c.args.count c.args.closed.items c.requires.fits c.requires.come c.requires.has_next)
+    rw says (record { fits = next_fits m c.args.count c.args.closed.items c.requires.fits.fits c.requires.come c.requires.has_next; records = c.requires.fits.records })
 
 pub install-requires-clause-inside : goal.install-requires-clause-inside
 install-requires-clause-inside g c = λ le.

@@ -1,4 +1,4 @@
-use Rattle.std.proofs.Common.{◌≡◌, ◌≤◌, ◌+◌, ◌||◌, List, Bool, take, get_or, take_all, All, Contains, sym, ap, subst, ◌∙◌, arith}
+use Rattle.std.proofs.Common.{◌≡◌, ◌≤◌, ◌+◌, ◌||◌, List, Bool, None, take, get_or, take_all, All, Contains, sym, ap, subst, ◌∙◌, arith}
 use Rattle.std.specs.List.{list_any}
 use Rattle.std.proofs.lemmas.List.Elements.{All-get_or, All-more, All-weaker}
 use Rattle.std.proofs.lemmas.List.Folds.{list_any_more}
@@ -15,7 +15,7 @@ loop-table-preserved g c =
     let inv = c.loop-table.invariant in
     let i = c.loop-table.table-index in
     let ts = c.args.tables.now in
-    let d : TableRecord = record { number = 0; level = 0; run = 0; first_block = 0; data_blocks = 0; index_blocks = 0; entries = 0 } in
+    let d : TableRecord = record { number = 0; level = 0; run = 0; first_block = 0; data_blocks = 0; index_blocks = 0; entries = 0; deletes = None } in
     let t : TableRecord = get_or ts i d in
     let old : Area = c.loop-table.extents in
     let new : Area = c.claim.new.self in

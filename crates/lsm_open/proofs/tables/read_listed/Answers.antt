@@ -1,4 +1,4 @@
-use Rattle.std.proofs.Common.{◌≡◌, ◌≤◌, ◌+◌, ◌++◌, List, true, IsTrue, Some, take, drop, get_or, sym, ap, subst, ◌∙◌, arith}
+use Rattle.std.proofs.Common.{◌≡◌, ◌≤◌, ◌+◌, ◌++◌, List, true, IsTrue, Some, None, take, drop, length, get_or, sym, ap, subst, ◌∙◌, arith}
 use Rattle.std.proofs.lemmas.Result.{err_from_is_err_and}
 use Rattle.std.proofs.lemmas.List.{drop_more, take_more, take_all}
 use Rattle.lsm_codec.specs.Reading.{◌>>=◌}
@@ -22,7 +22,7 @@ loop-table-preserved g c =
     let i = c.loop-table.table-index in
     let n = c.args.log_sectors in
     let all = c.args.listed.now in
-    let d : TableRecord = record { number = 0; level = 0; run = 0; first_block = 0; data_blocks = 0; index_blocks = 0; entries = 0 } in
+    let d : TableRecord = record { number = 0; level = 0; run = 0; first_block = 0; data_blocks = 0; index_blocks = 0; entries = 0; deletes = None } in
     let t : TableRecord = get_or all i d in
     let x = c.in_ok-read_table.field-0 in
     let old = D.medium c.args.device.now in
@@ -50,7 +50,7 @@ returns-in_err-read_table-clause-told g c = λ h.
     let i = c.loop-table.table-index in
     let n = c.args.log_sectors in
     let all = c.args.listed.now in
-    let d : TableRecord = record { number = 0; level = 0; run = 0; first_block = 0; data_blocks = 0; index_blocks = 0; entries = 0 } in
+    let d : TableRecord = record { number = 0; level = 0; run = 0; first_block = 0; data_blocks = 0; index_blocks = 0; entries = 0; deletes = None } in
     let t : TableRecord = get_or all i d in
     let mid = D.medium c.loop-table.device in
     let S = seen (disk (D.medium c.args.device.now)) in
@@ -67,7 +67,7 @@ returns-in_err-read_table-clause-device g c =
     let i = c.loop-table.table-index in
     let all = c.args.listed.now in
     let m = blocks_beside_data all in
-    let d : TableRecord = record { number = 0; level = 0; run = 0; first_block = 0; data_blocks = 0; index_blocks = 0; entries = 0 } in
+    let d : TableRecord = record { number = 0; level = 0; run = 0; first_block = 0; data_blocks = 0; index_blocks = 0; entries = 0; deletes = None } in
     let room : blocks_beside_data (take i all) + ((get_or all i d).index_blocks + 2) ≤ m = omega (arith, one_more_beside all i d c.loop-table-test.true, fewer_taken all (i + 1)) in
     let old = D.medium c.args.device.now in
     let mid = D.medium c.loop-table.device in
@@ -82,7 +82,7 @@ returns-in_err-push-clause-device g c =
     let i = c.loop-table.table-index in
     let all = c.args.listed.now in
     let m = blocks_beside_data all in
-    let d : TableRecord = record { number = 0; level = 0; run = 0; first_block = 0; data_blocks = 0; index_blocks = 0; entries = 0 } in
+    let d : TableRecord = record { number = 0; level = 0; run = 0; first_block = 0; data_blocks = 0; index_blocks = 0; entries = 0; deletes = None } in
     let room : blocks_beside_data (take i all) + ((get_or all i d).index_blocks + 2) ≤ m = omega (arith, one_more_beside all i d c.loop-table-test.true, fewer_taken all (i + 1)) in
     let old = D.medium c.args.device.now in
     let mid = D.medium c.loop-table.device in

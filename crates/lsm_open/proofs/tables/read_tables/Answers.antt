@@ -20,7 +20,7 @@ use Rattle.lsm_open.proofs.StandingRuns.{other_refusal}
 use Rattle.lsm_open.proofs.tables.read_tables.Goals as goal
 
 pub claim_extents-requires-clause-apart : goal.claim_extents-requires-clause-apart
-claim_extents-requires-clause-apart g c = subst (λ (ts : List TableRecord). Pairwise AreApart ts) (sym c.tables.ensures) (tables_apart c.args.manifest.now.tables c.requires.fits.tables.agree)
+claim_extents-requires-clause-apart g c = subst (λ (ts : List TableRecord). Pairwise AreApart ts) (sym c.tables.ensures) (tables_apart c.args.manifest.now.tables c.requires.fits.fits.tables.agree)
 
 pub read_newer-requires-clause-readable : goal.read_newer-requires-clause-readable
 read_newer-requires-clause-readable g c =
@@ -28,7 +28,7 @@ read_newer-requires-clause-readable g c =
     let n = c.args.log_sectors in
     let old = g.D.Device.medium c.args.device.now in
     subst (λ (k : ℕ). All (IsReadable n k) m.tables) (sym c.in_ok-levels.ensures.device.only_reads.same_size)
-    (all_readable old.size n c.requires.geometry m.next_table m.runs m.tables c.requires.fits.tables.each c.requires.inside)
+    (all_readable old.size n c.requires.geometry m.next_table m.runs m.tables c.requires.fits.fits.tables.each c.requires.inside)
 
 pub read_newer-requires-clause-deeper : goal.read_newer-requires-clause-deeper
 read_newer-requires-clause-deeper g c =
@@ -57,7 +57,7 @@ returns-clause-within g c =
     let old = D.medium c.args.device.now in
     let mid = D.medium c.read_deeper.new.device in
     all_within n old.size mid.lasting.tells (seen (disk mid)) m 0 (places c.read_newer.new.levels)
-    (all_readable old.size n c.requires.geometry m.next_table m.runs m.tables c.requires.fits.tables.each c.requires.inside) c.in_ok-read_newer.ensures.read
+    (all_readable old.size n c.requires.geometry m.next_table m.runs m.tables c.requires.fits.fits.tables.each c.requires.inside) c.in_ok-read_newer.ensures.read
 
 pub returns-clause-outlined : goal.returns-clause-outlined
 returns-clause-outlined g c =
@@ -67,13 +67,13 @@ returns-clause-outlined g c =
     let old = D.medium c.args.device.now in
     let mid = D.medium c.read_deeper.new.device in
     all_outlined n old.size mid.lasting.tells (seen (disk mid)) m 0 (places c.read_newer.new.levels)
-    (all_readable old.size n c.requires.geometry m.next_table m.runs m.tables c.requires.fits.tables.each c.requires.inside) c.in_ok-read_newer.ensures.read
+    (all_readable old.size n c.requires.geometry m.next_table m.runs m.tables c.requires.fits.fits.tables.each c.requires.inside) c.in_ok-read_newer.ensures.read
 
 pub returns-clause-numbered : goal.returns-clause-numbered
 returns-clause-numbered g c =
     let D = g.D.Device in
     let mid = D.medium c.read_deeper.new.device in
-    all_numbered c.args.log_sectors mid.lasting.tells (seen (disk mid)) c.args.manifest.now 0 (places c.read_newer.new.levels) c.requires.fits.tables.each c.in_ok-read_newer.ensures.read
+    all_numbered c.args.log_sectors mid.lasting.tells (seen (disk mid)) c.args.manifest.now 0 (places c.read_newer.new.levels) c.requires.fits.fits.tables.each c.in_ok-read_newer.ensures.read
 
 -- ---- how often it reads
 
@@ -114,7 +114,7 @@ returns-in_err-levels-clause-calls g c =
     let old = D.medium c.args.device.now in
     let new = D.medium c.read_deeper.new.device in
     AtMost-wider (8 * beside_data_from m m.runs) 0 0 (56 * length m.tables) 0 0 old.calls new.calls
-    (omega (arith, few_blocks m m.runs, few_for_each m.next_table m.runs m.tables c.requires.fits.tables.each)) (omega arith) (omega arith) c.read_deeper.ensures.device.calls
+    (omega (arith, few_blocks m m.runs, few_for_each m.next_table m.runs m.tables c.requires.fits.fits.tables.each)) (omega arith) (omega arith) c.read_deeper.ensures.device.calls
 
 pub returns-in_err-read_newer-clause-calls : goal.returns-in_err-read_newer-clause-calls
 returns-in_err-read_newer-clause-calls g c =
@@ -125,7 +125,7 @@ returns-in_err-read_newer-clause-calls g c =
     let new = D.medium c.read_newer.new.device in
     let newer = c.read_newer.ensures.device in
     AtMost-joined (8 * beside_data_from m m.runs) 0 0 (8 * newer.0) 0 0 (56 * length m.tables) 0 0 old.calls mid.calls new.calls
-    (omega (arith, newer.1, few_for_each m.next_table m.runs m.tables c.requires.fits.tables.each)) (omega arith) (omega arith) c.in_ok-levels.ensures.device.calls newer.2.calls
+    (omega (arith, newer.1, few_for_each m.next_table m.runs m.tables c.requires.fits.fits.tables.each)) (omega arith) (omega arith) c.in_ok-levels.ensures.device.calls newer.2.calls
 
 pub returns-clause-calls : goal.returns-clause-calls
 returns-clause-calls g c =
@@ -136,7 +136,7 @@ returns-clause-calls g c =
     let new = D.medium c.read_newer.new.device in
     let newer = c.in_ok-read_newer.ensures.device in
     AtMost-joined (8 * beside_data_from m m.runs) 0 0 (8 * newer.0) 0 0 (56 * length m.tables) 0 0 old.calls mid.calls new.calls
-    (omega (arith, newer.1, few_for_each m.next_table m.runs m.tables c.requires.fits.tables.each)) (omega arith) (omega arith) c.in_ok-levels.ensures.device.calls newer.2.calls
+    (omega (arith, newer.1, few_for_each m.next_table m.runs m.tables c.requires.fits.fits.tables.each)) (omega arith) (omega arith) c.in_ok-levels.ensures.device.calls newer.2.calls
 
 -- ---- tables that stand
 
@@ -146,7 +146,7 @@ returns-in_err-levels-clause-stored g c = λ t stand.
     let p = err_from_is_err_and c.from_residual-in_err-levels.result c.from_residual-in_err-levels.ensures.1 in
     let old = D.medium c.args.device.now in
     let e : Refusal = c.in_err-levels.field-0.0 in
-    rw (p.1, p.2) (other_refusal c.args.log_sectors (seen (disk old)) c.args.manifest.now c.requires.fits.tables.each stand e (c.in_err-levels.ensures.none t))
+    rw (p.1, p.2) (other_refusal c.args.log_sectors (seen (disk old)) c.args.manifest.now c.requires.fits.fits.tables.each c.requires.fits.records stand e (c.in_err-levels.ensures.none t))
 
 pub returns-in_err-read_newer-clause-stored : goal.returns-in_err-read_newer-clause-stored
 returns-in_err-read_newer-clause-stored g c = λ t stand.
@@ -157,13 +157,13 @@ returns-in_err-read_newer-clause-stored g c = λ t stand.
     let old = D.medium c.args.device.now in
     let mid = D.medium c.read_deeper.new.device in
     let e : Refusal = c.in_err-read_newer.field-0.0 in
-    rw (p.1, p.2) (other_refusal n (seen (disk old)) m c.requires.fits.tables.each stand e (levels_refused_before n old mid m e c.in_ok-levels.ensures.device.only_reads c.in_err-read_newer.ensures.none t))
+    rw (p.1, p.2) (other_refusal n (seen (disk old)) m c.requires.fits.fits.tables.each c.requires.fits.records stand e (levels_refused_before n old mid m e c.in_ok-levels.ensures.device.only_reads c.in_err-read_newer.ensures.none t))
 
 pub returns-clause-named : goal.returns-clause-named
 returns-clause-named g c =
     let D = g.D.Device in
     let mid = D.medium c.read_deeper.new.device in
-    read_have_named c.args.manifest.now c.requires.fits c.args.log_sectors mid.lasting.tells (seen (disk mid)) c.read_newer.new.levels c.in_ok-read_newer.ensures.runs (ap length c.in_ok-read_newer.ensures.same ∙ c.in_ok-levels.ensures.four) c.in_ok-read_newer.ensures.read
+    read_have_named c.args.manifest.now c.requires.fits.fits c.args.log_sectors mid.lasting.tells (seen (disk mid)) c.read_newer.new.levels c.in_ok-read_newer.ensures.runs (ap length c.in_ok-read_newer.ensures.same ∙ c.in_ok-levels.ensures.four) c.in_ok-read_newer.ensures.read
 
 pub returns-clause-stored : goal.returns-clause-stored
 returns-clause-stored g c = λ t stand.
@@ -174,4 +174,4 @@ returns-clause-stored g c = λ t stand.
     let mid = D.medium c.read_deeper.new.device in
     let levels = c.read_newer.new.levels in
     let read = runs_before n old mid m 0 (places levels) c.in_ok-levels.ensures.device.only_reads c.in_ok-read_newer.ensures.read in
-    levels_those n (seen (disk old)) m c.requires.fits stand old.lasting.tells t levels c.in_ok-read_newer.ensures.runs (ap length c.in_ok-read_newer.ensures.same ∙ c.in_ok-levels.ensures.four) read
+    levels_those n (seen (disk old)) m c.requires.fits.fits c.requires.fits.records stand old.lasting.tells t levels c.in_ok-read_newer.ensures.runs (ap length c.in_ok-read_newer.ensures.same ∙ c.in_ok-levels.ensures.four) read

@@ -1,0 +1,7 @@
+use Rattle.std.proofs.Common.{arith}
+use Rattle.lsm_table.proofs.Deletes.{taken_few}
+use Rattle.lsm_check.proofs.table.deletes_in.Goals as goal
+
+pub overflow_add-deletes : goal.overflow_add-deletes
+overflow_add-deletes g c =
+    omega (arith, c.loop-entry.invariant, taken_few c.args.entries.now c.loop-entry.entry-index, c.one_if_delete-deletes.ensures.few, c.loop-entry-test.true, c.loop-entry.auto)
