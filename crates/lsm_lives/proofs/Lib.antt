@@ -2,4 +2,4 @@ mod Steps
 mod Opened
 mod Lived
 mod Lifetimes
-mod Made
+pub mod Made

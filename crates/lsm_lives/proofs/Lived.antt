@@ -14,7 +14,7 @@ use Rattle.lsm_open.specs.Recovering.{StandForOne, FailsToOpen, CrashesWhileOpen
 use Rattle.lsm_open.proofs.Openings.{same_again}
 use Rattle.lsm_store.specs.Backing.{StoreView, machine_of}
 use Rattle.lsm_store.specs.Calls.{Reply}
-use Rattle.lsm_store.specs.Calls.{Number, Done, Value, Rows, Given, Handed, Refused}
+use Rattle.lsm_store.specs.Calls.{Number, Done, Value, Rows, Given, Handed, Refused, Unread}
 use Rattle.lsm_store.specs.Crash.{reopened, may_leave}
 use Rattle.lsm_store.specs.Lives.{all_stopped, IsAnswered, left_by_life}
 use Rattle.lsm_store.specs.Machine.{Machine, Step}
@@ -121,6 +121,7 @@ module _ (log_sectors : ℕ) (opened : CrashState) (others : List CrashState) wh
   at_end before asked (Replied (Rows page) ∷ more) after led holds = absurd led
   at_end before asked (Replied (Given job) ∷ more) after led holds = absurd led
   at_end before asked (Replied (Handed input) ∷ more) after led holds = absurd led
+  at_end before asked (Replied Unread ∷ more) after led holds = absurd led
   at_end before asked (Built number tables ∷ more) after led holds = absurd led
   at_end before asked [] after led holds = absurd led
 

@@ -1,6 +1,6 @@
 -- What is told of steps that a store makes.
 use Rattle.std.proofs.Common.{◌≡◌, ◌≢◌, ℕ, Bool, true, false, not, cond, List, [], ◌∷◌, Option, Some, None, is_some, is_none, refl, sym, subst, ◌∙◌, ap}
-use Rattle.std.specs.Prelude.{IsNone, ◌+◌, nat_lt}
+use Rattle.std.specs.Prelude.{IsNone, ◌+◌, nat_lt, option_map}
 use Rattle.std.proofs.lemmas.Bool.{false≢true}
 use Rattle.lsm_device.specs.declared.refusal.Refusal.{Refusal}
 use Rattle.lsm_device.specs.declared.refusal.Refusal.TheVariants.{NoMemory, Io, BadTable, Stopped, NoSuchJob, WrongState, ForeignResult, Exhausted, NoSpace}
@@ -9,34 +9,85 @@ use Rattle.lsm_merge.specs.Inputs.{MergeInput}
 use Rattle.lsm_merge.specs.Results.{MergeResult}
 use Rattle.lsm_open.specs.CrashState.{last_number}
 use Rattle.lsm_store.specs.Backing.{StoreView, machine_of}
-use Rattle.lsm_store.specs.Calls.{Reply}
-use Rattle.lsm_store.specs.Calls.{Done, Handed, Refused}
-use Rattle.lsm_store.specs.Machine.{Machine, Step}
+use Rattle.lsm_store.specs.Calls.{Call, Reply}
+use Rattle.lsm_store.specs.Calls.{Commit, CommitIf, Sync, SyncTo, Get, Scan, Snapshot, Release, Rotate, LogRoom, Number, Done, Value, Rows, Given, Handed, Refused, Unread, as_told}
+use Rattle.lsm_store.specs.Machine.{Machine, Step, Called}
+use Rattle.lsm_store.specs.Serving.{Serves, reply_in}
+use Rattle.lsm_store.specs.State.{State}
 use Rattle.lsm_store.specs.Refusals.{first_refusal}
 use Rattle.lsm_store.specs.Work.{Ask, Accept}
 use Rattle.lsm_store.specs.WorkRefusals.{held, of_slot, is_own, tables_made, placing, work_refusal}
 use Rattle.lsm_store.specs.WorkReplies.{work_reply_by, work_decided}
-use Rattle.lsm_store.specs.Working.{Works, ServesStep}
+use Rattle.lsm_store.specs.Working.{Works, ServesStep, taken_reply}
+use Rattle.lsm_lives.specs.Calls.{reply_of, told_of}
+use Rattle.lsm_lives.specs.declared.calls.Reply.{Reply as GivenReply}
+use Rattle.lsm_lives.specs.declared.calls.Reply.TheVariants as given
 use Rattle.lsm_store.proofs.CrashStates.{IsAnswer}
 use Rattle.lsm_store.proofs.WorkReplies.{answered_unrefused}
 use Rattle.lsm_store.proofs.Works.{works_refused}
 use Rattle.lsm_lives.specs.Asked.{Asked, Told, Own, AcceptBuilt, Replied, result_of, IsTold}
 use Rattle.lsm_lives.specs.Replaying.{Makes}
 
--- what is told of a step of the store's own, and of an accept by a number, is what the store replied
-module _ (results : List MergeResult) (old new : StoreView) (asked : Asked) (told : Told) (reply : Reply) (is : told ≡ Replied reply) where
-  pub makes_own : (step : Step) → asked ≡ Own step → ServesStep old step reply new → Makes results old asked told results new
-  makes_own step same serves =
-      subst (λ (a : Asked). Makes results old a told results new) (sym same)
-      (record { reply = reply; serves = serves; told = subst (λ (t : Told). IsTold results (Own step) t reply results) (sym is) (refl, refl) })
+-- what is told of a reply that is none of a read of guards is the reply
+told_plain : {A : Type 0} (answer : GivenReply A) (reply : Reply) → told_of answer ≡ Replied reply → as_told reply ≡ reply
+told_plain (given.Number n) reply is = let same : Number n ≡ reply = cc in subst (λ (r : Reply). as_told r ≡ r) same refl
+told_plain given.Done reply is = let same : Done ≡ reply = cc in subst (λ (r : Reply). as_told r ≡ r) same refl
+told_plain (given.Value value) reply is = let same : Value (option_map (λ v. v.items) value) ≡ reply = cc in subst (λ (r : Reply). as_told r ≡ r) same refl
+told_plain (given.Page page) reply is = let same : Rows page ≡ reply = cc in subst (λ (r : Reply). as_told r ≡ r) same refl
+told_plain (given.Taken job) reply is = let same : taken_reply job ≡ reply = cc in subst (λ (r : Reply). as_told r ≡ r) same refl
+told_plain (given.Built result tables) reply is = absurd cc
+told_plain (given.Refused e) reply is = let same : Refused e ≡ reply = cc in subst (λ (r : Reply). as_told r ≡ r) same refl
 
-  pub makes_accept : (job number : ℕ) → asked ≡ AcceptBuilt job number → (lent : List MergeResult) → lent ≡ results → Works old (Accept job (result_of number lent)) reply new → Makes results old asked told results new
+-- and so it is of what a call was told
+told_called : (call : Call) (s : State) (reply : Reply) → as_told reply ≡ reply → as_told (reply_in call s reply) ≡ reply
+told_called (CommitIf guards batch) s (Refused Io) plain = by (is_some s.stopped)
+  where
+    by : (b : Bool) → as_told (cond b (Refused Io) Unread) ≡ Refused Io
+    by true = refl
+    by false = refl
+told_called (CommitIf guards batch) s (Refused e) plain = plain
+told_called (CommitIf guards batch) s (Number n) plain = plain
+told_called (CommitIf guards batch) s Done plain = plain
+told_called (CommitIf guards batch) s (Value v) plain = plain
+told_called (CommitIf guards batch) s (Rows page) plain = plain
+told_called (CommitIf guards batch) s (Given job) plain = plain
+told_called (CommitIf guards batch) s (Handed input) plain = plain
+told_called (CommitIf guards batch) s Unread plain = plain
+told_called (Commit batch) s reply plain = plain
+told_called Sync s reply plain = plain
+told_called (SyncTo number) s reply plain = plain
+told_called (Get at key) s reply plain = plain
+told_called (Scan at from to limit) s reply plain = plain
+told_called Snapshot s reply plain = plain
+told_called (Release number) s reply plain = plain
+told_called Rotate s reply plain = plain
+told_called LogRoom s reply plain = plain
+
+-- what is told of a call is what is told of its reply
+pub called_told : {A : Type 0} (answer : GivenReply A) (call : Call) (s : State) → told_of answer ≡ Replied (reply_of answer) → told_of answer ≡ Replied (as_told (reply_in call s (reply_of answer)))
+called_told answer call s is = is ∙ sym (ap Replied (told_called call s (reply_of answer) (told_plain answer (reply_of answer) is)))
+
+-- what is told of a step of the store's own, and of an accept by a number, is what the store replied
+module _ {A : Type 0} (results : List MergeResult) (old new : StoreView) (asked : Asked) (answer : GivenReply A) (reply : Reply) (is : told_of answer ≡ Replied reply) where
+  pub makes_own : (step : Step) → asked ≡ Own step → ServesStep old step reply new → Makes results old asked (told_of answer) results new
+  makes_own step same serves =
+      subst (λ (a : Asked). Makes results old a (told_of answer) results new) (sym same)
+      (record { reply = reply; serves = serves; told = subst (λ (t : Told). IsTold results (Own step) t reply results) (sym is) (refl, told_plain answer reply is) })
+
+  -- of a call, with the reply of which that was told
+  pub makes_called : (call : Call) → asked ≡ Own (Called call) → Serves old call (reply_in call new.state reply) new → Makes results old asked (told_of answer) results new
+  makes_called call same serves =
+      let shown = reply_in call new.state reply in
+      subst (λ (a : Asked). Makes results old a (told_of answer) results new) (sym same)
+      (record { reply = shown; serves = serves; told = subst (λ (t : Told). IsTold results (Own (Called call)) t shown results) (sym is) (refl, told_called call new.state reply (told_plain answer reply is)) })
+
+  pub makes_accept : (job number : ℕ) → asked ≡ AcceptBuilt job number → (lent : List MergeResult) → lent ≡ results → Works old (Accept job (result_of number lent)) reply new → Makes results old asked (told_of answer) results new
   makes_accept job number same lent all works =
-      subst (λ (a : Asked). Makes results old a told results new) (sym same)
+      subst (λ (a : Asked). Makes results old a (told_of answer) results new) (sym same)
       (record {
         reply = reply;
         serves = subst (λ (l : List MergeResult). Works old (Accept job (result_of number l)) reply new) all works;
-        told = subst (λ (t : Told). IsTold results (AcceptBuilt job number) t reply results) (sym is) (refl, refl);
+        told = subst (λ (t : Told). IsTold results (AcceptBuilt job number) t reply results) (sym is) (refl, told_plain answer reply is);
       })
 
 -- ---- an accept of a result that was not built

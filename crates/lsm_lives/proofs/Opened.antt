@@ -15,7 +15,7 @@ use Rattle.lsm_open.specs.Recovering.{BeginsWithSync, FailsToOpen}
 use Rattle.lsm_root.specs.Layout.{IsDeviceSize}
 use Rattle.lsm_open.proofs.Openings.{same_again}
 use Rattle.lsm_store.specs.Backing.{StoreView}
-use Rattle.lsm_store.specs.Calls.{Number, Done, Value, Rows, Given, Handed, Refused}
+use Rattle.lsm_store.specs.Calls.{Number, Done, Value, Rows, Given, Handed, Refused, Unread}
 use Rattle.lsm_store.specs.RecoveryPoints.{batch_count}
 use Rattle.lsm_store.specs.Serving.{OpensTo, ReopensTo, IsUncalled, IsRefusedBehindSync}
 use Rattle.lsm_lives.specs.Leading.{BeginsOn, FailsOn, IsLed, HasNewCache, with_fuse}
@@ -70,7 +70,7 @@ module _ {X : Type 0} (medium : X → Medium) (start : X) where
       → ((log_sectors : ℕ) (left : CrashState) → StandFor log_sectors left held → IfOk r (λ s. OpensTo began log_sectors left s))
       → ((log_sectors : ℕ) (left : CrashState) → StandFor log_sectors left held → IfErr r (λ e. FailsToOpen began log_sectors left e.0 (medium e.1)))
       → MatchResult r (λ s. s.device.calls.faults ≡ began.calls.faults) (λ e. (medium e.1).calls.faults ≡ faults_after (is_no_fault e.0) began.calls.faults)
-      → IfOk r (λ s. AtMost 63554 38 3 began.calls s.device.calls)
+      → IfOk r (λ s. AtMost 587842 42 3 began.calls s.device.calls)
       → (IsDeviceSize began.size → MatchResult r (λ s. BeginsWithSync began.calls s.device.calls) (λ e. IsUncalled e.0 began (medium e.1) ⊎ IsRefusedBehindSync began e.0 (medium e.1)))
       → MatchResult r (λ s. s.device.size ≡ began.size) (λ e. (medium e.1).size ≡ began.size)
       → MatchResult r (λ s. s.device.lasting ≡ began.lasting) (λ e. (medium e.1).lasting ≡ began.lasting)
@@ -125,6 +125,7 @@ lasting_in before asked (Replied Done ∷ more) after led = absurd led
 lasting_in before asked (Replied (Value v) ∷ more) after led = absurd led
 lasting_in before asked (Replied (Rows page) ∷ more) after led = absurd led
 lasting_in before asked (Replied (Given job) ∷ more) after led = absurd led
+lasting_in before asked (Replied Unread ∷ more) after led = absurd led
 lasting_in before asked (Replied (Handed input) ∷ more) after led = absurd led
 lasting_in before asked (Built number tables ∷ more) after led = absurd led
 lasting_in before asked [] after led = absurd led

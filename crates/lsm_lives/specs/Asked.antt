@@ -6,7 +6,7 @@ use Rattle.lsm_merge.specs.Inputs.{MergeInput, kept_of}
 use Rattle.lsm_merge.specs.Results.{MergeResult}
 use Rattle.lsm_table.specs.Division.{IsTables}
 use Rattle.lsm_store.specs.Calls.{Reply}
-use Rattle.lsm_store.specs.Calls.{Handed, Refused}
+use Rattle.lsm_store.specs.Calls.{Handed, Refused, as_told}
 use Rattle.lsm_store.specs.Machine.{Step, Worked}
 use Rattle.lsm_store.specs.Work.{Ask, Accept}
 
@@ -60,7 +60,7 @@ abbrev pub IsTold : List MergeResult → Asked → Told → Reply → List Merge
 IsTold results (Build job parts) (Built number tables) reply after = IsNextResult results parts number tables reply after
 IsTold results (Build job parts) (Replied (Refused e)) reply after = (after ≡ results) × ((reply ≡ Refused e) ⊎ ((input : MergeInput) × (reply ≡ Handed input) × HasNoResult parts e))
 IsTold results (Build job parts) (Replied other) reply after = ⊥
-IsTold results asked (Replied told) reply after = (after ≡ results) × (reply ≡ told)
+IsTold results asked (Replied told) reply after = (after ≡ results) × (as_told reply ≡ told)
 IsTold results asked (Built number tables) reply after = ⊥
 
 -- So are steps one after another.

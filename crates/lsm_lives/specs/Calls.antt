@@ -1,5 +1,5 @@
 -- What values ask for, and what replies tell.
-use Rattle.std.specs.Prelude.{option_map}
+use Rattle.std.specs.Prelude.{Some, None, option_map}
 use Rattle.lsm_lives.specs.declared.calls.Call.{Call as GivenCall}
 use Rattle.lsm_lives.specs.declared.calls.Call.TheVariants as call
 use Rattle.lsm_lives.specs.declared.calls.Work.{Work as GivenWork}
@@ -9,7 +9,7 @@ use Rattle.lsm_lives.specs.declared.calls.Step.TheVariants as step
 use Rattle.lsm_lives.specs.declared.calls.Reply.{Reply as GivenReply}
 use Rattle.lsm_lives.specs.declared.calls.Reply.TheVariants as reply
 use Rattle.lsm_store.specs.Calls.{Call, Reply}
-use Rattle.lsm_store.specs.Calls.{Commit, Sync, SyncTo, Get, Scan, Snapshot, Release, Rotate, LogRoom, Number, Done, Value, Rows, Refused}
+use Rattle.lsm_store.specs.Calls.{Commit, CommitIf, Sync, SyncTo, Get, Scan, Snapshot, Release, Rotate, LogRoom, Number, Done, Value, Rows, Refused}
 use Rattle.lsm_store.specs.Machine.{Called, Worked}
 use Rattle.lsm_store.specs.Work.{Take, Read, Write, Install, Drop}
 use Rattle.lsm_store.specs.Working.{taken_reply}
@@ -17,6 +17,7 @@ use Rattle.lsm_lives.specs.Asked.{Asked, Told, Own, Build, AcceptBuilt, Replied,
 
 abbrev pub call_of : {A : Type 0} → GivenCall A → Call
 call_of (call.Commit batch) = Commit batch
+call_of (call.CommitIf guards batch) = CommitIf guards.items batch
 call_of call.Sync = Sync
 call_of (call.SyncTo number) = SyncTo number
 call_of (call.Get at key) = Get at key.items
@@ -28,7 +29,8 @@ call_of call.Room = LogRoom
 
 -- what a piece of work asks for; a build, and an accept of a result by its number, are none of the store's own
 abbrev pub asked_of_work : GivenWork → Asked
-asked_of_work work.Take = Own (Worked Take)
+asked_of_work work.Take = Own (Worked (Take None))
+asked_of_work (work.TakeOf choice) = Own (Worked (Take (Some choice)))
 asked_of_work (work.Read job) = Own (Worked (Read job))
 asked_of_work (work.Build job parts) = Build job parts
 asked_of_work (work.Accept job result) = AcceptBuilt job result

@@ -45,7 +45,7 @@ pub record BeginsOn (before : Medium) (s : StoreView) : Type 0 where
   pub cache : HasNewCache s
   -- no call of the device faulted in it
   pub no_fault : s.device.calls.faults ≡ before.calls.faults
-  pub calls : AtMost 63554 38 3 before.calls s.device.calls
+  pub calls : AtMost 587842 42 3 before.calls s.device.calls
   pub same_size : s.device.size ≡ before.size
   pub same_lasting : s.device.lasting ≡ before.lasting
 
@@ -54,7 +54,7 @@ pub record BeginsOn (before : Medium) (s : StoreView) : Type 0 where
 pub record FailsBehindSync (before : Medium) (refusal : Refusal) (after : Medium) : Type 0 where
   pub size : IsDeviceSize before.size
   pub begins : BeginsWithSync before.calls after.calls
-  pub unwritten : IsTrue (is_no_fault refusal) → AtMost 63554 0 1 before.calls after.calls
+  pub unwritten : IsTrue (is_no_fault refusal) → AtMost 587842 0 1 before.calls after.calls
   pub settled : IsTrue (is_no_fault refusal) → Becomes (synced (disk before)) before.history after.history
 
 -- It was refused.

@@ -1,8 +1,8 @@
 // Calls of a store, pieces of work on its jobs, and its replies, as values.
 
-use lsm_codec::Batch;
+use lsm_codec::{Batch, Guard};
 use lsm_device::Refusal;
-use lsm_store::{At, Page, TakenJob};
+use lsm_store::{At, Choice, Page, TakenJob};
 use std::alloc::{Allocator, Global};
 
 /// A call of a store.
@@ -10,6 +10,8 @@ use std::alloc::{Allocator, Global};
 pub enum Call<A: Allocator = Global> {
     /// Adds a batch.
     Commit(Batch<A>),
+    /// Adds a batch where each of these guards is true of the present map.
+    CommitIf(Vec<Guard<A>, A>, Batch<A>),
     /// Makes all batches outlast a crash.
     Sync,
     /// Makes the batches up to this number outlast a crash.
@@ -38,6 +40,8 @@ pub enum Call<A: Allocator = Global> {
 pub enum Work {
     /// Takes the job that comes next.
     Take,
+    /// Takes the job of a choice.
+    TakeOf(Choice),
     /// Reads data blocks of a job's tables.
     Read(u64),
     /// Builds the result of a job's merge, in so many parts.

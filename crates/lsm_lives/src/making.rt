@@ -47,6 +47,7 @@ fn make_work<R: Threads + Sync, D: Device, A: Allocator + Clone + Send + Sync>(
 {
     match work {
         Work::Take => taken(store.job_take()),
+        Work::TakeOf(choice) => taken(store.job_take_of(*choice)),
         Work::Read(job) => read(store.job_read(*job)),
         Work::Build { job, parts } => build(rt, alloc, store, results, *job, *parts),
         Work::Accept { job, result } => done(accept(store, results, *job, *result)),

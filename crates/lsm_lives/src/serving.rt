@@ -3,7 +3,7 @@ ghost use Rattle.std.specs.Prelude.{◌≡◌, option_map};
 ghost use Rattle.lsm_lives.specs.Asked.{Replied};
 ghost use Rattle.lsm_lives.specs.Calls.{call_of, reply_of, told_of};
 ghost use Rattle.lsm_store.specs.Calls.{Number, Done, reply_of as reply_by};
-ghost use Rattle.lsm_store.specs.Serving.{Serves};
+ghost use Rattle.lsm_store.specs.Serving.{Serves, reply_in};
 
 use crate::calls::{Call, Reply};
 use lsm_device::{Device, Refusal};
@@ -12,11 +12,12 @@ use std::alloc::Allocator;
 
 /// Makes a call of the store. What the store refuses is a reply.
 pub fn serve<D: Device, A: Allocator + Clone>(store: &mut Store<D, A>, call: &Call<A>) -> Reply<A>
-    ensures serves { Serves store.old (call_of call.now) (reply_of result) store.new }
+    ensures serves { Serves store.old (call_of call.now) (reply_in (call_of call.now) store.new.state (reply_of result)) store.new }
     ensures told { told_of result ≡ Replied (reply_of result) }
 {
     match call {
         Call::Commit(batch) => number(store.commit(batch)),
+        Call::CommitIf(guards, batch) => number(store.commit_if(guards, batch)),
         Call::Sync => done(store.sync()),
         Call::SyncTo(n) => done(store.sync_to(*n)),
         Call::Get(at, key) => match store.get(*at, key) {

@@ -1,7 +1,7 @@
 -- The base is released at the end.
-use Rattle.std.proofs.Common.{◌≡◌, ℕ, Bool, true, false, not, is_some, List, Some, None, Result, Ok, Err, refl, ap, sym, ◌∙◌, subst, if◌then◌else◌}
+use Rattle.std.proofs.Common.{◌≡◌, ℕ, Bool, true, false, not, is_some, List, Some, None, Result, Ok, Err, refl, ap, sym, ◌∙◌, subst, if◌then◌else◌, arith}
 use Rattle.lsm_device.specs.declared.refusal.Refusal.{Refusal}
-use Rattle.lsm_device.specs.declared.refusal.Refusal.TheVariants.{NoMemory, Io, Stopped, NoSuchSnapshot, BadTable}
+use Rattle.lsm_device.specs.declared.refusal.Refusal.TheVariants.{NoMemory, Io, Stopped, NoSuchSnapshot, BadTable, GuardFailed}
 use Rattle.std.specs.Prelude.{IsNone}
 use Rattle.lsm_store.specs.Backing.{StoreView, machine_of}
 use Rattle.lsm_store.specs.Calls.{reply_of}
@@ -30,6 +30,7 @@ module _ (s : State) (number : ℕ) (live : is_some (snapshot_of s number) ≡ t
   refused_running NoMemory runs admitted = cc (admitted.1)
   refused_running Io runs admitted = admitted.1 refl
   refused_running BadTable runs admitted = cc (admitted.1)
+  refused_running (GuardFailed place) runs admitted = absurd (omega (arith, admitted.1))
   refused_running e runs admitted = no (admitted ∙ ap (reply_by s (Release number)) (refusal_is false runs))
     where
       no : Refused e ≡ Done → ⊥

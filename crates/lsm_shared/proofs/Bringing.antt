@@ -5,7 +5,7 @@ use Rattle.lsm_device.specs.declared.refusal.Refusal.TheVariants.{NoSpace}
 use Rattle.lsm_merge.specs.Results.{MergeResult}
 use Rattle.lsm_store.specs.Backing.{machine_of}
 use Rattle.lsm_store.specs.Calls.{Reply}
-use Rattle.lsm_store.specs.Calls.{Number, Done, Value, Rows, Given, Handed, Refused}
+use Rattle.lsm_store.specs.Calls.{Number, Done, Value, Rows, Given, Handed, Refused, Unread}
 use Rattle.lsm_store.specs.Machine.{Machine, Worked}
 use Rattle.lsm_store.specs.Work.{Accept, Drop}
 use Rattle.lsm_lives.specs.Asked.{Told, Replied}
@@ -25,6 +25,7 @@ no_space (Value v) is = absurd (cc is)
 no_space (Rows page) is = absurd (cc is)
 no_space (Given job) is = absurd (cc is)
 no_space (Handed input) is = absurd (cc is)
+no_space Unread is = absurd (cc is)
 
 one_entry : (number job result : ℕ) (made : MergeResult) (reply : Reply) (m : Machine) → tells_no_space (Replied reply) ≡ false → IsBrought number job result made reply (accepted number job result made reply m ∷ [])
 one_entry number job result made (Refused NoSpace) m is = absurd (cc is)
@@ -35,6 +36,7 @@ one_entry number job result made (Value v) m is = (m, refl)
 one_entry number job result made (Rows page) m is = (m, refl)
 one_entry number job result made (Given taken) m is = (m, refl)
 one_entry number job result made (Handed input) m is = (m, refl)
+one_entry number job result made Unread m is = (m, refl)
 
 module _ (id : SessionId) (old mid new : SessionView) (c me d f : Known) (finds : Finds id old c) (shown : me ≡ known id.begin c.number old.log c.mine) (job result : ℕ) (made : MergeResult) (reply : Reply) (m : Machine) (answer : Told) (told : answer ≡ Replied reply) where
   number_is : me.number ≡ c.number

@@ -7,7 +7,7 @@ use Rattle.lsm_device.specs.declared.refusal.Refusal.TheVariants.{Io}
 use Rattle.lsm_open.specs.Recovering.{StandForOne}
 use Rattle.lsm_store.specs.Backing.{StoreView, machine_of, IsBacked}
 use Rattle.lsm_store.specs.Calls.{Call, Reply}
-use Rattle.lsm_store.specs.Calls.{Commit, Sync, SyncTo, Get, Scan, Snapshot, Release, Rotate, LogRoom, Number, Done, Value, Rows, Given, Handed, Refused}
+use Rattle.lsm_store.specs.Calls.{Commit, CommitIf, Sync, SyncTo, Get, Scan, Snapshot, Release, Rotate, LogRoom, Number, Done, Value, Rows, Given, Handed, Refused, Unread}
 use Rattle.lsm_store.specs.Crash.{may_leave}
 use Rattle.lsm_store.specs.Effects.{after, reply_by, Use, use_of}
 use Rattle.lsm_store.specs.Effects.{Untouched, Reads, Changes}
@@ -32,6 +32,7 @@ sync_sectors s false = refl
 
 after_sectors : (s : State) (call : Call) → (after s call).log_sectors ≡ s.log_sectors
 after_sectors s (Commit batch) = refl
+after_sectors s (CommitIf guards batch) = refl
 after_sectors s Sync = refl
 after_sectors s (SyncTo number) = sync_sectors s (nat_le number s.points.synced)
 after_sectors s (Get at key) = refl
@@ -50,6 +51,7 @@ next_sectors s call (Value v) = after_sectors s call
 next_sectors s call (Rows page) = after_sectors s call
 next_sectors s call (Given job) = after_sectors s call
 next_sectors s call (Handed input) = after_sectors s call
+next_sectors s call Unread = refl
 
 step_sectors : (m : Machine) (step : Step) (reply : Reply) → (next_machine m step reply).state.log_sectors ≡ m.state.log_sectors
 step_sectors m (Called call) reply = next_sectors m.state call reply

@@ -5,8 +5,8 @@ use Rattle.lsm_device.specs.Medium.{Medium}
 use Rattle.lsm_device.specs.declared.refusal.Refusal.TheVariants.{NoMemory}
 use Rattle.lsm_store.specs.Backing.{StoreView}
 use Rattle.lsm_store.specs.Calls.{Call, Reply}
-use Rattle.lsm_store.specs.Calls.{Release, Number, Done, Value, Rows, Given, Handed, Refused}
-use Rattle.lsm_store.specs.Effects.{Use, use_of}
+use Rattle.lsm_store.specs.Calls.{Release, Number, Done, Value, Rows, Given, Handed, Refused, Unread}
+use Rattle.lsm_store.specs.Effects.{Use, use_of, use_first}
 use Rattle.lsm_store.specs.Effects.{Untouched}
 use Rattle.lsm_store.specs.Machine.{Step, Called, Worked}
 use Rattle.lsm_store.specs.Refusals.{refusal}
@@ -43,7 +43,7 @@ pub leaves_device : (old new : StoreView) (call : Call) (reply : Reply) → use_
 leaves_device old new call reply is serves =
     let b = is_some (refusal old.state call) in
     none_used call reply b old.device new.device
-    (subst (λ (u : Use). IsUsed call reply (if b then Untouched else use_before u reply) old.device new.device) is serves.used)
+    (subst (λ (u : Use). IsUsed call reply (if b then Untouched else use_before (use_first call) u reply) old.device new.device) is serves.used)
 
 -- as the one that releases the base
 pub device_released : (before : Medium) (replies : List Reply) (old new : StoreView) (base : ℕ) (reply : Reply) → Serves old (Release base) reply new → IsDeviceAfter before replies old.device → IsDeviceAfter before replies new.device
@@ -80,6 +80,7 @@ lost_faultless (Value (Some v)) short = refl
 lost_faultless (Rows page) short = refl
 lost_faultless (Given job) short = absurd short
 lost_faultless (Handed input) short = absurd short
+lost_faultless Unread short = absurd short
 
 -- so a step that is no entry for want of memory is none for the device either
 pub device_kept : (before : Medium) (replies : List Reply) (old : StoreView) (step : Step) (reply : Reply) (new : StoreView) → IsDeviceAfter before replies old.device → ServesStep old step reply new → IsLost reply → IsDeviceAfter before replies new.device

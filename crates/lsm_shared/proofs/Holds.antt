@@ -1,17 +1,18 @@
 -- What one hold of the lock does to a session.
-use Rattle.std.proofs.Common.{◌≡◌, ◌≢◌, ℕ, ◌+◌, ◌<◌, ◌≤◌, ◌==◌, Bool, true, false, is_some, List, [], ◌∷◌, ◌++◌, length, Some, None, Result, Ok, Err, refl, ap, sym, ◌∙◌, subst, arith, zero-le, append_assoc, length-append}
+use Rattle.std.proofs.Common.{◌≡◌, ◌≢◌, ℕ, ◌+◌, ◌<◌, ◌≤◌, ◌==◌, Bool, true, false, cond, is_some, List, [], ◌∷◌, ◌++◌, length, Some, None, Result, Ok, Err, refl, ap, sym, ◌∙◌, subst, arith, zero-le, append_assoc, length-append}
 use Rattle.std.specs.Prelude.{IsTrue, IsNone, IfErr, IsErrAnd, MatchResult}
 use Rattle.std.proofs.lemmas.Bool.Decides.{nat_tests}
 use Rattle.std.proofs.lemmas.List.{append-nil}
 use Rattle.lsm_device.specs.declared.refusal.Refusal.{Refusal}
-use Rattle.lsm_device.specs.declared.refusal.Refusal.TheVariants.{NoMemory}
+use Rattle.lsm_device.specs.declared.refusal.Refusal.TheVariants.{NoMemory, Io}
 use Rattle.lsm_store.specs.Backing.{StoreView, IsBacked, machine_of}
 use Rattle.lsm_store.specs.Calls.{Call, Reply}
-use Rattle.lsm_store.specs.Calls.{Commit, Sync, SyncTo, Get, Scan, Snapshot, Release, Rotate, LogRoom, Number, Done, Value, Rows, Given, Handed, Refused}
+use Rattle.lsm_store.specs.Calls.{Commit, CommitIf, Sync, SyncTo, Get, Scan, Snapshot, Release, Rotate, LogRoom, Number, Done, Value, Rows, Given, Handed, Refused, Unread}
 use Rattle.lsm_store.specs.Effects.{after, takes_memory}
 use Rattle.lsm_store.specs.Machine.{Machine, Step, Called, Worked}
 use Rattle.lsm_store.specs.Run.{Allows, Admits, AllowsStep, AdmitsStep, GoesTo, asks_value, asks_page, next, next_machine}
-use Rattle.lsm_store.specs.Serving.{Serves}
+use Rattle.lsm_merge.specs.Inputs.{MergeInput}
+use Rattle.lsm_store.specs.Serving.{Serves, reply_in}
 use Rattle.lsm_store.specs.State.{State}
 use Rattle.lsm_store.specs.WorkEffects.{work_called, work_by}
 use Rattle.lsm_store.specs.Working.{ServesStep}
@@ -20,13 +21,16 @@ use Rattle.lsm_store.proofs.ServedSteps.{served_goes, served_work}
 use Rattle.lsm_store.proofs.Steps.{step_stopped}
 use Rattle.lsm_trail.specs.Begins.{base_of}
 use Rattle.lsm_trail.specs.Following.{MayFollow}
-use Rattle.lsm_trail.specs.History.{Event, event, replies_of, IsLegal, inputs_of, IsNextNumber, TakesResult, machine_after, entries_by}
+use Rattle.lsm_trail.specs.History.{Event, event, called, replies_of, IsLegal, inputs_of, IsNextNumber, TakesResult, machine_after, entries_by}
 use Rattle.lsm_trail.specs.Knowledge.{SessionId, Known, known}
 use Rattle.lsm_trail.proofs.Histories.{after_more, legal_none, entries_by-mine}
 use Rattle.lsm_trail.proofs.Lists.{prefix_self}
 use Rattle.lsm_lives.specs.Asked.{Told, Replied}
+use Rattle.lsm_lives.specs.Calls.{reply_of, told_of}
+use Rattle.lsm_lives.specs.declared.calls.Reply.{Reply as GivenReply}
+use Rattle.lsm_lives.proofs.Made.{called_told}
 use Rattle.lsm_shared.specs.Holds.{AreServedBy}
-use Rattle.lsm_shared.specs.Sessions.{IsPinned, SessionView, IsSession, Knows, Finds, HasSeen, Enters, EntersOne, EntersStep, IsFull, IsReserved, IsShort, IsLost}
+use Rattle.lsm_shared.specs.Sessions.{IsPinned, SessionView, IsSession, Knows, Finds, HasSeen, Enters, EntersOne, EntersStep, IsMade, IsFull, IsReserved, IsShort, IsLost}
 use Rattle.lsm_shared.proofs.Faults.{device_unused, device_entered, device_kept}
 
 -- ---- a step that a store served
@@ -49,6 +53,7 @@ served_backed old (Worked piece) reply new works = works.backed
 value_kept : (m : Machine) (call : Call) → IsTrue (asks_value call) → (after m.state call ≡ m.state) × (work_called m call ≡ m.work) × IsTrue (takes_memory call)
 value_kept m (Get at key) is = (refl, refl, refl)
 value_kept m (Commit batch) is = absurd (cc is)
+value_kept m (CommitIf guards batch) is = absurd (cc is)
 value_kept m Sync is = absurd (cc is)
 value_kept m (SyncTo number) is = absurd (cc is)
 value_kept m (Scan at from to limit) is = absurd (cc is)
@@ -61,6 +66,7 @@ value_kept m LogRoom is = absurd (cc is)
 page_kept : (m : Machine) (call : Call) → IsTrue (asks_page call) → (after m.state call ≡ m.state) × (work_called m call ≡ m.work) × IsTrue (takes_memory call)
 page_kept m (Scan at from to limit) is = (refl, refl, refl)
 page_kept m (Commit batch) is = absurd (cc is)
+page_kept m (CommitIf guards batch) is = absurd (cc is)
 page_kept m Sync is = absurd (cc is)
 page_kept m (SyncTo number) is = absurd (cc is)
 page_kept m (Get at key) is = absurd (cc is)
@@ -79,7 +85,60 @@ lost m call (Value None) admitted short = absurd short
 lost m call (Value (Some v)) admitted short = let k = value_kept m call admitted.1 in (k.0, k.1, (admitted.0, k.2))
 lost m call (Given job) admitted short = absurd short
 lost m call (Handed input) admitted short = absurd short
+lost m call Unread admitted short = absurd short
 lost m call (Rows page) admitted short = let k = page_kept m call admitted.1 in (k.0, k.1, (admitted.0, k.2))
+
+-- what was told of a call, and the reply of which it was told, are short of memory alike
+pub lost_in : (call : Call) (s : State) (told : Reply) → IsLost told → IsLost (reply_in call s told)
+lost_in (CommitIf guards batch) s (Refused NoMemory) short = short
+lost_in (CommitIf guards batch) s (Refused e) short = absurd short
+lost_in (CommitIf guards batch) s (Number n) short = absurd short
+lost_in (CommitIf guards batch) s Done short = absurd short
+lost_in (CommitIf guards batch) s (Value v) short = short
+lost_in (CommitIf guards batch) s (Rows page) short = short
+lost_in (CommitIf guards batch) s (Given job) short = absurd short
+lost_in (CommitIf guards batch) s (Handed input) short = absurd short
+lost_in (CommitIf guards batch) s Unread short = absurd short
+lost_in (Commit batch) s told short = short
+lost_in Sync s told short = short
+lost_in (SyncTo number) s told short = short
+lost_in (Get at key) s told short = short
+lost_in (Scan at from to limit) s told short = short
+lost_in Snapshot s told short = short
+lost_in (Release number) s told short = short
+lost_in Rotate s told short = short
+lost_in LogRoom s told short = short
+
+-- what holds of what was told, and of each fault, holds of the reply
+of_told : (P : Reply → Type 0) → P Unread → (call : Call) (s : State) (told : Reply) → P told → P (reply_in call s told)
+of_told P unread (CommitIf guards batch) s (Refused Io) h = by (is_some s.stopped)
+  where
+    by : (b : Bool) → P (cond b (Refused Io) Unread)
+    by true = h
+    by false = unread
+of_told P unread (CommitIf guards batch) s (Refused e) h = h
+of_told P unread (CommitIf guards batch) s (Number n) h = h
+of_told P unread (CommitIf guards batch) s Done h = h
+of_told P unread (CommitIf guards batch) s (Value v) h = h
+of_told P unread (CommitIf guards batch) s (Rows page) h = h
+of_told P unread (CommitIf guards batch) s (Given job) h = h
+of_told P unread (CommitIf guards batch) s (Handed input) h = h
+of_told P unread (CommitIf guards batch) s Unread h = h
+of_told P unread (Commit batch) s told h = h
+of_told P unread Sync s told h = h
+of_told P unread (SyncTo number) s told h = h
+of_told P unread (Get at key) s told h = h
+of_told P unread (Scan at from to limit) s told h = h
+of_told P unread Snapshot s told h = h
+of_told P unread (Release number) s told h = h
+of_told P unread Rotate s told h = h
+of_told P unread LogRoom s told h = h
+
+pub made_in : (call : Call) (s : State) (told : Reply) → told ≢ Refused NoMemory → reply_in call s told ≢ Refused NoMemory
+made_in call s told other = of_told (λ r. r ≢ Refused NoMemory) (λ e. cc) call s told other
+
+pub number_in : (inputs : List MergeInput) (n : ℕ) (call : Call) (s : State) (told : Reply) → IsNextNumber inputs told n → IsNextNumber inputs (reply_in call s told) n
+number_in inputs n call s told next = of_told (λ r. IsNextNumber inputs r n) tt call s told next
 
 -- where the state allows the reply, it allows that memory was short
 lost_allowed : (s : State) (call : Call) (reply : Reply) → Allows s call reply → IsLost reply → Allows s call (Refused NoMemory)
@@ -91,6 +150,7 @@ lost_allowed s call (Value (Some v)) allowed short = value_wanted s call v allow
 lost_allowed s call (Value None) allowed short = absurd short
 lost_allowed s call (Given job) allowed short = absurd short
 lost_allowed s call (Handed input) allowed short = absurd short
+lost_allowed s call Unread allowed short = absurd short
 lost_allowed s call (Rows page) allowed short = page_wanted s call page allowed
 
 -- a stopped store replies nothing of the kind
@@ -257,6 +317,12 @@ session_begun id base store log none pinned = subst (IsSession id base store) (s
 -- an entry whose reply is told
 pub entered_step : (id : SessionId) (old new : SessionView) (c d : Known) (step : Step) (reply : Reply) (result : ℕ) (answer told : Told) → answer ≡ told → told ≡ Replied reply → EntersOne id old c (event c.number step reply result (machine_of new.store)) new d → EntersStep id old c step result answer new d
 entered_step id old new c d step reply result answer told alike is one = record { reply = reply; told = alike ∙ is; one = one }
+
+-- and one of a call, of whose reply that is told
+pub called_step : {A : Type 0} (id : SessionId) (old new : SessionView) (c d : Known) (call : Call) (answer : Told) (given : GivenReply A) → answer ≡ told_of given → told_of given ≡ Replied (reply_of given)
+    → EntersOne id old c (called c.number call (reply_in call new.store.state (reply_of given)) (machine_of new.store)) new d → IsMade id old c call answer new d
+called_step id old new c d call answer given alike is one =
+    record { reply = reply_in call new.store.state (reply_of given); told = alike ∙ called_told given call new.store.state is; one = one }
 
 -- a place is left where the trail isn't full
 pub place_left : (n limit : ℕ) (full : Bool) → full ≡ (n == limit) → full ≡ false → n ≤ limit → n < limit

@@ -1,5 +1,6 @@
 pub mod Bases
 mod Bringing
+mod Choosing
 pub mod Counting
 pub mod Crashes
 pub mod Holds

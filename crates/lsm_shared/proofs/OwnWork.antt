@@ -7,7 +7,7 @@ use Rattle.lsm_mem.specs.Paging.{Page}
 use Rattle.lsm_merge.specs.Inputs.{MergeInput}
 use Rattle.lsm_store.specs.Backing.{StoreView, machine_of}
 use Rattle.lsm_store.specs.Calls.{Reply}
-use Rattle.lsm_store.specs.Calls.{Number, Done, Value, Rows, Given, Handed, Refused}
+use Rattle.lsm_store.specs.Calls.{Number, Done, Value, Rows, Given, Handed, Refused, Unread}
 use Rattle.lsm_store.specs.Machine.{Machine, Worked}
 use Rattle.lsm_store.specs.Work.{Work, Take, Read, Ask, Accept, Write, Install, Drop}
 use Rattle.lsm_store.specs.WorkEffects.{work_answer}
@@ -43,6 +43,7 @@ no_number inputs (reply.Refused e) n = tt
 -- what a store does by itself takes no result
 pub no_result_taken : (inputs : List MergeInput) (piece : OwnPiece) (n : ℕ) → TakesResult inputs (Worked (work_of piece)) n
 no_result_taken inputs own.Take n = tt
+no_result_taken inputs (own.TakeOf choice) n = tt
 no_result_taken inputs (own.Read job) n = tt
 no_result_taken inputs (own.Write job) n = tt
 no_result_taken inputs (own.Install job) n = tt
@@ -55,7 +56,7 @@ asked_no_value None v is = cc
 asked_no_value (Some slot) v is = cc
 
 answer_no_value : (m : Machine) (piece : Work) (v : Option (List ℕ)) → Value v ≡ work_answer m piece → ⊥
-answer_no_value m Take v is = cc
+answer_no_value m (Take asked) v is = cc
 answer_no_value m (Read job) v is = cc
 answer_no_value m (Ask job) v is = asked_no_value (held m job) v is
 answer_no_value m (Accept job result) v is = cc
@@ -72,7 +73,7 @@ asked_no_page None page is = cc
 asked_no_page (Some slot) page is = cc
 
 answer_no_page : (m : Machine) (piece : Work) (page : Page) → Rows page ≡ work_answer m piece → ⊥
-answer_no_page m Take page is = cc
+answer_no_page m (Take asked) page is = cc
 answer_no_page m (Read job) page is = cc
 answer_no_page m (Ask job) page is = asked_no_page (held m job) page is
 answer_no_page m (Accept job result) page is = cc
@@ -95,6 +96,7 @@ work_lost m piece (Value (Some v)) admitted short = absurd (no_value m piece (So
 work_lost m piece (Rows page) admitted short = absurd (no_page m piece page (work_refusal m piece) admitted)
 work_lost m piece (Given job) admitted short = absurd short
 work_lost m piece (Handed input) admitted short = absurd short
+work_lost m piece Unread admitted short = absurd short
 
 module _ (old new : StoreView) (piece : Work) (told : Reply) (works : Works old piece told new) (short : IsLost told) where
   short_works : Works old piece (Refused NoMemory) new

@@ -1,5 +1,5 @@
 -- What a hold of the lock tells the client.
-use Rattle.std.proofs.Common.{◌≡◌, ℕ, ◌≤◌, List, [], ◌∷◌, ◌++◌, length, Result, Ok, Err, ap, sym, ◌∙◌, subst, append_assoc}
+use Rattle.std.proofs.Common.{◌≡◌, ℕ, ◌≤◌, List, [], ◌∷◌, ◌++◌, length, Option, Some, None, option_map, Result, Ok, Err, ap, sym, ◌∙◌, subst, append_assoc}
 use Rattle.std.specs.Arc.{arc_value}
 use Rattle.std.specs.Prelude.{Contains, IfOk, IfErr, MatchResult}
 use Rattle.std.proofs.lemmas.List.Elements.{Contains-push}
@@ -10,20 +10,20 @@ use Rattle.lsm_merge.specs.Results.{MergeResult}
 use Rattle.lsm_store.specs.Backing.{machine_of}
 use Rattle.lsm_store.specs.Calls.{Call}
 use Rattle.lsm_store.specs.Calls.{Refused}
-use Rattle.lsm_store.specs.Machine.{Machine}
+use Rattle.lsm_store.specs.Machine.{Machine, Worked}
 use Rattle.lsm_store.specs.Pieces.{next_piece, places_from}
 use Rattle.lsm_store.specs.Run.{Admits, Allows}
 use Rattle.lsm_store.specs.State.{State}
-use Rattle.lsm_store.specs.Work.{Work}
+use Rattle.lsm_store.specs.Work.{Work, Take}
 use Rattle.lsm_lives.specs.Asked.{Told}
 use Rattle.lsm_lives.specs.Calls.{told_of}
 use Rattle.lsm_lives.specs.declared.calls.Reply.{Reply as GivenReply}
 use Rattle.lsm_trail.specs.History.{Event, lent_to, machine_after, IsLegal, entries_by}
 use Rattle.lsm_trail.specs.Knowledge.{SessionId, Known, Sees}
 use Rattle.lsm_shared.specs.Clients.{Adds, MakesCall, Denies, IsNoCall}
-use Rattle.lsm_shared.specs.Holds.{TakesAmong, StopsAmong, IsBroughtBy, StopsBringing}
-use Rattle.lsm_shared.specs.Sessions.{SessionView, Enters, IsMade, IsRefused}
-use Rattle.lsm_shared.specs.Turns.{IsTurn, MayRest, TakesTurn, StopsBefore, DeniesWork, IsNoTurn, HasLent, Brings, IsNotBrought}
+use Rattle.lsm_shared.specs.Holds.{IsPutBack, IsTakenNext, IsNotTakenNext, TakesAmong, StopsAmong, IsBroughtBy, StopsBringing}
+use Rattle.lsm_shared.specs.Sessions.{SessionView, Enters, EntersStep, IsMade, IsRefused}
+use Rattle.lsm_shared.specs.Turns.{MayChoose, MakesPiece, IsNoPiece, TakesNext, IsNoNext, IsTurn, MayRest, TakesTurn, StopsBefore, DeniesWork, IsNoTurn, HasLent, Brings, IsNotBrought}
 use Rattle.lsm_shared.specs.declared.turn.Turn.{Turn}
 use Rattle.lsm_shared.specs.declared.turn.Turn.TheVariants as turn
 
@@ -157,6 +157,41 @@ has_lent c d (turn.Merge job result input) t =
 pub tells_lent : {A : Type 0} (res : Result (Turn A) Refusal) (c d : Known) → MatchResult res (λ taken. TakesTurn c taken d) (λ r. IsNoTurn c r d) → IfOk res (λ taken. HasLent taken d)
 tells_lent (Ok taken) c d t = has_lent c d taken t
 tells_lent (Err r) c d t = tt
+
+-- ---- one piece
+
+abbrev made_piece : (id : SessionId) (old new : SessionView) (c d : Known) (work : Work) (answer : Told) → EntersStep id old c (Worked work) 0 answer new d → MakesPiece c work answer d
+made_piece id old new c d work answer p = record {
+  reply = p.reply;
+  told = p.told;
+  others = others id old new c d _ p.one.enters;
+  behind = machine_of new.store;
+  adds = adds id old new c d _ p.one.enters;
+}
+
+no_piece : (id : SessionId) (old new : SessionView) (c d : Known) (work : Work) (r : Refusal) → IsPutBack id old c work r new d → IsNoPiece c work r d
+no_piece id old new c d work r b = record {
+  others = others id old new c d [] b.enters;
+  adds = adds id old new c d [] b.enters;
+  denied = denied_then id old new c d [] b.enters work r b.denied;
+}
+
+pub tells_piece : {A : Type 0} (res : Result (GivenReply A) Refusal) (id : SessionId) (old new : SessionView) (c d : Known) (work : Work)
+    → MatchResult res (λ reply. EntersStep id old c (Worked work) 0 (told_of reply) new d) (λ r. IsPutBack id old c work r new d)
+    → MatchResult res (λ reply. MakesPiece c work (told_of reply) d) (λ r. IsNoPiece c work r d)
+tells_piece (Ok reply) id old new c d work p = made_piece id old new c d work (told_of reply) p
+tells_piece (Err r) id old new c d work b = no_piece id old new c d work r b
+
+pub tells_next : {A : Type 0} (res : Result (Option (GivenReply A)) Refusal) (id : SessionId) (old new : SessionView) (c d : Known)
+    → MatchResult res (λ taken. IsTakenNext id old c (option_map told_of taken) new d) (λ r. IsNotTakenNext id old c r new d)
+    → MatchResult res (λ taken. TakesNext c (option_map told_of taken) d) (λ r. IsNoNext c r d)
+tells_next (Ok None) id old new c d t = sees id old new c d t.0
+tells_next (Ok (Some reply)) id old new c d t = record {
+  choice = t.choice;
+  piece = made_piece id old new c d (Take (Some t.choice)) (told_of reply) t.step;
+  may = subst (λ (m : Machine). MayChoose m t.choice) (machine_found id old new c d _ t.step.one.enters) t.may;
+}
+tells_next (Err r) id old new c d t = (t.0, no_piece id old new c d (Take (Some t.0)) r t.1)
 
 -- ---- results
 

@@ -8,7 +8,7 @@ use Rattle.lsm_device.specs.declared.refusal.Refusal.{Refusal}
 use Rattle.lsm_device.specs.declared.refusal.Refusal.TheVariants.{NoMemory, Io, BadTable, TooManyRuns, TooManyTables}
 use Rattle.lsm_store.specs.Backing.{StoreView, machine_of}
 use Rattle.lsm_store.specs.Calls.{Reply}
-use Rattle.lsm_store.specs.Calls.{Number, Done, Value, Rows, Given, Handed, Refused}
+use Rattle.lsm_store.specs.Calls.{Number, Done, Value, Rows, Given, Handed, Refused, Unread}
 use Rattle.lsm_store.specs.Machine.{Machine, Step, Worked}
 use Rattle.lsm_store.specs.Pieces.{piece_at, is_of_full_levels, is_put_off, unless_put_off, next_among}
 use Rattle.lsm_store.specs.Work.{Work, Install, Ask}
@@ -189,6 +189,7 @@ module _ (m : Machine) (job : ℕ) where
   full_told (Rows page) admitted = decided_full (Rows page) admitted
   full_told (Given taken) admitted = decided_full (Given taken) admitted
   full_told (Handed input) admitted = decided_full (Handed input) admitted
+  full_told Unread admitted = decided_full Unread admitted
 
 -- an install that is put off leaves the machine as it was
 refused_stays : (old new : SessionView) (job : ℕ) (reply : Reply) → (e : Refusal) → reply ≡ Refused e → e ≢ Io → Works old.store (Install job) reply new.store → machine_of new.store ≡ machine_of old.store
@@ -207,6 +208,7 @@ full_refusal (Value v) full = absurd (cc full)
 full_refusal (Rows page) full = absurd (cc full)
 full_refusal (Given taken) full = absurd (cc full)
 full_refusal (Handed input) full = absurd (cc full)
+full_refusal Unread full = absurd (cc full)
 
 pub passed_at : {A : Type 0} (id : SessionId) (old new : SessionView) (c d : Known) (place job : ℕ) (answer : Told) → piece_at (machine_of old.store) place ≡ Some (Install job) → tells_full_levels answer ≡ true
     → EntersStep id old c (Worked (Install job)) 0 answer new d → TakesAmong {A = A} id old c (place ∷ []) turn.Idle new d

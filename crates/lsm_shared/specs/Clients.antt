@@ -5,7 +5,7 @@ use Rattle.lsm_device.specs.declared.refusal.Refusal.{Refusal}
 use Rattle.lsm_device.specs.declared.refusal.Refusal.TheVariants.{NoMemory, TrailFull, NotYours}
 use Rattle.lsm_store.specs.Backing.{IsBacked}
 use Rattle.lsm_store.specs.Calls.{Call, Reply}
-use Rattle.lsm_store.specs.Calls.{Release, Refused}
+use Rattle.lsm_store.specs.Calls.{Release, Refused, as_told}
 use Rattle.lsm_store.specs.Machine.{Machine}
 use Rattle.lsm_store.specs.Run.{Allows, Admits}
 use Rattle.lsm_lives.specs.Asked.{Told, Replied}
@@ -24,10 +24,10 @@ pub record Adds (c : Known) (others entries : List Event) (d : Known) : Type 0 w
   pub own : entries_by d.number d.seen ≡ d.mine
   pub room : length d.seen ≤ d.begin.limit
 
--- A client made this call, and was told this: a reply, with which the history ends.
+-- A client made this call, and was told this of a reply, with which the history ends.
 pub record MakesCall (c : Known) (call : Call) (answer : Told) (d : Known) : Type 0 where
   pub reply : Reply
-  pub told : answer ≡ Replied reply
+  pub told : answer ≡ Replied (as_told reply)
   pub others : List Event
   pub machine : Machine
   pub adds : Adds c others (called c.number call reply machine ∷ []) d

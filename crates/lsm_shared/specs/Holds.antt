@@ -1,17 +1,19 @@
 -- What a hold of the lock does in which a client takes a turn, or brings a result.
-use Rattle.std.specs.Prelude.{◌≡◌, ◌⊎◌, ℕ, List, []}
+use Rattle.std.specs.Prelude.{◌≡◌, ◌⊎◌, ℕ, List, [], Option, Some, None}
 use Rattle.lsm_device.specs.declared.refusal.Refusal.{Refusal}
+use Rattle.lsm_levels.specs.declared.choosing.Choice.{Choice}
 use Rattle.lsm_merge.specs.Results.{MergeResult}
 use Rattle.lsm_store.specs.Backing.{StoreView, machine_of}
 use Rattle.lsm_store.specs.Calls.{Reply}
-use Rattle.lsm_store.specs.Work.{Work}
+use Rattle.lsm_store.specs.Machine.{Worked}
+use Rattle.lsm_store.specs.Work.{Work, Take}
 use Rattle.lsm_store.specs.Working.{Works}
 use Rattle.lsm_lives.specs.Asked.{Told, Replied}
 use Rattle.lsm_lives.specs.Replaying.{Replays}
 use Rattle.lsm_trail.specs.History.{Event, steps_of, replies_of}
 use Rattle.lsm_trail.specs.Knowledge.{SessionId, Known}
-use Rattle.lsm_shared.specs.Sessions.{SessionView, Enters, IsLost}
-use Rattle.lsm_shared.specs.Turns.{IsTurn, DeniesWork, StopsBefore, IsBrought, IsLeftOfBringing}
+use Rattle.lsm_shared.specs.Sessions.{SessionView, Enters, EntersStep, IsLost}
+use Rattle.lsm_shared.specs.Turns.{MayChoose, IsTurn, DeniesWork, StopsBefore, IsBrought, IsLeftOfBringing}
 use Rattle.lsm_shared.specs.declared.turn.Turn.{Turn}
 use Rattle.lsm_shared.specs.declared.turn.Turn.TheVariants as turn
 
@@ -29,6 +31,21 @@ pub record IsPutBack (id : SessionId) (old : SessionView) (c : Known) (work : Wo
   pub enters : Enters id old c [] new d
   pub out : IsLeftOut old.store work new.store
   pub denied : DeniesWork id.begin new.log work e
+
+-- It took the job of some choice that could be taken, and told the reply.
+pub record IsSomeTaken (id : SessionId) (old : SessionView) (c : Known) (answer : Told) (new : SessionView) (d : Known) : Type 0 where
+  pub choice : Choice
+  pub step : EntersStep id old c (Worked (Take (Some choice))) 0 answer new d
+  pub may : MayChoose (machine_of old.store) choice
+
+-- It took such a job, or none: then all is as it was, but that the client has seen the history.
+abbrev pub IsTakenNext : SessionId → SessionView → Known → Option Told → SessionView → Known → Type 0
+IsTakenNext id old c None new d = Enters id old c [] new d × (new ≡ old)
+IsTakenNext id old c (Some answer) new d = IsSomeTaken id old c answer new d
+
+-- It made no entry of the taking of some choice.
+abbrev pub IsNotTakenNext : SessionId → SessionView → Known → Refusal → SessionView → Known → Type 0
+IsNotTakenNext id old c e new d = (choice : Choice) × IsPutBack id old c (Take (Some choice)) e new d
 
 -- an idle turn leaves the machine as it was
 abbrev pub StaysIfIdle : {A : Type 0} → Turn A → SessionView → SessionView → Type 0

@@ -7,9 +7,9 @@ use Rattle.lsm_device.specs.declared.refusal.Refusal.TheVariants.{NoMemory, Stop
 use Rattle.lsm_device.specs.Medium.{Medium}
 use Rattle.lsm_store.specs.Backing.{StoreView, machine_of, IsBacked}
 use Rattle.lsm_store.specs.Calls.{Call, Reply}
-use Rattle.lsm_store.specs.Calls.{Snapshot, Release, Refused, Value, Rows}
+use Rattle.lsm_store.specs.Calls.{Snapshot, Release, Refused, Value, Rows, as_told}
 use Rattle.lsm_store.specs.Effects.{after}
-use Rattle.lsm_store.specs.Machine.{Step, Called}
+use Rattle.lsm_store.specs.Machine.{Step}
 use Rattle.lsm_store.specs.Refusals.{refusals, first_refusal}
 use Rattle.lsm_store.specs.Run.{Allows, Admits}
 use Rattle.lsm_store.specs.Serving.{Serves}
@@ -18,7 +18,7 @@ use Rattle.lsm_store.specs.Working.{ServesStep}
 use Rattle.lsm_lives.specs.Asked.{Told, Replied}
 use Rattle.lsm_lives.specs.Replaying.{faults_told}
 use Rattle.lsm_trail.specs.Begins.{Begin, base_of, first_machine, CanPin}
-use Rattle.lsm_trail.specs.History.{Event, event, replies_of, inputs_of, calls_in, IsLegal, machine_after, state_after, entries_by, TrailView}
+use Rattle.lsm_trail.specs.History.{Event, event, called, replies_of, inputs_of, calls_in, IsLegal, machine_after, state_after, entries_by, TrailView}
 use Rattle.lsm_trail.specs.Knowledge.{SessionId, Known, View, known, keeper_of, IsKeeperPass}
 use Rattle.lsm_shared.specs.Clients.{AgreesWith, entries_made}
 
@@ -131,9 +131,11 @@ pub record EntersStep (id : SessionId) (old : SessionView) (c : Known) (step : S
   pub told : answer ≡ Replied reply
   pub one : EntersOne id old c (event c.number step reply result (machine_of new.store)) new d
 
--- One hold of the lock made this call of the client.
-abbrev pub IsMade : SessionId → SessionView → Known → Call → Told → SessionView → Known → Type 0
-IsMade id old c call answer new d = EntersStep id old c (Called call) 0 answer new d
+-- One hold of the lock made this call of the client, which was told this of its reply.
+pub record IsMade (id : SessionId) (old : SessionView) (c : Known) (call : Call) (answer : Told) (new : SessionView) (d : Known) : Type 0 where
+  pub reply : Reply
+  pub told : answer ≡ Replied (as_told reply)
+  pub one : EntersOne id old c (called c.number call reply (machine_of new.store)) new d
 
 -- a reply for which memory was short: the store's, or a value or a page of which there is no second copy
 abbrev pub IsLost : Reply → Type 0

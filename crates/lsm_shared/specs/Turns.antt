@@ -1,21 +1,24 @@
 -- What turns of clients do, and results that they bring.
-use Rattle.std.specs.Prelude.{◌≡◌, ℕ, ◌<◌, Bool, true, false, List, [], ◌∷◌, ◌++◌, length, map, Contains, Option, Some, None, if◌then◌else◌}
+use Rattle.std.specs.Prelude.{◌≡◌, ℕ, ◌<◌, Bool, true, false, List, [], ◌∷◌, ◌++◌, length, map, Contains, Option, Some, None, is_some, if◌then◌else◌}
 use Rattle.std.specs.Arc.{arc_value}
 use Rattle.lsm_device.specs.declared.refusal.Refusal.{Refusal}
 use Rattle.lsm_device.specs.declared.refusal.Refusal.TheVariants.{NoMemory, NoSpace, TrailFull}
+use Rattle.lsm_jobs.specs.Slots.{held_jobs}
+use Rattle.lsm_levels.specs.Choices.{chosen}
+use Rattle.lsm_levels.specs.declared.choosing.Choice.{Choice}
 use Rattle.lsm_merge.specs.Inputs.{MergeInput}
 use Rattle.lsm_merge.specs.Results.{MergeResult}
 use Rattle.lsm_store.specs.Calls.{Reply}
 use Rattle.lsm_store.specs.Calls.{Refused}
 use Rattle.lsm_store.specs.Machine.{Machine, Step, Worked}
 use Rattle.lsm_store.specs.Pieces.{piece_at, is_of_full_levels, is_put_off, next_among, next_piece, places_from}
-use Rattle.lsm_store.specs.Work.{Work, Ask, Accept, Drop}
+use Rattle.lsm_store.specs.Work.{Work, Take, Ask, Accept, Drop}
 use Rattle.lsm_store.specs.WorkReplies.{WorkAdmits}
 use Rattle.lsm_lives.specs.Asked.{Told, Replied}
 use Rattle.lsm_lives.specs.Calls.{told_of}
 use Rattle.lsm_trail.specs.Begins.{Begin}
 use Rattle.lsm_trail.specs.History.{Event, worked, lent_to, accepted, steps_of, machine_after}
-use Rattle.lsm_trail.specs.Knowledge.{Known}
+use Rattle.lsm_trail.specs.Knowledge.{Known, Sees}
 use Rattle.lsm_shared.specs.Clients.{Adds}
 use Rattle.lsm_shared.specs.declared.turn.Turn.{Turn}
 use Rattle.lsm_shared.specs.declared.turn.Turn.TheVariants as turn
@@ -95,6 +98,42 @@ pub record IsNoTurn (c : Known) (e : Refusal) (d : Known) : Type 0 where
   pub left : Work
   pub stops : StopsBefore (machine_after d.begin (c.seen ++ others)) (places_from c.number) entries left
   pub denied : DeniesWork d.begin d.seen left e
+
+-- ---- one piece
+
+-- A client did one piece of work, which the store does by itself, behind all that it had seen and what others did since, and was
+-- told its reply.
+pub record MakesPiece (c : Known) (work : Work) (answer : Told) (d : Known) : Type 0 where
+  pub reply : Reply
+  pub told : answer ≡ Replied reply
+  pub others : List Event
+  pub behind : Machine
+  pub adds : Adds c others (worked c.number work reply behind ∷ []) d
+
+-- It could not: the piece is no entry behind the history that the client has seen then.
+pub record IsNoPiece (c : Known) (work : Work) (e : Refusal) (d : Known) : Type 0 where
+  pub others : List Event
+  pub adds : Adds c others [] d
+  pub denied : DeniesWork d.begin d.seen work e
+
+-- a choice whose job may be taken beside the jobs that are held
+abbrev pub MayChoose : Machine → Choice → Type 0
+MayChoose m choice = is_some (chosen m.work.levels (held_jobs m.work.jobs.slots) choice) ≡ true
+
+-- A client took the job of some choice that could be taken behind all that it had seen and what others did since.
+pub record TakesSome (c : Known) (answer : Told) (d : Known) : Type 0 where
+  pub choice : Choice
+  pub piece : MakesPiece c (Take (Some choice)) answer d
+  pub may : MayChoose (machine_after d.begin (c.seen ++ piece.others)) choice
+
+-- It took such a job and was told the reply, or took none and saw the history.
+abbrev pub TakesNext : Known → Option Told → Known → Type 0
+TakesNext c None d = Sees c d
+TakesNext c (Some answer) d = TakesSome c answer d
+
+-- It could not: the taking of some choice is no entry behind the history that the client has seen then.
+abbrev pub IsNoNext : Known → Refusal → Known → Type 0
+IsNoNext c e d = (choice : Choice) × IsNoPiece c (Take (Some choice)) e d
 
 -- ---- results
 

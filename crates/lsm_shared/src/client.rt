@@ -1,16 +1,19 @@
 // The clients of a session.
-ghost use Rattle.std.specs.Prelude.{◌≡◌, [], IfOk, IfErr, MatchResult};
+ghost use Rattle.std.specs.Prelude.{◌≡◌, [], Some, option_map, IfOk, IfErr, MatchResult};
 ghost use Rattle.lsm_lives.specs.Calls.{call_of, told_of};
 ghost use Rattle.lsm_trail.specs.History.{numbers};
 ghost use Rattle.lsm_trail.specs.Knowledge.{known, Sees, known_of, IsClientPass};
 ghost use Rattle.lsm_shared.specs.Clients.{MakesCall, IsNoCall};
-ghost use Rattle.lsm_shared.specs.Turns.{TakesTurn, IsNoTurn, HasLent, WasLent, Brings, IsNotBrought};
+ghost use Rattle.lsm_store.specs.Work.{Take};
+ghost use Rattle.lsm_shared.specs.Turns.{MakesPiece, IsNoPiece, TakesNext, IsNoNext, TakesTurn, IsNoTurn, HasLent, WasLent, Brings, IsNotBrought};
 
 use crate::shared::Shared;
 use crate::turn::Turn;
 use lsm_device::{Device, Refusal};
 use lsm_lives::{Call, Reply};
 use lsm_merge::Built;
+use lsm_policy::Policy;
+use lsm_store::Choice;
 use lsm_trail::{Numbers, Pass, SessionName};
 use std::alloc::Allocator;
 use std::marker::{Model, PhantomData};
@@ -110,6 +113,43 @@ impl<A: Allocator + Clone, B: SessionName> Client<A, B> {
         ensures lent { IfOk result (λ turn. HasLent turn self.new) }
     {
         shared.hold(rt).piece(&shared.counters, self)
+    }
+
+    /// Takes the job of a choice, in one hold of the lock: neighbouring tables of a level from 1 to 3, or the oldest
+    /// run of level 0, with the tables of the next level that meet their hull. What the store refuses is a reply too. Turns of whatever clients do
+    /// the rest of the job.
+    ///
+    /// It is refused with `TrailFull` where the trail has no place for another entry, and with `NoMemory`.
+    pub fn take<D: Device, R: Wait>(
+        &mut self,
+        rt: &R,
+        shared: &Shared<D, A, B>,
+        choice: Choice,
+    ) -> Result<Reply<A>, Refusal>
+        ensures { MatchResult result
+            (λ reply. MakesPiece self.old (Take (Some choice)) (told_of reply) self.new)
+            (λ e. IsNoPiece self.old (Take (Some choice)) e self.new) }
+    {
+        shared.hold(rt).take(&shared.counters, self, choice)
+    }
+
+    /// Takes the job that a policy advises, in one hold of the lock: none, which is no entry, where it advises nothing, where a flush
+    /// is to be taken first, and where the store is stopped. Turns of whatever clients do the rest of the job, so a client that asks
+    /// before each turn works by the policy.
+    ///
+    /// It is refused with `TrailFull` where there is something to take and the trail has no place for another entry, and with
+    /// `NoMemory`.
+    pub fn take_next<D: Device, R: Wait>(
+        &mut self,
+        rt: &R,
+        shared: &Shared<D, A, B>,
+        policy: &Policy,
+    ) -> Result<Option<Reply<A>>, Refusal>
+        ensures { MatchResult result
+            (λ taken. TakesNext self.old (option_map told_of taken) self.new)
+            (λ e. IsNoNext self.old e self.new) }
+    {
+        shared.hold(rt).take_next(&shared.counters, self, policy)
     }
 
     /// Brings a result that was built of an input which a turn of this client handed out, in one hold of the lock. It is accepted

@@ -4,18 +4,19 @@ ghost use Rattle.lsm_lives.specs.Asked.{Own as OfItself, Replied};
 ghost use Rattle.lsm_lives.specs.Calls.{asked_of_work, reply_of, told_of};
 ghost use Rattle.lsm_store.specs.Calls.{Done, reply_of as reply_by};
 ghost use Rattle.lsm_store.specs.Machine.{Worked};
-ghost use Rattle.lsm_store.specs.Working.{Works};
+ghost use Rattle.lsm_store.specs.Working.{Works, taken_reply};
 ghost use Rattle.lsm_shared.specs.Pieces.{work_of};
 
 use lsm_device::{Device, Refusal};
 use lsm_lives::{Reply, Work};
-use lsm_store::Store;
+use lsm_store::{Choice, Store, TakenJob};
 use std::alloc::Allocator;
 
 /// A piece of work that a store does by itself: a build and an accept need an input or a result besides.
 #[derive(Clone, Copy)]
 pub(crate) enum OwnPiece {
     Take,
+    TakeOf(Choice),
     Read(u64),
     Write(u64),
     Install(u64),
@@ -29,6 +30,7 @@ impl OwnPiece {
     {
         match self {
             OwnPiece::Take => Work::Take,
+            OwnPiece::TakeOf(choice) => Work::TakeOf(choice),
             OwnPiece::Read(job) => Work::Read(job),
             OwnPiece::Write(job) => Work::Write(job),
             OwnPiece::Install(job) => Work::Install(job),
@@ -42,10 +44,8 @@ impl OwnPiece {
         ensures told { told_of result ≡ Replied (reply_of result) }
     {
         match self {
-            OwnPiece::Take => match store.job_take() {
-                Ok(job) => Reply::Taken(job),
-                Err(refusal) => Reply::Refused(refusal),
-            },
+            OwnPiece::Take => taken(store.job_take()),
+            OwnPiece::TakeOf(choice) => taken(store.job_take_of(choice)),
             OwnPiece::Read(job) => match store.job_read(job) {
                 Ok(left) => Reply::Number(left as u64),
                 Err(refusal) => Reply::Refused(refusal),
@@ -57,6 +57,17 @@ impl OwnPiece {
             OwnPiece::Install(job) => done(store.job_install(job)),
             OwnPiece::Drop(job) => done(store.job_drop(job)),
         }
+    }
+}
+
+/// The reply to a taking.
+fn taken<A: Allocator>(answered: Result<Option<TakenJob>, Refusal>) -> Reply<A>
+    ensures reply { reply_of result ≡ reply_by taken_reply answered }
+    ensures told { told_of result ≡ Replied (reply_of result) }
+{
+    match answered {
+        Ok(job) => Reply::Taken(job),
+        Err(refusal) => Reply::Refused(refusal),
     }
 }
 

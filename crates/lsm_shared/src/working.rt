@@ -1,5 +1,5 @@
 // Pieces of work in a hold of the lock.
-ghost use Rattle.std.specs.Prelude.{◌≡◌, ◌≢◌, ◌∷◌, ℕ, [], Some, false, MatchBool, MatchResult};
+ghost use Rattle.std.specs.Prelude.{◌≡◌, ◌≢◌, ◌∷◌, ℕ, [], Some, false, option_map, IfSome, MatchBool, MatchResult};
 ghost use Rattle.lsm_device.specs.declared.refusal.Refusal.TheVariants.{NoMemory};
 ghost use Rattle.std.specs.Arc.{arc_value};
 ghost use Rattle.lsm_merge.specs.Inputs.{kept_of};
@@ -9,12 +9,12 @@ ghost use Rattle.lsm_store.specs.Backing.{machine_of};
 ghost use Rattle.lsm_store.specs.Calls.{Handed, Refused};
 ghost use Rattle.lsm_store.specs.Pieces.{piece_at, is_put_off, places_from};
 ghost use Rattle.lsm_store.specs.Machine.{Worked};
-ghost use Rattle.lsm_store.specs.Work.{Ask, Accept, Install};
+ghost use Rattle.lsm_store.specs.Work.{Take, Ask, Accept, Install};
 ghost use Rattle.lsm_store.specs.Working.{Works};
-ghost use Rattle.lsm_shared.specs.Holds.{IsPutBack, TakesAmong, StopsAmong, IsBroughtBy, StopsBringing};
+ghost use Rattle.lsm_shared.specs.Holds.{IsPutBack, IsTakenNext, IsNotTakenNext, TakesAmong, StopsAmong, IsBroughtBy, StopsBringing};
 ghost use Rattle.lsm_shared.specs.Pieces.{work_of};
 ghost use Rattle.lsm_shared.specs.Sessions.{HasSeen, EntersStep};
-ghost use Rattle.lsm_shared.specs.Turns.{WasLent, tells_full_levels, tells_no_space};
+ghost use Rattle.lsm_shared.specs.Turns.{MayChoose, WasLent, tells_full_levels, tells_no_space};
 
 use crate::answer::answer_of;
 use crate::client::Client;
@@ -22,9 +22,11 @@ use crate::pieces::{OwnPiece, done};
 use crate::session::Session;
 use crate::turn::Turn;
 use lsm_device::{Device, Refusal};
+use lsm_levels::HeldJobs;
 use lsm_lives::Reply;
 use lsm_merge::{Built, Input};
-use lsm_store::Piece;
+use lsm_policy::Policy;
+use lsm_store::{Choice, Piece, Store};
 use lsm_trail::{Counters, Entry, SessionName};
 use std::alloc::Allocator;
 use std::sync::Arc;
@@ -52,6 +54,41 @@ impl<D: Device, A: Allocator + Clone, B: SessionName> Session<D, A, B> {
             (first + 3) % SLOTS,
         ];
         self.turn_among(counters, me, &places)
+    }
+
+    /// Takes the job of a choice, as [`Client::take`] says. The client sees the history first.
+    pub fn take(
+        &mut self,
+        counters: &Counters<D, A, B>,
+        me: &mut Client<A, B>,
+        choice: Choice,
+    ) -> Result<Reply<A>, Refusal>
+        ensures { MatchResult result
+            (λ reply. EntersStep B.id self.old me.old (Worked (Take (Some choice))) 0 (told_of reply) self.new me.new)
+            (λ e. IsPutBack B.id self.old me.old (Take (Some choice)) e self.new me.new) }
+    {
+        self.show(counters, me);
+        let reply = self.work(counters, me, OwnPiece::TakeOf(choice))?;
+        Ok(reply)
+    }
+
+    /// Takes the job that a policy advises, as [`Client::take_next`] says. The client sees the history first.
+    pub fn take_next(
+        &mut self,
+        counters: &Counters<D, A, B>,
+        me: &mut Client<A, B>,
+        policy: &Policy,
+    ) -> Result<Option<Reply<A>>, Refusal>
+        ensures { MatchResult result
+            (λ taken. IsTakenNext B.id self.old me.old (option_map told_of taken) self.new me.new)
+            (λ e. IsNotTakenNext B.id self.old me.old e self.new me.new) }
+    {
+        self.show(counters, me);
+        let Some(choice) = advised(&self.store, policy) else {
+            return Ok(None);
+        };
+        let reply = self.work(counters, me, OwnPiece::TakeOf(choice))?;
+        Ok(Some(reply))
     }
 
     // Takes a turn over the slots at these places, in this order.
@@ -268,6 +305,20 @@ impl<D: Device, A: Allocator + Clone, B: SessionName> Session<D, A, B> {
         self.history.enter(counters, me, entry, &self.store);
         Ok(answer)
     }
+}
+
+// What a policy advises to take: nothing where the store is stopped, or a flush is to be taken first.
+fn advised<D: Device, A: Allocator>(store: &Store<D, A>, policy: &Policy) -> Option<Choice>
+    ensures { IfSome result (λ choice. MayChoose (machine_of store.now) choice) }
+{
+    let Ok(stat) = store.stat() else {
+        return None;
+    };
+    let jobs = store.jobs();
+    if stat.waiting && !jobs.has_flush() {
+        return None;
+    }
+    policy.next_choice(store.levels(), stat.free_blocks, jobs)
 }
 
 // Whether a refusal tells of want of memory.

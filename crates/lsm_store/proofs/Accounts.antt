@@ -19,7 +19,7 @@ use Rattle.lsm_jobs.specs.Slots.{Stage, Reading, Frozen, Writing, Slot, Slots, s
 use Rattle.lsm_jobs.specs.Taking.{first_stage, slot_for, with_taken}
 use Rattle.lsm_jobs.proofs.Found.{found_there}
 use Rattle.lsm_store.specs.Accounts.{is_same_extent, extents_like, tables_like, outputs_in, tables_placed, AreAccounted, AccountsLaw, AccountedLaw}
-use Rattle.lsm_store.specs.Calls.{Call, Commit, Sync, SyncTo, Get, Scan, Snapshot, Release, Rotate, LogRoom}
+use Rattle.lsm_store.specs.Calls.{Call, Commit, CommitIf, Sync, SyncTo, Get, Scan, Snapshot, Release, Rotate, LogRoom}
 use Rattle.lsm_store.specs.Refusals.{first_refusal}
 use Rattle.lsm_store.specs.Work.{WorkView, Work, Take, Read, Ask, Accept, Write, Install, Drop, cuts_of}
 use Rattle.lsm_store.specs.WorkEffects.{with_slot_of, staged, with_placed, with_installed, without_job, work_after, work_called}
@@ -269,7 +269,7 @@ module _ (m : Machine) (accounts : AreAccounted m.work) where
         by (Some slot) is = dropped_accounts m.work accounts whole job slot is
 
 worked_accounts : (m : Machine) (work : Work) → AreAccounted m.work → IsPartition m.work.area → AreRuns m.work.levels → AreKept m.work.levels m.work.jobs.next m.work.jobs.slots → running_refusal m work ≡ None → AreAccounted (work_after m work)
-worked_accounts m Take accounts whole runs kept none = taken_accounts m accounts (job_given m)
+worked_accounts m (Take asked) accounts whole runs kept none = taken_accounts m accounts (job_given m asked)
 worked_accounts m (Read job) accounts whole runs kept none = read_accounts m accounts job none
 worked_accounts m (Ask job) accounts whole runs kept none = accounts
 worked_accounts m (Accept job result) accounts whole runs kept none = accept_accounts m accounts job result none
@@ -279,6 +279,7 @@ worked_accounts m (Drop job) accounts whole runs kept none = drop_accounts m acc
 
 called_accounts : (m : Machine) (call : Call) → AreAccounted m.work → AreAccounted (work_called m call)
 called_accounts m (Commit batch) accounts = record { each = accounts.each }
+called_accounts m (CommitIf guards batch) accounts = record { each = accounts.each }
 called_accounts m Sync accounts = accounts
 called_accounts m (SyncTo number) accounts = accounts
 called_accounts m (Get at key) accounts = accounts

@@ -21,7 +21,8 @@ use Rattle.lsm_jobs.specs.Refusing.{HasInput, HasOtherInput, RefusesInput, Refus
 use Rattle.lsm_jobs.specs.Placing.{ArePlaced, FindNoRoom}
 use Rattle.lsm_store.specs.Calls.{Number, Done, Handed}
 use Rattle.lsm_store.specs.Work.{WorkView}
-use Rattle.lsm_store.specs.WorkRefusals.{held, of_slot, is_same_list, is_same_value, is_same_version, is_same_input, placing}
+use Rattle.lsm_codec.specs.Guards.{is_same_value}
+use Rattle.lsm_store.specs.WorkRefusals.{held, of_slot, is_same_list, is_same_version, is_same_input, placing}
 use Rattle.lsm_store.specs.WorkEffects.{left_then, staged, with_placed}
 use Rattle.lsm_store.specs.JobAnswers.{LendsInput, AcceptsResult, WritesSome, ReadsSome, EndsWritten, JobsLaw}
 use Rattle.lsm_store.specs.Machine.{Machine}

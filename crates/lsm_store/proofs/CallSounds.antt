@@ -29,7 +29,7 @@ use Rattle.lsm_jobs.specs.Taking.{runs_of}
 use Rattle.lsm_store.specs.RecoveryPoints.{batch_count, present_map, with_batch as points_with, all_synced}
 use Rattle.lsm_store.specs.State.{State, OpenLog, LiveSnapshot, fits_in, are_waiting}
 use Rattle.lsm_store.specs.Calls.{Call}
-use Rattle.lsm_store.specs.Calls.{Commit, Sync, SyncTo, Get, Scan, Snapshot, Release, Rotate, LogRoom}
+use Rattle.lsm_store.specs.Calls.{Commit, CommitIf, Sync, SyncTo, Get, Scan, Snapshot, Release, Rotate, LogRoom}
 use Rattle.lsm_store.specs.Refusals.{refusal}
 use Rattle.lsm_store.specs.Effects.{with_sectors, next_taken, without, after, rotated}
 use Rattle.lsm_store.specs.StateMaps.{points_of, HaveMaps}
@@ -39,7 +39,7 @@ use Rattle.lsm_store.specs.WorkMaps.{IsUnique}
 use Rattle.lsm_store.specs.WorkSound.{IsSound, CallSoundLaw, RotationSoundLaw}
 use Rattle.lsm_store.specs.Machine.{Machine}
 use Rattle.lsm_store.proofs.InstalledMaps.{table_versions, in_has, commit_law}
-use Rattle.lsm_store.proofs.Unrefused.{unrefused_commit, unrefused_rotation}
+use Rattle.lsm_store.proofs.Unrefused.{unrefused_commit, unrefused_rotation, unguarded}
 use Rattle.lsm_store.proofs.Remembering.{present_map-points_of, all_synced-points_of, points_of-next}
 use Rattle.lsm_store.proofs.StateMaps.{count_is, synced_is}
 use Rattle.lsm_store.proofs.WorkSounds.{Goes, job_goes, machine}
@@ -376,6 +376,9 @@ module _ (m : Machine) (sound : IsSound m) where
   call_sound : (call : Call) → refusal m.state call ≡ None → IsSound (machine (after m.state call) (work_called m call))
   call_sound (Commit batch) none =
       let log = open_at batch m.state.open_log (unrefused_commit m.state batch none).fits in
+      commit_sound batch log.0 log.1
+  call_sound (CommitIf guards batch) none =
+      let log = open_at batch m.state.open_log (unrefused_commit m.state batch (unguarded m.state guards batch none)).fits in
       commit_sound batch log.0 log.1
   call_sound Sync none = sync_sound (after m.state Sync) refl refl refl refl
   call_sound (SyncTo number) none = sync_to_sound number

@@ -4,7 +4,7 @@ use Rattle.std.proofs.lemmas.List.{append-nil}
 use Rattle.lsm_codec.specs.Map.{Operation}
 use Rattle.lsm_device.specs.declared.refusal.Refusal.TheVariants.{Io}
 use Rattle.lsm_store.specs.Calls.{Reply}
-use Rattle.lsm_store.specs.Calls.{Commit, Sync, SyncTo, Get, Scan, Snapshot, Release, Rotate, LogRoom, Number, Done, Value, Rows, Given, Handed, Refused}
+use Rattle.lsm_store.specs.Calls.{Commit, CommitIf, Sync, SyncTo, Get, Scan, Snapshot, Release, Rotate, LogRoom, Number, Done, Value, Rows, Given, Handed, Refused, Unread}
 use Rattle.lsm_store.specs.Machine.{Machine, Step, Called, Worked}
 use Rattle.lsm_store.specs.Run.{next_machine, Run}
 use Rattle.lsm_store.specs.Promise.{in_flight}
@@ -21,6 +21,16 @@ flight_step (Called (Commit batch)) (Value v) = inl (λ steps replies. refl)
 flight_step (Called (Commit batch)) (Rows page) = inl (λ steps replies. refl)
 flight_step (Called (Commit batch)) (Given job) = inl (λ steps replies. refl)
 flight_step (Called (Commit batch)) (Handed input) = inl (λ steps replies. refl)
+flight_step (Called (Commit batch)) Unread = inl (λ steps replies. refl)
+flight_step (Called (CommitIf guards batch)) (Refused Io) = inr (batch, λ steps replies. refl)
+flight_step (Called (CommitIf guards batch)) (Refused e) = inl (λ steps replies. refl)
+flight_step (Called (CommitIf guards batch)) (Number n) = inl (λ steps replies. refl)
+flight_step (Called (CommitIf guards batch)) Done = inl (λ steps replies. refl)
+flight_step (Called (CommitIf guards batch)) (Value v) = inl (λ steps replies. refl)
+flight_step (Called (CommitIf guards batch)) (Rows page) = inl (λ steps replies. refl)
+flight_step (Called (CommitIf guards batch)) (Given job) = inl (λ steps replies. refl)
+flight_step (Called (CommitIf guards batch)) (Handed input) = inl (λ steps replies. refl)
+flight_step (Called (CommitIf guards batch)) Unread = inl (λ steps replies. refl)
 flight_step (Called Sync) reply = inl (λ steps replies. refl)
 flight_step (Called (SyncTo number)) reply = inl (λ steps replies. refl)
 flight_step (Called (Get at key)) reply = inl (λ steps replies. refl)
@@ -35,6 +45,7 @@ flight_step (Worked piece) reply = inl (λ steps replies. refl)
 pub one_in_flight : (steps : List Step) (replies : List Reply) → length (in_flight steps replies) ≤ 1
 one_in_flight [] replies = omega arith
 one_in_flight (Called (Commit batch) ∷ steps) [] = omega arith
+one_in_flight (Called (CommitIf guards batch) ∷ steps) [] = omega arith
 one_in_flight (Called Sync ∷ steps) [] = omega arith
 one_in_flight (Called (SyncTo number) ∷ steps) [] = omega arith
 one_in_flight (Called (Get at key) ∷ steps) [] = omega arith

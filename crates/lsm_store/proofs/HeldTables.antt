@@ -7,6 +7,7 @@ use Rattle.lsm_codec.specs.Versions.{Version}
 use Rattle.lsm_device.specs.Medium.{Medium}
 use Rattle.lsm_merge.specs.Inputs.{MergeInput, AreRuns as AreEntryRuns}
 use Rattle.lsm_levels.specs.Held.{AreRuns, IsHeld}
+use Rattle.lsm_levels.specs.declared.choosing.Choice.{Choice}
 use Rattle.lsm_extent.specs.Area.{Area, IsPartition}
 use Rattle.lsm_extent.specs.declared.extent.Extent.{Extent}
 use Rattle.lsm_levels.specs.Levels.{Levels, all_tables, places}
@@ -23,7 +24,7 @@ use Rattle.lsm_jobs.specs.Slots.{Frozen, Writing, Slot, Slots, JobSlots, slot_of
 use Rattle.lsm_jobs.specs.StoredJobs.{HasStored}
 use Rattle.lsm_jobs.specs.Taking.{runs_of, first_stage, given_job, slot_for, with_taken}
 use Rattle.lsm_jobs.proofs.Found.{found_there, found_number}
-use Rattle.lsm_jobs.proofs.KeptJobs.{given_taken, going_on_law, freeing_law}
+use Rattle.lsm_jobs.proofs.KeptJobs.{given_may, may_taken, going_on_law, freeing_law}
 use Rattle.lsm_jobs.proofs.StoredTakings.{stored_taking_law}
 use Rattle.lsm_codec.proofs.Lists.{all_left, all_right, all_append}
 use Rattle.lsm_open.specs.ToldTables.{IsOutlined}
@@ -75,21 +76,21 @@ held_outlined ts job now slots one all =
 
 -- ---- a taking
 
-module _ (waiting : Bool) (levels : Levels) (sealed : List Version) (cuts : List ℕ) (js : JobSlots) (runs : AreRuns levels) (area : Area) (have : HaveTables levels js area) where
+module _ (waiting : Bool) (asked : Option Choice) (levels : Levels) (sealed : List Version) (cuts : List ℕ) (js : JobSlots) (runs : AreRuns levels) (area : Area) (have : HaveTables levels js area) where
   abbrev after : Option Job → JobSlots
   after o = with_taken sealed cuts levels o js
 
-  taken_by : (o : Option Job) → given_job waiting levels js.slots ≡ o → HaveTables levels (after o) area
+  taken_by : (o : Option Job) → given_job waiting asked levels js.slots ≡ o → HaveTables levels (after o) area
   taken_by None given = have
   taken_by (Some job) given = record {
-    kept = given_taken waiting levels js.next js.slots sealed cuts job runs have.kept given;
+    kept = may_taken levels js.next js.slots sealed cuts job have.kept (given_may waiting levels asked js.slots job given runs);
     merges = with_slot_merges (slot_for js.next sealed cuts levels job) js.slots (first_merges job) have.merges;
     accounted = λ e. have.accounted e ∙ ap (λ (ts : List Table). tables_like e (all_tables (places levels) ++ ts)) (sym (taken_outputs (slot_for js.next sealed cuts levels job) js.slots (first_none job)));
     outlined = subst (λ (ts : List Table). AllByRecursion IsOutlined (all_tables (places levels) ++ ts)) (sym (taken_outputs (slot_for js.next sealed cuts levels job) js.slots (first_none job))) have.outlined;
   }
 
-  pub taken_tables : HaveTables levels (after (given_job waiting levels js.slots)) area
-  taken_tables = taken_by (given_job waiting levels js.slots) refl
+  pub taken_tables : HaveTables levels (after (given_job waiting asked levels js.slots)) area
+  taken_tables = taken_by (given_job waiting asked levels js.slots) refl
 
 -- it is the same with other sealed versions, where the job is no flush
 pub same_taken : (sealed others : List Version) (cuts : List ℕ) (levels : Levels) (o : Option Job) (js : JobSlots) → (o ≡ Some Flush → sealed ≡ others) → with_taken sealed cuts levels o js ≡ with_taken others cuts levels o js

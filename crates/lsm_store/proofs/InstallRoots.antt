@@ -104,7 +104,7 @@ module _ {A : Type 0} (m : Memory A) (kept : AreConsistent m) (runs : AreRuns m.
     ready_for ready = subst (λ (g : ℕ). IsReady medium.size m.regions.log_sectors g (disk medium)) (generation_is (layout_of m.regions) (batch_count (state_of m).points) m.next_table n.slot.job) ready
 
     pub installing_root : (IsTrue medium.lasting.tells → IsReady medium.size root.log root.manifest.generation (disk medium) → EachSince (Leaves (IsOldOrNew (disk medium) (Stands root.log root.manifest))) medium.history new.history)
-        → AtMost 0 38 2 medium.calls new.calls → new.size ≡ medium.size → new.lasting ≡ medium.lasting
+        → AtMost 0 42 2 medium.calls new.calls → new.size ≡ medium.size → new.lasting ≡ medium.lasting
         → IsInstalling m.regions.log_sectors (m.regions.generation + 1) (contents_for (placement_of (installed_on (view_of medium m cache) job n.slot new))) medium new
     installing_root moments calls same_size same_lasting = record {
       moments = λ tells ready. subst (λ (p : Planned). IsReady medium.size p.log p.manifest.generation (disk medium) → EachSince (Leaves (IsOldOrNew (disk medium) (Stands p.log p.manifest))) medium.history new.history) planned_is (moments tells) (ready_for ready);

@@ -254,7 +254,7 @@ module _ (m : Machine) (sound : IsSound m) where
       by (Some slot) is g = install_one job slot is (writes_written slot.stage (not_not (is_written slot.stage) g))
 
   work_sound : (work : Work) → running_refusal m work ≡ None → IsServed m work → IsSound (machine (state_after m work) (work_after m work))
-  work_sound Take none served = take_sound m sound
+  work_sound (Take asked) none served = take_sound m sound asked
   work_sound (Read job) none served = read_sound m sound job
   work_sound (Ask job) none served = sound
   work_sound (Accept job result) none served = accept_sound m sound job result served

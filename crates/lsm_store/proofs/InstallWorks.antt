@@ -63,7 +63,7 @@ module _ (v : StoreView) (job : ℕ) (none : running_refusal (machine_of v) (Ins
   unrefused = running_refuses (machine_of v) (Install job) running ∙ none
 
   -- the device is used as an install may use it
-  used_so : (reply : Reply) → work_use_before Changes reply ≡ Changes → (new : Medium) → AtMost 0 38 2 v.device.calls new.calls → IsWorkUsed (Install job) (work_use_by (machine_of v) (Install job) reply) v.device new
+  used_so : (reply : Reply) → work_use_before Changes reply ≡ Changes → (new : Medium) → AtMost 0 42 2 v.device.calls new.calls → IsWorkUsed (Install job) (work_use_by (machine_of v) (Install job) reply) v.device new
   used_so reply changes new calls =
       let is : work_use_by (machine_of v) (Install job) reply ≡ Changes = ap (λ (o : Option Refusal). cond (is_some o) Untouched (work_use_before Changes reply)) unrefused ∙ changes in
       subst (λ (u : Use). IsWorkUsed (Install job) u v.device new) (sym is) calls

@@ -11,6 +11,6 @@ use Rattle.lsm_root.specs.Roots.{Stands}
 -- So it is whether the installation is answered Ok or with a fault.
 pub record IsInstalling (log generation : ℕ) (c : Contents) (old new : Medium) : Type 0 where
   pub moments : IsTrue old.lasting.tells → IsReady old.size log generation (disk old) → EachSince (Leaves (IsOldOrNew (disk old) (Stands log c))) old.history new.history
-  pub calls : AtMost 0 38 2 old.calls new.calls
+  pub calls : AtMost 0 42 2 old.calls new.calls
   pub same_size : new.size ≡ old.size
   pub same_lasting : new.lasting ≡ old.lasting

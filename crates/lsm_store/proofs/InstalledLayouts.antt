@@ -34,9 +34,10 @@ use Rattle.lsm_store.proofs.ManifestRecords.{records_count}
 use Rattle.lsm_store.proofs.NamedTables.{IsSized, MayBeNamed, sized_by, named_inside, named_fit, named_within}
 use Rattle.lsm_store.proofs.StoredLevels.{installed_have}
 use Rattle.lsm_store.proofs.TableNumbers.{in_all, in_each_run}
+use Rattle.lsm_table.proofs.Deletes.{few_deletes}
 use Rattle.lsm_table.proofs.Outlines.{outline_fits}
 use Rattle.lsm_table.specs.BlockEdges.{edges_of}
-use Rattle.lsm_table.specs.Division.{TableBlocks, IsTable}
+use Rattle.lsm_table.specs.Division.{TableBlocks, IsTable, entries_of}
 
 -- ---- the sizes of outputs
 
@@ -47,7 +48,7 @@ image_sized : (number start : ℕ) (image : TableBlocks) → IsTable image → I
 image_sized number start image is =
     let o = (outline_fits 0 [] image (omega arith) is).summary in
     let few = index_few (index_length (edges_of image)) o.index_low o.index_high in
-    record { data_low = o.blocks_low; data_high = o.blocks_high; index_low = few.0; index_high = few.1; entries_low = o.entries_low; entries_high = o.entries_high }
+    record { data_low = o.blocks_low; data_high = o.blocks_high; index_low = few.0; index_high = few.1; entries_low = o.entries_low; entries_high = o.entries_high; deletes = few_deletes (entries_of image) }
 
 -- a table has an outline, and sizes within the limits
 abbrev IsWhole : Table → Type 0

@@ -24,6 +24,9 @@ pub mod Unrefused
 pub mod Marking
 pub mod ReadViews
 pub mod ReadCalls
+pub mod GuardReads
+pub mod Guarding
+pub mod NoGuards
 pub mod Snapshotting
 pub mod Checking
 mod WorkedCalls

@@ -7,7 +7,7 @@ use Rattle.lsm_codec.specs.Map.{Operation, apply_all}
 use Rattle.lsm_open.specs.CrashState.{CrashState, left_by_opening}
 use Rattle.lsm_open.proofs.Openings.{one_opening}
 use Rattle.lsm_store.specs.Calls.{Reply}
-use Rattle.lsm_store.specs.Calls.{Number, Done, Value, Rows, Given, Handed, Refused}
+use Rattle.lsm_store.specs.Calls.{Number, Done, Value, Rows, Given, Handed, Refused, Unread}
 use Rattle.lsm_store.specs.Machine.{Step}
 use Rattle.lsm_store.specs.Promise.{accepted, acknowledged, in_flight, IsBeginning}
 use Rattle.lsm_store.specs.Lives.{Life, KeptByLife, IsAfter, PromiseOverLives}
@@ -59,6 +59,7 @@ module _ (before : List (List Operation)) (opened : CrashState) (was : IsAfter b
   one_life log_sectors steps (Rows page ∷ replies) left life = absurd life.answered
   one_life log_sectors steps (Given job ∷ replies) left life = absurd life.answered
   one_life log_sectors steps (Handed input ∷ replies) left life = absurd life.answered
+  one_life log_sectors steps (Unread ∷ replies) left life = absurd life.answered
 
 pub promise_over_lives : PromiseOverLives
 promise_over_lives log_sectors before opened [] [] left was same = (before, (refl, same, subst (IsAfter before) (sym same) was))

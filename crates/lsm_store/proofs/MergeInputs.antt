@@ -7,8 +7,7 @@ use Rattle.lsm_levels.proofs.HullLaws.{hull_covers}
 use Rattle.lsm_levels.proofs.KeyOrder.{at_most_trans, at_most_itself}
 use Rattle.lsm_levels.proofs.Members.{among_left, among_right, among_either, among_passed, passed_among}
 use Rattle.lsm_levels.proofs.Ranges.{no, in_run, run_order, other_apart, apart_left, apart_right}
-use Rattle.lsm_levels.proofs.Runs.{run_at}
-use Rattle.lsm_levels.proofs.Surviving.{single_range}
+use Rattle.lsm_levels.proofs.Runs.{run_at, upper_is}
 use Rattle.lsm_levels.proofs.Taking.{in_tables, of_table, covers_meets}
 use Rattle.lsm_levels.specs.Among.{IsAmong}
 use Rattle.lsm_levels.specs.Held.{AreRuns, IsUpper, HasItsTables}
@@ -70,26 +69,11 @@ module _ (levels : Levels) (bottom : Bool) (i : ℕ) (upper lower : List Table) 
   -- the upper tables are those
   upper_only : (j : ℕ) → IsUpper levels j upper → (t : Table) → IsAmong t (uppers_at levels j held.range) → IsAmong t upper
   upper_only zero is t a = subst (λ (ts : List Table). IsAmong t ts) is.1 a
-  upper_only (suc j) is t a =
-      let one = is.0 in
-      let p = passed_among (meets r) t (level levels (suc j)) a in
-      let run = run_at levels runs j in
-      let range : held.range ≡ range_of one = single_range one upper r is.1 held.hull_is in
-      subst (λ (ts : List Table). IsAmong t ts) (sym is.1)
-      (⊎_elim (λ same. inl (sym same)) (λ other. absurd (no (sym (subst (λ (q : KeyRange). meets q t ≡ true) range p.1) ∙ beside one t other))) (in_run (level levels (suc j)) run one t is.2 p.0))
-    where
-      beside : (a t : Table) → (is_below a.last t.first ≡ true) ⊎ (is_below t.last a.first ≡ true) → meets (range_of a) t ≡ false
-      beside a t = ⊎_elim (λ h. apart_right (range_of a) t h) (λ h. apart_left (range_of a) t h)
+  upper_only (suc j) is t a = subst (λ (ts : List Table). IsAmong t ts) (sym (upper_is levels j upper r held.hull_is is)) a
 
   upper_all : (j : ℕ) → IsUpper levels j upper → (t : Table) → IsAmong t upper → IsAmong t (uppers_at levels j held.range)
   upper_all zero is t a = subst (λ (ts : List Table). IsAmong t ts) (sym is.1) a
-  upper_all (suc j) is t a =
-      let one = is.0 in
-      let run = run_at levels runs j in
-      let range : held.range ≡ range_of one = single_range one upper r is.1 held.hull_is in
-      let order = run_order (level levels (suc j)) run one is.2 in
-      let met : meets r one ≡ true = subst (λ (q : KeyRange). meets q one ≡ true) (sym range) (covers_meets (range_of one) one one.first (at_most_itself one.first) order (at_most_itself one.first) order) in
-      ⊎_elim (λ same. subst (λ (x : Table). IsAmong x (that_meet r (level levels (suc j)))) (sym same) (among_passed (meets r) one (level levels (suc j)) is.2 met)) (λ none. absurd none) (subst (λ (ts : List Table). IsAmong t ts) is.1 a)
+  upper_all (suc j) is t a = subst (λ (ts : List Table). IsAmong t ts) (upper_is levels j upper r held.hull_is is) a
 
   pub upper_in : (t : Table) → IsAmong t (uppers_at levels i held.range) → IsAmong t upper
   upper_in t a = upper_only i held.uppers t a

@@ -74,10 +74,10 @@ abbrev pub IsSized : Table → Type 0
 IsSized t = HasSizes (record_of 0 0 t)
 
 at_level : (lev run : ℕ) (t : Table) → IsSized t → HasSizes (record_of lev run t)
-at_level lev run t sizes = record { data_low = sizes.data_low; data_high = sizes.data_high; index_low = sizes.index_low; index_high = sizes.index_high; entries_low = sizes.entries_low; entries_high = sizes.entries_high }
+at_level lev run t sizes = record { data_low = sizes.data_low; data_high = sizes.data_high; index_low = sizes.index_low; index_high = sizes.index_high; entries_low = sizes.entries_low; entries_high = sizes.entries_high; deletes = sizes.deletes }
 
 of_level : (lev run : ℕ) (t : Table) → HasSizes (record_of lev run t) → IsSized t
-of_level lev run t sizes = record { data_low = sizes.data_low; data_high = sizes.data_high; index_low = sizes.index_low; index_high = sizes.index_high; entries_low = sizes.entries_low; entries_high = sizes.entries_high }
+of_level lev run t sizes = record { data_low = sizes.data_low; data_high = sizes.data_high; index_low = sizes.index_low; index_high = sizes.index_high; entries_low = sizes.entries_low; entries_high = sizes.entries_high; deletes = sizes.deletes }
 
 -- the tables that a manifest names have them
 pub sized_by : (levels : Levels) → All HasSizes (records_of levels) → AllByRecursion IsSized (all_tables (places levels))

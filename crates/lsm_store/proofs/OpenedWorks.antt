@@ -224,7 +224,7 @@ module _ (size log_sectors count : ℕ) (left : CrashState) (p : Placement) (sea
   }
 
   served_is : (work : Work) → IsServed m work
-  served_is Take = tt
+  served_is (Take asked) = tt
   served_is (Read job) = tt
   served_is (Ask job) = tt
   served_is (Accept job result) = λ slot new held placed. absurd (none_some slot held)

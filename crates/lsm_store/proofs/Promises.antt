@@ -13,8 +13,8 @@ use Rattle.lsm_open.specs.CrashState.{CrashState}
 use Rattle.lsm_store.specs.RecoveryPoints.{RecoveryPoints, recovery_points, with_batch, batch_count, present_map}
 use Rattle.lsm_store.specs.State.{State}
 use Rattle.lsm_store.specs.Calls.{Call}
-use Rattle.lsm_store.specs.Calls.{Commit, Sync, SyncTo, Get, Scan, Snapshot, Release, Rotate, LogRoom}
-use Rattle.lsm_store.specs.Refusals.{refusals, first_refusal, refusal}
+use Rattle.lsm_store.specs.Calls.{Commit, CommitIf, Sync, SyncTo, Get, Scan, Snapshot, Release, Rotate, LogRoom}
+use Rattle.lsm_store.specs.Refusals.{refusals, first_refusal, later_refusals, full_refusal}
 use Rattle.lsm_store.specs.Effects.{after}
 use Rattle.lsm_store.specs.Crash.{crash_state_at, left_between, left_with, may_leave, last_crash_state, left_besides, reopened}
 use Rattle.lsm_store.specs.Machine.{Machine, Step, Called, Worked}
@@ -107,6 +107,7 @@ module _ (opened : CrashState) (done : List (List Operation)) (known : ℕ) (fli
   -- what a call adds
   kept_by_call : (call : Call) (left : CrashState) → Contains (left_besides t call) left → IsBeginning opened (done ++ in_flight (Called call ∷ []) []) known left
   kept_by_call (Commit batch) left found = kept_whole batch left (one_in (last_crash_state (after t (Commit batch))) left found)
+  kept_by_call (CommitIf guards batch) left found = kept_whole batch left (one_in (last_crash_state (after t (Commit batch))) left found)
   kept_by_call Sync left found = absurd (none_in left found)
   kept_by_call (SyncTo number) left found = absurd (none_in left found)
   kept_by_call (Get at key) left found = absurd (none_in left found)
@@ -144,8 +145,8 @@ unrefused_runs false rest is = refl
 module _ (opened : CrashState) (done : List (List Operation)) (known : ℕ) (flight : List (List Operation)) (x : Machine) (here : IsReached opened.count opened.map done known flight x.state) where
   inside_step : (step : Step) (longer : List (List Operation)) → IsMore flight (in_flight (step ∷ []) []) longer → (left : CrashState) → Contains (left_in_step x step) left → IsBeginning opened (done ++ longer) known left
   inside_step (Called call) longer more left found =
-      kept_inside opened done known flight x.state here (Called call) longer more left (is_some (refusal x.state call)) (left_besides x.state call)
-      (unrefused_runs (is_some x.state.stopped) (first_refusal (refusals x.state call)))
+      kept_inside opened done known flight x.state here (Called call) longer more left (is_some (full_refusal x.state call)) (left_besides x.state call)
+      (unrefused_runs (is_some x.state.stopped) (first_refusal (refusals x.state call ++ later_refusals x.state call)))
       (λ added. kept_by_call opened done known flight x.state here call left added) found
   inside_step (Worked piece) longer more left found =
       kept_inside opened done known flight x.state here (Worked piece) longer more left (is_some (work_refusal x piece)) (work_left_besides x piece)

@@ -14,9 +14,9 @@ use Rattle.lsm_open.specs.CrashState.{CrashState}
 use Rattle.lsm_store.specs.RecoveryPoints.{RecoveryPoint, RecoveryPoints, with_batch, all_synced, batch_count, present_map}
 use Rattle.lsm_store.specs.State.{State}
 use Rattle.lsm_store.specs.Calls.{Call, Reply}
-use Rattle.lsm_store.specs.Calls.{Commit, Sync, SyncTo, Get, Scan, Snapshot, Release, Rotate, LogRoom, Number, Done, Value, Rows, Given, Handed, Refused}
-use Rattle.lsm_store.specs.Refusals.{refusal}
-use Rattle.lsm_store.specs.Effects.{answer, after, decided, completed, reply_by, state_by, Use}
+use Rattle.lsm_store.specs.Calls.{Commit, CommitIf, Sync, SyncTo, Get, Scan, Snapshot, Release, Rotate, LogRoom, Number, Done, Value, Rows, Given, Handed, Refused, Unread}
+use Rattle.lsm_store.specs.Refusals.{full_refusal}
+use Rattle.lsm_store.specs.Effects.{answer, after, decided, completed, reply_by, state_by, Use, use_of, use_first}
 use Rattle.lsm_store.specs.Effects.{Untouched, Reads, Changes}
 use Rattle.lsm_store.specs.Crash.{last_crash_state, left_besides}
 use Rattle.lsm_store.specs.Machine.{Machine, Step, Called, Worked}
@@ -32,7 +32,7 @@ use Rattle.lsm_store.proofs.Points.{present_synced, with_batch_beginnings, all_s
 use Rattle.lsm_store.proofs.Running.{decided_goes}
 use Rattle.lsm_store.proofs.Steps.{admits_step, step_stopped, step_stays, stopped_last}
 use Rattle.lsm_store.proofs.Unrefused.{none_taken}
-use Rattle.lsm_store.proofs.WorkReplies.{answered_unrefused, goes_by_answer}
+use Rattle.lsm_store.proofs.WorkReplies.{answered_unrefused, goes_by_answer, never_unread}
 
 -- all batches are left
 abbrev pub IsPresent : State → CrashState → Type 0
@@ -48,7 +48,7 @@ install_present s None = (refl, refl)
 install_present s (Some slot) = (ap (λ (p : RecoveryPoint). p.count) (present_synced s.points), refl)
 
 pub work_present : (x : Machine) (piece : Work) → AllByRecursion (IsPresent x.state) (work_left_besides x piece)
-work_present x Take = tt
+work_present x (Take asked) = tt
 work_present x (Read job) = tt
 work_present x (Ask job) = tt
 work_present x (Accept job result) = tt
@@ -79,7 +79,7 @@ pub record IsRunning (k : ℕ) (m : Map) (done : List (List Operation)) (known :
 -- ---- a refused step
 
 no_install : (k done known : ℕ) (piece : Work) (e : Refusal) → acknowledged_by k done known (Worked piece) (Refused e) ≡ known
-no_install k done known Take e = refl
+no_install k done known (Take asked) e = refl
 no_install k done known (Read job) e = refl
 no_install k done known (Ask job) e = refl
 no_install k done known (Accept job result) e = refl
@@ -89,6 +89,7 @@ no_install k done known (Drop job) e = refl
 
 nothing_accepted : (step : Step) (e : Refusal) → accepted_by step (Refused e) ≡ []
 nothing_accepted (Called (Commit batch)) e = refl
+nothing_accepted (Called (CommitIf guards batch)) e = refl
 nothing_accepted (Called Sync) e = refl
 nothing_accepted (Called (SyncTo number)) e = refl
 nothing_accepted (Called (Get at key)) e = refl
@@ -101,6 +102,7 @@ nothing_accepted (Worked piece) e = refl
 
 nothing_acknowledged : (k done known : ℕ) (step : Step) (e : Refusal) → acknowledged_by k done known step (Refused e) ≡ known
 nothing_acknowledged k done known (Called (Commit batch)) e = refl
+nothing_acknowledged k done known (Called (CommitIf guards batch)) e = refl
 nothing_acknowledged k done known (Called Sync) e = refl
 nothing_acknowledged k done known (Called (SyncTo number)) e = refl
 nothing_acknowledged k done known (Called (Get at key)) e = refl
@@ -118,6 +120,8 @@ FliesOn step reply = (steps : List Step) (replies : List Reply) → in_flight (s
 refused_flies : (step : Step) (e : Refusal) → is_no_fault e ≡ true → FliesOn step (Refused e)
 refused_flies (Called (Commit batch)) Io safe steps replies = absurd (false≢true safe)
 refused_flies (Called (Commit batch)) e safe steps replies = refl
+refused_flies (Called (CommitIf guards batch)) Io safe steps replies = absurd (false≢true safe)
+refused_flies (Called (CommitIf guards batch)) e safe steps replies = refl
 refused_flies (Called Sync) e safe steps replies = refl
 refused_flies (Called (SyncTo number)) e safe steps replies = refl
 refused_flies (Called (Get at key)) e safe steps replies = refl
@@ -207,6 +211,11 @@ module _ (k : ℕ) (m : Map) (x : Machine) (done : List (List Operation)) (known
     within = rw length-append (omega (arith, runs.within));
     runs = runs.runs;
   }
+  answered (CommitIf guards batch) = record {
+    points = ap (λ p. with_batch p batch) runs.points ∙ with_batch_beginnings k m done known batch runs.within;
+    within = rw length-append (omega (arith, runs.within));
+    runs = runs.runs;
+  }
   answered Sync = same_done (length done) (after s Sync) (synced_now (after s Sync) refl refl)
   answered (SyncTo number) =
       subst (λ n. IsRunning k m (done ++ []) (cond (nat_le number n) known (length done)) (after s (SyncTo number))) (ap (λ (p : RecoveryPoints). p.synced) runs.points)
@@ -224,6 +233,7 @@ module _ (k : ℕ) (m : Map) (x : Machine) (done : List (List Operation)) (known
 
   answer_flies : (call : Call) → FliesOn (Called call) (answer s call)
   answer_flies (Commit batch) steps replies = refl
+  answer_flies (CommitIf guards batch) steps replies = refl
   answer_flies Sync steps replies = refl
   answer_flies (SyncTo number) steps replies = refl
   answer_flies (Get at key) steps replies = refl
@@ -234,12 +244,12 @@ module _ (k : ℕ) (m : Map) (x : Machine) (done : List (List Operation)) (known
   answer_flies LogRoom steps replies = refl
 
   answer_keeps : (call : Call) (reply : Reply) → IsAnswer reply → reply ≡ decided s call → Keeps k m done known x (Called call) reply
-  answer_keeps call reply answers is = by (refusal s call) refl (subst IsAnswer is answers)
+  answer_keeps call reply answers is = by (full_refusal s call) refl (subst IsAnswer is answers)
     where
       goes : next s call (decided s call) ≡ completed s call
       goes = (decided_goes s call).1
 
-      by : (o : Option Refusal) → refusal s call ≡ o → IsAnswer (reply_by s call o) → Keeps k m done known x (Called call) reply
+      by : (o : Option Refusal) → full_refusal s call ≡ o → IsAnswer (reply_by s call o) → Keeps k m done known x (Called call) reply
       by (Some e) refused h = absurd h
       by None none h =
           let same : reply ≡ answer s call = is ∙ ap (reply_by s call) none in
@@ -267,6 +277,7 @@ module _ (k : ℕ) (m : Map) (x : Machine) (done : List (List Operation)) (known
 
   call_fault : (call : Call) → Leads (Called call) (Refused Io)
   call_fault (Commit batch) = inr (record { others = left_besides s (Commit batch); is = refl; flies = λ steps replies none. refl; besides = refl }, refl)
+  call_fault (CommitIf guards batch) = inr (record { others = left_besides s (CommitIf guards batch); is = refl; flies = λ steps replies none. refl; besides = refl }, refl)
   call_fault Sync = sync_fault Sync refl (λ steps replies. refl) tt
   call_fault (SyncTo number) = by (nat_le number s.points.synced) refl
     where
@@ -280,6 +291,25 @@ module _ (k : ℕ) (m : Map) (x : Machine) (done : List (List Operation)) (known
   call_fault Rotate = sync_fault Rotate refl (λ steps replies. refl) (rotated_present s, tt)
   call_fault LogRoom = read_fault LogRoom refl (λ steps replies. refl)
 
+  -- a read of guards faulted
+  no_reads : Untouched ≡ Reads → ⊥
+  no_reads e = cc
+
+  no_changes : Reads ≡ Changes → ⊥
+  no_changes e = cc
+
+  call_unread : (call : Call) → use_first call ≡ Reads → use_of s call ≡ Changes → Keeps k m done known x (Called call) Unread
+  call_unread (CommitIf guards batch) reads changes = record { runs = same_done known s runs; flies = λ steps replies. refl }
+  call_unread (Commit batch) reads changes = absurd (no_reads reads)
+  call_unread Sync reads changes = absurd (no_reads reads)
+  call_unread (SyncTo number) reads changes = absurd (no_reads reads)
+  call_unread (Get at key) reads changes = absurd (no_changes changes)
+  call_unread (Scan at from to limit) reads changes = absurd (no_changes changes)
+  call_unread Snapshot reads changes = absurd (no_reads reads)
+  call_unread (Release number) reads changes = absurd (no_reads reads)
+  call_unread Rotate reads changes = absurd (no_reads reads)
+  call_unread LogRoom reads changes = absurd (no_reads reads)
+
   call_leads : (call : Call) (reply : Reply) → Allows s call reply → Leads (Called call) reply
   call_leads call (Refused Io) may = call_fault call
   call_leads call (Refused e) may = inl (refused_keeps (Called call) e refl (refused_flies (Called call) e refl))
@@ -289,6 +319,7 @@ module _ (k : ℕ) (m : Map) (x : Machine) (done : List (List Operation)) (known
   call_leads call (Rows page) may = inl (answer_keeps call (Rows page) tt may)
   call_leads call (Given job) may = inl (answer_keeps call (Given job) tt may)
   call_leads call (Handed input) may = inl (answer_keeps call (Handed input) tt may)
+  call_leads call Unread may = inl (call_unread call may.0.1 may.1)
 
   -- ---- pieces of work
 
@@ -301,7 +332,7 @@ module _ (k : ℕ) (m : Map) (x : Machine) (done : List (List Operation)) (known
       by (Some slot) some = synced_now (installed (is_flush slot.job) s) refl refl
 
   worked_runs : (piece : Work) → work_refusal x piece ≡ None → IsRunning k m done (acknowledged_by k (length done) known (Worked piece) (work_answer x piece)) (state_after x piece)
-  worked_runs Take none = runs
+  worked_runs (Take asked) none = runs
   worked_runs (Read job) none = runs
   worked_runs (Ask job) none = runs
   worked_runs (Accept job result) none = runs
@@ -344,6 +375,7 @@ module _ (k : ℕ) (m : Map) (x : Machine) (done : List (List Operation)) (known
   work_leads piece (Rows page) may = inl (work_keeps piece (Rows page) tt may)
   work_leads piece (Given job) may = inl (work_keeps piece (Given job) tt may)
   work_leads piece (Handed input) may = inl (work_keeps piece (Handed input) tt may)
+  work_leads piece Unread may = absurd (never_unread x piece may)
 
   step_leads : (step : Step) (reply : Reply) → AllowsStep x step reply → Leads step reply
   step_leads (Called call) reply may = call_leads call reply may

@@ -24,7 +24,7 @@ use Rattle.lsm_store.specs.Backing.{StoreView, IsBacked, data_start, machine_of}
 use Rattle.lsm_store.specs.Calls.{Call, Reply}
 use Rattle.lsm_store.specs.Calls.{Get, Scan, Value, Rows, Refused, reply_of}
 use Rattle.lsm_store.specs.Crash.{left_inside}
-use Rattle.lsm_store.specs.Effects.{Use, use_of}
+use Rattle.lsm_store.specs.Effects.{Use, use_of, use_first}
 use Rattle.lsm_store.specs.Effects.{Untouched, Reads}
 use Rattle.lsm_store.specs.Reading.{ReadsThrough, source_of}
 use Rattle.lsm_store.specs.Refusals.{refusal}
@@ -67,7 +67,7 @@ has_one = ⊎_elim (λ e. absurd (no_fault_there e)) (λ x. x.1)
 -- ---- a call that reads
 
 module _ (v : StoreView) (numbered : AreNumbered v.work.next_table (tables_placed v.work)) (new : Medium) (cache : Cached) (most : ℕ) (ok : Bool) (reads : ReadsThrough most (data_start v) v.work.levels ok (source_of v) (record { cache = cache; medium = new })) where
-  only_read : IsOnlyRead v.device new
+  pub only_read : IsOnlyRead v.device new
   only_read =
       let calls = reads.calls in
       record {
@@ -76,9 +76,9 @@ module _ (v : StoreView) (numbered : AreNumbered v.work.next_table (tables_place
         same_history = reads.unchanged;
       }
 
-  module _ (call : Call) (reply : Reply) (uses : use_of v.state call ≡ Reads) (none : refusal v.state call ≡ None) (is_read : IsOnlyRead v.device new → IsRead call v.device new) where
+  module _ (call : Call) (reply : Reply) (uses : use_of v.state call ≡ Reads) (first : use_first call ≡ Reads) (none : refusal v.state call ≡ None) (is_read : IsOnlyRead v.device new → IsRead call v.device new) where
     use_is : use_by v.state call reply ≡ Reads
-    use_is = ap (λ o. cond (is_some o) Untouched (use_before (use_of v.state call) reply)) none ∙ ap (λ (u : Use). use_before u reply) uses
+    use_is = ap (λ o. cond (is_some o) Untouched (use_before (use_first call) (use_of v.state call) reply)) none ∙ ap (λ (u : Use). use_before (use_first call) u reply) uses
 
     pub serves_on : Admits v.state call reply → (IsBacked v → Allows v.state call reply) → next v.state call reply ≡ v.state → is_faultless reply ≡ ok → v.work ≡ work_by (machine_of v) call reply → Serves v call reply (read_on v new cache)
     serves_on admitted allowed state faultless stays = record {
@@ -87,7 +87,7 @@ module _ (v : StoreView) (numbered : AreNumbered v.work.next_table (tables_place
       state = sym state;
       worked = λ running. stays;
       used = subst (λ (u : Use). IsUsed call reply u v.device new) (sym use_is) (is_read only_read);
-      cached = subst (λ (u : Use). IsCacheUsed u v.cache cache) (sym use_is) tt;
+      cached = subst (λ (u : Use). IsCacheUsed (use_first call) u v.cache cache) (sym use_is) (subst (λ (f : Use). IsCacheUsed f Reads v.cache cache) (sym first) tt);
       fault = reads.faults ∙ sym (ap (λ (b : Bool). faults_after b v.device.calls.faults) faultless);
       same_size = reads.same_size;
       same_lasting = reads.same_lasting;
@@ -124,20 +124,20 @@ module _ (v : StoreView) (numbered : AreNumbered v.work.next_table (tables_place
             → Answers r (λ value. option_map (λ v. v.items) value ≡ finite.get (map_of (versions_in v.work) count) key) (λ refusal. (refusal ≡ Io) ⊎ ((refusal ≡ NoMemory) × (is_some (finite.get (map_of (versions_in v.work) count) key) ≡ true)))
             → IfErr r IsRefusal → Serves v (Get at key) (reply_of (λ value. Value (option_map (λ v. v.items) value)) r) (read_on v new cache)
         serves_get (Ok value) through answers refused =
-            serves_on v numbered new cache most true through (Get at key) (Value (option_map (λ v. v.items) value)) refl none (λ only. (only, few)) (ap is_some none, refl)
+            serves_on v numbered new cache most true through (Get at key) (Value (option_map (λ v. v.items) value)) refl refl none (λ only. (only, few)) (ap is_some none, refl)
             (λ backed. subst (Allows v.state (Get at key)) (sym (ap Value (answers (place_in v) (readable v backed (unrefused_runs v.state (Get at key) none)) (order_is (Get at key) none backed) ∙ asked backed))) (answered v.state (Get at key) none).0)
             refl refl refl
         serves_get (Err e) through answers refused =
             ⊎_elim
             (λ io. subst (λ (x : Refusal). Serves v (Get at key) (Refused x) (read_on v new cache)) (sym io)
-            (serves_on v numbered new cache most _ (subst (λ (x : Refusal). Through {T = Option (Vec ℕ Z)} (Err x)) io through) (Get at key) (Refused Io) refl none (λ only. (only, few)) (ap is_some none, λ (u : Reads ≡ Untouched). no_use u) (λ backed. (ap is_some none, λ u. no_use u)) refl refl refl))
+            (serves_on v numbered new cache most _ (subst (λ (x : Refusal). Through {T = Option (Vec ℕ Z)} (Err x)) io through) (Get at key) (Refused Io) refl refl none (λ only. (only, few)) (ap is_some none, λ (u : Reads ≡ Untouched). no_use u) (λ backed. (ap is_some none, λ u. no_use u)) refl refl refl))
             (⊎_elim
             (λ bad. subst (λ (x : Refusal). Serves v (Get at key) (Refused x) (read_on v new cache)) (sym bad)
-            (serves_on v numbered new cache most _ (subst (λ (x : Refusal). Through {T = Option (Vec ℕ Z)} (Err x)) bad through) (Get at key) (Refused BadTable) refl none (λ only. (only, few)) (ap is_some none, refl)
+            (serves_on v numbered new cache most _ (subst (λ (x : Refusal). Through {T = Option (Vec ℕ Z)} (Err x)) bad through) (Get at key) (Refused BadTable) refl refl none (λ only. (only, few)) (ap is_some none, refl)
             (λ backed. absurd (never_bad (subst (λ (x : Refusal). (x ≡ Io) ⊎ ((x ≡ NoMemory) × (is_some (finite.get (map_of (versions_in v.work) count) key) ≡ true))) bad (answers (place_in v) (readable v backed (unrefused_runs v.state (Get at key) none)) (order_is (Get at key) none backed)))))
             refl refl refl))
             (λ want. subst (λ (x : Refusal). Serves v (Get at key) (Refused x) (read_on v new cache)) (sym want)
-            (serves_on v numbered new cache most _ (subst (λ (x : Refusal). Through {T = Option (Vec ℕ Z)} (Err x)) want through) (Get at key) (Refused NoMemory) refl none (λ only. (only, few)) (ap is_some none, refl)
+            (serves_on v numbered new cache most _ (subst (λ (x : Refusal). Through {T = Option (Vec ℕ Z)} (Err x)) want through) (Get at key) (Refused NoMemory) refl refl none (λ only. (only, few)) (ap is_some none, refl)
             (λ backed. (ap is_some none, ap is_some (sym (asked backed)) ∙ has_one (subst (λ (x : Refusal). (x ≡ Io) ⊎ ((x ≡ NoMemory) × (is_some (finite.get (map_of (versions_in v.work) count) key) ≡ true))) want (answers (place_in v) (readable v backed (unrefused_runs v.state (Get at key) none)) (order_is (Get at key) none backed)))))
             refl refl refl)))
             refused
@@ -148,19 +148,19 @@ module _ (v : StoreView) (numbered : AreNumbered v.work.next_table (tables_place
           → IfErr r IsRefusal → Serves v (Scan at from to limit) (reply_of Rows r) (read_on v new cache)
       serves_scan (Ok page) through answers refused =
           let call = Scan at from to limit in
-          serves_on v numbered new cache most true through call (Rows page) refl none (λ only. only) (ap is_some none, refl)
+          serves_on v numbered new cache most true through call (Rows page) refl refl none (λ only. only) (ap is_some none, refl)
           (λ backed. subst (Allows v.state call) (sym (ap Rows (answers (place_in v) (readable v backed (unrefused_runs v.state call none)) (order_is call none backed) ∙ ap (λ (m : Map). page_of m from to limit) (map_is call none (unrefused_scan v.state at from to limit none) backed)))) (answered v.state call none).0)
           refl refl refl
       serves_scan (Err e) through answers refused =
           let call = Scan at from to limit in
           ⊎_elim
           (λ io. subst (λ (x : Refusal). Serves v call (Refused x) (read_on v new cache)) (sym io)
-          (serves_on v numbered new cache most _ (subst (λ (x : Refusal). Through {T = Page} (Err x)) io through) call (Refused Io) refl none (λ only. only) (ap is_some none, λ (u : Reads ≡ Untouched). no_use u) (λ backed. (ap is_some none, λ u. no_use u)) refl refl refl))
+          (serves_on v numbered new cache most _ (subst (λ (x : Refusal). Through {T = Page} (Err x)) io through) call (Refused Io) refl refl none (λ only. only) (ap is_some none, λ (u : Reads ≡ Untouched). no_use u) (λ backed. (ap is_some none, λ u. no_use u)) refl refl refl))
           (⊎_elim
           (λ bad. subst (λ (x : Refusal). Serves v call (Refused x) (read_on v new cache)) (sym bad)
-          (serves_on v numbered new cache most _ (subst (λ (x : Refusal). Through {T = Page} (Err x)) bad through) call (Refused BadTable) refl none (λ only. only) (ap is_some none, refl)
+          (serves_on v numbered new cache most _ (subst (λ (x : Refusal). Through {T = Page} (Err x)) bad through) call (Refused BadTable) refl refl none (λ only. only) (ap is_some none, refl)
           (λ backed. absurd (never_bad_page (subst (λ (x : Refusal). (x ≡ Io) ⊎ (x ≡ NoMemory)) bad (answers (place_in v) (readable v backed (unrefused_runs v.state call none)) (order_is call none backed)))))
           refl refl refl))
           (λ want. subst (λ (x : Refusal). Serves v call (Refused x) (read_on v new cache)) (sym want)
-          (serves_on v numbered new cache most _ (subst (λ (x : Refusal). Through {T = Page} (Err x)) want through) call (Refused NoMemory) refl none (λ only. only) (ap is_some none, refl) (λ backed. (ap is_some none, refl)) refl refl refl)))
+          (serves_on v numbered new cache most _ (subst (λ (x : Refusal). Through {T = Page} (Err x)) want through) call (Refused NoMemory) refl refl none (λ only. only) (ap is_some none, refl) (λ backed. (ap is_some none, refl)) refl refl refl)))
           refused

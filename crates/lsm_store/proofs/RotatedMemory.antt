@@ -114,7 +114,7 @@ module _ {A : Type 0} (m : Memory A) (kept : AreConsistent m) (none : refusal (s
         planned_is = prepared ∙ (λ i. record { size = n; log = (is.layout i).log_sectors; manifest = contents_for (placed_in (is.layout i) m.levels (records_of m.levels)) })
 
         pub installing_next : (IsTrue medium.lasting.tells → IsReady medium.size root.log root.manifest.generation (disk medium) → EachSince (Leaves (IsOldOrNew (disk medium) (Stands root.log root.manifest))) medium.history new.history)
-            → AtMost 0 38 2 medium.calls new.calls → new.size ≡ medium.size → new.lasting ≡ medium.lasting
+            → AtMost 0 42 2 medium.calls new.calls → new.size ≡ medium.size → new.lasting ≡ medium.lasting
             → IsInstalling m.regions.log_sectors (m.regions.generation + 1) (contents_for (with_next m.next_table (rotated_placement (placement_of (view_of medium m cache)) is.new_log))) medium new
         installing_next moments calls same_size same_lasting = record {
           moments = λ tells. subst (λ (p : Planned). IsReady medium.size p.log p.manifest.generation (disk medium) → EachSince (Leaves (IsOldOrNew (disk medium) (Stands p.log p.manifest))) medium.history new.history) planned_is (moments tells);

@@ -23,7 +23,7 @@ use Rattle.lsm_root.specs.Roots.{Stands}
 use Rattle.lsm_store.specs.Backing.{StoreView, IsRunOn, IsBacked, placement_of, data_start, machine_of}
 use Rattle.lsm_store.specs.Calls.{Rotate, Done, Refused}
 use Rattle.lsm_store.specs.Crash.{may_leave, left_besides, left_inside}
-use Rattle.lsm_store.specs.Effects.{rotated}
+use Rattle.lsm_store.specs.Effects.{rotated, use_first}
 use Rattle.lsm_store.specs.RecoveryPoints.{batch_count}
 use Rattle.lsm_store.specs.Refusals.{refusal}
 use Rattle.lsm_store.specs.Run.{stopped_in}
@@ -139,7 +139,7 @@ module _ (v : StoreView) (none : refusal v.state Rotate ≡ None) (below : v.sta
           state = ap (λ (x : StoreView). x.state) is;
           worked = λ running. ap (λ (x : StoreView). x.work) is;
           used = uses v.state Rotate Done v.device new.device none refl refl wrote.calls;
-          cached = cache_kept (use_by v.state Rotate Done) v.cache new.cache (ap (λ (x : StoreView). x.cache) is);
+          cached = cache_kept (use_first Rotate) (use_by v.state Rotate Done) v.cache new.cache (ap (λ (x : StoreView). x.cache) is);
           fault = faults;
           same_size = wrote.same_size;
           same_lasting = wrote.same_lasting;

@@ -6,7 +6,7 @@ use Rattle.lsm_jobs.specs.Gathering.{uppers, lowers}
 use Rattle.lsm_jobs.specs.Slots.{Slot, JobSlots, Stage, left_at, with_held}
 use Rattle.lsm_store.specs.Backing.{StoreView, IsBacked, machine_of}
 use Rattle.lsm_store.specs.Calls.{Call, Reply}
-use Rattle.lsm_store.specs.Calls.{Number, Done, Value, Rows, Given, Handed, Refused}
+use Rattle.lsm_store.specs.Calls.{Number, Done, Value, Rows, Given, Handed, Refused, Unread}
 use Rattle.lsm_store.specs.Machine.{Step, Called, Worked}
 use Rattle.lsm_store.specs.Run.{next_machine, HasReadOn, WorkGoesTo, GoesTo}
 use Rattle.lsm_store.specs.Work.{WorkView, Work, Take, Read, Ask, Accept, Write, Install, Drop}
@@ -29,7 +29,7 @@ module _ (old : StoreView) (w : WorkView) where
 
   work_goes_to : (reply : Reply) (piece : Work) → WorksTo reply old piece w → WorkGoesTo reply (machine_of old) (Worked piece) w
   work_goes_to (Number n) (Read job) h = read_on job n h
-  work_goes_to (Number n) Take h = h
+  work_goes_to (Number n) (Take asked) h = h
   work_goes_to (Number n) (Ask job) h = h
   work_goes_to (Number n) (Accept job result) h = h
   work_goes_to (Number n) (Write job) h = h
@@ -41,11 +41,12 @@ module _ (old : StoreView) (w : WorkView) where
   work_goes_to (Given taken) piece h = h
   work_goes_to (Handed input) piece h = h
   work_goes_to (Refused e) piece h = h
+  work_goes_to Unread piece h = h
 
   -- what a device gives that backs the state is what the job was taken with
   work_is : IsBacked old → (reply : Reply) (piece : Work) → WorksTo reply old piece w → w ≡ (next_machine (machine_of old) (Worked piece) reply).work
   work_is backed (Number n) (Read job) h = h.kept backed
-  work_is backed (Number n) Take h = h
+  work_is backed (Number n) (Take asked) h = h
   work_is backed (Number n) (Ask job) h = h
   work_is backed (Number n) (Accept job result) h = h
   work_is backed (Number n) (Write job) h = h
@@ -57,6 +58,7 @@ module _ (old : StoreView) (w : WorkView) where
   work_is backed (Given taken) piece h = h
   work_is backed (Handed input) piece h = h
   work_is backed (Refused e) piece h = h
+  work_is backed Unread piece h = h
 
 -- the work of a store after what it replied
 call_goes_to : (old : StoreView) (call : Call) (reply : Reply) (w : WorkView) → w ≡ (next_machine (machine_of old) (Called call) reply).work → WorkGoesTo reply (machine_of old) (Called call) w
@@ -67,6 +69,7 @@ call_goes_to old call (Rows page) w h = h
 call_goes_to old call (Given taken) w h = h
 call_goes_to old call (Handed input) w h = h
 call_goes_to old call (Refused e) w h = h
+call_goes_to old call Unread w h = h
 
 -- whatever its device holds, the machine goes on as memory says
 pub served_goes : (old : StoreView) (step : Step) (reply : Reply) (new : StoreView) → ServesStep old step reply new → GoesTo (machine_of old) step reply (machine_of new)

@@ -10,19 +10,19 @@ use Rattle.lsm_jobs.specs.Reading.{stage_with}
 use Rattle.lsm_jobs.specs.Slots.{Slot, left_at}
 use Rattle.lsm_open.specs.CrashState.{CrashState}
 use Rattle.lsm_store.specs.Calls.{Call, Reply}
-use Rattle.lsm_store.specs.Calls.{Commit, Sync, SyncTo, Get, Scan, Snapshot, Release, Rotate, LogRoom, Number, Done, Value, Rows, Given, Handed, Refused}
+use Rattle.lsm_store.specs.Calls.{Commit, CommitIf, Sync, SyncTo, Get, Scan, Snapshot, Release, Rotate, LogRoom, Number, Done, Value, Rows, Given, Handed, Refused, Unread}
 use Rattle.lsm_store.specs.Crash.{may_leave, left_besides}
 use Rattle.lsm_store.specs.Effects.{answer, decided, reply_by}
 use Rattle.lsm_store.specs.Machine.{Machine, Step, Called, Worked}
-use Rattle.lsm_store.specs.Refusals.{refusal}
-use Rattle.lsm_store.specs.Run.{AllowsStep, AdmitsStep, next_machine, left_in_step, work_completed, decided_step, completed_step, Run, last_machine, left_in_run, ample_replies, ample_machine, HasReadOn, WorkGoesTo, Course}
+use Rattle.lsm_store.specs.Refusals.{later_refusals, full_refusal}
+use Rattle.lsm_store.specs.Run.{AllowsStep, AdmitsStep, asks_guards, next_machine, left_in_step, work_completed, decided_step, completed_step, Run, last_machine, left_in_run, ample_replies, ample_machine, HasReadOn, WorkGoesTo, Course}
 use Rattle.lsm_store.specs.Work.{Take, Read, Ask, Accept, Write, Install, Drop}
 use Rattle.lsm_store.specs.WorkEffects.{staged, work_by}
 use Rattle.lsm_store.specs.WorkRefusals.{held, of_slot, work_refusals, running_refusal}
 use Rattle.lsm_store.specs.WorkReplies.{work_reply_by, work_decided, work_left_besides}
 use Rattle.lsm_store.proofs.Accounts.{first_not}
-use Rattle.lsm_store.proofs.CrashStates.{goes_inside}
-use Rattle.lsm_store.proofs.Running.{decided_goes, admits, no_bad_table, stopped_refusal, stopped_admits}
+use Rattle.lsm_store.proofs.CrashStates.{goes_inside, admitted_inside}
+use Rattle.lsm_store.proofs.Running.{decided_goes, admits, no_bad_table, full_stopped, stopped_admits}
 use Rattle.lsm_store.proofs.Unrefused.{none_taken}
 use Rattle.lsm_store.proofs.WorkReplies.{answered_unrefused, work_goes, no_bad_table_worked, admits_work, refused_work, refuses, stopped_work, work_inside}
 
@@ -34,16 +34,35 @@ before_step left m (Called call) found = Contains-append_left (may_leave m.state
 before_step left m (Worked piece) found = Contains-append_left (may_leave m.state) _ left found
 
 -- and what it may leave after its reply
-pub goes_in_step : (m : Machine) (step : Step) (reply : Reply) (left : CrashState) → AdmitsStep m step reply → Contains (may_leave (next_machine m step reply).state) left → Contains (left_in_step m step) left
+pub goes_in_step : (m : Machine) (step : Step) (reply : Reply) (left : CrashState) → AllowsStep m step reply → Contains (may_leave (next_machine m step reply).state) left → Contains (left_in_step m step) left
 goes_in_step m (Called call) reply left may found = goes_inside m.state call reply left may found
-goes_in_step m (Worked piece) reply left may found = work_inside m left piece reply may found
+goes_in_step m (Worked piece) reply left may found = work_inside m left piece reply (admits_work m piece reply may) found
+
+-- and what it may leave after one that memory admits, unless guards were asked
+no_guards : (m : Machine) (call : Call) → asks_guards (Called call) ≡ false → later_refusals m.state call ≡ []
+no_guards m (CommitIf [] batch) is = refl
+no_guards m (CommitIf (guard ∷ guards) batch) is = absurd (false≢true (sym is))
+no_guards m (Commit batch) is = refl
+no_guards m Sync is = refl
+no_guards m (SyncTo number) is = refl
+no_guards m (Get at key) is = refl
+no_guards m (Scan at from to limit) is = refl
+no_guards m Snapshot is = refl
+no_guards m (Release number) is = refl
+no_guards m Rotate is = refl
+no_guards m LogRoom is = refl
+
+pub admitted_in_step : (m : Machine) (step : Step) (reply : Reply) (left : CrashState) → asks_guards step ≡ false → AdmitsStep m step reply → Contains (may_leave (next_machine m step reply).state) left → Contains (left_in_step m step) left
+admitted_in_step m (Called call) reply left none may found = admitted_inside m.state call (no_guards m call none) reply left may found
+admitted_in_step m (Worked piece) reply left none may found = work_inside m left piece reply may found
 
 -- the work after what a state decides of a call
-work_decides : (m : Machine) (call : Call) → work_by m call (decided m.state call) ≡ work_completed m call (refusal m.state call)
-work_decides m call = by (refusal m.state call)
+work_decides : (m : Machine) (call : Call) → work_by m call (decided m.state call) ≡ work_completed m call (full_refusal m.state call)
+work_decides m call = by (full_refusal m.state call)
   where
     at : (c : Call) → work_by m c (answer m.state c) ≡ work_completed m c None
     at (Commit batch) = refl
+    at (CommitIf guards batch) = refl
     at Sync = refl
     at (SyncTo number) = refl
     at (Get asked key) = refl
@@ -94,14 +113,14 @@ nothing_more left all found = subst (λ (l : List CrashState). Contains l left) 
 
 -- it refuses each
 stopped_allows : (m : Machine) (step : Step) → IsSome m.state.stopped → AllowsStep m step (Refused Stopped)
-stopped_allows m (Called call) stopped = let others = some_of m.state.stopped stopped in sym (ap (reply_by m.state call) (stopped_refusal m.state call others.0 others.1))
+stopped_allows m (Called call) stopped = let others = some_of m.state.stopped stopped in sym (ap (reply_by m.state call) (full_stopped m.state call others.0 others.1))
 stopped_allows m (Worked piece) stopped = let others = some_of m.state.stopped stopped in sym (ap (work_reply_by m piece) (refuses m others.0 others.1 piece))
 
 -- and what a crash leaves inside it, it leaves before
 stopped_in_step : (left : CrashState) (m : Machine) (step : Step) → IsSome m.state.stopped → Contains (left_in_step m step) left → Contains (may_leave m.state) left
 stopped_in_step left m (Called call) stopped found =
     let others = some_of m.state.stopped stopped in
-    nothing_more left (may_leave m.state) (subst (λ (o : Option Refusal). Contains (may_leave m.state ++ cond (is_some o) [] (left_besides m.state call)) left) (stopped_refusal m.state call others.0 others.1) found)
+    nothing_more left (may_leave m.state) (subst (λ (o : Option Refusal). Contains (may_leave m.state ++ cond (is_some o) [] (left_besides m.state call)) left) (full_stopped m.state call others.0 others.1) found)
 stopped_in_step left m (Worked piece) stopped found =
     let others = some_of m.state.stopped stopped in
     nothing_more left (may_leave m.state) (subst (λ (o : Option Refusal). Contains (may_leave m.state ++ cond (is_some o) [] (work_left_besides m piece)) left) (refuses m others.0 others.1 piece) found)
@@ -234,7 +253,7 @@ read_on m job n is =
 pub goes_to : (m : Machine) (step : Step) (reply : Reply) → AdmitsStep m step reply → WorkGoesTo reply m step (next_machine m step reply).work
 goes_to m (Called call) (Number n) may = refl
 goes_to m (Worked (Read job)) (Number n) may = read_on m job n may
-goes_to m (Worked Take) (Number n) may = refl
+goes_to m (Worked (Take asked)) (Number n) may = refl
 goes_to m (Worked (Ask job)) (Number n) may = refl
 goes_to m (Worked (Accept job result)) (Number n) may = refl
 goes_to m (Worked (Write job)) (Number n) may = refl
@@ -246,6 +265,7 @@ goes_to m step (Rows page) may = refl
 goes_to m step (Given taken) may = refl
 goes_to m step (Handed input) may = refl
 goes_to m step (Refused e) may = refl
+goes_to m step Unread may = refl
 
 pub course_of : (m : Machine) (steps : List Step) (replies : List Reply) → Run m steps replies → Course m steps replies (last_machine m steps replies)
 course_of m [] [] run = refl

@@ -15,7 +15,7 @@ use Rattle.lsm_levels.specs.Pick.{Job, Flush, Merge, installed}
 use Rattle.lsm_levels.specs.Stored.{blocks_from, IsStored, AreStored}
 use Rattle.lsm_levels.specs.Tables.{Table, KeyRange, hull, is_below, put_at, record_of}
 use Rattle.lsm_levels.proofs.Ranges.{all_of, of_all}
-use Rattle.lsm_levels.proofs.Runs.{all_or, all_set, all_take}
+use Rattle.lsm_levels.proofs.Runs.{all_or, all_set, all_take, upper_among}
 use Rattle.lsm_merge.specs.Inputs.{AreRuns}
 use Rattle.lsm_jobs.specs.Gathering.{uppers, lowers}
 use Rattle.lsm_jobs.specs.Slots.{Slot}
@@ -131,7 +131,7 @@ module _ (P : Table → Type 0) (levels : Levels) (all : AllByRecursion (AllByRe
   -- holds of what a merge takes in
   pub uppers_have : (i : ℕ) (upper : List Table) → IsUpper levels i upper → AllByRecursion P upper
   uppers_have zero upper is = subst (AllByRecursion P) is.1 (all_or (AllByRecursion P) levels.runs (length levels.runs - 1) [] newer tt)
-  uppers_have (suc i) upper is = subst (AllByRecursion P) (sym is.1) (of_all P (level levels (suc i)) (all_or (AllByRecursion P) levels.deeper i [] deeper tt) is.0 is.2, tt)
+  uppers_have (suc i) upper is = all_of P upper (λ t a. of_all P (level levels (suc i)) (all_or (AllByRecursion P) levels.deeper i [] deeper tt) t (upper_among levels i upper is t a))
 
   pub lowers_have : (i : ℕ) (lower : List Table) → ((t : Table) → IsAmong t lower → IsAmong t (level levels (suc i))) → AllByRecursion P lower
   lowers_have i lower among = all_of P lower (λ t a. of_all P (level levels (suc i)) (all_or (AllByRecursion P) levels.deeper i [] deeper tt) t (among t a))

@@ -127,7 +127,7 @@ module _ (m : Machine) (few : AreFew m.work.levels) where
           }
 
 kept_few : (m : Machine) (work : Work) → AreRuns m.work.levels → AreKept m.work.levels m.work.jobs.next m.work.jobs.slots → running_refusal m work ≡ None → AreFew m.work.levels → AreFew (work_after m work).levels
-kept_few m Take runs kept none few = few
+kept_few m (Take asked) runs kept none few = few
 kept_few m (Read job) runs kept none few = read_few m few job (held m job)
 kept_few m (Ask job) runs kept none few = few
 kept_few m (Accept job result) runs kept none few = accept_few m few job result (held m job)

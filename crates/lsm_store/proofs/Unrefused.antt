@@ -1,22 +1,23 @@
 -- Refusals in order, and what is known of a state that doesn't refuse.
 use Rattle.std.proofs.Common.{◌≡◌, ◌≢◌, ◌⊎◌, inl, inr, ⊎_elim, Bool, true, false, not, List, [], ◌∷◌, Some, None, is_some, refl, sym, ◌∙◌, ap, subst}
 use Rattle.std.specs.Result.{IsErrAnd}
-use Rattle.std.specs.Prelude.{ℕ, Result, Ok, Err, Option, IsNone, ◌==◌, if◌then◌else◌}
+use Rattle.std.specs.Prelude.{ℕ, Result, Ok, Err, Option, IsNone, length, nat_lt, ◌==◌, if◌then◌else◌}
 use Rattle.std.specs.List.{AllByRecursion}
 use Rattle.std.proofs.lemmas.Bool.{eq-eqb}
 use Rattle.lsm_codec.specs.BatchText.{is_key}
 use Rattle.lsm_codec.specs.Keys.{Bytes}
 use Rattle.lsm_codec.specs.Map.{Operation}
 use Rattle.lsm_device.specs.declared.refusal.Refusal.{Refusal}
-use Rattle.lsm_device.specs.declared.refusal.Refusal.TheVariants.{NoMemory, Io, Stopped, LogFull, SealedWaiting, NothingToRotate, NoSuchSnapshot, TooManySnapshots, NoSuchBatch, BadKey, BadRange, Exhausted, BadLimit}
+use Rattle.lsm_device.specs.declared.refusal.Refusal.TheVariants.{NoMemory, Io, Stopped, LogFull, SealedWaiting, NothingToRotate, NoSuchSnapshot, TooManySnapshots, NoSuchBatch, BadKey, BadRange, Exhausted, BadLimit, TooManyGuards}
 use Rattle.lsm_open.specs.CrashState.{last_number}
 use Rattle.lsm_store.specs.RecoveryPoints.{batch_count}
 use Rattle.lsm_mem.specs.Paging.{is_backwards}
+use Rattle.lsm_codec.specs.Guards.{Condition}
 use Rattle.lsm_store.specs.State.{State, are_waiting, fits, may_ask}
 use Rattle.lsm_store.specs.declared.asked.At.{At}
 use Rattle.lsm_store.specs.Calls.{Call}
-use Rattle.lsm_store.specs.Calls.{Commit, Sync, SyncTo, Get, Scan, Snapshot, Release, Rotate, LogRoom}
-use Rattle.lsm_store.specs.Refusals.{is_limit, refusals, first_refusal, refusal}
+use Rattle.lsm_store.specs.Calls.{Commit, CommitIf, Sync, SyncTo, Get, Scan, Snapshot, Release, Rotate, LogRoom}
+use Rattle.lsm_store.specs.Refusals.{is_limit, most_guards, refusals, first_refusal, refusal}
 
 -- a test that doesn't hold
 pub passes_by : (b : Bool) (e : Refusal) (rest x : Option Refusal) → b ≡ false → rest ≡ x → (if b then Some e else rest) ≡ x
@@ -59,6 +60,9 @@ waiting_decided = record { no_memory = λ e. cc; no_fault = λ e. cc }
 unused_decided : IsDecided NothingToRotate
 unused_decided = record { no_memory = λ e. cc; no_fault = λ e. cc }
 
+guards_decided : IsDecided TooManyGuards
+guards_decided = record { no_memory = λ e. cc; no_fault = λ e. cc }
+
 exhausted_decided : IsDecided Exhausted
 exhausted_decided = record { no_memory = λ e. cc; no_fault = λ e. cc }
 
@@ -92,6 +96,7 @@ first_decided (test ∷ rest) x all is = ⊎_elim (λ same. IsDecided-along test
 
 all_decided : (s : State) (call : Call) → AllByRecursion Decided (refusals s call)
 all_decided s (Commit batch) = (exhausted_decided, (full_decided, tt))
+all_decided s (CommitIf guards batch) = (guards_decided, (exhausted_decided, (full_decided, tt)))
 all_decided s Sync = tt
 all_decided s (SyncTo number) = (batch_decided, tt)
 all_decided s (Get at key) = (key_decided, (snapshot_decided, tt))
@@ -126,6 +131,13 @@ unrefused_commit s batch none =
   where
     no : true ≡ false → ⊥
     no e = cc
+
+-- one that nothing refuses under guards nothing refuses without them
+pub unguarded : (s : State) (guards : List Condition) (batch : List Operation) → refusal s (CommitIf guards batch) ≡ None → refusal s (Commit batch) ≡ None
+unguarded s guards batch none =
+    let one = none_taken (is_some s.stopped) Stopped _ none in
+    let two = none_taken (nat_lt most_guards (length guards)) TooManyGuards _ one.1 in
+    passes_by (is_some s.stopped) Stopped _ None one.0 two.1
 
 -- a read that nothing refuses asks the present map, or that of a live snapshot
 pub unrefused_get : (s : State) (at : At) (key : Bytes) → refusal s (Get at key) ≡ None → may_ask s at ≡ true

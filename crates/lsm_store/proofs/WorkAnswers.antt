@@ -11,14 +11,14 @@ use Rattle.lsm_device.specs.declared.refusal.Refusal.{Refusal}
 use Rattle.lsm_device.specs.declared.refusal.Refusal.TheVariants.{NoMemory, NoSuchJob, Exhausted}
 use Rattle.lsm_extent.specs.Area.{Area}
 use Rattle.lsm_levels.specs.Pick.{Job, Flush}
-use Rattle.lsm_levels.proofs.PickLaws.{flush_waits}
+use Rattle.lsm_levels.specs.declared.choosing.Choice.{Choice}
 use Rattle.lsm_merge.specs.Inputs.{MergeInput}
 use Rattle.lsm_jobs.specs.Placing.{all_given_back}
 use Rattle.lsm_jobs.specs.Refusing.{HasInput, RefusesInput}
 use Rattle.lsm_jobs.specs.Slots.{Slot, JobSlots, slot_of, held_jobs, with_held, outputs_of}
 use Rattle.lsm_jobs.specs.Taking.{given_job, level_of, told_of, slot_for, with_taken}
 use Rattle.lsm_jobs.specs.declared.taking.TakenJob.{TakenJob}
-use Rattle.lsm_jobs.proofs.KeptJobs.{given_picked}
+use Rattle.lsm_jobs.proofs.KeptJobs.{given_waits}
 use Rattle.lsm_open.specs.CrashState.{last_number}
 use Rattle.lsm_store.specs.declared.memory.Memory.{Memory}
 use Rattle.lsm_store.specs.Accounts.{outputs_in}
@@ -107,9 +107,6 @@ module _ {A : Type 0} (m : Memory A) (medium : Medium) (cache : Cached) (running
 
   -- ---- a taking
 
-  abbrev given : Option Job
-  given = job_given w
-
   exhausted_by : (a b : Bool) → a ≡ true → b ≡ true → cond (a && b) (Some Exhausted) None ≡ Some Exhausted
   exhausted_by true true x y = refl
   exhausted_by true false x y = absurd (false≢true y)
@@ -120,107 +117,111 @@ module _ {A : Type 0} (m : Memory A) (medium : Medium) (cache : Cached) (running
   left_by true false not_both = refl
   left_by false b not_both = refl
 
-  -- the number 2^63 was given out
-  pub take_exhausted : is_some given ≡ true → 2 ^ 63 < m.jobs.next → running_refusal w Take ≡ Some Exhausted
-  take_exhausted some past = exhausted_by (is_some given) (ltb last_number m.jobs.next) some (lt-ltb last_number m.jobs.next past)
+  module _ (asked : Option Choice) where
+    abbrev given : Option Job
+    given = job_given w asked
 
-  -- or it was not, or there is no job
-  pub take_unrefused : ((is_some given ≡ true) × (2 ^ 63 < m.jobs.next) → ⊥) → running_refusal w Take ≡ None
-  take_unrefused none = left_by (is_some given) (ltb last_number m.jobs.next) (λ some past. none (some, ltb-true last_number m.jobs.next past))
+    -- the number 2^63 was given out
+    pub take_exhausted : is_some given ≡ true → 2 ^ 63 < m.jobs.next → running_refusal w (Take asked) ≡ Some Exhausted
+    take_exhausted some past = exhausted_by (is_some given) (ltb last_number m.jobs.next) some (lt-ltb last_number m.jobs.next past)
 
-  none_of_job : (o : Option Job) → is_some o ≡ false → o ≡ None
-  none_of_job None is = refl
-  none_of_job (Some job) is = absurd (false≢true (sym is))
+    -- or it was not, or there is no job
+    pub take_unrefused : ((is_some given ≡ true) × (2 ^ 63 < m.jobs.next) → ⊥) → running_refusal w (Take asked) ≡ None
+    take_unrefused none = left_by (is_some given) (ltb last_number m.jobs.next) (λ some past. none (some, ltb-true last_number m.jobs.next past))
 
-  -- there is none
-  pub take_none : is_some given ≡ false → Works v Take (Given None) v
-  take_none none =
-      let is : given ≡ None = none_of_job given none in
-      let free = take_unrefused (λ both. false≢true (sym none ∙ both.0)) in
-      let answer : work_answer w Take ≡ Given None = ap (λ (o : Option Job). Given (option_map (λ (job : Job). (m.jobs.next, level_of job)) o)) is in
-      let reply : Given None ≡ work_decided w Take = sym answer ∙ decides Take free in
-      let same : next_worked w Take (Given None) ≡ w = ap (λ (o : Option Job). record { state = state_of m; work = record (work_of m) { jobs = with_taken (work_of m).sealed (cuts_of (state_of m)) m.levels o m.jobs } }) is in
-      works_still v Take (Given None) (record { admitted = reply; next = same; faultless = refl; unchanging = none_used (is_some (work_refusal w Take)) (Given None) })
-      (ap (λ (x : Machine). x.work) (sym same)) (λ backed. reply)
+    none_of_job : (o : Option Job) → is_some o ≡ false → o ≡ None
+    none_of_job None is = refl
+    none_of_job (Some job) is = absurd (false≢true (sym is))
 
-  -- memory was refused where there is one
-  pub take_want : is_some given ≡ true → running_refusal w Take ≡ None → Works v Take (Refused NoMemory) v
-  take_want some none = works_want v Take (ap is_some (unrefused Take none), some)
+    -- there is none
+    pub take_none : is_some given ≡ false → Works v (Take asked) (Given None) v
+    take_none none =
+        let is : given ≡ None = none_of_job given none in
+        let free = take_unrefused (λ both. false≢true (sym none ∙ both.0)) in
+        let answer : work_answer w (Take asked) ≡ Given None = ap (λ (o : Option Job). Given (option_map (λ (job : Job). (m.jobs.next, level_of job)) o)) is in
+        let reply : Given None ≡ work_decided w (Take asked) = sym answer ∙ decides (Take asked) free in
+        let same : next_worked w (Take asked) (Given None) ≡ w = ap (λ (o : Option Job). record { state = state_of m; work = record (work_of m) { jobs = with_taken (work_of m).sealed (cuts_of (state_of m)) m.levels o m.jobs } }) is in
+        works_still v (Take asked) (Given None) (record { admitted = reply; next = same; faultless = refl; unchanging = none_used (is_some (work_refusal w (Take asked))) (Given None) })
+        (ap (λ (x : Machine). x.work) (sym same)) (λ backed. reply)
 
-  told_reply : (o : Option Job) → taken_reply (option_map (told_of m.jobs.next) o) ≡ Given (option_map (λ (job : Job). (m.jobs.next, level_of job)) o)
-  told_reply None = refl
-  told_reply (Some job) = refl
+    -- memory was refused where there is one
+    pub take_want : is_some given ≡ true → running_refusal w (Take asked) ≡ None → Works v (Take asked) (Refused NoMemory) v
+    take_want some none = works_want v (Take asked) (ap is_some (unrefused (Take asked) none), some)
 
-  pub take_works : is_some given ≡ true → running_refusal w Take ≡ None → (sealed : List Version) (cuts : List ℕ) → cuts ≡ cuts_of (state_of m) → (given ≡ Some Flush → sealed ≡ (work_of m).sealed)
-      → (r : Result (Option TakenJob) Refusal) (js : JobSlots) → IfOk r (λ (taken : Option TakenJob). taken ≡ option_map (told_of m.jobs.next) given) → OnOk r (js ≡ with_taken sealed cuts m.levels given m.jobs)
-      → IfErr r (λ e. (e ≡ Exhausted) ⊎ (e ≡ NoMemory)) → (r ≡ Err Exhausted → ⊥) → OnErr r (js ≡ m.jobs)
-      → Works v Take (reply_of taken_reply r) (worked_on v js m.extents medium)
-  take_works some none sealed cuts counts flush (Ok taken) js told moved refusals past same =
-      let reply : taken_reply taken ≡ work_decided w Take = ap taken_reply told ∙ told_reply given ∙ decides Take none in
-      let is : record (work_of m) { jobs = js } ≡ work_after w Take =
-      ap (λ (x : JobSlots). record (work_of m) { jobs = x }) (moved ∙ ap (λ (c : List ℕ). with_taken sealed c m.levels given m.jobs) counts ∙ same_taken sealed (work_of m).sealed (cuts_of (state_of m)) m.levels given m.jobs flush) in
-      let answer : IsAnsweredAlone w Take (taken_reply taken) = record { allowed = reply; admitted = reply; next = refl; faultless = refl; state = refl; alone = refl } in
-      works_moved v Take js m.next_table m.extents (taken_reply taken) answer is is
-      (λ tells runs. record {
-        sound = sound_moved v Take js m.next_table m.extents (taken_reply taken) answer is (take_sound w runs.sound);
-        stored = subst (λ (x : JobSlots). IsStoredWithJobs (placement_of v) (placed_by x.slots) v.state (disk medium)) (sym moved) (stored_with given runs.stored);
-        unasked = subst (λ (x : JobSlots). HasNoneOf m.next_table (outputs_in x.slots) cache) (sym moved) (unasked_with given runs.unasked);
-      })
-    where
-      with_one : Option Job → JobSlots
-      with_one o = with_taken sealed cuts m.levels o m.jobs
+    told_reply : (o : Option Job) → taken_reply (option_map (told_of m.jobs.next) o) ≡ Given (option_map (λ (job : Job). (m.jobs.next, level_of job)) o)
+    told_reply None = refl
+    told_reply (Some job) = refl
 
-      stored_with : (o : Option Job) → IsStoredWithJobs (placement_of v) (placed_by m.jobs.slots) v.state (disk medium) → IsStoredWithJobs (placement_of v) (placed_by (with_one o).slots) v.state (disk medium)
-      stored_with None stored = stored
-      stored_with (Some job) stored =
-          subst (λ (l : List PlacedTable). IsStoredWithJobs (placement_of v) l v.state (disk medium)) (sym (taken_placed (slot_for m.jobs.next sealed cuts m.levels job) m.jobs.slots (first_none job))) stored
+    pub take_works : is_some given ≡ true → running_refusal w (Take asked) ≡ None → (sealed : List Version) (cuts : List ℕ) → cuts ≡ cuts_of (state_of m) → (given ≡ Some Flush → sealed ≡ (work_of m).sealed)
+        → (r : Result (Option TakenJob) Refusal) (js : JobSlots) → IfOk r (λ (taken : Option TakenJob). taken ≡ option_map (told_of m.jobs.next) given) → OnOk r (js ≡ with_taken sealed cuts m.levels given m.jobs)
+        → IfErr r (λ e. (e ≡ Exhausted) ⊎ (e ≡ NoMemory)) → (r ≡ Err Exhausted → ⊥) → OnErr r (js ≡ m.jobs)
+        → Works v (Take asked) (reply_of taken_reply r) (worked_on v js m.extents medium)
+    take_works some none sealed cuts counts flush (Ok taken) js told moved refusals past same =
+        let reply : taken_reply taken ≡ work_decided w (Take asked) = ap taken_reply told ∙ told_reply given ∙ decides (Take asked) none in
+        let is : record (work_of m) { jobs = js } ≡ work_after w (Take asked) =
+        ap (λ (x : JobSlots). record (work_of m) { jobs = x }) (moved ∙ ap (λ (c : List ℕ). with_taken sealed c m.levels given m.jobs) counts ∙ same_taken sealed (work_of m).sealed (cuts_of (state_of m)) m.levels given m.jobs flush) in
+        let answer : IsAnsweredAlone w (Take asked) (taken_reply taken) = record { allowed = reply; admitted = reply; next = refl; faultless = refl; state = refl; alone = refl } in
+        works_moved v (Take asked) js m.next_table m.extents (taken_reply taken) answer is is
+        (λ tells runs. record {
+          sound = sound_moved v (Take asked) js m.next_table m.extents (taken_reply taken) answer is (take_sound w runs.sound asked);
+          stored = subst (λ (x : JobSlots). IsStoredWithJobs (placement_of v) (placed_by x.slots) v.state (disk medium)) (sym moved) (stored_with given runs.stored);
+          unasked = subst (λ (x : JobSlots). HasNoneOf m.next_table (outputs_in x.slots) cache) (sym moved) (unasked_with given runs.unasked);
+        })
+      where
+        with_one : Option Job → JobSlots
+        with_one o = with_taken sealed cuts m.levels o m.jobs
 
-      unasked_with : (o : Option Job) → HasNoneOf m.next_table (outputs_in m.jobs.slots) cache → HasNoneOf m.next_table (outputs_in (with_one o).slots) cache
-      unasked_with None none = none
-      unasked_with (Some job) none = subst (λ (l : List Table). HasNoneOf m.next_table l cache) (sym (taken_outputs (slot_for m.jobs.next sealed cuts m.levels job) m.jobs.slots (first_none job))) none
-  take_works some none sealed cuts counts flush (Err e) js told moved refusals past same =
-      ⊎_elim
-      (λ is. absurd (past (ap (λ (r : Refusal). Err r) is)))
-      (λ is. subst (λ (r : Refusal). Works v Take (Refused r) (worked_on v js m.extents medium)) (sym is)
-      (subst (λ (x : JobSlots). Works v Take (Refused NoMemory) (worked_on v x m.extents medium)) (sym same) (take_want some none))) refusals
+        stored_with : (o : Option Job) → IsStoredWithJobs (placement_of v) (placed_by m.jobs.slots) v.state (disk medium) → IsStoredWithJobs (placement_of v) (placed_by (with_one o).slots) v.state (disk medium)
+        stored_with None stored = stored
+        stored_with (Some job) stored =
+            subst (λ (l : List PlacedTable). IsStoredWithJobs (placement_of v) l v.state (disk medium)) (sym (taken_placed (slot_for m.jobs.next sealed cuts m.levels job) m.jobs.slots (first_none job))) stored
 
-  -- as the slots tell it, which are told whether sealed versions wait
-  abbrev Taken : Bool → Type 0
-  Taken waiting = (sealed : List Version) (cuts : List ℕ) → cuts ≡ cuts_of (state_of m) → (waiting ≡ true → sealed ≡ (work_of m).sealed) → (r : Result (Option TakenJob) Refusal) (js : JobSlots)
-      → IfOk r (λ (taken : Option TakenJob). taken ≡ option_map (told_of m.jobs.next) (given_job waiting m.levels m.jobs.slots))
-      → OnOk r (js ≡ with_taken sealed cuts m.levels (given_job waiting m.levels m.jobs.slots) m.jobs)
-      → (r ≡ Err Exhausted) ↔ ((is_some (given_job waiting m.levels m.jobs.slots) ≡ true) × (2 ^ 63 < m.jobs.next))
-      → IfErr r (λ e. (e ≡ Exhausted) ⊎ (e ≡ NoMemory)) → OnErr r (js ≡ m.jobs) → Works v Take (reply_of taken_reply r) (worked_on v js m.extents medium)
+        unasked_with : (o : Option Job) → HasNoneOf m.next_table (outputs_in m.jobs.slots) cache → HasNoneOf m.next_table (outputs_in (with_one o).slots) cache
+        unasked_with None none = none
+        unasked_with (Some job) none = subst (λ (l : List Table). HasNoneOf m.next_table l cache) (sym (taken_outputs (slot_for m.jobs.next sealed cuts m.levels job) m.jobs.slots (first_none job))) none
+    take_works some none sealed cuts counts flush (Err e) js told moved refusals past same =
+        ⊎_elim
+        (λ is. absurd (past (ap (λ (r : Refusal). Err r) is)))
+        (λ is. subst (λ (r : Refusal). Works v (Take asked) (Refused r) (worked_on v js m.extents medium)) (sym is)
+        (subst (λ (x : JobSlots). Works v (Take asked) (Refused NoMemory) (worked_on v x m.extents medium)) (sym same) (take_want some none))) refusals
 
-  module _ (before : Bool) (first : before ≡ are_waiting (state_of m)) (some_before : is_some (given_job before m.levels m.jobs.slots) ≡ true) (left_before : (is_some (given_job before m.levels m.jobs.slots) ≡ true) × (2 ^ 63 < m.jobs.next) → ⊥) where
-    some : is_some given ≡ true
-    some = subst (λ (b : Bool). is_some (given_job b m.levels m.jobs.slots) ≡ true) first some_before
+    -- as the slots tell it, which are told whether sealed versions wait
+    abbrev Taken : Bool → Type 0
+    Taken waiting = (sealed : List Version) (cuts : List ℕ) → cuts ≡ cuts_of (state_of m) → (waiting ≡ true → sealed ≡ (work_of m).sealed) → (r : Result (Option TakenJob) Refusal) (js : JobSlots)
+        → IfOk r (λ (taken : Option TakenJob). taken ≡ option_map (told_of m.jobs.next) (given_job waiting asked m.levels m.jobs.slots))
+        → OnOk r (js ≡ with_taken sealed cuts m.levels (given_job waiting asked m.levels m.jobs.slots) m.jobs)
+        → (r ≡ Err Exhausted) ↔ ((is_some (given_job waiting asked m.levels m.jobs.slots) ≡ true) × (2 ^ 63 < m.jobs.next))
+        → IfErr r (λ e. (e ≡ Exhausted) ⊎ (e ≡ NoMemory)) → OnErr r (js ≡ m.jobs) → Works v (Take asked) (reply_of taken_reply r) (worked_on v js m.extents medium)
 
-    left : (is_some given ≡ true) × (2 ^ 63 < m.jobs.next) → ⊥
-    left = subst (λ (b : Bool). (is_some (given_job b m.levels m.jobs.slots) ≡ true) × (2 ^ 63 < m.jobs.next) → ⊥) first left_before
+    module _ (before : Bool) (first : before ≡ are_waiting (state_of m)) (some_before : is_some (given_job before asked m.levels m.jobs.slots) ≡ true) (left_before : (is_some (given_job before asked m.levels m.jobs.slots) ≡ true) × (2 ^ 63 < m.jobs.next) → ⊥) where
+      some : is_some given ≡ true
+      some = subst (λ (b : Bool). is_some (given_job b asked m.levels m.jobs.slots) ≡ true) first some_before
 
-    taken_here : Taken (are_waiting (state_of m))
-    taken_here sealed cuts counts same r js told moved past refusals stays =
-        take_works some (take_unrefused left) sealed cuts counts
-        (λ is. same (flush_waits (are_waiting (state_of m)) m.levels (held_jobs m.jobs.slots) Flush (given_picked (are_waiting (state_of m)) m.levels m.jobs.slots Flush is) refl))
-        r js told moved refusals (λ e. left (past.0 e)) stays
+      left : (is_some given ≡ true) × (2 ^ 63 < m.jobs.next) → ⊥
+      left = subst (λ (b : Bool). (is_some (given_job b asked m.levels m.jobs.slots) ≡ true) × (2 ^ 63 < m.jobs.next) → ⊥) first left_before
 
-    pub take_told : (waiting : Bool) → waiting ≡ are_waiting (state_of m) → Taken waiting
-    take_told waiting is = subst Taken (sym is) taken_here
+      taken_here : Taken (are_waiting (state_of m))
+      taken_here sealed cuts counts same r js told moved past refusals stays =
+          take_works some (take_unrefused left) sealed cuts counts
+          (λ is. same (given_waits (are_waiting (state_of m)) m.levels asked m.jobs.slots Flush is refl))
+          r js told moved refusals (λ e. left (past.0 e)) stays
 
-  -- where the number 2^63 was given out
-  pub take_past : (waiting : Bool) → waiting ≡ are_waiting (state_of m) → (is_some (given_job waiting m.levels m.jobs.slots) ≡ true) × (2 ^ 63 < m.jobs.next) → Works v Take (Refused Exhausted) v
-  take_past waiting is both =
-      works_refused v Take Exhausted (running_refuses w Take running ∙ take_exhausted (subst (λ (b : Bool). is_some (given_job b m.levels m.jobs.slots) ≡ true) is both.0) both.1)
+      pub take_told : (waiting : Bool) → waiting ≡ are_waiting (state_of m) → Taken waiting
+      take_told waiting is = subst Taken (sym is) taken_here
 
-  pub take_free : (waiting : Bool) → waiting ≡ are_waiting (state_of m) → is_some (given_job waiting m.levels m.jobs.slots) ≡ false → Works v Take (Given None) v
-  take_free waiting is none = take_none (subst (λ (b : Bool). is_some (given_job b m.levels m.jobs.slots) ≡ false) is none)
+    -- where the number 2^63 was given out
+    pub take_past : (waiting : Bool) → waiting ≡ are_waiting (state_of m) → (is_some (given_job waiting asked m.levels m.jobs.slots) ≡ true) × (2 ^ 63 < m.jobs.next) → Works v (Take asked) (Refused Exhausted) v
+    take_past waiting is both =
+        works_refused v (Take asked) Exhausted (running_refuses w (Take asked) running ∙ take_exhausted (subst (λ (b : Bool). is_some (given_job b asked m.levels m.jobs.slots) ≡ true) is both.0) both.1)
 
-  pub take_short : (waiting : Bool) → waiting ≡ are_waiting (state_of m) → is_some (given_job waiting m.levels m.jobs.slots) ≡ true → ((is_some (given_job waiting m.levels m.jobs.slots) ≡ true) × (2 ^ 63 < m.jobs.next) → ⊥)
-      → Works v Take (Refused NoMemory) v
-  take_short waiting is some left =
-      take_want (subst (λ (b : Bool). is_some (given_job b m.levels m.jobs.slots) ≡ true) is some)
-      (take_unrefused (subst (λ (b : Bool). (is_some (given_job b m.levels m.jobs.slots) ≡ true) × (2 ^ 63 < m.jobs.next) → ⊥) is left))
+    pub take_free : (waiting : Bool) → waiting ≡ are_waiting (state_of m) → is_some (given_job waiting asked m.levels m.jobs.slots) ≡ false → Works v (Take asked) (Given None) v
+    take_free waiting is none = take_none (subst (λ (b : Bool). is_some (given_job b asked m.levels m.jobs.slots) ≡ false) is none)
+
+    pub take_short : (waiting : Bool) → waiting ≡ are_waiting (state_of m) → is_some (given_job waiting asked m.levels m.jobs.slots) ≡ true → ((is_some (given_job waiting asked m.levels m.jobs.slots) ≡ true) × (2 ^ 63 < m.jobs.next) → ⊥)
+        → Works v (Take asked) (Refused NoMemory) v
+    take_short waiting is some left =
+        take_want (subst (λ (b : Bool). is_some (given_job b asked m.levels m.jobs.slots) ≡ true) is some)
+        (take_unrefused (subst (λ (b : Bool). (is_some (given_job b asked m.levels m.jobs.slots) ≡ true) × (2 ^ 63 < m.jobs.next) → ⊥) is left))
 
 -- ---- options
 

@@ -8,7 +8,7 @@ use Rattle.lsm_jobs.specs.Slots.{Slot}
 use Rattle.lsm_levels.specs.Pick.{is_flush}
 use Rattle.lsm_open.specs.CrashState.{CrashState}
 use Rattle.lsm_store.specs.Calls.{Reply}
-use Rattle.lsm_store.specs.Calls.{Number, Done, Value, Rows, Given, Handed, Refused}
+use Rattle.lsm_store.specs.Calls.{Number, Done, Value, Rows, Given, Handed, Refused, Unread}
 use Rattle.lsm_store.specs.Crash.{crash_state_at, left_between, may_leave, last_crash_state}
 use Rattle.lsm_store.specs.Effects.{Use}
 use Rattle.lsm_store.specs.Effects.{Untouched, Reads, Changes}
@@ -28,7 +28,7 @@ work_decided_so m piece = by (is_some m.state.stopped) piece
   where
     by : (b : Bool) (p : Work) → IsDecided (cond b (Some Stopped) (running_refusal m p))
     by true p = tt
-    by false Take = first_decided (work_refusals m Take) (tt, tt)
+    by false (Take asked) = first_decided (work_refusals m (Take asked)) (tt, tt)
     by false (Read job) = first_decided (work_refusals m (Read job)) (tt, (tt, tt))
     by false (Ask job) = first_decided (work_refusals m (Ask job)) (tt, (tt, tt))
     by false (Accept job result) = first_decided (work_refusals m (Accept job result)) (tt, (tt, (tt, (tt, (tt, tt)))))
@@ -43,7 +43,7 @@ module _ (m : Machine) where
   lent_answers (Some slot) = tt
 
   answers : (piece : Work) → IsAnswer (work_answer m piece)
-  answers Take = tt
+  answers (Take asked) = tt
   answers (Read job) = tt
   answers (Ask job) = lent_answers (held m job)
   answers (Accept job result) = tt
@@ -63,6 +63,7 @@ module _ (m : Machine) where
     -- the machine goes on by an answer
     pub goes_by_answer : (reply : Reply) → IsAnswer reply → next_worked m piece reply ≡ record { state = state_after m piece; work = work_after m piece }
     goes_by_answer (Refused e) answer = absurd answer
+    goes_by_answer Unread answer = absurd answer
     goes_by_answer (Number n) answer = refl
     goes_by_answer Done answer = refl
     goes_by_answer (Value value) answer = refl
@@ -72,6 +73,7 @@ module _ (m : Machine) where
 
     allows_answer : (reply : Reply) → IsAnswer reply → reply ≡ work_decided m piece → WorkAllows m piece reply
     allows_answer (Refused e) answer is = absurd answer
+    allows_answer Unread answer is = absurd answer
     allows_answer (Number n) answer is = is
     allows_answer Done answer is = is
     allows_answer (Value value) answer is = is
@@ -100,6 +102,14 @@ module _ (m : Machine) where
         by None h e = subst IsAnswer (sym e) (answers piece)
         by (Some refused) h e = let same : BadTable ≡ refused = cc in subst (λ (r : Refusal). IsDecided (Some r)) (sym same) h
 
+    -- nor that a read of guards faulted
+    pub never_unread : Unread ≡ work_decided m piece → ⊥
+    never_unread is = by (work_refusal m piece) is
+      where
+        by : (o : Option Refusal) → Unread ≡ work_reply_by m piece o → ⊥
+        by None e = subst IsAnswer (sym e) (answers piece)
+        by (Some refused) e = cc
+
     -- what a machine allows, memory admits
     pub admits_work : (reply : Reply) → WorkAllows m piece reply → WorkAdmits m piece reply
     admits_work (Refused BadTable) allows = absurd (no_bad_table_worked allows)
@@ -110,6 +120,7 @@ module _ (m : Machine) where
     admits_work (Rows page) allows = allows
     admits_work (Given job) allows = allows
     admits_work (Handed input) allows = allows
+    admits_work Unread allows = allows
 
     -- a refusal that tells of no fault changes nothing
     pub refused_work : (e : Refusal) → (e ≡ Io → ⊥) → next_worked m piece (Refused e) ≡ m
@@ -126,7 +137,7 @@ module _ (m : Machine) (others : List CrashState) (is : m.state.stopped ≡ Some
   refuses piece = ap (λ (o : Option (List CrashState)). cond (is_some o) (Some Stopped) (running_refusal m piece)) is
 
   wants_none : (piece : Work) → WorkAdmits m piece (Refused NoMemory) → ⊥
-  wants_none Take may = no_none (subst IsNone (refuses Take) may.0)
+  wants_none (Take asked) may = no_none (subst IsNone (refuses (Take asked)) may.0)
   wants_none (Read job) may = no_none (subst IsNone (refuses (Read job)) may)
   wants_none (Ask job) may = no_none (subst IsNone (refuses (Ask job)) may)
   wants_none (Accept job result) may = ⊎_elim
@@ -138,7 +149,7 @@ module _ (m : Machine) (others : List CrashState) (is : m.state.stopped ≡ Some
   wants_none (Drop job) may = may
 
   finds_tables : (piece : Work) → MayFindNoTable m piece → ⊥
-  finds_tables Take may = may
+  finds_tables (Take asked) may = may
   finds_tables (Read job) may = no_none (subst IsNone (refuses (Read job)) may)
   finds_tables (Ask job) may = may
   finds_tables (Accept job result) may = may
@@ -158,6 +169,7 @@ module _ (m : Machine) (others : List CrashState) (is : m.state.stopped ≡ Some
   stopped_work piece (Rows page) may = may ∙ ap (work_reply_by m piece) (refuses piece)
   stopped_work piece (Given job) may = may ∙ ap (work_reply_by m piece) (refuses piece)
   stopped_work piece (Handed input) may = may ∙ ap (work_reply_by m piece) (refuses piece)
+  stopped_work piece Unread may = may ∙ ap (work_reply_by m piece) (refuses piece)
 
 -- ---- what a crash may leave
 
@@ -172,7 +184,7 @@ module _ (m : Machine) (left : CrashState) where
       with_others m.state (installed (is_flush slot.job) m.state) (last_crash_state (installed (is_flush slot.job) m.state) ∷ []) left (installed_goes (is_flush slot.job) m.state left) m.state.stopped found
 
   after_work_goes : (piece : Work) → Contains (may_leave (state_after m piece)) left → Contains (may_leave m.state ++ work_left_besides m piece) left
-  after_work_goes Take found = Contains-append_left (may_leave m.state) [] left found
+  after_work_goes (Take asked) found = Contains-append_left (may_leave m.state) [] left found
   after_work_goes (Read job) found = Contains-append_left (may_leave m.state) [] left found
   after_work_goes (Ask job) found = Contains-append_left (may_leave m.state) [] left found
   after_work_goes (Accept job result) found = Contains-append_left (may_leave m.state) [] left found
@@ -205,6 +217,7 @@ module _ (m : Machine) (left : CrashState) where
     work_inside (Rows page) may found = answer_inside (Rows page) tt may found
     work_inside (Given job) may found = answer_inside (Given job) tt may found
     work_inside (Handed input) may found = answer_inside (Handed input) tt may found
+    work_inside Unread may found = absurd (never_unread m piece may)
 
 -- ---- what pieces of work keep of the state
 
@@ -214,7 +227,7 @@ module _ {X : Type 0} (f : State → X) (stopping : (s : State) (o : Option (Lis
   slot_keeps (Some slot) = installing (is_flush slot.job) m.state
 
   after_keeps : (p : Work) → f (state_after m p) ≡ f m.state
-  after_keeps Take = refl
+  after_keeps (Take asked) = refl
   after_keeps (Read job) = refl
   after_keeps (Ask job) = refl
   after_keeps (Accept job result) = refl
@@ -237,3 +250,4 @@ module _ {X : Type 0} (f : State → X) (stopping : (s : State) (o : Option (Lis
   work_keeps (Rows page) = after_keeps piece
   work_keeps (Given job) = after_keeps piece
   work_keeps (Handed input) = after_keeps piece
+  work_keeps Unread = after_keeps piece

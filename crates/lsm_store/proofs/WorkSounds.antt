@@ -6,11 +6,11 @@ use Rattle.lsm_extent.specs.Area.{Area}
 use Rattle.lsm_merge.specs.Inputs.{MergeInput, joined}
 use Rattle.lsm_merge.specs.Results.{MergeResult}
 use Rattle.lsm_levels.specs.Among.{IsAmong}
+use Rattle.lsm_levels.specs.declared.choosing.Choice.{Choice}
 use Rattle.lsm_levels.specs.Tables.{Table}
 use Rattle.lsm_levels.specs.Pick.{Job, Flush, Merge, is_flush, is_bottom}
 use Rattle.lsm_levels.specs.Held.{IsHeld}
 use Rattle.lsm_levels.proofs.Members.{among_either}
-use Rattle.lsm_levels.proofs.PickLaws.{flush_waits, pick_law}
 use Rattle.lsm_levels.proofs.Taking.{in_tables, merging_law}
 use Rattle.lsm_jobs.specs.Slots.{Stage, Slot, JobSlots, Reading, Frozen, Writing, slot_of, held_jobs, with_slot, with_held, is_writing, left_at, less_left, outputs_at}
 use Rattle.lsm_jobs.specs.Keeping.{AreKept}
@@ -19,7 +19,7 @@ use Rattle.lsm_jobs.specs.Placing.{all_handed_out}
 use Rattle.lsm_jobs.specs.Reading.{stage_with}
 use Rattle.lsm_jobs.specs.Taking.{runs_of, first_stage, slot_for, with_taken}
 use Rattle.lsm_jobs.proofs.Found.{found_there, found_number}
-use Rattle.lsm_jobs.proofs.KeptJobs.{taken_cases, held_cases, given_picked, given_taken, going_on_law, freeing_law}
+use Rattle.lsm_jobs.proofs.KeptJobs.{taken_cases, held_cases, given_may, given_waits, may_taken, going_on_law, freeing_law}
 use Rattle.lsm_store.specs.RecoveryPoints.{batch_count}
 use Rattle.lsm_store.specs.State.{State, LiveSnapshot, are_waiting}
 use Rattle.lsm_store.specs.StateMaps.{HaveMaps}
@@ -205,15 +205,14 @@ module _ (m : Machine) (sound : IsSound m) where
         asked = λ snapshot a. inl (snapshot_cut m.state snapshot a);
       }
 
-  take_one : (job : Job) → job_given m ≡ Some job → IsSound (machine m.state (record m.work { jobs = with_taken m.work.sealed (cuts_of m.state) m.work.levels (Some job) m.work.jobs }))
-  take_one job e =
-      let picked = given_picked (are_waiting m.state) m.work.levels m.work.jobs.slots job e in
-      let is = pick_law (are_waiting m.state) m.work.levels (held_jobs m.work.jobs.slots) job good.runs picked in
+  take_one : (asked : Option Choice) (job : Job) → job_given m asked ≡ Some job → IsSound (machine m.state (record m.work { jobs = with_taken m.work.sealed (cuts_of m.state) m.work.levels (Some job) m.work.jobs }))
+  take_one asked job e =
+      let is = given_may (are_waiting m.state) m.work.levels asked m.work.jobs.slots job e good.runs in
       let slots = with_slot (taken job) m.work.jobs.slots in
       jobs_sound (record { next = m.work.jobs.next + 1; slots = slots }) m.work.next_table m.work.area
-      (given_taken (are_waiting m.state) m.work.levels m.work.jobs.next m.work.jobs.slots m.work.sealed (cuts_of m.state) job good.runs sound.ready.kept e)
+      (may_taken m.work.levels m.work.jobs.next m.work.jobs.slots m.work.sealed (cuts_of m.state) job sound.ready.kept is)
       (λ s a flush. ⊎_elim
-      (λ f. flush_waits (are_waiting m.state) m.work.levels (held_jobs m.work.jobs.slots) job picked (sym (ap (λ (x : Slot). is_flush x.job) f) ∙ flush))
+      (λ f. given_waits (are_waiting m.state) m.work.levels asked m.work.jobs.slots job e (sym (ap (λ (x : Slot). is_flush x.job) f) ∙ flush))
       (λ old. sound.waiting.flush_waits s old flush)
       (taken_cases (taken job) m.work.jobs.slots s a))
       (λ s a. ⊎_elim
@@ -225,9 +224,9 @@ module _ (m : Machine) (sound : IsSound m) where
       (λ old. sound.ready.outputs s old h)
       (taken_cases (taken job) m.work.jobs.slots s a))
 
-  pub take_sound : IsSound (machine m.state (work_after m Take))
-  take_sound = by (job_given m) refl
+  pub take_sound : (asked : Option Choice) → IsSound (machine m.state (work_after m (Take asked)))
+  take_sound asked = by (job_given m asked) refl
     where
-      by : (o : Option Job) → job_given m ≡ o → IsSound (machine m.state (record m.work { jobs = with_taken m.work.sealed (cuts_of m.state) m.work.levels o m.work.jobs }))
+      by : (o : Option Job) → job_given m asked ≡ o → IsSound (machine m.state (record m.work { jobs = with_taken m.work.sealed (cuts_of m.state) m.work.levels o m.work.jobs }))
       by None e = sound
-      by (Some job) e = take_one job e
+      by (Some job) e = take_one asked job e

@@ -11,6 +11,7 @@ use Rattle.lsm_device.specs.Medium.{Medium}
 use Rattle.lsm_device.specs.declared.refusal.Refusal.{Refusal}
 use Rattle.lsm_extent.specs.Area.{Area, IsPartition}
 use Rattle.lsm_levels.specs.Held.{AreRuns}
+use Rattle.lsm_levels.specs.declared.choosing.Choice.{Choice}
 use Rattle.lsm_jobs.specs.Reading.{JobCanBeRead, JobReadsOn}
 use Rattle.lsm_jobs.specs.Outputs.{placed_blocks}
 use Rattle.lsm_jobs.specs.Placing.{all_given_back, AreHandedOut, IsAccepted}
@@ -89,16 +90,16 @@ module _ {A : Type 0} (m : Memory A) (kept : AreConsistent m) where
   read_kept area job medium (Err e) js read same = same_kept js m.extents same refl
 
   -- a job was taken, or none
-  pub take_kept : (waiting : Bool) (sealed : List Version) (cuts : List ℕ) (r : Result (Option TakenJob) Refusal) (js : JobSlots) → AreRuns m.levels
-      → OnOk r (js ≡ with_taken sealed cuts m.levels (given_job waiting m.levels m.jobs.slots) m.jobs) → OnErr r (js ≡ m.jobs) → AreConsistent (with_jobs js m.extents)
-  take_kept waiting sealed cuts (Ok taken) js runs moved same =
-      jobs_kept js m.extents (subst (λ (x : JobSlots). HaveTables m.levels x m.extents) (sym moved) (taken_tables waiting m.levels sealed cuts m.jobs runs m.extents kept.jobs))
-      (subst (λ (x : JobSlots). AreNumbered m.next_table (all_tables (places m.levels) ++ outputs_in x.slots)) (sym moved) (with_one (given_job waiting m.levels m.jobs.slots)))
+  pub take_kept : (waiting : Bool) (asked : Option Choice) (sealed : List Version) (cuts : List ℕ) (r : Result (Option TakenJob) Refusal) (js : JobSlots) → AreRuns m.levels
+      → OnOk r (js ≡ with_taken sealed cuts m.levels (given_job waiting asked m.levels m.jobs.slots) m.jobs) → OnErr r (js ≡ m.jobs) → AreConsistent (with_jobs js m.extents)
+  take_kept waiting asked sealed cuts (Ok taken) js runs moved same =
+      jobs_kept js m.extents (subst (λ (x : JobSlots). HaveTables m.levels x m.extents) (sym moved) (taken_tables waiting asked m.levels sealed cuts m.jobs runs m.extents kept.jobs))
+      (subst (λ (x : JobSlots). AreNumbered m.next_table (all_tables (places m.levels) ++ outputs_in x.slots)) (sym moved) (with_one (given_job waiting asked m.levels m.jobs.slots)))
     where
       with_one : (o : Option Job) → AreNumbered m.next_table (all_tables (places m.levels) ++ outputs_in (with_taken sealed cuts m.levels o m.jobs).slots)
       with_one None = kept.numbered
       with_one (Some job) = taken_numbered m.next_table (all_tables (places m.levels)) (slot_for m.jobs.next sealed cuts m.levels job) m.jobs.slots (first_none job) kept.numbered
-  take_kept waiting sealed cuts (Err e) js runs moved same = same_kept js m.extents same refl
+  take_kept waiting asked sealed cuts (Err e) js runs moved same = same_kept js m.extents same refl
 
   -- a result was accepted
   pub accepted_kept : (job next : ℕ) (input : MergeInput) (images : List TableBlocks) (js : JobSlots) (extents : Area) → next ≡ m.next_table + length images → IsAccepted job m.next_table input images m.extents extents m.jobs js

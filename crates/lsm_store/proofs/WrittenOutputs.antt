@@ -147,7 +147,7 @@ module _ (n : ℕ) (d : Disk) (level : ℕ) where
         told = refl;
         members = members;
       };
-      named = λ base numbered. table_stands n base (seen d) r filter image blocks is high (record { number = refl; data_blocks = refl; index_blocks = refl; entries = refl }) members numbered;
+      named = λ base numbered. table_stands n base (seen d) r filter image blocks is high (record { number = refl; data_blocks = refl; index_blocks = refl; entries = refl }) members numbered refl;
     }
       where
         blocks : blocks_from (extent_at n (seen d) r) 0 (extent_blocks r) ≡ laid.extent_of number filter image

@@ -3,6 +3,8 @@ use Rattle.std.specs.Prelude.{ℕ, List, Option, Result, Ok, Err}
 use Rattle.lsm_codec.specs.Keys.{Bytes}
 use Rattle.lsm_codec.specs.Map.{Operation}
 use Rattle.lsm_device.specs.declared.refusal.Refusal.{Refusal}
+use Rattle.lsm_device.specs.declared.refusal.Refusal.TheVariants.{Io}
+use Rattle.lsm_codec.specs.Guards.{Condition}
 use Rattle.lsm_store.specs.declared.asked.At.{At}
 use Rattle.lsm_mem.specs.Paging.{Page}
 use Rattle.lsm_merge.specs.Inputs.{MergeInput}
@@ -10,6 +12,8 @@ use Rattle.lsm_merge.specs.Inputs.{MergeInput}
 pub data Call : Type 0 where
   -- adds a batch
   Commit : List Operation → Call
+  -- adds a batch where the present map meets each of these conditions
+  CommitIf : List Condition → List Operation → Call
   -- makes all batches outlast a crash
   Sync : Call
   -- makes the batches up to this number outlast a crash
@@ -41,8 +45,15 @@ pub data Reply : Type 0 where
   -- of a job, what its merge is given
   Handed : MergeInput → Reply
   Refused : Refusal → Reply
+  -- a read of a commit's guards faulted: nothing is changed. Whoever asked is told Io, as of a write that faulted.
+  Unread : Reply
 
 -- a result as a reply
 abbrev pub reply_of : {T : Type 0} → (T → Reply) → Result T Refusal → Reply
 reply_of f (Ok x) = f x
 reply_of f (Err e) = Refused e
+
+-- what is told of a reply
+abbrev pub as_told : Reply → Reply
+as_told Unread = Refused Io
+as_told reply = reply

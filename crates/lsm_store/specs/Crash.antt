@@ -4,8 +4,8 @@ use Rattle.lsm_open.specs.CrashState.{CrashState}
 use Rattle.lsm_store.specs.RecoveryPoints.{RecoveryPoint, recovery_points, present_point}
 use Rattle.lsm_store.specs.State.{OpenLog, State}
 use Rattle.lsm_store.specs.Calls.{Call}
-use Rattle.lsm_store.specs.Calls.{Commit, Sync, SyncTo, Get, Scan, Snapshot, Release, Rotate, LogRoom}
-use Rattle.lsm_store.specs.Refusals.{refusal}
+use Rattle.lsm_store.specs.Calls.{Commit, CommitIf, Sync, SyncTo, Get, Scan, Snapshot, Release, Rotate, LogRoom}
+use Rattle.lsm_store.specs.Refusals.{full_refusal}
 use Rattle.lsm_store.specs.Effects.{after}
 
 abbrev pub closed_with : ℕ → ℕ → Option OpenLog → ℕ
@@ -39,6 +39,7 @@ last_crash_state s = crash_state_at s (present_point s.points)
 -- what a crash inside a call may leave besides, since the call may have had its whole effect
 abbrev pub left_besides : State → Call → List CrashState
 left_besides s (Commit batch) = last_crash_state (after s (Commit batch)) ∷ []
+left_besides s (CommitIf guards batch) = last_crash_state (after s (CommitIf guards batch)) ∷ []
 left_besides s Sync = []
 left_besides s (SyncTo number) = []
 left_besides s (Get at key) = []
@@ -51,7 +52,7 @@ left_besides s LogRoom = []
 -- What a crash inside a call may leave: what the state before it may leave, and what the call adds to that where
 -- nothing refuses it.
 abbrev pub left_inside : State → Call → List CrashState
-left_inside s call = may_leave s ++ (if is_some (refusal s call) then [] else left_besides s call)
+left_inside s call = may_leave s ++ (if is_some (full_refusal s call) then [] else left_besides s call)
 
 -- The store that an opening answers on what a crash left, in a format with log regions of so many sectors. There are
 -- three regions. Snapshots are gone, and are numbered from 1 again.

@@ -1,5 +1,5 @@
 -- What a call answers that nothing refuses, and the state after it.
-use Rattle.std.specs.Prelude.{ℕ, ◌+◌, ◌==◌, nat_le, Bool, true, false, not, is_some, List, [], ◌∷◌, ◌++◌, filter, Option, Some, None, option_map, if◌then◌else◌}
+use Rattle.std.specs.Prelude.{ℕ, ◌+◌, ◌==◌, nat_le, Bool, true, false, not, is_some, is_none, List, [], ◌∷◌, ◌++◌, filter, Option, Some, None, option_map, if◌then◌else◌}
 use Rattle.std.specs.FinMap as finite
 use Rattle.lsm_codec.specs.Map.{Operation}
 use Rattle.lsm_codec.specs.BatchText.{sectors_of}
@@ -8,11 +8,12 @@ use Rattle.lsm_store.specs.RecoveryPoints.{batch_count, present_point, with_batc
 use Rattle.lsm_store.specs.State.{OpenLog, LiveSnapshot, State, map_at, log_room}
 use Rattle.lsm_mem.specs.Paging.{page_of}
 use Rattle.lsm_store.specs.Calls.{Call, Reply}
-use Rattle.lsm_store.specs.Calls.{Commit, Sync, SyncTo, Get, Scan, Snapshot, Release, Rotate, LogRoom, Number, Done, Value, Rows, Refused}
-use Rattle.lsm_store.specs.Refusals.{refusal}
+use Rattle.lsm_store.specs.Calls.{Commit, CommitIf, Sync, SyncTo, Get, Scan, Snapshot, Release, Rotate, LogRoom, Number, Done, Value, Rows, Refused}
+use Rattle.lsm_store.specs.Refusals.{first_refusal, later_refusals, full_refusal}
 
 abbrev pub answer : State → Call → Reply
 answer s (Commit batch) = Number (batch_count s.points + 1)
+answer s (CommitIf guards batch) = Number (batch_count s.points + 1)
 answer s Sync = Done
 answer s (SyncTo number) = Done
 answer s (Get at key) = Value (finite.get (map_at s at) key)
@@ -43,9 +44,14 @@ rotated s = record s {
   generation = s.generation + 1;
 }
 
+-- the state after a batch was added
+abbrev pub committed : State → List Operation → State
+committed s batch = record s { points = with_batch s.points batch; open_log = option_map (with_sectors batch) s.open_log }
+
 -- the state after that answer
 abbrev pub after : State → Call → State
-after s (Commit batch) = record s { points = with_batch s.points batch; open_log = option_map (with_sectors batch) s.open_log }
+after s (Commit batch) = committed s batch
+after s (CommitIf guards batch) = committed s batch
 after s Sync = record s { points = all_synced s.points }
 after s (SyncTo number) = if nat_le number s.points.synced then s else record s { points = all_synced s.points }
 after s (Get at key) = s
@@ -61,7 +67,7 @@ reply_by s call None = answer s call
 
 -- what the state decides: a refusal or an answer
 abbrev pub decided : State → Call → Reply
-decided s call = reply_by s call (refusal s call)
+decided s call = reply_by s call (full_refusal s call)
 
 abbrev pub state_by : State → Call → Option Refusal → State
 state_by s call (Some e) = s
@@ -69,11 +75,12 @@ state_by s call None = after s call
 
 -- the state after what it decides
 abbrev pub completed : State → Call → State
-completed s call = state_by s call (refusal s call)
+completed s call = state_by s call (full_refusal s call)
 
 -- whether a call takes memory, for want of which it may be refused
 abbrev pub takes_memory : Call → Bool
 takes_memory (Commit batch) = true
+takes_memory (CommitIf guards batch) = true
 takes_memory Sync = false
 takes_memory (SyncTo number) = false
 takes_memory (Get at key) = true
@@ -83,9 +90,11 @@ takes_memory (Release number) = false
 takes_memory Rotate = true
 takes_memory LogRoom = false
 
--- whether it takes memory in this state: a look-up takes some for the copy of a value alone
+-- whether it takes memory in this state: a look-up takes some for the copy of a value alone, and a commit under guards where all
+-- of them are true
 abbrev pub wants_memory : State → Call → Bool
 wants_memory s (Commit batch) = true
+wants_memory s (CommitIf guards batch) = is_none (first_refusal (later_refusals s (CommitIf guards batch)))
 wants_memory s Sync = false
 wants_memory s (SyncTo number) = false
 wants_memory s (Get at key) = is_some (finite.get (map_at s at) key)
@@ -106,6 +115,7 @@ pub data Use : Type 0 where
 
 abbrev pub use_of : State → Call → Use
 use_of s (Commit batch) = Changes
+use_of s (CommitIf guards batch) = Changes
 use_of s Sync = Changes
 use_of s (SyncTo number) = if nat_le number s.points.synced then Untouched else Changes
 use_of s (Get at key) = Reads
@@ -114,3 +124,10 @@ use_of s Snapshot = Untouched
 use_of s (Release number) = Untouched
 use_of s Rotate = Changes
 use_of s LogRoom = Untouched
+
+-- what it may do with the device before it changes anything: a commit reads what its guards ask
+abbrev pub use_first : Call → Use
+use_first (CommitIf (guard ∷ guards) batch) = Reads
+use_first (Get at key) = Reads
+use_first (Scan at from to limit) = Reads
+use_first other = Untouched

@@ -34,3 +34,4 @@ pub mod Pieces
 pub mod TableLimits
 pub mod InstalledMemory
 pub mod Reading
+pub mod Guarding

@@ -11,7 +11,7 @@ use Rattle.lsm_store.specs.Machine.{Machine}
 
 -- the piece of work that is told so; whoever is to build a result begins by asking for the job's input
 abbrev pub work_of_piece : Piece → Work
-work_of_piece piece.Take = Take
+work_of_piece piece.Take = Take None
 work_of_piece (piece.Read job) = Read job
 work_of_piece (piece.Build job) = Ask job
 work_of_piece (piece.Write job) = Write job
@@ -29,7 +29,7 @@ piece_of_job job (Writing tables left) = if left == 0 then Install job else Writ
 -- what a slot waits for: one that is held for what its job does, and a free one for a taking, where a job comes next
 abbrev pub piece_of_slot : Machine → Option Slot → Option Work
 piece_of_slot m (Some slot) = Some (piece_of_job slot.number slot.stage)
-piece_of_slot m None = if is_some (job_given m) then Some Take else None
+piece_of_slot m None = if is_some (job_given m None) then Some (Take None) else None
 
 -- what the slot at a place waits for, of the four from 0 on: none where the store is stopped, where the place is none of the
 -- four, or where the slot is free and no job comes next
@@ -47,7 +47,7 @@ is_of_full_levels other = false
 -- whether an install is put off for now, since it would be refused so
 abbrev pub is_put_off : Machine → Work → Bool
 is_put_off m (Install job) = is_of_full_levels (work_refusal m (Install job))
-is_put_off m Take = false
+is_put_off m (Take asked) = false
 is_put_off m (Read job) = false
 is_put_off m (Ask job) = false
 is_put_off m (Accept job result) = false

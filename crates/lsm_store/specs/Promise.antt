@@ -5,7 +5,7 @@ use Rattle.lsm_device.specs.declared.refusal.Refusal.TheVariants.{Io}
 use Rattle.lsm_open.specs.CrashState.{CrashState}
 use Rattle.lsm_store.specs.RecoveryPoints.{RecoveryPoints, batch_count, present_map}
 use Rattle.lsm_store.specs.Calls.{Reply}
-use Rattle.lsm_store.specs.Calls.{Commit, Sync, SyncTo, Rotate, Number, Done, Refused}
+use Rattle.lsm_store.specs.Calls.{Commit, CommitIf, Sync, SyncTo, Rotate, Number, Done, Refused}
 use Rattle.lsm_store.specs.Crash.{may_leave, reopened}
 use Rattle.lsm_jobs.specs.Slots.{no_jobs}
 use Rattle.lsm_store.specs.Machine.{Machine, Step, Called, Worked}
@@ -16,6 +16,7 @@ use Rattle.lsm_store.specs.Run.{Run, last_machine, left_in_step}
 -- the batch of a commit that was answered with its number
 abbrev pub accepted_by : Step → Reply → List (List Operation)
 accepted_by (Called (Commit batch)) (Number n) = batch ∷ []
+accepted_by (Called (CommitIf guards batch)) (Number n) = batch ∷ []
 accepted_by step reply = []
 
 -- the batches that were accepted, in order
@@ -44,7 +45,9 @@ acknowledged opened steps replies = acknowledged_from opened 0 0 steps replies
 -- the batch in flight, if there is one: of the commit that stopped the store, or of the commit that isn't answered yet
 abbrev pub in_flight : List Step → List Reply → List (List Operation)
 in_flight (Called (Commit batch) ∷ steps) [] = batch ∷ []
+in_flight (Called (CommitIf guards batch) ∷ steps) [] = batch ∷ []
 in_flight (Called (Commit batch) ∷ steps) (Refused Io ∷ replies) = batch ∷ []
+in_flight (Called (CommitIf guards batch) ∷ steps) (Refused Io ∷ replies) = batch ∷ []
 in_flight (step ∷ steps) (reply ∷ replies) = in_flight steps replies
 in_flight steps replies = []
 

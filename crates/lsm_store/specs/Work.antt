@@ -6,6 +6,7 @@ use Rattle.lsm_merge.specs.Inputs.{joined}
 use Rattle.lsm_merge.specs.Results.{MergeResult}
 use Rattle.lsm_levels.specs.Tables.{versions_of}
 use Rattle.lsm_levels.specs.Levels.{Levels, no_tables, places}
+use Rattle.lsm_levels.specs.declared.choosing.Choice.{Choice}
 use Rattle.lsm_jobs.specs.Slots.{JobSlots, no_jobs}
 use Rattle.lsm_store.specs.RecoveryPoints.{batch_count}
 use Rattle.lsm_store.specs.State.{State}
@@ -28,8 +29,8 @@ no_work = record { memory = []; sealed = []; levels = no_tables; jobs = no_jobs;
 
 -- a piece of work on a job
 pub data Work : Type 0 where
-  -- takes the job that comes next
-  Take : Work
+  -- takes the job that is chosen, or where none is the one that comes next
+  Take : Option Choice → Work
   -- reads data blocks of a job's tables
   Read : ℕ → Work
   -- asks for what a job's merge is given

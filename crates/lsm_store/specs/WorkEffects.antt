@@ -11,7 +11,7 @@ use Rattle.lsm_jobs.specs.Placing.{all_handed_out, all_given_back}
 use Rattle.lsm_store.specs.RecoveryPoints.{batch_count, all_synced}
 use Rattle.lsm_store.specs.State.{State}
 use Rattle.lsm_store.specs.Calls.{Call, Reply}
-use Rattle.lsm_store.specs.Calls.{Commit, Rotate, Number, Done, Given, Handed, Refused}
+use Rattle.lsm_store.specs.Calls.{Commit, CommitIf, Rotate, Number, Done, Given, Handed, Refused, Unread}
 use Rattle.lsm_store.specs.Effects.{Use}
 use Rattle.lsm_store.specs.Effects.{Untouched, Reads, Changes}
 use Rattle.lsm_store.specs.Work.{WorkView, Work, Take, Read, Ask, Accept, Write, Install, Drop, cuts_of}
@@ -25,7 +25,7 @@ abbrev pub left_then : Option Slot → ℕ
 left_then slot = of_slot 0 (λ one. left_at one.stage - 8) slot
 
 abbrev pub work_answer : Machine → Work → Reply
-work_answer m Take = Given (option_map (λ job. (m.work.jobs.next, level_of job)) (job_given m))
+work_answer m (Take asked) = Given (option_map (λ job. (m.work.jobs.next, level_of job)) (job_given m asked))
 work_answer m (Read job) = Number (left_then (held m job))
 work_answer m (Ask job) = of_slot Done (λ slot. Handed slot.input) (held m job)
 work_answer m (Accept job result) = Done
@@ -62,7 +62,7 @@ abbrev pub without_job : WorkView → ℕ → Option Slot → WorkView
 without_job w number slot = record (with_slot_of w number None) { area = all_given_back (outputs_of slot) w.area }
 
 abbrev pub work_after : Machine → Work → WorkView
-work_after m Take = record m.work { jobs = with_taken m.work.sealed (cuts_of m.state) m.work.levels (job_given m) m.work.jobs }
+work_after m (Take asked) = record m.work { jobs = with_taken m.work.sealed (cuts_of m.state) m.work.levels (job_given m asked) m.work.jobs }
 work_after m (Read job) = of_slot m.work (λ slot. staged m.work job (stage_with (left_at slot.stage - 8)) slot) (held m job)
 work_after m (Ask job) = m.work
 work_after m (Accept job result) = of_slot m.work (with_placed m.work job (placing m.work result)) (held m job)
@@ -78,7 +78,7 @@ installed flush s = record s { points = all_synced s.points; generation = s.gene
 
 -- of the pieces of work an install alone changes the state
 abbrev pub state_after : Machine → Work → State
-state_after m Take = m.state
+state_after m (Take asked) = m.state
 state_after m (Read job) = m.state
 state_after m (Ask job) = m.state
 state_after m (Accept job result) = m.state
@@ -95,12 +95,14 @@ with_sealed w = record w { memory = []; sealed = w.memory }
 -- the work after a call's answer: a commit adds its versions to memory, and a rotation seals those there
 abbrev pub work_called : Machine → Call → WorkView
 work_called m (Commit batch) = record m.work { memory = with_batch (batch_count m.state.points + 1) batch m.work.memory }
+work_called m (CommitIf guards batch) = record m.work { memory = with_batch (batch_count m.state.points + 1) batch m.work.memory }
 work_called m Rotate = with_sealed m.work
 work_called m other = m.work
 
 -- and after a reply: a refusal changes nothing
 abbrev pub work_by : Machine → Call → Reply → WorkView
 work_by m call (Refused e) = m.work
+work_by m call Unread = m.work
 work_by m call reply = work_called m call
 
 -- ---- the device
@@ -111,7 +113,7 @@ use_for most slot = of_slot Untouched (λ one. if left_at one.stage == 0 then Un
 
 -- what a piece of work that nothing refuses may do with the device
 abbrev pub work_use : Machine → Work → Use
-work_use m Take = Untouched
+work_use m (Take asked) = Untouched
 work_use m (Read job) = use_for Reads (held m job)
 work_use m (Ask job) = Untouched
 work_use m (Accept job result) = Untouched

@@ -1,6 +1,5 @@
 -- Which job is given, and when a piece of work is refused.
 use Rattle.std.specs.Prelude.{ℕ, ◌+◌, ◌-◌, ◌==◌, nat_le, nat_lt, ◌&&◌, Bool, true, false, not, is_some, is_none, List, [], ◌∷◌, length, Option, Some, None, if◌then◌else◌}
-use Rattle.lsm_codec.specs.Keys.{Bytes}
 use Rattle.lsm_codec.specs.Versions.{Version, is_same_key}
 use Rattle.lsm_device.specs.declared.refusal.Refusal.{Refusal}
 use Rattle.lsm_device.specs.declared.refusal.Refusal.TheVariants.{Stopped, NoSuchJob, WrongState, ForeignResult, NoSpace, TooManyRuns, TooManyTables, Exhausted}
@@ -10,17 +9,19 @@ use Rattle.lsm_merge.specs.Results.{MergeResult}
 use Rattle.lsm_levels.specs.Tables.{Table}
 use Rattle.lsm_levels.specs.Levels.{all_tables, places}
 use Rattle.lsm_levels.specs.Pick.{Job, inputs, is_flush}
+use Rattle.lsm_levels.specs.declared.choosing.Choice.{Choice}
 use Rattle.lsm_jobs.specs.Slots.{Slot, slot_of, is_reading, is_frozen, is_writing, is_written, is_not_at, outputs_at}
 use Rattle.lsm_jobs.specs.Taking.{given_job}
+use Rattle.lsm_codec.specs.Guards.{is_same_value}
 use Rattle.lsm_store.specs.Refusals.{first_refusal}
 use Rattle.lsm_store.specs.Placings.{place_all}
 use Rattle.lsm_store.specs.State.{are_waiting}
 use Rattle.lsm_store.specs.Work.{WorkView, Work, Take, Read, Ask, Accept, Write, Install, Drop}
 use Rattle.lsm_store.specs.Machine.{Machine}
 
--- the job that a taking gives: the one that comes next, none where no slot is free
-abbrev pub job_given : Machine → Option Job
-job_given m = given_job (are_waiting m.state) m.work.levels m.work.jobs.slots
+-- the job that a taking gives: the one that is chosen, or where none is the one that comes next; none where no slot is free
+abbrev pub job_given : Machine → Option Choice → Option Job
+job_given m asked = given_job (are_waiting m.state) asked m.work.levels m.work.jobs.slots
 
 -- the slot of the job of a number
 abbrev pub held : Machine → ℕ → Option Slot
@@ -44,12 +45,6 @@ is_same_list same [] [] = true
 is_same_list same (x ∷ xs) (y ∷ ys) = same x y && is_same_list same xs ys
 is_same_list same [] (y ∷ ys) = false
 is_same_list same (x ∷ xs) [] = false
-
-abbrev pub is_same_value : Option Bytes → Option Bytes → Bool
-is_same_value None None = true
-is_same_value (Some a) (Some b) = is_same_key a b
-is_same_value None (Some b) = false
-is_same_value (Some a) None = false
 
 abbrev pub is_same_version : Version → Version → Bool
 is_same_version v w = is_same_key v.key w.key && ((v.number == w.number) && is_same_value v.value w.value)
@@ -85,7 +80,7 @@ has_too_many_tables w slot = nat_lt 1024 ((length (live_tables w) + length (outp
 
 -- the refusals of a running store in their order, each with its condition
 abbrev pub work_refusals : Machine → Work → List (Bool × Refusal)
-work_refusals m Take = (is_some (job_given m) && nat_lt last_number m.work.jobs.next, Exhausted) ∷ []
+work_refusals m (Take asked) = (is_some (job_given m asked) && nat_lt last_number m.work.jobs.next, Exhausted) ∷ []
 work_refusals m (Read job) = (is_none (held m job), NoSuchJob) ∷ (is_not_at is_reading (held m job), WrongState) ∷ []
 work_refusals m (Ask job) = (is_none (held m job), NoSuchJob) ∷ (is_not_at is_frozen (held m job), WrongState) ∷ []
 work_refusals m (Accept job result) = (is_none (held m job), NoSuchJob) ∷ (is_not_at is_frozen (held m job), WrongState)

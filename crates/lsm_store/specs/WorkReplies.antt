@@ -27,7 +27,7 @@ work_decided m piece = work_reply_by m piece (work_refusal m piece)
 -- Where memory may be wanting: where nothing refuses the piece, and it takes some. A taking takes some for a job alone; and of an
 -- accept it may be refused before it is known that there is no room.
 abbrev pub MayWant : Machine → Work → Type 0
-MayWant m Take = IsNone (work_refusal m Take) × IsTrue (is_some (job_given m))
+MayWant m (Take asked) = IsNone (work_refusal m (Take asked)) × IsTrue (is_some (job_given m asked))
 MayWant m (Read job) = IsNone (work_refusal m (Read job))
 MayWant m (Ask job) = IsNone (work_refusal m (Ask job))
 MayWant m (Accept job result) = (work_refusal m (Accept job result) ≡ None) ⊎ (work_refusal m (Accept job result) ≡ Some NoSpace)
@@ -50,7 +50,7 @@ IsUnfit (Some slot) = AreOutputs slot.job (outputs_at slot.stage) → ⊥
 -- Where a device that doesn't back the state may make a piece of work tell that there is no table: as it reads one, or as it
 -- installs outputs of entries that were not those of the job's tables.
 abbrev pub MayFindNoTable : Machine → Work → Type 0
-MayFindNoTable m Take = ⊥
+MayFindNoTable m (Take asked) = ⊥
 MayFindNoTable m (Read job) = IsNone (work_refusal m (Read job))
 MayFindNoTable m (Ask job) = ⊥
 MayFindNoTable m (Accept job result) = ⊥
@@ -67,7 +67,7 @@ WorkAdmits m piece reply = WorkAllows m piece reply
 
 -- what a crash inside a piece of work may leave besides: an install may have had its whole effect
 abbrev pub work_left_besides : Machine → Work → List CrashState
-work_left_besides m Take = []
+work_left_besides m (Take asked) = []
 work_left_besides m (Read job) = []
 work_left_besides m (Ask job) = []
 work_left_besides m (Accept job result) = []

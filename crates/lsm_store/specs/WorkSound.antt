@@ -48,7 +48,7 @@ pub record IsSound (m : Machine) : Type 0 where
 -- The tables that an accept places are those of what the job's merge keeps, and may be put in.
 abbrev pub IsServed : Machine → Work → Type 0
 IsServed m (Accept job result) = (slot : Slot) (new : List Table) → held m job ≡ Some slot → placing m.work result ≡ Some new → MayBePutIn slot.job slot.input new
-IsServed m Take = Unit {0}
+IsServed m (Take asked) = Unit {0}
 IsServed m (Read job) = Unit {0}
 IsServed m (Ask job) = Unit {0}
 IsServed m (Write job) = Unit {0}

@@ -35,9 +35,9 @@ work_use_before most reply = most
 abbrev pub work_use_by : Machine → Work → Reply → Use
 work_use_by m piece reply = if is_some (work_refusal m piece) then Untouched else work_use_before (work_use m piece) reply
 
--- A step of reading makes 64 reads at most, one of writing 64 writes, and an install 38 writes and two syncs.
+-- A step of reading makes 64 reads at most, one of writing 64 writes, and an install 42 writes and two syncs.
 abbrev pub IsChangedBy : Work → Medium → Medium → Type 0
-IsChangedBy (Install job) old new = AtMost 0 38 2 old.calls new.calls
+IsChangedBy (Install job) old new = AtMost 0 42 2 old.calls new.calls
 IsChangedBy piece old new = AtMost 0 64 0 old.calls new.calls
 
 abbrev pub IsWorkUsed : Work → Use → Medium → Medium → Type 0

@@ -1,12 +1,15 @@
 // Laws of the definitions: what the store promises, and what holds of steps one after another.
-ghost use Rattle.std.specs.Prelude.{◌≡◌, ◌≢◌, ◌≤◌, List, ◌++◌, length, IsSome, Contains};
+ghost use Rattle.std.specs.Prelude.{◌≡◌, ◌≢◌, ◌≤◌, ◌↔◌, false, [], List, ◌++◌, length, IsSome, Contains};
 ghost use Rattle.lsm_device.specs.declared.refusal.Refusal.{Refusal};
 ghost use Rattle.lsm_device.specs.declared.refusal.Refusal.TheVariants.{Stopped, Io, BadTable};
 ghost use Rattle.lsm_open.specs.CrashState.{CrashState};
-ghost use Rattle.lsm_store.specs.Calls.{Reply, Refused};
+ghost use Rattle.lsm_codec.specs.Map.{Operation};
+ghost use Rattle.lsm_store.specs.Backing.{StoreView};
+ghost use Rattle.lsm_store.specs.Calls.{Reply, Commit, CommitIf, Refused};
+ghost use Rattle.lsm_store.specs.Serving.{Serves};
 ghost use Rattle.lsm_store.specs.Crash.{may_leave};
-ghost use Rattle.lsm_store.specs.Machine.{Machine, Step};
-ghost use Rattle.lsm_store.specs.Run.{AllowsStep, AdmitsStep, next_machine, left_in_step, Run, Course, last_machine, left_in_run, ample_replies, ample_machine};
+ghost use Rattle.lsm_store.specs.Machine.{Machine, Step, Called};
+ghost use Rattle.lsm_store.specs.Run.{AllowsStep, AdmitsStep, asks_guards, next_machine, left_in_step, Run, Course, last_machine, left_in_run, ample_replies, ample_machine};
 ghost use Rattle.lsm_store.specs.Promise.{Promise, in_flight};
 ghost use Rattle.lsm_store.specs.Lives.{PromiseOverLives};
 
@@ -64,13 +67,17 @@ pub fn runs_join()
         → Contains (left_in_run m (steps ++ more) (replies ++ others)) left }
 {}
 
-/// What a crash may leave before a step or after its reply, it may leave inside the step. A refusal that tells of no
-/// fault changes nothing, so a crash leaves what it left.
+/// What a crash may leave before a step or after its reply, it may leave inside the step: after a reply that memory admits, and
+/// where guards were asked after one that the state allows. A refusal that tells of no fault changes nothing, so a crash leaves
+/// what it left.
 pub fn crash_states_go_on()
     ensures before { (m : Machine) (step : Step) (left : CrashState)
         → Contains (may_leave m.state) left → Contains (left_in_step m step) left }
-    ensures after { (m : Machine) (step : Step) (reply : Reply) (left : CrashState)
+    ensures after { (m : Machine) (step : Step) (reply : Reply) (left : CrashState) → asks_guards step ≡ false
         → AdmitsStep m step reply → Contains (may_leave (next_machine m step reply).state) left
+        → Contains (left_in_step m step) left }
+    ensures guarded { (m : Machine) (step : Step) (reply : Reply) (left : CrashState)
+        → AllowsStep m step reply → Contains (may_leave (next_machine m step reply).state) left
         → Contains (left_in_step m step) left }
     ensures refused { (m : Machine) (step : Step) (e : Refusal)
         → e ≢ Io → next_machine m step (Refused e) ≡ m }
@@ -81,4 +88,17 @@ pub fn ample_steps_run()
     ensures run { (m : Machine) (steps : List Step) → Run m steps (ample_replies m steps) }
     ensures machine { (m : Machine) (steps : List Step)
         → last_machine m steps (ample_replies m steps) ≡ ample_machine m steps }
+{}
+
+/// A commit under no guards is a commit: the store does the same, the machine allows the same replies and goes on alike, and a crash
+/// inside it leaves the same.
+pub fn no_guards_are_a_commit()
+    ensures serves { (old new : StoreView) (batch : List Operation) (reply : Reply)
+        → Serves old (CommitIf [] batch) reply new ↔ Serves old (Commit batch) reply new }
+    ensures allows { (m : Machine) (batch : List Operation) (reply : Reply)
+        → AllowsStep m (Called (CommitIf [] batch)) reply ↔ AllowsStep m (Called (Commit batch)) reply }
+    ensures machine { (m : Machine) (batch : List Operation) (reply : Reply)
+        → next_machine m (Called (CommitIf [] batch)) reply ≡ next_machine m (Called (Commit batch)) reply }
+    ensures left { (m : Machine) (batch : List Operation)
+        → left_in_step m (Called (CommitIf [] batch)) ≡ left_in_step m (Called (Commit batch)) }
 {}

@@ -50,9 +50,10 @@ pub use install_law::{
 };
 pub use law::{
     allowed_is_admitted, ample_steps_run, crash_keeps_a_beginning, crash_states_go_on,
-    crashes_keep_beginnings, runs_join, stopped_refuses,
+    crashes_keep_beginnings, no_guards_are_a_commit, runs_join, stopped_refuses,
 };
 pub use lsm_jobs::TakenJob;
+pub use lsm_levels::Choice;
 pub use lsm_mem::{Page, RowRef, Rows};
 pub use opened_law::{opened_work_is_sound, openings_are_opened};
 pub use pieces::Piece;

@@ -1,5 +1,5 @@
 // What the slots of a store's jobs wait for.
-ghost use Rattle.std.specs.Prelude.{◌≡◌, is_some, option_map, slice_index_or};
+ghost use Rattle.std.specs.Prelude.{◌≡◌, None, is_some, option_map, slice_index_or};
 ghost use Rattle.lsm_jobs.specs.Slots.{Slot};
 ghost use Rattle.lsm_jobs.specs.Turns.{turn_of};
 ghost use Rattle.lsm_store.specs.Memory.{AreConsistent, state_of, work_of};
@@ -44,9 +44,9 @@ impl<A: Allocator> Memory<A> {
     // Whether a job comes next and a slot is free for it.
     fn is_job_next(&self) -> bool
         requires { AreConsistent self.now }
-        ensures { result ≡ is_some (job_given (record { state = state_of self.now; work = work_of self.now })) }
+        ensures { result ≡ is_some (job_given (record { state = state_of self.now; work = work_of self.now }) None) }
     {
-        match self.jobs.has_next(&self.levels, self.is_waiting()) {
+        match self.jobs.has_next(&self.levels, None, self.is_waiting()) {
             Ok(given) => given,
             Err(_exhausted) => true,
         }

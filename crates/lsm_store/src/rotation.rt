@@ -95,7 +95,7 @@ pub(crate) fn rotate<D: Device, A: Allocator + Clone>(
 
     // Unless a call of the device failed, nothing has changed: all memory is taken before.
     ensures untouched { IfErr result (λ e. IsTrue (is_no_fault e) → (memory.new ≡ memory.old) × (device.new ≡ device.old)) }
-    ensures calls { AtMost 0 38 2 (D.medium device.old).calls (D.medium device.new).calls }
+    ensures calls { AtMost 0 42 2 (D.medium device.old).calls (D.medium device.new).calls }
     ensures kept { AreConsistent memory.new }
     ensures inside { IsInside (D.medium device.new).size memory.new }
 {

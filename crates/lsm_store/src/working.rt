@@ -12,6 +12,7 @@ use crate::memory::Memory;
 use lsm_codec::LogRecord;
 use lsm_device::{Device, Refusal};
 use lsm_jobs::TakenJob;
+use lsm_levels::Choice;
 use lsm_mem::Sealed;
 use lsm_merge::{Built, Input};
 use std::alloc::Allocator;
@@ -30,25 +31,26 @@ fn waiting<'a, A: Allocator>(
     sealed.as_deref()
 }
 
-/// Takes the job that comes next.
+/// Takes the job that is chosen, or where none is the one that comes next.
 pub(crate) fn take<A: Allocator + Clone>(
     memory: &mut Memory<A>,
+    asked: Option<Choice>,
 ) -> Result<Option<TakenJob>, Refusal>
     requires { AreConsistent memory.old }
-    ensures works { (medium : Medium) (cache : Cached) → Works (view_of medium memory.old cache) Take (reply_of taken_reply result) (view_of medium memory.new cache) }
+    ensures works { (medium : Medium) (cache : Cached) → Works (view_of medium memory.old cache) (Take asked) (reply_of taken_reply result) (view_of medium memory.new cache) }
     ensures kept { AreConsistent memory.new }
     ensures inside { (size : ℕ) → IsInside size memory.old → IsInside size memory.new }
 {
     memory.check_running()?;
     let _runs = memory.levels.runs();
     let waits = !memory.regions.closed.is_empty();
-    if !memory.jobs.has_next(&memory.levels, waits)? {
+    if !memory.jobs.has_next(&memory.levels, asked, waits)? {
         return Ok(None);
     }
     let cuts = memory.cuts()?;
     let alloc = memory.regions.closed.allocator();
     let sealed = waiting(&memory.regions.closed, &memory.sealed);
-    memory.jobs.take(alloc, &memory.levels, sealed, cuts)
+    memory.jobs.take(alloc, &memory.levels, asked, sealed, cuts)
 }
 
 /// Reads the next data blocks of a job's tables.

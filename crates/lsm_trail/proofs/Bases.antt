@@ -5,7 +5,7 @@ use Rattle.std.proofs.lemmas.Bool.Decides.{nat_tests}
 use Rattle.std.proofs.lemmas.List.Elements.{All-head, All-tail}
 use Rattle.lsm_device.specs.declared.refusal.Refusal.TheVariants.{Io}
 use Rattle.lsm_store.specs.Calls.{Call, Reply}
-use Rattle.lsm_store.specs.Calls.{Commit, Sync, SyncTo, Get, Scan, Snapshot, Release, Rotate, LogRoom, Number, Done, Value, Rows, Given, Handed, Refused}
+use Rattle.lsm_store.specs.Calls.{Commit, CommitIf, Sync, SyncTo, Get, Scan, Snapshot, Release, Rotate, LogRoom, Number, Done, Value, Rows, Given, Handed, Refused, Unread}
 use Rattle.lsm_store.specs.Effects.{after, next_taken, without, Use, use_of}
 use Rattle.lsm_store.specs.Effects.{Untouched, Reads, Changes}
 use Rattle.lsm_store.specs.RecoveryPoints.{present_map, all_synced}
@@ -63,6 +63,7 @@ module _ (n : ℕ) where
 
     after_keeps : (s : State) (call : Call) → call ≢ Release n → snapshot_of s n ≡ Some x → snapshot_of (after s call) n ≡ Some x
     after_keeps s (Commit batch) other is = is
+    after_keeps s (CommitIf guards batch) other is = is
     after_keeps s Sync other is = is
     after_keeps s (SyncTo number) other is = sync_keeps s (nat_le number s.points.synced) is
     after_keeps s (Get at key) other is = is
@@ -81,6 +82,7 @@ module _ (n : ℕ) where
     next_keeps s call (Rows page) other is = after_keeps s call other is
     next_keeps s call (Given job) other is = after_keeps s call other is
     next_keeps s call (Handed input) other is = after_keeps s call other is
+    next_keeps s call Unread other is = is
 
     step_keeps : (m : Machine) (step : Step) (reply : Reply) → step ≢ Called (Release n) → snapshot_of m.state n ≡ Some x → snapshot_of (next_machine m step reply).state n ≡ Some x
     step_keeps m (Called call) reply other is = next_keeps m.state call reply (λ same. other (ap Called same)) is

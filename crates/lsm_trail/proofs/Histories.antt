@@ -6,7 +6,7 @@ use Rattle.std.proofs.lemmas.List.Elements.{All-push}
 use Rattle.lsm_device.specs.declared.refusal.Refusal.TheVariants.{NoMemory}
 use Rattle.lsm_merge.specs.Inputs.{MergeInput}
 use Rattle.lsm_store.specs.Calls.{Reply}
-use Rattle.lsm_store.specs.Calls.{Release, Number, Done, Value, Rows, Given, Handed, Refused}
+use Rattle.lsm_store.specs.Calls.{Release, Number, Done, Value, Rows, Given, Handed, Refused, Unread}
 use Rattle.lsm_store.specs.Machine.{Machine, Step, Called}
 use Rattle.lsm_store.specs.Run.{AllowsStep, AdmitsStep, GoesTo, next_machine, Run, last_machine}
 use Rattle.lsm_store.specs.State.{State}
@@ -144,6 +144,7 @@ one_lent (Value v) = refl
 one_lent (Rows page) = refl
 one_lent (Given job) = refl
 one_lent (Refused e) = refl
+one_lent Unread = refl
 
 pub lent_more : (log : List Event) (e : Event) → length (inputs_of (log ++ e ∷ [])) ≡ length (inputs_of log) + (if is_lent e.reply then 1 else 0)
 lent_more log e = omega (arith, ap length (inputs_more log e), length-append (inputs_of log) (handed e.reply), one_lent e.reply)

@@ -1,13 +1,18 @@
 -- What an entry shows.
-use Rattle.std.proofs.Common.{◌≡◌, ℕ, false, refl, sym}
+use Rattle.std.proofs.Common.{◌≡◌, ℕ, Bool, true, false, cond, is_some, refl, sym, ◌∙◌}
 use Rattle.std.specs.Prelude.{◌&&◌}
 use Rattle.lsm_lives.specs.Asked.{Asked, Told, Own, Build, AcceptBuilt, Replied, Built}
 use Rattle.lsm_lives.specs.Calls.{reply_of, told_of}
 use Rattle.lsm_lives.specs.declared.calls.Reply.{Reply as GivenReply}
 use Rattle.lsm_lives.specs.declared.calls.Reply.TheVariants as reply
 use Rattle.lsm_store.specs.Calls.{Reply}
-use Rattle.lsm_store.specs.Calls.{Number, Done, Value, Rows, Given, Handed, Refused}
-use Rattle.lsm_trail.specs.Entries.{Beside, event_shown, is_build, is_number, MayBeEntered, IsOfStep, told_in}
+use Rattle.lsm_device.specs.declared.refusal.Refusal.TheVariants.{Io}
+use Rattle.lsm_lives.proofs.Made.{called_told}
+use Rattle.lsm_store.specs.Calls.{Commit, CommitIf, Sync, SyncTo, Get, Scan, Snapshot, Release, Rotate, LogRoom, Number, Done, Value, Rows, Given, Handed, Refused, Unread, as_told}
+use Rattle.lsm_store.specs.Machine.{Step, Called, Worked}
+use Rattle.lsm_store.specs.Serving.{reply_in}
+use Rattle.lsm_store.specs.State.{State}
+use Rattle.lsm_trail.specs.Entries.{Beside, reply_behind, event_shown, is_build, is_number, MayBeEntered, IsOfStep, told_in}
 use Rattle.lsm_trail.specs.History.{is_lent}
 
 pub shown_client : (client : ℕ) (asked : Asked) (told : Reply) (b : Beside) → (event_shown client asked told b).client ≡ client
@@ -19,6 +24,7 @@ shown_client client (Build job parts) (Rows page) b = refl
 shown_client client (Build job parts) (Given taken) b = refl
 shown_client client (Build job parts) (Handed input) b = refl
 shown_client client (Build job parts) (Refused e) b = refl
+shown_client client (Build job parts) Unread b = refl
 shown_client client (AcceptBuilt job result) told b = refl
 
 -- a build that may be entered is in 4 parts
@@ -35,6 +41,7 @@ shown_step client (Build job parts) (Rows page) b told may = (parts_are job part
 shown_step client (Build job parts) (Given taken) b told may = (parts_are job parts told may, refl)
 shown_step client (Build job parts) (Handed input) b told may = (parts_are job parts told may, refl)
 shown_step client (Build job parts) (Refused e) b told may = (parts_are job parts told may, refl)
+shown_step client (Build job parts) Unread b told may = (parts_are job parts told may, refl)
 shown_step client (AcceptBuilt job result) reply b told may = (refl, (b.made, refl))
 
 -- no reply as a value lends an input
@@ -47,8 +54,34 @@ none_lent (reply.Taken job) = refl
 none_lent (reply.Built result tables) = refl
 none_lent (reply.Refused e) = refl
 
+-- and so it is of the reply of which that was told
+behind_lent : (step : Step) (s : State) (told : Reply) → is_lent told ≡ false → is_lent (reply_behind step s told) ≡ false
+behind_lent (Worked piece) s told none = none
+behind_lent (Called (CommitIf guards batch)) s (Refused Io) none = by (is_some s.stopped)
+  where
+    by : (b : Bool) → is_lent (cond b (Refused Io) Unread) ≡ false
+    by true = refl
+    by false = refl
+behind_lent (Called (CommitIf guards batch)) s (Refused e) none = none
+behind_lent (Called (CommitIf guards batch)) s (Number n) none = none
+behind_lent (Called (CommitIf guards batch)) s Done none = none
+behind_lent (Called (CommitIf guards batch)) s (Value v) none = none
+behind_lent (Called (CommitIf guards batch)) s (Rows page) none = none
+behind_lent (Called (CommitIf guards batch)) s (Given job) none = none
+behind_lent (Called (CommitIf guards batch)) s (Handed input) none = none
+behind_lent (Called (CommitIf guards batch)) s Unread none = none
+behind_lent (Called (Commit batch)) s told none = none
+behind_lent (Called Sync) s told none = none
+behind_lent (Called (SyncTo number)) s told none = none
+behind_lent (Called (Get at key)) s told none = none
+behind_lent (Called (Scan at from to limit)) s told none = none
+behind_lent (Called Snapshot) s told none = none
+behind_lent (Called (Release number)) s told none = none
+behind_lent (Called Rotate) s told none = none
+behind_lent (Called LogRoom) s told none = none
+
 pub shown_lent : {A : Type 0} (client : ℕ) (asked : Asked) (told : GivenReply A) (b : Beside) → MayBeEntered asked (told_of told) → (is_build asked && is_number (told_of told)) ≡ is_lent (event_shown client asked (reply_of told) b).reply
-shown_lent client (Own step) told b may = sym (none_lent told)
+shown_lent client (Own step) told b may = sym (behind_lent step b.machine.state (reply_of told) (none_lent told))
 shown_lent client (Build job parts) (reply.Number n) b may = refl
 shown_lent client (Build job parts) reply.Done b may = refl
 shown_lent client (Build job parts) (reply.Value v) b may = refl
@@ -70,9 +103,33 @@ told_so (Build job parts) (reply.Built n tables) result may = absurd may
 told_so (AcceptBuilt job of) (reply.Built n tables) result may = absurd may
 told_so asked (reply.Refused e) result may = refl
 
+-- what is told of no build is its reply
+is_reply : {A : Type 0} (step : Step) (told : GivenReply A) → MayBeEntered (Own step) (told_of told) → told_of told ≡ Replied (reply_of told)
+is_reply step (reply.Number n) may = refl
+is_reply step reply.Done may = refl
+is_reply step (reply.Value v) may = refl
+is_reply step (reply.Page page) may = refl
+is_reply step (reply.Taken job) may = refl
+is_reply step (reply.Built n tables) may = absurd may
+is_reply step (reply.Refused e) may = refl
+
+-- a reply that lends nothing is told so
+told_plainly : (reply : Reply) (result : ℕ) → is_lent reply ≡ false → Replied (as_told reply) ≡ told_in reply result
+told_plainly (Number n) result none = refl
+told_plainly Done result none = refl
+told_plainly (Value v) result none = refl
+told_plainly (Rows page) result none = refl
+told_plainly (Given taken) result none = refl
+told_plainly (Handed input) result none = absurd (cc none)
+told_plainly (Refused e) result none = refl
+told_plainly Unread result none = refl
+
 pub shown_told : {A : Type 0} (client : ℕ) (asked : Asked) (told : GivenReply A) (b : Beside) → MayBeEntered asked (told_of told)
     → told_of told ≡ told_in (event_shown client asked (reply_of told) b).reply (event_shown client asked (reply_of told) b).result
-shown_told client (Own step) told b may = told_so (Own step) told 0 may
+shown_told client (Own (Called call)) told b may =
+    let behind = reply_in call b.machine.state (reply_of told) in
+    called_told told call b.machine.state (is_reply (Called call) told may) ∙ told_plainly behind 0 (behind_lent (Called call) b.machine.state (reply_of told) (none_lent told))
+shown_told client (Own (Worked piece)) told b may = told_so (Own (Worked piece)) told 0 may
 shown_told client (Build job parts) (reply.Number n) b may = refl
 shown_told client (Build job parts) reply.Done b may = refl
 shown_told client (Build job parts) (reply.Value v) b may = refl

@@ -3,8 +3,10 @@ use Rattle.std.specs.Prelude.{◌≡◌, ℕ, Bool, true, false, [], Some}
 use Rattle.lsm_merge.specs.Inputs.{MergeInput}
 use Rattle.lsm_merge.specs.Results.{MergeResult}
 use Rattle.lsm_store.specs.Calls.{Reply}
-use Rattle.lsm_store.specs.Calls.{Number, Handed}
-use Rattle.lsm_store.specs.Machine.{Machine, Worked}
+use Rattle.lsm_store.specs.Calls.{Number, Handed, as_told}
+use Rattle.lsm_store.specs.Machine.{Machine, Step, Called, Worked}
+use Rattle.lsm_store.specs.Serving.{reply_in}
+use Rattle.lsm_store.specs.State.{State}
 use Rattle.lsm_store.specs.Work.{Ask, Accept}
 use Rattle.lsm_lives.specs.Asked.{Asked, Told, Own, Build, AcceptBuilt, Replied, Built}
 use Rattle.lsm_trail.specs.History.{Event, event}
@@ -27,9 +29,14 @@ abbrev build_shown : ℕ → ℕ → Reply → Beside → Event
 build_shown client job (Number result) b = event client (Worked (Ask job)) (Handed b.made.input) result b.machine
 build_shown client job other b = event client (Worked (Ask job)) other 0 b.machine
 
+-- the reply of a step of which this was told, where the machine is so behind it
+abbrev pub reply_behind : Step → State → Reply → Reply
+reply_behind (Called call) s told = reply_in call s told
+reply_behind (Worked piece) s told = told
+
 -- what an entry shows
 abbrev pub event_shown : ℕ → Asked → Reply → Beside → Event
-event_shown client (Own step) reply b = event client step reply 0 b.machine
+event_shown client (Own step) told b = event client step (reply_behind step b.machine.state told) 0 b.machine
 event_shown client (Build job parts) reply b = build_shown client job reply b
 event_shown client (AcceptBuilt job result) reply b = event client (Worked (Accept job (Some b.made))) reply result b.machine
 
@@ -55,7 +62,7 @@ IsOfStep e (Own step) = e.step ≡ step
 IsOfStep e (Build job parts) = (parts ≡ 4) × (e.step ≡ Worked (Ask job))
 IsOfStep e (AcceptBuilt job result) = (e.result ≡ result) × ((made : MergeResult) × (e.step ≡ Worked (Accept job (Some made))))
 
--- what an entry tells: of an input that was lent the number of the result
+-- what an entry tells: of an input that was lent the number of the result, and of a read that faulted the same as of a write
 abbrev pub told_in : Reply → ℕ → Told
 told_in (Handed input) result = Replied (Number result)
-told_in other result = Replied other
+told_in other result = Replied (as_told other)

@@ -5,6 +5,7 @@ ghost use Rattle.lsm_lives.specs.Calls.{call_of, asked_of, asked_of_work, reply_
 ghost use Rattle.lsm_store.specs.Backing.{machine_of};
 ghost use Rattle.lsm_store.specs.Calls.{Refused};
 ghost use Rattle.lsm_store.specs.Machine.{Worked};
+ghost use Rattle.lsm_store.specs.Serving.{reply_in};
 ghost use Rattle.lsm_store.specs.Work.{Work as Piece, Ask};
 ghost use Rattle.lsm_trail.specs.Entries.{is_build, is_number, MayBeEntered, IsOfStep, told_in};
 ghost use Rattle.lsm_trail.specs.History.{called, worked, lent_to, accepted, is_call, is_lent};
@@ -55,7 +56,7 @@ impl<A: Allocator> Entry<A> {
         store: &Store<D, A>,
     ) -> Entry<A>
         requires { told_of reply ≡ Replied (reply_of reply) }
-        ensures { result ≡ called client (call_of call) (reply_of reply) (machine_of store.now) }
+        ensures { result ≡ called client (call_of call) (reply_in (call_of call) store.now.state (reply_of reply)) (machine_of store.now) }
     {
         Entry {
             client,

@@ -19,7 +19,7 @@ use Rattle.lsm_open.specs.Image.{StandFor}
 use Rattle.lsm_open.specs.Recovering.{StandForOne}
 use Rattle.lsm_store.specs.Backing.{StoreView, IsBacked}
 use Rattle.lsm_store.specs.Calls.{Call, Reply}
-use Rattle.lsm_store.specs.Calls.{Commit, Sync, Number, Done, Value, Rows, Given, Handed, Refused}
+use Rattle.lsm_store.specs.Calls.{Commit, Sync, Number, Done, Value, Rows, Given, Handed, Refused, Unread}
 use Rattle.lsm_store.specs.Crash.{may_leave}
 use Rattle.lsm_store.specs.Effects.{after, decided, reply_by}
 use Rattle.lsm_store.specs.Machine.{Machine, Step, Called, Worked}
@@ -60,10 +60,12 @@ answered s call (Rows page) is = refl
 answered s call (Given job) is = refl
 answered s call (Handed input) is = refl
 answered s call (Refused e) is = absurd is
+answered s call Unread is = absurd is
 
 -- so the state has decided it
 is_decided : (s : State) (call : Call) (reply : Reply) → IsAnswer (Replied reply) → Allows s call reply → reply ≡ decided s call
 is_decided s call (Refused e) is allowed = absurd is
+is_decided s call Unread is allowed = absurd is
 is_decided s call reply is allowed = allowed
 
 -- and a store that has synced was not stopped

@@ -4,15 +4,15 @@ use Rattle.std.specs.FinMap as finite
 use Rattle.std.specs.List.{AllByRecursion}
 use Rattle.std.specs.Prelude.{Contains, nat_le}
 use Rattle.lsm_codec.specs.Keys.{Bytes}
-use Rattle.lsm_codec.specs.Map.{Map, apply}
+use Rattle.lsm_codec.specs.Map.{Map, Operation, apply}
 use Rattle.lsm_device.specs.declared.refusal.Refusal.TheVariants.{Io}
 use Rattle.lsm_jobs.specs.Slots.{Slot}
 use Rattle.lsm_levels.specs.Pick.{is_flush}
 use Rattle.lsm_open.specs.CrashState.{CrashState}
 use Rattle.lsm_store.specs.Calls.{Call, Reply}
-use Rattle.lsm_store.specs.Calls.{Commit, Sync, SyncTo, Get, Scan, Snapshot, Release, Rotate, LogRoom, Refused}
+use Rattle.lsm_store.specs.Calls.{Commit, CommitIf, Sync, SyncTo, Get, Scan, Snapshot, Release, Rotate, LogRoom, Refused, Unread}
 use Rattle.lsm_store.specs.Crash.{crash_state_at, left_with, left_besides, may_leave}
-use Rattle.lsm_store.specs.Effects.{Use, use_of, after}
+use Rattle.lsm_store.specs.Effects.{Use, use_of, after, committed}
 use Rattle.lsm_store.specs.Effects.{Untouched, Reads, Changes}
 use Rattle.lsm_store.specs.Machine.{Machine, Step, Called, Worked}
 use Rattle.lsm_store.specs.RecoveryPoints.{points_from, last_map, present_map, all_synced}
@@ -27,6 +27,7 @@ use Rattle.lsm_store.proofs.Membership.{none_in, in_cases}
 -- a step leaves a key alone: whatever batch it commits has no operation on it
 abbrev pub LeavesAlone : Bytes → Step → Type 0
 LeavesAlone key (Called (Commit batch)) = (m : Map) → finite.get (apply m batch) key ≡ finite.get m key
+LeavesAlone key (Called (CommitIf guards batch)) = (m : Map) → finite.get (apply m batch) key ≡ finite.get m key
 LeavesAlone key other = Unit {0}
 
 -- ---- recovery points
@@ -88,8 +89,12 @@ module _ (key value : Bytes) where
 
   -- ---- calls
 
+  now_committed : (s : State) (batch : List Operation) → ((m : Map) → finite.get (apply m batch) key ≡ finite.get m key) → HasNow s → HasNow (committed s batch)
+  now_committed s batch alone has = ap (λ (m : Map). finite.get m key) (last_push s.points.first s.points.later (apply (present_map s.points) batch)) ∙ alone (present_map s.points) ∙ has
+
   now_after : (s : State) (call : Call) → LeavesAlone key (Called call) → HasNow s → HasNow (after s call)
-  now_after s (Commit batch) alone has = ap (λ (m : Map). finite.get m key) (last_push s.points.first s.points.later (apply (present_map s.points) batch)) ∙ alone (present_map s.points) ∙ has
+  now_after s (Commit batch) alone has = now_committed s batch alone has
+  now_after s (CommitIf guards batch) alone has = now_committed s batch alone has
   now_after s Sync alone has = has
   now_after s (SyncTo number) alone has = by (nat_le number s.points.synced)
     where
@@ -111,16 +116,21 @@ module _ (key value : Bytes) where
   now_next : (s : State) (call : Call) (reply : Reply) → LeavesAlone key (Called call) → HasNow s → HasNow (next s call reply)
   now_next s call (Refused Io) alone has = now_fault s call (use_of s call) has
   now_next s call (Refused e) alone has = has
+  now_next s call Unread alone has = has
   now_next s call reply alone has = now_after s call alone has
 
   pub at_rest : (s : State) → HasNow s → OthersHave s.stopped → Stays (record s { points = all_synced s.points })
   at_rest s has others = record { maps = (has, tt); others = others }
 
-  stays_after : (s : State) (call : Call) → LeavesAlone key (Called call) → Stays s → Stays (after s call)
-  stays_after s (Commit batch) alone stays = record {
+  stays_committed : (s : State) (batch : List Operation) → ((m : Map) → finite.get (apply m batch) key ≡ finite.get m key) → Stays s → Stays (committed s batch)
+  stays_committed s batch alone stays = record {
     maps = all_append Has (s.points.first ∷ s.points.later) (apply (present_map s.points) batch ∷ []) stays.maps (alone (present_map s.points) ∙ now s stays, tt);
     others = stays.others;
   }
+
+  stays_after : (s : State) (call : Call) → LeavesAlone key (Called call) → Stays s → Stays (after s call)
+  stays_after s (Commit batch) alone stays = stays_committed s batch alone stays
+  stays_after s (CommitIf guards batch) alone stays = stays_committed s batch alone stays
   stays_after s Sync alone stays = at_rest s (now s stays) stays.others
   stays_after s (SyncTo number) alone stays = by (nat_le number s.points.synced)
     where
@@ -135,7 +145,8 @@ module _ (key value : Bytes) where
   stays_after s LogRoom alone stays = stays
 
   besides_have : (s : State) (call : Call) → LeavesAlone key (Called call) → HasNow s → LeftHave (left_besides s call)
-  besides_have s (Commit batch) alone has = (now_after s (Commit batch) alone has, tt)
+  besides_have s (Commit batch) alone has = (now_committed s batch alone has, tt)
+  besides_have s (CommitIf guards batch) alone has = (now_committed s batch alone has, tt)
   besides_have s Sync alone has = tt
   besides_have s (SyncTo number) alone has = tt
   besides_have s (Get at k) alone has = tt
@@ -153,12 +164,13 @@ module _ (key value : Bytes) where
   stays_next : (s : State) (call : Call) (reply : Reply) → LeavesAlone key (Called call) → Stays s → Stays (next s call reply)
   stays_next s call (Refused Io) alone stays = stays_fault s call (use_of s call) alone stays
   stays_next s call (Refused e) alone stays = stays
+  stays_next s call Unread alone stays = stays
   stays_next s call reply alone stays = stays_after s call alone stays
 
   -- ---- pieces of work
 
   now_worked : (m : Machine) (piece : Work) → HasNow m.state → HasNow (state_after m piece)
-  now_worked m Take has = has
+  now_worked m (Take asked) has = has
   now_worked m (Read job) has = has
   now_worked m (Ask job) has = has
   now_worked m (Accept job result) has = has
@@ -181,7 +193,7 @@ module _ (key value : Bytes) where
   now_work m piece reply has = now_worked m piece has
 
   stays_worked : (m : Machine) (piece : Work) → Stays m.state → Stays (state_after m piece)
-  stays_worked m Take stays = stays
+  stays_worked m (Take asked) stays = stays
   stays_worked m (Read job) stays = stays
   stays_worked m (Ask job) stays = stays
   stays_worked m (Accept job result) stays = stays
@@ -194,7 +206,7 @@ module _ (key value : Bytes) where
   stays_worked m (Drop job) stays = stays
 
   work_besides_have : (m : Machine) (piece : Work) → HasNow m.state → LeftHave (work_left_besides m piece)
-  work_besides_have m Take has = tt
+  work_besides_have m (Take asked) has = tt
   work_besides_have m (Read job) has = tt
   work_besides_have m (Ask job) has = tt
   work_besides_have m (Accept job result) has = tt

@@ -1,6 +1,7 @@
 -- What two clients do with a shared store, and a third one that works on its jobs, and what is found of it.
 use Rattle.std.specs.Prelude.{◌≡◌, ℕ, ◌≤◌, List, [], ◌∷◌, ◌++◌, Some}
 use Rattle.std.specs.FinMap as finite
+use Rattle.lsm_codec.specs.Guards.{Condition}
 use Rattle.lsm_codec.specs.Keys.{Bytes}
 use Rattle.lsm_codec.specs.Map.{Map, Operation}
 use Rattle.lsm_device.specs.Medium.{disk}
@@ -9,7 +10,7 @@ use Rattle.lsm_open.specs.CrashState.{CrashState}
 use Rattle.lsm_open.specs.Image.{StandFor}
 use Rattle.lsm_store.specs.Backing.{StoreView}
 use Rattle.lsm_store.specs.Calls.{Call, Reply}
-use Rattle.lsm_store.specs.Calls.{Commit, Sync, Refused}
+use Rattle.lsm_store.specs.Calls.{Commit, CommitIf, Sync, Number, Refused, Unread}
 use Rattle.lsm_store.specs.Machine.{Machine}
 use Rattle.lsm_lives.specs.Asked.{Told, Replied}
 use Rattle.lsm_trail.specs.Begins.{Begin}
@@ -24,6 +25,7 @@ one_put key value = record { key = key; value = Some value } ∷ []
 -- what was told is no refusal
 abbrev pub IsAnswer : Told → Type 0
 IsAnswer (Replied (Refused e)) = ⊥
+IsAnswer (Replied Unread) = ⊥
 IsAnswer other = Unit {0}
 
 -- one more call of the client was answered
@@ -45,6 +47,15 @@ pub record IsStored (client : ℕ) (batch : List Operation) (calls : List Event)
 -- a client has committed a batch and synced, and made no other entry
 abbrev pub HasStored : Known → List Operation → Known → Type 0
 HasStored old batch new = (new.number ≡ old.number) × IsStored old.number batch new.mine
+
+-- the last entry of a client is a batch under guards, which was added
+pub record HasRaised (me : Known) : Type 0 where
+  pub before : List Event
+  pub guards : List Condition
+  pub batch : List Operation
+  pub number : ℕ
+  pub machine : Machine
+  pub mine : me.mine ≡ before ++ called me.number (CommitIf guards batch) (Number number) machine ∷ []
 
 -- a client went on, and made no call: whatever it entered are pieces of work
 pub record MakesNoCall (old new : Known) : Type 0 where

@@ -2,7 +2,7 @@
 
 use crate::clock::{now, since};
 use crate::jobs::{Written, settle};
-use crate::keys::batch_of;
+use crate::keys::{batch_of, thinning_of};
 use crate::subject::Subject;
 use crate::workloads::Way;
 use lsm_device::{Device, Refusal};
@@ -67,6 +67,21 @@ fn commit_log<D: Device + Drop>(
     Ok(())
 }
 
+/// Deletes every second key of the batches of a log.
+fn thin_log<D: Device + Drop>(
+    alloc: Global,
+    subject: &mut Subject<D>,
+    puts: Puts,
+    log: u32,
+) -> Result<(), Refusal> {
+    let (first, end) = puts.in_log(log);
+    for place in first..end {
+        let number = place.wrapping_mul(puts.way.puts);
+        subject.commit(&thinning_of(alloc, number, puts.way.puts)?)?;
+    }
+    Ok(())
+}
+
 /// The nanoseconds of the commits of a log.
 fn timed<R: Clock, D: Device + Drop>(
     rt: &R,
@@ -108,4 +123,24 @@ pub(crate) fn load<R: Threads + Sync, D: Device + Drop>(
         written = written.and(settle(rt, alloc, subject)?);
     }
     Ok(written)
+}
+
+/// Commits all puts, and a log behind them the deletes of every second key. It settles the store behind each log, and answers what
+/// that wrote.
+pub(crate) fn load_and_thin<R: Threads + Sync, D: Device + Drop>(
+    rt: &R,
+    alloc: Global,
+    subject: &mut Subject<D>,
+    puts: Puts,
+) -> Result<Written, Refusal> {
+    let mut written = Written::nothing();
+    for log in 0..puts.logs() {
+        commit_log(alloc, subject, puts, log)?;
+        if log > 0 {
+            thin_log(alloc, subject, puts, log - 1)?;
+        }
+        written = written.and(settle(rt, alloc, subject)?);
+    }
+    thin_log(alloc, subject, puts, puts.logs().saturating_sub(1))?;
+    Ok(written.and(settle(rt, alloc, subject)?))
 }

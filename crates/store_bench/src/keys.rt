@@ -55,9 +55,27 @@ pub(crate) fn batch_of(alloc: Global, first: u32, count: u32, round: u8) -> Resu
     Ok(batch)
 }
 
+/// A batch that deletes every second one of so many numbers, beginning with the first.
+pub(crate) fn thinning_of(alloc: Global, first: u32, count: u32) -> Result<Batch, Refusal> {
+    let mut batch = Batch::new(alloc, Op::delete(alloc, &key_of(first))?)?;
+    for place in 1..count.div_ceil(2) {
+        batch.delete(&key_of(first.wrapping_add(place.wrapping_mul(2))))?;
+    }
+    Ok(batch)
+}
+
+/// The log sectors of a batch.
+fn sectors_in(batch: &Batch) -> u32 {
+    let sectors = batch.text_len().div_ceil(TEXT_BYTES);
+    u32::try_from(sectors).unwrap_or(1)
+}
+
 /// The log sectors of a batch of so many puts.
 pub(crate) fn sectors_of(alloc: Global, count: u32) -> Result<u32, Refusal> {
-    let batch = batch_of(alloc, 0, count, 0)?;
-    let sectors = batch.text_len().div_ceil(TEXT_BYTES);
-    Ok(u32::try_from(sectors).unwrap_or(1))
+    Ok(sectors_in(&batch_of(alloc, 0, count, 0)?))
+}
+
+/// And of the one that deletes every second of them.
+pub(crate) fn thinning_sectors_of(alloc: Global, count: u32) -> Result<u32, Refusal> {
+    Ok(sectors_in(&thinning_of(alloc, 0, count)?))
 }

@@ -2,9 +2,9 @@
 
 use crate::clients::Task;
 use crate::clock::{now, since};
-use crate::commits::{Puts, commit_all, load};
+use crate::commits::{Puts, commit_all, load, load_and_thin};
 use crate::jobs::{Written, settle};
-use crate::reads::{count_hits, count_misses, scan_often};
+use crate::reads::{count_hits, count_misses, count_thinned, scan_often};
 use crate::sizes::Sizes;
 use crate::subject::Subject;
 use crate::workloads::{Way, Work, Workload};
@@ -23,6 +23,8 @@ pub(crate) struct Measured {
     pub(crate) wanted: u32,
     /// What a load wrote beside its log.
     pub(crate) written: Written,
+    /// How many blocks the tables of a load hold when it is done.
+    pub(crate) held: u32,
 }
 
 impl Measured {
@@ -34,6 +36,7 @@ impl Measured {
             right: 0,
             wanted: operations,
             written: Written::nothing(),
+            held: 0,
         }
     }
 }
@@ -89,9 +92,41 @@ fn loads<R: Clock + Threads + Sync, D: Device + Drop>(
     puts: Puts,
 ) -> Result<Measured, Refusal> {
     subject.renew(alloc)?;
+    let free = subject.free_blocks()?;
     let mut measured = timed_load(rt, alloc, subject, puts)?;
+    measured.held = free.wrapping_sub(subject.free_blocks()?);
     let right = count_hits(subject, puts.count, puts.round)?;
     let wanted = u64::from(puts.batches());
+    measured.right = right_of(right, subject.batch_count(), wanted);
+    Ok(measured)
+}
+
+fn timed_thinning<R: Clock + Threads + Sync, D: Device + Drop>(
+    rt: &R,
+    alloc: Global,
+    subject: &mut Subject<D>,
+    puts: Puts,
+) -> Result<Measured, Refusal> {
+    let start = now(rt)?;
+    let mut measured = Measured::of(puts.count);
+    measured.operations = puts.count.wrapping_add(puts.count / 2);
+    measured.written = load_and_thin(rt, alloc, subject, puts)?;
+    measured.nanos = since(rt, start)?;
+    Ok(measured)
+}
+
+fn thins<R: Clock + Threads + Sync, D: Device + Drop>(
+    rt: &R,
+    alloc: Global,
+    subject: &mut Subject<D>,
+    puts: Puts,
+) -> Result<Measured, Refusal> {
+    subject.renew(alloc)?;
+    let free = subject.free_blocks()?;
+    let mut measured = timed_thinning(rt, alloc, subject, puts)?;
+    measured.held = free.wrapping_sub(subject.free_blocks()?);
+    let right = count_thinned(subject, puts.count, puts.round)?;
+    let wanted = u64::from(puts.batches()).wrapping_mul(2);
     measured.right = right_of(right, subject.batch_count(), wanted);
     Ok(measured)
 }
@@ -229,6 +264,10 @@ pub(crate) fn measure<R: Clock + Threads + Wait + Sync, D: Device + Drop + Send>
         Work::Load(way) => {
             let count = sizes.keys;
             loads(rt, alloc, subject, Puts { way, count, round })
+        }
+        Work::Thin(way) => {
+            let count = sizes.keys;
+            thins(rt, alloc, subject, Puts { way, count, round })
         }
         Work::GetHit | Work::GetMiss | Work::Scan => {
             reads(rt, subject, sizes, workload.work, round)

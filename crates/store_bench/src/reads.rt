@@ -45,6 +45,26 @@ pub(crate) fn count_hits<D: Device + Drop>(
     Ok(right)
 }
 
+/// Of the first so many numbers, how many have the value of a round where they are odd, and else none.
+pub(crate) fn count_thinned<D: Device + Drop>(
+    subject: &mut Subject<D>,
+    count: u32,
+    round: u8,
+) -> Result<u32, Refusal> {
+    let mut right = 0_u32;
+    for number in 0..count {
+        let is_right = if number % 2 == 0 {
+            misses(subject, number)?
+        } else {
+            hits(subject, number, round)?
+        };
+        if is_right {
+            right = right.wrapping_add(1);
+        }
+    }
+    Ok(right)
+}
+
 /// Of so many numbers from one on, how many have no value.
 pub(crate) fn count_misses<D: Device + Drop>(
     subject: &mut Subject<D>,

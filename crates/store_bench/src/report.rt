@@ -16,6 +16,8 @@ pub(crate) struct Sample {
     pub(crate) store: u64,
     pub(crate) raw: u64,
     pub(crate) ratio: u64,
+    /// The blocks that tables hold behind a load, which are the same in each run.
+    pub(crate) held: u32,
 }
 
 /// Operations a second.
@@ -32,6 +34,7 @@ impl Sample {
             store: rate(measured.operations, measured.nanos),
             raw: rate(measured.operations, raw_nanos),
             ratio: raw_nanos.saturating_mul(1_000) / measured.nanos.max(1),
+            held: measured.held,
         }
     }
 }
@@ -78,9 +81,11 @@ fn middle(
 /// A line of the table: the middle ones of all runs.
 fn line(alloc: Global, samples: &[Sample], place: usize) -> Result<Sample, AllocError> {
     let mut operations = 0;
+    let mut held = 0;
     for sample in samples {
         if sample.place == place {
             operations = sample.operations;
+            held = sample.held;
         }
     }
     Ok(Sample {
@@ -89,6 +94,7 @@ fn line(alloc: Global, samples: &[Sample], place: usize) -> Result<Sample, Alloc
         store: middle(alloc, samples, place, Figure::Store)?,
         raw: middle(alloc, samples, place, Figure::Raw)?,
         ratio: middle(alloc, samples, place, Figure::Ratio)?,
+        held,
     })
 }
 
@@ -137,11 +143,24 @@ fn push_plot(alloc: Global, text: &mut String, samples: &[Sample]) -> Result<(),
     Ok(())
 }
 
-/// The table of all workloads, and behind it a plot of their ratios.
+/// Adds how many blocks the tables of each load hold.
+fn push_held(alloc: Global, text: &mut String, samples: &[Sample]) -> Result<(), AllocError> {
+    for (place, workload) in WORKLOADS.iter().enumerate() {
+        let (name, held) = (workload.name, line(alloc, samples, place)?.held);
+        if held > 0 {
+            writeln!(text, "{name:<22} {held:>10} blocks held")?;
+        }
+    }
+    Ok(())
+}
+
+/// The table of all workloads, and behind it a plot of their ratios and the blocks that loads hold.
 pub(crate) fn report(alloc: Global, samples: &[Sample]) -> Result<String, AllocError> {
     let mut text = String::new(alloc);
     push_table(alloc, &mut text, samples)?;
     text.push('\n')?;
     push_plot(alloc, &mut text, samples)?;
+    text.push('\n')?;
+    push_held(alloc, &mut text, samples)?;
     Ok(text)
 }

@@ -113,6 +113,14 @@ impl<D: Device + Drop> Subject<D> {
         }
     }
 
+    /// How many blocks are in no table.
+    pub(crate) fn free_blocks(&self) -> Result<u32, Refusal> {
+        match &self.store {
+            Some(store) => Ok(store.stat()?.free_blocks),
+            None => Err(Refusal::Stopped),
+        }
+    }
+
     pub(crate) fn commit(&mut self, batch: &Batch) -> Result<u64, Refusal> {
         match &mut self.store {
             Some(store) => store.commit(batch),

@@ -16,6 +16,9 @@ pub(crate) enum Work {
     Commit(Way),
     /// Puts all keys into an empty store and does all jobs, until none is left.
     Load(Way),
+    /// Puts all keys into an empty store, and deletes every second one a log later, so that of all operations a third are deletes.
+    /// It does all jobs, until none is left.
+    Thin(Way),
     /// Gets each key.
     GetHit,
     /// Gets as many keys that have no value.
@@ -62,7 +65,7 @@ const HUNDRED_SYNCED: Way = Way {
     in_log: 70,
 };
 
-pub(crate) const COUNT: usize = 14;
+pub(crate) const COUNT: usize = 15;
 
 /// The workloads. Each value that a workload puts says in which of them it was put.
 pub(crate) const WORKLOADS: [Workload; COUNT] = [
@@ -95,6 +98,12 @@ pub(crate) const WORKLOADS: [Workload; COUNT] = [
         work: Work::Commit(HUNDRED_SYNCED),
         aim: 500,
         round: 5,
+    },
+    Workload {
+        name: "load, a third deletes",
+        work: Work::Thin(HUNDRED),
+        aim: 200,
+        round: 12,
     },
     Workload {
         name: "load and settle",

@@ -8,6 +8,8 @@ mod failures;
 #[cfg(test)]
 mod growth;
 #[cfg(test)]
+mod guards;
+#[cfg(test)]
 mod letting_go;
 #[cfg(test)]
 mod setup;

@@ -1,6 +1,6 @@
 //! Stores that the tests begin with.
 
-use lsm_codec::{Batch, Op};
+use lsm_codec::{Batch, Guard, Op};
 use lsm_device::{MemDevice, Refusal};
 use lsm_open::format;
 use lsm_store::{At, Page, Store};
@@ -26,6 +26,10 @@ pub struct Subject<A: Allocator = Global> {
 impl<A: Allocator + Clone> Subject<A> {
     pub fn commit(&mut self, batch: &Batch<A>) -> Result<u64, Refusal> {
         self.store.commit(batch)
+    }
+
+    pub fn commit_if(&mut self, guards: &[Guard<A>], batch: &Batch<A>) -> Result<u64, Refusal> {
+        self.store.commit_if(guards, batch)
     }
 
     pub fn sync(&mut self) -> Result<(), Refusal> {
@@ -64,6 +68,11 @@ impl<A: Allocator + Clone> Subject<A> {
     /// Whether nothing was written, and so much room is left in the log.
     pub fn is_unwritten(&self, writes: u64, room: u32) -> bool {
         self.store.writes() == writes && self.store.log_room() == Ok(room)
+    }
+
+    /// How many sectors the log has left.
+    pub fn room(&self) -> Result<u32, Refusal> {
+        self.store.log_room()
     }
 
     pub fn writes(&self) -> u64 {

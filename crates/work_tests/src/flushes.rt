@@ -103,13 +103,6 @@ const THREE_BLOCKS: [Line; 6] = [
     (Piece::Finish(1), Answer::Done),
 ];
 
-/// How many sectors are read for a line.
-fn reads_for<R: Threads + Sync + Abort>(rt: &R, store: &mut Working, line: Line) -> u64 {
-    let before = store.reads();
-    store.play(rt, &[line]);
-    store.reads().wrapping_sub(before)
-}
-
 /// How many sectors are read for the values of these keys in turn, with a cache of so many blocks.
 fn reads_of<R: Threads + Sync + Abort>(rt: &R, alloc: Global, cache: u32, keys: &[u8]) -> u64 {
     let mut store = Working::open(rt, alloc, formatted(rt, &alloc), cache);
@@ -117,7 +110,7 @@ fn reads_of<R: Threads + Sync + Abort>(rt: &R, alloc: Global, cache: u32, keys: 
     let mut reads = 0u64;
     for key in keys {
         let line = (Piece::Get(Now, *key), Answer::Found(0));
-        reads = reads.wrapping_add(reads_for(rt, &mut store, line));
+        reads = reads.wrapping_add(store.reads_for(rt, line));
     }
     reads
 }
@@ -153,7 +146,7 @@ fn memory_and_filters_spare_reads(rt: HostRuntime) {
     let mut store = begun(&rt, rt.alloc());
     store.play(&rt, &THREE_BLOCKS);
     for (line, wanted) in SPARED {
-        let reads = reads_for(&rt, &mut store, line);
+        let reads = store.reads_for(&rt, line);
         assert!(rt; reads == wanted, "{line:?}: {reads}");
     }
 }

@@ -2,9 +2,13 @@
 #![tactic(auto)]
 
 #[cfg(test)]
+mod choices;
+#[cfg(test)]
 mod faults;
 #[cfg(test)]
 mod flushes;
+#[cfg(test)]
+mod guards;
 #[cfg(test)]
 mod merges;
 #[cfg(test)]

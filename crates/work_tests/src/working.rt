@@ -1,10 +1,10 @@
 //! Stores that scripts work on.
 
-use lsm_codec::{Batch, Op};
+use lsm_codec::{Batch, Guard, Op};
 use lsm_device::{MemDevice, Refusal};
 use lsm_merge::{Built, build};
 use lsm_open::format;
-use lsm_store::{At, Page, Piece as NextPiece, Stat, Store, TakenJob};
+use lsm_store::{At, Choice, Page, Piece as NextPiece, Stat, Store, TakenJob};
 use std::alloc::{Allocator, Global};
 use std::process::Abort;
 use std::thread::Threads;
@@ -21,6 +21,10 @@ pub(crate) enum Piece {
     /// Puts a value of 2,048 bytes.
     PutLong(u8),
     Delete(u8),
+    /// Puts a value where the key has this one, or with none has none.
+    PutIf(u8, Option<u8>, u8),
+    /// The call of the device of this number, from now on, fails.
+    Fail(u64),
     Sync,
     Rotate,
     Snapshot,
@@ -32,6 +36,10 @@ pub(crate) enum Piece {
     /// What the slot at a place waits for.
     Next(usize),
     Take,
+    /// Takes the oldest run of level 0.
+    TakeRun,
+    /// Takes the tables of a level from 1 to 3 from the first to the last, if it has several.
+    TakeSeveral(usize),
     Read(u64),
     Build(u64),
     /// For the job of a number, the result that was built last.
@@ -165,6 +173,21 @@ impl<A: Allocator + Clone> Working<A> {
         self.commit(op)
     }
 
+    fn put_if(&mut self, key: u8, wanted: Option<u8>, value: u8) -> Result<Answer, Refusal> {
+        let guard = match wanted {
+            Some(wanted) => Guard::holds(self.alloc.clone()?, &[key], &[wanted])?,
+            None => Guard::absent(self.alloc.clone()?, &[key])?,
+        };
+        let op = Op::put(self.alloc.clone()?, &[key], &[value])?;
+        let batch = Batch::new(self.alloc.clone()?, op)?;
+        Ok(Answer::Number(self.store.commit_if(&[guard], &batch)?))
+    }
+
+    fn fail(&mut self, n: u64) -> Result<Answer, Refusal> {
+        self.store.fail(n, false);
+        Ok(Answer::Done)
+    }
+
     fn delete(&mut self, key: u8) -> Result<Answer, Refusal> {
         let op = Op::delete(self.alloc.clone()?, &[key])?;
         self.commit(op)
@@ -189,6 +212,20 @@ impl<A: Allocator + Clone> Working<A> {
         }
     }
 
+    fn take_several(&mut self, level: usize) -> Result<Answer, Refusal> {
+        let Some(run) = self.store.levels().deeper().get(level.wrapping_sub(1)) else {
+            return Ok(Answer::NoJob);
+        };
+        let [first, .., last] = run.tables() else {
+            return Ok(Answer::NoJob);
+        };
+        let choice = Choice::Tables {
+            first: first.number(),
+            last: last.number(),
+        };
+        Ok(told_job(self.store.job_take_of(choice)?))
+    }
+
     fn write_all(&mut self, job: u64) -> Result<(), Refusal> {
         for _ in 0..16 {
             if self.store.job_write(job)? == 0 {
@@ -200,11 +237,6 @@ impl<A: Allocator + Clone> Working<A> {
 
     pub(crate) fn batch_count(&self) -> u64 {
         self.store.batch_count()
-    }
-
-    /// The reads of the device so far.
-    pub(crate) fn reads(&self) -> u64 {
-        self.store.reads()
     }
 
     /// Sets the fuse of the device.
@@ -254,6 +286,8 @@ impl<A: Allocator + Clone + Send + Sync> Working<A> {
             Piece::Put(key, value) => self.put(key, &[value]),
             Piece::PutLong(key) => self.put(key, &[key; 2_048]),
             Piece::Delete(key) => self.delete(key),
+            Piece::PutIf(key, wanted, value) => self.put_if(key, wanted, value),
+            Piece::Fail(n) => self.fail(n),
             Piece::Sync => told_end(self.store.sync()),
             Piece::Rotate => told_end(self.store.rotate()),
             Piece::Snapshot => Ok(Answer::Number(self.store.snapshot()?)),
@@ -263,6 +297,8 @@ impl<A: Allocator + Clone + Send + Sync> Working<A> {
             Piece::Stat => Ok(Answer::Numbers(self.store.stat()?)),
             Piece::Next(place) => Ok(Answer::Waits(self.store.piece_at(place))),
             Piece::Take => Ok(told_job(self.store.job_take()?)),
+            Piece::TakeRun => Ok(told_job(self.store.job_take_of(Choice::OldestRun)?)),
+            Piece::TakeSeveral(level) => self.take_several(level),
             Piece::Read(job) => Ok(Answer::Left(self.store.job_read(job)?)),
             Piece::Build(job) => self.build(rt, job),
             Piece::Accept(job) => self.accept(job),
@@ -287,6 +323,13 @@ impl<A: Allocator + Clone + Send + Sync> Working<A> {
             let answer = self.answer(rt, *piece);
             assert!(rt; answer == *wanted, "{piece:?}: {answer:?}");
         }
+    }
+
+    /// How many sectors are read for a line.
+    pub(crate) fn reads_for<R: Threads + Sync + Abort>(&mut self, rt: &R, line: Line) -> u64 {
+        let before = self.store.reads();
+        self.play(rt, &[line]);
+        self.store.reads().wrapping_sub(before)
     }
 
     /// Whether there are so many batches, and just their keys, where batch 1 put 61 = 31, batch 2 62 = 32, and so on.

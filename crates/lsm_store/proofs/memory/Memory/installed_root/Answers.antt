@@ -1,6 +1,8 @@
 use Rattle.std.proofs.Common.{ℕ, sym, subst}
-use Rattle.lsm_codec.specs.Manifests.{Contents, IsManifest}
+use Rattle.lsm_codec.specs.Manifests.{Contents, IsManifestOf}
+use Rattle.lsm_codec.specs.declared.superblock.FormatVersion.TheVariants.{Two}
 use Rattle.lsm_open.specs.ToldTables.{records_of}
+use Rattle.lsm_open.proofs.NamedRecords.{records_told}
 use Rattle.lsm_root.specs.Layout.{IsGeometry, LieInside}
 use Rattle.lsm_store.proofs.InstalledMemory.{next_sectors}
 use Rattle.lsm_store.proofs.memory.Memory.installed_root.Goals as goal
@@ -12,7 +14,7 @@ pub prepare-requires-clause-geometry : goal.prepare-requires-clause-geometry
 prepare-requires-clause-geometry g c = subst (λ (n : ℕ). IsGeometry c.args.sectors n) (next_sectors c.args.self.now c.args.next.now.flush) c.requires.within.geometry
 
 pub prepare-requires-clause-valid : goal.prepare-requires-clause-valid
-prepare-requires-clause-valid g c = λ low. subst (λ (x : Contents). IsManifest x) (sym c.in_ok-manifest.ensures) c.requires.within.manifest
+prepare-requires-clause-valid g c = λ low. subst (IsManifestOf Two) (sym c.in_ok-manifest.ensures) (record { fits = c.requires.within.manifest; records = records_told c.args.next.now.levels })
 
 pub prepare-requires-clause-inside : goal.prepare-requires-clause-inside
 prepare-requires-clause-inside g c = λ low.

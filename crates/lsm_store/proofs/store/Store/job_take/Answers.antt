@@ -1,4 +1,4 @@
-use Rattle.std.proofs.Common.{subst}
+use Rattle.std.proofs.Common.{None, subst}
 use Rattle.lsm_store.specs.Backing.{StoreView}
 use Rattle.lsm_store.specs.Memory.{view_of}
 use Rattle.lsm_store.specs.Work.{Take}
@@ -13,5 +13,5 @@ pub returns : goal.returns
 returns g c = record {
   works =
       let medium = g.D.Device.medium c.self.inside.device in
-      subst (λ (v : StoreView). Works v Take (reply_of taken_reply c.take.result) (view_of medium c.take.new.memory c.self.inside.cache)) c.self.view_is (c.take.ensures.works medium c.self.inside.cache);
+      subst (λ (v : StoreView). Works v (Take None) (reply_of taken_reply c.take.result) (view_of medium c.take.new.memory c.self.inside.cache)) c.self.view_is (c.take.ensures.works medium c.self.inside.cache);
 }
