@@ -87,7 +87,7 @@ checks 1 other 'refused 23 BadManifest'
 
 # In the last generation nothing is wrong with an image, and no opening can follow: the superblock and its manifest say 2^63.
 cp fresh last && patch last 1 0 00000000000000000000000000000000000000000000
-patch last 0 0 4c534d53000180000000000000000000200000800001
+patch last 0 0 4c534d53000280000000000000000000200000800001
 patch last 2 0 4c534d4d80000000000000000000000000000000000000000000000100000000
 checks 0 last 'ok generation 9223372036854775808 batches 0 tables 0 entries 0 free 959'
 status=0
@@ -180,6 +180,56 @@ checks 1 other 'finding Versions table 1'
 # Where both tables lack a bit of their filters, that of the newer run, which the manifest names first, is told.
 cp newer other && patch other 528 401 00 && patch other 560 401 00
 checks 1 other 'finding Filter table 2'
+
+# The put becomes a delete, of which the manifest doesn't tell. Then the manifest tells of a delete that isn't one, and of more
+# deletes than entries. The count of deletes stands behind 67 bytes of the manifest, in sector 2.
+deleted=02000000
+cp table other && patch other 514 12 $deleted
+checks 1 other 'finding Entries table 1'
+patch other 2 67 0001
+checks 0 other 'ok generation 4 batches 1 tables 1 entries 1 free 955'
+cp table other && patch other 2 67 0001
+checks 1 other 'finding Entries table 1'
+patch other 2 67 0002
+checks 1 other 'refused 23 BadManifest'
+
+# ---- version 1 of the format
+
+# With a table without deletes alone, a file of version 1 differs in the versions of its superblocks: version 1 has zeros where
+# the count of the last table would stand. It may not come after version 2.
+cp table old && patch old 0 4 0001 && patch old 1 4 0001
+checks 0 old 'ok generation 4 batches 1 tables 1 entries 1 free 955'
+cp table other && patch other 1 4 0001
+checks 0 other 'ok generation 4 batches 1 tables 1 entries 1 free 955'
+cp table other && patch other 0 4 0001
+checks 1 other 'refused 22 BadSuper'
+
+# Data blocks are counted as an opening counts them: one that spells no entries, and one that spells another than the record says.
+cp old other && patch other 514 0 0000
+checks 1 other 'refused 24 BadTable'
+cp old other && patch other 514 0 0002 && patch other 514 16 01610000000000000001020000
+checks 1 other 'refused 24 BadTable'
+
+# What is wrong with a table is found in it too.
+cp old other && patch other 530 9 02
+checks 1 other 'finding Entries table 1'
+cp old other && patch other 528 401 00
+checks 1 other 'finding Filter table 1'
+
+# The first opening writes version 2, with the deletes of the table.
+counted() {
+    local file=$1 version=$2 deletes=$3 found
+    found=$(od -An -v -tx1 -j $((512 + 4)) -N 10 "$file" | tr -d ' \n')$(od -An -v -tx1 -j $((66 * 512 + 65)) -N 4 "$file" | tr -d ' \n')
+    [ "$found" = "$version"0000000000000005"0001$deletes" ] || fail "$file has another version or other deletes: $found"
+}
+cp old other && patch other 514 12 $deleted
+checks 0 other 'ok generation 4 batches 1 tables 1 entries 1 free 955'
+for file in old other; do "$program" get "$file" 61 >"$file.value" || fail "get $file"; done
+[ "$(cat old.value other.value | tr '\n' ' ')" = 'value 31 absent ' ] || fail "an old file has another map: $(cat old.value other.value)"
+counted old 0002 0000
+counted other 0002 0001
+checks 0 old 'ok generation 5 batches 1 tables 1 entries 1 free 955'
+checks 0 other 'ok generation 5 batches 1 tables 1 entries 1 free 955'
 
 # ---- the largest device
 

@@ -90,7 +90,7 @@ single_runs() {
     : >nothing
     cp store fresh
     # The superblock of generation 1, and its manifest (docs/formats.md).
-    [ "$(bytes_of store 1 22)" = 4c534d53000100000000000000010000200000800001 ] || fail "another superblock"
+    [ "$(bytes_of store 1 22)" = 4c534d53000200000000000000010000200000800001 ] || fail "another superblock"
     [ "$(bytes_of store 66 32)" = 4c534d4d00000000000000010000000000000000000000000000000100000000 ] || fail "another manifest"
     while IFS= read -r line; do
         case $line in '' | '#'*) continue ;; esac

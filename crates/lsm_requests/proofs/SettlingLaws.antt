@@ -1,5 +1,5 @@
 -- How a job goes on.
-use Rattle.std.proofs.Common.{◌≡◌, ◌+◌, ◌<◌, ◌≤◌, ◌-◌, ℕ, suc, Option, Some, Result, Ok, Err, MatchResult, inl, inr, refl, subst, arith}
+use Rattle.std.proofs.Common.{◌≡◌, ◌+◌, ◌<◌, ◌≤◌, ◌-◌, ℕ, suc, Option, Some, None, Result, Ok, Err, MatchResult, inl, inr, refl, subst, arith}
 use Rattle.lsm_device.specs.declared.refusal.Refusal.{Refusal}
 use Rattle.lsm_merge.specs.Inputs.{MergeInput, kept_of}
 use Rattle.lsm_merge.specs.Results.{MergeResult}
@@ -68,9 +68,9 @@ refused-holds Y Z r e is z = rw is z
 -- ---- jobs
 
 -- what was told of a job that was given
-pub given-job : (old new : StoreView) (taken : Option TakenJob) (t : TakenJob) → taken ≡ Some t → Works old Take (taken_reply taken) new
-    → Works old Take (Given (Some (t.number, t.level))) new
-given-job old new taken t is works = subst (λ (j : Option TakenJob). Works old Take (taken_reply j) new) is works
+pub given-job : (old new : StoreView) (taken : Option TakenJob) (t : TakenJob) → taken ≡ Some t → Works old (Take None) (taken_reply taken) new
+    → Works old (Take None) (Given (Some (t.number, t.level))) new
+given-job old new taken t is works = subst (λ (j : Option TakenJob). Works old (Take None) (taken_reply j) new) is works
 
 -- one job more was finished
 pub are_finished-more : (n : ℕ) (old mid new : StoreView) → AreFinished n old mid → Taken IsFinished mid new → AreFinished (n + 1) old new

@@ -144,7 +144,7 @@ TellsCheck (Err (finding.Versions number)) output = TellsFound (table_line (code
 pub record IsChecked (before after : Medium) (output : Output) : Type 0 where
   pub answered : Result Report Finding
   pub yes : IsTrue before.lasting.tells → IfOk answered (IsImage before.size (seen (disk before)))
-  pub reads : ReadsAtMost 593986 (is_faultless answered) before after
+  pub reads : ReadsAtMost 1118274 (is_faultless answered) before after
   pub told : TellsCheck answered output
 
 -- a file was opened as a device, in which no call was made yet, and was checked; it is handed out as the reads left it

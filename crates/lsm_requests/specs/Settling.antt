@@ -97,7 +97,7 @@ pub record Taken (GoesTo : ℕ → Option ℕ → StoreView → StoreView → Ty
   pub job : ℕ
   pub level : Option ℕ
   pub begun : StoreView
-  pub taken : Works old Take (Given (Some (job, level))) begun
+  pub taken : Works old (Take None) (Given (Some (job, level))) begun
   pub goes : GoesTo job level begun new
 
 -- it was stuck and given up
@@ -114,7 +114,7 @@ AreFinished (suc n) old new = (mid : StoreView) × AreFinished n old mid × Take
 
 -- behind them none was given, or the taking was refused, or one was given up
 abbrev pub IsNoMore : StoreView → StoreView → Type 0
-IsNoMore old new = Works old Take (Given None) new ⊎ (IsRefused Take old new ⊎ Taken IsGivenUp old new)
+IsNoMore old new = Works old (Take None) (Given None) new ⊎ (IsRefused (Take None) old new ⊎ Taken IsGivenUp old new)
 
 -- jobs were finished until there was no more, or 64 of them
 pub record FinishesJobs (old new : StoreView) : Type 0 where

@@ -60,9 +60,9 @@ ended lines = by_last (slice_get lines (length lines - 1))
     by_last None = lines ++ line.Crash All ∷ []
     by_last (Some last) = if is_crash last then lines else lines ++ line.Crash All ∷ []
 
--- a life makes at most 38 writes in its opening and 128 in each step, so that a mask of as many places keeps all that pend
+-- a life makes at most 42 writes in its opening and 128 in each step, so that a mask of as many places keeps all that pend
 abbrev pub mask_said : Kept → ℕ → List Bool
-mask_said All steps = replicate (min (38 + min (128 * steps) (2 ^ 64 - 1)) (2 ^ 64 - 1)) true
+mask_said All steps = replicate (min (42 + min (128 * steps) (2 ^ 64 - 1)) (2 ^ 64 - 1)) true
 mask_said (Places places) steps = places.items
 
 -- a life by its fuse, its steps and its mask

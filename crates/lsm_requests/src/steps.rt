@@ -11,7 +11,7 @@ use lsm_lives::{Call, Life, Step, Work};
 use std::alloc::{AllocError, Global};
 
 /// The most writes that an opening makes.
-const OPENING_WRITES: usize = 38;
+const OPENING_WRITES: usize = 42;
 
 /// The most writes that a step makes.
 const STEP_WRITES: usize = 128;

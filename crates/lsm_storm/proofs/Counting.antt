@@ -101,7 +101,7 @@ fault_of_work m piece Reads = refl
 fault_of_work m piece Changes = refl
 
 after_work : (m : Machine) (piece : Work) → count_in (state_after m piece) ≡ count_in m.state
-after_work m Take = refl
+after_work m (Take asked) = refl
 after_work m (Read job) = refl
 after_work m (Ask job) = refl
 after_work m (Accept job result) = refl

@@ -1,0 +1,3 @@
+pub mod CompactingLaws
+pub mod FinishingLaws
+pub mod KeptMaps

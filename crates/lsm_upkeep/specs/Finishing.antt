@@ -1,0 +1,112 @@
+-- How a job is taken and finished.
+use Rattle.std.specs.Prelude.{◌≡◌, ◌≤◌, ◌⊎◌, ℕ, zero, suc, Option, Some, None}
+use Rattle.lsm_device.specs.declared.refusal.Refusal.{Refusal}
+use Rattle.lsm_merge.specs.Inputs.{MergeInput, kept_of}
+use Rattle.lsm_merge.specs.Results.{MergeResult}
+use Rattle.lsm_store.specs.Backing.{StoreView}
+use Rattle.lsm_levels.specs.declared.choosing.Choice.{Choice}
+use Rattle.lsm_store.specs.Calls.{Reply, Number, Done, Given, Handed, Refused}
+use Rattle.lsm_store.specs.Work.{Work, Take, Read, Ask, Accept, Write, Install, Drop}
+use Rattle.lsm_store.specs.Working.{Works}
+use Rattle.lsm_table.specs.Division.{IsTables}
+
+-- a piece of work was refused
+abbrev pub IsRefused : Work → StoreView → StoreView → Type 0
+IsRefused piece old new = (e : Refusal) × Works old piece (Refused e) new
+
+-- ---- pieces that are done until no block is left
+
+-- so many times a piece of work left some blocks
+abbrev pub LeavesSome : Work → ℕ → StoreView → StoreView → Type 0
+LeavesSome piece zero old new = new ≡ old
+LeavesSome piece (suc n) old new = (mid : StoreView) × LeavesSome piece n old mid × (left : ℕ) × Works mid piece (Number (suc left)) new
+
+-- A piece of work was done again and again, as long as it left some blocks, and the last time it left so many.
+pub record HasLeft (piece : Work) (left : ℕ) (old new : StoreView) : Type 0 where
+  pub count : ℕ
+  pub last : StoreView
+  pub some : LeavesSome piece count old last
+  pub told : Works last piece (Number left) new
+
+-- it was done until none was left
+abbrev pub GoesThrough : Work → StoreView → StoreView → Type 0
+GoesThrough piece old new = HasLeft piece 0 old new
+
+-- it was refused, the first time or a later one
+abbrev pub IsStopped : Work → StoreView → StoreView → Type 0
+IsStopped piece old new = (count : ℕ) × (last : StoreView) × LeavesSome piece count old last × IsRefused piece last new
+
+-- it left as many blocks as the time before, or more
+abbrev pub IsNoFewer : Work → StoreView → StoreView → Type 0
+IsNoFewer piece old new = (mid : StoreView) × (before now : ℕ) × HasLeft piece (suc before) old mid × Works mid piece (Number now) new × (suc before ≤ now)
+
+-- it didn't get through
+abbrev pub IsHeldUp : Work → StoreView → StoreView → Type 0
+IsHeldUp piece old new = IsStopped piece old new ⊎ IsNoFewer piece old new
+
+-- ---- one job
+
+-- what a job merges was read: a flush has it at once
+abbrev pub IsReadWhole : ℕ → Option ℕ → StoreView → StoreView → Type 0
+IsReadWhole job None old new = new ≡ old
+IsReadWhole job (Some level) old new = GoesThrough (Read job) old new
+
+-- that was not read to the end
+abbrev pub IsUnread : ℕ → Option ℕ → StoreView → StoreView → Type 0
+IsUnread job None old new = ⊥
+IsUnread job (Some level) old new = IsHeldUp (Read job) old new
+
+-- The job's input was lent, and the result of a merge of it was answered so.
+pub record IsOffered (job : ℕ) (reply : Reply) (old new : StoreView) : Type 0 where
+  pub input : MergeInput
+  pub mid : StoreView
+  pub result : MergeResult
+  pub lent : Works old (Ask job) (Handed input) mid
+  pub own : result.input ≡ input
+  pub made : IsTables (kept_of input) result.images
+  pub offered : Works mid (Accept job (Some result)) reply new
+
+-- no result was accepted: the input was not lent, or no result was made of it, which comes of want of memory, or it was refused
+abbrev pub IsUnmerged : ℕ → StoreView → StoreView → Type 0
+IsUnmerged job old new = IsRefused (Ask job) old new ⊎ (((input : MergeInput) × Works old (Ask job) (Handed input) new) ⊎ ((e : Refusal) × IsOffered job (Refused e) old new))
+
+-- A job was read, its result was accepted, its outputs were written, and they were installed.
+pub record IsFinished (job : ℕ) (level : Option ℕ) (old new : StoreView) : Type 0 where
+  pub whole : StoreView
+  pub merged : StoreView
+  pub written : StoreView
+  pub reads : IsReadWhole job level old whole
+  pub merges : IsOffered job Done whole merged
+  pub writes : GoesThrough (Write job) merged written
+  pub installs : Works written (Install job) Done new
+
+-- a job that was read was not finished: at the merge, at the writing or at the install
+abbrev pub IsUnfinished : ℕ → StoreView → StoreView → Type 0
+IsUnfinished job old new = IsUnmerged job old new
+    ⊎ ((merged : StoreView) × IsOffered job Done old merged
+    × (IsHeldUp (Write job) merged new ⊎ ((written : StoreView) × GoesThrough (Write job) merged written × IsRefused (Install job) written new)))
+
+-- a job was done as far as it went: the piece whose turn it was didn't go on
+abbrev pub IsStuck : ℕ → Option ℕ → StoreView → StoreView → Type 0
+IsStuck job level old new = IsUnread job level old new ⊎ ((whole : StoreView) × IsReadWhole job level old whole × IsUnfinished job whole new)
+
+-- ---- the job that is asked for
+
+-- It was taken, and so it went on: the job of a choice, or where none is made the one that comes next.
+pub record Taken (GoesTo : ℕ → Option ℕ → StoreView → StoreView → Type 0) (asked : Option Choice) (old new : StoreView) : Type 0 where
+  pub job : ℕ
+  pub level : Option ℕ
+  pub begun : StoreView
+  pub taken : Works old (Take asked) (Given (Some (job, level))) begun
+  pub goes : GoesTo job level begun new
+
+-- it was stuck and given up
+pub record IsGivenUp (job : ℕ) (level : Option ℕ) (old new : StoreView) : Type 0 where
+  pub late : StoreView
+  pub reply : Reply
+  pub stuck : IsStuck job level old late
+  pub dropped : Works late (Drop job) reply new
+
+-- none was given, or the taking was refused, or the job was given up
+abbrev pub IsUndone : Option Choice → StoreView → StoreView → Type 0
+IsUndone asked old new = Works old (Take asked) (Given None) new ⊎ (IsRefused (Take asked) old new ⊎ Taken IsGivenUp asked old new)

@@ -1,0 +1,5 @@
+pub mod Choosing
+pub mod Finishing
+pub mod Keeping
+pub mod Upkeep
+pub mod Wanting

@@ -1,0 +1,32 @@
+//! A store that lasts: its jobs are taken and finished, so that its logs have room, its tables are few, and blocks are free.
+//!
+//! | call | what it does |
+//! |---|---|
+//! | [`settle`] | the jobs that come next, until none does; then a log with room is opened |
+//! | [`compact`] | a flush where one waits, and the merges that `lsm_policy` chooses, until it chooses none |
+//! | [`compact_all`] | merges until all tables are in the last level, or nothing more can go down |
+//! | [`keep_up`] | settles, and compacts where room is scarce |
+//!
+//! None of them changes the map, a snapshot, or the count of batches. What is refused is passed over: the job that it stops
+//! is given up, and the next call takes it anew.
+//!
+//! ```
+//! let policy = Policy::new();
+//! keep_up(rt, alloc, &mut store, &policy);
+//! if !has_room(&store, &policy, 0) {
+//!     return Err(Refusal::NoSpace);
+//! }
+//! store.commit(&batch)?;
+//! ```
+#![tactic(auto)]
+
+mod choosing;
+mod compacting;
+mod finishing;
+mod keeping;
+mod settling;
+mod wanting;
+
+pub use compacting::{compact, compact_all};
+pub use keeping::{has_room, keep_up};
+pub use settling::settle;

@@ -1,0 +1,44 @@
+//! A store is settled: its jobs are taken and finished, one after another.
+
+ghost use Rattle.lsm_upkeep.specs.Keeping.{KeepsMap};
+ghost use Rattle.lsm_upkeep.specs.Upkeep.{AsksNext, FinishesJobs, NeverNone, OpensLog, Settles};
+
+use crate::finishing::finish_asked;
+use lsm_device::Device;
+use lsm_store::Store;
+use std::alloc::Global;
+use std::thread::Threads;
+
+/// The most jobs that are finished at once.
+const MOST_JOBS: u32 = 64;
+
+/// Takes and finishes jobs, one after another, until none is given, one can't be finished, or 64 are. One that can't is
+/// given up. Then a log is opened where the open one has no room, or none is open.
+///
+/// What is refused is passed over: the store goes on as it then is, and its map is the same.
+pub fn settle<R: Threads + Sync, D: Device>(rt: &R, alloc: Global, store: &mut Store<D>)
+    ensures settles { Settles store.old store.new }
+    ensures map { KeepsMap store.old store.new }
+{
+    finish_jobs(rt, alloc, store);
+    open_log(store);
+}
+
+fn finish_jobs<R: Threads + Sync, D: Device>(rt: &R, alloc: Global, store: &mut Store<D>)
+    ensures { FinishesJobs AsksNext NeverNone 64 store.old store.new }
+{
+    for _ in 0..MOST_JOBS {
+        if !finish_asked(rt, alloc, store, None) {
+            return;
+        }
+    }
+}
+
+// After an opening the open log is empty, so that it has room unless there is none.
+fn open_log<D: Device>(store: &mut Store<D>)
+    ensures { OpensLog store.old store.new }
+{
+    if let Ok(0) = store.log_room() {
+        let _ = store.rotate();
+    }
+}

@@ -1,0 +1,15 @@
+//! A walk over the rows of a store, page by page.
+//!
+//! ```
+//! let mut walk = Walk::new(alloc, At::Now, &[])?;
+//! while let Some(page) = walk.next_page(alloc, &mut store)? {
+//!     for row in page.rows() {
+//!         show(row.key, row.value)?;
+//!     }
+//! }
+//! ```
+#![tactic(auto)]
+
+mod pages;
+
+pub use pages::Walk;
