@@ -4,7 +4,8 @@ use Rattle.std.specs.List.{flat_map}
 use Rattle.lsm_codec.specs.Words.{word_of}
 use Rattle.lsm_codec.specs.Keys.{Bytes}
 use Rattle.lsm_mem.specs.Paging.{Page}
-use Rattle.lsm_store.specs.Calls.{Reply, Number, Done, Value, Rows, Given, Handed, Refused}
+use Rattle.lsm_device.specs.declared.refusal.Refusal.TheVariants.{Io}
+use Rattle.lsm_store.specs.Calls.{Reply, Number, Done, Value, Rows, Given, Handed, Refused, Unread}
 use Rattle.lsm_store.specs.declared.stat.Stat.{Stat}
 use Rattle.lsm_check.specs.declared.report.Report.{Report}
 use Rattle.lsm_language.specs.Faults.{refusal_line}
@@ -85,6 +86,7 @@ reply_line counted (Rows page) = rows_line page
 reply_line counted (Given job) = job_line job
 reply_line counted (Handed input) = []
 reply_line counted (Refused refusal) = refusal_line refusal
+reply_line counted Unread = refusal_line Io
 
 -- what is told of a step
 abbrev pub told_line : Counted → LivesTold → List ℕ

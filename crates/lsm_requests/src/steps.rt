@@ -193,7 +193,7 @@ fn counted_in(call: &Call) -> Counted
     ensures { result ≡ counted_by (call_of call.now) }
 {
     match call {
-        Call::Commit(_) => Counted::Batch,
+        Call::Commit(_) | Call::CommitIf(_, _) => Counted::Batch,
         Call::Snapshot => Counted::Snapshot,
         _ => Counted::Room,
     }

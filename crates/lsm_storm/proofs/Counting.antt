@@ -1,7 +1,8 @@
 -- As many commits are answered with a number as there are batches more.
-use Rattle.std.proofs.Common.{◌≡◌, ℕ, ◌+◌, Bool, true, false, ◌&&◌, List, [], ◌∷◌, Option, Some, None, refl, ap, ◌∙◌, arith}
+use Rattle.std.proofs.Common.{◌≡◌, ℕ, ◌+◌, Bool, true, false, ◌&&◌, List, [], ◌∷◌, Option, Some, None, refl, ap, subst, ◌∙◌, arith}
 use Rattle.std.specs.Prelude.{IsTrue, is_some, nat_le, if◌then◌else◌}
 use Rattle.std.proofs.lemmas.List.{length-append}
+use Rattle.lsm_codec.specs.Guards.{Condition}
 use Rattle.lsm_codec.specs.Map.{Operation, apply}
 use Rattle.lsm_device.specs.declared.refusal.Refusal.{Refusal}
 use Rattle.lsm_device.specs.declared.refusal.Refusal.TheVariants.{Io}
@@ -9,13 +10,13 @@ use Rattle.lsm_jobs.specs.Slots.{Slot}
 use Rattle.lsm_levels.specs.Pick.{is_flush}
 use Rattle.lsm_store.specs.Backing.{StoreView}
 use Rattle.lsm_store.specs.Calls.{Call, Reply}
-use Rattle.lsm_store.specs.Calls.{Commit, Sync, SyncTo, Get, Scan, Snapshot, Release, Rotate, LogRoom, Number, Done, Value, Rows, Given, Handed, Refused}
-use Rattle.lsm_store.specs.Effects.{Use, use_of, after, reply_by}
+use Rattle.lsm_store.specs.Calls.{Commit, CommitIf, Sync, SyncTo, Get, Scan, Snapshot, Release, Rotate, LogRoom, Number, Done, Value, Rows, Given, Handed, Refused, Unread}
+use Rattle.lsm_store.specs.Effects.{Use, use_of, after, answer, reply_by}
 use Rattle.lsm_store.specs.Effects.{Untouched, Reads, Changes}
 use Rattle.lsm_store.specs.Machine.{Machine, Step, Called, Worked}
 use Rattle.lsm_store.specs.RecoveryPoints.{RecoveryPoints, batch_count, present_map, all_synced}
 use Rattle.lsm_store.specs.Refusals.{refusal}
-use Rattle.lsm_store.specs.Run.{Admits, AdmitsStep, after_fault, next, next_machine}
+use Rattle.lsm_store.specs.Run.{Admits, AdmitsStep, asks_page, asks_value, after_fault, next, next_machine}
 use Rattle.lsm_store.specs.State.{State}
 use Rattle.lsm_store.specs.Work.{Work, Take, Read, Ask, Accept, Write, Install, Drop}
 use Rattle.lsm_store.specs.WorkEffects.{work_use, state_after, installed}
@@ -43,6 +44,7 @@ all_stay points = omega arith
 -- a call that is no commit adds none
 after_other : (s : State) (call : Call) → is_commit (Called call) ≡ false → count_in (after s call) ≡ count_in s
 after_other s (Commit batch) other = absurd (cc other)
+after_other s (CommitIf guards batch) other = absurd (cc other)
 after_other s Sync other = all_stay s.points
 after_other s (SyncTo number) other = by (nat_le number s.points.synced)
   where
@@ -64,34 +66,56 @@ fault_stays s call Changes = refl
 next_other : (s : State) (call : Call) (reply : Reply) → is_commit (Called call) ≡ false → count_in (next s call reply) ≡ count_in s
 next_other s call (Refused Io) other = fault_stays s call (use_of s call)
 next_other s call (Refused e) other = refl
+next_other s call Unread other = refl
 next_other s call reply other = after_other s call other
 
 never : IsTrue false → ⊥
 never e = cc
 
+-- a call that adds a batch: it is answered with a number, and with nothing else
+record AddsOne (s : State) (call : Call) : Type 0 where
+  number : ℕ
+  answered : answer s call ≡ Number number
+  counted : count_in (after s call) ≡ 1 + count_in s
+  no_value : asks_value call ≡ false
+  no_page : asks_page call ≡ false
+
+commit_adds : (s : State) (batch : List Operation) → AddsOne s (Commit batch)
+commit_adds s batch = record {
+  number = batch_count s.points + 1;
+  answered = refl;
+  counted = omega (arith, length-append s.points.later (apply (present_map s.points) batch ∷ []));
+  no_value = refl;
+  no_page = refl;
+}
+
+commit_if_adds : (s : State) (guards : List Condition) (batch : List Operation) → AddsOne s (CommitIf guards batch)
+commit_if_adds s guards batch = record {
+  number = batch_count s.points + 1;
+  answered = refl;
+  counted = omega (arith, length-append s.points.later (apply (present_map s.points) batch ∷ []));
+  no_value = refl;
+  no_page = refl;
+}
+
+-- no such call is replied to so
+not_replied : (s : State) (call : Call) (n : ℕ) (reply : Reply) (o : Option Refusal) → answer s call ≡ Number n → ((e : Refusal) → reply ≡ Refused e → ⊥)
+    → (reply ≡ Number n → ⊥) → reply ≡ reply_by s call o → ⊥
+not_replied s call n reply None is no_refusal no_number e = no_number (e ∙ is)
+not_replied s call n reply (Some r) is no_refusal no_number e = no_refusal r e
+
 -- a commit adds one where it is answered with a number
-next_commit : (s : State) (batch : List Operation) (reply : Reply) (result : ℕ) → Admits s (Commit batch) reply
-    → count_in (next s (Commit batch) reply) ≡ (if is_number (told_in reply result) then 1 else 0) + count_in s
-next_commit s batch (Number n) result admits = omega (arith, length-append s.points.later (apply (present_map s.points) batch ∷ []))
-next_commit s batch Done result admits = absurd (by (refusal s (Commit batch)) admits)
-  where
-    by : (o : Option Refusal) → Done ≡ reply_by s (Commit batch) o → ⊥
-    by None e = cc
-    by (Some x) e = cc
-next_commit s batch (Value value) result admits = absurd (never admits.1)
-next_commit s batch (Rows page) result admits = absurd (never admits.1)
-next_commit s batch (Given job) result admits = absurd (by (refusal s (Commit batch)) admits)
-  where
-    by : (o : Option Refusal) → Given job ≡ reply_by s (Commit batch) o → ⊥
-    by None e = cc
-    by (Some x) e = cc
-next_commit s batch (Handed input) result admits = absurd (by (refusal s (Commit batch)) admits)
-  where
-    by : (o : Option Refusal) → Handed input ≡ reply_by s (Commit batch) o → ⊥
-    by None e = cc
-    by (Some x) e = cc
-next_commit s batch (Refused Io) result admits = fault_stays s (Commit batch) Changes ∙ none_more (count_in s)
-next_commit s batch (Refused e) result admits = none_more (count_in s)
+next_commit : (s : State) (call : Call) (reply : Reply) (result : ℕ) → AddsOne s call → Admits s call reply
+    → count_in (next s call reply) ≡ (if is_number (told_in reply result) then 1 else 0) + count_in s
+next_commit s call (Number n) result adds admits = adds.counted
+next_commit s call Done result adds admits = absurd (not_replied s call adds.number Done (refusal s call) adds.answered (λ e x. cc) (λ x. cc) admits)
+next_commit s call (Value value) result adds admits = absurd (never (subst IsTrue adds.no_value admits.1))
+next_commit s call (Rows page) result adds admits = absurd (never (subst IsTrue adds.no_page admits.1))
+next_commit s call (Given job) result adds admits = absurd (not_replied s call adds.number (Given job) (refusal s call) adds.answered (λ e x. cc) (λ x. cc) admits)
+next_commit s call (Handed input) result adds admits = absurd (not_replied s call adds.number (Handed input) (refusal s call) adds.answered (λ e x. cc) (λ x. cc) admits)
+next_commit s call (Refused Io) result adds admits = fault_stays s call (use_of s call) ∙ none_more (count_in s)
+next_commit s call (Refused e) result adds admits = none_more (count_in s)
+next_commit s call Unread result adds admits = none_more (count_in s)
 
 -- ---- pieces of work
 
@@ -122,7 +146,8 @@ next_work m piece reply = after_work m piece
 
 step_adds : (m : Machine) (step : Step) (reply : Reply) (result : ℕ) → AdmitsStep m step reply
     → count_in (next_machine m step reply).state ≡ (if is_commit step && is_number (told_in reply result) then 1 else 0) + count_in m.state
-step_adds m (Called (Commit batch)) reply result admits = next_commit m.state batch reply result admits
+step_adds m (Called (Commit batch)) reply result admits = next_commit m.state (Commit batch) reply result (commit_adds m.state batch) admits
+step_adds m (Called (CommitIf guards batch)) reply result admits = next_commit m.state (CommitIf guards batch) reply result (commit_if_adds m.state guards batch) admits
 step_adds m (Called call) reply result admits = next_other m.state call reply refl ∙ none_more (count_in m.state)
 step_adds m (Worked piece) reply result admits = next_work m piece reply ∙ none_more (count_in m.state)
 

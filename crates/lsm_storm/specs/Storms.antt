@@ -3,7 +3,7 @@ use Rattle.std.specs.Prelude.{◌≡◌, ℕ, ◌+◌, ◌&&◌, Bool, true, fal
 use Rattle.std.specs.FinMap as finite
 use Rattle.lsm_open.specs.CrashState.{formatted as empty_store}
 use Rattle.lsm_store.specs.Backing.{StoreView, IsBacked}
-use Rattle.lsm_store.specs.Calls.{Commit}
+use Rattle.lsm_store.specs.Calls.{Commit, CommitIf}
 use Rattle.lsm_store.specs.Crash.{reopened}
 use Rattle.lsm_store.specs.Machine.{Step, Called}
 use Rattle.lsm_store.specs.RecoveryPoints.{batch_count, present_map}
@@ -18,6 +18,7 @@ use Rattle.lsm_storm.specs.declared.counts.Counts.{Counts}
 
 abbrev pub is_commit : Step → Bool
 is_commit (Called (Commit batch)) = true
+is_commit (Called (CommitIf guards batch)) = true
 is_commit other = false
 
 -- whether an entry is a commit that was answered with a number

@@ -28,11 +28,14 @@ const ROWS: u64 = 64;
 /// The most pages that a whole scan takes.
 const PAGES: u32 = 65_536;
 
-// Whether an entry is a commit.
+// Whether an entry is a commit, under guards or without.
 fn is_commit(entry: &Entry) -> bool
     ensures { result ≡ is_commit entry.now.step }
 {
-    matches!(entry.step(), Step::Call(Call::Commit(_)))
+    matches!(
+        entry.step(),
+        Step::Call(Call::Commit(_) | Call::CommitIf(_, _))
+    )
 }
 
 // Whether an entry was answered with a number.
