@@ -1,16 +1,15 @@
 //! Batches under guards, which are added where the present map meets each of them.
 
-use crate::setup::{CACHE, Subject, formatted, open, opened, put};
-use linked_list_allocator::LocalHeap;
-use lsm_codec::{Batch, Guard};
+use crate::setup::{Subject, formatted, opened, put};
+use lsm_codec::Guard;
 use lsm_device::Refusal;
-use std::alloc::{Allocator, Global};
+use std::alloc::Global;
 use std::test::Fail;
 
 /// What a guard asks of a key: a value, or none.
 type Asked = (&'static [u8], Option<&'static [u8]>);
 
-fn guard<A: Allocator + Clone>(alloc: A, asked: Asked) -> Result<Guard<A>, Refusal> {
+fn guard(alloc: Global, asked: Asked) -> Result<Guard, Refusal> {
     match asked {
         (key, Some(value)) => Guard::holds(alloc, key, value),
         (key, None) => Guard::absent(alloc, key),
@@ -168,49 +167,5 @@ fn a_write_that_fails_stops_the_store(rt: HostRuntime) -> Result<(), Fail> {
         answers == [Err(Refusal::Io), stopped, stopped],
         "{answers:?}"
     );
-    Ok(())
-}
-
-// On a heap that has no more room for a batch: what is answered where a guard is false, and where it is true. None where the heap is
-// too small for the store, or has room for all.
-fn without_memory(
-    heap: &LocalHeap,
-    alloc: Global,
-) -> Result<Option<[Result<u64, Refusal>; 2]>, Fail> {
-    let Ok(mut store) = open(heap, formatted(alloc)?, CACHE) else {
-        return Ok(None);
-    };
-    let (Ok(batch), Ok(met), Ok(unmet)) = (
-        put(heap, b"a", &[3; 300]),
-        guard(heap, (b"b", None)),
-        guard(heap, (b"b", Some(b"1"))),
-    ) else {
-        return Ok(None);
-    };
-    for _ in 0..128 {
-        if store.commit(&batch) == Err(Refusal::NoMemory) {
-            return Ok(Some([
-                store.commit_if(&[unmet], &batch),
-                store.commit_if(&[met], &batch),
-            ]));
-        }
-    }
-    Ok(None)
-}
-
-#[test]
-fn a_guard_takes_no_memory(rt: HostRuntime) -> Result<(), Fail> {
-    let mut was_short = false;
-    for step in 0..40usize {
-        let heap = LocalHeap::new(rt.alloc(), 1_000 + step * 1_024)?;
-        if let Some(answers) = without_memory(&heap, rt.alloc())? {
-            assert!(rt;
-                answers == [Err(Refusal::GuardFailed(0)), Err(Refusal::NoMemory)],
-                "{answers:?}"
-            );
-            was_short = true;
-        }
-    }
-    assert!(rt; was_short);
     Ok(())
 }

@@ -178,9 +178,11 @@ impl<A: Allocator + Clone> Working<A> {
             Some(wanted) => Guard::holds(self.alloc.clone()?, &[key], &[wanted])?,
             None => Guard::absent(self.alloc.clone()?, &[key])?,
         };
+        let mut guards = Vec::new(self.alloc.clone()?);
+        guards.push(guard)?;
         let op = Op::put(self.alloc.clone()?, &[key], &[value])?;
         let batch = Batch::new(self.alloc.clone()?, op)?;
-        Ok(Answer::Number(self.store.commit_if(&[guard], &batch)?))
+        Ok(Answer::Number(self.store.commit_if(&guards, &batch)?))
     }
 
     fn fail(&mut self, n: u64) -> Result<Answer, Refusal> {
