@@ -1,14 +1,13 @@
 -- The calls of a client, one after another.
-use Rattle.std.proofs.Common.{◌≡◌, List, [], ◌∷◌, ◌++◌, ℕ, ap, sym, ◌∙◌, subst}
-use Rattle.lsm_codec.specs.Guards.{Condition}
+use Rattle.std.proofs.Common.{◌≡◌, List, [], ◌∷◌, ◌++◌, ℕ, ap, ◌∙◌, subst}
 use Rattle.lsm_codec.specs.Map.{Operation}
 use Rattle.lsm_store.specs.Calls.{Call, Reply}
-use Rattle.lsm_store.specs.Calls.{Commit, CommitIf, Sync, Number, Done, Value, Rows, Given, Handed, Refused, Unread, as_told}
+use Rattle.lsm_store.specs.Calls.{Commit, Sync, Number, Done, Value, Rows, Given, Handed, Refused, Unread, as_told}
 use Rattle.lsm_lives.specs.Asked.{Told, Replied}
 use Rattle.lsm_trail.specs.History.{Event, called}
 use Rattle.lsm_trail.specs.Knowledge.{Known}
 use Rattle.lsm_shared.specs.Clients.{MakesCall}
-use Rattle.shared_example.specs.Shares.{IsAnswer, Makes, HasRaised, HasStored}
+use Rattle.shared_example.specs.Shares.{IsAnswer, Makes, HasStored}
 
 -- what is told of a reply is an answer where that is one
 of_told : (reply : Reply) → IsAnswer (Replied (as_told reply)) → IsAnswer (Replied reply)
@@ -29,27 +28,6 @@ makes c d call told answer made = record {
   answered = of_told made.reply (subst IsAnswer made.told answer);
   machine = made.machine;
   mine = made.adds.mine;
-}
-
--- a batch under guards that was answered with a number was added
-numbered : (reply : Reply) (n : ℕ) → Replied (Number n) ≡ Replied (as_told reply) → reply ≡ Number n
-numbered (Number k) n is = let same : n ≡ k = cc in ap Number (sym same)
-numbered Done n is = absurd cc
-numbered (Value v) n is = absurd cc
-numbered (Rows page) n is = absurd cc
-numbered (Given job) n is = absurd cc
-numbered (Handed input) n is = absurd cc
-numbered (Refused e) n is = absurd cc
-numbered Unread n is = absurd cc
-
-pub raises : (c d : Known) (guards : List Condition) (batch : List Operation) (n : ℕ) → MakesCall c (CommitIf guards batch) (Replied (Number n)) d → HasRaised d
-raises c d guards batch n made = record {
-  before = c.mine;
-  guards = guards;
-  batch = batch;
-  number = n;
-  machine = made.machine;
-  mine = made.adds.mine ∙ (λ i. c.mine ++ called (sym made.adds.number i) (CommitIf guards batch) (numbered made.reply n made.told i) made.machine ∷ []);
 }
 
 -- a commit and a sync of a client that had made no call

@@ -48,15 +48,6 @@ pub record IsStored (client : ℕ) (batch : List Operation) (calls : List Event)
 abbrev pub HasStored : Known → List Operation → Known → Type 0
 HasStored old batch new = (new.number ≡ old.number) × IsStored old.number batch new.mine
 
--- the last entry of a client is a batch under guards, which was added
-pub record HasRaised (me : Known) : Type 0 where
-  pub before : List Event
-  pub guards : List Condition
-  pub batch : List Operation
-  pub number : ℕ
-  pub machine : Machine
-  pub mine : me.mine ≡ before ++ called me.number (CommitIf guards batch) (Number number) machine ∷ []
-
 -- a client went on, and made no call: whatever it entered are pieces of work
 pub record MakesNoCall (old new : Known) : Type 0 where
   pub number : new.number ≡ old.number

@@ -6,8 +6,6 @@ mod bases;
 #[cfg(test)]
 mod beginnings;
 #[cfg(test)]
-mod counting;
-#[cfg(test)]
 mod example;
 #[cfg(test)]
 mod faults;
