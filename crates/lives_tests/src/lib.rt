@@ -2,6 +2,8 @@
 #![tactic(auto)]
 
 #[cfg(test)]
+mod exploring;
+#[cfg(test)]
 mod growth;
 #[cfg(test)]
 mod living;

@@ -15,13 +15,19 @@
 #![tactic(auto)]
 
 mod calls;
+mod expected;
+mod exploring;
+mod judging;
 mod law;
 mod living;
 mod making;
+mod masks;
+mod plain;
 mod replaying;
 mod serving;
 
 pub use calls::{Call, Reply, Step, Work};
+pub use exploring::{Explored, explore};
 pub use law::{
     devices_hold_what_was_left, led_lives_go_on, steps_go_on, what_is_asked_is_replayed,
 };

@@ -1,5 +1,5 @@
 // Lives of a store on a device, each from an opening to a crash.
-ghost use Rattle.std.specs.Prelude.{◌≡◌, ◌≢◌, ◌≤◌, ◌+◌, ◌++◌, ℕ, List, [], map, length, IfErr, IfOk, MatchResult, IsSome, None, vec_capacity, vec_len};
+ghost use Rattle.std.specs.Prelude.{◌≡◌, ◌≢◌, ◌≤◌, ◌+◌, ◌++◌, ℕ, List, [], map, length, IfErr, IfOk, MatchResult, IsSome, IsTrue, None, vec_capacity, vec_len};
 ghost use Rattle.std.specs.List.{AllByRecursion};
 ghost use Rattle.lsm_codec.specs.Map.{Operation};
 ghost use Rattle.lsm_device.specs.Medium.{disk, crashed};
@@ -15,7 +15,7 @@ ghost use Rattle.lsm_store.specs.Lives.{IsAfter};
 
 use crate::calls::{Reply, Step};
 use crate::replaying::make_each;
-use lsm_device::{MemDevice, Refusal};
+use lsm_device::{Device, MemDevice, Refusal};
 use lsm_merge::Built;
 use lsm_store::Store;
 use std::alloc::{AllocError, Allocator, Global};
@@ -180,20 +180,21 @@ fn crash<B: Allocator>(device: MemDevice<B>, mask: &[bool]) -> MemDevice<B>
     device.crash(mask)
 }
 
-// A life until its crash.
-fn open_and_make<R: Threads + Sync, A: Allocator + Clone + Send + Sync, B: Allocator>(
+// A life until its crash, on a device that tells what it holds.
+pub(crate) fn open_and_make<R: Threads + Sync, A: Allocator + Clone + Send + Sync, D: Device>(
     rt: &R,
     alloc: &A,
-    device: MemDevice<B>,
+    device: D,
     steps: &[Step<A>],
     results: &mut Vec<Built<A>, A>,
     replies: &mut Vec<Reply<A>, A>,
-) -> MemDevice<B>
+) -> D
+    requires tells { IsTrue (D.medium device).lasting.tells }
     requires none_yet { replies.old.items ≡ [] }
     requires none_built { results.old.items ≡ [] }
     requires places { length steps.now ≤ vec_capacity results.old }
     requires room { length steps.now + 1 ≤ vec_capacity replies.old }
-    ensures led { IsLed (medium_in device) (map asked_of steps.now) (map told_of replies.new.items) (medium_in result) }
+    ensures led { IsLed (D.medium device) (map asked_of steps.now) (map told_of replies.new.items) (D.medium result) }
     ensures same_places { vec_capacity results.new ≡ vec_capacity results.old }
 {
     match open(alloc, device) {
@@ -210,12 +211,13 @@ fn open_and_make<R: Threads + Sync, A: Allocator + Clone + Send + Sync, B: Alloc
     }
 }
 
-// Opens the store of a device.
-fn open<A: Allocator + Clone, B: Allocator>(
+/// Opens the store of a device that tells what it holds.
+pub(crate) fn open<D: Device, A: Allocator + Clone>(
     alloc: &A,
-    device: MemDevice<B>,
-) -> Result<Store<MemDevice<B>, A>, (Refusal, MemDevice<B>)>
-    ensures { MatchResult result (λ s. BeginsOn (medium_in device) s) (λ e. FailsOn (medium_in device) e.0 (medium_in e.1)) }
+    device: D,
+) -> Result<Store<D, A>, (Refusal, D)>
+    requires tells { IsTrue (D.medium device).lasting.tells }
+    ensures { MatchResult result (λ s. BeginsOn (D.medium device) s) (λ e. FailsOn (D.medium device) e.0 (D.medium e.1)) }
 {
     match alloc.clone() {
         Ok(alloc) => Store::open(alloc, device, CACHE_BLOCKS),

@@ -1,0 +1,5 @@
+//! Tests of images.
+#![tactic(auto)]
+
+#[cfg(test)]
+mod tests;
