@@ -7,7 +7,8 @@ use Rattle.lsm_trail.specs.History.{Event, entries_by, calls_in, TrailView}
 use Rattle.lsm_trail.specs.Knowledge.{Known, known}
 use Rattle.lsm_shared.specs.Clients.{AgreesWith}
 use Rattle.lsm_shared.specs.Sessions.{IsEnded}
-use Rattle.shared_example.specs.Shares.{IsStored, HasStored, MakesNoCall, IsShared}
+use Rattle.lsm_worker.specs.Working.{MakesNoCall}
+use Rattle.shared_example.specs.Shares.{IsStored, HasStored, IsShared}
 
 -- the entries of a client that stored, in a trail that has just what it made
 stored_in : (b : Begin) (number : ℕ) (old new : Known) (batch : List Operation) (log : List Event) → old ≡ known b number [] [] → HasStored old batch new → entries_by new.number log ≡ new.mine → IsStored number batch (entries_by number log)

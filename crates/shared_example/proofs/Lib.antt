@@ -1,5 +1,4 @@
 pub mod Making
-pub mod AtWork
 pub mod Ending
 pub mod Staying
 pub mod Lasting

@@ -48,10 +48,19 @@ pub record IsStored (client : ℕ) (batch : List Operation) (calls : List Event)
 abbrev pub HasStored : Known → List Operation → Known → Type 0
 HasStored old batch new = (new.number ≡ old.number) × IsStored old.number batch new.mine
 
--- a client went on, and made no call: whatever it entered are pieces of work
-pub record MakesNoCall (old new : Known) : Type 0 where
-  pub number : new.number ≡ old.number
-  pub calls : calls_in new.mine ≡ calls_in old.mine
+-- what was told is the number of a batch
+abbrev pub IsNumbered : Told → Type 0
+IsNumbered (Replied (Number n)) = Unit {0}
+IsNumbered other = ⊥
+
+-- the last entry of a client is a batch under guards, which was added
+pub record HasRaised (me : Known) : Type 0 where
+  pub before : List Event
+  pub guards : List Condition
+  pub batch : List Operation
+  pub number : ℕ
+  pub machine : Machine
+  pub mine : me.mine ≡ before ++ called me.number (CommitIf guards batch) (Number number) machine ∷ []
 
 -- A session has ended, and the trail has just these calls: each of two clients committed its batch and synced, and both were
 -- answered, and whoever else there was made none.

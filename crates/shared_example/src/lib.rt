@@ -2,11 +2,15 @@
 #![tactic(auto)]
 
 mod client;
+mod counting;
+mod rounds;
 mod session;
 mod sharing;
 mod worker;
 mod working;
 
+pub use counting::raise;
+pub use rounds::put_in_rounds;
 pub use session::in_two_threads;
 pub use sharing::{share, share_beside_a_worker};
 pub use working::in_three_threads;

@@ -2,7 +2,8 @@
 ghost use Rattle.std.specs.Prelude.{◌≡◌, [], ◌∷◌, IfOk, IfSome};
 ghost use Rattle.lsm_trail.specs.Knowledge.{known};
 ghost use Rattle.lsm_shared.specs.Clients.{newcomers};
-ghost use Rattle.shared_example.specs.Shares.{HasStored, MakesNoCall, IsShared};
+ghost use Rattle.lsm_worker.specs.Working.{MakesNoCall};
+ghost use Rattle.shared_example.specs.Shares.{HasStored, IsShared};
 
 use crate::session::store_both;
 use crate::worker::work;

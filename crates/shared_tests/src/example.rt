@@ -5,7 +5,7 @@ use crate::turns::{Ask, Asked, Told, play, put};
 use lsm_device::{MemDevice, Refusal};
 use lsm_shared::prepare;
 use lsm_store::Store;
-use shared_example::{in_three_threads, share, share_beside_a_worker};
+use shared_example::{in_three_threads, put_in_rounds, share, share_beside_a_worker};
 use std::alloc::Global;
 use std::marker::Brand;
 use std::process::Abort;
@@ -70,4 +70,19 @@ fn a_worker_flushes_beside_two_clients(rt: HostRuntime) {
     // All three batches are synced, and the first one stands in a table.
     assert!(rt; store.synced_count() == 3);
     assert!(rt; matches!(store.stat(), Ok(stat) if stat.tables == 1 && !stat.waiting));
+}
+
+// Two clients with 150 keys each, in rounds of so many entries: the keys of a store, and its rounds.
+fn rounds_of<R: Threads + Wait + Abort + Sync>(rt: &R, alloc: Global, entries: u32) -> (u64, u32) {
+    let played = put_in_rounds(rt, alloc, small(rt, alloc), 150, entries);
+    let (store, rounds) = played.expect(rt, "rounds");
+    (store.batch_count(), rounds)
+}
+
+// A trail of 40 entries takes 300 puts in eight rounds, and a few more where turns of both fall into one.
+#[test]
+fn a_service_goes_on_by_rounds(rt: HostRuntime) {
+    let (batches, rounds) = rounds_of(&rt, rt.alloc(), 40);
+    assert!(rt; batches == 300);
+    assert!(rt; rounds >= 8 && rounds <= 300);
 }

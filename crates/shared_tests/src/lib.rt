@@ -6,6 +6,8 @@ mod bases;
 #[cfg(test)]
 mod beginnings;
 #[cfg(test)]
+mod counting;
+#[cfg(test)]
 mod example;
 #[cfg(test)]
 mod faults;

@@ -1,4 +1,4 @@
-use Rattle.shared_example.specs.Shares.{MakesNoCall}
+use Rattle.lsm_worker.specs.Working.{MakesNoCall}
 use Rattle.shared_example.proofs.worker.work.Given as goal
 
 abbrev pub invariant-loop : goal.invariant-loop

@@ -1,6 +1,7 @@
 -- What turns of a worker, and results that it brings, add to its entries.
 use Rattle.std.proofs.Common.{◌≡◌, ℕ, ◌+◌, List, [], ◌∷◌, ◌++◌, refl, ap, ◌∙◌, arith}
 use Rattle.std.specs.Prelude.{if◌then◌else◌}
+use Rattle.lsm_device.specs.declared.refusal.Refusal.{Refusal}
 use Rattle.lsm_device.specs.declared.refusal.Refusal.TheVariants.{NoSpace}
 use Rattle.lsm_merge.specs.Results.{MergeResult}
 use Rattle.lsm_store.specs.Calls.{Reply}
@@ -11,10 +12,10 @@ use Rattle.lsm_lives.specs.Asked.{Told}
 use Rattle.lsm_trail.specs.History.{Event, steps_of, is_call, calls_in}
 use Rattle.lsm_trail.specs.Knowledge.{Known, Sees}
 use Rattle.lsm_shared.specs.Clients.{Adds}
-use Rattle.lsm_shared.specs.Turns.{as_steps, pieces_among, IsTurn, TakesTurn, IsBrought, Brings}
+use Rattle.lsm_shared.specs.Turns.{as_steps, pieces_among, IsTurn, TakesTurn, IsNoTurn, IsBrought, Brings, IsLeftOfBringing, IsNotBrought}
 use Rattle.lsm_shared.specs.declared.turn.Turn.{Turn}
 use Rattle.lsm_shared.specs.declared.turn.Turn.TheVariants as turn
-use Rattle.shared_example.specs.Shares.{MakesNoCall}
+use Rattle.lsm_worker.specs.Working.{MakesNoCall}
 
 -- how many calls are among steps
 abbrev calls_among : List Step → ℕ
@@ -43,6 +44,14 @@ adds_none c d others entries adds none = record {
 of_pieces : (entries : List Event) (pieces : List Work) → steps_of entries ≡ as_steps pieces → calls_in entries ≡ 0
 of_pieces entries pieces are = of_steps entries ∙ ap calls_among are ∙ of_work pieces
 
+-- the first entries of a turn
+of_steps_more : (xs ys : List Step) → calls_among (xs ++ ys) ≡ calls_among xs + calls_among ys
+of_steps_more [] ys = omega arith
+of_steps_more (x ∷ xs) ys = omega (arith, of_steps_more xs ys)
+
+of_first : (entries : List Event) (more : List Step) (pieces : List Work) → steps_of entries ++ more ≡ as_steps pieces → calls_in entries ≡ 0
+of_first entries more pieces are = omega (arith, of_steps entries, of_steps_more (steps_of entries) more, ap calls_among are, of_work pieces)
+
 of_turn : {A : Type 0} (m : Machine) (places : List ℕ) (number : ℕ) (turn : Turn A) (entries : List Event) → IsTurn m places number turn entries → calls_in entries ≡ 0
 of_turn m places number turn.Idle entries is = of_pieces entries (pieces_among m places) is.steps
 of_turn m places number (turn.Did reply) entries (passed, work, answer, behind, told, are, is) = of_pieces entries (pieces_among m places) is.steps
@@ -52,6 +61,10 @@ of_turn m places number (turn.Merge job result input) entries (passed, behind, a
 pub turns : {A : Type 0} (c d : Known) (turn : Turn A) → TakesTurn c turn d → MakesNoCall c d
 turns c d turn takes = adds_none c d takes.others takes.entries takes.adds (of_turn _ _ _ turn takes.entries takes.takes)
 
+-- a turn that ended before its last piece
+pub no_turns : (c d : Known) (e : Refusal) → IsNoTurn c e d → MakesNoCall c d
+no_turns c d e takes = adds_none c d takes.others takes.entries takes.adds (of_first takes.entries _ _ takes.stops.steps)
+
 of_result : (number job result : ℕ) (made : MergeResult) (reply : Reply) (entries : List Event) → IsBrought number job result made reply entries → calls_in entries ≡ 0
 of_result number job result made (Refused NoSpace) entries brought = ap calls_in brought.3
 of_result number job result made (Refused e) entries brought = ap calls_in brought.1
@@ -60,6 +73,15 @@ of_result number job result made reply entries brought = ap calls_in brought.1
 -- a result that was brought
 pub brings : (c d : Known) (job result : ℕ) (made : MergeResult) (told : Told) → Brings c job result made told d → MakesNoCall c d
 brings c d job result made told brought = adds_none c d brought.others brought.entries brought.adds (of_result _ _ _ _ brought.reply brought.entries brought.brought)
+
+of_left : (number job result : ℕ) (made : MergeResult) (entries : List Event) (left : Work) → IsLeftOfBringing number job result made entries left → calls_in entries ≡ 0
+of_left number job result made [] left is = refl
+of_left number job result made (e ∷ []) left is = ap (λ (e : Event). calls_in (e ∷ [])) is.1.1
+of_left number job result made (e ∷ f ∷ more) left is = absurd is
+
+-- a result that could not be brought wholly
+pub brings_not : (c d : Known) (job result : ℕ) (made : MergeResult) (e : Refusal) → IsNotBrought c job result made e d → MakesNoCall c d
+brings_not c d job result made e brought = adds_none c d brought.others brought.entries brought.adds (of_left _ _ _ _ brought.entries brought.left brought.behind)
 
 -- a look at the history
 pub looks : (c d : Known) → Sees c d → MakesNoCall c d

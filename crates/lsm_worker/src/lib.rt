@@ -1,0 +1,23 @@
+//! A client of a shared store that works on its jobs: flushes and compactions are taken, built and installed while other clients
+//! make their calls.
+//!
+//! | call | what it does |
+//! |---|---|
+//! | [`take_turn`] | one turn, and what it hands out is built and brought |
+//! | [`work`] | such turns until nothing is left to do |
+//!
+//! A worker makes no call of the store: whatever it enters in the trail are pieces of work. Where it is idle it has seen a
+//! history after which nothing is left for it to do; others go on, so it is asked again later.
+//!
+//! ```
+//! while !stopping() {
+//!     if work(rt, alloc, &shared, &mut me, 4, 1_000)? {
+//!         pause();
+//!     }
+//! }
+//! ```
+#![tactic(auto)]
+
+mod working;
+
+pub use working::{take_turn, work};
