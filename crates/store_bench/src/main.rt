@@ -1,31 +1,56 @@
-//! How fast a store is where its user stands: each workload beside the raw system calls that it must make.
+//! How fast a store is where its user stands: each workload beside the raw system calls that it must make. And how fast single
+//! layers are: memory, merges and openings. The words say what is measured:
+//!
+//! - `FILE RUNS`: all workloads on the file of a path, so many times;
+//! - `memory`, `merges`, or `openings BATCHES TIMES`: a layer.
+//!
+//! With no words all layers are measured, and the workloads are done in small, in memory, where their answers alone are looked at.
 #![tactic(auto)]
 
 mod clients;
 mod clock;
 mod commits;
+mod devices;
 mod fixed;
 mod full;
 mod jobs;
 mod keys;
 mod measuring;
+mod memtable;
+mod merging;
+mod openings;
 mod plot;
 mod raw;
 mod reads;
+mod reopening;
 mod report;
 mod sizes;
 mod subject;
+mod tables;
 mod workloads;
 
 use crate::fixed::check;
 use crate::full::compare;
+use crate::memtable::time_memory;
+use crate::merging::time_merges;
+use crate::reopening::time_openings;
 use anyhow::{Error, Result};
 use lsm_device::Refusal;
 use std::env;
+use std::fs::{File, Files};
 use std::process::ExitCode;
+use std::rt::Clock;
+use std::sync::Wait;
+use std::thread::Threads;
 
-/// How many runs are made, where no argument says so.
+/// How many runs on a file are made, where no word says so.
 const RUNS: u32 = 5;
+
+/// How many batches are in the log of a device that is opened, where no word says so.
+const BATCHES: u32 = 200;
+
+/// How often a device is opened, where no word says so.
+const OPENINGS: u32 = 5;
 
 /// The number that a word spells, or another where there is no word.
 fn number(word: Option<String>, default: u32) -> Result<u32> {
@@ -40,14 +65,37 @@ pub(crate) fn told(refusal: Refusal) -> Error {
     Error::msg(refusal.name())
 }
 
+/// Measures what a word says, a layer or the file of a path. It tells whether all answers were right.
+fn measure<R: Files<File = File> + Clock + Threads + Wait + Print + Eprint + AllocGlobal + Sync>(
+    rt: &R,
+    what: &str,
+    first: Option<String>,
+    second: Option<String>,
+) -> Result<bool> {
+    match what {
+        "memory" => time_memory(rt)?,
+        "merges" => time_merges(rt)?,
+        "openings" => time_openings(rt, number(first, BATCHES)?, number(second, OPENINGS)?)?,
+        path => return compare(rt, path, number(first, RUNS)?),
+    }
+    Ok(true)
+}
+
+/// Measures all layers, and does the workloads in small. It tells whether all answers were right.
+fn check_all<R: Clock + Threads + Wait + Print + Eprint + AllocGlobal + Sync>(
+    rt: &R,
+) -> Result<bool> {
+    time_memory(rt)?;
+    time_merges(rt)?;
+    time_openings(rt, BATCHES, OPENINGS)?;
+    check(rt)
+}
+
 fn main(rt: HostRuntime) -> Result<ExitCode> {
     let mut words = env::args(&rt)?.skip(1);
     let right = match words.next() {
-        Some(path) => {
-            let runs = number(words.next(), RUNS)?;
-            compare(&rt, &path, runs)?
-        }
-        None => check(&rt)?,
+        Some(what) => measure(&rt, &what, words.next(), words.next())?,
+        None => check_all(&rt)?,
     };
     if right {
         return Ok(ExitCode::SUCCESS);

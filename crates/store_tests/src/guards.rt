@@ -150,22 +150,3 @@ fn a_full_log_refuses_before_a_guard_is_asked(rt: HostRuntime) -> Result<(), Fai
     );
     Ok(())
 }
-
-#[test]
-fn a_write_that_fails_stops_the_store(rt: HostRuntime) -> Result<(), Fail> {
-    let alloc = rt.alloc();
-    let mut store = opened(alloc, formatted(alloc)?)?;
-    let batch = put(alloc, b"b", b"1")?;
-    store.fail(0, false);
-    let answers = [
-        store.commit_if(&guards(alloc, &[NONE_YET])?, &batch),
-        store.commit_if(&guards(alloc, &[NONE_YET])?, &batch),
-        store.commit_if(&many(alloc, 17)?, &batch),
-    ];
-    let stopped = Err(Refusal::Stopped);
-    assert!(rt;
-        answers == [Err(Refusal::Io), stopped, stopped],
-        "{answers:?}"
-    );
-    Ok(())
-}

@@ -4,8 +4,11 @@ use lsm_codec::{Batch, Guard, Op};
 use lsm_device::{MemDevice, Refusal};
 use lsm_open::format;
 use lsm_store::{At, Page, Store};
+use lsm_upkeep::settle;
+use lsm_walk::Walk;
 use std::alloc::{Allocator, Global};
 use std::test::Fail;
+use std::thread::Threads;
 
 pub const CACHE: u32 = 256;
 
@@ -88,6 +91,17 @@ impl<A: Allocator + Clone> Subject<A> {
     /// The device after a crash that keeps these pending writes.
     pub fn crash(self, keep: &[bool]) -> MemDevice {
         self.store.into_device().crash(keep)
+    }
+}
+
+impl Subject {
+    pub fn settle<R: Threads + Sync>(&mut self, rt: &R, alloc: Global) {
+        settle(rt, alloc, &mut self.store);
+    }
+
+    /// The next page of a walk.
+    pub fn next_page(&mut self, alloc: Global, walk: &mut Walk) -> Result<Option<Page>, Refusal> {
+        walk.next_page(alloc, &mut self.store)
     }
 }
 

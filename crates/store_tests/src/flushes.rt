@@ -151,7 +151,19 @@ fn memory_and_filters_spare_reads(rt: HostRuntime) {
     }
 }
 
-/// Each of the three log regions was closed by a crash, with one batch.
+/// A store each of whose three log regions was closed by a crash, with one batch.
+pub(crate) fn with_closed_logs<R: Threads + Sync + Abort>(rt: &R, alloc: Global) -> Working {
+    let mut store = begun(rt, alloc);
+    for n in 1..=3_u8 {
+        let number = Answer::Number(n.into());
+        store.play(rt, &[(Piece::Put(0x60 | n, 0x30 | n), number)]);
+        store.play(rt, &[(Piece::Sync, Answer::Done)]);
+        store = reopened(rt, alloc, store);
+    }
+    store
+}
+
+/// Then the fourth life begins.
 const FOURTH_LIFE: [Line; 8] = [
     (Piece::Put(0x64, 0x34), Answer::Refused(Refusal::LogFull)),
     (Piece::Room, Answer::Number(0)),
@@ -165,13 +177,7 @@ const FOURTH_LIFE: [Line; 8] = [
 
 #[test]
 fn a_flush_makes_room_in_the_logs(rt: HostRuntime) {
-    let mut store = begun(&rt, rt.alloc());
-    for n in 1..=3_u8 {
-        let number = Answer::Number(n.into());
-        store.play(&rt, &[(Piece::Put(0x60 | n, 0x30 | n), number)]);
-        store.play(&rt, &[(Piece::Sync, Answer::Done)]);
-        store = reopened(&rt, rt.alloc(), store);
-    }
+    let mut store = with_closed_logs(&rt, rt.alloc());
     store.play(&rt, &FOURTH_LIFE);
     assert!(rt; store.has_just(&rt, 4));
 }

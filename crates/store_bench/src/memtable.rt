@@ -1,14 +1,16 @@
-//! How long insert, get and range take on many keys, and on many versions of one key.
-#![tactic(auto)]
+//! The layer of memory: how long insert, get and range take on many keys, and on many versions of one key.
 
 ghost use Rattle.std.specs.Prelude.{◌≡◌};
 
+use crate::clock::{now, since};
+use crate::told;
+use anyhow::Result;
 use lsm_codec::{Batch, Op};
 use lsm_device::Refusal;
 use lsm_mem::Mem;
 use std::alloc::{AllocError, Global};
 use std::marker::Model;
-use std::time::Instant;
+use std::rt::Clock;
 
 /// A table that numbers its batches.
 #[derive(Drop)]
@@ -185,17 +187,25 @@ fn done(alloc: Global, table: &mut Table, work: Work) -> Result<u64, Refusal> {
     }
 }
 
-fn main(rt: HostRuntime) -> anyhow::Result<()> {
+/// Does a work. It gives how many keys or rows were found, and the microseconds.
+fn timed<R: Clock>(
+    rt: &R,
+    alloc: Global,
+    table: &mut Table,
+    work: Work,
+) -> Result<(u64, u64), Refusal> {
+    let start = now(rt)?;
+    let found = done(alloc, table, work)?;
+    Ok((found, since(rt, start)? / 1_000))
+}
+
+/// Does each work, and prints how long it took.
+pub(crate) fn time_memory<R: Clock + Print + Eprint + AllocGlobal>(rt: &R) -> Result<()> {
     let mut table = Table::new(rt.alloc())?;
     for (what, work) in WORKS {
-        let start = Instant::now(&rt)?;
-        let Ok(found) = done(rt.alloc(), &mut table, work) else {
-            println!(rt; "refused")?;
-            return Ok(());
-        };
-        let time = start.elapsed(&rt)?.as_micros();
+        let (found, time) = timed(rt, rt.alloc(), &mut table, work).map_err(told)?;
         eprintln!(rt; "{what}: {time} us, found {found}")?;
     }
-    println!(rt; "ok")?;
+    println!(rt; "memory: ok")?;
     Ok(())
 }

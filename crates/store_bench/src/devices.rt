@@ -1,4 +1,5 @@
 //! Devices with batches in their log.
+
 use lsm_codec::{Batch, Op};
 use lsm_device::{Device, MemDevice, Refusal};
 use lsm_log::Log;

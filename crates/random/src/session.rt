@@ -1,6 +1,6 @@
 //! An open store, on which operations are done at random, each beside a plain map.
 
-use crate::agreeing::{Asked, gets, gets_all, scans};
+use crate::answers::{Asked, gets, gets_all, scans};
 use crate::changes::Changes;
 use crate::draws::Draws;
 use crate::jobs::Jobs;

@@ -4,7 +4,9 @@ use lsm_codec::{Batch, Guard, Op};
 use lsm_device::{MemDevice, Refusal};
 use lsm_merge::{Built, build};
 use lsm_open::format;
+use lsm_policy::Policy;
 use lsm_store::{At, Choice, Page, Piece as NextPiece, Stat, Store, TakenJob};
+use lsm_upkeep::{compact, compact_all, has_room, keep_up, settle};
 use std::alloc::{Allocator, Global};
 use std::process::Abort;
 use std::thread::Threads;
@@ -36,6 +38,8 @@ pub(crate) enum Piece {
     /// What the slot at a place waits for.
     Next(usize),
     Take,
+    /// Takes what the policy advises.
+    TakeAdvised,
     /// Takes the oldest run of level 0.
     TakeRun,
     /// Takes the tables of a level from 1 to 3 from the first to the last, if it has several.
@@ -99,14 +103,27 @@ impl<A: Allocator> Drop for Working<A> {
     }
 }
 
-/// A formatted device.
-pub(crate) fn formatted<R: Abort, A: Allocator + Clone>(rt: &R, alloc: &A) -> MemDevice<A> {
+/// A formatted device, with log regions of so many sectors.
+pub(crate) fn formatted_with<R: Abort, A: Allocator + Clone>(
+    rt: &R,
+    alloc: &A,
+    log_sectors: u16,
+) -> MemDevice<A> {
     let own = alloc.clone().expect(rt, "an allocator");
     let device = MemDevice::new(own, SECTORS).expect(rt, "a device");
-    match format(alloc.clone().expect(rt, "an allocator"), device, 128) {
+    match format(
+        alloc.clone().expect(rt, "an allocator"),
+        device,
+        log_sectors,
+    ) {
         Ok(device) => device,
         Err((refusal, _)) => rt.panic(refusal.name()),
     }
+}
+
+/// A formatted device, with log regions of 128 sectors.
+pub(crate) fn formatted<R: Abort, A: Allocator + Clone>(rt: &R, alloc: &A) -> MemDevice<A> {
+    formatted_with(rt, alloc, 128)
 }
 
 /// The store on a formatted device.
@@ -148,6 +165,15 @@ fn told_job(taken: Option<TakenJob>) -> Answer {
         Some(job) => Answer::Taken(job.number, job.level),
         None => Answer::NoJob,
     }
+}
+
+/// What the policy advises.
+fn advised<A: Allocator + Clone>(
+    store: &Store<MemDevice<A>, A>,
+) -> Result<Option<Choice>, Refusal> {
+    let free_blocks = store.stat()?.free_blocks;
+    let policy = Policy::new();
+    Ok(policy.next_choice(store.levels(), free_blocks, store.jobs()))
 }
 
 impl<A: Allocator + Clone> Working<A> {
@@ -214,6 +240,13 @@ impl<A: Allocator + Clone> Working<A> {
         }
     }
 
+    fn take_advised(&mut self) -> Result<Answer, Refusal> {
+        match advised(&self.store)? {
+            Some(choice) => Ok(told_job(self.store.job_take_of(choice)?)),
+            None => Ok(Answer::NoJob),
+        }
+    }
+
     fn take_several(&mut self, level: usize) -> Result<Answer, Refusal> {
         let Some(run) = self.store.levels().deeper().get(level.wrapping_sub(1)) else {
             return Ok(Answer::NoJob);
@@ -239,6 +272,16 @@ impl<A: Allocator + Clone> Working<A> {
 
     pub(crate) fn batch_count(&self) -> u64 {
         self.store.batch_count()
+    }
+
+    /// How many runs level 0 has, and how many tables each of levels 1 to 4.
+    pub(crate) fn shape(&self) -> [usize; 5] {
+        let levels = self.store.levels();
+        let mut shape = [levels.runs().len(), 0, 0, 0, 0];
+        for (count, run) in shape.iter_mut().skip(1).zip(levels.deeper()) {
+            *count = run.tables().len();
+        }
+        shape
     }
 
     /// Sets the fuse of the device.
@@ -299,6 +342,7 @@ impl<A: Allocator + Clone + Send + Sync> Working<A> {
             Piece::Stat => Ok(Answer::Numbers(self.store.stat()?)),
             Piece::Next(place) => Ok(Answer::Waits(self.store.piece_at(place))),
             Piece::Take => Ok(told_job(self.store.job_take()?)),
+            Piece::TakeAdvised => self.take_advised(),
             Piece::TakeRun => Ok(told_job(self.store.job_take_of(Choice::OldestRun)?)),
             Piece::TakeSeveral(level) => self.take_several(level),
             Piece::Read(job) => Ok(Answer::Left(self.store.job_read(job)?)),
@@ -350,5 +394,27 @@ impl<A: Allocator + Clone + Send + Sync> Working<A> {
             }
         }
         self.store.batch_count() == batches
+    }
+}
+
+impl Working {
+    pub(crate) fn settle<R: Threads + Sync>(&mut self, rt: &R) {
+        settle(rt, self.alloc, &mut self.store);
+    }
+
+    pub(crate) fn compact<R: Threads + Sync>(&mut self, rt: &R, policy: &Policy) {
+        compact(rt, self.alloc, &mut self.store, policy);
+    }
+
+    pub(crate) fn compact_all<R: Threads + Sync>(&mut self, rt: &R) -> bool {
+        compact_all(rt, self.alloc, &mut self.store)
+    }
+
+    pub(crate) fn keep_up<R: Threads + Sync>(&mut self, rt: &R, policy: &Policy) {
+        keep_up(rt, self.alloc, &mut self.store, policy);
+    }
+
+    pub(crate) fn has_room(&self, policy: &Policy, beside: u32) -> bool {
+        has_room(&self.store, policy, beside)
     }
 }

@@ -1,23 +1,19 @@
 //! Openings, and the time that they take.
+
+use crate::clock::{now, since};
 use crate::devices::add_batches;
-use anyhow::{Error, Result};
 use lsm_device::{MemDevice, Refusal};
 use lsm_open::{Recovered, recover};
 use std::alloc::Global;
-use std::time::Instant;
+use std::rt::Clock;
 
 /// What an opening found, and the nanoseconds that it took.
 #[derive(Drop)]
-pub(crate) struct Measured {
+pub(crate) struct Opening {
     pub(crate) device: MemDevice,
     pub(crate) batches: u64,
     pub(crate) tables: usize,
-    pub(crate) time: u128,
-}
-
-/// What is told of a refusal.
-pub(crate) fn told(refusal: Refusal) -> Error {
-    Error::msg(refusal.name())
+    pub(crate) time: u64,
 }
 
 fn parts_on(alloc: Global, device: MemDevice) -> Result<Recovered<MemDevice>, Refusal> {
@@ -39,11 +35,15 @@ pub(crate) fn with_batches(
 }
 
 /// Opens a device. What the opening keeps in memory is let go once its time is taken.
-pub(crate) fn opened(rt: &HostRuntime, device: MemDevice) -> Result<Measured> {
-    let start = Instant::now(rt)?;
-    let recovered = parts_on(rt.alloc(), device).map_err(told)?;
-    let time = start.elapsed(rt)?.as_nanos();
-    Ok(Measured {
+pub(crate) fn opened<R: Clock>(
+    rt: &R,
+    alloc: Global,
+    device: MemDevice,
+) -> Result<Opening, Refusal> {
+    let start = now(rt)?;
+    let recovered = parts_on(alloc, device)?;
+    let time = since(rt, start)?;
+    Ok(Opening {
         device: recovered.device,
         batches: recovered.count,
         tables: recovered.records.len(),

@@ -1,4 +1,5 @@
 //! Devices whose root names tables.
+
 use crate::devices::{LOG_SECTORS, SECTORS, VALUE, formatted, key_of};
 use lsm_codec::{Entry, FormatVersion, Manifest, Superblock, TableRecord};
 use lsm_device::{Device, MemDevice, Refusal};

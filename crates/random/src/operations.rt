@@ -1,33 +1,11 @@
-//! Random operations on a store in memory, with pieces of work on jobs between them, whose answers agree with a plain map's.
-#![tactic(auto)]
-
-mod agreeing;
-mod changes;
-mod draws;
-mod jobs;
-mod plain;
-mod session;
-mod subject;
+//! Operations on a store at random, with pieces of work on jobs between them, whose answers agree with a plain map's.
 
 use crate::session::{Course, Session, Trouble};
 use crate::subject::formatted;
 use anyhow::Result;
 use lsm_device::MemDevice;
 use std::alloc::Global;
-use std::env;
-use std::process::ExitCode;
 use std::thread::Threads;
-
-/// How many operations are done, where no argument says so.
-const OPERATIONS: u64 = 200_000;
-
-/// The number that a word spells, or another where there is no word.
-fn number(word: Option<String>, default: u64) -> Result<u64> {
-    match word {
-        Some(word) => Ok(word.parse::<u64>()?),
-        None => Ok(default),
-    }
-}
 
 /// Opens the store on a device, does the operations of these numbers, and gives the device back.
 fn stage<R: Threads + Sync>(
@@ -69,25 +47,26 @@ fn told(trouble: Trouble) -> &'static str {
     }
 }
 
-fn main(rt: HostRuntime) -> Result<ExitCode> {
-    let mut words = env::args(&rt)?.skip(1);
-    let operations = number(words.next(), OPERATIONS)?;
-    let alloc = rt.alloc();
-    let mut course = Course::new(alloc)?;
-    match run(&rt, alloc, &mut course, operations) {
+/// Does so many operations, and prints whether all answers agreed, which it also tells.
+pub(crate) fn work<R: Threads + Print + Eprint + AllocGlobal + Sync>(
+    rt: &R,
+    operations: u64,
+) -> Result<bool> {
+    let mut course = Course::new(rt.alloc())?;
+    match run(rt, rt.alloc(), &mut course, operations) {
         Ok(()) => {
             let installs = course.installs;
             eprintln!(rt; "{installs} installs")?;
             let among = if installs > 0 { "among" } else { "without" };
             println!(rt; "agreed on {operations} operations {among} installs")?;
-            Ok(ExitCode::SUCCESS)
+            Ok(true)
         }
         Err(trouble) => {
             let operation = course.operation;
             println!(rt; "operation {operation} disagreed")?;
             let told = told(trouble);
             eprintln!(rt; "{told}")?;
-            Ok(ExitCode::FAILURE)
+            Ok(false)
         }
     }
 }

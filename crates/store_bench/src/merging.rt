@@ -1,14 +1,16 @@
-//! How many entries a second a merge takes.
-#![tactic(auto)]
+//! The layer of merges: how many entries a second one takes, in one part and in several.
 
+use crate::clock::{now, since};
+use crate::told;
+use anyhow::Result;
 use lsm_codec::Entry;
 use lsm_device::Refusal;
 use lsm_merge::{Input, build};
 use merge_tests::input::{entry, input_of};
 use std::alloc::Global;
+use std::rt::Clock;
 use std::sync::Arc;
 use std::thread::Threads;
-use std::time::Instant;
 
 /// How many entries a run has.
 const ENTRIES: u32 = 50_000;
@@ -41,33 +43,33 @@ fn input(alloc: Global) -> Result<Input, Refusal> {
     input_of(runs, cuts, true).ok_or(Refusal::BadTable)
 }
 
-/// The number of images of a merge in so many parts.
-fn merged<R: Threads + Sync>(
+/// The number of images of a merge in so many parts, and the nanoseconds.
+fn merged<R: Threads + Clock + Sync>(
     rt: &R,
     alloc: Global,
     input: &Arc<Input, Global>,
     parts: u8,
-) -> Result<usize, Refusal> {
+) -> Result<(usize, u64), Refusal> {
+    let start = now(rt)?;
     let built = build(rt, alloc, input.clone()?, parts)?;
-    Ok(built.images().len())
+    Ok((built.images().len(), since(rt, start)?))
 }
 
-fn main(rt: HostRuntime) -> anyhow::Result<()> {
-    let Ok(input) = input(rt.alloc()) else {
-        println!(rt; "refused")?;
-        return Ok(());
-    };
-    let input = Arc::new(rt.alloc(), input)?;
+/// How many entries a second are merged where all of them take so many nanoseconds.
+fn rate(nanos: u64) -> u64 {
+    u64::from(ENTRIES).wrapping_mul(4_000_000_000) / nanos.max(1)
+}
+
+/// Merges in one part, in two and in four, and prints how fast.
+pub(crate) fn time_merges<R: Threads + Clock + Print + Eprint + AllocGlobal + Sync>(
+    rt: &R,
+) -> Result<()> {
+    let input = Arc::new(rt.alloc(), input(rt.alloc()).map_err(told)?)?;
     for parts in [1, 2, 4] {
-        let start = Instant::now(&rt)?;
-        let Ok(images) = merged(&rt, rt.alloc(), &input, parts) else {
-            println!(rt; "refused")?;
-            return Ok(());
-        };
-        let time = start.elapsed(&rt)?.as_millis().max(1);
-        let rate = 200_000_000 / time;
+        let (images, nanos) = merged(rt, rt.alloc(), &input, parts).map_err(told)?;
+        let rate = rate(nanos);
         eprintln!(rt; "parts {parts}: {rate} entries a second, {images} images")?;
     }
-    println!(rt; "ok")?;
+    println!(rt; "merges: ok")?;
     Ok(())
 }
