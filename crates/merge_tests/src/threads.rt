@@ -18,7 +18,7 @@ use std::thread::Threads;
 const KEYS: u8 = 70;
 
 /// Puts of 2,048 bytes under keys of one byte.
-fn large_run(alloc: Global, number: u64) -> Result<Vec<Entry>, AllocError> {
+fn large_run<A: Allocator + Copy>(alloc: A, number: u64) -> Result<Vec<Entry<A>, A>, AllocError> {
     let mut run = Vec::new(alloc);
     for key in 0..KEYS {
         if let Some(entry) = entry(alloc, &[key], number, Some(&[key; 2_048]))? {
@@ -29,7 +29,7 @@ fn large_run(alloc: Global, number: u64) -> Result<Vec<Entry>, AllocError> {
 }
 
 /// Two such runs, of which two tables are kept.
-fn large(alloc: Global) -> Result<Input, Refusal> {
+fn large<A: Allocator + Copy>(alloc: A) -> Result<Input<A>, Refusal> {
     let mut runs = Vec::new(alloc);
     runs.push(large_run(alloc, 2)?)?;
     runs.push(large_run(alloc, 1)?)?;
@@ -147,6 +147,68 @@ fn parts_are_merged_at_the_same_time(rt: HostRuntime) -> Result<(), Fail> {
 
 /// An allocator that each thread may use, which may refuse.
 type Lent<'h> = &'h Budget<Global>;
+
+/// Counts which of three parts enter, and has memory given from then on.
+#[derive(Drop)]
+struct Counting<'h> {
+    heap: Lent<'h>,
+    first: AtomicU64,
+    second: AtomicU64,
+    third: AtomicU64,
+    others: AtomicU64,
+}
+
+impl<'h> Counting<'h> {
+    fn new(heap: Lent<'h>) -> Counting<'h> {
+        Counting {
+            heap,
+            first: AtomicU64::new(0),
+            second: AtomicU64::new(0),
+            third: AtomicU64::new(0),
+            others: AtomicU64::new(0),
+        }
+    }
+
+    /// Whether each of the three has entered once.
+    fn has_each(&self) -> bool {
+        let once = |count: &AtomicU64| count.load(Ordering::SeqCst) == 1;
+        once(&self.first)
+            && once(&self.second)
+            && once(&self.third)
+            && self.others.load(Ordering::SeqCst) == 0
+    }
+}
+
+impl Gate for Counting<'_> {
+    fn enter(&self, range: u32) {
+        let count = match range {
+            0 => &self.first,
+            1 => &self.second,
+            2 => &self.third,
+            _ => &self.others,
+        };
+        count.fetch_add(1, Ordering::SeqCst);
+        self.heap.allow(1_000_000);
+    }
+}
+
+/// Whether each of three parts enters once, and before it merges: until one does, so many blocks of memory are given.
+fn enters_first<R: Threads + Sync>(rt: &R, heap: Lent<'_>, blocks: u64) -> Result<bool, Refusal> {
+    let input = Arc::new(heap, large(heap)?)?;
+    let gate = Counting::new(heap);
+    heap.allow(blocks);
+    let built = build_gated(rt, heap, input, 3, &gate);
+    heap.allow(1_000_000);
+    Ok(built?.images().len() == 2 && gate.has_each())
+}
+
+// A part of 46 entries takes a block of memory for each.
+#[test]
+fn each_part_enters_before_it_merges(rt: HostRuntime) -> Result<(), Fail> {
+    let heap = Budget::new(rt.alloc(), 1_000_000);
+    assert!(rt; enters_first(&rt, &heap, 20)?);
+    Ok(())
+}
 
 /// Whether a merge in so many parts for which so many blocks are allowed gives the images of the whole, or else is refused
 /// for want of memory.
