@@ -247,12 +247,13 @@ full_level() {
 }
 
 # Batches of 29 puts of 2,048 bytes, the first of them of this number, and so many of them. Their keys have two bytes, and rise
-# from 0000 on. A text has 59,568 bytes, and an entry 2,062, so that each has a data block of its own.
+# from 0000 on; each byte of their values is 09, or the one that is given. A text has 59,568 bytes, and an entry 2,062, so that
+# each has a data block of its own.
 full_commits() {
     local number key=0 end
     for ((number = $1; number < $1 + $2; number++)); do
         printf commit
-        for ((end = key + 29; key < end; key++)); do printf ' +%04x=09{2048}' "$key"; done
+        for ((end = key + 29; key < end; key++)); do printf ' +%04x=%s{2048}' "$key" "${3:-09}"; done
         echo " | batch $number"
     done
 }
@@ -300,6 +301,51 @@ deep_levels() {
     scripts <deep
 }
 
+# A job of level 1 meets a table of level 2, and merges it with its own. A run of 261 data blocks goes down to level 1, and its first
+# 64 from there to level 2. A newer run has 87 of these keys again and one behind all others: with it all of level 1 is merged
+# anew, so that its first table has keys of which level 2 has older versions.
+meeting_levels() {
+    local number
+    {
+        echo 'lives 16384 2048 | open 0'
+        full_commits 1 9
+        printf '%s\n' 'rotate | ok' 'take | job 1 flush' 'build 1 4 | built 1 images 5' 'accept 1 1 | ok'
+        until_none_is_left 'write 1' 276
+        echo 'install 1 | ok'
+        full_commits 10 3 0a
+        printf '%s\n' 'commit +ffff=31 | batch 13' 'rotate | ok' 'take | job 2 flush' 'build 2 1 | built 2 images 2' 'accept 2 2 | ok'
+        until_none_is_left 'write 2' 93
+        echo 'install 2 | ok'
+        for number in 3 4; do
+            echo "commit +ffff=31 | batch $((number + 11))"
+            flush "$number"
+            echo "install $number | ok"
+        done
+        echo 'take | job 5 level 0'
+        until_none_is_left 'read 5' 261
+        printf '%s\n' 'build 5 4 | built 5 images 5' 'accept 5 5 | ok'
+        until_none_is_left 'write 5' 276
+        printf '%s\n' 'install 5 | ok' 'take | job 6 level 1'
+        until_none_is_left 'read 6' 64
+        printf '%s\n' 'build 6 1 | built 6 images 1' 'accept 6 6 | ok'
+        until_none_is_left 'write 6' 67
+        printf '%s\n' 'install 6 | ok' 'take | none' 'commit +ffff=31 | batch 16'
+        flush 7
+        printf '%s\n' 'install 7 | ok' 'take | job 8 level 0'
+        until_none_is_left 'read 8' 284
+        printf '%s\n' 'build 8 2 | built 8 images 5' 'accept 8 8 | ok'
+        until_none_is_left 'write 8' 276
+        printf '%s\n' 'install 8 | ok' 'take | job 9 level 1'
+        until_none_is_left 'read 9' 128
+        printf '%s\n' 'build 9 3 | built 9 images 1' 'accept 9 9 | ok'
+        until_none_is_left 'write 9' 67
+        printf '%s\n' 'install 9 | ok' 'take | none'
+        printf '%s\n' 'get 0000 | value 0a{2048}' 'get 003f | value 0a{2048}' 'get 0040 | value 0a{2048}' 'get 0104 | value 09{2048}'
+        printf '%s\n' 'crash none | open 16' 'get 0000 | value 0a{2048}' 'get 0100 | value 09{2048}' 'get ffff | value 31'
+    } >meeting
+    scripts <meeting
+}
+
 # A flush takes 154 of 239 data blocks, in tables of 67, 67 and 20. Of the tables of the next one the first finds room in what
 # is left, and the second doesn't: the result is refused however often, and the job can be given up and taken again.
 no_space() {
@@ -335,6 +381,24 @@ room_again() {
         printf '%s\n' 'install 3 | ok' 'get 0000 | value 09{2048}' 'get 0090 | value 09{2048}'
     } >again
     scripts <again
+}
+
+# A commit may have 16 guards. A 17th is refused before all that the state decides, but for a store that is stopped.
+many_guards() {
+    local sixteen='' number
+    for ((number = 0; number < 16; number++)); do sixteen+='!61 '; done
+    scripts <<END
+lives 8192 128 | open 0
+if ${sixteen}then +61=31 | batch 1
+if ${sixteen}!61 then +61=31 | refused 31 TooManyGuards
+if ${sixteen}then +61=31 | refused 30 GuardFailed 0
+if ${sixteen//!61/?61=31}then +61=32 | batch 2
+if ${sixteen//!61/?61=32}!62 then +62=32 | refused 31 TooManyGuards
+get 62 | absent
+crash all |
+fuse 0 | refused 02 Io
+if ${sixteen}!61 then +61=31 | refused 03 Stopped
+END
 }
 
 # 10,000 commits of puts and deletes with rotations, flushes and jobs of level 0 among them, and crashes. At the end the map
@@ -448,11 +512,13 @@ snapshots
 full_regions
 full_level
 deep_levels
+meeting_levels
 no_space
 room_again
+many_guards
 many_commits
 mistakes <"$runs/lines.txt"
 runs_on_inputs <"$runs/inputs.txt"
 long_scripts
-[ "$count" -ge 300 ] || fail "only $count runs"
+[ "$count" -ge 360 ] || fail "only $count runs"
 echo "runs.sh: $count runs end as they must, and print what they must"

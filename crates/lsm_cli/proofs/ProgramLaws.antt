@@ -4,7 +4,7 @@ use Rattle.clap.specs.Words.{AddsSubcommand, App, Row, Text, is_simple, is_simpl
 use Rattle.clap.specs.declared.builder.command.Command.{Command}
 use Rattle.clap.proofs.OnLiterals.{clap_on_literals}
 use Rattle.lsm_language.specs.declared.asked.Asked.{Asked}
-use Rattle.lsm_language.specs.declared.asked.Asked.TheVariants.{Format, Put, Delete, Get, Scan, Stat, Check, Replay, Lives, Storm}
+use Rattle.lsm_language.specs.declared.asked.Asked.TheVariants.{Format, Put, PutIf, Delete, Get, Scan, Stat, Check, Compact, Dump, Load, Replay, Lives, Explore, Storm, Tally}
 use Rattle.lsm_cli.specs.Program.{Asks, IsCommand, has_words, program}
 
 -- the parser's matches of the program are those of its definitions
@@ -21,14 +21,20 @@ is_simple_and_free-program = refl
 pub has_words-asked : (name : Text) (rows : List Row) (asked : Asked) → Asks name rows asked → has_words name rows ≡ true
 has_words-asked name rows (Format file sectors log) (n, a, b, c) = rw (n, a, b, c) refl
 has_words-asked name rows (Put file key value) (n, a, b, c) = rw (n, a, b, c) refl
+has_words-asked name rows (PutIf file key old new) (n, a, b, c, d) = rw (n, a, b, c, d) refl
 has_words-asked name rows (Delete file key) (n, a, b) = rw (n, a, b) refl
 has_words-asked name rows (Get file key) (n, a, b) = rw (n, a, b) refl
 has_words-asked name rows (Scan file from limit) (n, a, b, c) = rw (n, a, b, c) refl
 has_words-asked name rows (Stat file) (n, a) = rw (n, a) refl
 has_words-asked name rows (Check file) (n, a) = rw (n, a) refl
+has_words-asked name rows (Compact file) (n, a) = rw (n, a) refl
+has_words-asked name rows (Dump file) (n, a) = rw (n, a) refl
+has_words-asked name rows (Load file) (n, a) = rw (n, a) refl
 has_words-asked name rows (Replay file) (n, a) = rw (n, a) refl
 has_words-asked name rows (Lives sectors log) (n, a, b) = rw (n, a, b) refl
+has_words-asked name rows (Explore sectors log) (n, a, b) = rw (n, a, b) refl
 has_words-asked name rows (Storm clients commits workers) (n, a, b, c) = rw (n, a, b, c) refl
+has_words-asked name rows (Tally clients tries) (n, a, b) = rw (n, a, b) refl
 
 -- a subcommand's name and its matches, from each of them
 pub found_together : {B : Type 0} (found : Option B) (pair_of : B → Text × List Row) (name : Text) (rows : List Row)

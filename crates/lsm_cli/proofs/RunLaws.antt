@@ -1,22 +1,29 @@
 -- What follows from how a run of the program ends.
-use Rattle.std.proofs.Common.{◌≡◌, ◌∙◌, ℕ, List, Option, Some, None, Result, Ok, Err, MatchResult, true, false, true≢false, refl, sym, ap, subst, inl, inr, arith, ◌⊎◌}
+use Rattle.std.proofs.Common.{◌≡◌, ◌≢◌, ◌∙◌, ◌||◌, ℕ, Bool, Bor, List, Option, Some, None, Result, Ok, Err, MatchResult, true, false, true≢false, refl, sym, ap, subst, inl, inr, arith, ◌⊎◌}
+use Rattle.std.specs.Prelude.{IsTrue}
 use Rattle.std.specs.Io.KnownBytes.{Appends, Keeps}
 use Rattle.std.specs.declared.io.Error.{Error}
 use Rattle.clap.specs.Words.{HasKind, IsAmong, kind_of, Row, Text, fault_of, subcommand_of}
 use Rattle.clap.specs.declared.error.Error.{Error as ClapError}
 use Rattle.clap.specs.declared.error.kind.ErrorKind.{ErrorKind}
 use Rattle.clap.specs.declared.error.kind.ErrorKind.TheVariants.{OutOfMemory}
-use Rattle.lsm_device.specs.declared.refusal.Refusal.TheVariants.{NoMemory}
+use Rattle.lsm_device.specs.declared.refusal.Refusal.{Refusal}
+use Rattle.lsm_device.specs.declared.refusal.Refusal.TheVariants.{Io, NoMemory}
 use Rattle.lsm_requests.specs.declared.answer.Answer.{Answer}
 use Rattle.lsm_language.specs.declared.asked.Asked.{Asked}
+use Rattle.lsm_language.specs.declared.asked.Asked.TheVariants as asked
+use Rattle.lsm_language.specs.declared.request.Request.{Request}
+use Rattle.lsm_language.specs.declared.request.Request.TheVariants as request
 use Rattle.lsm_language.specs.declared.fault.Fault.{Fault}
-use Rattle.lsm_language.specs.Faults.{Reason, mistake, refusal, in_use, unread, reason_of, status_of}
+use Rattle.lsm_language.specs.Faults.{Reason, IsRefusalOr, mistake, refusal, in_use, unread, unwritten, reason_of, status_of}
 use Rattle.lsm_cli.specs.Program.{has_words, program}
-use Rattle.lsm_language.specs.Requests.{reason_for}
-use Rattle.lsm_requests.specs.Answers.{lines_of}
+use Rattle.lsm_language.specs.Requests.{Says, prints_rows, reason_for, wants_rows, wants_script}
+use Rattle.lsm_requests.specs.Answers.{Comes, TellsLoaded}
+use Rattle.lsm_requests.specs.Refusing.{FaultsWith, IsRefusalOf, MayRefuse}
+use Rattle.lsm_requests.specs.Loading.{loaded_line}
 use Rattle.lsm_requests.proofs.EndingLaws.{answer_status-at_most}
 use Rattle.lsm_requests.specs.Endings.{PrintsAnswer, PrintsFault, Written, status_after}
-use Rattle.lsm_cli.specs.Runs.{AskNothing, Fails, HasServed, IsRead, IsRun, IsServed, has_dash}
+use Rattle.lsm_cli.specs.Runs.{AskNothing, Fails, HasServed, IsDone, IsElsewhere, IsRead, IsRequested, IsRun, IsServed, IsTold, IsTried, Shows, has_dash, shows_nothing, shows_rows, shows_number, shows_failure}
 use Rattle.lsm_cli.proofs.ProgramLaws.{has_words-asked}
 
 -- ---- words that ask for nothing
@@ -56,6 +63,129 @@ pub Fails-request : (words : List Text) (input : Option (List ℕ)) (asked : Ask
 Fails-request words input asked text reason read (inl e) = inl record { asked = asked; text = text; read = read; first = e }
 Fails-request words input asked text reason read (inr e) = subst (Fails words input) (sym e) (inr (inl refl))
 
+-- known bytes that are the same are kept
+keeps : (old new : Option (List ℕ)) → new ≡ old → Keeps old new
+keeps None new e = tt
+keeps (Some xs) None e = cc
+keeps (Some xs) (Some ys) e = cc
+
+or_right : (a b : Bool) → IsTrue b → IsTrue (a || b)
+or_right true b is = refl
+or_right false b is = is
+
+-- words that ask for rows to be printed, and for rows to be loaded
+printing : (asked : Asked) (text : List ℕ) (path : Bor (List ℕ)) → Says asked text (request.Dump path) → IsTrue (prints_rows asked)
+printing (asked.Dump file) text path says = refl
+printing other text path says = absurd says
+
+loading : (asked : Asked) (text : List ℕ) (path : Bor (List ℕ)) → Says asked text (request.Load path) → IsTrue (wants_rows asked)
+loading (asked.Load file) text path says = refl
+loading other text path says = absurd says
+
+no_mistake : (reason : Reason) → IsRefusalOr reason → reason ≢ mistake
+no_mistake mistake is = absurd is
+no_mistake (refusal r) is = λ e. cc
+no_mistake in_use is = λ e. cc
+no_mistake unread is = λ e. cc
+no_mistake unwritten is = λ e. cc
+
+module _ (words : List Text) (input output output_after : Option (List ℕ)) (asked : Asked) (text : List ℕ) (read : IsRead words input asked text) (sound : reason_for asked text ≡ None) where
+  asked_for : (r : Request) → Says asked text r → IsRequested words input r
+  asked_for r says = record { asked = asked; text = text; read = read; sound = sound; says = says }
+
+  done : (r : Request) → Says asked text r → IsDone words input
+  done r says = record { request = r; requested = asked_for r says }
+
+  tried : (r : Request) → Says asked text r → (e : Refusal) → MayRefuse r e → IsTried words input e
+  tried r says e may = record { request = r; requested = asked_for r says; refused = may }
+
+  dumps : (path : Bor (List ℕ)) → Says asked text (request.Dump path) → (reason : Reason) → IsRefusalOr reason → IsElsewhere words input reason
+  dumps path says mistake is = absurd is
+  dumps path says (refusal e) is = inr (tried (request.Dump path) says e tt)
+  dumps path says in_use is = absurd is
+  dumps path says unread is = absurd is
+  dumps path says unwritten is = done (request.Dump path) says
+
+  plain : (r : Request) → Says asked text r → (reason : Reason) → IsRefusalOf r reason → output_after ≡ output → Fails words input reason × Shows words reason output output_after
+  plain r says mistake is same = absurd is
+  plain r says (refusal e) is same = (inr (inr (tried r says e is)), shows_nothing (keeps output output_after same))
+  plain r says in_use is same = absurd is
+  plain r says unread is same = absurd is
+  plain r says unwritten is same = absurd is
+
+  shows_loaded : (path : Bor (List ℕ)) → Says asked text (request.Load path) → (reason : Reason)
+      → (output_after ≡ output) ⊎ ((number : ℕ) × Appends output output_after (loaded_line number)) → Shows words reason output output_after
+  shows_loaded path says reason (inl same) = shows_nothing (keeps output output_after same)
+  shows_loaded path says reason (inr (number, appends)) = shows_number asked read.words_ask (loading asked text path says) number appends
+
+  loads : (path : Bor (List ℕ)) → Says asked text (request.Load path) → (reason : Reason) → TellsLoaded input reason output output_after
+      → Fails words input reason × Shows words reason output output_after
+  loads path says mistake (none, told) =
+      (inr (inr record { asked = asked; words_ask = read.words_ask; wants = loading asked text path says; none = none }), shows_loaded path says mistake (inr told))
+  loads path says (refusal e) told = (inr (inr (tried (request.Load path) says e tt)), shows_loaded path says (refusal e) told)
+  loads path says in_use told = absurd told
+  loads path says unread told = (
+    inr record { asked = asked; words_ask = read.words_ask; wants = or_right (wants_script asked) (wants_rows asked) (loading asked text path says) },
+    shows_loaded path says unread told,
+  )
+  loads path says unwritten told = (inr (done (request.Load path) says), shows_failure refl)
+
+  -- why a request has no answer
+  pub fails_with : (r : Request) → Says asked text r → (reason : Reason) → FaultsWith r input reason output output_after
+      → Fails words input reason × Shows words reason output output_after
+  fails_with (request.Dump path) says reason is =
+      (inr (dumps path says reason is), shows_rows asked read.words_ask (printing asked text path says) (no_mistake reason is))
+  fails_with (request.Load path) says reason is = loads path says reason is
+  fails_with other says reason (is, same) = plain other says reason is same
+
+  -- with which refusal it was tried
+  refused_with : (r : Request) → Says asked text r → (e : Refusal) → FaultsWith r input (refusal e) output output_after → IsTried words input e
+  refused_with (request.Dump path) says e is = tried (request.Dump path) says e tt
+  refused_with (request.Load path) says e is = tried (request.Load path) says e tt
+  refused_with other says e (is, same) = tried other says e is
+
+-- the input is left as it is before it is read for rows
+untouched : (asked : Asked) (text : List ℕ) (path : Bor (List ℕ)) → Says asked text (request.Load path) → wants_script asked ≡ false
+untouched (asked.Load file) text path says = refl
+untouched other text path says = absurd says
+
+module _ (asked : Asked) (text : List ℕ) (before after output output_after : Option (List ℕ)) (same : wants_script asked ≡ false → after ≡ before) where
+  pub comes_of : (r : Request) (answer : Answer) → Says asked text r → Comes r after output output_after answer → Comes r before output output_after answer
+  comes_of (request.Load path) answer says comes = subst (λ (i : Option (List ℕ)). Comes (request.Load path) i output output_after answer) (same (untouched asked text path says)) comes
+  comes_of other answer says comes = comes
+
+  pub faults_of : (r : Request) (reason : Reason) → Says asked text r → FaultsWith r after reason output output_after → FaultsWith r before reason output output_after
+  faults_of (request.Load path) reason says faults = subst (λ (i : Option (List ℕ)). FaultsWith (request.Load path) i reason output output_after) (same (untouched asked text path says)) faults
+  faults_of other reason says faults = faults
+
+-- what is shown of a refusal, where another program had the file
+shows_in_use : (words : List Text) (e : Refusal) (output output_after : Option (List ℕ)) → Shows words (refusal e) output output_after → Shows words in_use output output_after
+shows_in_use words e output output_after (shows_nothing same) = shows_nothing same
+shows_in_use words e output output_after (shows_rows asked is prints other) = shows_rows asked is prints (λ h. cc)
+shows_in_use words e output output_after (shows_number asked is wants number appends) = shows_number asked is wants number appends
+shows_in_use words e output output_after (shows_failure h) = absurd (not_unwritten h)
+  where
+    not_unwritten : refusal e ≡ unwritten → ⊥
+    not_unwritten h = cc
+
+-- a fault as it is told: as it is, or that another program has the file
+module _ (words : List Text) (input output output_after : Option (List ℕ)) (asked : Asked) (text : List ℕ) (read : IsRead words input asked text) (sound : reason_for asked text ≡ None) where
+  pub fails_told : (r : Request) → Says asked text r → (reason told : Reason) → (told ≡ reason) ⊎ ((reason ≡ refusal Io) × (told ≡ in_use))
+      → FaultsWith r input reason output output_after → Fails words input told × Shows words told output output_after
+  fails_told r says reason told (inl same) faults =
+      subst (λ (as_told : Reason). Fails words input as_told × Shows words as_told output output_after) (sym same)
+      (fails_with words input output output_after asked text read sound r says reason faults)
+  fails_told r says reason told (inr (is, becomes)) faults =
+      let io = subst (λ (it : Reason). FaultsWith r input it output output_after) is faults in
+      subst (λ (as_told : Reason). Fails words input as_told × Shows words as_told output output_after) (sym becomes) (
+        inr (refused_with words input output output_after asked text read sound r says Io io),
+        shows_in_use words Io output output_after (fails_with words input output output_after asked text read sound r says (refusal Io) io).1,
+      )
+
+-- one that comes before anything is done
+pub fails_before : (words : List Text) (input output : Option (List ℕ)) (reason : Reason) → Fails words input reason → Fails words input reason × Shows words reason output output
+fails_before words input output reason fails = (fails, shows_nothing (keeps output output refl))
+
 -- ---- the clauses of a run, from what it is
 
 status_of-positive : (r : Reason) → status_of r ≡ 0 → ⊥
@@ -63,36 +193,65 @@ status_of-positive mistake e = grind arith
 status_of-positive (refusal r) e = grind arith
 status_of-positive in_use e = grind arith
 status_of-positive unread e = grind arith
+status_of-positive unwritten e = grind arith
 
 status_of-mistake : (r : Reason) → status_of r ≡ 2 → r ≡ mistake
 status_of-mistake mistake e = grind arith
 status_of-mistake (refusal r) e = grind arith
 status_of-mistake in_use e = grind arith
 status_of-mistake unread e = grind arith
+status_of-mistake unwritten e = grind arith
+
+-- bytes that are kept again
+keeps_again : (a b c : Option (List ℕ)) → Keeps a b → Keeps b c → Keeps a c
+keeps_again None b c first second = tt
+keeps_again (Some xs) None c first second = absurd first
+keeps_again (Some xs) (Some ys) None first second = absurd second
+keeps_again (Some xs) (Some ys) (Some zs) first second = second ∙ first
+
+appends_kept : (a b c : Option (List ℕ)) (bs : List ℕ) → Appends a b bs → Keeps b c → Appends a c bs
+appends_kept None b c bs first second = tt
+appends_kept (Some xs) None c bs first second = absurd first
+appends_kept (Some xs) (Some ys) None bs first second = absurd second
+appends_kept (Some xs) (Some ys) (Some zs) bs first second = second ∙ first
+
+-- what is shown of a mistake
+told_mistake : (words : List Text) (output between output_after : Option (List ℕ)) → Shows words mistake output between → Keeps between output_after → IsTold words output output_after
+told_mistake words output between output_after (shows_nothing same) kept = inl (keeps_again output between output_after same kept)
+told_mistake words output between output_after (shows_rows asked is prints other) kept = absurd (other refl)
+told_mistake words output between output_after (shows_number asked is wants number appends) kept =
+    inr (asked, is, wants, number, appends_kept output between output_after (loaded_line number) appends kept)
+told_mistake words output between output_after (shows_failure h) kept = absurd (not_unwritten h)
+  where
+    not_unwritten : mistake ≡ unwritten → ⊥
+    not_unwritten h = cc
 
 module _ (words : List Text) (input : Option (List ℕ)) (bytes : Written) (ends : ℕ) where
   -- a run that ends with 0 printed an answer and no fault
-  pub done-of_run : IsRun words input bytes ends → ends ≡ 0
-      → HasServed words input (λ answer. Appends bytes.output bytes.output_after (lines_of answer)) × Keeps bytes.errors bytes.errors_after
+  pub done-of_run : IsRun words input bytes ends → ends ≡ 0 → HasServed words input bytes.output bytes.output_after × Keeps bytes.errors bytes.errors_after
   done-of_run run zero = by_cases run.answered run.concludes.written (sym run.concludes.status ∙ zero) run.comes run.concludes.answer run.concludes.fault
     where
       by_cases : (answered : Result Answer Fault) (written : Result (Unit {0}) Error) → status_after answered written ≡ 0
-          → MatchResult answered (IsServed words input) (λ fault. Fails words input (reason_of fault))
-          → PrintsAnswer answered written bytes.output bytes.output_after → PrintsFault answered written bytes.errors bytes.errors_after
-          → HasServed words input (λ answer. Appends bytes.output bytes.output_after (lines_of answer)) × Keeps bytes.errors bytes.errors_after
-      by_cases (Ok answer) (Ok done) e served printed kept = (record { answer = answer; served = served; has = printed }, kept)
+          → MatchResult answered (IsServed words input bytes.output run.between) (λ fault. Fails words input (reason_of fault) × Shows words (reason_of fault) bytes.output run.between)
+          → PrintsAnswer answered written run.between bytes.output_after → PrintsFault answered written bytes.errors bytes.errors_after
+          → HasServed words input bytes.output bytes.output_after × Keeps bytes.errors bytes.errors_after
+      by_cases (Ok answer) (Ok done) e served printed kept = (record { answer = answer; between = run.between; served = served; prints = printed }, kept)
       by_cases (Ok answer) (Err error) e served printed kept = grind arith
       by_cases (Err fault) (Ok done) e failed kept reported = absurd (status_of-positive (reason_of fault) e)
       by_cases (Err fault) (Err error) e failed kept reported = grind arith
 
   -- a run that ends with 2 found a mistake and printed no answer
-  pub mistake-of_run : IsRun words input bytes ends → ends ≡ 2 → Fails words input mistake × Keeps bytes.output bytes.output_after
+  pub mistake-of_run : IsRun words input bytes ends → ends ≡ 2 → Fails words input mistake × IsTold words bytes.output bytes.output_after
   mistake-of_run run two = by_cases run.answered run.concludes.written (sym run.concludes.status ∙ two) run.comes run.concludes.answer
     where
       by_cases : (answered : Result Answer Fault) (written : Result (Unit {0}) Error) → status_after answered written ≡ 2
-          → MatchResult answered (IsServed words input) (λ fault. Fails words input (reason_of fault))
-          → PrintsAnswer answered written bytes.output bytes.output_after → Fails words input mistake × Keeps bytes.output bytes.output_after
+          → MatchResult answered (IsServed words input bytes.output run.between) (λ fault. Fails words input (reason_of fault) × Shows words (reason_of fault) bytes.output run.between)
+          → PrintsAnswer answered written run.between bytes.output_after → Fails words input mistake × IsTold words bytes.output bytes.output_after
       by_cases (Ok answer) (Ok done) e served printed = absurd (omega (arith, e, answer_status-at_most answer.output))
       by_cases (Ok answer) (Err error) e served printed = grind arith
-      by_cases (Err fault) (Ok done) e failed kept = (subst (Fails words input) (status_of-mistake (reason_of fault) e) failed, kept)
+      by_cases (Err fault) (Ok done) e (failed, shows) kept =
+          let is : reason_of fault ≡ mistake = status_of-mistake (reason_of fault) e in (
+            subst (Fails words input) is failed,
+            told_mistake words bytes.output run.between bytes.output_after (subst (λ (r : Reason). Shows words r bytes.output run.between) is shows) kept,
+          )
       by_cases (Err fault) (Err error) e failed kept = grind arith

@@ -6,7 +6,7 @@ use Rattle.clap.specs.declared.builder.command.Command.{Command}
 use Rattle.clap.specs.declared.builder.command.Command.TheViews.{out-Command as fields_of}
 use Rattle.clap.specs.declared.builder.ArgAction.TheVariants.{Set}
 use Rattle.lsm_language.specs.declared.asked.Asked.{Asked}
-use Rattle.lsm_language.specs.declared.asked.Asked.TheVariants.{Format, Put, Delete, Get, Scan, Stat, Check, Replay, Lives, Storm}
+use Rattle.lsm_language.specs.declared.asked.Asked.TheVariants.{Format, Put, PutIf, Delete, Get, Scan, Stat, Check, Compact, Dump, Load, Replay, Lives, Explore, Storm, Tally}
 
 -- a word that has to be there
 abbrev pub word_rule : Text → Rule
@@ -31,25 +31,35 @@ with_words_at app name places = with_subcommand app (with_words (new_app name) p
 
 -- the subcommands that make and change a store
 abbrev pub with_changes : App → App
-with_changes app = with_words_at (with_words_at (with_words_at app
+with_changes app = with_words_at (with_words_at (with_words_at (with_words_at app
     (codes "format") (codes "FILE" ∷ codes "SECTORS" ∷ codes "LOG" ∷ []))
     (codes "put") (codes "FILE" ∷ codes "KEY" ∷ codes "VALUE" ∷ []))
+    (codes "putif") (codes "FILE" ∷ codes "KEY" ∷ codes "OLD" ∷ codes "NEW" ∷ []))
     (codes "del") file_and_key
 
 -- those that do many things
 abbrev pub with_scripts : App → App
-with_scripts app = with_words_at (with_words_at (with_words_at app
+with_scripts app = with_words_at (with_words_at (with_words_at (with_words_at (with_words_at app
     (codes "replay") (codes "FILE" ∷ []))
     (codes "lives") (codes "SECTORS" ∷ codes "LOG" ∷ []))
-    (codes "storm") (codes "CLIENTS" ∷ codes "COMMITS" ∷ codes "WORKERS" ∷ [])
+    (codes "explore") (codes "SECTORS" ∷ codes "LOG" ∷ []))
+    (codes "storm") (codes "CLIENTS" ∷ codes "COMMITS" ∷ codes "WORKERS" ∷ []))
+    (codes "tally") (codes "CLIENTS" ∷ codes "TRIES" ∷ [])
+
+-- those that go over all rows
+abbrev pub with_rows : App → App
+with_rows app = with_words_at (with_words_at (with_words_at app
+    (codes "compact") (codes "FILE" ∷ []))
+    (codes "dump") (codes "FILE" ∷ []))
+    (codes "load") (codes "FILE" ∷ [])
 
 -- and between them those that read a store
 abbrev pub program : App
-program = with_scripts (with_words_at (with_words_at (with_words_at (with_words_at (with_changes bare_program)
+program = with_scripts (with_rows (with_words_at (with_words_at (with_words_at (with_words_at (with_changes bare_program)
     (codes "get") file_and_key)
     (codes "scan") (codes "FILE" ∷ codes "FROM" ∷ codes "LIMIT" ∷ []))
     (codes "stat") (codes "FILE" ∷ []))
-    (codes "check") (codes "FILE" ∷ []))
+    (codes "check") (codes "FILE" ∷ [])))
 
 -- the parser sees the command so, and none of its words belongs to its subcommands too
 pub record IsCommand (app : App) (command : Command) : Type 0 where
@@ -66,6 +76,8 @@ Asks name rows (Format file sectors log) = (name ≡ codes "format") × HasWord 
     × HasWord rows (codes "SECTORS") sectors.now × HasWord rows (codes "LOG") log.now
 Asks name rows (Put file key value) = (name ≡ codes "put") × HasWord rows (codes "FILE") file.now
     × HasWord rows (codes "KEY") key.now × HasWord rows (codes "VALUE") value.now
+Asks name rows (PutIf file key old new) = (name ≡ codes "putif") × HasWord rows (codes "FILE") file.now
+    × HasWord rows (codes "KEY") key.now × HasWord rows (codes "OLD") old.now × HasWord rows (codes "NEW") new.now
 Asks name rows (Delete file key) = (name ≡ codes "del") × HasWord rows (codes "FILE") file.now
     × HasWord rows (codes "KEY") key.now
 Asks name rows (Get file key) = (name ≡ codes "get") × HasWord rows (codes "FILE") file.now
@@ -74,25 +86,47 @@ Asks name rows (Scan file from limit) = (name ≡ codes "scan") × HasWord rows 
     × HasWord rows (codes "FROM") from.now × HasWord rows (codes "LIMIT") limit.now
 Asks name rows (Stat file) = (name ≡ codes "stat") × HasWord rows (codes "FILE") file.now
 Asks name rows (Check file) = (name ≡ codes "check") × HasWord rows (codes "FILE") file.now
+Asks name rows (Compact file) = (name ≡ codes "compact") × HasWord rows (codes "FILE") file.now
+Asks name rows (Dump file) = (name ≡ codes "dump") × HasWord rows (codes "FILE") file.now
+Asks name rows (Load file) = (name ≡ codes "load") × HasWord rows (codes "FILE") file.now
 Asks name rows (Replay file) = (name ≡ codes "replay") × HasWord rows (codes "FILE") file.now
 Asks name rows (Lives sectors log) = (name ≡ codes "lives") × HasWord rows (codes "SECTORS") sectors.now
     × HasWord rows (codes "LOG") log.now
+Asks name rows (Explore sectors log) = (name ≡ codes "explore") × HasWord rows (codes "SECTORS") sectors.now
+    × HasWord rows (codes "LOG") log.now
 Asks name rows (Storm clients commits workers) = (name ≡ codes "storm") × HasWord rows (codes "CLIENTS") clients.now
     × HasWord rows (codes "COMMITS") commits.now × HasWord rows (codes "WORKERS") workers.now
+Asks name rows (Tally clients tries) = (name ≡ codes "tally") × HasWord rows (codes "CLIENTS") clients.now
+    × HasWord rows (codes "TRIES") tries.now
 
 -- whether the name is one of a subcommand, and there is a word at each of its places
 abbrev pub has_word : List Row → Text → Bool
 has_word rows place = is_some (first_of place rows)
 
-abbrev pub has_words : Text → List Row → Bool
-has_words name rows = if bytes_eq name (codes "format") then has_word rows (codes "FILE") && (has_word rows (codes "SECTORS") && has_word rows (codes "LOG"))
-    else if bytes_eq name (codes "put") then has_word rows (codes "FILE") && (has_word rows (codes "KEY") && has_word rows (codes "VALUE"))
-    else if bytes_eq name (codes "del") then has_word rows (codes "FILE") && has_word rows (codes "KEY")
-    else if bytes_eq name (codes "get") then has_word rows (codes "FILE") && has_word rows (codes "KEY")
+-- of those that do many things
+abbrev pub has_script_words : Text → List Row → Bool
+has_script_words name rows = if bytes_eq name (codes "replay") then has_word rows (codes "FILE")
+    else if bytes_eq name (codes "lives") then has_word rows (codes "SECTORS") && has_word rows (codes "LOG")
+    else if bytes_eq name (codes "explore") then has_word rows (codes "SECTORS") && has_word rows (codes "LOG")
+    else if bytes_eq name (codes "storm") then has_word rows (codes "CLIENTS") && (has_word rows (codes "COMMITS") && has_word rows (codes "WORKERS"))
+    else if bytes_eq name (codes "tally") then has_word rows (codes "CLIENTS") && has_word rows (codes "TRIES")
+    else false
+
+-- of those and the ones that read a store
+abbrev pub has_other_words : Text → List Row → Bool
+has_other_words name rows = if bytes_eq name (codes "get") then has_word rows (codes "FILE") && has_word rows (codes "KEY")
     else if bytes_eq name (codes "scan") then has_word rows (codes "FILE") && (has_word rows (codes "FROM") && has_word rows (codes "LIMIT"))
     else if bytes_eq name (codes "stat") then has_word rows (codes "FILE")
     else if bytes_eq name (codes "check") then has_word rows (codes "FILE")
-    else if bytes_eq name (codes "replay") then has_word rows (codes "FILE")
-    else if bytes_eq name (codes "lives") then has_word rows (codes "SECTORS") && has_word rows (codes "LOG")
-    else if bytes_eq name (codes "storm") then has_word rows (codes "CLIENTS") && (has_word rows (codes "COMMITS") && has_word rows (codes "WORKERS"))
-    else false
+    else if bytes_eq name (codes "compact") then has_word rows (codes "FILE")
+    else if bytes_eq name (codes "dump") then has_word rows (codes "FILE")
+    else if bytes_eq name (codes "load") then has_word rows (codes "FILE")
+    else has_script_words name rows
+
+-- of all
+abbrev pub has_words : Text → List Row → Bool
+has_words name rows = if bytes_eq name (codes "format") then has_word rows (codes "FILE") && (has_word rows (codes "SECTORS") && has_word rows (codes "LOG"))
+    else if bytes_eq name (codes "put") then has_word rows (codes "FILE") && (has_word rows (codes "KEY") && has_word rows (codes "VALUE"))
+    else if bytes_eq name (codes "putif") then has_word rows (codes "FILE") && (has_word rows (codes "KEY") && (has_word rows (codes "OLD") && has_word rows (codes "NEW")))
+    else if bytes_eq name (codes "del") then has_word rows (codes "FILE") && has_word rows (codes "KEY")
+    else has_other_words name rows

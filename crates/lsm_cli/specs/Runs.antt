@@ -1,17 +1,22 @@
 -- What a run of the program does.
-use Rattle.std.specs.Prelude.{◌≡◌, ◌⊎◌, ℕ, Bool, false, List, [], Option, Some, None, is_some, Result, IfSome, IsTrue, MatchResult}
+use Rattle.std.specs.Prelude.{◌≡◌, ◌≢◌, ◌⊎◌, ℕ, Bool, true, false, List, [], Option, Some, None, is_some, Result, Err, IfSome, IsTrue, MatchResult}
 use Rattle.std.specs.List.{list_any}
+use Rattle.std.specs.Io.KnownBytes.{Appends, Keeps}
 use Rattle.clap.specs.Words.{Row, Text, fault_of, subcommand_of}
-use Rattle.lsm_device.specs.declared.refusal.Refusal.TheVariants.{NoMemory}
+use Rattle.lsm_device.specs.declared.refusal.Refusal.{Refusal}
+use Rattle.lsm_device.specs.declared.refusal.Refusal.TheVariants.{NoMemory, Io}
 use Rattle.lsm_language.specs.declared.asked.Asked.{Asked}
 use Rattle.lsm_language.specs.declared.request.Request.{Request}
 use Rattle.lsm_requests.specs.declared.answer.Answer.{Answer}
 use Rattle.lsm_language.specs.declared.fault.Fault.{Fault}
-use Rattle.lsm_language.specs.Faults.{Reason, mistake, refusal, in_use, unread, reason_of}
+use Rattle.lsm_language.specs.Faults.{Reason, mistake, refusal, in_use, unread, unwritten, reason_of}
 use Rattle.lsm_language.specs.Words.{after}
 use Rattle.lsm_cli.specs.Program.{program, Asks}
-use Rattle.lsm_language.specs.Requests.{Says, reason_for, wants_script}
-use Rattle.lsm_requests.specs.Answers.{Gives}
+use Rattle.lsm_language.specs.Requests.{Says, prints_rows, reason_for, wants_input, wants_rows, wants_script}
+use Rattle.lsm_language.specs.Rows.{are_rows, lines_of as lines_in}
+use Rattle.lsm_requests.specs.Answers.{Comes, lines_of}
+use Rattle.lsm_requests.specs.Loading.{loaded_line}
+use Rattle.lsm_requests.specs.Refusing.{MayRefuse}
 use Rattle.lsm_requests.specs.Endings.{Concludes, Written}
 
 -- ---- what is asked for
@@ -48,17 +53,18 @@ pub record IsRequested (words : List Text) (input : Option (List ℕ)) (request 
 
 -- ---- what comes of it
 
--- the answer is one to what the words and the script ask for
-pub record IsServed (words : List Text) (input : Option (List ℕ)) (answer : Answer) : Type 0 where
+-- The answer is one to what the words and the input ask for, and is to be printed behind what the output holds then.
+pub record IsServed (words : List Text) (input output output_after : Option (List ℕ)) (answer : Answer) : Type 0 where
   pub request : Request
   pub requested : IsRequested words input request
-  pub gives : Gives request answer
+  pub comes : Comes request input output output_after answer
 
--- such an answer has a property
-pub record HasServed (words : List Text) (input : Option (List ℕ)) (P : Answer → Type 0) : Type 0 where
+-- and just its lines were printed there
+pub record HasServed (words : List Text) (input output output_after : Option (List ℕ)) : Type 0 where
   pub answer : Answer
-  pub served : IsServed words input answer
-  pub has : P answer
+  pub between : Option (List ℕ)
+  pub served : IsServed words input output between answer
+  pub prints : Appends between output_after (lines_of answer)
 
 -- this is the first that is wrong with the words and the script
 pub record IsWrong (words : List Text) (input : Option (List ℕ)) (reason : Reason) : Type 0 where
@@ -68,31 +74,72 @@ pub record IsWrong (words : List Text) (input : Option (List ℕ)) (reason : Rea
   pub first : reason_for asked text ≡ Some reason
 
 -- nothing is wrong with them, and something was done
-pub record IsTried (words : List Text) (input : Option (List ℕ)) : Type 0 where
+pub record IsDone (words : List Text) (input : Option (List ℕ)) : Type 0 where
   pub request : Request
   pub requested : IsRequested words input request
 
--- a script was asked for, which could not be read
+-- nothing is wrong with them, and what they ask for was refused so, as such a request may be
+pub record IsTried (words : List Text) (input : Option (List ℕ)) (r : Refusal) : Type 0 where
+  pub request : Request
+  pub requested : IsRequested words input request
+  pub refused : MayRefuse request r
+
+-- an input was asked for, which could not be read
 pub record IsUnread (words : List Text) : Type 0 where
   pub asked : Asked
   pub words_ask : IsAsked words asked
-  pub wants : IsTrue (wants_script asked)
+  pub wants : IsTrue (wants_input asked)
+
+-- rows were asked for, and a line of the input is none
+pub record HasNoRow (words : List Text) (input : Option (List ℕ)) : Type 0 where
+  pub asked : Asked
+  pub words_ask : IsAsked words asked
+  pub wants : IsTrue (wants_rows asked)
+  pub none : IfSome input (λ all. are_rows (lines_in all) ≡ false)
 
 -- a reason that is no part of words and script that were read
 abbrev pub IsElsewhere : List Text → Option (List ℕ) → Reason → Type 0
-IsElsewhere words input mistake = AskNothing words
-IsElsewhere words input (refusal r) = (r ≡ NoMemory) ⊎ IsTried words input
-IsElsewhere words input in_use = IsTried words input
+IsElsewhere words input mistake = AskNothing words ⊎ HasNoRow words input
+IsElsewhere words input (refusal r) = (r ≡ NoMemory) ⊎ IsTried words input r
+IsElsewhere words input in_use = IsTried words input Io
 IsElsewhere words input unread = IsUnread words
+IsElsewhere words input unwritten = IsDone words input
 
--- Why there is no answer. A mistake is one of the words or of the script, and nothing was done.
+-- Why there is no answer. A mistake is one of the words or of the script, and nothing was done, or a line that is no row.
 abbrev pub Fails : List Text → Option (List ℕ) → Reason → Type 0
 Fails words input reason = IsWrong words input reason ⊎ IsElsewhere words input reason
+
+-- What is printed of a run that fails: nothing; of rows that were dumped before a refusal some lines; and of rows that were
+-- loaded before a fault their number.
+pub data Shows (words : List Text) (reason : Reason) (output output_after : Option (List ℕ)) : Type 0 where
+  shows_nothing : Keeps output output_after → Shows words reason output output_after
+  shows_rows : (asked : Asked) → IsAsked words asked → IsTrue (prints_rows asked) → reason ≢ mistake → Shows words reason output output_after
+  shows_number : (asked : Asked) → IsAsked words asked → IsTrue (wants_rows asked) → (number : ℕ) → Appends output output_after (loaded_line number)
+      → Shows words reason output output_after
+  shows_failure : reason ≡ unwritten → Shows words reason output output_after
+
+-- of one that found a mistake
+abbrev pub IsTold : List Text → Option (List ℕ) → Option (List ℕ) → Type 0
+IsTold words output output_after = Keeps output output_after
+    ⊎ ((asked : Asked) × IsAsked words asked × IsTrue (wants_rows asked) × (number : ℕ) × Appends output output_after (loaded_line number))
 
 -- ---- how a run ends
 
 -- a run of the program: what comes of the words and the input is printed, and this is the exit status
 pub record IsRun (words : List Text) (input : Option (List ℕ)) (bytes : Written) (ends : ℕ) : Type 0 where
   pub answered : Result Answer Fault
-  pub comes : MatchResult answered (IsServed words input) (λ fault. Fails words input (reason_of fault))
-  pub concludes : Concludes answered bytes ends
+  pub between : Option (List ℕ)
+  pub comes : MatchResult answered (IsServed words input bytes.output between)
+      (λ fault. Fails words input (reason_of fault) × Shows words (reason_of fault) bytes.output between)
+  pub concludes : Concludes answered (record bytes { output = between }) ends
+
+-- no words could be taken: one is no text, or memory was refused; just that is told
+pub record IsWordless (bytes : Written) (ends : ℕ) : Type 0 where
+  pub fault : Fault
+  pub cause : (reason_of fault ≡ mistake) ⊎ (reason_of fault ≡ refusal NoMemory)
+  pub concludes : Concludes (Err fault) bytes ends
+
+-- A run of the program by its words: there were words that are text, and this is a run on them; or there were none that could be
+-- taken, for want of memory or of text, and just that is told.
+abbrev pub IsStarted : Option (List ℕ) → Written → ℕ → Type 0
+IsStarted input bytes ends = ((words : List Text) × IsRun words input bytes ends) ⊎ IsWordless bytes ends

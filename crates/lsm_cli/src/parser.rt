@@ -6,7 +6,7 @@ ghost use Rattle.clap.specs.declared.error.kind.ErrorKind.TheVariants.{OutOfMemo
 ghost use Rattle.lsm_device.specs.declared.refusal.Refusal.TheVariants.{NoMemory};
 ghost use Rattle.lsm_language.specs.Faults.{reason_of, mistake, refusal};
 ghost use Rattle.lsm_language.specs.Words.{after};
-ghost use Rattle.lsm_cli.specs.Program.{bare_program, program, word_rule, with_changes, with_scripts, with_words, with_words_at, has_word, has_words, IsCommand, Asks, HasWord};
+ghost use Rattle.lsm_cli.specs.Program.{bare_program, program, word_rule, with_changes, with_rows, with_scripts, with_words, with_words_at, has_other_words, has_script_words, has_word, has_words, IsCommand, Asks, HasWord};
 ghost use Rattle.lsm_cli.specs.Runs.{has_dash, IsAsked, AskNothing};
 
 use clap::error::ErrorKind;
@@ -121,7 +121,30 @@ fn command<'a>(alloc: Global) -> Result<Command<'a>, AllocError>
         "Check a store, and print its numbers",
         &["FILE"],
     )?;
+    let command = with_rows(alloc, command)?;
     let command = with_scripts(alloc, command)?;
+    Ok(command)
+}
+
+// The command with the subcommands that go over all rows.
+fn with_rows<'a>(alloc: Global, command: Command<'a>) -> Result<Command<'a>, AllocError>
+    ensures { IfOk result (λ r. (app : App) → IsCommand app command.entry → IsCommand (with_rows app) r) }
+{
+    let command = adding(
+        alloc,
+        command,
+        "compact",
+        "Merge all tables into the last level",
+        &["FILE"],
+    )?;
+    let command = adding(alloc, command, "dump", "Print all rows", &["FILE"])?;
+    let command = adding(
+        alloc,
+        command,
+        "load",
+        "Put the rows of the input",
+        &["FILE"],
+    )?;
     Ok(command)
 }
 
@@ -146,9 +169,23 @@ fn with_scripts<'a>(alloc: Global, command: Command<'a>) -> Result<Command<'a>, 
     let command = adding(
         alloc,
         command,
+        "explore",
+        "Try every crash of a script in memory",
+        &["SECTORS", "LOG"],
+    )?;
+    let command = adding(
+        alloc,
+        command,
         "storm",
         "Let clients and workers share a store in memory",
         &["CLIENTS", "COMMITS", "WORKERS"],
+    )?;
+    let command = adding(
+        alloc,
+        command,
+        "tally",
+        "Let clients count together in memory",
+        &["CLIENTS", "TRIES"],
     )?;
     Ok(command)
 }
@@ -170,6 +207,13 @@ fn with_changes<'a>(alloc: Global, command: Command<'a>) -> Result<Command<'a>, 
         "put",
         "Put a value under a key",
         &["FILE", "KEY", "VALUE"],
+    )?;
+    let command = adding(
+        alloc,
+        command,
+        "putif",
+        "Put a value under a key that has another, or none",
+        &["FILE", "KEY", "OLD", "NEW"],
     )?;
     let command = adding(alloc, command, "del", "Delete a key", &["FILE", "KEY"])?;
     Ok(command)
@@ -239,10 +283,28 @@ fn subcommand<'a>(name: &str, given: &ArgMatches<'a>) -> Result<Asked<'a>, Usage
             let (file, key, value) = three(given, "FILE", "KEY", "VALUE")?;
             Ok(Asked::Put { file, key, value })
         }
+        "putif" => {
+            let (file, key, old, new) = four(given, "FILE", "KEY", "OLD", "NEW")?;
+            Ok(Asked::PutIf {
+                file,
+                key,
+                old,
+                new,
+            })
+        }
         "del" => {
             let (file, key) = two(given, "FILE", "KEY")?;
             Ok(Asked::Delete { file, key })
         }
+        _ => other(name, given),
+    }
+}
+
+// The words of a subcommand that reads a store or does many things.
+fn other<'a>(name: &str, given: &ArgMatches<'a>) -> Result<Asked<'a>, Usage>
+    ensures { MatchResult result (Asks name.now (rows_of (found_of given.now))) (λ _. has_other_words name.now (rows_of (found_of given.now)) ≡ false) }
+{
+    match name {
         "get" => {
             let (file, key) = two(given, "FILE", "KEY")?;
             Ok(Asked::Get { file, key })
@@ -259,6 +321,27 @@ fn subcommand<'a>(name: &str, given: &ArgMatches<'a>) -> Result<Asked<'a>, Usage
             let file = at(given, "FILE")?;
             Ok(Asked::Check { file })
         }
+        "compact" => {
+            let file = at(given, "FILE")?;
+            Ok(Asked::Compact { file })
+        }
+        "dump" => {
+            let file = at(given, "FILE")?;
+            Ok(Asked::Dump { file })
+        }
+        "load" => {
+            let file = at(given, "FILE")?;
+            Ok(Asked::Load { file })
+        }
+        _ => script(name, given),
+    }
+}
+
+// The words of a subcommand that does many things.
+fn script<'a>(name: &str, given: &ArgMatches<'a>) -> Result<Asked<'a>, Usage>
+    ensures { MatchResult result (Asks name.now (rows_of (found_of given.now))) (λ _. has_script_words name.now (rows_of (found_of given.now)) ≡ false) }
+{
+    match name {
         "replay" => {
             let file = at(given, "FILE")?;
             Ok(Asked::Replay { file })
@@ -266,6 +349,10 @@ fn subcommand<'a>(name: &str, given: &ArgMatches<'a>) -> Result<Asked<'a>, Usage
         "lives" => {
             let (sectors, log) = two(given, "SECTORS", "LOG")?;
             Ok(Asked::Lives { sectors, log })
+        }
+        "explore" => {
+            let (sectors, log) = two(given, "SECTORS", "LOG")?;
+            Ok(Asked::Explore { sectors, log })
         }
         "storm" => {
             let (clients, commits, workers) = three(given, "CLIENTS", "COMMITS", "WORKERS")?;
@@ -275,8 +362,31 @@ fn subcommand<'a>(name: &str, given: &ArgMatches<'a>) -> Result<Asked<'a>, Usage
                 workers,
             })
         }
+        "tally" => {
+            let (clients, tries) = two(given, "CLIENTS", "TRIES")?;
+            Ok(Asked::Tally { clients, tries })
+        }
         _ => Err(Usage::Missing("the subcommand")),
     }
+}
+
+// The words at four places.
+fn four<'a>(
+    given: &ArgMatches<'a>,
+    first: &'static str,
+    second: &'static str,
+    third: &'static str,
+    fourth: &'static str,
+) -> Result<(&'a str, &'a str, &'a str, &'a str), Usage>
+    ensures { let rows = rows_of (found_of given.now) in
+        MatchResult result
+        (λ words. (HasWord rows first.now words.0.now) × (HasWord rows second.now words.1.now)
+        × (HasWord rows third.now words.2.now) × (HasWord rows fourth.now words.3.now))
+        (λ _. (has_word rows first.now && (has_word rows second.now && (has_word rows third.now && has_word rows fourth.now))) ≡ false) }
+{
+    let first = at(given, first)?;
+    let (second, third, fourth) = three(given, second, third, fourth)?;
+    Ok((first, second, third, fourth))
 }
 
 // The words at three places.

@@ -1,10 +1,10 @@
 //! The program over a reader and two writers.
 
-ghost use Rattle.std.specs.Prelude.{◌≡◌, ◌≤◌, map, MatchResult};
-ghost use Rattle.std.specs.Io.KnownBytes.{Appends, Keeps};
-ghost use Rattle.lsm_requests.specs.Answers.{lines_of};
-ghost use Rattle.lsm_language.specs.Faults.{mistake, reason_of};
-ghost use Rattle.lsm_cli.specs.Runs.{Fails, HasServed, IsRun, IsServed};
+ghost use Rattle.std.specs.Prelude.{◌≡◌, ◌≤◌, ◌⊎◌, map, MatchResult};
+ghost use Rattle.std.specs.Io.KnownBytes.{Keeps};
+ghost use Rattle.lsm_device.specs.declared.refusal.Refusal.TheVariants.{Io};
+ghost use Rattle.lsm_language.specs.Faults.{in_use, mistake, reason_of, refusal};
+ghost use Rattle.lsm_cli.specs.Runs.{Fails, HasServed, IsRun, IsServed, IsTold, Shows};
 
 use crate::parser::asked_for;
 use lsm_device::{FileDevice, Refusal};
@@ -38,36 +38,46 @@ pub fn run<
     } result }
     ensures status { result ≤ 2 }
 
-    // A run that ends with 0 did what the words and the script ask for, printed its answer, and no fault.
-    ensures done { result ≡ 0 → HasServed (map S.text words.entry.now) (I.remaining input.old)
-        (λ answer. Appends (O.contents output.old) (O.contents output.new) (lines_of answer)) }
+    // A run that ends with 0 did what the words and the input ask for, printed just the lines of its answer, and no fault.
+    ensures done { result ≡ 0 → HasServed (map S.text words.entry.now) (I.remaining input.old) (O.contents output.old) (O.contents output.new) }
     ensures no_fault { result ≡ 0 → Keeps (E.contents errors.old) (E.contents errors.new) }
 
-    // One that ends with 2 found a mistake in the words or the script, and printed no answer.
+    // One that ends with 2 found a mistake in the words or the input, and printed no answer, but how many rows it loaded before.
     ensures mistake { result ≡ 2 → Fails (map S.text words.entry.now) (I.remaining input.old) mistake }
-    ensures no_answer { result ≡ 2 → Keeps (O.contents output.old) (O.contents output.new) }
+    ensures no_answer { result ≡ 2 → IsTold (map S.text words.entry.now) (O.contents output.old) (O.contents output.new) }
 {
-    let answered = answer(rt, words, input);
+    let answered = answer(rt, words, input, output);
     conclude(&answered, output, errors)
 }
 
 // Does what the words ask for.
-fn answer<R: Files<File = File> + AllocGlobal + Threads + Wait + Sync, S: AsStr, I: Read>(
+fn answer<R: Files<File = File> + AllocGlobal + Threads + Wait + Sync, S: AsStr, I: Read, O: Write>(
     rt: &R,
     words: &[S],
     input: &mut I,
+    output: &mut O,
 ) -> Result<Answer, Fault>
-    ensures { MatchResult result (IsServed (map S.text words.entry.now) (I.remaining input.old))
-        (λ fault. Fails (map S.text words.entry.now) (I.remaining input.old) (reason_of fault)) }
+    ensures { MatchResult result (IsServed (map S.text words.entry.now) (I.remaining input.old) (O.contents output.old) (O.contents output.new))
+        (λ fault. Fails (map S.text words.entry.now) (I.remaining input.old) (reason_of fault)
+        × Shows (map S.text words.entry.now) (reason_of fault) (O.contents output.old) (O.contents output.new)) }
 {
     let asked = asked_for(rt.alloc(), words)?;
     let text = script_text(rt.alloc(), &asked, input)?;
     let request = Request::read(rt.alloc(), asked, &text)?;
     let file = request.file();
-    match calls::answer(rt, request) {
+    match calls::answer(rt, request, input, output) {
         Ok(answer) => Ok(answer),
-        Err(Refusal::Io) if is_in_use(rt, file) => Err(Fault::InUse),
-        Err(refusal) => Err(Fault::Refused(refusal)),
+        Err(fault) => Err(told(rt, file, fault)),
+    }
+}
+
+// A fault as it is told: of a file that another program has, that.
+fn told<R: Files<File = File>>(rt: &R, file: Option<&str>, fault: Fault) -> Fault
+    ensures { (reason_of result ≡ reason_of fault) ⊎ ((reason_of fault ≡ refusal Io) × (reason_of result ≡ in_use)) }
+{
+    match fault {
+        Fault::Refused(Refusal::Io) if is_in_use(rt, file) => Fault::InUse,
+        other => other,
     }
 }
 

@@ -1,7 +1,7 @@
 -- Lines as text.
-use Rattle.std.proofs.Common.{◌≡◌, ℕ, Bool, true, false, List, Result, refl, sym}
-use Rattle.std.specs.Str.{IsUtf8, is_utf8}
-use Rattle.std.proofs.lemmas.Str.{IsUtf8-from_is_utf8, is_utf8-from_IsUtf8}
+use Rattle.std.proofs.Common.{◌≡◌, ℕ, List, Result, sym}
+use Rattle.std.specs.Str.{IsUtf8}
+use Rattle.std.proofs.lemmas.Str.{is_utf8-from_IsUtf8}
 use Rattle.lsm_language.specs.declared.line.Line.{Line}
 use Rattle.lsm_language.specs.declared.words.Unread.{Unread}
 use Rattle.lsm_language.specs.Words.{Reads}
@@ -12,11 +12,3 @@ use Rattle.lsm_language.specs.Scripts.{text_said}
 pub utf8_reads : (text line : List ℕ) (r : Result Line Unread) → IsUtf8 text → line ≡ text → Reads means (line_said line) r
     → Reads means (text_said text) r
 utf8_reads text line r u e h = rw (is_utf8-from_IsUtf8 text u) (rw (sym e) h)
-
--- and one that is not is none
-pub is_utf8-not : (text : List ℕ) → ¬ (IsUtf8 text) → is_utf8 text ≡ false
-is_utf8-not text n = by_test (is_utf8 text) refl
-  where
-    by_test : (t : Bool) → is_utf8 text ≡ t → t ≡ false
-    by_test true e = absurd (n (IsUtf8-from_is_utf8 text e))
-    by_test false e = refl

@@ -1,38 +1,32 @@
 -- The operations of a line, and the batch that they form.
-use Rattle.std.specs.Prelude.{◌≡◌, ◌⊎◌, ℕ, List, [], ◌∷◌, ◌++◌, Option, Some, None, option_map, option_and_then, Result, MatchResult}
+use Rattle.std.specs.Prelude.{◌≡◌, ◌⊎◌, ℕ, List, [], ◌∷◌, ◌++◌, Option, Some, None, option_map, Result, MatchResult}
 use Rattle.lsm_device.specs.declared.refusal.Refusal.{Refusal}
 use Rattle.lsm_device.specs.declared.refusal.Refusal.TheVariants.{NoMemory}
 use Rattle.lsm_codec.specs.Keys.{Bytes}
-use Rattle.lsm_language.specs.declared.operations.Change.{Change}
+use Rattle.lsm_language.specs.declared.keyed.Keyed.{Keyed}
 use Rattle.lsm_codec.specs.Map.{Operation}
-use Rattle.lsm_codec.specs.Words.{bytes_said}
-use Rattle.lsm_language.specs.Words.{read_all, after, pair_in}
+use Rattle.lsm_language.specs.Keyed.{keyed_of, keyed_said, pair_said}
+use Rattle.lsm_language.specs.Words.{read_all, after}
 use Rattle.lsm_codec.specs.Answers.{or_then, key_refusal, value_refusal, put_refusal, delete_refusal}
 
--- KEY=VALUE puts
+-- as an operation
+abbrev pub operation_by : Bytes × Option Bytes → Operation
+operation_by keyed = record { key = keyed.0; value = keyed.1 }
+
+abbrev pub operation_of : Keyed → Operation
+operation_of keyed = operation_by (keyed_of keyed)
+
+-- a key and a value put
 abbrev pub put_said : List ℕ × List ℕ → Option Operation
-put_said pair = option_and_then (λ key. option_map (λ value. record { key = key; value = Some value }) (bytes_said pair.1)) (bytes_said pair.0)
+put_said pair = option_map operation_by (pair_said pair)
 
--- KEY deletes
-abbrev pub delete_said : List ℕ → Option Operation
-delete_said word = option_map (λ key. record { key = key; value = None }) (bytes_said word)
-
--- `+KEY=VALUE` or `-KEY`
+-- `+KEY=VALUE` puts, `-KEY` deletes
 abbrev pub change_said : List ℕ → Option Operation
-change_said word = by_mark (after 43 word) (after 45 word)
-  where
-    by_mark : Option (List ℕ) → Option (List ℕ) → Option Operation
-    by_mark (Some pair) minus = option_and_then put_said (pair_in pair)
-    by_mark None (Some key) = delete_said key
-    by_mark None None = None
+change_said word = option_map operation_by (keyed_said (after 43 word) (after 45 word))
 
 -- all of them
 abbrev pub changes_said : List (List ℕ) → Option (List Operation)
 changes_said words = read_all change_said [] words
-
--- as an operation
-abbrev pub operation_of : Change → Operation
-operation_of change = record { key = change.key.items; value = option_map (λ v. v.items) change.value }
 
 -- why a batch doesn't take one operation more
 abbrev pub change_refusal : List Operation → Bytes → Option Bytes → Option Refusal

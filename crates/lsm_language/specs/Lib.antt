@@ -2,7 +2,10 @@ pub mod Numbers
 pub mod Limits
 pub mod Faults
 pub mod Words
+pub mod Keyed
 pub mod Changes
+pub mod Guards
 pub mod Lines
 pub mod Scripts
 pub mod Requests
+pub mod Rows

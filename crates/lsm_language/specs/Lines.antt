@@ -1,19 +1,22 @@
 -- What a line of a script says.
-use Rattle.std.specs.Prelude.{ℕ, ◌==◌, Bool, true, false, List, [], ◌∷◌, codes, Option, Some, None, option_map, option_and_then, if◌then◌else◌}
+use Rattle.std.specs.Prelude.{ℕ, ◌==◌, Bool, true, false, List, [], ◌∷◌, ◌++◌, codes, Option, Some, None, option_map, option_and_then, if◌then◌else◌}
 use Rattle.std.specs.Str.{bytes_eq}
 use Rattle.lsm_device.specs.declared.refusal.Refusal.{Refusal}
+use Rattle.lsm_codec.specs.Answers.{or_then}
+use Rattle.lsm_codec.specs.Guards.{Condition}
 use Rattle.lsm_codec.specs.Keys.{Bytes}
 use Rattle.lsm_codec.specs.Map.{Operation}
 use Rattle.lsm_codec.specs.Words.{bytes_said}
 use Rattle.lsm_store.specs.declared.asked.At.{At}
 use Rattle.lsm_store.specs.declared.asked.At.TheVariants.{Now, Snap}
-use Rattle.lsm_store.specs.Calls.{Call, Commit, Sync, SyncTo, Get, Scan, Snapshot, Release, Rotate, LogRoom}
+use Rattle.lsm_store.specs.Calls.{Call, Commit, CommitIf, Sync, SyncTo, Get, Scan, Snapshot, Release, Rotate, LogRoom}
 use Rattle.lsm_lives.specs.Calls.{call_of}
 use Rattle.lsm_lives.specs.declared.calls.Work.{Work}
 use Rattle.lsm_lives.specs.declared.calls.Work.TheVariants as work
 use Rattle.lsm_language.specs.Numbers.{number_said}
 use Rattle.lsm_language.specs.Words.{read_all, words_in, after}
 use Rattle.lsm_language.specs.Changes.{changes_said, batch_refusal}
+use Rattle.lsm_language.specs.Guards.{guard_said, guards_refusal}
 use Rattle.lsm_language.specs.declared.line.Line.{Line}
 use Rattle.lsm_language.specs.declared.line.Line.TheVariants as line
 use Rattle.lsm_language.specs.declared.line.Kept.{Kept}
@@ -24,7 +27,7 @@ pub data Said : Type 0 where
   call : Call → Said
   -- a piece of work on a job
   piece : Work → Said
-  -- a commit whose operations form no batch
+  -- a commit whose guards or operations can't be formed
   no_batch : Refusal → Said
   fuse : ℕ → Said
   crash_all : Said
@@ -32,21 +35,31 @@ pub data Said : Type 0 where
 
 -- ---- from words
 
--- operations commit as one batch, or are refused as one
+-- a commit is a call, or it is refused as one
+abbrev pub unless_refused : Option Refusal → Call → Said
+unless_refused None commit = call commit
+unless_refused (Some refusal) commit = no_batch refusal
+
 abbrev pub batch_said : List Operation → Said
-batch_said changes = refused (batch_refusal changes)
-  where
-    refused : Option Refusal → Said
-    refused None = call (Commit changes)
-    refused (Some refusal) = no_batch refusal
+batch_said changes = unless_refused (batch_refusal changes) (Commit changes)
+
+-- guards are formed before the batch
+abbrev pub guarded_said : List Condition → List Operation → Said
+guarded_said guards changes = unless_refused (or_then (guards_refusal guards) (batch_refusal changes)) (CommitIf guards changes)
 
 -- there is one operation at least
-abbrev pub some_said : List Operation → Option Said
-some_said [] = None
-some_said (change ∷ changes) = Some (batch_said (change ∷ changes))
+abbrev pub some_said : (List Operation → Said) → List Operation → Option Said
+some_said said [] = None
+some_said said (change ∷ changes) = Some (said (change ∷ changes))
 
 abbrev pub commit_said : List (List ℕ) → Option Said
-commit_said words = option_and_then some_said (changes_said words)
+commit_said words = option_and_then (some_said batch_said) (changes_said words)
+
+-- guards up to the word `then`, after those that were read, and operations behind it
+abbrev pub if_said : List Condition → List (List ℕ) → Option Said
+if_said guards [] = None
+if_said guards (word ∷ words) = if bytes_eq word (codes "then") then option_and_then (some_said (guarded_said guards)) (changes_said words)
+    else option_and_then (λ guard. if_said (guards ++ guard ∷ []) words) (guard_said word)
 
 -- `@S` names a snapshot
 abbrev pub at_said : List ℕ → Option At
@@ -106,7 +119,7 @@ two_said name a b = if bytes_eq name (codes "get") then option_and_then (λ at. 
     else if bytes_eq name (codes "build") then both_said (λ job parts. piece (work.Build job parts)) a b
     else if bytes_eq name (codes "accept") then both_said (λ job result. piece (work.Accept job result)) a b else None
 
--- a line that is no `commit`
+-- a line that is no `commit` and no `if`
 abbrev pub other_said : List ℕ → List (List ℕ) → Option Said
 other_said name [] = bare_said name
 other_said name (a ∷ []) = one_said name a
@@ -115,9 +128,13 @@ other_said name (a ∷ b ∷ c ∷ []) = scan_said name Now a b c
 other_said name (a ∷ b ∷ c ∷ d ∷ []) = option_and_then (λ at. scan_said name at a b c) (at_said d)
 other_said name (a ∷ b ∷ c ∷ d ∷ e ∷ words) = None
 
+-- a line that is no `commit`
+abbrev pub behind_said : List ℕ → List (List ℕ) → Option Said
+behind_said name words = if bytes_eq name (codes "if") then if_said [] words else other_said name words
+
 abbrev pub words_said : List (List ℕ) → Option Said
 words_said [] = None
-words_said (name ∷ words) = if bytes_eq name (codes "commit") then commit_said words else other_said name words
+words_said (name ∷ words) = if bytes_eq name (codes "commit") then commit_said words else behind_said name words
 
 -- what a line says, if it is one of a script
 abbrev pub line_said : List ℕ → Option Said

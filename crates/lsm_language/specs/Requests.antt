@@ -1,9 +1,12 @@
 -- What the words ask for, and what is wrong with them.
-use Rattle.std.specs.Prelude.{◌≡◌, ℕ, List, [], ◌∷◌, Option, Some, None, is_some, unwrap_or, option_map, map, nat_le, ◌&&◌, Bool, true, false, if◌then◌else◌}
+use Rattle.std.specs.Prelude.{◌≡◌, ℕ, List, [], ◌∷◌, Option, Some, None, is_some, unwrap_or, option_map, map, nat_le, ◌&&◌, ◌||◌, Bool, true, false, codes, if◌then◌else◌}
+use Rattle.std.specs.Str.{bytes_eq}
+use Rattle.lsm_device.specs.declared.refusal.Refusal.{Refusal}
 use Rattle.lsm_device.specs.declared.refusal.Refusal.TheVariants.{BadGeometry, BadLimit}
 use Rattle.lsm_codec.specs.Keys.{Bytes}
 use Rattle.lsm_codec.specs.Words.{bytes_said}
 use Rattle.lsm_codec.specs.Answers.{or_then, key_refusal, value_refusal}
+use Rattle.lsm_language.specs.Guards.{guard_refusal}
 use Rattle.lsm_language.specs.Numbers.{number_said}
 use Rattle.lsm_language.specs.Limits.{is_geometry, is_load}
 use Rattle.lsm_language.specs.Faults.{Reason, mistake, refusal}
@@ -37,6 +40,17 @@ number_in word = unwrap_or (number_said word) 0
 abbrev pub bytes_in : List ℕ → Bytes
 bytes_in word = unwrap_or (bytes_said word) []
 
+-- the value that a key is to have: `absent` says that it is to have none
+abbrev pub old_said : List ℕ → Option (Option Bytes)
+old_said word = if bytes_eq word (codes "absent") then Some None else option_map Some (bytes_said word)
+
+abbrev pub old_in : List ℕ → Option Bytes
+old_in word = unwrap_or (old_said word) None
+
+-- why a key's value can't be asked for and then put anew: the guard before the batch
+abbrev pub put_if_refusal : Bytes → Option Bytes → Bytes → Option Refusal
+put_if_refusal key old new = or_then (guard_refusal (record { key = key; value = old })) (or_then (key_refusal key) (value_refusal new))
+
 -- a page has 1 to 64 rows at most
 abbrev pub page_reason : ℕ → Option Reason
 page_reason limit = if nat_le 1 limit && nat_le limit 64 then None else Some (refusal BadLimit)
@@ -45,15 +59,32 @@ page_reason limit = if nat_le 1 limit && nat_le limit 64 then None else Some (re
 abbrev pub wants_script : Asked → Bool
 wants_script (asked.Replay file) = true
 wants_script (asked.Lives sectors log) = is_some (number_said sectors.now) && is_some (number_said log.now)
+wants_script (asked.Explore sectors log) = is_some (number_said sectors.now) && is_some (number_said log.now)
 wants_script _ = false
 
--- the first thing that is wrong: numbers and bytes from the left, then the script, then the limits, then the batch
+-- whether the input is read for rows, and whether it is read at all
+abbrev pub wants_rows : Asked → Bool
+wants_rows (asked.Load file) = true
+wants_rows _ = false
+
+abbrev pub wants_input : Asked → Bool
+wants_input asked = wants_script asked || wants_rows asked
+
+-- whether rows are printed before the answer
+abbrev pub prints_rows : Asked → Bool
+prints_rows (asked.Dump file) = true
+prints_rows _ = false
+
+-- the first thing that is wrong: numbers and bytes from the left, then the script, then the limits, then guards, then the batch
 abbrev pub reason_for : Asked → List ℕ → Option Reason
 reason_for (asked.Format file sectors log) text = or_else (said_reason (number_said sectors.now))
     (or_else (said_reason (number_said log.now)) (limits_reason (number_in sectors.now) (number_in log.now)))
 reason_for (asked.Put file key value) text = or_else (said_reason (bytes_said key.now))
     (or_else (said_reason (bytes_said value.now))
     (option_map refusal (or_then (key_refusal (bytes_in key.now)) (value_refusal (bytes_in value.now)))))
+reason_for (asked.PutIf file key old new) text = or_else (said_reason (bytes_said key.now))
+    (or_else (said_reason (old_said old.now)) (or_else (said_reason (bytes_said new.now))
+    (option_map refusal (put_if_refusal (bytes_in key.now) (old_in old.now) (bytes_in new.now)))))
 reason_for (asked.Delete file key) text = or_else (said_reason (bytes_said key.now))
     (option_map refusal (key_refusal (bytes_in key.now)))
 reason_for (asked.Get file key) text = said_reason (bytes_said key.now)
@@ -61,43 +92,69 @@ reason_for (asked.Scan file from limit) text = or_else (said_reason (bytes_said 
     (or_else (said_reason (number_said limit.now)) (page_reason (number_in limit.now)))
 reason_for (asked.Stat file) text = None
 reason_for (asked.Check file) text = None
+reason_for (asked.Compact file) text = None
+reason_for (asked.Dump file) text = None
+reason_for (asked.Load file) text = None
 reason_for (asked.Replay file) text = said_reason (script_said Steps text)
 reason_for (asked.Lives sectors log) text = or_else (said_reason (number_said sectors.now))
     (or_else (said_reason (number_said log.now)) (or_else (said_reason (script_said Lives text))
     (limits_reason (number_in sectors.now) (number_in log.now))))
+reason_for (asked.Explore sectors log) text = or_else (said_reason (number_said sectors.now))
+    (or_else (said_reason (number_said log.now)) (or_else (said_reason (script_said Steps text))
+    (limits_reason (number_in sectors.now) (number_in log.now))))
 reason_for (asked.Storm clients commits workers) text = or_else (said_reason (number_said clients.now))
     (or_else (said_reason (number_said commits.now)) (or_else (said_reason (number_said workers.now))
     (load_reason (number_in clients.now) (number_in commits.now) (number_in workers.now))))
+reason_for (asked.Tally clients tries) text = or_else (said_reason (number_said clients.now))
+    (or_else (said_reason (number_said tries.now)) (load_reason (number_in clients.now) (number_in tries.now) 0))
 
 -- the path of the file that a request is about, if it is about one
 abbrev pub file_of : Request → Option (List ℕ)
 file_of (request.Format path geometry) = Some path.now
-file_of (request.Commit path batch) = Some path.now
+file_of (request.Put path batch) = Some path.now
+file_of (request.PutIf path guards batch) = Some path.now
+file_of (request.Delete path batch) = Some path.now
 file_of (request.Get path key) = Some path.now
 file_of (request.Scan path from limit) = Some path.now
 file_of (request.Stat path) = Some path.now
 file_of (request.Check path) = Some path.now
+file_of (request.Compact path) = Some path.now
+file_of (request.Dump path) = Some path.now
+file_of (request.Load path) = Some path.now
 file_of (request.Replay path script) = Some path.now
 file_of (request.Lives geometry script) = None
+file_of (request.Explore geometry script) = None
 file_of (request.Storm load) = None
+file_of (request.Tally load) = None
 
--- the request has the numbers and bytes that the words say, the batch of one operation on them, and what the script says
+-- the request has the numbers and bytes that the words say, the batch of one operation on them and one guard where they ask for
+-- one, and what the script says
 abbrev pub Says : Asked → List ℕ → Request → Type 0
 Says (asked.Format file sectors log) text (request.Format path geometry) = (path.now ≡ file.now)
     × (number_said sectors.now ≡ Some geometry.sectors) × (number_said log.now ≡ Some geometry.log_sectors)
-Says (asked.Put file key value) text (request.Commit path batch) = (path.now ≡ file.now)
+Says (asked.Put file key value) text (request.Put path batch) = (path.now ≡ file.now)
     × (batch ≡ record { key = bytes_in key.now; value = Some (bytes_in value.now) } ∷ [])
-Says (asked.Delete file key) text (request.Commit path batch) = (path.now ≡ file.now)
+Says (asked.PutIf file key old new) text (request.PutIf path guards batch) = (path.now ≡ file.now)
+    × (guards.items ≡ record { key = bytes_in key.now; value = old_in old.now } ∷ [])
+    × (batch ≡ record { key = bytes_in key.now; value = Some (bytes_in new.now) } ∷ [])
+Says (asked.Delete file key) text (request.Delete path batch) = (path.now ≡ file.now)
     × (batch ≡ record { key = bytes_in key.now; value = None } ∷ [])
 Says (asked.Get file key) text (request.Get path bytes) = (path.now ≡ file.now) × (bytes_said key.now ≡ Some bytes.items)
 Says (asked.Scan file from limit) text (request.Scan path bytes rows) = (path.now ≡ file.now)
     × (bytes_said from.now ≡ Some bytes.items) × (number_said limit.now ≡ Some rows)
 Says (asked.Stat file) text (request.Stat path) = path.now ≡ file.now
 Says (asked.Check file) text (request.Check path) = path.now ≡ file.now
+Says (asked.Compact file) text (request.Compact path) = path.now ≡ file.now
+Says (asked.Dump file) text (request.Dump path) = path.now ≡ file.now
+Says (asked.Load file) text (request.Load path) = path.now ≡ file.now
 Says (asked.Replay file) text (request.Replay path script) = (path.now ≡ file.now)
     × (script_said Steps text ≡ Some (map means script.items))
 Says (asked.Lives sectors log) text (request.Lives geometry script) = (number_said sectors.now ≡ Some geometry.sectors)
     × (number_said log.now ≡ Some geometry.log_sectors) × (script_said Lives text ≡ Some (map means script.items))
+Says (asked.Explore sectors log) text (request.Explore geometry script) = (number_said sectors.now ≡ Some geometry.sectors)
+    × (number_said log.now ≡ Some geometry.log_sectors) × (script_said Steps text ≡ Some (map means script.items))
 Says (asked.Storm clients commits workers) text (request.Storm load) = (number_said clients.now ≡ Some load.clients)
     × (number_said commits.now ≡ Some load.commits) × (number_said workers.now ≡ Some load.workers)
+Says (asked.Tally clients tries) text (request.Tally load) = (number_said clients.now ≡ Some load.clients)
+    × (number_said tries.now ≡ Some load.commits) × (load.workers ≡ 0)
 Says _ _ _ = ⊥

@@ -13,6 +13,12 @@ pub enum Asked<'a> {
         key: &'a str,
         value: &'a str,
     },
+    PutIf {
+        file: &'a str,
+        key: &'a str,
+        old: &'a str,
+        new: &'a str,
+    },
     Delete {
         file: &'a str,
         key: &'a str,
@@ -32,6 +38,15 @@ pub enum Asked<'a> {
     Check {
         file: &'a str,
     },
+    Compact {
+        file: &'a str,
+    },
+    Dump {
+        file: &'a str,
+    },
+    Load {
+        file: &'a str,
+    },
     Replay {
         file: &'a str,
     },
@@ -39,9 +54,17 @@ pub enum Asked<'a> {
         sectors: &'a str,
         log: &'a str,
     },
+    Explore {
+        sectors: &'a str,
+        log: &'a str,
+    },
     Storm {
         clients: &'a str,
         commits: &'a str,
         workers: &'a str,
+    },
+    Tally {
+        clients: &'a str,
+        tries: &'a str,
     },
 }

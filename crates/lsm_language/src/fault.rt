@@ -31,15 +31,22 @@ pub enum Usage {
     /// A word says no bytes.
     #[error("{place} is {word:?}: expected hex, two digits a byte, or empty for no bytes")]
     Bytes { place: &'static str, word: String },
+    /// A word says neither bytes nor that there are none.
+    #[error("OLD is {word:?}: expected hex, two digits a byte, empty for no bytes, or absent for no value")]
+    Old { word: String },
     /// A line of the script, counted from 1, is none of its language.
     #[error("line {number} of the script can't be read: {line:?}")]
     Line { number: usize, line: String },
+    /// A line of the input, counted from 1, is no row.
+    #[error("line {number} of the input is no row KEY VALUE: {line:?}")]
+    Row { number: u64, line: String },
     /// A line of the script, counted from 1, may not stand there.
     #[error("line {number} of the script may not stand there: {line:?}")]
     Misplaced { number: usize, line: String },
 }
 
-/// A mistake in the words or the script, a refusal, a file that another program has, or a script that could not be read.
+/// A mistake in the words or the input, a refusal, a file that another program has, an input that could not be read, or an
+/// answer that could not be written.
 #[derive(Debug, Drop, Error)]
 pub enum Fault {
     #[error("{0}")]
@@ -48,8 +55,10 @@ pub enum Fault {
     Refused(Refusal),
     #[error("the file is in use")]
     InUse,
-    #[error("the script could not be read: {0}")]
+    #[error("the input could not be read: {0}")]
     Input(io::Error),
+    #[error("the answer could not be written: {0}")]
+    Output(io::Error),
 }
 
 impl From<Usage> for Fault {

@@ -40,7 +40,7 @@ fn wants_script(asked: &Asked<'_>) -> bool
 {
     match asked {
         Asked::Replay { .. } => true,
-        Asked::Lives { sectors, log } => {
+        Asked::Lives { sectors, log } | Asked::Explore { sectors, log } => {
             parse_number(sectors).is_some() && parse_number(log).is_some()
         }
         _ => false,

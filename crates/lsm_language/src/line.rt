@@ -1,9 +1,13 @@
 //! One line of a script.
 
-ghost use Rattle.std.specs.Prelude.{map, option_and_then, option_map};
+ghost use Rattle.std.specs.Prelude.{[], map, option_and_then, option_map};
+ghost use Rattle.lsm_language.specs.Changes.{changes_said};
+ghost use Rattle.lsm_language.specs.Guards.{condition_of};
 ghost use Rattle.lsm_language.specs.Words.{Reads};
-ghost use Rattle.lsm_language.specs.Lines.{means, line_said, commit_said, other_said, bare_said, one_said, two_said, piece_said, get_said, scan_said, end_said, at_said, crash_said, places_said, place_said};
+ghost use Rattle.lsm_language.specs.Lines.{means, line_said, behind_said, commit_said, guarded_said, if_said, some_said, other_said, bare_said, one_said, two_said, piece_said, get_said, scan_said, end_said, at_said, crash_said, places_said, place_said};
 
+use crate::guards::{guards_of, read_guard};
+use crate::keyed::Keyed;
 use crate::operations::{batch_of, read_changes};
 use crate::words::{Unread, after, bytes, number_in, words_of};
 use lsm_device::Refusal;
@@ -18,7 +22,7 @@ pub enum Line {
     Call(Call),
     /// A piece of work on the store's jobs.
     Work(Work),
-    /// A commit whose operations form no batch: no call is made, and this refusal is the reply.
+    /// A commit whose guards or operations can't be formed: no call is made, and this refusal is the reply.
     NoBatch(Refusal),
     /// Sets the fuse of a life.
     Fuse(u64),
@@ -45,11 +49,21 @@ pub fn read_line(alloc: Global, line: &str) -> Result<Line, Unread>
     };
     match *name {
         "commit" => commit(alloc, rest),
+        _ => read_behind(alloc, name, rest),
+    }
+}
+
+// Reads a line that is no `commit`, from its first word and the others.
+fn read_behind(alloc: Global, name: &str, rest: &[&str]) -> Result<Line, Unread>
+    ensures { Reads means (behind_said name.now (map (λ word. word.now) rest.now)) result }
+{
+    match name {
+        "if" => commit_if(alloc, rest),
         _ => read_other(alloc, name, rest),
     }
 }
 
-// Reads a line that is no commit, from its first word and the others.
+// Reads a line that commits nothing, from its first word and the others.
 fn read_other(alloc: Global, name: &str, rest: &[&str]) -> Result<Line, Unread>
     ensures { Reads means (other_said name.now (map (λ word. word.now) rest.now)) result }
 {
@@ -146,6 +160,41 @@ fn commit(alloc: Global, words: &[&str]) -> Result<Line, Unread>
     };
     match batch_of(alloc, first, rest) {
         Ok(batch) => Ok(Line::Call(Call::Commit(batch))),
+        Err(Refusal::NoMemory) => Err(Unread::NoMemory),
+        Err(refusal) => Ok(Line::NoBatch(refusal)),
+    }
+}
+
+// Reads guards up to the word `then`, and the operations behind it.
+fn commit_if(alloc: Global, words: &[&str]) -> Result<Line, Unread>
+    ensures { Reads means (if_said [] (map (λ word. word.now) words.now)) result }
+{
+    let mut guards = Vec::new(alloc);
+    for (place, word) in words.iter().enumerate() {
+        if *word == "then" {
+            return guarded(alloc, &guards, &words[place + 1..]);
+        }
+        guards.push(read_guard(alloc, word)?)?;
+    }
+    Err(Unread::Malformed)
+}
+
+// Reads the operations behind guards. The guards are formed before the batch.
+fn guarded(alloc: Global, guards: &[Keyed], words: &[&str]) -> Result<Line, Unread>
+    ensures { Reads means (option_and_then (some_said (guarded_said (map condition_of guards.now)))
+        (changes_said (map (λ word. word.now) words.now))) result }
+{
+    let changes = read_changes(alloc, words)?;
+    let Some((first, rest)) = changes.split_first() else {
+        return Err(Unread::Malformed);
+    };
+    let guards = match guards_of(alloc, guards) {
+        Ok(guards) => guards,
+        Err(Refusal::NoMemory) => return Err(Unread::NoMemory),
+        Err(refusal) => return Ok(Line::NoBatch(refusal)),
+    };
+    match batch_of(alloc, first, rest) {
+        Ok(batch) => Ok(Line::Call(Call::CommitIf(guards, batch))),
         Err(Refusal::NoMemory) => Err(Unread::NoMemory),
         Err(refusal) => Ok(Line::NoBatch(refusal)),
     }

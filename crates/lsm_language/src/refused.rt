@@ -5,7 +5,8 @@ ghost use Rattle.std.specs.Prelude.{◌≡◌};
 use lsm_device::Refusal;
 use std::fmt;
 
-/// A refusal as the program prints it: `refused`, its number in two digits, and its name.
+/// A refusal as the program prints it: `refused`, its number in two digits, and its name; and behind it the place of the guard that is
+/// false, where it tells one.
 #[derive(Clone, Copy)]
 pub struct RefusalText {
     refusal: Refusal,
@@ -27,6 +28,10 @@ impl fmt::Display for RefusalText {
     fn fmt<W: fmt::Write>(&self, f: &mut fmt::Formatter<W>) -> fmt::Result {
         let (tens, ones) = (self.refusal.number() / 10, self.refusal.number() % 10);
         let name = self.refusal.name();
-        write!(f, "refused {tens}{ones} {name}")
+        write!(f, "refused {tens}{ones} {name}")?;
+        match self.refusal.place() {
+            Some(place) => write!(f, " {place}"),
+            None => Ok(()),
+        }
     }
 }

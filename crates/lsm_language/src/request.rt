@@ -5,20 +5,22 @@ ghost use Rattle.lsm_device.specs.declared.refusal.Refusal.TheVariants.{NoMemory
 ghost use Rattle.lsm_codec.specs.Answers.{Answers, or_then, key_refusal, value_refusal};
 ghost use Rattle.lsm_codec.specs.Words.{bytes_said};
 ghost use Rattle.lsm_language.specs.Faults.{reason_of, mistake, refusal};
+ghost use Rattle.lsm_language.specs.Guards.{condition_of};
 ghost use Rattle.lsm_language.specs.Numbers.{number_said};
 ghost use Rattle.lsm_language.specs.Lines.{means};
-ghost use Rattle.lsm_language.specs.Requests.{bytes_in, limits_reason, load_reason, number_in, or_else, page_reason, said_reason};
+ghost use Rattle.lsm_language.specs.Requests.{bytes_in, limits_reason, load_reason, number_in, old_in, old_said, or_else, page_reason, put_if_refusal, said_reason};
 ghost use Rattle.lsm_language.specs.Scripts.{script_said};
-ghost use Rattle.lsm_language.specs.declared.script.Kind.TheVariants.{Lives};
 
 use crate::asked::Asked;
 use crate::fault::{Fault, Usage};
 use crate::geometry::Geometry;
+use crate::guards::guard;
+use crate::keyed::Keyed;
 use crate::line::Line;
 use crate::load::Load;
 use crate::number::parse_number;
 use crate::script::{Kind, read_script};
-use lsm_codec::{Batch, Op, unword};
+use lsm_codec::{Batch, Guard, Op, unword};
 use lsm_device::Refusal;
 use std::alloc::Global;
 
@@ -30,8 +32,19 @@ pub enum Request<'a> {
         file: &'a str,
         geometry: Geometry,
     },
-    /// Commit a batch and sync it.
-    Commit {
+    /// Commit a batch that puts, and sync it.
+    Put {
+        file: &'a str,
+        batch: Batch,
+    },
+    /// Commit a batch that puts where guards are true, and sync it.
+    PutIf {
+        file: &'a str,
+        guards: Vec<Guard>,
+        batch: Batch,
+    },
+    /// Commit a batch of deletes alone, and sync it.
+    Delete {
         file: &'a str,
         batch: Batch,
     },
@@ -54,6 +67,18 @@ pub enum Request<'a> {
     Check {
         file: &'a str,
     },
+    /// Merge all tables into the last level.
+    Compact {
+        file: &'a str,
+    },
+    /// Print all rows.
+    Dump {
+        file: &'a str,
+    },
+    /// Put the rows that standard input has.
+    Load {
+        file: &'a str,
+    },
     /// Make the steps of a script.
     Replay {
         file: &'a str,
@@ -64,8 +89,18 @@ pub enum Request<'a> {
         geometry: Geometry,
         script: Vec<Line>,
     },
+    /// Stop the steps of a script, on a device in memory, at each write and sync, and crash them by each mask; and so each opening
+    /// behind.
+    Explore {
+        geometry: Geometry,
+        script: Vec<Line>,
+    },
     /// Let clients and workers share a store in memory, in threads.
     Storm {
+        load: Load,
+    },
+    /// Let clients count together, in threads.
+    Tally {
         load: Load,
     },
 }
@@ -77,19 +112,27 @@ impl<'a> Request<'a> {
     {
         match self {
             Request::Format { file, .. }
-            | Request::Commit { file, .. }
+            | Request::Put { file, .. }
+            | Request::PutIf { file, .. }
+            | Request::Delete { file, .. }
             | Request::Get { file, .. }
             | Request::Scan { file, .. }
             | Request::Stat { file }
             | Request::Check { file }
+            | Request::Compact { file }
+            | Request::Dump { file }
+            | Request::Load { file }
             | Request::Replay { file, .. } => Some(*file),
-            Request::Lives { .. } | Request::Storm { .. } => None,
+            Request::Lives { .. }
+            | Request::Explore { .. }
+            | Request::Storm { .. }
+            | Request::Tally { .. } => None,
         }
     }
 
     ghost use Rattle.lsm_language.specs.Requests.{file_of, reason_for, Says};
 
-    /// Reads numbers and bytes from the left, then the text of the script, then tests the limits, then makes the batch.
+    /// Reads numbers and bytes from the left, then the text of the script, then tests the limits, then forms guards and batch.
     pub fn read(alloc: Global, asked: Asked<'a>, text: &[u8]) -> Result<Request<'a>, Fault>
         ensures { MatchResult result (λ r. (reason_for asked.entry text.now ≡ None) × Says asked.entry text.now r)
             (λ e. (reason_for asked.entry text.now ≡ Some (reason_of e)) ⊎ (reason_of e ≡ refusal NoMemory)) }
@@ -101,11 +144,24 @@ impl<'a> Request<'a> {
             }
             Asked::Put { file, key, value } => {
                 let batch = put_in(alloc, key, value)?;
-                Ok(Request::Commit { file, batch })
+                Ok(Request::Put { file, batch })
+            }
+            Asked::PutIf {
+                file,
+                key,
+                old,
+                new,
+            } => {
+                let (guards, batch) = put_if_in(alloc, key, old, new)?;
+                Ok(Request::PutIf {
+                    file,
+                    guards,
+                    batch,
+                })
             }
             Asked::Delete { file, key } => {
                 let batch = delete_in(alloc, key)?;
-                Ok(Request::Commit { file, batch })
+                Ok(Request::Delete { file, batch })
             }
             Asked::Get { file, key } => {
                 let key = bytes(alloc, key, "KEY")?;
@@ -118,13 +174,20 @@ impl<'a> Request<'a> {
             }
             Asked::Stat { file } => Ok(Request::Stat { file }),
             Asked::Check { file } => Ok(Request::Check { file }),
+            Asked::Compact { file } => Ok(Request::Compact { file }),
+            Asked::Dump { file } => Ok(Request::Dump { file }),
+            Asked::Load { file } => Ok(Request::Load { file }),
             Asked::Replay { file } => {
                 let script = read_script(alloc, Kind::Steps, text)?;
                 Ok(Request::Replay { file, script })
             }
             Asked::Lives { sectors, log } => {
-                let (geometry, script) = lives_in(alloc, sectors, log, text)?;
+                let (geometry, script) = scripted(alloc, Kind::Lives, sectors, log, text)?;
                 Ok(Request::Lives { geometry, script })
+            }
+            Asked::Explore { sectors, log } => {
+                let (geometry, script) = scripted(alloc, Kind::Steps, sectors, log, text)?;
+                Ok(Request::Explore { geometry, script })
             }
             Asked::Storm {
                 clients,
@@ -133,6 +196,10 @@ impl<'a> Request<'a> {
             } => {
                 let load = load_in(alloc, clients, commits, workers)?;
                 Ok(Request::Storm { load })
+            }
+            Asked::Tally { clients, tries } => {
+                let load = tally_in(alloc, clients, tries)?;
+                Ok(Request::Tally { load })
             }
         }
     }
@@ -165,6 +232,33 @@ fn put_in(alloc: Global, key: &str, value: &str) -> Result<Batch, Fault>
     Ok(batch)
 }
 
+// The guard that the key of one word has the value of another, or none, and the batch that puts the value of a third under it.
+fn put_if_in(alloc: Global, key: &str, old: &str, new: &str) -> Result<(Vec<Guard>, Batch), Fault>
+    ensures { let reason = or_else (said_reason (bytes_said key.now)) (or_else (said_reason (old_said old.now))
+        (or_else (said_reason (bytes_said new.now)) (option_map refusal (put_if_refusal (bytes_in key.now) (old_in old.now) (bytes_in new.now))))) in
+        MatchResult result
+        (λ r. (reason ≡ None) × (r.0.items ≡ record { key = bytes_in key.now; value = old_in old.now } ∷ [])
+        × (r.1 ≡ record { key = bytes_in key.now; value = Some (bytes_in new.now) } ∷ []))
+        (λ e. (reason ≡ Some (reason_of e)) ⊎ (reason_of e ≡ refusal NoMemory)) }
+{
+    let key = bytes(alloc, key, "KEY")?;
+    let value = old_value(alloc, old)?;
+    let new = bytes(alloc, new, "NEW")?;
+    Ok(put_if(alloc, &Keyed { key, value }, &new)?)
+}
+
+fn put_if(alloc: Global, wanted: &Keyed, new: &[u8]) -> Result<(Vec<Guard>, Batch), Refusal>
+    ensures { let reason = put_if_refusal wanted.now.key.items (condition_of wanted.now).value new.now in
+        MatchResult result
+        (λ r. (reason ≡ None) × (r.0.items ≡ condition_of wanted.now ∷ []) × (r.1 ≡ record { key = wanted.now.key.items; value = Some new.now } ∷ []))
+        (λ e. (reason ≡ Some e) ⊎ (e ≡ NoMemory)) }
+{
+    let mut guards = Vec::new(alloc);
+    guards.push(guard(alloc, wanted)?)?;
+    let batch = put_batch(alloc, &wanted.key, new)?;
+    Ok((guards, batch))
+}
+
 // The batch that deletes the key of a word.
 fn delete_in(alloc: Global, key: &str) -> Result<Batch, Fault>
     ensures { let reason = or_else (said_reason (bytes_said key.now)) (option_map refusal (key_refusal (bytes_in key.now))) in
@@ -190,23 +284,24 @@ fn limit_in(alloc: Global, limit: &str) -> Result<u64, Fault>
     Ok(limit)
 }
 
-// The sizes of a store that two words say, and the lives of a script.
-fn lives_in(
+// The sizes of a store that two words say, and a script of this kind.
+fn scripted(
     alloc: Global,
+    kind: Kind,
     sectors: &str,
     log: &str,
     text: &[u8],
 ) -> Result<(Geometry, Vec<Line>), Fault>
     ensures { let reason = or_else (said_reason (number_said sectors.now)) (or_else (said_reason (number_said log.now))
-        (or_else (said_reason (script_said Lives text.now)) (limits_reason (number_in sectors.now) (number_in log.now)))) in
+        (or_else (said_reason (script_said kind text.now)) (limits_reason (number_in sectors.now) (number_in log.now)))) in
         MatchResult result
         (λ r. (reason ≡ None) × (number_said sectors.now ≡ Some r.0.sectors) × (number_said log.now ≡ Some r.0.log_sectors)
-        × (script_said Lives text.now ≡ Some (map means r.1.items)))
+        × (script_said kind text.now ≡ Some (map means r.1.items)))
         (λ e. (reason ≡ Some (reason_of e)) ⊎ (reason_of e ≡ refusal NoMemory)) }
 {
     let sectors = number(alloc, sectors, "SECTORS")?;
     let log_sectors = number(alloc, log, "LOG")?;
-    let script = read_script(alloc, Kind::Lives, text)?;
+    let script = read_script(alloc, kind, text)?;
     let geometry = Geometry::new(sectors, log_sectors)?;
     Ok((geometry, script))
 }
@@ -224,6 +319,19 @@ fn load_in(alloc: Global, clients: &str, commits: &str, workers: &str) -> Result
     let commits = number(alloc, commits, "COMMITS")?;
     let workers = number(alloc, workers, "WORKERS")?;
     Ok(Load::new(clients, commits, workers)?)
+}
+
+// How many clients count together, and how often each tries: as clients and commits of a storm without workers.
+fn tally_in(alloc: Global, clients: &str, tries: &str) -> Result<Load, Fault>
+    ensures { let reason = or_else (said_reason (number_said clients.now)) (or_else (said_reason (number_said tries.now))
+        (load_reason (number_in clients.now) (number_in tries.now) 0)) in
+        MatchResult result
+        (λ l. (reason ≡ None) × (number_said clients.now ≡ Some l.clients) × (number_said tries.now ≡ Some l.commits) × (l.workers ≡ 0))
+        (λ e. (reason ≡ Some (reason_of e)) ⊎ (reason_of e ≡ refusal NoMemory)) }
+{
+    let clients = number(alloc, clients, "CLIENTS")?;
+    let tries = number(alloc, tries, "TRIES")?;
+    Ok(Load::new(clients, tries, 0)?)
 }
 
 // The number that the word at a place says.
@@ -250,6 +358,23 @@ fn bytes(alloc: Global, word: &str, place: &'static str) -> Result<Vec<u8>, Faul
         None => {
             let word = String::from_str(alloc, word)?;
             Err(Fault::Usage(Usage::Bytes { place, word }))
+        }
+    }
+}
+
+// The value that a key is to have, as the word OLD says it: `absent` for none.
+fn old_value(alloc: Global, word: &str) -> Result<Option<Vec<u8>>, Fault>
+    ensures { MatchResult result (λ v. old_said word.now ≡ Some (option_map (λ bytes. bytes.items) v))
+        (λ e. ((old_said word.now ≡ None) × (reason_of e ≡ mistake)) ⊎ (reason_of e ≡ refusal NoMemory)) }
+{
+    if word == "absent" {
+        return Ok(None);
+    }
+    match unword(alloc, word)? {
+        Some(bytes) => Ok(Some(bytes)),
+        None => {
+            let word = String::from_str(alloc, word)?;
+            Err(Fault::Usage(Usage::Old { word }))
         }
     }
 }

@@ -1,3 +1,7 @@
 pub mod LifeLaws
 pub mod EndingLaws
-pub mod SettlingLaws
+pub mod RefusedLaws
+pub mod CommittingLaws
+pub mod DumpingLaws
+pub mod LoadingLaws
+pub mod ReadingLaws

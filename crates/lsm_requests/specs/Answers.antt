@@ -1,7 +1,9 @@
 -- What the program prints.
-use Rattle.std.specs.Prelude.{◌≡◌, ℕ, ◌+◌, ◌*◌, List, [], ◌∷◌, ◌++◌, map, Option, Some, None, Result, Ok, Err, IfOk, IsTrue, codes, decimal, string_bytes}
+use Rattle.std.specs.Prelude.{◌≡◌, ◌⊎◌, ℕ, ◌+◌, ◌*◌, ◌==◌, List, [], ◌∷◌, ◌++◌, map, Option, Some, None, Result, Ok, Err, IfOk, IfSome, IsTrue, false, true, codes, decimal, string_bytes}
+use Rattle.std.specs.Io.KnownBytes.{Appends}
+use Rattle.lsm_language.specs.Faults.{Reason, mistake, in_use, unwritten}
+use Rattle.lsm_language.specs.Rows.{are_rows, lines_of as lines_in}
 use Rattle.lsm_codec.specs.Keys.{Bytes}
-use Rattle.lsm_codec.specs.Map.{Operation}
 use Rattle.lsm_codec.specs.Words.{word_of}
 use Rattle.lsm_codec.specs.Geometry.{data_blocks_of}
 use Rattle.lsm_mem.specs.Paging.{Page}
@@ -19,27 +21,39 @@ use Rattle.lsm_check.specs.declared.finding.Finding.{Finding}
 use Rattle.lsm_check.specs.declared.finding.Finding.TheVariants as finding
 use Rattle.lsm_check.specs.declared.report.Report.{Report}
 use Rattle.lsm_store.specs.declared.asked.At.TheVariants.{Now}
-use Rattle.lsm_store.specs.Calls.{Commit, Get, Scan, Sync, Done, Number, Rows, Value as Found}
+use Rattle.lsm_store.specs.Calls.{Call, Commit, CommitIf, Get, Scan, Sync, Done, Number, Rows, Value as Found}
 use Rattle.lsm_store.specs.Backing.{StoreView, machine_of}
 use Rattle.lsm_store.specs.Serving.{Serves, ReopensTo}
 use Rattle.lsm_store.specs.Stats.{stat_answer}
 use Rattle.lsm_store.specs.declared.stat.Stat.{Stat}
 use Rattle.lsm_lives.specs.Asked.{Asked, Told as LivesTold}
 use Rattle.lsm_lives.specs.Calls.{asked_of}
+use Rattle.lsm_lives.specs.Exploring.{IsExplored}
 use Rattle.lsm_lives.specs.Replaying.{MakesEach}
-use Rattle.lsm_lives.specs.Leading.{AreLed, LifeView}
+use Rattle.lsm_lives.specs.declared.exploring.Explored.{Explored}
+use Rattle.lsm_lives.specs.Leading.{AreLed, HasNewCache, LifeView}
 use Rattle.lsm_lives.specs.Living.{KeepPromise, asked_in}
 use Rattle.lsm_requests.specs.Steps.{steps_after, told_after, lives_said, told_lives}
-use Rattle.lsm_requests.specs.Settling.{Settles}
+use Rattle.lsm_upkeep.specs.Upkeep.{CompactsAll}
+use Rattle.lsm_requests.specs.Commits.{HasCommitted, IsKeptUp}
+use Rattle.lsm_requests.specs.Dumping.{HasDumped}
+use Rattle.lsm_requests.specs.Loading.{HasLoaded, loaded_line}
 use Rattle.lsm_requests.specs.Replies.{page_lines, stat_line, report_line, table_line, counts_lines, replies_text, lives_text}
 use Rattle.lsm_requests.specs.declared.steps.Told.{Told}
 use Rattle.lsm_storm.specs.Storms.{HasStormed}
+use Rattle.lsm_storm.specs.Tallies.{HasTallied}
 use Rattle.lsm_storm.specs.declared.counts.Counts.{Counts}
+use Rattle.lsm_storm.specs.declared.tallying.Tallied.{Tallied}
 use Rattle.lsm_language.specs.declared.request.Request.{Request}
 use Rattle.lsm_language.specs.declared.request.Request.TheVariants as request
 use Rattle.lsm_requests.specs.declared.answer.Answer.{Answer}
 use Rattle.lsm_requests.specs.declared.answer.Output.{Output}
-use Rattle.lsm_requests.specs.declared.answer.Output.TheVariants.{Formatted, Batch, Value, Absent, Lines, Found as FoundWrong}
+use Rattle.lsm_requests.specs.declared.answer.Output.TheVariants.{Formatted, Batch, Value, Absent, Lines, Loaded, Dumped, Found as FoundWrong, Explored as CountsCrashes, Tally}
+
+-- what an exploration counted
+abbrev pub explored_line : Explored → List ℕ
+explored_line counts = codes "first " ++ decimal counts.first ++ codes " second " ++ decimal counts.second
+    ++ codes " skipped " ++ decimal counts.skipped ++ codes " wrong " ++ decimal counts.wrong ++ 10 ∷ []
 
 -- the lines that are printed
 abbrev pub output_lines : Output → List ℕ
@@ -48,7 +62,12 @@ output_lines (Batch number) = codes "batch " ++ decimal number ++ 10 ∷ []
 output_lines (Value word) = codes "value " ++ string_bytes word ++ 10 ∷ []
 output_lines Absent = codes "absent" ++ 10 ∷ []
 output_lines (Lines text) = string_bytes text
+output_lines (Loaded number) = loaded_line number
+output_lines Dumped = []
 output_lines (FoundWrong text) = string_bytes text
+output_lines (CountsCrashes counts) = explored_line counts
+output_lines (Tally true) = codes "tally ok" ++ 10 ∷ []
+output_lines (Tally false) = codes "tally bad" ++ 10 ∷ []
 
 abbrev pub lines_of : Answer → List ℕ
 lines_of answer = output_lines answer.output
@@ -72,11 +91,12 @@ abbrev pub Hands : Option FileDevice → Medium → Type 0
 Hands (Some file) device = file_medium file ≡ device
 Hands None device = ⊥
 
--- an opening of a file in which no call was made yet answered this store
+-- an opening of a file in which no call was made yet answered this store, whose cache is new
 pub record WasOpened (store : StoreView) : Type 0 where
   pub file : FileDevice
   pub unused : file.calls ≡ no_calls
   pub opened : ReopensTo (file_medium file) store
+  pub cache : HasNewCache store
 
 -- A file was opened, and the store, which went on to another state, answers so. The file is handed out as the calls left it.
 pub record OfOpened (Tells : StoreView → StoreView → Output → Type 0) (answer : Answer) : Type 0 where
@@ -85,16 +105,6 @@ pub record OfOpened (Tells : StoreView → StoreView → Output → Type 0) (ans
   pub opened : WasOpened store
   pub tells : Tells store after answer.output
   pub hands : Hands answer.file after.device
-
--- the store was settled, then a batch was committed and synced, and its number is told
-pub record HasCommitted (batch : List Operation) (before after : StoreView) (output : Output) : Type 0 where
-  pub number : ℕ
-  pub settled : StoreView
-  pub between : StoreView
-  pub settles : Settles before settled
-  pub commits : Serves settled (Commit batch) (Number number) between
-  pub syncs : Serves between Sync Done after
-  pub told : output ≡ Batch number
 
 -- a value is told by its word
 abbrev pub TellsValue : Option Bytes → Output → Type 0
@@ -125,6 +135,13 @@ pub record HasNumbers (before after : StoreView) (output : Output) : Type 0 wher
   pub numbers : stat_answer (machine_of before) ≡ Ok stat
   pub same : after ≡ before
   pub told : HasLines (stat_line stat) output
+
+-- the store was kept up, then its tables were taken down as far as they go, and its numbers are told
+pub record HasCompacted (before after : StoreView) (output : Output) : Type 0 where
+  pub kept : StoreView
+  pub keeps : IsKeptUp before kept
+  pub compacts : CompactsAll kept after
+  pub numbers : HasNumbers after after output
 
 -- this line tells what was found wrong
 abbrev pub TellsFound : List ℕ → Output → Type 0
@@ -179,14 +196,56 @@ pub record HasCounted (threads : ℕ) (output : Output) : Type 0 where
   pub stormed : HasStormed threads counts
   pub told : HasLines (counts_lines counts) output
 
--- what answers a request
+-- Every crash of a life of these steps was explored, on a device in memory of so many sectors, and every crash of the openings
+-- behind it; nothing was wrong, and what was counted is told.
+pub record HasExplored (sectors log_sectors : ℕ) (asked : List Asked) (output : Output) : Type 0 where
+  pub counts : Explored
+  pub explored : IsExplored sectors log_sectors asked true counts
+  pub right : counts.wrong ≡ 0
+  pub told : output ≡ CountsCrashes counts
+
+-- so many clients raised a counter in memory, and it is told whether it is the number of their accepted commits
+pub record HasCountedTogether (clients : ℕ) (output : Output) : Type 0 where
+  pub tally : Tallied
+  pub tallied : HasTallied clients tally
+  pub told : output ≡ Tally (tally.count == tally.accepted)
+
+-- what answers a request, where no line was printed before the answer, and no input was read
 abbrev pub Gives : Request → Answer → Type 0
 Gives (request.Format file geometry) = HasFormatted geometry.sectors geometry.log_sectors
-Gives (request.Commit file batch) = OfOpened (HasCommitted batch)
+Gives (request.Put file batch) = OfOpened (HasCommitted true (Commit batch))
+Gives (request.PutIf file guards batch) = OfOpened (HasCommitted true (CommitIf guards.items batch))
+Gives (request.Delete file batch) = OfOpened (HasCommitted false (Commit batch))
 Gives (request.Get file key) = OfOpened (HasFound key.items)
 Gives (request.Scan file from limit) = OfOpened (HasRows from.items limit)
 Gives (request.Stat file) = OfOpened HasNumbers
 Gives (request.Check file) = HasChecked
+Gives (request.Compact file) = OfOpened HasCompacted
+Gives (request.Dump file) = λ answer. ⊥
+Gives (request.Load file) = λ answer. ⊥
 Gives (request.Replay file script) = OfOpened (HasReplies (map asked_of (steps_after [] script.items)) (told_after [] script.items))
 Gives (request.Lives geometry script) = λ answer. HasLives geometry.sectors geometry.log_sectors (lives_said script.items) (told_lives script.items) answer.output
+Gives (request.Explore geometry script) = λ answer. HasExplored geometry.sectors geometry.log_sectors (map asked_of (steps_after [] script.items)) answer.output
 Gives (request.Storm load) = λ answer. HasCounted (load.clients + load.workers) answer.output
+Gives (request.Tally load) = λ answer. HasCountedTogether load.clients answer.output
+
+-- all rows of a store in a file were printed, before the answer
+pub record OfDumped (output output_after : Option (List ℕ)) (answer : Answer) : Type 0 where
+  pub printed : List ℕ
+  pub appends : Appends output output_after printed
+  pub dumps : OfOpened (HasDumped printed) answer
+
+-- What a request comes to, of this input: an answer, which is to be printed behind what the output holds then.
+abbrev pub Comes : Request → Option (List ℕ) → Option (List ℕ) → Option (List ℕ) → Answer → Type 0
+Comes (request.Dump file) input output output_after answer = OfDumped output output_after answer
+Comes (request.Load file) input output output_after answer = OfOpened (HasLoaded input) answer × (output_after ≡ output)
+Comes other input output output_after answer = Gives other answer × (output_after ≡ output)
+
+-- Why rows were not loaded, and what was printed: a line is no row, and the number of the rows before it; or nothing, or
+-- a number too, or the number could not be printed.
+abbrev pub TellsLoaded : Option (List ℕ) → Reason → Option (List ℕ) → Option (List ℕ) → Type 0
+TellsLoaded input mistake output output_after = IfSome input (λ all. are_rows (lines_in all) ≡ false)
+    × ((number : ℕ) × Appends output output_after (loaded_line number))
+TellsLoaded input in_use output output_after = ⊥
+TellsLoaded input unwritten output output_after = Unit {0}
+TellsLoaded input other output output_after = (output_after ≡ output) ⊎ ((number : ℕ) × Appends output output_after (loaded_line number))

@@ -1,17 +1,19 @@
 -- How a run ends: what is printed, and the exit status.
-use Rattle.std.specs.Prelude.{◌≡◌, ℕ, List, Option, Result, Ok, Err, OnOk}
+use Rattle.std.specs.Prelude.{◌≡◌, ◌==◌, if◌then◌else◌, ℕ, false, List, Option, Result, Ok, Err, OnOk}
 use Rattle.std.specs.Io.KnownBytes.{Appends, Keeps}
 use Rattle.std.specs.declared.io.Error.{Error}
 use Rattle.lsm_requests.specs.declared.answer.Answer.{Answer}
 use Rattle.lsm_requests.specs.declared.answer.Output.{Output}
-use Rattle.lsm_requests.specs.declared.answer.Output.TheVariants.{Found}
+use Rattle.lsm_requests.specs.declared.answer.Output.TheVariants.{Found, Explored, Tally}
 use Rattle.lsm_language.specs.declared.fault.Fault.{Fault}
 use Rattle.lsm_language.specs.Faults.{refusal_line, in_use_lines, Reason, refusal, in_use, reason_of, status_of}
 use Rattle.lsm_requests.specs.Answers.{lines_of}
 
--- the exit status of an answer: 1 where a check found something wrong
+-- the exit status of an answer: 1 where a check or an exploration found something wrong, or a tally is bad
 abbrev pub answer_status : Output → ℕ
 answer_status (Found text) = 1
+answer_status (Explored counts) = if counts.wrong == 0 then 0 else 1
+answer_status (Tally false) = 1
 answer_status other = 0
 
 -- the exit status: 1 where the answer or the fault could not be written

@@ -1,5 +1,8 @@
 pub mod Steps
 pub mod Replies
-pub mod Settling
+pub mod Commits
+pub mod Loading
+pub mod Dumping
 pub mod Answers
+pub mod Refusing
 pub mod Endings

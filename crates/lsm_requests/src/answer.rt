@@ -4,6 +4,7 @@ ghost use Rattle.std.specs.Prelude.{◌≡◌};
 ghost use Rattle.lsm_requests.specs.Answers.{Hands};
 
 use lsm_device::FileDevice;
+use lsm_lives::Explored;
 use lsm_store::Store;
 use std::fmt;
 
@@ -20,8 +21,16 @@ pub enum Output {
     Absent,
     /// A line for each row, for each step, or for each count, or one with a store's numbers.
     Lines(String),
+    /// So many rows were loaded.
+    Loaded(u64),
+    /// All rows were printed before.
+    Dumped,
     /// A line with what a check found wrong.
     Found(String),
+    /// What an exploration counted.
+    Explored(Explored),
+    /// Clients counted together, and the counter is the number of accepted commits, or is not.
+    Tally(bool),
 }
 
 /// What a subcommand answers: what is printed, and the file that the calls were made on, if there is one.
@@ -57,7 +66,23 @@ impl fmt::Display for Output {
             Output::Value(word) => writeln!(f, "value {word}"),
             Output::Absent => writeln!(f, "absent"),
             Output::Lines(text) => write!(f, "{text}"),
+            Output::Loaded(rows) => writeln!(f, "loaded {rows}"),
+            Output::Dumped => Ok(()),
             Output::Found(text) => write!(f, "{text}"),
+            Output::Explored(explored) => {
+                let Explored {
+                    first,
+                    second,
+                    skipped,
+                    wrong,
+                } = explored;
+                writeln!(
+                    f,
+                    "first {first} second {second} skipped {skipped} wrong {wrong}"
+                )
+            }
+            Output::Tally(true) => writeln!(f, "tally ok"),
+            Output::Tally(false) => writeln!(f, "tally bad"),
         }
     }
 }

@@ -1,49 +1,174 @@
 //! The calls of the store that a request makes, on a store in a file.
 
-ghost use Rattle.std.specs.Prelude.{[], ◌+◌, map, IfOk};
+ghost use Rattle.std.specs.Prelude.{◌≡◌, ◌⊎◌, [], ◌+◌, true, false, map, None, Err, IfErr, IfOk};
+ghost use Rattle.std.specs.Io.Buffered.{reader_remaining};
+ghost use Rattle.std.specs.Io.KnownBytes.{Appends};
+ghost use Rattle.lsm_check.specs.Images.{IsCheckRefusal};
+ghost use Rattle.lsm_device.specs.declared.refusal.Refusal.TheVariants.{NoMemory, Io, Stopped};
+ghost use Rattle.lsm_open.specs.Recovering.{IsOpeningRefusal};
+ghost use Rattle.lsm_store.specs.Backing.{machine_of};
+ghost use Rattle.lsm_store.specs.Calls.{Commit, CommitIf, Get, Scan};
+ghost use Rattle.lsm_store.specs.Stats.{stat_answer};
+ghost use Rattle.lsm_store.specs.declared.asked.At.TheVariants.{Now};
+ghost use Rattle.lsm_storm.specs.Storms.{IsStormRefusal};
+ghost use Rattle.lsm_language.specs.Faults.{IsRefusalOr, reason_of, unwritten};
 ghost use Rattle.lsm_lives.specs.Calls.{asked_of};
 ghost use Rattle.lsm_requests.specs.Steps.{steps_after, lives_said, told_after, told_lives};
 ghost use Rattle.lsm_requests.specs.Replies.{table_line};
-ghost use Rattle.lsm_requests.specs.Answers.{Gives, HasFormatted, HasCommitted, HasCounted, HasFound, HasLives, HasNumbers, HasChecked, IsChecked, TellsFound, HasRows, HasReplies, OfOpened, WasOpened};
+ghost use Rattle.lsm_requests.specs.Commits.{HasCommitted};
+ghost use Rattle.lsm_requests.specs.Loading.{HasLoaded, IsLoaded, loaded_line};
+ghost use Rattle.lsm_requests.specs.Answers.{Comes, HasCompacted, HasFormatted, HasCounted, OfDumped, TellsLoaded, HasFound, HasLives, HasNumbers, HasChecked, IsChecked, TellsFound, HasRows, HasReplies, OfOpened};
+ghost use Rattle.lsm_requests.specs.Refusing.{FaultsWith, IsRefusedOpened, RefusesToCommit, RefusesToTell};
 
 use crate::answer::{Answer, Output};
+use crate::committing::{blocks_of_log, check_room, keep};
+use crate::dumping::dump_rows;
+use crate::exploring::explore;
+use crate::loading::{Loaded, load_rows};
+use crate::opening::open;
 use crate::reply::{counts_text, push_page, report_text, stat_text, table_text};
-use crate::runs;
-use crate::settling::settle;
 use crate::steps::steps_of;
+use crate::tallied::tally;
+use crate::{committing, runs};
 use lsm_check::Finding;
-use lsm_codec::{Batch, word};
+use lsm_codec::{Batch, Guard, word};
 use lsm_device::{Device, FileDevice, Refusal};
+use lsm_language::fault::Fault;
 use lsm_language::geometry::Geometry;
 use lsm_language::line::Line;
 use lsm_language::load::Load;
 use lsm_language::request::Request;
 use lsm_store::{At, Store};
+use lsm_upkeep::compact_all;
 use std::alloc::Global;
 use std::fs::{File, Files};
+use std::io::{BufRead, BufReader, Read, Write};
 use std::sync::Wait;
 use std::thread::Threads;
 
-/// The blocks that an opened store may keep in memory.
-const CACHE: u32 = 256;
-
-/// Does what is asked for.
-pub fn answer<R: Files<File = File> + AllocGlobal + Threads + Wait + Sync>(
+/// Does what is asked for. With what a request may be refused is said of any file, whatever it holds and whichever of its calls fault.
+pub fn answer<R: Files<File = File> + AllocGlobal + Threads + Wait + Sync, I: Read, O: Write>(
     rt: &R,
     request: Request<'_>,
-) -> Result<Answer, Refusal>
-    ensures { IfOk result (Gives request.entry) }
+    input: &mut I,
+    output: &mut O,
+) -> Result<Answer, Fault>
+    ensures comes { IfOk result (Comes request.entry (I.remaining input.old) (O.contents output.old) (O.contents output.new)) }
+    ensures faults { IfErr result (λ e. FaultsWith request.entry (I.remaining input.old) (reason_of e) (O.contents output.old) (O.contents output.new)) }
 {
     match request {
-        Request::Format { file, geometry } => format(rt, file, geometry),
-        Request::Commit { file, batch } => commit(rt, file, &batch),
-        Request::Get { file, key } => get(rt, file, &key),
-        Request::Scan { file, from, limit } => scan(rt, file, &from, limit),
-        Request::Stat { file } => stat(rt, file),
-        Request::Check { file } => check(rt, file),
-        Request::Replay { file, script } => replay(rt, file, script),
-        Request::Lives { geometry, script } => lives(rt, rt.alloc(), geometry, script),
-        Request::Storm { load } => storm(rt, rt.alloc(), load),
+        Request::Format { file, geometry } => Ok(format(rt, file, geometry)?),
+        Request::Put { file, batch } => Ok(put(rt, file, &batch)?),
+        Request::PutIf {
+            file,
+            guards,
+            batch,
+        } => Ok(put_if(rt, file, &guards, &batch)?),
+        Request::Delete { file, batch } => Ok(delete(rt, file, &batch)?),
+        Request::Get { file, key } => Ok(get(rt, file, &key)?),
+        Request::Scan { file, from, limit } => Ok(scan(rt, file, &from, limit)?),
+        Request::Stat { file } => Ok(stat(rt, file)?),
+        Request::Check { file } => Ok(check(rt, file)?),
+        Request::Compact { file } => Ok(compact(rt, file)?),
+        Request::Dump { file } => dump(rt, file, output),
+        Request::Load { file } => load(rt, file, input, output),
+        Request::Replay { file, script } => Ok(replay(rt, file, script)?),
+        Request::Lives { geometry, script } => Ok(lives(rt, rt.alloc(), geometry, script)?),
+        Request::Explore { geometry, script } => Ok(explore(rt, rt.alloc(), geometry, script)?),
+        Request::Storm { load } => Ok(storm(rt, rt.alloc(), load)?),
+        Request::Tally { load } => Ok(tally(rt, rt.alloc(), load)?),
+    }
+}
+
+fn compact<R: Files<File = File> + AllocGlobal + Threads + Sync>(
+    rt: &R,
+    file: &str,
+) -> Result<Answer, Refusal>
+    ensures gives { IfOk result (OfOpened HasCompacted) }
+    ensures refused { IfErr result (λ e. IsOpeningRefusal e ⊎ (e ≡ Stopped)) }
+{
+    let mut store = open(rt, file)?;
+    let output = keep_and_compact(rt, rt.alloc(), &mut store)?;
+    Ok(Answer::of_store(output, store))
+}
+
+// Keeps a store up, then compacts it, and tells its numbers.
+fn keep_and_compact<R: Threads + Sync, D: Device>(
+    rt: &R,
+    alloc: Global,
+    store: &mut Store<D>,
+) -> Result<Output, Refusal>
+    ensures gives { IfOk result (HasCompacted store.old store.new) }
+    ensures refused { IfErr result (λ e. (e ≡ NoMemory) ⊎ (e ≡ Stopped)) }
+{
+    keep(rt, alloc, store);
+    compact_all(rt, alloc, store);
+    let numbers = numbers(alloc, store)?;
+    Ok(numbers)
+}
+
+fn dump<R: Files<File = File> + AllocGlobal, O: Write>(
+    rt: &R,
+    file: &str,
+    output: &mut O,
+) -> Result<Answer, Fault>
+    ensures answer { IfOk result (OfDumped (O.contents output.old) (O.contents output.new)) }
+    ensures fault { IfErr result (λ e. IsRefusalOr (reason_of e)) }
+{
+    let mut store = open(rt, file)?;
+    dump_rows(rt.alloc(), &mut store, output)?;
+    Ok(Answer::of_store(Output::Dumped, store))
+}
+
+fn load<R: Files<File = File> + AllocGlobal + Threads + Sync, I: Read, O: Write>(
+    rt: &R,
+    file: &str,
+    input: &mut I,
+    output: &mut O,
+) -> Result<Answer, Fault>
+    ensures answer { IfOk result (λ answer. OfOpened (HasLoaded (I.remaining input.old)) answer × (O.contents output.new ≡ O.contents output.old)) }
+    ensures fault { IfErr result (λ e. TellsLoaded (I.remaining input.old) (reason_of e) (O.contents output.old) (O.contents output.new)) }
+{
+    let mut store = open(rt, file)?;
+    let mut lines = buffered(rt.alloc(), input)?;
+    let Loaded { rows, ended } = keep_and_load(rt, rt.alloc(), &mut store, &mut lines)?;
+    match ended {
+        Ok(()) => Ok(Answer::of_store(Output::Loaded(rows), store)),
+        Err(fault) => Err(told_first(rows, fault, output)),
+    }
+}
+
+// Keeps a store up, then loads rows.
+fn keep_and_load<R: Threads + Sync, D: Device, I: BufRead>(
+    rt: &R,
+    alloc: Global,
+    store: &mut Store<D>,
+    lines: &mut I,
+) -> Result<Loaded, Refusal>
+    ensures { IfOk result (λ loaded. IsLoaded (I.remaining lines.old) loaded store.old store.new) }
+{
+    keep(rt, alloc, store);
+    check_room(store, blocks_of_log(store)?)?;
+    load_rows(rt, alloc, store, lines)
+}
+
+// A reader that takes in 64 KiB at a time.
+fn buffered<I: Read>(alloc: Global, input: &mut I) -> Result<BufReader<&mut I>, Refusal>
+    ensures { IfOk result (λ lines. reader_remaining (λ input. I.remaining input.now) lines ≡ I.remaining input.old) }
+{
+    match BufReader::with_capacity(alloc, 65_536, input) {
+        Ok(lines) => Ok(lines),
+        Err(_) => Err(Refusal::NoMemory),
+    }
+}
+
+// Prints how many rows were loaded before the fault.
+fn told_first<O: Write>(rows: u64, fault: Fault, output: &mut O) -> Fault
+    ensures { (reason_of result ≡ unwritten) ⊎ ((reason_of result ≡ reason_of fault) × Appends (O.contents output.old) (O.contents output.new) (loaded_line rows)) }
+{
+    match writeln!(output, "loaded {rows}") {
+        Ok(()) => fault,
+        Err(error) => Fault::Output(error),
     }
 }
 
@@ -52,7 +177,8 @@ fn format<R: Files<File = File> + AllocGlobal>(
     file: &str,
     geometry: Geometry,
 ) -> Result<Answer, Refusal>
-    ensures { IfOk result (HasFormatted geometry.sectors geometry.log_sectors) }
+    ensures gives { IfOk result (HasFormatted geometry.sectors geometry.log_sectors) }
+    ensures refused { IfErr result (λ e. (e ≡ NoMemory) ⊎ (e ≡ Io)) }
 {
     let device = FileDevice::create(rt, file, geometry.sectors())?;
     match lsm_open::format(rt.alloc(), device, geometry.log_sectors()) {
@@ -64,43 +190,44 @@ fn format<R: Files<File = File> + AllocGlobal>(
     }
 }
 
-fn open<R: Files<File = File> + AllocGlobal>(
-    rt: &R,
-    file: &str,
-) -> Result<Store<FileDevice>, Refusal>
-    ensures { IfOk result WasOpened }
-{
-    let device = FileDevice::open(rt, file)?;
-    match Store::open(rt.alloc(), device, CACHE) {
-        Ok(store) => Ok(store),
-        Err((refusal, _)) => Err(refusal),
-    }
-}
-
-fn commit<R: Files<File = File> + AllocGlobal + Threads + Sync>(
+fn put<R: Files<File = File> + AllocGlobal + Threads + Sync>(
     rt: &R,
     file: &str,
     batch: &Batch,
 ) -> Result<Answer, Refusal>
-    ensures { IfOk result (OfOpened (HasCommitted batch.now)) }
+    ensures gives { IfOk result (OfOpened (HasCommitted true (Commit batch.now))) }
+    ensures refused { IfErr result (IsRefusedOpened (RefusesToCommit true (Commit batch.now))) }
 {
     let mut store = open(rt, file)?;
-    let output = settle_and_commit(rt, rt.alloc(), &mut store, batch)?;
+    let output = committing::put(rt, rt.alloc(), &mut store, batch)?;
     Ok(Answer::of_store(output, store))
 }
 
-fn settle_and_commit<R: Threads + Sync, D: Device>(
+fn put_if<R: Files<File = File> + AllocGlobal + Threads + Sync>(
     rt: &R,
-    alloc: Global,
-    store: &mut Store<D>,
+    file: &str,
+    guards: &[Guard],
     batch: &Batch,
-) -> Result<Output, Refusal>
-    ensures { IfOk result (HasCommitted batch.now store.old store.new) }
+) -> Result<Answer, Refusal>
+    ensures gives { IfOk result (OfOpened (HasCommitted true (CommitIf guards.now batch.now))) }
+    ensures refused { IfErr result (IsRefusedOpened (RefusesToCommit true (CommitIf guards.now batch.now))) }
 {
-    settle(rt, alloc, store);
-    let number = store.commit(batch)?;
-    store.sync()?;
-    Ok(Output::Batch(number))
+    let mut store = open(rt, file)?;
+    let output = committing::put_if(rt, rt.alloc(), &mut store, guards, batch)?;
+    Ok(Answer::of_store(output, store))
+}
+
+fn delete<R: Files<File = File> + AllocGlobal + Threads + Sync>(
+    rt: &R,
+    file: &str,
+    batch: &Batch,
+) -> Result<Answer, Refusal>
+    ensures gives { IfOk result (OfOpened (HasCommitted false (Commit batch.now))) }
+    ensures refused { IfErr result (IsRefusedOpened (RefusesToCommit false (Commit batch.now))) }
+{
+    let mut store = open(rt, file)?;
+    let output = committing::delete(rt, rt.alloc(), &mut store, batch)?;
+    Ok(Answer::of_store(output, store))
 }
 
 fn get<R: Files<File = File> + AllocGlobal>(
@@ -108,7 +235,8 @@ fn get<R: Files<File = File> + AllocGlobal>(
     file: &str,
     key: &[u8],
 ) -> Result<Answer, Refusal>
-    ensures { IfOk result (OfOpened (HasFound key.now)) }
+    ensures gives { IfOk result (OfOpened (HasFound key.now)) }
+    ensures refused { IfErr result (IsRefusedOpened (RefusesToTell (Get Now key.now))) }
 {
     let mut store = open(rt, file)?;
     let output = find(rt.alloc(), &mut store, key)?;
@@ -117,7 +245,8 @@ fn get<R: Files<File = File> + AllocGlobal>(
 
 // Looks a key up.
 fn find<D: Device>(alloc: Global, store: &mut Store<D>, key: &[u8]) -> Result<Output, Refusal>
-    ensures { IfOk result (HasFound key.now store.old store.new) }
+    ensures gives { IfOk result (HasFound key.now store.old store.new) }
+    ensures refused { IfErr result (λ e. RefusesToTell (Get Now key.now) store.old e) }
 {
     match store.get(At::Now, key)? {
         Some(value) => Ok(Output::Value(word(alloc, value.as_slice())?)),
@@ -130,7 +259,8 @@ fn replay<R: Files<File = File> + AllocGlobal + Threads + Sync>(
     file: &str,
     script: Vec<Line>,
 ) -> Result<Answer, Refusal>
-    ensures { IfOk result (OfOpened (HasReplies (map asked_of (steps_after [] script.items)) (told_after [] script.items))) }
+    ensures gives { IfOk result (OfOpened (HasReplies (map asked_of (steps_after [] script.items)) (told_after [] script.items))) }
+    ensures refused { IfErr result IsOpeningRefusal }
 {
     let steps = steps_of(rt.alloc(), script)?;
     let mut store = open(rt, file)?;
@@ -144,7 +274,8 @@ fn scan<R: Files<File = File> + AllocGlobal>(
     from: &[u8],
     limit: u64,
 ) -> Result<Answer, Refusal>
-    ensures { IfOk result (OfOpened (HasRows from.now limit)) }
+    ensures gives { IfOk result (OfOpened (HasRows from.now limit)) }
+    ensures refused { IfErr result (IsRefusedOpened (RefusesToTell (Scan Now from.now None limit))) }
 {
     let mut store = open(rt, file)?;
     let output = list(rt.alloc(), &mut store, from, limit)?;
@@ -158,7 +289,8 @@ fn list<D: Device>(
     from: &[u8],
     limit: u64,
 ) -> Result<Output, Refusal>
-    ensures { IfOk result (HasRows from.now limit store.old store.new) }
+    ensures gives { IfOk result (HasRows from.now limit store.old store.new) }
+    ensures refused { IfErr result (λ e. RefusesToTell (Scan Now from.now None limit) store.old e) }
 {
     let page = store.scan(At::Now, from, None, limit)?;
     let mut text = String::new(alloc);
@@ -168,14 +300,16 @@ fn list<D: Device>(
 
 // Tells the numbers of a store.
 fn numbers<D: Device>(alloc: Global, store: &Store<D>) -> Result<Output, Refusal>
-    ensures { IfOk result (HasNumbers store.now store.now) }
+    ensures gives { IfOk result (HasNumbers store.now store.now) }
+    ensures refused { IfErr result (λ e. (e ≡ NoMemory) ⊎ (stat_answer (machine_of store.now) ≡ Err e)) }
 {
     let stat = store.stat()?;
     Ok(Output::Lines(stat_text(alloc, &stat)?))
 }
 
 fn stat<R: Files<File = File> + AllocGlobal>(rt: &R, file: &str) -> Result<Answer, Refusal>
-    ensures { IfOk result (OfOpened HasNumbers) }
+    ensures gives { IfOk result (OfOpened HasNumbers) }
+    ensures refused { IfErr result IsOpeningRefusal }
 {
     let store = open(rt, file)?;
     let output = numbers(rt.alloc(), &store)?;
@@ -184,7 +318,8 @@ fn stat<R: Files<File = File> + AllocGlobal>(rt: &R, file: &str) -> Result<Answe
 
 // Checks a device, and tells what comes of it.
 fn checked<D: Device>(alloc: Global, device: &mut D) -> Result<Output, Refusal>
-    ensures { IfOk result (IsChecked (D.medium device.old) (D.medium device.new)) }
+    ensures gives { IfOk result (IsChecked (D.medium device.old) (D.medium device.new)) }
+    ensures refused { IfErr result IsCheckRefusal }
 {
     match lsm_check::check(alloc, device) {
         Ok(report) => Ok(Output::Lines(report_text(alloc, &report)?)),
@@ -198,13 +333,15 @@ fn checked<D: Device>(alloc: Global, device: &mut D) -> Result<Output, Refusal>
 
 // What was found wrong with a table.
 fn found(alloc: Global, what: &str, number: u64) -> Result<Output, Refusal>
-    ensures { IfOk result (TellsFound (table_line what.now number)) }
+    ensures gives { IfOk result (TellsFound (table_line what.now number)) }
+    ensures refused { IfErr result (λ e. e ≡ NoMemory) }
 {
     Ok(Output::Found(table_text(alloc, what, number)?))
 }
 
 fn check<R: Files<File = File> + AllocGlobal>(rt: &R, file: &str) -> Result<Answer, Refusal>
-    ensures { IfOk result HasChecked }
+    ensures gives { IfOk result HasChecked }
+    ensures refused { IfErr result IsCheckRefusal }
 {
     let mut device = FileDevice::open(rt, file)?;
     let output = checked(rt.alloc(), &mut device)?;
@@ -220,14 +357,16 @@ fn lives<R: Threads + Sync>(
     geometry: Geometry,
     script: Vec<Line>,
 ) -> Result<Answer, Refusal>
-    ensures { IfOk result (λ answer. HasLives geometry.sectors geometry.log_sectors (lives_said script.items) (told_lives script.items) answer.output) }
+    ensures gives { IfOk result (λ answer. HasLives geometry.sectors geometry.log_sectors (lives_said script.items) (told_lives script.items) answer.output) }
+    ensures refused { IfErr result (λ e. e ≡ NoMemory) }
 {
     let output = runs::lives(rt, alloc, geometry, script)?;
     Ok(Answer { output, file: None })
 }
 
 fn storm<R: Threads + Wait + Sync>(rt: &R, alloc: Global, load: Load) -> Result<Answer, Refusal>
-    ensures { IfOk result (λ answer. HasCounted (load.clients + load.workers) answer.output) }
+    ensures gives { IfOk result (λ answer. HasCounted (load.clients + load.workers) answer.output) }
+    ensures refused { IfErr result IsStormRefusal }
 {
     let counts = lsm_storm::storm(rt, alloc, load)?;
     Ok(Answer {

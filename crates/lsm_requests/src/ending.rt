@@ -16,7 +16,7 @@ use std::io::Write;
 /// The exit status of a program that did what it was asked for.
 pub const DONE: u8 = 0;
 
-/// The exit status where a check found something wrong, or a refusal, or a read or write that failed, ended the program.
+/// The exit status where a check or an exploration found something wrong, where a tally is bad, or where a refusal, or a read or write that failed, ended the program.
 pub const REFUSED: u8 = 1;
 
 /// The exit status where the words or the script are wrong.
@@ -51,7 +51,7 @@ fn status(answered: &Result<Answer, Fault>, written: &io::Result<()>) -> u8
     }
     match answered {
         Ok(answer) => answer_status(answer),
-        Err(Fault::Refused(_) | Fault::InUse | Fault::Input(_)) => REFUSED,
+        Err(Fault::Refused(_) | Fault::InUse | Fault::Input(_) | Fault::Output(_)) => REFUSED,
         Err(Fault::Usage(_)) => USAGE,
     }
 }
@@ -61,7 +61,8 @@ fn answer_status(answer: &Answer) -> u8
     ensures { result ≡ answer_status answer.now.output }
 {
     match &answer.output {
-        Output::Found(_) => REFUSED,
+        Output::Found(_) | Output::Tally(false) => REFUSED,
+        Output::Explored(explored) if explored.wrong != 0 => REFUSED,
         _ => DONE,
     }
 }

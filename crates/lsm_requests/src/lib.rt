@@ -3,8 +3,13 @@
 
 pub mod answer;
 pub mod calls;
+pub mod committing;
+pub mod dumping;
 pub mod ending;
+mod exploring;
+pub mod loading;
+mod opening;
 pub mod reply;
 pub mod runs;
-pub mod settling;
 pub mod steps;
+mod tallied;

@@ -5,7 +5,8 @@ ghost use Rattle.lsm_device.specs.declared.refusal.Refusal.TheVariants.{NoMemory
 ghost use Rattle.lsm_lives.specs.Calls.{told_of};
 ghost use Rattle.lsm_lives.specs.Living.{told_by};
 ghost use Rattle.lsm_language.specs.Faults.{refusal_line};
-ghost use Rattle.lsm_requests.specs.Replies.{counted_word, digit_of, lives_text, next_line, page_lines, replies_text, counts_lines, report_line, table_line, stat_line, told_line, job_line, rows_line};
+ghost use Rattle.std.specs.List.{flat_map};
+ghost use Rattle.lsm_requests.specs.Replies.{row_line, counted_word, digit_of, lives_text, next_line, page_lines, replies_text, counts_lines, report_line, table_line, stat_line, told_line, job_line, rows_line};
 
 use crate::steps::{Counted, Told};
 use lsm_check::Report;
@@ -157,12 +158,21 @@ pub fn push_page(alloc: Global, text: &mut String, page: &Page) -> Result<(), Re
     ensures text { OnOk result (string_bytes text.new ≡ string_bytes text.old ++ page_lines page.now) }
     ensures refused { IfErr result (λ e. e ≡ NoMemory) }
 {
+    push_row_lines(alloc, text, page)?;
+    push_next(alloc, text, page)?;
+    Ok(())
+}
+
+/// Adds a line for each row of a page.
+pub fn push_row_lines(alloc: Global, text: &mut String, page: &Page) -> Result<(), Refusal>
+    ensures text { OnOk result (string_bytes text.new ≡ string_bytes text.old ++ flat_map row_line page.now.rows) }
+    ensures refused { IfErr result (λ e. e ≡ NoMemory) }
+{
     for row in page.rows() {
         let key = word(alloc, row.key)?;
         let value = word(alloc, row.value)?;
         writeln!(text, "{key} {value}")?;
     }
-    push_next(alloc, text, page)?;
     Ok(())
 }
 

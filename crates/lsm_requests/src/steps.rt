@@ -36,7 +36,7 @@ pub enum Counted {
 pub enum Told {
     /// As the store's reply. A number in it counts this.
     Reply(Counted),
-    /// As this refusal, since the operations form no batch, and no call is made.
+    /// As this refusal, since the guards or the operations can't be formed, and no call is made.
     NoBatch(Refusal),
 }
 

@@ -1,2 +1,5 @@
 pub mod Counting
+pub mod Crewing
 pub mod Pages
+pub mod Raising
+pub mod Refusing

@@ -1,1 +1,4 @@
 pub mod Storms
+pub mod Counters
+pub mod Crews
+pub mod Tallies

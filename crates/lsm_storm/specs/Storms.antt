@@ -1,7 +1,10 @@
 -- What a storm leaves, and what is counted of it.
-use Rattle.std.specs.Prelude.{◌≡◌, ℕ, ◌+◌, ◌&&◌, Bool, true, false, List, [], ◌∷◌, length, if◌then◌else◌}
+use Rattle.std.specs.Prelude.{◌≡◌, ◌⊎◌, ℕ, ◌+◌, ◌&&◌, Bool, true, false, List, [], ◌∷◌, length, if◌then◌else◌}
 use Rattle.std.specs.FinMap as finite
+use Rattle.lsm_device.specs.declared.refusal.Refusal.{Refusal}
+use Rattle.lsm_device.specs.declared.refusal.Refusal.TheVariants.{NoMemory, Io, Stopped, BadLimit}
 use Rattle.lsm_open.specs.CrashState.{formatted as empty_store}
+use Rattle.lsm_lives.specs.Leading.{HasNewCache}
 use Rattle.lsm_store.specs.Backing.{StoreView, IsBacked}
 use Rattle.lsm_store.specs.Calls.{Commit, CommitIf}
 use Rattle.lsm_store.specs.Crash.{reopened}
@@ -34,12 +37,26 @@ accepted_in (e ∷ log) = (if is_accepted e then 1 else 0) + accepted_in log
 abbrev pub keys_in : StoreView → ℕ
 keys_in store = length (finite.entries (present_map store.state.points))
 
+-- ---- what is refused
+
+-- the refusals of a session on a fresh store, on a device that fails only where there is no memory for a write
+abbrev pub IsSessionRefusal : Refusal → Type 0
+IsSessionRefusal NoMemory = Unit {0}
+IsSessionRefusal Io = Unit {0}
+IsSessionRefusal Stopped = Unit {0}
+IsSessionRefusal other = ⊥
+
+-- those of a storm, which counts rows page by page, at most so many
+abbrev pub IsStormRefusal : Refusal → Type 0
+IsStormRefusal e = (e ≡ BadLimit) ⊎ IsSessionRefusal e
+
 -- ---- what is left
 
--- A store was just formatted and opened, in log regions of 2,048 sectors. Its device backs it.
+-- A store was just formatted and opened, in log regions of 2,048 sectors, and its cache is new. Its device backs it.
 pub record IsFresh (store : StoreView) : Type 0 where
   pub state : store.state ≡ reopened 2048 empty_store
   pub backed : IsBacked store
+  pub cache : HasNewCache store
 
 -- A session begins with such a store, so many clients and workers, and 65,536 places in its trail.
 pub record IsFreshBegin (threads : ℕ) (b : Begin) : Type 0 where

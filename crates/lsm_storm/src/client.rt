@@ -1,4 +1,5 @@
 // What one client of a storm does.
+ghost use Rattle.std.specs.Prelude.{◌≡◌};
 
 use lsm_codec::{Batch, Op};
 use lsm_device::{MemDevice, Refusal};
@@ -27,10 +28,29 @@ fn commit<B: SessionName, R: Wait>(
     shared: &Shared<MemDevice, Global, B>,
     me: &mut Client<Global, B>,
     number: u16,
-) {
-    if let Ok(batch) = batch_of(alloc, &key_of(me.number(), number)) {
-        let _ = me.call(rt, shared, Call::Commit(batch));
+)
+    ensures { me.new.number ≡ me.old.number }
+{
+    let Ok(batch) = batch_of(alloc, &key_of(me.number(), number)) else {
+        return;
+    };
+    let _ = me.call(rt, shared, Call::Commit(batch));
+}
+
+// Rotates before the commit of this number where it is in the middle of so many, whatever comes of it.
+fn rotate_in_the_middle<B: SessionName, R: Wait>(
+    rt: &R,
+    shared: &Shared<MemDevice, Global, B>,
+    me: &mut Client<Global, B>,
+    number: u16,
+    commits: u16,
+)
+    ensures { me.new.number ≡ me.old.number }
+{
+    if number != commits / 2 {
+        return;
     }
+    let _ = me.call(rt, shared, Call::Rotate);
 }
 
 /// Makes so many commits, each of a key of its own, and in their middle one rotation, whatever comes of each.
@@ -40,11 +60,11 @@ pub(crate) fn commit_all<B: SessionName, R: Wait>(
     shared: &Shared<MemDevice, Global, B>,
     me: &mut Client<Global, B>,
     commits: u16,
-) {
+)
+    ensures { me.new.number ≡ me.old.number }
+{
     for number in 0..commits {
-        if number == commits / 2 {
-            let _ = me.call(rt, shared, Call::Rotate);
-        }
+        rotate_in_the_middle(rt, shared, me, number, commits);
         commit(rt, alloc, shared, me, number);
     }
 }

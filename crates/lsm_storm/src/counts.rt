@@ -1,10 +1,10 @@
 // What is counted when a storm has ended.
-ghost use Rattle.std.specs.Prelude.{◌≡◌, ◌*◌, ◌≤◌, length, None, IfOk};
+ghost use Rattle.std.specs.Prelude.{◌≡◌, ◌*◌, ◌≤◌, length, None, IfErr, IfOk};
 ghost use Rattle.lsm_mem.specs.Paging.{pairs_in};
 ghost use Rattle.lsm_store.specs.Backing.{IsBacked};
 ghost use Rattle.lsm_store.specs.RecoveryPoints.{present_map};
 ghost use Rattle.lsm_trail.specs.Entries.{is_number, told_in};
-ghost use Rattle.lsm_storm.specs.Storms.{is_commit, is_accepted, accepted_in, keys_in};
+ghost use Rattle.lsm_storm.specs.Storms.{is_commit, is_accepted, accepted_in, keys_in, IsStormRefusal};
 
 use lsm_device::{MemDevice, Refusal};
 use lsm_lives::{Call, Reply, Step};
@@ -66,7 +66,8 @@ pub(crate) fn accepted_in(trail: &Trail) -> u64
 /// How many rows a whole scan of a store has.
 pub(crate) fn rows_in(store: &mut Store<MemDevice>) -> Result<u64, Refusal>
     requires { IsBacked store.old }
-    ensures { IfOk result (λ rows. rows ≡ keys_in store.old) }
+    ensures rows { IfOk result (λ rows. rows ≡ keys_in store.old) }
+    ensures refused { IfErr result IsStormRefusal }
 {
     let rows = rows_from(store, &[], PAGES)?;
     Ok(rows)
@@ -77,6 +78,7 @@ fn rows_from(store: &mut Store<MemDevice>, from: &[u8], pages: u32) -> Result<u6
     requires { IsBacked store.old }
     ensures rows { IfOk result (λ rows. rows ≡ length (pairs_in (present_map store.old.state.points) from.now None)) }
     ensures few { IfOk result (λ rows. rows ≤ 64 * pages) }
+    ensures refused { IfErr result IsStormRefusal }
 {
     if pages == 0 {
         return Err(Refusal::BadLimit);

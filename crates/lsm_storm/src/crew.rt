@@ -1,8 +1,12 @@
 // A session of clients and workers, each in a thread of its own.
-ghost use Rattle.std.specs.Prelude.{◌≡◌, IfOk};
+ghost use Rattle.std.specs.Prelude.{◌≡◌, ◌<◌, ℕ, length, slice_index_or, IfErr, IfOk};
+ghost use Rattle.lsm_device.specs.declared.refusal.Refusal.TheVariants.{NoMemory};
+ghost use Rattle.lsm_trail.specs.Knowledge.{Known};
+ghost use Rattle.lsm_storm.specs.Crews.{DoesTask, IsDone};
 ghost use Rattle.lsm_storm.specs.Storms.{HasEnded};
 
 use crate::client::commit_all;
+use crate::counter::count_up;
 use crate::worker::work;
 use lsm_device::{MemDevice, Refusal};
 use lsm_shared::{Client, Shared};
@@ -15,11 +19,13 @@ use std::thread::{Threads, for_each_mut};
 /// The most threads: one for each client and each worker.
 const MOST_THREADS: usize = 64;
 
-/// What each of a crew is to do: those of the first numbers are clients, which make so many commits, and the others workers.
+/// What each of a crew is to do.
 #[derive(Clone, Copy)]
-pub(crate) struct Tasks {
-    pub clients: u16,
-    pub commits: u16,
+pub(crate) enum Tasks {
+    /// Those of the first numbers are clients, which make so many commits, and the others workers.
+    Storm { clients: u16, commits: u16 },
+    /// All are clients, which try so many times to raise one counter.
+    Tally { tries: u16 },
 }
 
 // What one of them does.
@@ -29,11 +35,18 @@ fn take_part<B: SessionName, R: Threads + Wait + Sync>(
     shared: &Shared<MemDevice, Global, B>,
     me: &mut Client<Global, B>,
     tasks: Tasks,
-) {
-    if me.number() < u32::from(tasks.clients) {
-        commit_all(rt, alloc, shared, me, tasks.commits);
-    } else {
-        work(rt, alloc, shared, me);
+)
+    ensures { DoesTask tasks me.old me.new }
+{
+    match tasks {
+        Tasks::Storm { clients, commits } => {
+            if me.number() < u32::from(clients) {
+                commit_all(rt, alloc, shared, me, commits);
+            } else {
+                work(rt, alloc, shared, me);
+            }
+        }
+        Tasks::Tally { tries } => count_up(rt, alloc, shared, me, tries),
     }
 }
 
@@ -44,13 +57,13 @@ fn do_all<B: SessionName + Send + Sync, R: Threads + Wait + Sync>(
     shared: &Shared<MemDevice, Global, B>,
     crew: &mut [Client<Global, B>],
     tasks: Tasks,
-) {
-    for_each_mut(
-        rt,
-        crew,
-        MOST_THREADS,
-        &|_, me| { take_part(rt, alloc, shared, me, tasks) },
-    );
+)
+    ensures { (i : ℕ) (d : Known) → i < length crew.old → DoesTask tasks (slice_index_or crew.old i d) (slice_index_or crew.new i d) }
+{
+    let part = |_: usize, me: &mut Client<Global, B>|
+        ensures { DoesTask tasks me.old me.new }
+    { take_part(rt, alloc, shared, me, tasks) };
+    for_each_mut(rt, crew, MOST_THREADS, &part);
 }
 
 /// What is left of a session that has ended.
@@ -74,7 +87,9 @@ pub(crate) fn run<B: SessionName + Send + Sync, R: Threads + Wait + Sync>(
     tasks: Tasks,
 ) -> Result<Left, Refusal>
     requires { opened ≡ B.id }
-    ensures { IfOk result (λ left. HasEnded opened.begin left.store left.trail) }
+    ensures ended { IfOk result (λ left. HasEnded opened.begin left.store left.trail) }
+    ensures done { IfOk result (λ left. IsDone tasks left.trail.log) }
+    ensures refused { IfErr result (λ e. e ≡ NoMemory) }
 {
     let (shared, mut crew) = match Shared::<MemDevice, Global, B>::begin(alloc, opened) {
         Ok(begun) => begun,

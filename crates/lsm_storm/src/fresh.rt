@@ -1,13 +1,14 @@
 // The store that a storm is about.
-ghost use Rattle.std.specs.Prelude.{◌≡◌, IfOk};
+ghost use Rattle.std.specs.Prelude.{IfErr, IfOk};
 ghost use Rattle.lsm_device.specs.Medium.{disk};
 ghost use Rattle.lsm_device.specs.Memory.{medium_in};
 ghost use Rattle.lsm_device.specs.Outcomes.{Leaves};
 ghost use Rattle.lsm_open.specs.CrashState.{formatted as empty_store};
 ghost use Rattle.lsm_open.specs.Image.{StandFor};
-ghost use Rattle.lsm_storm.specs.Storms.{IsFresh};
+ghost use Rattle.lsm_storm.specs.Storms.{IsFresh, IsSessionRefusal};
 
 use lsm_device::{MemDevice, Refusal};
+use lsm_lives::CACHE_BLOCKS;
 use lsm_open::format;
 use lsm_store::Store;
 use std::alloc::Global;
@@ -16,12 +17,10 @@ const SECTORS: u32 = 65_536;
 
 const LOG_SECTORS: u16 = 2_048;
 
-/// The blocks that it may keep in memory.
-const CACHE: u32 = 256;
-
 // A device in memory with an empty store.
 fn formatted(alloc: Global) -> Result<MemDevice, Refusal>
-    ensures { IfOk result (λ device. Leaves (StandFor 2048 empty_store) (disk (medium_in device))) }
+    ensures leaves { IfOk result (λ device. Leaves (StandFor 2048 empty_store) (disk (medium_in device))) }
+    ensures refused { IfErr result IsSessionRefusal }
 {
     let device = MemDevice::new(alloc, SECTORS)?;
     match format(alloc, device, LOG_SECTORS) {
@@ -32,10 +31,11 @@ fn formatted(alloc: Global) -> Result<MemDevice, Refusal>
 
 /// Opens an empty store in memory.
 pub(crate) fn fresh(alloc: Global) -> Result<Store<MemDevice>, Refusal>
-    ensures { IfOk result IsFresh }
+    ensures opened { IfOk result IsFresh }
+    ensures refused { IfErr result IsSessionRefusal }
 {
     let device = formatted(alloc)?;
-    match Store::open(alloc, device, CACHE) {
+    match Store::open(alloc, device, CACHE_BLOCKS) {
         Ok(store) => Ok(store),
         Err((refusal, _)) => Err(refusal),
     }

@@ -1,6 +1,7 @@
 // Storms.
-ghost use Rattle.std.specs.Prelude.{◌≡◌, ◌+◌, IfOk};
-ghost use Rattle.lsm_storm.specs.Storms.{IsFreshBegin, HasEndedFresh, HasStormed};
+ghost use Rattle.std.specs.Prelude.{◌≡◌, ◌≤◌, ◌+◌, IfErr, IfOk};
+ghost use Rattle.lsm_storm.specs.Crews.{IsDone};
+ghost use Rattle.lsm_storm.specs.Storms.{IsFreshBegin, HasEndedFresh, HasStormed, IsSessionRefusal, IsStormRefusal};
 
 use crate::counts::{Counts, accepted_in, rows_in};
 use crate::crew::{Left, Tasks, run};
@@ -21,13 +22,19 @@ const PLACES: u32 = 65_536;
 /// of it. Each client commits puts of keys of its own, and in their middle rotates the log once; each worker takes 200 turns, and
 /// builds and brings what these hand out to be merged. Whatever one of them is answered, it goes on.
 ///
-/// It is refused with `NoMemory`, where memory for the store, the session or a page is refused; and with `Io` or `Stopped`, where the
-/// device had none for a write. What a client or a worker is refused is no refusal of the storm: the counts show it.
+/// It is refused with `NoMemory`, where memory for the store, the session or a page is refused; with `Io` or `Stopped`, where the
+/// device had none for a write; and with `BadLimit` for more than 65,536 pages of rows. What a client or a worker is refused is no refusal of the storm: the counts show it.
 pub fn storm<R: Threads + Wait + Sync>(rt: &R, alloc: Global, load: Load) -> Result<Counts, Refusal>
     ensures stormed { IfOk result (HasStormed (load.clients + load.workers)) }
     ensures all { IfOk result (λ counts. counts.commits ≡ counts.batches) }
+    ensures refused { IfErr result IsStormRefusal }
 {
-    let mut left = shared_by_all(rt, alloc, load)?;
+    let threads = threads_of(load);
+    let tasks = Tasks::Storm {
+        clients: load.clients(),
+        commits: load.commits(),
+    };
+    let mut left = shared_by_all(rt, alloc, threads, tasks)?;
     let commits = accepted_in(&left.trail);
     let batches = left.store.batch_count();
     let rows = rows_in(&mut left.store)?;
@@ -38,29 +45,40 @@ pub fn storm<R: Threads + Wait + Sync>(rt: &R, alloc: Global, load: Load) -> Res
     })
 }
 
-// A session on an empty store, which has ended.
-fn shared_by_all<R: Threads + Wait + Sync>(
+// A thread for each client and each worker.
+fn threads_of(load: Load) -> u32
+    ensures same { result ≡ load.clients + load.workers }
+    ensures within { (1 ≤ result) × (result ≤ 64) }
+{
+    let clients = u32::from(load.clients());
+    let workers = u32::from(load.workers());
+    clients + workers
+}
+
+/// A session of so many threads on an empty store, which has ended.
+pub(crate) fn shared_by_all<R: Threads + Wait + Sync>(
     rt: &R,
     alloc: Global,
-    load: Load,
+    threads: u32,
+    tasks: Tasks,
 ) -> Result<Left, Refusal>
-    ensures { IfOk result (λ left. HasEndedFresh (load.clients + load.workers) left.store left.trail) }
+    requires { (1 ≤ threads) × (threads ≤ 64) }
+    ensures ended { IfOk result (λ left. HasEndedFresh threads left.store left.trail) }
+    ensures done { IfOk result (λ left. IsDone tasks left.trail.log) }
+    ensures refused { IfErr result IsSessionRefusal }
 {
-    let opened = prepared(alloc, load)?;
-    let tasks = Tasks {
-        clients: load.clients(),
-        commits: load.commits(),
-    };
+    let opened = prepared(alloc, threads)?;
     let left = run::<Brand, R>(rt, alloc, opened, tasks)?;
     Ok(left)
 }
 
 // Prepares the session of a crew on an empty store.
-fn prepared(alloc: Global, load: Load) -> Result<Opened<MemDevice>, Refusal>
-    ensures { IfOk result (λ opened. IsFreshBegin (load.clients + load.workers) opened.begin) }
+fn prepared(alloc: Global, threads: u32) -> Result<Opened<MemDevice>, Refusal>
+    requires { (1 ≤ threads) × (threads ≤ 64) }
+    ensures opened { IfOk result (λ opened. IsFreshBegin threads opened.begin) }
+    ensures refused { IfErr result IsSessionRefusal }
 {
     let store = fresh(alloc)?;
-    let threads = u32::from(load.clients()) + u32::from(load.workers());
     match prepare(alloc, store, threads, PLACES) {
         Ok(opened) => Ok(opened),
         Err((refusal, _)) => Err(refusal),

@@ -1,7 +1,10 @@
 //! `lsmctl`: a store in a file, from the command line.
 #![tactic(auto)]
 
-ghost use Rattle.std.specs.Prelude.{◌≤◌};
+ghost use Rattle.std.specs.Prelude.{◌≡◌, ◌⊎◌, ◌≤◌, IfErr};
+ghost use Rattle.lsm_cli.specs.Runs.{IsStarted};
+ghost use Rattle.lsm_device.specs.declared.refusal.Refusal.TheVariants.{NoMemory};
+ghost use Rattle.lsm_language.specs.Faults.{mistake, reason_of, refusal};
 
 use lsm_cli::run;
 use lsm_language::fault::{Fault, Usage};
@@ -27,7 +30,14 @@ fn status<
     O: Write,
     E: Write,
 >(rt: &R, input: &mut I, output: &mut O, errors: &mut E) -> u8
-    ensures { result ≤ 2 }
+    // What comes of the words and the input is printed, an answer or a fault, and decides the exit status.
+    ensures started { IsStarted (I.remaining input.old) record {
+      output = O.contents output.old;
+      output_after = O.contents output.new;
+      errors = E.contents errors.old;
+      errors_after = E.contents errors.new;
+    } result }
+    ensures status { result ≤ 2 }
 {
     match words_of(rt) {
         Ok(words) => run(rt, words.as_slice(), input, output, errors),
@@ -36,7 +46,9 @@ fn status<
 }
 
 // The words after the program's name, each of which has to be a text.
-fn words_of<R: Env + AllocGlobal>(rt: &R) -> Result<Vec<String>, Fault> {
+fn words_of<R: Env + AllocGlobal>(rt: &R) -> Result<Vec<String>, Fault>
+    ensures { IfErr result (λ e. (reason_of e ≡ mistake) ⊎ (reason_of e ≡ refusal NoMemory)) }
+{
     match env::args(rt) {
         Ok(words) => Ok(words.skip(1).collect(rt.alloc())?),
         Err(error) if error.kind() == ErrorKind::OutOfMemory => Err(Fault::from(AllocError)),

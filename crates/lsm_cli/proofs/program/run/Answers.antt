@@ -4,6 +4,7 @@ use Rattle.lsm_cli.proofs.program.run.Goals as goal
 pub returns-clause-runs : goal.returns-clause-runs
 returns-clause-runs g c = record {
   answered = c.answer-answered.result;
+  between = g.O.Write.contents c.answer-answered.new.output;
   comes = c.answer-answered.ensures;
   concludes = c.conclude.ensures.concludes;
 }

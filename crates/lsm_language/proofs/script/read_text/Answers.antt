@@ -1,5 +1,6 @@
 use Rattle.std.proofs.Common.{refl, inl}
-use Rattle.lsm_language.proofs.ScriptLaws.{utf8_reads, is_utf8-not}
+use Rattle.lsm_language.proofs.ScriptLaws.{utf8_reads}
+use Rattle.lsm_language.proofs.TextLaws.{is_utf8-not}
 use Rattle.lsm_language.proofs.script.read_text.Goals as goal
 
 pub returns-in-Ok : goal.returns-in-Ok

@@ -1,8 +1,8 @@
 use Rattle.std.proofs.Common.{Ok}
 use Rattle.lsm_requests.proofs.calls.checked.Goals as goal
 
-pub returns-in_ok-report_text-in-Ok : goal.returns-in_ok-report_text-in-Ok
-returns-in_ok-report_text-in-Ok g c = record {
+pub returns-in_ok-report_text-in-Ok-clause-gives : goal.returns-in_ok-report_text-in-Ok-clause-gives
+returns-in_ok-report_text-in-Ok-clause-gives g c = record {
   answered = Ok c.in-Ok.report;
   yes = c.in-Ok.ensures.yes;
   reads = c.in-Ok.ensures.device;

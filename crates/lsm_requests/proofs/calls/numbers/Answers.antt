@@ -1,8 +1,8 @@
 use Rattle.std.proofs.Common.{rules, refl}
 use Rattle.lsm_requests.proofs.calls.numbers.Goals as goal
 
-pub returns : goal.returns
-returns g c = record {
+pub returns-clause-gives : goal.returns-clause-gives
+returns-clause-gives g c = record {
   stat = c.in_ok-stat.stat;
   numbers = search rules;
   same = refl;

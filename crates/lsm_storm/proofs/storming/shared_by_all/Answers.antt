@@ -1,8 +1,8 @@
 use Rattle.lsm_storm.proofs.storming.shared_by_all.Goals as goal
 
-pub returns : goal.returns
-returns g c = record {
+pub returns-clause-ended : goal.returns-clause-ended
+returns-clause-ended g c = record {
   begin = c.in_ok-opened.opened.begin;
-  fresh = c.in_ok-opened.ensures;
-  ended = c.in_ok-left.ensures;
+  fresh = c.in_ok-opened.ensures.opened;
+  ended = c.in_ok-left.ensures.ended;
 }

@@ -1,0 +1,86 @@
+-- How a reading of rows goes on where it counts them, and where one of them is refused.
+use Rattle.std.proofs.Common.{◌≡◌, ◌∙◌, ◌+◌, ◌⊎◌, ℕ, Bool, true, false, List, [], ◌∷◌, length, Option, Some, None, Err, refl, sym, ap, subst, length-append, inl, inr, Ok, true≢false}
+use Rattle.lsm_codec.specs.Map.{Operation}
+use Rattle.lsm_device.specs.declared.refusal.Refusal.TheVariants.{NoMemory}
+use Rattle.lsm_language.specs.declared.fault.Fault.{Fault}
+use Rattle.lsm_language.specs.Faults.{Reason, mistake, refusal, unread, reason_of}
+use Rattle.lsm_language.specs.Rows.{ReadsLine, row_said}
+use Rattle.lsm_store.specs.Backing.{StoreView}
+use Rattle.lsm_requests.specs.declared.loading.Loading.{Loading}
+use Rattle.lsm_requests.specs.Commits.{map_in}
+use Rattle.lsm_requests.specs.Loading.{AreRead, CommitsWaiting, FitsIf, IsOther, Takes}
+use Rattle.lsm_requests.proofs.LoadingLaws.{IsReading, reading-ends, reading-fails, reading-more, reading-stops, taken_alone, taken_to}
+
+-- a row more is one more
+pub reading-counted : (input left : Option (List ℕ)) (row : Operation) (old new : Loading) (before now next : StoreView) (count : ℕ) → IsReading input left old before now
+    → Takes row true old now new next → old.read ≡ count → new.read ≡ count + 1
+reading-counted input left row old new before now next count r takes is =
+    let more = takes (map_in before) r.rows r.loads in
+    more.read ∙ length-append r.rows (row ∷ []) ∙ ap (λ (n : ℕ). n + 1) (sym r.loads.read) ∙ ap (λ (n : ℕ). n + 1) is
+
+-- a row that was refused leaves what was read
+reading-same : (input left : Option (List ℕ)) (row : Operation) (old new : Loading) (before now next : StoreView) → IsReading input left old before now
+    → Takes row false old now new next → IsReading input left new before next
+reading-same input left row old new before now next r takes = record { rows = r.rows; loads = takes (map_in before) r.rows r.loads; reads = r.reads }
+
+pub reading-refused : (input left : Option (List ℕ)) (fault : Fault) (row : Operation) (old new : Loading) (before now next : StoreView) → IsReading input left old before now
+    → Takes row false old now new next → IsOther (reason_of fault) → AreRead input (Err fault) new before next
+reading-refused input left fault row old new before now next r takes other = reading-fails input left fault new before next (reading-same input left row old new before now next r takes) other
+
+-- an input that can't be read, or no memory for a line
+unread_other : (reason : Reason) → (reason ≡ refusal NoMemory) ⊎ (reason ≡ unread) → IsOther reason
+unread_other reason (inl is) = subst IsOther (sym is) tt
+unread_other reason (inr is) = subst IsOther (sym is) tt
+
+pub reading-unread : (input left : Option (List ℕ)) (fault : Fault) (loading : Loading) (before now : StoreView) → IsReading input left loading before now
+    → (reason_of fault ≡ refusal NoMemory) ⊎ (reason_of fault ≡ unread) → AreRead input (Err fault) loading before now
+reading-unread input left fault loading before now r is = reading-fails input left fault loading before now r (unread_other (reason_of fault) is)
+
+-- a line that is no row, or no memory for one
+pub reading-no_row : (input left after : Option (List ℕ)) (line : List ℕ) (fault : Fault) (loading : Loading) (before now : StoreView) → IsReading input left loading before now
+    → ReadsLine left true line after → ((reason_of fault ≡ mistake) × (row_said line ≡ None)) ⊎ (reason_of fault ≡ refusal NoMemory) → AreRead input (Err fault) loading before now
+reading-no_row input left after line fault loading before now r reads (inl (is, none)) = reading-stops input left after line fault loading before now r reads none is
+reading-no_row input left after line fault loading before now r reads (inr is) = reading-fails input left fault loading before now r (subst IsOther (sym is) tt)
+
+-- ---- a row
+
+-- where it did not go to those that wait, nothing had changed
+pub unfit_takes : (taken : Bool) (row : Operation) (old mid new : Loading) (before after : StoreView) → mid ≡ old → Takes row taken mid before new after → Takes row taken old before new after
+unfit_takes taken row old mid new before after is takes = subst (λ (l : Loading). Takes row taken l before new after) is takes
+
+-- by what is told of it
+pub taken_when : (fits : Bool) (row : Operation) (old new : Loading) (s : StoreView) → fits ≡ true → FitsIf fits row old new → Takes row true old s (record new { read = new.read + 1 }) s
+taken_when true row old new s is fit = taken_to row old new s fit
+taken_when false row old new s is fit = absurd (true≢false (sym is))
+
+pub alone_when : (row : Operation) (batch : List Operation) (old mid new : Loading) (before after : StoreView) → CommitsWaiting true old before mid after → batch ≡ row ∷ []
+    → new ≡ record { batch = Some batch; read = mid.read + 1; loaded = mid.loaded } → Takes row true old before new after
+alone_when row batch old mid new before after done one is =
+    taken_alone row old mid new before after done (is ∙ ap (λ (b : List Operation). made b mid) one)
+  where
+    made : List Operation → Loading → Loading
+    made b mid = record { batch = Some b; read = mid.read + 1; loaded = mid.loaded }
+
+pub unfit_when : (fits taken : Bool) (row : Operation) (old mid new : Loading) (before after : StoreView) → fits ≡ false → FitsIf fits row old mid → Takes row taken mid before new after
+    → Takes row taken old before new after
+unfit_when true taken row old mid new before after is fit takes = absurd (true≢false is)
+unfit_when false taken row old mid new before after is fit takes = unfit_takes taken row old mid new before after fit takes
+
+-- ---- a line, by what is told of it
+
+pub ends_when : (more : Bool) (input left after : Option (List ℕ)) (line : List ℕ) (loading : Loading) (before now : StoreView) → more ≡ false → IsReading input left loading before now
+    → ReadsLine left more line after → AreRead input (Ok tt) loading before now
+ends_when true input left after line loading before now is r reads = absurd (true≢false is)
+ends_when false input left after line loading before now is r reads = reading-ends input left after line loading before now r reads
+
+pub more_when : (more : Bool) (input left after : Option (List ℕ)) (line seen : List ℕ) (row : Operation) (old new : Loading) (before now next : StoreView) → more ≡ true → IsReading input left old before now
+    → ReadsLine left more line after → seen ≡ line → row_said seen ≡ Some row → Takes row true old now new next → IsReading input after new before next
+more_when true input left after line seen row old new before now next is r reads same said takes =
+    reading-more input left after line row old new before now next r reads (ap row_said (sym same) ∙ said) takes
+more_when false input left after line seen row old new before now next is r reads same said takes = absurd (true≢false (sym is))
+
+pub no_row_when : (more : Bool) (input left after : Option (List ℕ)) (line seen : List ℕ) (fault : Fault) (loading : Loading) (before now : StoreView) → more ≡ true → IsReading input left loading before now
+    → ReadsLine left more line after → seen ≡ line → ((reason_of fault ≡ mistake) × (row_said seen ≡ None)) ⊎ (reason_of fault ≡ refusal NoMemory) → AreRead input (Err fault) loading before now
+no_row_when true input left after line seen fault loading before now is r reads same why =
+    reading-no_row input left after line fault loading before now r reads (subst (λ (l : List ℕ). ((reason_of fault ≡ mistake) × (row_said l ≡ None)) ⊎ (reason_of fault ≡ refusal NoMemory)) same why)
+no_row_when false input left after line seen fault loading before now is r reads same why = absurd (true≢false (sym is))

@@ -1,0 +1,92 @@
+-- Calls of a store that were refused.
+use Rattle.std.proofs.Common.{◌≡◌, ◌⊎◌, ℕ, Bool, true, false, List, Ok, Err, refl, sym, ap, subst, inl, inr}
+use Rattle.std.specs.Prelude.{is_some, if◌then◌else◌}
+use Rattle.lsm_codec.specs.Guards.{Condition}
+use Rattle.lsm_codec.specs.Map.{Operation}
+use Rattle.lsm_device.specs.declared.refusal.Refusal.{Refusal}
+use Rattle.lsm_device.specs.declared.refusal.Refusal.TheVariants.{NoMemory, Io, Stopped, NoSpace}
+use Rattle.lsm_open.specs.Recovering.{IsOpeningRefusal}
+use Rattle.lsm_store.specs.Backing.{StoreView, machine_of}
+use Rattle.lsm_store.specs.Calls.{Call, CommitIf, Sync, Number, Refused, Unread, as_told}
+use Rattle.lsm_store.specs.Serving.{Serves, reply_in}
+use Rattle.lsm_store.specs.State.{State}
+use Rattle.lsm_store.specs.Stats.{stat_answer, stat_of}
+use Rattle.lsm_store.specs.declared.stat.Stat.{Stat}
+use Rattle.lsm_requests.specs.Answers.{WasOpened}
+use Rattle.lsm_requests.specs.Refusing.{IsRefusedOpened, Refuses, RefusesToCommit, RefusesToTell}
+use Rattle.lsm_requests.specs.Commits.{IsKeptUp, takes_puts}
+
+-- what is told of a batch under guards that was refused, whether a read or a write faulted
+told_refused : (guards : List Condition) (batch : List Operation) (s : State) (e : Refusal) → as_told (reply_in (CommitIf guards batch) s (Refused e)) ≡ Refused e
+told_refused guards batch s Io = by (is_some s.stopped)
+  where
+    by : (b : Bool) → as_told (if b then Refused Io else Unread) ≡ Refused Io
+    by true = refl
+    by false = refl
+told_refused guards batch s e = refl
+
+-- a call whose refusal is told as it is
+pub refuses : (call : Call) (before after : StoreView) (e : Refusal) → Serves before call (Refused e) after → Refuses call before e
+refuses call before after e serves = record { reply = Refused e; after = after; serves = serves; told = refl }
+
+-- one that reads
+pub tell_refused : (call : Call) (before after : StoreView) (e : Refusal) → Serves before call (Refused e) after → RefusesToTell call before e
+tell_refused call before after e serves = inr (refuses call before after e serves)
+
+-- a batch under guards
+pub refuses_if : (guards : List Condition) (batch : List Operation) (before after : StoreView) (e : Refusal)
+    → Serves before (CommitIf guards batch) (reply_in (CommitIf guards batch) after.state (Refused e)) after → Refuses (CommitIf guards batch) before e
+refuses_if guards batch before after e serves =
+    record { reply = reply_in (CommitIf guards batch) after.state (Refused e); after = after; serves = serves; told = told_refused guards batch after.state e }
+
+-- there was no room for puts behind a keeping up
+pub room_refused : (call : Call) (before kept : StoreView) (e : Refusal) → IsKeptUp before kept → e ≡ NoSpace → takes_puts 0 kept ≡ false → RefusesToCommit true call before e
+room_refused call before kept e keeps is lacks = record { kept = kept; keeps = keeps; refused = inl (refl, is, lacks) }
+
+-- or the commit was refused
+pub commit_refused : (puts : Bool) (call : Call) (before kept : StoreView) (e : Refusal) → IsKeptUp before kept → Refuses call kept e → RefusesToCommit puts call before e
+commit_refused puts call before kept e keeps refused = record { kept = kept; keeps = keeps; refused = inr (inl refused) }
+
+-- or the sync behind it
+pub sync_refused : (puts : Bool) (call : Call) (before kept between after : StoreView) (number : ℕ) (e : Refusal) → IsKeptUp before kept → Serves kept call (Number number) between
+    → Serves between Sync (Refused e) after → RefusesToCommit puts call before e
+sync_refused puts call before kept between after number e keeps commits refused = record {
+  kept = kept;
+  keeps = keeps;
+  refused = inr (inr record { number = number; between = between; commits = commits; refused = refuses Sync between after e refused });
+}
+
+-- a store that was opened was refused so
+pub opened_refused : (RefusesSo : StoreView → Refusal → Type 0) (store : StoreView) (e : Refusal) → WasOpened store → RefusesSo store e → IsRefusedOpened RefusesSo e
+opened_refused RefusesSo store e opened refused = inr record { store = store; opened = opened; refused = refused }
+
+-- ---- openings
+
+-- want of memory is what an opening may be refused with too
+pub memory_opening : (e : Refusal) → e ≡ NoMemory → IsOpeningRefusal e
+memory_opening e is = subst IsOpeningRefusal (sym is) (inr tt)
+
+-- a store that was just opened tells its numbers
+numbers_unrefused : (store : StoreView) (e : Refusal) → WasOpened store → stat_answer (machine_of store) ≡ Err e → ⊥
+numbers_unrefused store e opened = by (is_some store.state.stopped) (ap (λ (s : State). is_some s.stopped) opened.opened.state)
+  where
+    by : (b : Bool) → b ≡ false → (if b then Err Stopped else Ok (stat_of (machine_of store))) ≡ Err e → ⊥
+    by true is h = cc
+    by false is h = cc
+
+pub numbers_refused : (store : StoreView) (e : Refusal) → WasOpened store → (e ≡ NoMemory) ⊎ (stat_answer (machine_of store) ≡ Err e) → IsOpeningRefusal e
+numbers_refused store e opened (inl short) = memory_opening e short
+numbers_refused store e opened (inr is) = absurd (numbers_unrefused store e opened is)
+
+-- one that may be stopped
+stopped_numbers : (b : Bool) (stat : Stat) (e : Refusal) → (if b then Err Stopped else Ok stat) ≡ Err e → e ≡ Stopped
+stopped_numbers true stat e h = cc
+stopped_numbers false stat e h = cc
+
+pub numbers_stopped : (store : StoreView) (e : Refusal) → (e ≡ NoMemory) ⊎ (stat_answer (machine_of store) ≡ Err e) → (e ≡ NoMemory) ⊎ (e ≡ Stopped)
+numbers_stopped store e (inl short) = inl short
+numbers_stopped store e (inr is) = inr (stopped_numbers (is_some store.state.stopped) (stat_of (machine_of store)) e is)
+
+pub compact_refused : (e : Refusal) → (e ≡ NoMemory) ⊎ (e ≡ Stopped) → IsOpeningRefusal e ⊎ (e ≡ Stopped)
+compact_refused e (inl short) = inl (memory_opening e short)
+compact_refused e (inr stopped) = inr stopped

@@ -1,0 +1,13 @@
+use Rattle.std.proofs.Common.{subst, sym}
+use Rattle.std.proofs.lemmas.Result.{err_from_is_err_and}
+use Rattle.lsm_requests.specs.Loading.{IsOther}
+use Rattle.lsm_requests.proofs.LoadingLaws.{put-read, put-refused}
+use Rattle.lsm_requests.proofs.loading.load_all.Goals as goal
+
+pub returns-in_err-commit_waiting : goal.returns-in_err-commit_waiting
+returns-in_err-commit_waiting g c =
+    let p = err_from_is_err_and c.from_residual.result c.from_residual.ensures.1 in
+    rw p.1 (put-refused _ c.read_rows-read.result p.0 _ _ _ _ _ c.read_rows-read.ensures (subst IsOther (sym p.2) tt) c.in_err-commit_waiting.ensures)
+
+pub returns : goal.returns
+returns g c = put-read _ c.read_rows-read.result _ _ _ _ _ c.read_rows-read.ensures c.in_ok-commit_waiting.ensures

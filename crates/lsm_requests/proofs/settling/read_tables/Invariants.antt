@@ -1,9 +1,0 @@
-use Rattle.lsm_store.specs.Work.{Read}
-use Rattle.lsm_requests.specs.Settling.{HasLeft}
-use Rattle.lsm_requests.proofs.settling.read_tables.Given as goal
-
-abbrev pub invariant-loop-left : goal.invariant-loop-left
-invariant-loop-left g l = HasLeft (Read l.job) l.left l.fn.store l.store
-
-abbrev pub decreases-loop-left : goal.decreases-loop-left
-decreases-loop-left g l = l.left

@@ -1,0 +1,118 @@
+-- Rows that are loaded.
+use Rattle.std.specs.Prelude.{◌≡◌, ℕ, Bool, true, false, List, [], ◌∷◌, ◌++◌, length, Option, Some, None, Result, Ok, Err, IfSome, codes, decimal}
+use Rattle.lsm_codec.specs.Map.{Map, Operation, apply}
+use Rattle.lsm_device.specs.declared.refusal.Refusal.{Refusal}
+use Rattle.lsm_store.specs.Backing.{StoreView}
+use Rattle.lsm_language.specs.declared.fault.Fault.{Fault}
+use Rattle.lsm_language.specs.Faults.{Reason, mistake, in_use, reason_of}
+use Rattle.lsm_language.specs.Rows.{are_rows, lines_of, rows_of}
+use Rattle.lsm_requests.specs.Commits.{map_in}
+use Rattle.lsm_requests.specs.declared.loading.Loading.{Loading}
+use Rattle.lsm_requests.specs.declared.loading.Loaded.{Loaded}
+use Rattle.lsm_requests.specs.declared.answer.Output.{Output}
+use Rattle.lsm_requests.specs.declared.answer.Output.TheVariants.{Loaded as LoadedRows}
+
+-- the rows of a batch, if there is one
+abbrev pub rows_waiting : Option (List Operation) → List Operation
+rows_waiting None = []
+rows_waiting (Some batch) = batch
+
+-- How far a loading is of these rows, of a store that began with this map: all but those that wait are in the store.
+pub record IsLoading (begun : Map) (rows : List Operation) (loading : Loading) (s : StoreView) : Type 0 where
+  pub put : List Operation
+  pub all : rows ≡ put ++ rows_waiting loading.batch
+  pub read : loading.read ≡ length rows
+  pub loaded : loading.loaded ≡ length put
+  pub map : map_in s ≡ apply begun put
+
+-- these rows are the first of an input, and this is left of it
+abbrev pub HasRead : Option (List ℕ) → List Operation → Option (List ℕ) → Type 0
+HasRead input rows left = IfSome input (λ all. (text : List ℕ) × (left ≡ Some text) × (rows_of (lines_of all) ≡ rows ++ rows_of (lines_of text))
+    × (are_rows (lines_of all) ≡ are_rows (lines_of text)))
+
+-- a list begins with another
+abbrev pub BeginsWith : List Operation → List Operation → Type 0
+BeginsWith all rows = (rest : List Operation) × (all ≡ rows ++ rest)
+
+-- A loading ends with all rows of the input, with a line that is no row behind these, or with some of them.
+abbrev pub EndsFor : Reason → Option (List ℕ) → List Operation → Type 0
+EndsFor mistake input rows = IfSome input (λ all. (rows ≡ rows_of (lines_of all)) × (are_rows (lines_of all) ≡ false))
+EndsFor in_use input rows = ⊥
+EndsFor other input rows = IfSome input (λ all. BeginsWith (rows_of (lines_of all)) rows)
+
+-- a reason that a loading may have beside a mistake
+abbrev pub IsOther : Reason → Type 0
+IsOther mistake = ⊥
+IsOther in_use = ⊥
+IsOther other = Unit {0}
+
+abbrev pub EndsWith : Result (Unit {0}) Fault → Option (List ℕ) → List Operation → Type 0
+EndsWith (Ok done) input rows = IfSome input (λ all. (rows ≡ rows_of (lines_of all)) × (are_rows (lines_of all) ≡ true))
+EndsWith (Err fault) input rows = EndsFor (reason_of fault) input rows
+
+-- ---- steps of a loading
+
+-- no row yet
+abbrev pub none_loaded : Loading
+none_loaded = record { batch = None; read = 0; loaded = 0 }
+
+-- Whatever was loaded so far, it is so afterwards: with a row more where it was taken, and as it was where not.
+abbrev pub with_taken : Bool → List Operation → Operation → List Operation
+with_taken true rows row = rows ++ row ∷ []
+with_taken false rows row = rows
+
+abbrev pub Takes : Operation → Bool → Loading → StoreView → Loading → StoreView → Type 0
+Takes row taken old before new after = (begun : Map) (rows : List Operation) → IsLoading begun rows old before → IsLoading begun (with_taken taken rows row) new after
+
+-- the row is in the batch of those that wait, or nothing has changed
+abbrev pub FitsIf : Bool → Operation → Loading → Loading → Type 0
+FitsIf true row old new = (batch : List Operation) × (old.batch ≡ Some batch) × (new ≡ record old { batch = Some (batch ++ row ∷ []) })
+FitsIf false row old new = new ≡ old
+
+abbrev pub Fits : Operation → Result Bool Refusal → Loading → Loading → Type 0
+Fits row (Ok taken) old new = FitsIf taken row old new
+Fits row (Err e) old new = new ≡ old
+
+-- those that waited are put, or wait still
+abbrev pub waits_after : Bool → Loading → Loading
+waits_after true old = record { batch = None; read = old.read; loaded = old.read }
+waits_after false old = old
+
+abbrev pub CommitsWaiting : Bool → Loading → StoreView → Loading → StoreView → Type 0
+CommitsWaiting done old before new after = (new ≡ waits_after done old)
+    × ((begun : Map) (rows : List Operation) → IsLoading begun rows old before → IsLoading begun rows new after)
+
+-- rows were read, and all but those that wait were put
+pub record AreRead (input : Option (List ℕ)) (ended : Result (Unit {0}) Fault) (loading : Loading) (before after : StoreView) : Type 0 where
+  pub rows : List Operation
+  pub loads : IsLoading (map_in before) rows loading after
+  pub ends : EndsWith ended input rows
+
+-- ---- what comes of it
+
+-- rows were put, and counted
+pub record ArePut (input : Option (List ℕ)) (ended : Result (Unit {0}) Fault) (loading : Loading) (before after : StoreView) : Type 0 where
+  pub rows : List Operation
+  pub number : loading.loaded ≡ length rows
+  pub ends : EndsWith ended input rows
+  pub map : map_in after ≡ apply (map_in before) rows
+
+-- So many rows of the input were put into the map of a store, in their order, and are synced.
+pub record IsLoaded (input : Option (List ℕ)) (loaded : Loaded) (before after : StoreView) : Type 0 where
+  pub rows : List Operation
+  pub number : loaded.rows ≡ length rows
+  pub ends : EndsWith loaded.ended input rows
+  pub map : map_in after ≡ apply (map_in before) rows
+  pub synced : after.state.points.later ≡ []
+
+-- the line that tells how many
+abbrev pub loaded_line : ℕ → List ℕ
+loaded_line number = codes "loaded " ++ decimal number ++ 10 ∷ []
+
+-- all rows of the input are put, and their number is told
+pub record HasLoaded (input : Option (List ℕ)) (before after : StoreView) (output : Output) : Type 0 where
+  pub rows : List Operation
+  pub ends : IfSome input (λ all. (rows ≡ rows_of (lines_of all)) × (are_rows (lines_of all) ≡ true))
+  pub map : map_in after ≡ apply (map_in before) rows
+  pub synced : after.state.points.later ≡ []
+  pub told : output ≡ LoadedRows (length rows)

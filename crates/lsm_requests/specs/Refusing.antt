@@ -1,0 +1,84 @@
+-- With what a request may be refused, on any file: whatever it holds, and whichever of its device calls fault.
+use Rattle.std.specs.Prelude.{◌≡◌, ◌⊎◌, ℕ, Bool, true, false, List, Option, None, IsTrue}
+use Rattle.lsm_check.specs.Images.{IsCheckRefusal}
+use Rattle.lsm_device.specs.declared.refusal.Refusal.{Refusal}
+use Rattle.lsm_device.specs.declared.refusal.Refusal.TheVariants.{NoMemory, Io, Stopped, NoSpace}
+use Rattle.lsm_language.specs.Faults.{Reason, IsRefusalOr, refusal}
+use Rattle.lsm_language.specs.declared.request.Request.{Request}
+use Rattle.lsm_language.specs.declared.request.Request.TheVariants as request
+use Rattle.lsm_open.specs.Recovering.{IsOpeningRefusal}
+use Rattle.lsm_store.specs.declared.asked.At.TheVariants.{Now}
+use Rattle.lsm_store.specs.Backing.{StoreView}
+use Rattle.lsm_store.specs.Calls.{Call, Reply, Commit, CommitIf, Get, Scan, Sync, Number, Refused, as_told}
+use Rattle.lsm_store.specs.Serving.{Serves}
+use Rattle.lsm_storm.specs.Storms.{IsSessionRefusal, IsStormRefusal}
+use Rattle.lsm_requests.specs.Answers.{WasOpened, TellsLoaded}
+use Rattle.lsm_requests.specs.Commits.{IsKeptUp, takes_puts}
+
+-- a store served a call, and told this refusal
+pub record Refuses (call : Call) (before : StoreView) (e : Refusal) : Type 0 where
+  pub reply : Reply
+  pub after : StoreView
+  pub serves : Serves before call reply after
+  pub told : as_told reply ≡ Refused e
+
+-- a call that reads was refused, or there was no memory for the text of its answer
+abbrev pub RefusesToTell : Call → StoreView → Refusal → Type 0
+RefusesToTell call before e = (e ≡ NoMemory) ⊎ Refuses call before e
+
+-- The batch was added, and the sync behind it was refused.
+pub record RefusesToSync (call : Call) (before : StoreView) (e : Refusal) : Type 0 where
+  pub number : ℕ
+  pub between : StoreView
+  pub commits : Serves before call (Number number) between
+  pub refused : Refuses Sync between e
+
+-- There was no room for puts.
+abbrev pub LacksRoom : Bool → StoreView → Refusal → Type 0
+LacksRoom puts kept e = IsTrue puts × (e ≡ NoSpace) × (takes_puts 0 kept ≡ false)
+
+-- The store was kept up; then there was no room for puts, or the call that adds the batch was refused, or the sync behind it.
+pub record RefusesToCommit (puts : Bool) (call : Call) (before : StoreView) (e : Refusal) : Type 0 where
+  pub kept : StoreView
+  pub keeps : IsKeptUp before kept
+  pub refused : LacksRoom puts kept e ⊎ (Refuses call kept e ⊎ RefusesToSync call kept e)
+
+-- a store was opened, and refused so
+pub record OpensAndRefuses (RefusesSo : StoreView → Refusal → Type 0) (e : Refusal) : Type 0 where
+  pub store : StoreView
+  pub opened : WasOpened store
+  pub refused : RefusesSo store e
+
+-- no store was opened, or one was, and refused so
+abbrev pub IsRefusedOpened : (StoreView → Refusal → Type 0) → Refusal → Type 0
+IsRefusedOpened RefusesSo e = IsOpeningRefusal e ⊎ OpensAndRefuses RefusesSo e
+
+-- with what a request may be refused; of rows that are printed or loaded nothing is said
+abbrev pub MayRefuse : Request → Refusal → Type 0
+MayRefuse (request.Format file geometry) e = (e ≡ NoMemory) ⊎ (e ≡ Io)
+MayRefuse (request.Put file batch) e = IsRefusedOpened (RefusesToCommit true (Commit batch)) e
+MayRefuse (request.PutIf file guards batch) e = IsRefusedOpened (RefusesToCommit true (CommitIf guards.items batch)) e
+MayRefuse (request.Delete file batch) e = IsRefusedOpened (RefusesToCommit false (Commit batch)) e
+MayRefuse (request.Get file key) e = IsRefusedOpened (RefusesToTell (Get Now key.items)) e
+MayRefuse (request.Scan file from limit) e = IsRefusedOpened (RefusesToTell (Scan Now from.items None limit)) e
+MayRefuse (request.Stat file) e = IsOpeningRefusal e
+MayRefuse (request.Check file) e = IsCheckRefusal e
+MayRefuse (request.Compact file) e = IsOpeningRefusal e ⊎ (e ≡ Stopped)
+MayRefuse (request.Dump file) e = Unit {0}
+MayRefuse (request.Load file) e = Unit {0}
+MayRefuse (request.Replay file script) e = IsOpeningRefusal e
+MayRefuse (request.Lives geometry script) e = e ≡ NoMemory
+MayRefuse (request.Explore geometry script) e = e ≡ NoMemory
+MayRefuse (request.Storm load) e = IsStormRefusal e
+MayRefuse (request.Tally load) e = IsSessionRefusal e
+
+-- such a refusal
+abbrev pub IsRefusalOf : Request → Reason → Type 0
+IsRefusalOf request (refusal e) = MayRefuse request e
+IsRefusalOf request other = ⊥
+
+-- why there is no answer, and what was printed then
+abbrev pub FaultsWith : Request → Option (List ℕ) → Reason → Option (List ℕ) → Option (List ℕ) → Type 0
+FaultsWith (request.Dump file) input reason output output_after = IsRefusalOr reason
+FaultsWith (request.Load file) input reason output output_after = TellsLoaded input reason output output_after
+FaultsWith other input reason output output_after = IsRefusalOf other reason × (output_after ≡ output)

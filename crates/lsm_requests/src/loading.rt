@@ -1,0 +1,201 @@
+//! Rows are loaded: read a line at a time, and committed in batches as large as a batch may be.
+
+ghost use Rattle.std.specs.Prelude.{◌≡◌, ◌⊎◌, ◌<◌, ◌∷◌, ◌++◌, [], Some, None, IfOk, OnOk, OnErr, MatchResult, is_ok, if◌then◌else◌};
+ghost use Rattle.lsm_device.specs.declared.refusal.Refusal.TheVariants.{NoMemory};
+ghost use Rattle.lsm_upkeep.specs.Keeping.{KeepsMap};
+ghost use Rattle.lsm_language.specs.Faults.{mistake, reason_of, refusal};
+ghost use Rattle.lsm_language.specs.Rows.{row_said};
+ghost use Rattle.lsm_requests.specs.Commits.{Puts};
+ghost use Rattle.lsm_requests.specs.Loading.{ArePut, AreRead, CommitsWaiting, Fits, IsLoaded, Takes, none_loaded, rows_waiting};
+
+use crate::committing::add;
+use lsm_codec::{Batch, Op};
+use lsm_device::{Device, Refusal};
+use lsm_language::fault::{Fault, Usage};
+use lsm_language::row::{next_line, read_row};
+use lsm_language::words::Unread;
+use lsm_store::Store;
+use std::alloc::Global;
+use std::io::BufRead;
+use std::thread::Threads;
+
+/// How far a loading is.
+#[derive(Drop)]
+pub struct Loading {
+    // The rows that were read and wait to be committed.
+    batch: Option<Batch>,
+    // How many rows were read, and how many of them were committed.
+    read: u64,
+    loaded: u64,
+}
+
+/// What came of a loading: how many rows are in the store, synced, and why it ended before the end of the input, if it did.
+#[derive(Drop)]
+pub struct Loaded {
+    pub rows: u64,
+    pub ended: Result<(), Fault>,
+}
+
+/// Puts the rows of an input into a store, in their order, and syncs them. It ends at the end of the input, at a line that is
+/// no row, or at a refusal; what was before that is in the store. It is refused itself where the sync is.
+pub fn load_rows<R: Threads + Sync, D: Device, I: BufRead>(
+    rt: &R,
+    alloc: Global,
+    store: &mut Store<D>,
+    input: &mut I,
+) -> Result<Loaded, Refusal>
+    ensures { IfOk result (λ loaded. IsLoaded (I.remaining input.old) loaded store.old store.new) }
+{
+    let mut loading = Loading {
+        batch: None,
+        read: 0,
+        loaded: 0,
+    };
+    let ended = load_all(rt, alloc, store, input, &mut loading);
+    store.sync()?;
+    Ok(Loaded {
+        rows: loading.loaded,
+        ended,
+    })
+}
+
+// Reads rows to the end and commits them. What was read before a line that is no row is committed too.
+fn load_all<R: Threads + Sync, D: Device, I: BufRead>(
+    rt: &R,
+    alloc: Global,
+    store: &mut Store<D>,
+    input: &mut I,
+    loading: &mut Loading,
+) -> Result<(), Fault>
+    requires { loading.old ≡ none_loaded }
+    ensures { ArePut (I.remaining input.old) result loading.new store.old store.new }
+{
+    let read = read_rows(rt, alloc, store, input, loading);
+    if let Err(Fault::Refused(_)) = &read {
+        return read;
+    }
+    commit_waiting(rt, alloc, store, loading)?;
+    read
+}
+
+// Reads rows to the end of the input, and commits all but the last of them.
+fn read_rows<R: Threads + Sync, D: Device, I: BufRead>(
+    rt: &R,
+    alloc: Global,
+    store: &mut Store<D>,
+    input: &mut I,
+    loading: &mut Loading,
+) -> Result<(), Fault>
+    requires { loading.old ≡ none_loaded }
+    ensures { AreRead (I.remaining input.old) result loading.new store.old store.new }
+{
+    let mut line = Vec::new(alloc);
+    for _ in 0..u64::MAX {
+        if !next_line(input, &mut line)? {
+            return Ok(());
+        }
+        let row = row_in(alloc, loading.read, &line)?;
+        take(rt, alloc, store, loading, row)?;
+    }
+    Err(Fault::Refused(Refusal::Exhausted))
+}
+
+// The row of a line behind so many others.
+fn row_in(alloc: Global, before: u64, line: &[u8]) -> Result<Op, Fault>
+    ensures { MatchResult result (λ row. row_said line.now ≡ Some row) (λ e. ((reason_of e ≡ mistake) × (row_said line.now ≡ None)) ⊎ (reason_of e ≡ refusal NoMemory)) }
+{
+    match read_row(alloc, line) {
+        Ok(row) => Ok(row),
+        Err(Unread::Malformed) => {
+            let line = String::from_utf8_lossy(alloc, line)?;
+            let number = before.saturating_add(1);
+            Err(Fault::Usage(Usage::Row { number, line }))
+        }
+        Err(Unread::NoMemory) => Err(Fault::Refused(Refusal::NoMemory)),
+    }
+}
+
+// Takes a row to those that wait. Where they fill a batch, that is committed first.
+fn take<R: Threads + Sync, D: Device>(
+    rt: &R,
+    alloc: Global,
+    store: &mut Store<D>,
+    loading: &mut Loading,
+    row: Op,
+) -> Result<(), Refusal>
+    requires { loading.old.read < 18446744073709551615 }
+    ensures { Takes row (is_ok result) loading.old store.old loading.new store.new }
+{
+    if fits(loading, &row)? {
+        loading.read += 1;
+        return Ok(());
+    }
+    commit_waiting(rt, alloc, store, loading)?;
+    loading.batch = Some(Batch::new(alloc, row)?);
+    loading.read += 1;
+    Ok(())
+}
+
+// Adds a row to the batch of those that wait, if there is one and it takes the row.
+fn fits(loading: &mut Loading, row: &Op) -> Result<bool, Refusal>
+    ensures { Fits row.now result loading.old loading.new }
+{
+    match &mut loading.batch {
+        Some(batch) => has_taken(batch, row),
+        None => Ok(false),
+    }
+}
+
+// Adds a row to a batch, unless the batch would get too big.
+fn has_taken(batch: &mut Batch, row: &Op) -> Result<bool, Refusal>
+    ensures added { IfOk result (λ taken. batch.new ≡ (if taken then batch.old ++ row.now ∷ [] else batch.old)) }
+    ensures same { OnErr result (batch.new ≡ batch.old) }
+{
+    match add_to(batch, row) {
+        Ok(()) => Ok(true),
+        Err(Refusal::BatchTooBig) => Ok(false),
+        Err(refusal) => Err(refusal),
+    }
+}
+
+fn add_to(batch: &mut Batch, row: &Op) -> Result<(), Refusal>
+    ensures added { OnOk result (batch.new ≡ batch.old ++ row.now ∷ []) }
+    ensures same { OnErr result (batch.new ≡ batch.old) }
+{
+    match row.value() {
+        Some(value) => batch.put(row.key(), value),
+        None => batch.delete(row.key()),
+    }
+}
+
+// Commits the rows that wait, if there are any.
+fn commit_waiting<R: Threads + Sync, D: Device>(
+    rt: &R,
+    alloc: Global,
+    store: &mut Store<D>,
+    loading: &mut Loading,
+) -> Result<(), Refusal>
+    ensures { CommitsWaiting (is_ok result) loading.old store.old loading.new store.new }
+{
+    commit_batch(rt, alloc, store, &loading.batch)?;
+    loading.batch = None;
+    loading.loaded = loading.read;
+    Ok(())
+}
+
+fn commit_batch<R: Threads + Sync, D: Device>(
+    rt: &R,
+    alloc: Global,
+    store: &mut Store<D>,
+    waiting: &Option<Batch>,
+) -> Result<(), Refusal>
+    ensures { MatchResult result (λ _. Puts (rows_waiting waiting.now) store.old store.new) (λ _. KeepsMap store.old store.new) }
+{
+    match waiting {
+        Some(batch) => {
+            add(rt, alloc, store, batch)?;
+            Ok(())
+        }
+        None => Ok(()),
+    }
+}

@@ -1,0 +1,5 @@
+//! Tests of clients that count together.
+#![tactic(auto)]
+
+#[cfg(test)]
+mod tallies;

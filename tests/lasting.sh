@@ -1,0 +1,113 @@
+#!/usr/bin/env bash
+# Looks whether a store lasts that `lsmctl` feeds by single puts, that is filled and emptied, and that is moved to a larger file.
+#
+#     tests/lasting.sh PROGRAM [SECONDS [TIMES]]
+#
+# PROGRAM is a built `lsmctl`. 300 single puts are made in the order of keys, and as many in another order, and each goes on to 5,000
+# as long as SECONDS last, or 10. A store is filled and emptied so many TIMES, or once.
+set -u
+
+program=$(realpath "${1:?the path of a built lsmctl}")
+seconds=${2:-10}
+times=${3:-1}
+folder=$(mktemp -d)
+trap 'rm -rf "$folder"' EXIT
+cd "$folder" || exit 1
+
+fail() {
+    echo "lasting.sh: $*" >&2
+    exit 1
+}
+
+# Runs the program, which has to end with 0, and leaves what it printed in `said`.
+ask() {
+    said=$("$program" "$@" 2>err) || fail "$*: $said $(cat err)"
+}
+
+# The sound image of a store, with so many batches.
+look() {
+    ask check "$1"
+    [[ $said == 'ok generation '*" batches $2 "* ]] || fail "check of $1 prints $said"
+}
+
+# ---- single puts
+
+# Puts the value 31 under keys of two bytes, one by one, on the smallest device. The factor is odd, so that no key comes twice.
+single_puts() {
+    local name=$1 factor=$2 count=0 end=$((SECONDS + seconds)) key
+    ask format "$name" 8192 128
+    : >wanted
+    while [ "$count" -lt 300 ] || { [ "$count" -lt 5000 ] && [ "$SECONDS" -lt "$end" ]; }; do
+        printf -v key %04x $((count * factor % 65536))
+        count=$((count + 1))
+        ask put "$name" "$key" 31
+        [ "$said" = "batch $count" ] || fail "put $count of $name prints $said"
+        echo "$key 31" >>wanted
+    done
+    look "$name" "$count"
+    "$program" dump "$name" >rows 2>err || fail "dump $name: $(cat err)"
+    LC_ALL=C sort wanted | cmp -s - rows || fail "$name has other rows than were put"
+    echo "lasting.sh: $count single puts of $name keys on 8,192 sectors are found, in a sound image"
+}
+single_puts ascending 1
+single_puts scattered 40503
+
+# ---- a larger file
+
+ask compact scattered
+ask format larger 16384 2042
+"$program" dump scattered >rows 2>err || fail "dump: $(cat err)"
+said=$("$program" load larger <rows 2>err) || fail "load: $(cat err)"
+[ "$said" = "loaded $(wc -l <rows)" ] || fail "load of $(wc -l <rows) rows prints $said"
+"$program" dump larger >moved 2>err || fail "dump: $(cat err)"
+cmp -s rows moved || fail "a dump, loaded and dumped again, has other lines"
+echo "lasting.sh: $(wc -l <rows) rows are dumped, loaded into a larger file, and dumped again with the same lines"
+
+# Many rows, with keys and values of many lengths.
+awk 'BEGIN {
+    for (n = 0; n < 20000; n++) {
+        key = sprintf("%08x", n); for (i = 0; i < n % 90; i++) key = key "07"
+        value = ""; for (i = 0; i < n % 300; i++) value = value "05"
+        print key, value == "" ? "empty" : value
+    }
+}' >rows
+ask format large 65536 2042
+said=$("$program" load large <rows 2>err) || fail "load: $(cat err)"
+[ "$said" = "loaded 20000" ] || fail "load of 20000 rows prints $said"
+"$program" dump large >moved 2>err || fail "dump: $(cat err)"
+cmp -s rows moved || fail "20000 rows are dumped with other lines"
+ask check large
+[[ $said == 'ok generation '* ]] || fail "check after 20000 rows prints $said"
+
+# A line that is no row ends a loading. What was before it stays.
+status=0
+said=$(printf '61 31\n62 empty\n63\n64 34\n' | "$program" load larger 2>err) || status=$?
+[ "$status" -eq 2 ] && [ "$said" = "loaded 2" ] || fail "load of a line that is no row ends with $status and prints $said"
+grep -q 'line 3 ' err || fail "a line that is no row is told by $(cat err)"
+ask get larger 62
+[ "$said" = "value empty" ] || fail "get of a row before one that is none prints $said"
+ask get larger 64
+[ "$said" = absent ] || fail "get of a row after one that is none prints $said"
+echo "lasting.sh: a line that is no row is named, and the rows before it are there"
+
+# ---- a full store
+
+# Loads rows until there is no room, deletes them one by one, and compacts: all blocks are free then.
+fill_and_empty() {
+    local status=0 rows key
+    for ((key = 0; key < 4000; key++)); do printf '%04x %04000x\n' "$key" "$key"; done >rows
+    said=$("$program" load full <rows 2>err) || status=$?
+    [ "$status" -eq 1 ] && [ "$(cat err)" = "refused 13 NoSpace" ] || fail "load of more than there is room for ends with $status: $said $(cat err)"
+    rows=${said#loaded }
+    status=0
+    "$program" put full ffff 31 >out 2>err || status=$?
+    [ "$status" -eq 1 ] && [ "$(cat err)" = "refused 13 NoSpace" ] || fail "put to a full store ends with $status: $(cat out err)"
+    for ((key = 0; key < rows; key++)); do ask del full "$(printf %04x "$key")"; done
+    "$program" dump full >left 2>err || fail "dump: $(cat err)"
+    [ ! -s left ] || fail "a store that was emptied has $(wc -l <left) rows"
+    ask compact full
+    [[ $said == *' tables 0 free 959' ]] || fail "compact of a store that was emptied prints $said"
+    echo "lasting.sh: $rows rows of 2,000 bytes fill a store of 8,192 sectors; after their deletes all blocks are free"
+}
+ask format full 8192 128
+for ((time = 0; time < times; time++)); do fill_and_empty; done
