@@ -4,6 +4,7 @@ use crate::setup::{LOG_SECTORS, SECTORS, put};
 use lsm_codec::{Batch, Op};
 use lsm_device::Refusal;
 use lsm_lives::{Call, Explored, Step, Work, explore};
+use lsm_progress::{Milestone, Progress, Silent};
 use std::alloc::Global;
 use std::test::Fail;
 use std::thread::Threads;
@@ -15,7 +16,7 @@ fn explored<R: Threads + Sync>(
     steps: &[Step],
     twice: bool,
 ) -> Result<Explored, Refusal> {
-    explore(rt, alloc, SECTORS, LOG_SECTORS, steps, twice)
+    explore(rt, alloc, SECTORS, LOG_SECTORS, steps, twice, &mut Silent)
 }
 
 // The pieces of work of a job.
@@ -152,11 +153,54 @@ fn many_batches_are_explored_twice(rt: HostRuntime) -> Result<(), Fail> {
     Ok(())
 }
 
+// The fuses that were told, each behind the one before, and how many there are.
+#[derive(Drop)]
+struct Fuses {
+    told: u64,
+    all: u64,
+}
+
+impl Progress for Fuses {
+    fn reached(&mut self, milestone: Milestone) {
+        if let Milestone::Explored { fuse, fuses, .. } = milestone
+            && fuse == self.told
+        {
+            self.told = fuse.saturating_add(1);
+            self.all = fuses;
+        }
+    }
+}
+
+#[test]
+fn each_fuse_is_told(rt: HostRuntime) -> Result<(), Fail> {
+    let mut fuses = Fuses { told: 0, all: 0 };
+    let steps = [delete(rt.alloc(), b"\x61")?];
+    let _explored = explore(
+        &rt,
+        rt.alloc(),
+        SECTORS,
+        LOG_SECTORS,
+        &steps,
+        false,
+        &mut fuses,
+    )?;
+    assert!(rt; fuses.told > 1 && fuses.told == fuses.all);
+    Ok(())
+}
+
 #[test]
 fn other_sizes_are_refused(rt: HostRuntime) -> Result<(), Fail> {
     let rows: [(u32, u16); 4] = [(8_191, 128), (1_048_577, 128), (8_192, 127), (8_192, 2_049)];
     for (sectors, log_sectors) in rows {
-        let refused = explore(&rt, rt.alloc(), sectors, log_sectors, &[], true);
+        let refused = explore(
+            &rt,
+            rt.alloc(),
+            sectors,
+            log_sectors,
+            &[],
+            true,
+            &mut Silent,
+        );
         assert!(rt; refused == Err(Refusal::BadGeometry));
     }
     Ok(())

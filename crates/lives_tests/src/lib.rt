@@ -1,6 +1,7 @@
-//! Tests of steps and lives, and a whole caller.
+//! Tests of steps, lives and checks, and whole callers.
 #![tactic(auto)]
 
+mod checks;
 #[cfg(test)]
 mod exploring;
 #[cfg(test)]
@@ -15,4 +16,5 @@ mod whole;
 #[cfg(test)]
 mod working;
 
+pub use checks::check_after_lives;
 pub use whole::lives_from_format;

@@ -1,15 +1,14 @@
 -- What the parts of an exploration add to the counts, one after another.
-use Rattle.std.proofs.Common.{◌≡◌, ℕ, ◌+◌, Bool, true, false, if◌then◌else◌, List, [], ◌∷◌, ◌++◌, length, map, take, drop, get_or, ◌<◌, ◌-◌, Option, None, Some, refl, ap, sym, subst, ◌∙◌, arith}
-use Rattle.std.proofs.Math.Nat.{add-zero}
+use Rattle.std.proofs.Common.{◌≡◌, ℕ, ◌+◌, Bool, true, false, if◌then◌else◌, List, [], ◌∷◌, ◌++◌, length, map, take, drop, get_or, ◌<◌, ◌-◌, None, Some, refl, ap, sym, subst, ◌∙◌, arith}
 use Rattle.std.proofs.lemmas.Simd.{map-map}
 use Rattle.std.proofs.lemmas.List.{append-nil, length-append, length-map, append_assoc, take_more, take_rest, drop-map, map_push}
 use Rattle.lsm_device.specs.Disk.{image}
 use Rattle.lsm_device.specs.Medium.{Medium, disk}
 use Rattle.lsm_image.specs.Media.{begun}
 use Rattle.lsm_lives.specs.Asked.{Asked, Told}
-use Rattle.lsm_lives.specs.Exploring.{Sectors, is_wanting, IsEnd, AreEndsFrom, IsWhole, AreEnds, left_of, left_of_each, skips, skipped_in, AreReopened, left_again, skipped_again, IsExploredFrom, AddsOpening, AddsOpenings, AddsCrashes, AddsLife}
+use Rattle.lsm_lives.specs.Exploring.{Sectors, is_wanting, IsEnd, AreEndsFrom, IsWhole, left_of, left_of_each, skips, skipped_in, AreReopened, left_again, skipped_again, IsExploredFrom, AddsOpening, AddsOpenings, AddsCrashes, AddsLife}
 use Rattle.lsm_lives.specs.Leading.{IsLed}
-use Rattle.lsm_lives.specs.Masks.{masks_for, is_skipped}
+use Rattle.lsm_lives.specs.Masks.{masks_for}
 use Rattle.lsm_lives.specs.Calls.{told_of}
 use Rattle.lsm_lives.specs.declared.calls.Reply.{Reply as GivenReply}
 use Rattle.lsm_lives.specs.declared.exploring.Explored.{Explored}

@@ -1,22 +1,20 @@
 -- By how many generations a life goes on.
-use Rattle.std.proofs.Common.{◌≡◌, ◌≤◌, ◌<◌, ◌⊎◌, inl, inr, ℕ, zero, suc, ◌+◌, ◌==◌, Bool, true, false, cond, List, [], ◌∷◌, ◌++◌, length, map, Option, None, Some, refl, ap, sym, subst, ◌∙◌, arith}
+use Rattle.std.proofs.Common.{◌≡◌, ◌≤◌, ◌⊎◌, inl, inr, ℕ, ◌+◌, ◌==◌, Bool, true, false, cond, List, [], ◌∷◌, length, map, Option, None, Some, ap, sym, subst, arith}
 use Rattle.std.specs.Prelude.{nat_le, Contains}
 use Rattle.std.specs.List.{AllByRecursion}
 use Rattle.std.proofs.lemmas.List.Elements.{Contains-append_cases}
-use Rattle.lsm_codec.specs.Map.{Operation}
-use Rattle.lsm_device.specs.declared.refusal.Refusal.{Refusal}
 use Rattle.lsm_device.specs.declared.refusal.Refusal.TheVariants.{Io}
 use Rattle.lsm_jobs.specs.Slots.{Slot}
 use Rattle.lsm_levels.specs.Pick.{is_flush}
-use Rattle.lsm_open.specs.CrashState.{CrashState, in_next_generation, last_number, left_by_opening}
+use Rattle.lsm_open.specs.CrashState.{CrashState, in_next_generation, last_number}
 use Rattle.lsm_store.specs.Calls.{Call, Reply}
 use Rattle.lsm_store.specs.Calls.{Commit, CommitIf, Sync, SyncTo, Get, Scan, Snapshot, Release, Rotate, LogRoom, Number, Done, Value, Rows, Given, Handed, Refused, Unread}
-use Rattle.lsm_store.specs.Crash.{crash_state_at, last_crash_state, left_besides, left_with, may_leave}
+use Rattle.lsm_store.specs.Crash.{crash_state_at, left_besides, left_with}
 use Rattle.lsm_store.specs.Effects.{Use, Untouched, Reads, Changes, after, use_of}
 use Rattle.lsm_store.specs.Lives.{IsAnswered, Life, left_by_life}
 use Rattle.lsm_store.specs.Machine.{Machine, Step, Called, Worked}
 use Rattle.lsm_store.specs.RecoveryPoints.{RecoveryPoint, all_synced, recovery_points}
-use Rattle.lsm_store.specs.Run.{Run, after_fault, last_machine, next, next_machine, stopped_in}
+use Rattle.lsm_store.specs.Run.{Run, after_fault, last_machine, next, next_machine}
 use Rattle.lsm_store.specs.State.{State}
 use Rattle.lsm_store.specs.Work.{Work, Take, Read, Ask, Accept, Write, Install, Drop}
 use Rattle.lsm_store.specs.WorkEffects.{installed, state_after, work_use}

@@ -5,7 +5,7 @@ mod Lifetimes
 pub mod Made
 mod MayLeave
 mod MaskLists
-mod Listing
+pub mod Listing
 mod Explorations
 mod PlainRows
 mod CountedBatches

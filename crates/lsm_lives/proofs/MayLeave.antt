@@ -1,5 +1,5 @@
 -- What is left of a life, as the batches tell that the code counts.
-use Rattle.std.proofs.Common.{◌≡◌, ◌≤◌, ◌<◌, ◌^◌, ◌⊎◌, inl, inr, ℕ, zero, suc, ◌+◌, ◌-◌, Bool, true, Result, Ok, Err, List, [], ◌∷◌, ◌++◌, length, take, drop, map, Option, None, Some, slice_get, refl, ap, sym, subst, ◌∙◌, arith}
+use Rattle.std.proofs.Common.{◌≡◌, ◌≤◌, ◌<◌, ◌^◌, ◌⊎◌, inl, inr, ℕ, zero, suc, ◌+◌, ◌-◌, Bool, true, Result, Ok, Err, List, [], ◌∷◌, ◌++◌, length, take, drop, Option, None, Some, slice_get, refl, ap, sym, subst, ◌∙◌, arith}
 use Rattle.std.proofs.Math.Nat.{add-zero}
 use Rattle.std.proofs.lemmas.List.{append-nil, take_all, take-append-le, length-append, length-map, length-take-le, length-drop}
 use Rattle.lsm_open.proofs.Beginnings.{apply_all-append, take_sum}
@@ -12,12 +12,11 @@ use Rattle.lsm_device.specs.Disk.{Disk, image, seen, at_rest}
 use Rattle.lsm_device.specs.Medium.{Medium, KeepsFuse, disk, crashed}
 use Rattle.lsm_device.specs.Outcomes.{Leaves}
 use Rattle.lsm_image.specs.Media.{begun}
-use Rattle.lsm_open.specs.CrashState.{CrashState, MayRefuseOpening, last_number, formatted as empty_store}
+use Rattle.lsm_open.specs.CrashState.{CrashState, MayRefuseOpening, formatted as empty_store}
 use Rattle.lsm_open.specs.Image.{StandFor}
-use Rattle.lsm_store.specs.Backing.{StoreView, IsBacked}
+use Rattle.lsm_store.specs.Backing.{StoreView}
 use Rattle.lsm_store.specs.Calls.{Reply}
 use Rattle.lsm_store.specs.Calls.{Commit, CommitIf, Sync, SyncTo, Rotate, Number, Done, Value, Rows, Given, Handed, Refused, Unread, as_told}
-use Rattle.lsm_store.specs.Crash.{reopened}
 use Rattle.lsm_store.specs.Lives.{IsAfter, IsAnswered, IsPrefixFrom, KeptByLife}
 use Rattle.lsm_store.specs.Machine.{Machine, Step, Called, Worked}
 use Rattle.lsm_store.specs.Run.{Run, next_machine}
@@ -29,7 +28,7 @@ use Rattle.lsm_store.specs.Work.{Ask, Accept, Install}
 use Rattle.lsm_lives.specs.Asked.{Asked, Told, Own, Build, AcceptBuilt, Replied, Built, result_of, step_in, IsTold, AreTold, told_stopped}
 use Rattle.lsm_lives.specs.Expected.{steps_of, replies_of, reply_in, flies_by, last_of, flies_behind, batches_in, least_in, maps_from, MayBeLeft, IsFound}
 use Rattle.lsm_lives.specs.Leading.{LifeView, IsLed, LeadsTo, BeginsOn, FailsOn}
-use Rattle.lsm_lives.specs.Living.{IsLifeTold, AfterCrash, Holds}
+use Rattle.lsm_lives.specs.Living.{IsLifeTold, Holds}
 use Rattle.lsm_lives.specs.Replaying.{MakesEach}
 use Rattle.lsm_lives.proofs.Lifetimes.{at_rest_holds}
 use Rattle.lsm_lives.proofs.Generations.{life_within}

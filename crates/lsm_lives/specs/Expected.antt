@@ -1,5 +1,5 @@
 -- What may be left of a life.
-use Rattle.std.specs.Prelude.{◌≡◌, ◌<◌, ◌≤◌, ℕ, zero, suc, ◌+◌, List, [], ◌∷◌, ◌++◌, length, take, drop, map, ◌-◌, slice_get, IsNone, Option, None, Some}
+use Rattle.std.specs.Prelude.{◌≡◌, ◌<◌, ◌≤◌, ℕ, ◌+◌, List, [], ◌∷◌, ◌++◌, take, drop, map, ◌-◌, slice_get, IsNone, Option, None, Some}
 use Rattle.std.specs.FinMap as finite
 use Rattle.lsm_codec.specs.Map.{Map, Operation, apply_all}
 use Rattle.lsm_open.specs.CrashState.{CrashState, last_number}
@@ -7,7 +7,7 @@ use Rattle.lsm_open.specs.Image.{StandFor}
 use Rattle.lsm_store.specs.Backing.{StoreView, IsBacked}
 use Rattle.lsm_store.specs.RecoveryPoints.{batch_count, present_map}
 use Rattle.lsm_store.specs.Calls.{Reply}
-use Rattle.lsm_store.specs.Calls.{Commit, CommitIf, Number, Value, Refused}
+use Rattle.lsm_store.specs.Calls.{Commit, CommitIf, Value, Refused}
 use Rattle.lsm_store.specs.Lives.{IsAfter, IsPrefixFrom}
 use Rattle.lsm_store.specs.Machine.{Step, Called}
 use Rattle.lsm_device.specs.declared.refusal.Refusal.TheVariants.{Io}
@@ -15,7 +15,6 @@ use Rattle.lsm_store.specs.Promise.{accepted, acknowledged, maps_after}
 use Rattle.lsm_lives.specs.Asked.{Asked, Told, Replied, Built, step_in}
 use Rattle.lsm_lives.specs.Plain.{rows_of}
 use Rattle.lsm_lives.specs.declared.expected.Expected.{Expected}
-use Rattle.lsm_lives.specs.declared.expected.Batches.{Batches}
 
 -- What was asked as steps of the machine, and what was told as its replies: of a build, and of a result by its number, nothing is
 -- accepted or acknowledged.

@@ -23,6 +23,7 @@ use crate::masks::{is_skipped, masks_for};
 use lsm_device::{MemDevice, Refusal};
 use lsm_image::{Image, ImageDevice, sectors_of};
 use lsm_open::format;
+use lsm_progress::{Milestone, Progress};
 use std::alloc::{AllocError, Allocator, Global};
 use std::thread::Threads;
 
@@ -336,12 +337,13 @@ fn explore_one<R: Threads + Sync, A: Allocator + Clone + Send + Sync>(
 }
 
 // Explores a life of these steps on an image.
-fn explore_from<R: Threads + Sync, A: Allocator + Clone + Send + Sync>(
+fn explore_from<R: Threads + Sync, A: Allocator + Clone + Send + Sync, P: Progress>(
     rt: &R,
     alloc: &A,
     start: &Image<'_, A>,
     steps: &[Step<A>],
     twice: bool,
+    progress: &mut P,
 ) -> Result<Explored, Refusal>
     requires formatted { (log_sectors : ℕ) × StandFor log_sectors empty_store start.now }
     requires few { length steps.now < 2 ^ 32 }
@@ -357,6 +359,11 @@ fn explore_from<R: Threads + Sync, A: Allocator + Clone + Send + Sync>(
     };
     let count = fuses(rt, alloc, start, steps)?;
     for fuse in 0..count {
+        progress.reached(Milestone::Explored {
+            states: explored.first.saturating_add(explored.second),
+            fuse,
+            fuses: count,
+        });
         explore_one(rt, alloc, start, steps, fuse, twice, &mut explored)?;
     }
     Ok(explored)
@@ -365,17 +372,19 @@ fn explore_from<R: Threads + Sync, A: Allocator + Clone + Send + Sync>(
 /// Explores a life of these steps on a freshly formatted device: it stops it by each fuse from 0 to the number of its writes
 /// and syncs, its opening included, and crashes it by each mask of the writes that pend then. What is left is opened without
 /// a fuse, and its whole map scanned. With `twice` the opening of what is left is first stopped and crashed in the same way.
-/// Where more than 12 writes pend only three masks are tried: none, all, and every second one from the first on.
+/// Where more than 12 writes pend only three masks are tried: none, all, and every second one from the first on. It tells
+/// `progress` of each fuse before it tries it.
 ///
 /// It is refused with `BadGeometry` where the device wouldn't have 8,192 to 1,048,576 sectors, or a log region 128 to 2,048,
 /// and with `NoMemory`.
-pub fn explore<R: Threads + Sync, A: Allocator + Clone + Send + Sync>(
+pub fn explore<R: Threads + Sync, A: Allocator + Clone + Send + Sync, P: Progress>(
     rt: &R,
     alloc: A,
     sectors: u32,
     log_sectors: u16,
     steps: &[Step<A>],
     twice: bool,
+    progress: &mut P,
 ) -> Result<Explored, Refusal>
     // Whatever the steps and the fuses, the masks and the faults: each store that is opened at last has one of the maps that the
     // promise over crashes allows.
@@ -394,6 +403,6 @@ pub fn explore<R: Threads + Sync, A: Allocator + Clone + Send + Sync>(
     }
     let made = formatted(&alloc, sectors, log_sectors)?;
     let start = Image::of(alloc.clone()?, &made);
-    let explored = explore_from(rt, &alloc, &start, steps, twice)?;
+    let explored = explore_from(rt, &alloc, &start, steps, twice, progress)?;
     Ok(explored)
 }

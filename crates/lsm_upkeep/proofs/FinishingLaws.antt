@@ -1,5 +1,5 @@
 -- How a job goes on.
-use Rattle.std.proofs.Common.{◌≡◌, ◌+◌, ◌<◌, ◌≤◌, ◌-◌, ℕ, suc, Option, Some, None, Result, Ok, Err, MatchResult, inl, inr, refl, subst, arith}
+use Rattle.std.proofs.Common.{◌≡◌, ◌+◌, ◌<◌, ◌≤◌, ◌-◌, ℕ, suc, Option, Some, Result, Ok, Err, MatchResult, inl, inr, refl, subst, arith}
 use Rattle.lsm_device.specs.declared.refusal.Refusal.{Refusal}
 use Rattle.lsm_merge.specs.Inputs.{MergeInput, kept_of}
 use Rattle.lsm_merge.specs.Results.{MergeResult}

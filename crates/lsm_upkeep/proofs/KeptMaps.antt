@@ -1,5 +1,5 @@
 -- What stays at each piece of work, and so while a store is kept up.
-use Rattle.std.proofs.Common.{◌≡◌, ◌∙◌, ◌⊎◌, ◌<◌, ℕ, zero, suc, Option, Some, None, Bool, true, false, inl, inr, refl, ap, sym, subst}
+use Rattle.std.proofs.Common.{◌≡◌, ◌∙◌, ◌⊎◌, ◌<◌, ℕ, zero, suc, Option, Some, None, inl, inr, refl, ap, sym, subst}
 use Rattle.lsm_device.specs.declared.refusal.Refusal.TheVariants.{Io}
 use Rattle.lsm_jobs.specs.Slots.{Slot}
 use Rattle.lsm_levels.specs.Pick.{is_flush}
@@ -20,7 +20,7 @@ use Rattle.lsm_store.specs.WorkReplies.{after_work_fault, next_worked}
 use Rattle.lsm_store.specs.Working.{Works}
 use Rattle.lsm_store.proofs.Points.{present_synced}
 use Rattle.lsm_upkeep.specs.Keeping.{IsSameMap, KeepsMap}
-use Rattle.lsm_upkeep.specs.Finishing.{GoesThrough, HasLeft, IsFinished, IsGivenUp, IsHeldUp, IsOffered, IsReadWhole, IsStuck, IsUndone, IsUnfinished, IsUnmerged, IsUnread, LeavesSome, Taken}
+use Rattle.lsm_upkeep.specs.Finishing.{HasLeft, IsFinished, IsGivenUp, IsHeldUp, IsOffered, IsReadWhole, IsStuck, IsUndone, IsUnfinished, IsUnmerged, IsUnread, LeavesSome, Taken}
 use Rattle.lsm_upkeep.specs.Upkeep.{AreDone, FinishesJobs, IsNoMore, IsRotatedAt, OpensLog}
 
 -- ---- states

@@ -1,5 +1,5 @@
 -- What is to be done next, and that it was.
-use Rattle.std.specs.Prelude.{◌≡◌, ◌⊎◌, Bool, true, false, is_some, Option, Some, None}
+use Rattle.std.specs.Prelude.{◌≡◌, Bool, true, false, Option, Some, None}
 use Rattle.lsm_store.specs.Backing.{StoreView}
 use Rattle.lsm_levels.specs.declared.choosing.Choice.{Choice}
 use Rattle.lsm_upkeep.specs.Finishing.{IsFinished, IsUndone, Taken}

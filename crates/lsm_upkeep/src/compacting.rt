@@ -12,6 +12,7 @@ use crate::wanting::{Wanted, wanted_by, wanted_down};
 use lsm_device::Device;
 use lsm_levels::{Levels, Run};
 use lsm_policy::Policy;
+use lsm_progress::{Milestone, Progress, Silent};
 use lsm_store::Store;
 use std::alloc::{Allocator, Global};
 use std::thread::Threads;
@@ -53,14 +54,34 @@ pub fn compact_all<R: Threads + Sync, D: Device>(
     ensures compacted { result ≡ is_compacted (machine_of store.new) }
     ensures map { KeepsMap store.old store.new }
 {
-    take_down(rt, alloc, store);
+    compact_all_showing(rt, alloc, store, &mut Silent)
+}
+
+/// Does as [`compact_all`], and tells `progress` of each job that it has finished.
+pub fn compact_all_showing<R: Threads + Sync, D: Device, P: Progress>(
+    rt: &R,
+    alloc: Global,
+    store: &mut Store<D>,
+    progress: &mut P,
+) -> bool
+    ensures compacts { CompactsAll store.old store.new }
+    ensures compacted { result ≡ is_compacted (machine_of store.new) }
+    ensures map { KeepsMap store.old store.new }
+{
+    take_down(rt, alloc, store, progress);
     is_compacted(store)
 }
 
-fn take_down<R: Threads + Sync, D: Device>(rt: &R, alloc: Global, store: &mut Store<D>)
+fn take_down<R: Threads + Sync, D: Device, P: Progress>(
+    rt: &R,
+    alloc: Global,
+    store: &mut Store<D>,
+    progress: &mut P,
+)
     ensures { CompactsAll store.old store.new }
 {
-    for _ in 0..MOST_JOBS {
+    for jobs in 0..MOST_JOBS {
+        progress.reached(Milestone::Compacted { jobs });
         let wanted = wanted_down(store);
         if !finish_wanted(rt, alloc, store, wanted) {
             return;

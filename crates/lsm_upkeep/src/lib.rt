@@ -4,7 +4,7 @@
 //! |---|---|
 //! | [`settle`] | the jobs that come next, until none does; then a log with room is opened |
 //! | [`compact`] | a flush where one waits, and the merges that `lsm_policy` chooses, until it chooses none |
-//! | [`compact_all`] | merges until all tables are in the last level, or nothing more can go down |
+//! | [`compact_all`] | merges until all tables are in the last level, or nothing more can go down; [`compact_all_showing`] tells how far it is |
 //! | [`keep_up`] | settles, and compacts where room is scarce |
 //!
 //! None of them changes the map, a snapshot, or the count of batches. What is refused is passed over: the job that it stops
@@ -27,6 +27,6 @@ mod keeping;
 mod settling;
 mod wanting;
 
-pub use compacting::{compact, compact_all};
+pub use compacting::{compact, compact_all, compact_all_showing};
 pub use keeping::{has_room, keep_up};
 pub use settling::settle;

@@ -1,4 +1,4 @@
-use Rattle.std.proofs.Common.{◌≡◌, List, map, refl, ap, sym, subst, ◌∙◌, arith}
+use Rattle.std.proofs.Common.{List, map, refl, ap, sym, subst, ◌∙◌, arith}
 use Rattle.std.specs.FinMap as finite
 use Rattle.lsm_codec.specs.Map.{Map, Operation, apply, apply_all}
 use Rattle.lsm_mem.specs.declared.rows.RowRef.{RowRef}

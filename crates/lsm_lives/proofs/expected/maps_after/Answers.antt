@@ -1,8 +1,8 @@
-use Rattle.std.proofs.Common.{◌≡◌, List, [], ◌∷◌, ◌++◌, map, refl, ap, sym, subst, ◌∙◌, arith}
+use Rattle.std.proofs.Common.{List, [], ◌∷◌, ◌++◌, map, ap, sym, subst, ◌∙◌, arith}
 use Rattle.std.proofs.lemmas.List.{map_push}
 use Rattle.std.specs.FinMap as finite
 use Rattle.lsm_codec.specs.Keys.{Bytes}
-use Rattle.lsm_codec.specs.Map.{Map, Operation, apply}
+use Rattle.lsm_codec.specs.Map.{Operation, apply}
 use Rattle.lsm_store.specs.Promise.{maps_after}
 use Rattle.lsm_mem.specs.declared.rows.RowRef.{RowRef}
 use Rattle.lsm_lives.specs.Plain.{AreRows, rows_of}

@@ -1,4 +1,4 @@
-use Rattle.std.proofs.Common.{List, map, length, subst, arith}
+use Rattle.std.proofs.Common.{List, map, subst}
 use Rattle.lsm_lives.specs.Asked.{Told}
 use Rattle.lsm_lives.specs.Calls.{asked_of}
 use Rattle.lsm_lives.specs.Expected.{AreExpected, batches_in, least_in}

@@ -1,4 +1,4 @@
-use Rattle.std.proofs.Common.{◌≡◌, All, List, map, ap, sym, subst, ◌∙◌, arith, rules}
+use Rattle.std.proofs.Common.{All, map, sym, subst, ◌∙◌, arith, rules}
 use Rattle.lsm_device.specs.Disk.{IsSector}
 use Rattle.lsm_open.specs.CrashState.{formatted as empty_store}
 use Rattle.lsm_open.specs.Image.{StandFor}

@@ -1,4 +1,4 @@
-use Rattle.std.proofs.Common.{◌≡◌, ◌+◌, ℕ, List, Some, drop, map, length, ap, sym, subst, ◌∙◌, if◌then◌else◌, arith, rules}
+use Rattle.std.proofs.Common.{◌+◌, ℕ, List, Some, drop, map, length, ap, subst, ◌∙◌, if◌then◌else◌, arith, rules}
 use Rattle.std.proofs.lemmas.List.{length-map}
 use Rattle.lsm_device.specs.Disk.{image}
 use Rattle.lsm_device.specs.Medium.{disk}

@@ -1,4 +1,4 @@
-use Rattle.std.proofs.Common.{◌≡◌, ◌+◌, List, map, ap, sym, ◌∙◌, arith}
+use Rattle.std.proofs.Common.{◌+◌, map, ap, sym, ◌∙◌, arith}
 use Rattle.lsm_device.specs.declared.calls.Calls.{Calls}
 use Rattle.lsm_image.specs.Media.{medium_in}
 use Rattle.lsm_lives.specs.Calls.{asked_of, told_of}

@@ -1,5 +1,5 @@
-use Rattle.std.proofs.Common.{◌≡◌, ◌<◌, List, length, take, drop, None, Some, ap, sym, ◌∙◌, arith, rules}
-use Rattle.lsm_mem.specs.Paging.{pairs_in, page_of}
+use Rattle.std.proofs.Common.{length, None, ap, sym, ◌∙◌, arith, rules}
+use Rattle.lsm_mem.specs.Paging.{pairs_in}
 use Rattle.lsm_store.specs.RecoveryPoints.{present_map}
 use Rattle.lsm_store.specs.State.{State}
 use Rattle.lsm_lives.specs.Plain.{rows_of}

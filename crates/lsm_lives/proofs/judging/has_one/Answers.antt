@@ -1,4 +1,4 @@
-use Rattle.std.proofs.Common.{◌≡◌, ◌<◌, ◌-◌, List, ℕ, None, Some, slice_get, length, ap, sym, subst, ◌∙◌, arith}
+use Rattle.std.proofs.Common.{◌≡◌, ◌-◌, ℕ, Some, slice_get, length, ap, sym, subst, ◌∙◌, arith}
 use Rattle.lsm_store.specs.RecoveryPoints.{batch_count, present_map}
 use Rattle.lsm_lives.specs.Expected.{maps_from}
 use Rattle.lsm_lives.specs.Plain.{rows_of}

@@ -1,4 +1,4 @@
-use Rattle.std.proofs.Common.{◌≡◌, [], List, Some, slice_get, ap, sym, ◌∙◌}
+use Rattle.std.proofs.Common.{[], List, slice_get, ap, ◌∙◌}
 use Rattle.lsm_codec.specs.Keys.{Bytes}
 use Rattle.lsm_mem.specs.declared.rows.RowRef.{RowRef}
 use Rattle.lsm_lives.proofs.Listing.{row_more}

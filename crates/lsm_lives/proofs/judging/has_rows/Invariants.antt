@@ -1,4 +1,4 @@
-use Rattle.std.proofs.Common.{◌≡◌, ◌≤◌, take, length}
+use Rattle.std.proofs.Common.{◌≡◌, take}
 use Rattle.lsm_lives.specs.Plain.{rows_of}
 use Rattle.lsm_lives.proofs.judging.has_rows.Given as goal
 

@@ -1,4 +1,4 @@
-use Rattle.std.proofs.Common.{◌≡◌, subst}
+use Rattle.std.proofs.Common.{subst}
 use Rattle.lsm_device.specs.Medium.{Medium}
 use Rattle.lsm_image.specs.Media.{medium_in}
 use Rattle.lsm_lives.specs.Leading.{BeginsOn, FailsOn}

@@ -1,5 +1,5 @@
 use Rattle.std.proofs.Common.{inl, inr, refl, arith}
-use Rattle.lsm_upkeep.specs.Upkeep.{AsksChosen, Compacts, IsIdle}
+use Rattle.lsm_upkeep.specs.Upkeep.{AsksChosen, IsIdle}
 use Rattle.lsm_upkeep.proofs.CompactingLaws.{done-wanted, no_more-wanted}
 use Rattle.lsm_upkeep.proofs.FinishingLaws.{are_done-more}
 use Rattle.lsm_upkeep.proofs.KeptMaps.{jobs_keep}

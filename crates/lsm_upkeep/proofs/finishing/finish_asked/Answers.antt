@@ -1,4 +1,4 @@
-use Rattle.std.proofs.Common.{inl, inr}
+use Rattle.std.proofs.Common.{inr}
 use Rattle.lsm_upkeep.proofs.FinishingLaws.{given-job}
 use Rattle.lsm_upkeep.proofs.finishing.finish_asked.Goals as goal
 

@@ -1,6 +1,6 @@
 //! Reads that fail.
 
-use crate::setup::{NUMBERS, left, left_old};
+use crate::checks::setup::{NUMBERS, left, left_old};
 use lsm_check::{Finding, check};
 use lsm_device::{MemDevice, Refusal};
 use std::alloc::Global;

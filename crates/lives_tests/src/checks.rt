@@ -1,5 +1,4 @@
-//! Tests of checks, and a whole caller.
-#![tactic(auto)]
+//! Checks of what lives leave, and a caller of both.
 
 #[cfg(test)]
 mod faults;

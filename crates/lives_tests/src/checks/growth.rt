@@ -1,6 +1,6 @@
 //! Growths that memory refuses.
 
-use crate::setup::{NUMBERS, left};
+use crate::checks::setup::{NUMBERS, left};
 use lsm_check::{Finding, check};
 use lsm_device::{MemDevice, Refusal};
 use merge_tests::budget::Budget;

@@ -1,4 +1,4 @@
-use Rattle.check_tests.proofs.whole.check_after_lives.Goals as goal
+use Rattle.lives_tests.proofs.checks.whole.check_after_lives.Goals as goal
 
 pub returns-in-Ok : goal.returns-in-Ok
 returns-in-Ok g c = λ log before opened is leaves.

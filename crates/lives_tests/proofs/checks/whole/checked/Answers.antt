@@ -5,7 +5,7 @@ use Rattle.lsm_device.specs.Medium.{disk}
 use Rattle.lsm_device.specs.Memory.{medium_in}
 use Rattle.lsm_device.proofs.Outcomes.{seen_outcome}
 use Rattle.lsm_open.specs.Image.{StandFor}
-use Rattle.check_tests.proofs.whole.checked.Goals as goal
+use Rattle.lives_tests.proofs.checks.whole.checked.Goals as goal
 
 pub returns-in_err-report : goal.returns-in_err-report
 returns-in_err-report c = λ log left leaves.
