@@ -134,7 +134,7 @@ impl<A: Allocator + Clone, B: SessionName> Client<A, B> {
     }
 
     /// Takes the job that a policy advises, in one hold of the lock: none, which is no entry, where it advises nothing, where a flush
-    /// is to be taken first, and where the store is stopped. Turns of whatever clients do the rest of the job, so a client that asks
+    /// is to be taken first, where no slot is free, and where the store is stopped. Turns of whatever clients do the rest of the job, so a client that asks
     /// before each turn works by the policy.
     ///
     /// It is refused with `TrailFull` where there is something to take and the trail has no place for another entry, and with

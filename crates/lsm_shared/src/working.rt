@@ -22,6 +22,7 @@ use crate::pieces::{OwnPiece, done};
 use crate::session::Session;
 use crate::turn::Turn;
 use lsm_device::{Device, Refusal};
+use lsm_jobs::Slots;
 use lsm_levels::HeldJobs;
 use lsm_lives::Reply;
 use lsm_merge::{Built, Input};
@@ -307,7 +308,7 @@ impl<D: Device, A: Allocator + Clone, B: SessionName> Session<D, A, B> {
     }
 }
 
-// What a policy advises to take: nothing where the store is stopped, or a flush is to be taken first.
+// What a policy advises to take: nothing where the store is stopped, a flush is to be taken first, or no slot is free.
 fn advised<D: Device, A: Allocator>(store: &Store<D, A>, policy: &Policy) -> Option<Choice>
     ensures { IfSome result (λ choice. MayChoose (machine_of store.now) choice) }
 {
@@ -318,7 +319,15 @@ fn advised<D: Device, A: Allocator>(store: &Store<D, A>, policy: &Policy) -> Opt
     if stat.waiting && !jobs.has_flush() {
         return None;
     }
+    if !has_free_slot(jobs) {
+        return None;
+    }
     policy.next_choice(store.levels(), stat.free_blocks, jobs)
+}
+
+// Whether a slot is free for a job.
+fn has_free_slot<A: Allocator>(jobs: &Slots<A>) -> bool {
+    (0..SLOTS).any(|place| jobs.turn_at(place).is_none())
 }
 
 // Whether a refusal tells of want of memory.

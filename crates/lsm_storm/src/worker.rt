@@ -2,6 +2,7 @@
 ghost use Rattle.std.specs.Prelude.{◌≡◌};
 
 use lsm_device::MemDevice;
+use lsm_policy::Policy;
 use lsm_shared::{Client, Shared};
 use lsm_trail::SessionName;
 use lsm_worker::take_turn;
@@ -25,6 +26,6 @@ pub(crate) fn work<B: SessionName, R: Threads + Wait + Sync>(
     ensures { me.new.number ≡ me.old.number }
 {
     for _ in 0..TURNS {
-        let _ = take_turn(rt, alloc, shared, me, PARTS);
+        let _ = take_turn(rt, alloc, shared, me, &Policy::new(), PARTS);
     }
 }

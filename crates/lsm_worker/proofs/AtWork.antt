@@ -1,21 +1,27 @@
 -- What turns of a worker, and results that it brings, add to its entries.
-use Rattle.std.proofs.Common.{◌≡◌, ℕ, ◌+◌, List, [], ◌∷◌, ◌++◌, refl, ap, ◌∙◌, arith}
-use Rattle.std.specs.Prelude.{if◌then◌else◌}
+use Rattle.std.proofs.Common.{◌≡◌, ◌<◌, ℕ, suc, ◌+◌, List, [], ◌∷◌, ◌++◌, refl, ap, sym, subst, ◌∙◌, arith}
+use Rattle.std.specs.Prelude.{Bool, true, false, is_some, Option, Some, None, if◌then◌else◌}
+use Rattle.std.specs.Arc.{arc_value}
+use Rattle.std.specs.Global.{Global}
+use Rattle.std.specs.Option.{option_map}
+use Rattle.std.specs.declared.sync.Arc.{Arc}
 use Rattle.lsm_device.specs.declared.refusal.Refusal.{Refusal}
 use Rattle.lsm_device.specs.declared.refusal.Refusal.TheVariants.{NoSpace}
+use Rattle.lsm_merge.specs.Inputs.{MergeInput}
 use Rattle.lsm_merge.specs.Results.{MergeResult}
 use Rattle.lsm_store.specs.Calls.{Reply}
 use Rattle.lsm_store.specs.Calls.{Refused}
 use Rattle.lsm_store.specs.Machine.{Machine, Step}
 use Rattle.lsm_store.specs.Work.{Work}
 use Rattle.lsm_lives.specs.Asked.{Told}
+use Rattle.lsm_lives.specs.declared.calls.Reply.{Reply as GivenReply}
 use Rattle.lsm_trail.specs.History.{Event, steps_of, is_call, calls_in}
 use Rattle.lsm_trail.specs.Knowledge.{Known, Sees}
 use Rattle.lsm_shared.specs.Clients.{Adds}
-use Rattle.lsm_shared.specs.Turns.{as_steps, pieces_among, IsTurn, TakesTurn, IsNoTurn, IsBrought, Brings, IsLeftOfBringing, IsNotBrought}
+use Rattle.lsm_shared.specs.Turns.{as_steps, pieces_among, IsTurn, TakesNext, IsNoNext, TakesTurn, IsNoTurn, IsBrought, Brings, IsLeftOfBringing, IsNotBrought}
 use Rattle.lsm_shared.specs.declared.turn.Turn.{Turn}
 use Rattle.lsm_shared.specs.declared.turn.Turn.TheVariants as turn
-use Rattle.lsm_worker.specs.Working.{MakesNoCall}
+use Rattle.lsm_worker.specs.Working.{MakesNoCall, Delivers, DeliversNot, EndsTurn, EndsInVain, TakesWhole, TakesTurns, TakesUpTo}
 
 -- how many calls are among steps
 abbrev calls_among : List Step → ℕ
@@ -65,6 +71,22 @@ turns c d turn takes = adds_none c d takes.others takes.entries takes.adds (of_t
 pub no_turns : (c d : Known) (e : Refusal) → IsNoTurn c e d → MakesNoCall c d
 no_turns c d e takes = adds_none c d takes.others takes.entries takes.adds (of_first takes.entries _ _ takes.stops.steps)
 
+-- a policy advised something, or nothing
+pub some_next : {A : Type 0} (f : A → Told) (taken : Option A) (c d : Known) → is_some taken ≡ true → TakesNext c (option_map f taken) d → (answer : Told) × TakesNext c (Some answer) d
+some_next f None c d is takes = absurd (cc is)
+some_next f (Some x) c d is takes = (f x, takes)
+
+pub none_next : {A : Type 0} (f : A → Told) (taken : Option A) (c d : Known) → is_some taken ≡ false → TakesNext c (option_map f taken) d → TakesNext c None d
+none_next f None c d is takes = takes
+none_next f (Some x) c d is takes = absurd (cc is)
+
+-- a job that a policy advised
+pub nexts : (c d : Known) (answer : Told) → TakesNext c (Some answer) d → MakesNoCall c d
+nexts c d answer takes = adds_none c d takes.piece.others _ takes.piece.adds refl
+
+pub no_nexts : (c d : Known) (e : Refusal) → IsNoNext c e d → MakesNoCall c d
+no_nexts c d e takes = adds_none c d takes.1.others [] takes.1.adds refl
+
 of_result : (number job result : ℕ) (made : MergeResult) (reply : Reply) (entries : List Event) → IsBrought number job result made reply entries → calls_in entries ≡ 0
 of_result number job result made (Refused NoSpace) entries brought = ap calls_in brought.3
 of_result number job result made (Refused e) entries brought = ap calls_in brought.1
@@ -92,3 +114,30 @@ stays c d e one two = record { number = two.number ∙ one.number; calls = two.c
 
 pub stays_itself : (c : Known) → MakesNoCall c c
 stays_itself c = record { number = refl; calls = refl }
+
+-- ---- how a turn ended
+
+pub idle_ends : (taken : Turn Global) (mid : Known) → taken ≡ turn.Idle → EndsTurn taken false mid mid
+idle_ends taken mid is = subst (λ (t : Turn Global). EndsTurn t false mid mid) (sym is) (refl, refl)
+
+pub did_ends : (taken : Turn Global) (reply : GivenReply Global) (mid : Known) → taken ≡ turn.Did reply → EndsTurn taken true mid mid
+did_ends taken reply mid is = subst (λ (t : Turn Global). EndsTurn t true mid mid) (sym is) (refl, refl)
+
+pub merge_ends : (taken : Turn Global) (job result : ℕ) (input : Arc MergeInput Global) (mid new : Known) → taken ≡ turn.Merge job result input → Delivers job result (arc_value input) mid new → EndsTurn taken true mid new
+merge_ends taken job result input mid new is d = subst (λ (t : Turn Global). EndsTurn t true mid new) (sym is) (refl, d)
+
+pub merge_ends_not : (parts : ℕ) (e : Refusal) (taken : Turn Global) (job result : ℕ) (input : Arc MergeInput Global) (mid new : Known) → taken ≡ turn.Merge job result input → DeliversNot parts e job result (arc_value input) mid new → EndsInVain parts e taken mid new
+merge_ends_not parts e taken job result input mid new is d = subst (λ (t : Turn Global). EndsInVain parts e t mid new) (sym is) d
+
+-- ---- turns one after another
+
+pub one_more : (n : ℕ) (busy : Bool) (c d e : Known) → busy ≡ true → TakesTurns n c d → TakesWhole busy d e → TakesTurns (n + 1) c e
+one_more n busy c d e is turns last =
+    let more : suc n ≡ n + 1 = omega arith in
+    subst (λ (m : ℕ). TakesTurns m c e) more (d, turns, subst (λ (b : Bool). TakesWhole b d e) is last)
+
+pub idle_then : (turns n : ℕ) (busy : Bool) (c d e : Known) → busy ≡ false → n < turns → TakesTurns n c d → TakesWhole busy d e → TakesUpTo turns true c e
+idle_then turns n busy c d e is within before last = (n, within, d, before, subst (λ (b : Bool). TakesWhole b d e) is last)
+
+pub all_taken : (turns n : ℕ) (c d : Known) → n ≡ turns → TakesTurns n c d → TakesUpTo turns false c d
+all_taken turns n c d is taken = subst (λ (m : ℕ). TakesTurns m c d) is taken

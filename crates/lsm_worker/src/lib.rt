@@ -6,12 +6,15 @@
 //! | [`take_turn`] | one turn, and what it hands out is built and brought |
 //! | [`work`] | such turns until nothing is left to do |
 //!
-//! A worker makes no call of the store: whatever it enters in the trail are pieces of work. Where it is idle it has seen a
+//! Merges are taken as a policy advises (`lsm_policy`), before a turn would take the next one by itself.
+//!
+//! A worker makes no call of the store: whatever it enters in the trail are pieces of work. If it is idle it has seen a
 //! history after which nothing is left for it to do; others go on, so it is asked again later.
 //!
 //! ```
+//! let policy = Policy::new();
 //! while !stopping() {
-//!     if work(rt, alloc, &shared, &mut me, 4, 1_000)? {
+//!     if work(rt, alloc, &shared, &mut me, &policy, 4, 1_000)? {
 //!         pause();
 //!     }
 //! }

@@ -1,12 +1,14 @@
 //! Turns of a worker.
 
-ghost use Rattle.std.specs.Prelude.{◌≡◌, false, true, IfOk};
+ghost use Rattle.std.specs.Prelude.{◌≡◌, false, true, None, IfOk, MatchResult};
 ghost use Rattle.std.specs.Arc.{arc_value};
-ghost use Rattle.lsm_shared.specs.Turns.{WasLent};
-ghost use Rattle.lsm_worker.specs.Working.{MakesNoCall, Rests};
+ghost use Rattle.lsm_shared.specs.Turns.{TakesNext, WasLent};
+ghost use Rattle.lsm_trail.specs.Knowledge.{Known};
+ghost use Rattle.lsm_worker.specs.Working.{MakesNoCall, Rests, Delivers, DeliversNot, TakesWhole, TakesPart, TakesUpTo, StopsWithin};
 
 use lsm_device::{Device, Refusal};
 use lsm_merge::{Input, build};
+use lsm_policy::Policy;
 use lsm_shared::{Client, Shared, Turn};
 use lsm_trail::SessionName;
 use std::alloc::Global;
@@ -23,7 +25,10 @@ fn merge<D: Device, B: SessionName, R: Threads + Wait + Sync>(
     parts: u8,
 ) -> Result<(), Refusal>
     requires { WasLent me.old.mine lent.0 lent.1 (arc_value lent.2) }
-    ensures { MakesNoCall me.old me.new }
+    ensures works { MakesNoCall me.old me.new }
+    ensures delivers { MatchResult result
+        (λ _. Delivers lent.0 lent.1 (arc_value lent.2) me.old me.new)
+        (λ e. DeliversNot parts e lent.0 lent.1 (arc_value lent.2) me.old me.new) }
 {
     let (job, number, input) = lent;
     let built = build(rt, alloc, input, parts)?;
@@ -31,18 +36,15 @@ fn merge<D: Device, B: SessionName, R: Threads + Wait + Sync>(
     Ok(())
 }
 
-/// Takes a turn at the jobs of a store. If it hands out an input, the result is built in so many parts, 1 to 8, each in a thread
-/// of its own and with no lock in hand, and brought. It returns whether there was something to do.
-///
-/// It is refused as a turn and a bringing are, with `TrailFull` and `NoMemory`, and with `BadLimit` for another number of parts.
-/// What was entered before stands.
-pub fn take_turn<D: Device, B: SessionName, R: Threads + Wait + Sync>(
+// Takes a turn, behind a policy that advised nothing.
+fn turn<D: Device, B: SessionName, R: Threads + Wait + Sync>(
     rt: &R,
     alloc: Global,
     shared: &Shared<D, Global, B>,
     me: &mut Client<Global, B>,
     parts: u8,
 ) -> Result<bool, Refusal>
+    ensures takes { (old : Known) → TakesNext old None me.old → MatchResult result (λ busy. TakesWhole busy old me.new) (λ e. TakesPart parts e old me.new) }
     ensures works { MakesNoCall me.old me.new }
     ensures rests { IfOk result (λ busy. busy ≡ false → Rests me.new) }
 {
@@ -56,20 +58,46 @@ pub fn take_turn<D: Device, B: SessionName, R: Threads + Wait + Sync>(
     }
 }
 
-/// Takes turns until nothing is left to do, or so many. It returns whether nothing was left.
+/// Takes the merge that a policy advises; if it advises none, takes a turn at the jobs of a store. If that hands out an input, the
+/// result is built in so many parts, 1 to 8, each in a thread of its own and with no lock in hand, and brought. It returns
+/// whether there was something to do.
+///
+/// It is refused as a turn and a bringing are, with `TrailFull` and `NoMemory`, and with `BadLimit` for another number of parts.
+/// What was entered before stands.
+pub fn take_turn<D: Device, B: SessionName, R: Threads + Wait + Sync>(
+    rt: &R,
+    alloc: Global,
+    shared: &Shared<D, Global, B>,
+    me: &mut Client<Global, B>,
+    policy: &Policy,
+    parts: u8,
+) -> Result<bool, Refusal>
+    ensures takes { MatchResult result (λ busy. TakesWhole busy me.old me.new) (λ e. TakesPart parts e me.old me.new) }
+    ensures works { MakesNoCall me.old me.new }
+    ensures rests { IfOk result (λ busy. busy ≡ false → Rests me.new) }
+{
+    if me.take_next(rt, shared, policy)?.is_some() {
+        return Ok(true);
+    }
+    turn(rt, alloc, shared, me, parts)
+}
+
+/// Takes turns by a policy until nothing is left to do, or so many. It returns whether nothing was left.
 pub fn work<D: Device, B: SessionName, R: Threads + Wait + Sync>(
     rt: &R,
     alloc: Global,
     shared: &Shared<D, Global, B>,
     me: &mut Client<Global, B>,
+    policy: &Policy,
     parts: u8,
     turns: u32,
 ) -> Result<bool, Refusal>
+    ensures takes { MatchResult result (λ idle. TakesUpTo turns idle me.old me.new) (λ e. StopsWithin turns parts e me.old me.new) }
     ensures works { MakesNoCall me.old me.new }
     ensures rests { IfOk result (λ idle. idle ≡ true → Rests me.new) }
 {
     for _ in 0..turns {
-        if !take_turn(rt, alloc, shared, me, parts)? {
+        if !take_turn(rt, alloc, shared, me, policy, parts)? {
             return Ok(true);
         }
     }

@@ -3,6 +3,7 @@ ghost use Rattle.std.specs.Prelude.{◌≡◌, IfOk};
 ghost use Rattle.lsm_worker.specs.Working.{MakesNoCall};
 
 use lsm_device::{MemDevice, Refusal};
+use lsm_policy::Policy;
 use lsm_shared::{Client, Shared};
 use lsm_trail::SessionName;
 use lsm_worker::take_turn;
@@ -28,7 +29,7 @@ fn has_ended<B: SessionName, R: Threads + Wait + Sync>(
 ) -> Result<bool, Refusal>
     ensures { IfOk result (λ ended. MakesNoCall me.old me.new) }
 {
-    let busy = take_turn(rt, alloc, shared, me, PARTS)?;
+    let busy = take_turn(rt, alloc, shared, me, &Policy::new(), PARTS)?;
     let calls = me.watch(shared).calls;
     Ok(!busy && calls >= CALLS)
 }

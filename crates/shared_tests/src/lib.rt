@@ -14,9 +14,13 @@ mod faults;
 #[cfg(test)]
 mod growth;
 #[cfg(test)]
+mod policies;
+#[cfg(test)]
 mod replies;
 #[cfg(test)]
 mod setup;
+#[cfg(test)]
+mod tallies;
 #[cfg(test)]
 mod threads;
 #[cfg(test)]

@@ -1,6 +1,7 @@
 use Rattle.std.proofs.Common.{arith, ◌+◌, ◌∙◌, ap}
 use Rattle.std.proofs.lemmas.Bool.Decides.{nat_tests}
-use Rattle.lsm_storm.proofs.Pages.{scanned, all_of_more, all_of_last, few_of_page}
+use Rattle.lsm_lives.proofs.Listing.{scanned}
+use Rattle.lsm_storm.proofs.Pages.{all_of_more, all_of_last, few_of_page}
 use Rattle.lsm_storm.proofs.counts.+rows_from.Goals as goal
 
 pub returns-in-Some-clause-rows : goal.returns-in-Some-clause-rows

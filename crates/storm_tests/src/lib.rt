@@ -1,5 +1,0 @@
-//! Tests of clients that count together.
-#![tactic(auto)]
-
-#[cfg(test)]
-mod tallies;
