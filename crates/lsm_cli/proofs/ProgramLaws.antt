@@ -4,7 +4,7 @@ use Rattle.clap.specs.Words.{AddsSubcommand, App, Row, Text, is_simple, is_simpl
 use Rattle.clap.specs.declared.builder.command.Command.{Command}
 use Rattle.clap.proofs.OnLiterals.{clap_on_literals}
 use Rattle.lsm_language.specs.declared.asked.Asked.{Asked}
-use Rattle.lsm_language.specs.declared.asked.Asked.TheVariants.{Format, Put, PutIf, Delete, Get, Scan, Stat, Check, Compact, Dump, Load, Replay, Lives, Explore, Storm, Tally}
+use Rattle.lsm_language.specs.declared.asked.Asked.TheVariants.{Format, Put, PutIf, Delete, Get, Scan, Stat, Check, Compact, Dump, Load, Serve, Replay, Lives, Explore, Storm, Tally}
 use Rattle.lsm_cli.specs.Program.{Asks, IsCommand, has_words, program}
 
 -- the parser's matches of the program are those of its definitions
@@ -30,6 +30,7 @@ has_words-asked name rows (Check file) (n, a) = rw (n, a) refl
 has_words-asked name rows (Compact file) (n, a) = rw (n, a) refl
 has_words-asked name rows (Dump file) (n, a) = rw (n, a) refl
 has_words-asked name rows (Load file) (n, a) = rw (n, a) refl
+has_words-asked name rows (Serve file) (n, a) = rw (n, a) refl
 has_words-asked name rows (Replay file) (n, a) = rw (n, a) refl
 has_words-asked name rows (Lives sectors log) (n, a, b) = rw (n, a, b) refl
 has_words-asked name rows (Explore sectors log) (n, a, b) = rw (n, a, b) refl

@@ -17,8 +17,10 @@ use Rattle.lsm_language.specs.declared.request.Request.TheVariants as request
 use Rattle.lsm_language.specs.declared.fault.Fault.{Fault}
 use Rattle.lsm_language.specs.Faults.{Reason, IsRefusalOr, mistake, refusal, in_use, unread, unwritten, reason_of, status_of}
 use Rattle.lsm_cli.specs.Program.{has_words, program}
-use Rattle.lsm_language.specs.Requests.{Says, prints_rows, reason_for, wants_rows, wants_script}
-use Rattle.lsm_requests.specs.Answers.{Comes, TellsLoaded}
+use Rattle.lsm_language.specs.Requests.{Says, prints_rows, reason_for, wants_input, wants_rows, wants_script}
+use Rattle.lsm_requests.specs.Answers.{Comes, TellsLoaded, TellsServed}
+use Rattle.lsm_serve.specs.Answering.{Answered}
+use Rattle.lsm_serve.specs.Serving.{ToldBefore}
 use Rattle.lsm_requests.specs.Refusing.{FaultsWith, IsRefusalOf, MayRefuse}
 use Rattle.lsm_requests.specs.Loading.{loaded_line}
 use Rattle.lsm_requests.proofs.EndingLaws.{answer_status-at_most}
@@ -82,6 +84,38 @@ loading : (asked : Asked) (text : List ℕ) (path : Bor (List ℕ)) → Says ask
 loading (asked.Load file) text path says = refl
 loading other text path says = absurd says
 
+-- which are input
+loading_input : (asked : Asked) (text : List ℕ) (path : Bor (List ℕ)) → Says asked text (request.Load path) → IsTrue (wants_input asked)
+loading_input (asked.Load file) text path says = refl
+loading_input other text path says = absurd says
+
+-- and for lines to be answered
+serving : (asked : Asked) (text : List ℕ) (path : Bor (List ℕ)) → Says asked text (request.Serve path) → IsTrue (prints_rows asked)
+serving (asked.Serve file) text path says = refl
+serving other text path says = absurd says
+
+wants_lines : (asked : Asked) (text : List ℕ) (path : Bor (List ℕ)) → Says asked text (request.Serve path) → IsTrue (wants_input asked)
+wants_lines (asked.Serve file) text path says = refl
+wants_lines other text path says = absurd says
+
+-- why a store is served no longer
+abbrev IsServingReason : Reason → Type 0
+IsServingReason (refusal r) = Unit {0}
+IsServingReason unread = Unit {0}
+IsServingReason unwritten = Unit {0}
+IsServingReason other = ⊥
+
+told_before : (reason : Reason) (answers : List Answered) (output output_after : Option (List ℕ)) → ToldBefore reason answers output output_after → IsServingReason reason
+told_before (refusal r) answers output output_after told = tt
+told_before unread answers output output_after told = tt
+told_before unwritten answers output output_after told = tt
+told_before mistake answers output output_after told = told
+told_before in_use answers output output_after told = told
+
+serving_reason : (input output output_after : Option (List ℕ)) (reason : Reason) → TellsServed input reason output output_after → IsServingReason reason
+serving_reason input output output_after reason (inl (e, is, opening, same)) = subst IsServingReason (sym is) tt
+serving_reason input output output_after reason (inr s) = subst IsServingReason s.same (told_before (reason_of s.fault) s.serves.answers output output_after s.serves.told)
+
 no_mistake : (reason : Reason) → IsRefusalOr reason → reason ≢ mistake
 no_mistake mistake is = absurd is
 no_mistake (refusal r) is = λ e. cc
@@ -125,10 +159,22 @@ module _ (words : List Text) (input output output_after : Option (List ℕ)) (as
   loads path says (refusal e) told = (inr (inr (tried (request.Load path) says e tt)), shows_loaded path says (refusal e) told)
   loads path says in_use told = absurd told
   loads path says unread told = (
-    inr record { asked = asked; words_ask = read.words_ask; wants = or_right (wants_script asked) (wants_rows asked) (loading asked text path says) },
+    inr record { asked = asked; words_ask = read.words_ask; wants = loading_input asked text path says },
     shows_loaded path says unread told,
   )
   loads path says unwritten told = (inr (done (request.Load path) says), shows_failure refl)
+
+  shows_served : (path : Bor (List ℕ)) → Says asked text (request.Serve path) → (reason : Reason) → reason ≢ mistake → Shows words reason output output_after
+  shows_served path says reason other = shows_rows asked read.words_ask (serving asked text path says) other
+
+  serves : (path : Bor (List ℕ)) → Says asked text (request.Serve path) → (reason : Reason) → TellsServed input reason output output_after
+      → Fails words input reason × Shows words reason output output_after
+  serves path says mistake told = absurd (serving_reason input output output_after mistake told)
+  serves path says (refusal e) told = (inr (inr (tried (request.Serve path) says e tt)), shows_served path says (refusal e) (λ h. cc))
+  serves path says in_use told = absurd (serving_reason input output output_after in_use told)
+  serves path says unread told =
+      (inr record { asked = asked; words_ask = read.words_ask; wants = wants_lines asked text path says }, shows_served path says unread (λ h. cc))
+  serves path says unwritten told = (inr (done (request.Serve path) says), shows_failure refl)
 
   -- why a request has no answer
   pub fails_with : (r : Request) → Says asked text r → (reason : Reason) → FaultsWith r input reason output output_after
@@ -136,15 +182,21 @@ module _ (words : List Text) (input output output_after : Option (List ℕ)) (as
   fails_with (request.Dump path) says reason is =
       (inr (dumps path says reason is), shows_rows asked read.words_ask (printing asked text path says) (no_mistake reason is))
   fails_with (request.Load path) says reason is = loads path says reason is
+  fails_with (request.Serve path) says reason is = serves path says reason is
   fails_with other says reason (is, same) = plain other says reason is same
 
   -- with which refusal it was tried
   refused_with : (r : Request) → Says asked text r → (e : Refusal) → FaultsWith r input (refusal e) output output_after → IsTried words input e
   refused_with (request.Dump path) says e is = tried (request.Dump path) says e tt
   refused_with (request.Load path) says e is = tried (request.Load path) says e tt
+  refused_with (request.Serve path) says e is = tried (request.Serve path) says e tt
   refused_with other says e (is, same) = tried other says e is
 
 -- the input is left as it is before it is read for rows
+untouched_lines : (asked : Asked) (text : List ℕ) (path : Bor (List ℕ)) → Says asked text (request.Serve path) → wants_script asked ≡ false
+untouched_lines (asked.Serve file) text path says = refl
+untouched_lines other text path says = absurd says
+
 untouched : (asked : Asked) (text : List ℕ) (path : Bor (List ℕ)) → Says asked text (request.Load path) → wants_script asked ≡ false
 untouched (asked.Load file) text path says = refl
 untouched other text path says = absurd says
@@ -152,10 +204,12 @@ untouched other text path says = absurd says
 module _ (asked : Asked) (text : List ℕ) (before after output output_after : Option (List ℕ)) (same : wants_script asked ≡ false → after ≡ before) where
   pub comes_of : (r : Request) (answer : Answer) → Says asked text r → Comes r after output output_after answer → Comes r before output output_after answer
   comes_of (request.Load path) answer says comes = subst (λ (i : Option (List ℕ)). Comes (request.Load path) i output output_after answer) (same (untouched asked text path says)) comes
+  comes_of (request.Serve path) answer says comes = subst (λ (i : Option (List ℕ)). Comes (request.Serve path) i output output_after answer) (same (untouched_lines asked text path says)) comes
   comes_of other answer says comes = comes
 
   pub faults_of : (r : Request) (reason : Reason) → Says asked text r → FaultsWith r after reason output output_after → FaultsWith r before reason output output_after
   faults_of (request.Load path) reason says faults = subst (λ (i : Option (List ℕ)). FaultsWith (request.Load path) i reason output output_after) (same (untouched asked text path says)) faults
+  faults_of (request.Serve path) reason says faults = subst (λ (i : Option (List ℕ)). FaultsWith (request.Serve path) i reason output output_after) (same (untouched_lines asked text path says)) faults
   faults_of other reason says faults = faults
 
 -- what is shown of a refusal, where another program had the file

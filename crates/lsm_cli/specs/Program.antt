@@ -6,7 +6,7 @@ use Rattle.clap.specs.declared.builder.command.Command.{Command}
 use Rattle.clap.specs.declared.builder.command.Command.TheViews.{out-Command as fields_of}
 use Rattle.clap.specs.declared.builder.ArgAction.TheVariants.{Set}
 use Rattle.lsm_language.specs.declared.asked.Asked.{Asked}
-use Rattle.lsm_language.specs.declared.asked.Asked.TheVariants.{Format, Put, PutIf, Delete, Get, Scan, Stat, Check, Compact, Dump, Load, Replay, Lives, Explore, Storm, Tally}
+use Rattle.lsm_language.specs.declared.asked.Asked.TheVariants.{Format, Put, PutIf, Delete, Get, Scan, Stat, Check, Compact, Dump, Load, Serve, Replay, Lives, Explore, Storm, Tally}
 
 -- a word that has to be there
 abbrev pub word_rule : Text → Rule
@@ -46,12 +46,13 @@ with_scripts app = with_words_at (with_words_at (with_words_at (with_words_at (w
     (codes "storm") (codes "CLIENTS" ∷ codes "COMMITS" ∷ codes "WORKERS" ∷ []))
     (codes "tally") (codes "CLIENTS" ∷ codes "TRIES" ∷ [])
 
--- those that go over all rows
+-- those that go over all rows, and the one that answers lines
 abbrev pub with_rows : App → App
-with_rows app = with_words_at (with_words_at (with_words_at app
+with_rows app = with_words_at (with_words_at (with_words_at (with_words_at app
     (codes "compact") (codes "FILE" ∷ []))
     (codes "dump") (codes "FILE" ∷ []))
-    (codes "load") (codes "FILE" ∷ [])
+    (codes "load") (codes "FILE" ∷ []))
+    (codes "serve") (codes "FILE" ∷ [])
 
 -- and between them those that read a store
 abbrev pub program : App
@@ -89,6 +90,7 @@ Asks name rows (Check file) = (name ≡ codes "check") × HasWord rows (codes "F
 Asks name rows (Compact file) = (name ≡ codes "compact") × HasWord rows (codes "FILE") file.now
 Asks name rows (Dump file) = (name ≡ codes "dump") × HasWord rows (codes "FILE") file.now
 Asks name rows (Load file) = (name ≡ codes "load") × HasWord rows (codes "FILE") file.now
+Asks name rows (Serve file) = (name ≡ codes "serve") × HasWord rows (codes "FILE") file.now
 Asks name rows (Replay file) = (name ≡ codes "replay") × HasWord rows (codes "FILE") file.now
 Asks name rows (Lives sectors log) = (name ≡ codes "lives") × HasWord rows (codes "SECTORS") sectors.now
     × HasWord rows (codes "LOG") log.now
@@ -121,6 +123,7 @@ has_other_words name rows = if bytes_eq name (codes "get") then has_word rows (c
     else if bytes_eq name (codes "compact") then has_word rows (codes "FILE")
     else if bytes_eq name (codes "dump") then has_word rows (codes "FILE")
     else if bytes_eq name (codes "load") then has_word rows (codes "FILE")
+    else if bytes_eq name (codes "serve") then has_word rows (codes "FILE")
     else has_script_words name rows
 
 -- of all

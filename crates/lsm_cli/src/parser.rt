@@ -145,6 +145,13 @@ fn with_rows<'a>(alloc: Global, command: Command<'a>) -> Result<Command<'a>, All
         "Put the rows of the input",
         &["FILE"],
     )?;
+    let command = adding(
+        alloc,
+        command,
+        "serve",
+        "Answer the lines of the input as they come",
+        &["FILE"],
+    )?;
     Ok(command)
 }
 
@@ -332,6 +339,10 @@ fn other<'a>(name: &str, given: &ArgMatches<'a>) -> Result<Asked<'a>, Usage>
         "load" => {
             let file = at(given, "FILE")?;
             Ok(Asked::Load { file })
+        }
+        "serve" => {
+            let file = at(given, "FILE")?;
+            Ok(Asked::Serve { file })
         }
         _ => script(name, given),
     }

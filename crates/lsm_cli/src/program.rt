@@ -11,6 +11,7 @@ use lsm_device::{FileDevice, Refusal};
 use lsm_language::fault::Fault;
 use lsm_language::input::script_text;
 use lsm_language::request::Request;
+use lsm_progress::Progress;
 use lsm_requests::answer::Answer;
 use lsm_requests::calls;
 use lsm_requests::ending::conclude;
@@ -21,14 +22,15 @@ use std::sync::Wait;
 use std::thread::Threads;
 
 /// Runs the program on the words after its name, and gives the exit status. A script is read from `input`, an answer
-/// goes to `output`, a fault to `errors`.
+/// goes to `output`, a fault to `errors`. How far a compaction, a load or an exploration is goes to `progress`.
 pub fn run<
     R: Files<File = File> + AllocGlobal + Threads + Wait + Sync,
     S: AsStr,
     I: Read,
     O: Write,
     E: Write,
->(rt: &R, words: &[S], input: &mut I, output: &mut O, errors: &mut E) -> u8
+    P: Progress,
+>(rt: &R, words: &[S], input: &mut I, output: &mut O, errors: &mut E, progress: &mut P) -> u8
     // What comes of the words and the input is printed, an answer or a fault, and decides the exit status.
     ensures runs { IsRun (map S.text words.entry.now) (I.remaining input.old) record {
       output = O.contents output.old;
@@ -46,17 +48,18 @@ pub fn run<
     ensures mistake { result ≡ 2 → Fails (map S.text words.entry.now) (I.remaining input.old) mistake }
     ensures no_answer { result ≡ 2 → IsTold (map S.text words.entry.now) (O.contents output.old) (O.contents output.new) }
 {
-    let answered = answer(rt, words, input, output);
+    let answered = answer(rt, words, input, output, progress);
     conclude(&answered, output, errors)
 }
 
 // Does what the words ask for.
-fn answer<R: Files<File = File> + AllocGlobal + Threads + Wait + Sync, S: AsStr, I: Read, O: Write>(
-    rt: &R,
-    words: &[S],
-    input: &mut I,
-    output: &mut O,
-) -> Result<Answer, Fault>
+fn answer<
+    R: Files<File = File> + AllocGlobal + Threads + Wait + Sync,
+    S: AsStr,
+    I: Read,
+    O: Write,
+    P: Progress,
+>(rt: &R, words: &[S], input: &mut I, output: &mut O, progress: &mut P) -> Result<Answer, Fault>
     ensures { MatchResult result (IsServed (map S.text words.entry.now) (I.remaining input.old) (O.contents output.old) (O.contents output.new))
         (λ fault. Fails (map S.text words.entry.now) (I.remaining input.old) (reason_of fault)
         × Shows (map S.text words.entry.now) (reason_of fault) (O.contents output.old) (O.contents output.new)) }
@@ -65,7 +68,7 @@ fn answer<R: Files<File = File> + AllocGlobal + Threads + Wait + Sync, S: AsStr,
     let text = script_text(rt.alloc(), &asked, input)?;
     let request = Request::read(rt.alloc(), asked, &text)?;
     let file = request.file();
-    match calls::answer(rt, request, input, output) {
+    match calls::answer(rt, request, input, output, progress) {
         Ok(answer) => Ok(answer),
         Err(fault) => Err(told(rt, file, fault)),
     }

@@ -68,11 +68,13 @@ wants_rows (asked.Load file) = true
 wants_rows _ = false
 
 abbrev pub wants_input : Asked → Bool
+wants_input (asked.Serve file) = true
 wants_input asked = wants_script asked || wants_rows asked
 
--- whether rows are printed before the answer
+-- whether rows, or answers to lines, are printed before the answer
 abbrev pub prints_rows : Asked → Bool
 prints_rows (asked.Dump file) = true
+prints_rows (asked.Serve file) = true
 prints_rows _ = false
 
 -- the first thing that is wrong: numbers and bytes from the left, then the script, then the limits, then guards, then the batch
@@ -95,6 +97,7 @@ reason_for (asked.Check file) text = None
 reason_for (asked.Compact file) text = None
 reason_for (asked.Dump file) text = None
 reason_for (asked.Load file) text = None
+reason_for (asked.Serve file) text = None
 reason_for (asked.Replay file) text = said_reason (script_said Steps text)
 reason_for (asked.Lives sectors log) text = or_else (said_reason (number_said sectors.now))
     (or_else (said_reason (number_said log.now)) (or_else (said_reason (script_said Lives text))
@@ -121,6 +124,7 @@ file_of (request.Check path) = Some path.now
 file_of (request.Compact path) = Some path.now
 file_of (request.Dump path) = Some path.now
 file_of (request.Load path) = Some path.now
+file_of (request.Serve path) = Some path.now
 file_of (request.Replay path script) = Some path.now
 file_of (request.Lives geometry script) = None
 file_of (request.Explore geometry script) = None
@@ -147,6 +151,7 @@ Says (asked.Check file) text (request.Check path) = path.now ≡ file.now
 Says (asked.Compact file) text (request.Compact path) = path.now ≡ file.now
 Says (asked.Dump file) text (request.Dump path) = path.now ≡ file.now
 Says (asked.Load file) text (request.Load path) = path.now ≡ file.now
+Says (asked.Serve file) text (request.Serve path) = path.now ≡ file.now
 Says (asked.Replay file) text (request.Replay path script) = (path.now ≡ file.now)
     × (script_said Steps text ≡ Some (map means script.items))
 Says (asked.Lives sectors log) text (request.Lives geometry script) = (number_said sectors.now ≡ Some geometry.sectors)

@@ -47,6 +47,9 @@ pub enum Asked<'a> {
     Load {
         file: &'a str,
     },
+    Serve {
+        file: &'a str,
+    },
     Replay {
         file: &'a str,
     },

@@ -79,6 +79,10 @@ pub enum Request<'a> {
     Load {
         file: &'a str,
     },
+    /// Answer the lines that standard input has, as they come.
+    Serve {
+        file: &'a str,
+    },
     /// Make the steps of a script.
     Replay {
         file: &'a str,
@@ -122,6 +126,7 @@ impl<'a> Request<'a> {
             | Request::Compact { file }
             | Request::Dump { file }
             | Request::Load { file }
+            | Request::Serve { file }
             | Request::Replay { file, .. } => Some(*file),
             Request::Lives { .. }
             | Request::Explore { .. }
@@ -177,6 +182,7 @@ impl<'a> Request<'a> {
             Asked::Compact { file } => Ok(Request::Compact { file }),
             Asked::Dump { file } => Ok(Request::Dump { file }),
             Asked::Load { file } => Ok(Request::Load { file }),
+            Asked::Serve { file } => Ok(Request::Serve { file }),
             Asked::Replay { file } => {
                 let script = read_script(alloc, Kind::Steps, text)?;
                 Ok(Request::Replay { file, script })

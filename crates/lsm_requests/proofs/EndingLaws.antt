@@ -3,7 +3,7 @@ use Rattle.std.proofs.Common.{◌≤◌, ◌==◌, if◌then◌else◌, Bool, tr
 use Rattle.std.specs.declared.io.Error.{Error}
 use Rattle.lsm_requests.specs.declared.answer.Answer.{Answer}
 use Rattle.lsm_requests.specs.declared.answer.Output.{Output}
-use Rattle.lsm_requests.specs.declared.answer.Output.TheVariants.{Formatted, Batch, Value, Absent, Lines, Loaded, Dumped, Found, Explored, Tally}
+use Rattle.lsm_requests.specs.declared.answer.Output.TheVariants.{Formatted, Batch, Value, Absent, Lines, Loaded, Dumped, Served, Found, Explored, Tally}
 use Rattle.lsm_language.specs.declared.fault.Fault.{Fault}
 use Rattle.lsm_language.specs.Faults.{Reason, mistake, refusal, in_use, unread, unwritten, reason_of, status_of}
 use Rattle.lsm_requests.specs.Endings.{answer_status, status_after}
@@ -27,6 +27,7 @@ answer_status-at_most Absent = grind arith
 answer_status-at_most (Lines text) = grind arith
 answer_status-at_most (Loaded number) = grind arith
 answer_status-at_most Dumped = grind arith
+answer_status-at_most Served = grind arith
 answer_status-at_most (Found text) = grind arith
 answer_status-at_most (Explored counts) = found_or_not (counts.wrong == 0)
 answer_status-at_most (Tally true) = grind arith

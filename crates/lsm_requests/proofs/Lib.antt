@@ -5,3 +5,4 @@ pub mod CommittingLaws
 pub mod DumpingLaws
 pub mod LoadingLaws
 pub mod ReadingLaws
+pub mod ServingLaws

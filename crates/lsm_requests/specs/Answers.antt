@@ -1,7 +1,8 @@
 -- What the program prints.
 use Rattle.std.specs.Prelude.{◌≡◌, ◌⊎◌, ℕ, ◌+◌, ◌*◌, ◌==◌, List, [], ◌∷◌, ◌++◌, map, Option, Some, None, Result, Ok, Err, IfOk, IfSome, IsTrue, false, true, codes, decimal, string_bytes}
 use Rattle.std.specs.Io.KnownBytes.{Appends}
-use Rattle.lsm_language.specs.Faults.{Reason, mistake, in_use, unwritten}
+use Rattle.lsm_language.specs.Faults.{Reason, mistake, refusal, in_use, unwritten, reason_of}
+use Rattle.lsm_language.specs.declared.fault.Fault.{Fault}
 use Rattle.lsm_language.specs.Rows.{are_rows, lines_of as lines_in}
 use Rattle.lsm_codec.specs.Keys.{Bytes}
 use Rattle.lsm_codec.specs.Words.{word_of}
@@ -13,9 +14,11 @@ use Rattle.lsm_device.specs.Disk.{seen}
 use Rattle.lsm_device.specs.Outcomes.{Leaves}
 use Rattle.lsm_device.specs.declared.file.FileDevice.{FileDevice}
 use Rattle.lsm_root.specs.Counted.{CallsMade}
+use Rattle.lsm_device.specs.declared.refusal.Refusal.{Refusal}
 use Rattle.lsm_open.specs.CrashState.{formatted as empty_store}
 use Rattle.lsm_open.specs.Image.{StandFor}
 use Rattle.lsm_open.specs.ReadParts.{ReadsAtMost}
+use Rattle.lsm_open.specs.Recovering.{IsOpeningRefusal}
 use Rattle.lsm_check.specs.Images.{IsImage, is_faultless}
 use Rattle.lsm_check.specs.declared.finding.Finding.{Finding}
 use Rattle.lsm_check.specs.declared.finding.Finding.TheVariants as finding
@@ -38,8 +41,10 @@ use Rattle.lsm_upkeep.specs.Upkeep.{CompactsAll}
 use Rattle.lsm_requests.specs.Commits.{HasCommitted, IsKeptUp}
 use Rattle.lsm_requests.specs.Dumping.{HasDumped}
 use Rattle.lsm_requests.specs.Loading.{HasLoaded, loaded_line}
-use Rattle.lsm_requests.specs.Replies.{page_lines, stat_line, report_line, table_line, counts_lines, replies_text, lives_text}
+use Rattle.lsm_replies.specs.Replies.{stat_line}
+use Rattle.lsm_requests.specs.Replies.{page_lines, report_line, table_line, counts_lines, replies_text, lives_text}
 use Rattle.lsm_requests.specs.declared.steps.Told.{Told}
+use Rattle.lsm_serve.specs.Serving.{IsServed}
 use Rattle.lsm_storm.specs.Storms.{HasStormed}
 use Rattle.lsm_storm.specs.Tallies.{HasTallied}
 use Rattle.lsm_storm.specs.declared.counts.Counts.{Counts}
@@ -48,7 +53,7 @@ use Rattle.lsm_language.specs.declared.request.Request.{Request}
 use Rattle.lsm_language.specs.declared.request.Request.TheVariants as request
 use Rattle.lsm_requests.specs.declared.answer.Answer.{Answer}
 use Rattle.lsm_requests.specs.declared.answer.Output.{Output}
-use Rattle.lsm_requests.specs.declared.answer.Output.TheVariants.{Formatted, Batch, Value, Absent, Lines, Loaded, Dumped, Found as FoundWrong, Explored as CountsCrashes, Tally}
+use Rattle.lsm_requests.specs.declared.answer.Output.TheVariants.{Formatted, Batch, Value, Absent, Lines, Loaded, Dumped, Served, Found as FoundWrong, Explored as CountsCrashes, Tally}
 
 -- what an exploration counted
 abbrev pub explored_line : Explored → List ℕ
@@ -64,6 +69,7 @@ output_lines Absent = codes "absent" ++ 10 ∷ []
 output_lines (Lines text) = string_bytes text
 output_lines (Loaded number) = loaded_line number
 output_lines Dumped = []
+output_lines Served = []
 output_lines (FoundWrong text) = string_bytes text
 output_lines (CountsCrashes counts) = explored_line counts
 output_lines (Tally true) = codes "tally ok" ++ 10 ∷ []
@@ -151,7 +157,7 @@ TellsFound line _ = ⊥
 -- a yes is told by the numbers of the image, and what was found wrong with a table by a line of its own; a refusal is no answer
 abbrev pub TellsCheck : Result Report Finding → Output → Type 0
 TellsCheck (Ok report) output = HasLines (report_line report) output
-TellsCheck (Err (finding.Refused refusal)) output = ⊥
+TellsCheck (Err (finding.Refused r)) output = ⊥
 TellsCheck (Err (finding.Entries number)) output = TellsFound (table_line (codes "Entries") number) output
 TellsCheck (Err (finding.Order number)) output = TellsFound (table_line (codes "Order") number) output
 TellsCheck (Err (finding.Filter number)) output = TellsFound (table_line (codes "Filter") number) output
@@ -223,6 +229,7 @@ Gives (request.Check file) = HasChecked
 Gives (request.Compact file) = OfOpened HasCompacted
 Gives (request.Dump file) = λ answer. ⊥
 Gives (request.Load file) = λ answer. ⊥
+Gives (request.Serve file) = λ answer. ⊥
 Gives (request.Replay file script) = OfOpened (HasReplies (map asked_of (steps_after [] script.items)) (told_after [] script.items))
 Gives (request.Lives geometry script) = λ answer. HasLives geometry.sectors geometry.log_sectors (lives_said script.items) (told_lives script.items) answer.output
 Gives (request.Explore geometry script) = λ answer. HasExplored geometry.sectors geometry.log_sectors (map asked_of (steps_after [] script.items)) answer.output
@@ -235,10 +242,16 @@ pub record OfDumped (output output_after : Option (List ℕ)) (answer : Answer) 
   pub appends : Appends output output_after printed
   pub dumps : OfOpened (HasDumped printed) answer
 
+-- all lines of the input were answered, and the store was synced
+pub record HasServed (input output output_after : Option (List ℕ)) (before after : StoreView) (answered : Output) : Type 0 where
+  pub serves : IsServed input (Ok tt) before after output output_after
+  pub told : answered ≡ Served
+
 -- What a request comes to, of this input: an answer, which is to be printed behind what the output holds then.
 abbrev pub Comes : Request → Option (List ℕ) → Option (List ℕ) → Option (List ℕ) → Answer → Type 0
 Comes (request.Dump file) input output output_after answer = OfDumped output output_after answer
 Comes (request.Load file) input output output_after answer = OfOpened (HasLoaded input) answer × (output_after ≡ output)
+Comes (request.Serve file) input output output_after answer = OfOpened (HasServed input output output_after) answer
 Comes other input output output_after answer = Gives other answer × (output_after ≡ output)
 
 -- Why rows were not loaded, and what was printed: a line is no row, and the number of the rows before it; or nothing, or
@@ -249,3 +262,16 @@ TellsLoaded input mistake output output_after = IfSome input (λ all. are_rows (
 TellsLoaded input in_use output output_after = ⊥
 TellsLoaded input unwritten output output_after = Unit {0}
 TellsLoaded input other output output_after = (output_after ≡ output) ⊎ ((number : ℕ) × Appends output output_after (loaded_line number))
+
+-- Why a store was not served to the end of the input: it was not opened, or there was no memory for a reader, and nothing was printed; or
+-- lines were answered up to a fault.
+pub record ServesTo (input output output_after : Option (List ℕ)) (reason : Reason) : Type 0 where
+  pub store : StoreView
+  pub after : StoreView
+  pub fault : Fault
+  pub opened : WasOpened store
+  pub serves : IsServed input (Err fault) store after output output_after
+  pub same : reason_of fault ≡ reason
+
+abbrev pub TellsServed : Option (List ℕ) → Reason → Option (List ℕ) → Option (List ℕ) → Type 0
+TellsServed input reason output output_after = ((e : Refusal) × (reason ≡ refusal e) × IsOpeningRefusal e × (output_after ≡ output)) ⊎ ServesTo input output output_after reason

@@ -12,7 +12,7 @@ use Rattle.lsm_store.specs.Backing.{StoreView}
 use Rattle.lsm_store.specs.Calls.{Call, Reply, Commit, CommitIf, Get, Scan, Sync, Number, Refused, as_told}
 use Rattle.lsm_store.specs.Serving.{Serves}
 use Rattle.lsm_storm.specs.Storms.{IsSessionRefusal, IsStormRefusal}
-use Rattle.lsm_requests.specs.Answers.{WasOpened, TellsLoaded}
+use Rattle.lsm_requests.specs.Answers.{WasOpened, TellsLoaded, TellsServed}
 use Rattle.lsm_requests.specs.Commits.{IsKeptUp, takes_puts}
 
 -- a store served a call, and told this refusal
@@ -66,6 +66,7 @@ MayRefuse (request.Check file) e = IsCheckRefusal e
 MayRefuse (request.Compact file) e = IsOpeningRefusal e ⊎ (e ≡ Stopped)
 MayRefuse (request.Dump file) e = Unit {0}
 MayRefuse (request.Load file) e = Unit {0}
+MayRefuse (request.Serve file) e = Unit {0}
 MayRefuse (request.Replay file script) e = IsOpeningRefusal e
 MayRefuse (request.Lives geometry script) e = e ≡ NoMemory
 MayRefuse (request.Explore geometry script) e = e ≡ NoMemory
@@ -81,4 +82,5 @@ IsRefusalOf request other = ⊥
 abbrev pub FaultsWith : Request → Option (List ℕ) → Reason → Option (List ℕ) → Option (List ℕ) → Type 0
 FaultsWith (request.Dump file) input reason output output_after = IsRefusalOr reason
 FaultsWith (request.Load file) input reason output output_after = TellsLoaded input reason output output_after
+FaultsWith (request.Serve file) input reason output output_after = TellsServed input reason output output_after
 FaultsWith other input reason output output_after = IsRefusalOf other reason × (output_after ≡ output)

@@ -1,7 +1,7 @@
 -- The steps of a script, and how the replies to them are told.
 use Rattle.std.specs.Prelude.{ℕ, ◌+◌, ◌*◌, ◌^◌, ◌-◌, min, List, [], ◌∷◌, ◌++◌, length, map, replicate, slice_get, Bool, true, false, Option, Some, None, if◌then◌else◌}
 use Rattle.std.specs.Global.{Global}
-use Rattle.lsm_store.specs.Calls.{Call, Commit, CommitIf, Snapshot}
+use Rattle.lsm_store.specs.Calls.{Call}
 use Rattle.lsm_lives.specs.declared.calls.Step.{Step as GivenStep}
 use Rattle.lsm_lives.specs.declared.calls.Step.TheVariants as step
 use Rattle.lsm_lives.specs.declared.living.Life.{Life}
@@ -11,17 +11,10 @@ use Rattle.lsm_language.specs.declared.line.Line.{Line}
 use Rattle.lsm_language.specs.declared.line.Line.TheVariants as line
 use Rattle.lsm_language.specs.declared.line.Kept.{Kept}
 use Rattle.lsm_language.specs.declared.line.Kept.TheVariants.{All, Places}
-use Rattle.lsm_requests.specs.declared.steps.Counted.{Counted}
-use Rattle.lsm_requests.specs.declared.steps.Counted.TheVariants as counted
+use Rattle.lsm_replies.specs.Replies.{counted_by}
+use Rattle.lsm_replies.specs.declared.counted.Counted.TheVariants as counted
 use Rattle.lsm_requests.specs.declared.steps.Told.{Told}
 use Rattle.lsm_requests.specs.declared.steps.Told.TheVariants as told
-
--- what a number counts in the reply to a call
-abbrev pub counted_by : Call → Counted
-counted_by (Commit batch) = counted.Batch
-counted_by (CommitIf guards batch) = counted.Batch
-counted_by Snapshot = counted.Snapshot
-counted_by _ = counted.Room
 
 -- how a call and a piece of work are told, by their replies; a number of such a piece is of blocks that are left
 abbrev pub told_of_call : Call → Told

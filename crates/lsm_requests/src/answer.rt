@@ -25,6 +25,8 @@ pub enum Output {
     Loaded(u64),
     /// All rows were printed before.
     Dumped,
+    /// All lines were answered before.
+    Served,
     /// A line with what a check found wrong.
     Found(String),
     /// What an exploration counted.
@@ -67,7 +69,7 @@ impl fmt::Display for Output {
             Output::Absent => writeln!(f, "absent"),
             Output::Lines(text) => write!(f, "{text}"),
             Output::Loaded(rows) => writeln!(f, "loaded {rows}"),
-            Output::Dumped => Ok(()),
+            Output::Dumped | Output::Served => Ok(()),
             Output::Found(text) => write!(f, "{text}"),
             Output::Explored(explored) => {
                 let Explored {

@@ -17,7 +17,7 @@ ghost use Rattle.lsm_requests.specs.Steps.{steps_after, lives_said, told_after, 
 ghost use Rattle.lsm_requests.specs.Replies.{table_line};
 ghost use Rattle.lsm_requests.specs.Commits.{HasCommitted};
 ghost use Rattle.lsm_requests.specs.Loading.{HasLoaded, IsLoaded, loaded_line};
-ghost use Rattle.lsm_requests.specs.Answers.{Comes, HasCompacted, HasFormatted, HasCounted, OfDumped, TellsLoaded, HasFound, HasLives, HasNumbers, HasChecked, IsChecked, TellsFound, HasRows, HasReplies, OfOpened};
+ghost use Rattle.lsm_requests.specs.Answers.{Comes, HasCompacted, HasFormatted, HasCounted, OfDumped, TellsLoaded, TellsServed, HasFound, HasServed, HasLives, HasNumbers, HasChecked, IsChecked, TellsFound, HasRows, HasReplies, OfOpened};
 ghost use Rattle.lsm_requests.specs.Refusing.{FaultsWith, IsRefusedOpened, RefusesToCommit, RefusesToTell};
 
 use crate::answer::{Answer, Output};
@@ -26,7 +26,7 @@ use crate::dumping::dump_rows;
 use crate::exploring::explore;
 use crate::loading::{Loaded, load_rows};
 use crate::opening::open;
-use crate::reply::{counts_text, push_page, report_text, stat_text, table_text};
+use crate::reply::{counts_text, push_page, report_text, table_text};
 use crate::steps::steps_of;
 use crate::tallied::tally;
 use crate::{committing, runs};
@@ -38,8 +38,10 @@ use lsm_language::geometry::Geometry;
 use lsm_language::line::Line;
 use lsm_language::load::Load;
 use lsm_language::request::Request;
+use lsm_progress::Progress;
+use lsm_replies::reply::stat_text;
 use lsm_store::{At, Store};
-use lsm_upkeep::compact_all;
+use lsm_upkeep::compact_all_showing;
 use std::alloc::Global;
 use std::fs::{File, Files};
 use std::io::{BufRead, BufReader, Read, Write};
@@ -47,11 +49,18 @@ use std::sync::Wait;
 use std::thread::Threads;
 
 /// Does what is asked for. With what a request may be refused is said of any file, whatever it holds and whichever of its calls fault.
-pub fn answer<R: Files<File = File> + AllocGlobal + Threads + Wait + Sync, I: Read, O: Write>(
+/// Compactions, loads and explorations tell `progress` how far they are.
+pub fn answer<
+    R: Files<File = File> + AllocGlobal + Threads + Wait + Sync,
+    I: Read,
+    O: Write,
+    P: Progress,
+>(
     rt: &R,
     request: Request<'_>,
     input: &mut I,
     output: &mut O,
+    progress: &mut P,
 ) -> Result<Answer, Fault>
     ensures comes { IfOk result (Comes request.entry (I.remaining input.old) (O.contents output.old) (O.contents output.new)) }
     ensures faults { IfErr result (λ e. FaultsWith request.entry (I.remaining input.old) (reason_of e) (O.contents output.old) (O.contents output.new)) }
@@ -69,40 +78,45 @@ pub fn answer<R: Files<File = File> + AllocGlobal + Threads + Wait + Sync, I: Re
         Request::Scan { file, from, limit } => Ok(scan(rt, file, &from, limit)?),
         Request::Stat { file } => Ok(stat(rt, file)?),
         Request::Check { file } => Ok(check(rt, file)?),
-        Request::Compact { file } => Ok(compact(rt, file)?),
+        Request::Compact { file } => Ok(compact(rt, file, progress)?),
         Request::Dump { file } => dump(rt, file, output),
-        Request::Load { file } => load(rt, file, input, output),
+        Request::Load { file } => load(rt, file, input, output, progress),
+        Request::Serve { file } => serve(rt, file, input, output),
         Request::Replay { file, script } => Ok(replay(rt, file, script)?),
         Request::Lives { geometry, script } => Ok(lives(rt, rt.alloc(), geometry, script)?),
-        Request::Explore { geometry, script } => Ok(explore(rt, rt.alloc(), geometry, script)?),
+        Request::Explore { geometry, script } => {
+            Ok(explore(rt, rt.alloc(), geometry, script, progress)?)
+        }
         Request::Storm { load } => Ok(storm(rt, rt.alloc(), load)?),
         Request::Tally { load } => Ok(tally(rt, rt.alloc(), load)?),
     }
 }
 
-fn compact<R: Files<File = File> + AllocGlobal + Threads + Sync>(
+fn compact<R: Files<File = File> + AllocGlobal + Threads + Sync, P: Progress>(
     rt: &R,
     file: &str,
+    progress: &mut P,
 ) -> Result<Answer, Refusal>
     ensures gives { IfOk result (OfOpened HasCompacted) }
     ensures refused { IfErr result (λ e. IsOpeningRefusal e ⊎ (e ≡ Stopped)) }
 {
     let mut store = open(rt, file)?;
-    let output = keep_and_compact(rt, rt.alloc(), &mut store)?;
+    let output = keep_and_compact(rt, rt.alloc(), &mut store, progress)?;
     Ok(Answer::of_store(output, store))
 }
 
 // Keeps a store up, then compacts it, and tells its numbers.
-fn keep_and_compact<R: Threads + Sync, D: Device>(
+fn keep_and_compact<R: Threads + Sync, D: Device, P: Progress>(
     rt: &R,
     alloc: Global,
     store: &mut Store<D>,
+    progress: &mut P,
 ) -> Result<Output, Refusal>
     ensures gives { IfOk result (HasCompacted store.old store.new) }
     ensures refused { IfErr result (λ e. (e ≡ NoMemory) ⊎ (e ≡ Stopped)) }
 {
     keep(rt, alloc, store);
-    compact_all(rt, alloc, store);
+    compact_all_showing(rt, alloc, store, progress);
     let numbers = numbers(alloc, store)?;
     Ok(numbers)
 }
@@ -120,41 +134,60 @@ fn dump<R: Files<File = File> + AllocGlobal, O: Write>(
     Ok(Answer::of_store(Output::Dumped, store))
 }
 
-fn load<R: Files<File = File> + AllocGlobal + Threads + Sync, I: Read, O: Write>(
+fn load<R: Files<File = File> + AllocGlobal + Threads + Sync, I: Read, O: Write, P: Progress>(
     rt: &R,
     file: &str,
     input: &mut I,
     output: &mut O,
+    progress: &mut P,
 ) -> Result<Answer, Fault>
     ensures answer { IfOk result (λ answer. OfOpened (HasLoaded (I.remaining input.old)) answer × (O.contents output.new ≡ O.contents output.old)) }
     ensures fault { IfErr result (λ e. TellsLoaded (I.remaining input.old) (reason_of e) (O.contents output.old) (O.contents output.new)) }
 {
     let mut store = open(rt, file)?;
     let mut lines = buffered(rt.alloc(), input)?;
-    let Loaded { rows, ended } = keep_and_load(rt, rt.alloc(), &mut store, &mut lines)?;
+    let Loaded { rows, ended } = keep_and_load(rt, rt.alloc(), &mut store, &mut lines, progress)?;
     match ended {
         Ok(()) => Ok(Answer::of_store(Output::Loaded(rows), store)),
         Err(fault) => Err(told_first(rows, fault, output)),
     }
 }
 
+// Answers the lines of an input, with the store open all the while.
+fn serve<R: Files<File = File> + AllocGlobal + Threads + Sync, I: Read, O: Write>(
+    rt: &R,
+    file: &str,
+    input: &mut I,
+    output: &mut O,
+) -> Result<Answer, Fault>
+    ensures answer { IfOk result (OfOpened (HasServed (I.remaining input.old) (O.contents output.old) (O.contents output.new))) }
+    ensures fault { IfErr result (λ e. TellsServed (I.remaining input.old) (reason_of e) (O.contents output.old) (O.contents output.new)) }
+{
+    let mut store = open(rt, file)?;
+    let mut lines = buffered(rt.alloc(), input)?;
+    lsm_serve::serve(rt, rt.alloc(), &mut store, &mut lines, output)?;
+    Ok(Answer::of_store(Output::Served, store))
+}
+
 // Keeps a store up, then loads rows.
-fn keep_and_load<R: Threads + Sync, D: Device, I: BufRead>(
+fn keep_and_load<R: Threads + Sync, D: Device, I: BufRead, P: Progress>(
     rt: &R,
     alloc: Global,
     store: &mut Store<D>,
     lines: &mut I,
+    progress: &mut P,
 ) -> Result<Loaded, Refusal>
     ensures { IfOk result (λ loaded. IsLoaded (I.remaining lines.old) loaded store.old store.new) }
 {
     keep(rt, alloc, store);
     check_room(store, blocks_of_log(store)?)?;
-    load_rows(rt, alloc, store, lines)
+    load_rows(rt, alloc, store, lines, progress)
 }
 
 // A reader that takes in 64 KiB at a time.
 fn buffered<I: Read>(alloc: Global, input: &mut I) -> Result<BufReader<&mut I>, Refusal>
-    ensures { IfOk result (λ lines. reader_remaining (λ input. I.remaining input.now) lines ≡ I.remaining input.old) }
+    ensures lines { IfOk result (λ lines. reader_remaining (λ input. I.remaining input.now) lines ≡ I.remaining input.old) }
+    ensures refused { IfErr result (λ e. e ≡ NoMemory) }
 {
     match BufReader::with_capacity(alloc, 65_536, input) {
         Ok(lines) => Ok(lines),

@@ -11,16 +11,18 @@ use crate::steps::steps_of;
 use lsm_device::Refusal;
 use lsm_language::geometry::Geometry;
 use lsm_language::line::Line;
+use lsm_progress::Progress;
 use std::alloc::Global;
 use std::thread::Threads;
 
 /// Explores every crash of a life of the steps of a script, and every crash of the openings behind it. It is refused for want of
 /// memory alone.
-pub(crate) fn explore<R: Threads + Sync>(
+pub(crate) fn explore<R: Threads + Sync, P: Progress>(
     rt: &R,
     alloc: Global,
     geometry: Geometry,
     script: Vec<Line>,
+    progress: &mut P,
 ) -> Result<Answer, Refusal>
     ensures gives { IfOk result (λ answer. HasExplored geometry.sectors geometry.log_sectors (map asked_of (steps_after [] script.items)) answer.output) }
     ensures refused { IfErr result (λ e. e ≡ NoMemory) }
@@ -33,6 +35,7 @@ pub(crate) fn explore<R: Threads + Sync>(
         geometry.log_sectors(),
         &steps.steps,
         true,
+        progress,
     )?;
     Ok(Answer {
         output: Output::Explored(explored),

@@ -14,6 +14,7 @@ use lsm_device::{Device, Refusal};
 use lsm_language::fault::{Fault, Usage};
 use lsm_language::row::{next_line, read_row};
 use lsm_language::words::Unread;
+use lsm_progress::{Milestone, Progress};
 use lsm_store::Store;
 use std::alloc::Global;
 use std::io::BufRead;
@@ -37,12 +38,14 @@ pub struct Loaded {
 }
 
 /// Puts the rows of an input into a store, in their order, and syncs them. It ends at the end of the input, at a line that is
-/// no row, or at a refusal; what was before that is in the store. It is refused itself where the sync is.
-pub fn load_rows<R: Threads + Sync, D: Device, I: BufRead>(
+/// no row, or at a refusal; what was before that is in the store. It is refused itself where the sync is. It tells `progress` after
+/// each row how many are committed.
+pub fn load_rows<R: Threads + Sync, D: Device, I: BufRead, P: Progress>(
     rt: &R,
     alloc: Global,
     store: &mut Store<D>,
     input: &mut I,
+    progress: &mut P,
 ) -> Result<Loaded, Refusal>
     ensures { IfOk result (λ loaded. IsLoaded (I.remaining input.old) loaded store.old store.new) }
 {
@@ -51,7 +54,7 @@ pub fn load_rows<R: Threads + Sync, D: Device, I: BufRead>(
         read: 0,
         loaded: 0,
     };
-    let ended = load_all(rt, alloc, store, input, &mut loading);
+    let ended = load_all(rt, alloc, store, input, &mut loading, progress);
     store.sync()?;
     Ok(Loaded {
         rows: loading.loaded,
@@ -60,17 +63,18 @@ pub fn load_rows<R: Threads + Sync, D: Device, I: BufRead>(
 }
 
 // Reads rows to the end and commits them. What was read before a line that is no row is committed too.
-fn load_all<R: Threads + Sync, D: Device, I: BufRead>(
+fn load_all<R: Threads + Sync, D: Device, I: BufRead, P: Progress>(
     rt: &R,
     alloc: Global,
     store: &mut Store<D>,
     input: &mut I,
     loading: &mut Loading,
+    progress: &mut P,
 ) -> Result<(), Fault>
     requires { loading.old ≡ none_loaded }
     ensures { ArePut (I.remaining input.old) result loading.new store.old store.new }
 {
-    let read = read_rows(rt, alloc, store, input, loading);
+    let read = read_rows(rt, alloc, store, input, loading, progress);
     if let Err(Fault::Refused(_)) = &read {
         return read;
     }
@@ -79,12 +83,13 @@ fn load_all<R: Threads + Sync, D: Device, I: BufRead>(
 }
 
 // Reads rows to the end of the input, and commits all but the last of them.
-fn read_rows<R: Threads + Sync, D: Device, I: BufRead>(
+fn read_rows<R: Threads + Sync, D: Device, I: BufRead, P: Progress>(
     rt: &R,
     alloc: Global,
     store: &mut Store<D>,
     input: &mut I,
     loading: &mut Loading,
+    progress: &mut P,
 ) -> Result<(), Fault>
     requires { loading.old ≡ none_loaded }
     ensures { AreRead (I.remaining input.old) result loading.new store.old store.new }
@@ -96,6 +101,9 @@ fn read_rows<R: Threads + Sync, D: Device, I: BufRead>(
         }
         let row = row_in(alloc, loading.read, &line)?;
         take(rt, alloc, store, loading, row)?;
+        progress.reached(Milestone::Loaded {
+            rows: loading.loaded,
+        });
     }
     Err(Fault::Refused(Refusal::Exhausted))
 }

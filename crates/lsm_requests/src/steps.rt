@@ -3,11 +3,12 @@
 ghost use Rattle.std.specs.Prelude.{◌≡◌, ◌∷◌, ◌++◌, [], map, None, IfOk, OnOk, length};
 ghost use Rattle.lsm_lives.specs.Calls.{call_of};
 ghost use Rattle.lsm_lives.specs.declared.calls.Step.TheVariants as step;
-ghost use Rattle.lsm_requests.specs.Steps.{steps_after, told_after, counted_by, told_of_call, told_of_piece, ended, mask_said, life_of, lives_after, opened, told_lives};
+ghost use Rattle.lsm_requests.specs.Steps.{steps_after, told_after, told_of_call, told_of_piece, ended, mask_said, life_of, lives_after, opened, told_lives};
 
 use lsm_device::Refusal;
 use lsm_language::line::{Kept, Line};
 use lsm_lives::{Call, Life, Step, Work};
+use lsm_replies::counted::{Counted, counted_in};
 use std::alloc::{AllocError, Global};
 
 /// The most writes that an opening makes.
@@ -15,21 +16,6 @@ const OPENING_WRITES: usize = 42;
 
 /// The most writes that a step makes.
 const STEP_WRITES: usize = 128;
-
-/// What a number in a reply counts.
-#[derive(Clone, Copy)]
-pub enum Counted {
-    /// The batches of a store that was opened.
-    Opened,
-    /// The batches so far, the last of which was added now.
-    Batch,
-    /// The snapshots so far.
-    Snapshot,
-    /// The free sectors of the open log.
-    Room,
-    /// The blocks that a job has left to read, or to write.
-    Left,
-}
 
 /// How the reply of a step is told.
 #[derive(Clone, Copy)]
@@ -185,16 +171,5 @@ fn mask_of(alloc: Global, kept: Kept, steps: usize) -> Result<Vec<bool>, AllocEr
             Ok(vec![in alloc; true; writes]?)
         }
         Kept::Places(places) => Ok(places),
-    }
-}
-
-// What a number counts in the reply to a call.
-fn counted_in(call: &Call) -> Counted
-    ensures { result ≡ counted_by (call_of call.now) }
-{
-    match call {
-        Call::Commit(_) | Call::CommitIf(_, _) => Counted::Batch,
-        Call::Snapshot => Counted::Snapshot,
-        _ => Counted::Room,
     }
 }

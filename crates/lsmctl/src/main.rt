@@ -6,21 +6,32 @@ ghost use Rattle.lsm_cli.specs.Runs.{IsStarted};
 ghost use Rattle.lsm_device.specs.declared.refusal.Refusal.TheVariants.{NoMemory};
 ghost use Rattle.lsm_language.specs.Faults.{mistake, reason_of, refusal};
 
+mod meter;
+
+use crate::meter::Meter;
 use lsm_cli::run;
 use lsm_language::fault::{Fault, Usage};
+use lsm_progress::Progress;
 use lsm_requests::ending::conclude;
 use std::alloc::AllocError;
 use std::env;
 use std::env::Env;
 use std::fs::{File, Files};
-use std::io::{ErrorKind, Read, Write};
+use std::io::{ErrorKind, IsTerminal, Read, Write};
 use std::process::ExitCode;
 use std::sync::Wait;
 use std::thread::Threads;
 
 fn main(rt: HostRuntime) -> ExitCode {
     let (mut input, mut output, mut errors) = (rt.stdin(), rt.stdout(), rt.stderr());
-    ExitCode::from(status(&rt, &mut input, &mut output, &mut errors))
+    let terminal = rt.stderr();
+    let shown = if terminal.is_terminal() {
+        Some(terminal)
+    } else {
+        None
+    };
+    let mut meter = Meter::new(&rt, shown);
+    ExitCode::from(status(&rt, &mut input, &mut output, &mut errors, &mut meter))
 }
 
 // Runs the program on the words after its name.
@@ -29,7 +40,8 @@ fn status<
     I: Read,
     O: Write,
     E: Write,
->(rt: &R, input: &mut I, output: &mut O, errors: &mut E) -> u8
+    P: Progress,
+>(rt: &R, input: &mut I, output: &mut O, errors: &mut E, progress: &mut P) -> u8
     // What comes of the words and the input is printed, an answer or a fault, and decides the exit status.
     ensures started { IsStarted (I.remaining input.old) record {
       output = O.contents output.old;
@@ -40,7 +52,7 @@ fn status<
     ensures status { result ≤ 2 }
 {
     match words_of(rt) {
-        Ok(words) => run(rt, words.as_slice(), input, output, errors),
+        Ok(words) => run(rt, words.as_slice(), input, output, errors, progress),
         Err(fault) => conclude(&Err(fault), output, errors),
     }
 }

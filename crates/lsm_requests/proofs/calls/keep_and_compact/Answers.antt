@@ -7,10 +7,10 @@ pub returns-clause-gives : goal.returns-clause-gives
 returns-clause-gives g c = record {
   kept = c.keep.new.store;
   keeps = c.keep.ensures.keeps;
-  compacts = c.compact_all.ensures.compacts;
+  compacts = c.compact_all_showing.ensures.compacts;
   numbers = c.in_ok-numbers.ensures.gives;
 }
 
 pub returns-in_err-numbers-clause-refused : goal.returns-in_err-numbers-clause-refused
 returns-in_err-numbers-clause-refused g c =
-    let p = err_from_is_err_and c.from_residual.result c.from_residual.ensures.1 in rw (p.1, p.2) (numbers_stopped c.compact_all.new.store _ c.in_err-numbers.ensures.refused)
+    let p = err_from_is_err_and c.from_residual.result c.from_residual.ensures.1 in rw (p.1, p.2) (numbers_stopped c.compact_all_showing.new.store _ c.in_err-numbers.ensures.refused)

@@ -1,7 +1,7 @@
 use Rattle.std.proofs.Common.{◌≡◌, ◌++◌, string_bytes, codes}
 use Rattle.std.specs.List.{flat_map}
-use Rattle.lsm_requests.specs.Replies.{row_pair}
-use Rattle.lsm_requests.proofs.reply.push_rows.Given as goal
+use Rattle.lsm_replies.specs.Replies.{row_pair}
+use Rattle.lsm_replies.proofs.reply.push_rows.Given as goal
 
 abbrev pub invariant-loop-row : goal.invariant-loop-row
 invariant-loop-row l = record {

@@ -1,0 +1,5 @@
+//! Replies of a store as lines of text.
+#![tactic(auto)]
+
+pub mod counted;
+pub mod reply;

@@ -1,0 +1,113 @@
+-- Answers to lines are a run.
+use Rattle.std.proofs.Common.{◌≡◌, ◌∙◌, ◌⊎◌, ℕ, Bool, List, [], ◌∷◌, ◌++◌, inl, inr, refl, sym, ap, subst}
+use Rattle.lsm_device.specs.declared.refusal.Refusal.TheVariants.{NoSpace}
+use Rattle.lsm_lives.specs.Replaying.{GoOn, Replays}
+use Rattle.lsm_replies.specs.Replies.{counted_by}
+use Rattle.lsm_store.specs.Backing.{StoreView}
+use Rattle.lsm_store.specs.Calls.{Call, Reply, Commit, CommitIf, Sync, SyncTo, Get, Scan, Snapshot, Release, Rotate, LogRoom, Refused}
+use Rattle.lsm_store.specs.Machine.{Step, Called}
+use Rattle.lsm_serve.specs.Asking.{Meaning, asks_call, asks_no_batch, asks_numbers, asks_nothing, meaning_of}
+use Rattle.lsm_serve.specs.Committing.{Commits, CommitsIn, LacksRoom, MakesCall, Passes, ServesTold, puts_in}
+use Rattle.lsm_serve.specs.Answering.{Answered, Answers, AnswersLine, AnswersLines, tells}
+use Rattle.lsm_serve.specs.Course.{AreFor, AreForLine, AreForLines, IsCourse}
+use Rattle.lsm_serve.proofs.Passing.{replays-append, stays, then}
+
+-- the steps of one line
+record IsLine (Of : List Step → List Reply → Type 0) (before after : StoreView) : Type 0 where
+  steps : List Step
+  replies : List Reply
+  of_line : Of steps replies
+  replays : Replays before steps replies after
+
+-- ---- a call
+
+module _ (call : Call) (told : Reply) (answered : Answered) (tell : answered ≡ tells (counted_by call) told) where
+  served_behind : (before kept after : StoreView) → Passes call before kept → ServesTold call kept told after → IsLine (AreFor (asks_call call) answered) before after
+  served_behind before kept after p s = record {
+    steps = p.steps ++ Called call ∷ [];
+    replies = p.replies ++ s.reply ∷ [];
+    of_line = inl (record {
+      before = p.steps;
+      earlier = p.replies;
+      reply = s.reply;
+      all = refl;
+      replied = refl;
+      upkeep = p.upkeep;
+      told = tell ∙ ap (tells (counted_by call)) s.is;
+    });
+    replays = replays-append p.steps p.replies before kept after (Called call ∷ []) (s.reply ∷ []) p.replays (after, s.serves, refl);
+  }
+
+  refused_behind : (before kept after : StoreView) → Passes call before kept → told ≡ Refused NoSpace → after ≡ kept → IsLine (AreFor (asks_call call) answered) before after
+  refused_behind before kept after p so same = record {
+    steps = p.steps;
+    replies = p.replies;
+    of_line = inr (p.upkeep, tell ∙ ap (tells (counted_by call)) so);
+    replays = subst (λ (s : StoreView). Replays before p.steps p.replies s) (sym same) p.replays;
+  }
+
+  committed : (puts : Bool) (before after : StoreView) → Commits puts call before told after → IsLine (AreFor (asks_call call) answered) before after
+  committed puts before after c = by c.ends
+    where
+      passed : Passes call before c.kept
+      passed = then call before c.begun c.kept c.passes c.goes_on
+
+      by : CommitsIn puts call c.begun c.kept told after ⊎ LacksRoom puts c.begun c.kept told after → IsLine (AreFor (asks_call call) answered) before after
+      by (inl i) = served_behind before c.kept after passed i.serves
+      by (inr l) = refused_behind before c.kept after passed l.told_so l.same
+
+  served : (before after : StoreView) → ServesTold call before told after → IsLine (AreFor (asks_call call) answered) before after
+  served before after s = served_behind before before after (stays call before before refl) s
+
+made : (call : Call) (told : Reply) (answered : Answered) → answered ≡ tells (counted_by call) told → (before after : StoreView) → MakesCall call before told after
+    → IsLine (AreFor (asks_call call) answered) before after
+made (Commit batch) told answered tell before after c = committed (Commit batch) told answered tell (puts_in batch) before after c
+made (CommitIf guards batch) told answered tell before after c = committed (CommitIf guards batch) told answered tell (puts_in batch) before after c
+made Sync told answered tell before after s = served Sync told answered tell before after s
+made (SyncTo number) told answered tell before after s = served (SyncTo number) told answered tell before after s
+made (Get at key) told answered tell before after s = served (Get at key) told answered tell before after s
+made (Scan at from to limit) told answered tell before after s = served (Scan at from to limit) told answered tell before after s
+made Snapshot told answered tell before after s = served Snapshot told answered tell before after s
+made (Release number) told answered tell before after s = served (Release number) told answered tell before after s
+made Rotate told answered tell before after s = served Rotate told answered tell before after s
+made LogRoom told answered tell before after s = served LogRoom told answered tell before after s
+
+-- ---- a line
+
+nothing_made : (Of : List Step → List Reply → Type 0) (before after : StoreView) → Of [] [] → after ≡ before → IsLine Of before after
+nothing_made Of before after none same = record { steps = []; replies = []; of_line = none; replays = same }
+
+answered_for : (m : Meaning) (before : StoreView) (answered : Answered) (after : StoreView) → Answers m before answered after → IsLine (AreFor m answered) before after
+answered_for (asks_call call) before answered after (told, makes, tell) = made call told answered tell before after makes
+answered_for (asks_no_batch refusal) before answered after (tell, same) = nothing_made (AreFor (asks_no_batch refusal) answered) before after (refl, refl) same
+answered_for asks_numbers before answered after (tell, same) = nothing_made (AreFor asks_numbers answered) before after (refl, refl) same
+answered_for (asks_nothing wrong) before answered after (tell, same) = nothing_made (AreFor (asks_nothing wrong) answered) before after (refl, refl) same
+
+line_for : (before : StoreView) (line : List ℕ) (answered : Answered) (after : StoreView) → AnswersLine before line answered after → IsLine (AreForLine line answered) before after
+line_for before line answered after (inl answers) =
+    let l = answered_for (meaning_of line) before answered after answers in
+    record { steps = l.steps; replies = l.replies; of_line = inl l.of_line; replays = l.replays }
+line_for before line answered after (inr (none, same)) = nothing_made (AreForLine line answered) before after (inr (none, refl, refl)) same
+
+-- ---- lines
+
+lines_for : (lines : List (List ℕ)) (answers : List Answered) (before after : StoreView) → AnswersLines before lines answers after → IsLine (AreForLines lines answers) before after
+lines_for [] [] before after same = nothing_made (AreForLines [] []) before after (refl, refl) same
+lines_for (line ∷ lines) (answered ∷ answers) before after (mid, is, rest) =
+    let l = line_for before line answered mid is in
+    let r = lines_for lines answers mid after rest in
+    record {
+      steps = l.steps ++ r.steps;
+      replies = l.replies ++ r.replies;
+      of_line = (l.steps, r.steps, l.replies, r.replies, refl, refl, l.of_line, r.of_line);
+      replays = replays-append l.steps l.replies before mid after r.steps r.replies l.replays r.replays;
+    }
+lines_for [] (answered ∷ answers) before after none = absurd none
+lines_for (line ∷ lines) [] before after none = absurd none
+
+-- where steps one after another go on
+pub course : ((old : StoreView) (steps : List Step) (replies : List Reply) (new : StoreView) → Replays old steps replies new → GoOn old steps replies new)
+    → (before : StoreView) (lines : List (List ℕ)) (answers : List Answered) (after : StoreView) → AnswersLines before lines answers after → IsCourse before lines answers after
+course goes before lines answers after a =
+    let l = lines_for lines answers before after a in
+    record { steps = l.steps; replies = l.replies; for_lines = l.of_line; replays = l.replays; go_on = goes before l.steps l.replies after l.replays }

@@ -1,0 +1,46 @@
+-- What answers come to: a run of the machine.
+use Rattle.std.specs.Prelude.{◌≡◌, ◌⊎◌, ℕ, List, [], ◌∷◌, ◌++◌}
+use Rattle.lsm_device.specs.declared.refusal.Refusal.TheVariants.{NoMemory, NoSpace}
+use Rattle.lsm_lives.specs.Replaying.{GoOn, Replays}
+use Rattle.lsm_replies.specs.Replies.{counted_by}
+use Rattle.lsm_store.specs.Backing.{StoreView}
+use Rattle.lsm_store.specs.Calls.{Call, Reply, Refused, as_told}
+use Rattle.lsm_store.specs.Machine.{Step, Called}
+use Rattle.lsm_serve.specs.Asking.{Meaning, asks_call, meaning_of}
+use Rattle.lsm_serve.specs.Committing.{AreUpkeep}
+use Rattle.lsm_serve.specs.Answering.{Answered, refuses, tells}
+
+-- The last of these steps is the call, and its reply is told; those before it are work that was done for it.
+pub record EndsWithCall (call : Call) (answered : Answered) (steps : List Step) (replies : List Reply) : Type 0 where
+  pub before : List Step
+  pub earlier : List Reply
+  pub reply : Reply
+  pub all : steps ≡ before ++ Called call ∷ []
+  pub replied : replies ≡ earlier ++ reply ∷ []
+  pub upkeep : AreUpkeep call before earlier
+  pub told : answered ≡ tells (counted_by call) (as_told reply)
+
+-- the steps that were made for a line that asks for this: a call where there was room for it, and what was done before; else none
+abbrev pub AreFor : Meaning → Answered → List Step → List Reply → Type 0
+AreFor (asks_call call) answered steps replies = EndsWithCall call answered steps replies ⊎ (AreUpkeep call steps replies × (answered ≡ tells (counted_by call) (Refused NoSpace)))
+AreFor other answered steps replies = (steps ≡ []) × (replies ≡ [])
+
+-- or none, where memory for reading it was refused
+abbrev pub AreForLine : List ℕ → Answered → List Step → List Reply → Type 0
+AreForLine line answered steps replies = AreFor (meaning_of line) answered steps replies ⊎ ((answered ≡ refuses NoMemory) × (steps ≡ []) × (replies ≡ []))
+
+-- So are the steps of lines one after another.
+abbrev pub AreForLines : List (List ℕ) → List Answered → List Step → List Reply → Type 0
+AreForLines [] [] steps replies = (steps ≡ []) × (replies ≡ [])
+AreForLines (line ∷ lines) (answered ∷ answers) steps replies = (first later : List Step) × (told rest : List Reply) × (steps ≡ first ++ later) × (replies ≡ told ++ rest)
+    × AreForLine line answered first told × AreForLines lines answers later rest
+AreForLines [] (answered ∷ answers) steps replies = ⊥
+AreForLines (line ∷ lines) [] steps replies = ⊥
+
+-- Answers to lines are a run of the machine over the calls of the lines, and the work between them.
+pub record IsCourse (before : StoreView) (lines : List (List ℕ)) (answers : List Answered) (after : StoreView) : Type 0 where
+  pub steps : List Step
+  pub replies : List Reply
+  pub for_lines : AreForLines lines answers steps replies
+  pub replays : Replays before steps replies after
+  pub go_on : GoOn before steps replies after

@@ -1,0 +1,31 @@
+-- Lines of an input, as they come.
+use Rattle.std.specs.Prelude.{◌≡◌, ◌⊎◌, ℕ, Bool, true, false, List, [], ◌∷◌, take, Option, Some, IfSome}
+use Rattle.std.specs.Io.KnownBytes.{Consumes, Keeps}
+use Rattle.lsm_device.specs.declared.refusal.Refusal.TheVariants.{NoMemory, Exhausted}
+use Rattle.lsm_language.specs.Faults.{Reason, refusal, unread}
+use Rattle.lsm_language.specs.Rows.{lines_of}
+use Rattle.lsm_serve.specs.declared.reading.Taken.{Taken}
+use Rattle.lsm_serve.specs.declared.reading.Taken.TheVariants.{Byte, Nothing, End}
+
+-- the most bytes that a line may have, and how many of one are kept, by which it is seen that it is too long
+abbrev pub most_bytes : ℕ
+most_bytes = 300000
+
+abbrev pub most_kept : ℕ
+most_kept = 300001
+
+-- a read took the next byte of what an input has left, or nothing
+abbrev pub Takes : Option (List ℕ) → Taken → Option (List ℕ) → Type 0
+Takes before (Byte b) after = Consumes before after (b ∷ [])
+Takes before Nothing after = Keeps before after
+Takes before End after = IfSome before (λ text. text ≡ []) × Keeps before after
+
+-- A line was found, of which so much was kept: the first of what the input had left, as far as that is known. Or none was left.
+abbrev pub TakesLine : Option (List ℕ) → Bool → List ℕ → Option (List ℕ) → Type 0
+TakesLine before true kept after = (line : List ℕ) × (kept ≡ take most_kept line)
+    × IfSome before (λ text. (rest : List ℕ) × (after ≡ Some rest) × (lines_of text ≡ line ∷ lines_of rest))
+TakesLine before false kept after = IfSome before (λ text. lines_of text ≡ [])
+
+-- a fault of a reading
+abbrev pub IsInputFault : Reason → Type 0
+IsInputFault reason = (reason ≡ unread) ⊎ ((reason ≡ refusal NoMemory) ⊎ (reason ≡ refusal Exhausted))

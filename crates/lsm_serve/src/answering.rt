@@ -1,0 +1,68 @@
+//! One line, answered.
+
+ghost use Rattle.std.specs.Prelude.{◌≡◌};
+ghost use Rattle.lsm_serve.specs.Answering.{Answers, AnswersLine, IsTellable, answered_by, numbers_in, refuses};
+ghost use Rattle.lsm_serve.specs.Asking.{asked_by};
+ghost use Rattle.lsm_store.specs.Backing.{machine_of};
+ghost use Rattle.lsm_store.specs.Stats.{stat_answer};
+
+use crate::answer::Answer;
+use crate::asking::{Asked, read_asked};
+use crate::committing::make;
+use lsm_device::{Device, Refusal};
+use lsm_lives::Reply;
+use lsm_replies::counted::{Counted, counted_in};
+use lsm_store::Store;
+use std::alloc::Global;
+use std::thread::Threads;
+
+/// Answers a line.
+pub(crate) fn answer_line<R: Threads + Sync, D: Device>(
+    rt: &R,
+    alloc: Global,
+    store: &mut Store<D>,
+    line: &[u8],
+) -> Answer
+    ensures answers { AnswersLine store.old line.now (answered_by result) store.new }
+    ensures tellable { IsTellable result }
+{
+    match read_asked(alloc, line) {
+        Ok(asked) => answer(rt, alloc, store, asked),
+        Err(_) => refused(Refusal::NoMemory),
+    }
+}
+
+// Answers what a line asks for.
+fn answer<R: Threads + Sync, D: Device>(
+    rt: &R,
+    alloc: Global,
+    store: &mut Store<D>,
+    asked: Asked,
+) -> Answer
+    ensures answers { Answers (asked_by asked) store.old (answered_by result) store.new }
+    ensures tellable { IsTellable result }
+{
+    match asked {
+        Asked::Call(call) => Answer::Told(counted_in(&call), make(rt, alloc, store, &call)),
+        Asked::NoBatch(refusal) => refused(refusal),
+        Asked::Numbers => numbers(store),
+        Asked::Nothing(wrong) => Answer::Usage(wrong),
+    }
+}
+
+fn numbers<D: Device>(store: &Store<D>) -> Answer
+    ensures answers { answered_by result ≡ numbers_in (stat_answer (machine_of store.now)) }
+    ensures tellable { IsTellable result }
+{
+    match store.stat() {
+        Ok(stat) => Answer::Numbers(stat),
+        Err(refusal) => refused(refusal),
+    }
+}
+
+fn refused(refusal: Refusal) -> Answer
+    ensures answers { answered_by result ≡ refuses refusal }
+    ensures tellable { IsTellable result }
+{
+    Answer::Told(Counted::Batch, Reply::Refused(refusal))
+}

@@ -1,0 +1,20 @@
+//! A store that is served: lines are read as they come, and each is answered before the next one is read.
+//!
+//! ```
+//! let mut lines = BufReader::with_capacity(alloc, 65_536, input)?;
+//! serve(rt, alloc, &mut store, &mut lines, output)?;
+//! ```
+#![tactic(auto)]
+
+mod answer;
+mod answering;
+mod asking;
+mod committing;
+mod law;
+mod reading;
+mod serving;
+
+pub use answer::Answer;
+pub use asking::Wrong;
+pub use law::answered_lines_go_on;
+pub use serving::serve;
