@@ -1,0 +1,104 @@
+//! Devices in memory, whose calls tell the prover nothing.
+
+use lsm_device::{Device, MemDevice, Refusal};
+use lsm_open::format;
+use std::alloc::{Allocator, Global};
+
+/// The sectors of a device.
+pub(crate) const SECTORS: u32 = 8_192;
+
+/// The most writes that pend.
+const PENDING: usize = 1_024;
+
+/// Of the pending writes the first, the third and so on, and the others.
+pub(crate) type Mask = [bool; 2];
+
+/// The crashes that are tried.
+pub(crate) const MASKS: [Mask; 4] = [[false, false], [true, true], [true, false], [false, true]];
+
+/// A device in memory.
+pub(crate) struct Disk<B: Allocator = Global> {
+    pub(crate) device: MemDevice<B>,
+}
+
+// One call at each exit, in the place of all that a device is made of.
+impl<B: Allocator> Drop for Disk<B> {
+    fn drop(self) {
+        let Disk { device: _ } = self;
+    }
+}
+
+/// A device with an empty store.
+pub(crate) fn formatted(alloc: Global, log: u16) -> Result<Disk, Refusal> {
+    match format(alloc, MemDevice::new(alloc, SECTORS)?, log) {
+        Ok(device) => Ok(Disk { device }),
+        Err((refusal, _)) => Err(refusal),
+    }
+}
+
+impl<B: Allocator> Disk<B> {
+    /// A device of zeros.
+    pub(crate) fn new(alloc: B) -> Result<Disk<B>, Refusal>
+    where
+        B: Clone,
+    {
+        let device = MemDevice::new(alloc, SECTORS)?;
+        Ok(Disk { device })
+    }
+
+    /// Reads a sector, where there is one.
+    pub(crate) fn read(&mut self, at: u32, out: &mut [u8; 512]) -> bool {
+        if at >= self.device.sectors() {
+            return false;
+        }
+        self.device.read(at, out).is_ok()
+    }
+
+    /// Writes a sector, where there is one.
+    pub(crate) fn write(&mut self, at: u32, bytes: &[u8; 512]) -> bool {
+        if at >= self.device.sectors() {
+            return false;
+        }
+        self.device.write(at, bytes).is_ok()
+    }
+
+    pub(crate) fn sync(&mut self) -> bool {
+        self.device.sync().is_ok()
+    }
+
+    pub(crate) fn writes(&self) -> u64 {
+        self.device.writes()
+    }
+
+    /// How many writes and syncs it has had.
+    pub(crate) fn changes(&self) -> u64 {
+        self.device.writes().wrapping_add(self.device.syncs())
+    }
+
+    /// How many calls it has had.
+    pub(crate) fn calls(&self) -> u64 {
+        self.device.reads().wrapping_add(self.changes())
+    }
+
+    /// Lets the call with this number fail, counted from 0.
+    pub(crate) fn fail(&mut self, n: u64, kept: bool) {
+        self.device.fail(n, kept);
+    }
+
+    /// The device after a crash.
+    pub(crate) fn crashed(self, mask: Mask) -> Disk<B> {
+        let [even, odd] = mask;
+        let mut keep = [even; PENDING];
+        for half in 0..512_usize {
+            keep[2 * half + 1] = odd;
+        }
+        Disk {
+            device: self.into_device().crash(&keep),
+        }
+    }
+
+    pub(crate) fn into_device(self) -> MemDevice<B> {
+        let Disk { device } = self;
+        device
+    }
+}

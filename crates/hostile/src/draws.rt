@@ -1,0 +1,55 @@
+//! Numbers that look random, and are the same in each run.
+
+/// A generator of numbers.
+#[derive(Clone, Copy)]
+pub(crate) struct Draws {
+    state: u64,
+}
+
+impl Draws {
+    /// A generator at its beginning, for each seed another one.
+    pub(crate) fn new(seed: u64) -> Draws {
+        Draws {
+            state: 0x9e37_79b9_7f4a_7c15 ^ seed.wrapping_mul(0x2545_f491_4f6c_dd1d),
+        }
+    }
+
+    /// The next number.
+    fn number(&mut self) -> u32 {
+        let mut state = self.state;
+        state ^= state << 13;
+        state ^= state >> 7;
+        state ^= state << 17;
+        self.state = state;
+        let [a, b, c, d, _, _, _, _] = state.to_be_bytes();
+        u32::from_be_bytes([a, b, c, d])
+    }
+
+    /// The next byte.
+    pub(crate) fn byte(&mut self) -> u8 {
+        let [byte, _, _, _] = self.number().to_be_bytes();
+        byte
+    }
+
+    /// A number below a bound, 0 where the bound is 0.
+    pub(crate) fn below(&mut self, bound: u32) -> u32 {
+        if bound == 0 {
+            return 0;
+        }
+        self.number() % bound
+    }
+
+    /// A place among so many, 0 where there is none.
+    pub(crate) fn place(&mut self, count: usize) -> usize {
+        if count == 0 {
+            return 0;
+        }
+        self.number() as usize % count
+    }
+
+    /// The last two bytes of a number below a bound.
+    pub(crate) fn pair(&mut self, bound: u32) -> [u8; 2] {
+        let [_, _, a, b] = self.below(bound).to_be_bytes();
+        [a, b]
+    }
+}

@@ -1,0 +1,53 @@
+//! What stands on a device.
+
+use crate::disk::{Disk, SECTORS};
+use lsm_device::Refusal;
+use std::alloc::{Allocator, Global};
+
+/// A sector that is not zero.
+#[derive(Clone, Copy)]
+pub(crate) struct Sector {
+    pub(crate) at: u32,
+    pub(crate) bytes: [u8; 512],
+}
+
+/// What stands on a device.
+#[derive(Drop)]
+pub(crate) struct Image {
+    pub(crate) sectors: Vec<Sector>,
+}
+
+impl Image {
+    /// What reads on a device.
+    pub(crate) fn of(alloc: Global, disk: &mut Disk) -> Result<Image, Refusal> {
+        let mut sectors = Vec::new(alloc);
+        for at in 0..SECTORS {
+            let mut bytes = [0; 512];
+            if !disk.read(at, &mut bytes) {
+                return Err(Refusal::Io);
+            }
+            if bytes != [0; 512] {
+                sectors.push(Sector { at, bytes })?;
+            }
+        }
+        Ok(Image { sectors })
+    }
+
+    fn put_on<B: Allocator>(&self, disk: &mut Disk<B>) -> bool {
+        for sector in self.sectors.iter() {
+            if !disk.write(sector.at, &sector.bytes) {
+                return false;
+            }
+        }
+        disk.sync()
+    }
+
+    /// A device on which it stands.
+    pub(crate) fn disk<B: Allocator + Clone>(&self, alloc: B) -> Result<Disk<B>, Refusal> {
+        let mut disk = Disk::new(alloc)?;
+        if self.put_on(&mut disk) {
+            return Ok(disk);
+        }
+        Err(Refusal::Io)
+    }
+}

@@ -1,0 +1,151 @@
+//! Where the fields of superblock and manifest lie.
+
+use crate::image::Image;
+
+/// Where the areas of the manifests begin, those of even generations and those of odd ones.
+const MANIFESTS: [u32; 2] = [2, 66];
+
+/// In a superblock, where the generation stands.
+const GENERATION: usize = 6;
+
+/// In a manifest, where the number of its log records stands, and of its runs of level 0, and of its tables.
+const LOGS: usize = 28;
+
+const RUNS: usize = 29;
+
+const TABLES: usize = 31;
+
+/// Where the log records begin, and how long each of them is, and each record of a table.
+const HEADER: usize = 32;
+
+const LOG_RECORD: usize = 17;
+
+const TABLE_RECORD: usize = 20;
+
+/// In the record of a table, where its level stands, and its run.
+const LEVEL: usize = 8;
+
+const RUN: usize = 9;
+
+/// In the record of a table, where its first block stands, its data blocks, its index blocks, its entries, and its deletes.
+const FIRST_BLOCK: usize = 10;
+
+const DATA_BLOCKS: usize = 14;
+
+const INDEX_BLOCKS: usize = 15;
+
+const ENTRIES: usize = 16;
+
+const DELETES: usize = 18;
+
+/// The first sector of the data blocks, of a device with logs of 128 sectors.
+const DATA: u32 = 514;
+
+/// Where a table lies: the sector of the manifest, and the places of its number, its entries and its deletes in that; and the
+/// first sectors of its data blocks, its index and its footer.
+#[derive(Clone, Copy)]
+pub(crate) struct Record {
+    pub(crate) manifest: u32,
+    pub(crate) number: usize,
+    pub(crate) entries: usize,
+    pub(crate) deletes: usize,
+    pub(crate) data: u32,
+    pub(crate) index: u32,
+    pub(crate) footer: u32,
+}
+
+/// A byte of a sector, 0 behind its end.
+fn byte_of(bytes: &[u8; 512], at: usize) -> u8 {
+    bytes.get(at).copied().unwrap_or(0)
+}
+
+/// The generation of a superblock that stands in a sector, which is small.
+fn generation_in(image: &Image, at: u32) -> u8 {
+    for sector in image.sectors.iter() {
+        if sector.at == at {
+            return byte_of(&sector.bytes, GENERATION + 7);
+        }
+    }
+    0
+}
+
+/// The sector in which the manifest begins that counts.
+pub(crate) fn manifest_of(image: &Image) -> u32 {
+    let [even, odd] = MANIFESTS;
+    if generation_in(image, 0) > generation_in(image, 1) {
+        return even;
+    }
+    odd
+}
+
+fn set(bytes: &mut [u8; 512], at: usize, byte: u8) {
+    if let Some(place) = bytes.get_mut(at) {
+        *place = byte;
+    }
+}
+
+/// Gives each table but the first the level of its place, in a manifest of one sector.
+fn spread_in(bytes: &mut [u8; 512]) {
+    let logs = usize::from(byte_of(bytes, LOGS));
+    let mut record = HEADER.wrapping_add(LOG_RECORD.wrapping_mul(logs));
+    for place in 0..byte_of(bytes, TABLES) {
+        set(bytes, record.wrapping_add(LEVEL), place);
+        set(bytes, record.wrapping_add(RUN), 0);
+        record = record.wrapping_add(TABLE_RECORD);
+    }
+    set(bytes, RUNS, 1);
+}
+
+/// Of the tables of the runs of level 0, of which there are no others, the newest stays there, the next is of level 1, and so on.
+pub(crate) fn spread(image: &mut Image) {
+    let manifest = manifest_of(image);
+    for sector in image.sectors.iter_mut() {
+        if sector.at == manifest {
+            spread_in(&mut sector.bytes);
+        }
+    }
+}
+
+/// A byte of a record.
+fn field_of(bytes: &[u8; 512], record: usize, field: usize) -> u32 {
+    u32::from(byte_of(bytes, record.wrapping_add(field)))
+}
+
+/// The first sector of a block.
+fn sector_of(block: u32) -> u32 {
+    DATA.wrapping_add(block.wrapping_mul(8))
+}
+
+/// Where a table lies whose record begins at a place of the manifest.
+fn record_of(manifest: u32, bytes: &[u8; 512], record: usize) -> Record {
+    let high = field_of(bytes, record, FIRST_BLOCK + 2);
+    let first = high
+        .wrapping_mul(256)
+        .wrapping_add(field_of(bytes, record, FIRST_BLOCK + 3));
+    let filter = first.wrapping_add(field_of(bytes, record, DATA_BLOCKS));
+    let index = filter.wrapping_add(1);
+    let footer = index.wrapping_add(field_of(bytes, record, INDEX_BLOCKS));
+    Record {
+        manifest,
+        number: record.wrapping_add(7),
+        entries: record.wrapping_add(ENTRIES),
+        deletes: record.wrapping_add(DELETES),
+        data: sector_of(first),
+        index: sector_of(index),
+        footer: sector_of(footer),
+    }
+}
+
+/// Where the table of a place lies, as the manifest says, which has one sector.
+pub(crate) fn record_in(image: &Image, place: usize) -> Option<Record> {
+    let manifest = manifest_of(image);
+    for sector in image.sectors.iter() {
+        if sector.at == manifest && place < usize::from(byte_of(&sector.bytes, TABLES)) {
+            let logs = usize::from(byte_of(&sector.bytes, LOGS));
+            let first = HEADER.wrapping_add(LOG_RECORD.wrapping_mul(logs));
+            let record = first.wrapping_add(TABLE_RECORD.wrapping_mul(place));
+            return Some(record_of(manifest, &sector.bytes, record));
+        }
+    }
+    None
+}

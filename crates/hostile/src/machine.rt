@@ -1,0 +1,273 @@
+//! A plain machine, which answers as a store should: an ordered map with copied snapshots, a log, tables and jobs.
+
+use crate::ladder::{Ladder, rows_of, sectors_of};
+use crate::step::{Answer, Change, RowsTold, Step, Value, told};
+use crate::working::Working;
+use lsm_device::Refusal;
+use lsm_store::{At, Stat};
+use std::alloc::Global;
+use std::collections::BTreeMap;
+
+/// The sectors of a log region.
+pub(crate) const LOG_SECTORS: u16 = 128;
+
+/// The blocks of the data area of a device of 8,192 sectors.
+const BLOCKS: u64 = 959;
+
+/// The regions of the log.
+const REGIONS: u64 = 3;
+
+/// The open log: the number of its first batch, and how many sectors are used.
+#[derive(Clone, Copy)]
+struct Log {
+    first: u64,
+    used: u32,
+}
+
+/// A store as it is told of.
+pub(crate) struct Machine {
+    alloc: Global,
+    ladder: Ladder,
+    working: Working,
+    log: Option<Log>,
+    /// How many closed regions hold batches that are in no table.
+    closed: u64,
+    generation: u64,
+    stopped: bool,
+}
+
+impl Drop for Machine {
+    fn drop(self) {
+        let Machine {
+            alloc: _,
+            ladder: _,
+            working: _,
+            log: _,
+            closed: _,
+            generation: _,
+            stopped: _,
+        } = self;
+    }
+}
+
+impl Machine {
+    /// The store that the first opening finds on a formatted device.
+    pub(crate) fn new(alloc: Global) -> Machine {
+        Machine {
+            alloc,
+            ladder: Ladder::new(alloc),
+            working: Working::new(alloc),
+            log: Some(Log { first: 1, used: 0 }),
+            closed: 0,
+            generation: 2,
+            stopped: false,
+        }
+    }
+
+    /// How many regions give batches, where so many batches are kept.
+    fn closed_after(&self, count: u64) -> u64 {
+        match self.log {
+            Some(log) if count >= log.first => self.closed.wrapping_add(1),
+            _ => self.closed,
+        }
+    }
+
+    /// The store that an opening finds where nothing was lost.
+    pub(crate) fn reopened(&self) -> Result<Machine, Refusal> {
+        let count = self.ladder.count();
+        let mut ladder = self.ladder.copy(self.alloc)?;
+        ladder.keep(count);
+        let closed = self.closed_after(count);
+        let first = count.wrapping_add(1);
+        let log = if closed < REGIONS {
+            Some(Log { first, used: 0 })
+        } else {
+            None
+        };
+        Ok(Machine {
+            alloc: self.alloc,
+            ladder,
+            working: self.working.reopened(self.alloc, count)?,
+            log,
+            closed,
+            generation: self.generation.wrapping_add(1),
+            stopped: false,
+        })
+    }
+
+    /// The tables of level 0 are spread over all levels.
+    pub(crate) fn spread(&mut self) {
+        self.working.spread();
+    }
+
+    /// How many batches there are, and how many of them are synced.
+    pub(crate) fn counts(&self) -> (u64, u64) {
+        (self.ladder.count(), self.ladder.synced)
+    }
+
+    fn commit(&mut self, change: Change) -> Result<Answer, Refusal> {
+        let Some(log) = self.log else {
+            return Err(Refusal::LogFull);
+        };
+        let used = log.used.wrapping_add(sectors_of(change));
+        if used > u32::from(LOG_SECTORS) {
+            return Err(Refusal::LogFull);
+        }
+        let first = log.first;
+        self.log = Some(Log { first, used });
+        Ok(Answer::Number(self.ladder.add(change)?))
+    }
+
+    fn sync_to(&mut self, number: u64) -> Result<Answer, Refusal> {
+        if number > self.ladder.count() {
+            return Err(Refusal::NoSuchBatch);
+        }
+        if number > self.ladder.synced {
+            self.ladder.sync();
+        }
+        Ok(Answer::Done)
+    }
+
+    /// The map that is asked.
+    fn map(&self, at: At) -> Result<BTreeMap<u8, Value>, Refusal> {
+        let count = match at {
+            At::Now => self.ladder.count(),
+            At::Snap(number) => self.ladder.count_at(number)?,
+        };
+        self.ladder.map(self.alloc, count)
+    }
+
+    fn get(&self, at: At, key: u8) -> Result<Answer, Refusal> {
+        let map = self.map(at)?;
+        Ok(Answer::Found(map.get(&key).copied()))
+    }
+
+    fn scan(&self, at: At, from: u8, limit: u64) -> Result<Answer, Refusal> {
+        if limit < 1 || limit > 64 {
+            return Err(Refusal::BadLimit);
+        }
+        let map = self.map(at)?;
+        Ok(Answer::Rows(rows_of(&map, from, limit)))
+    }
+
+    fn release(&mut self, number: u64) -> Result<Answer, Refusal> {
+        self.ladder.release(number)?;
+        Ok(Answer::Done)
+    }
+
+    /// A new root stands.
+    fn advance(&mut self) {
+        self.generation = self.generation.wrapping_add(1);
+        self.ladder.sync();
+    }
+
+    fn rotate(&mut self) -> Result<Answer, Refusal> {
+        if self.closed > 0 {
+            return Err(Refusal::SealedWaiting);
+        }
+        if let Some(log) = self.log {
+            if log.used == 0 {
+                return Err(Refusal::NothingToRotate);
+            }
+            self.closed = 1;
+        }
+        let count = self.ladder.count();
+        self.working.sealed_to = count;
+        let first = count.wrapping_add(1);
+        self.log = Some(Log { first, used: 0 });
+        self.advance();
+        Ok(Answer::Done)
+    }
+
+    fn room(&self) -> u32 {
+        match self.log {
+            Some(log) => u32::from(LOG_SECTORS).saturating_sub(log.used),
+            None => 0,
+        }
+    }
+
+    fn stat(&self) -> Stat {
+        let free = BLOCKS.saturating_sub(self.working.blocks());
+        Stat {
+            generation: self.generation,
+            batches: self.ladder.count(),
+            room: self.room(),
+            waiting: self.closed > 0,
+            runs: self.working.runs(),
+            tables: self.working.tables(),
+            free_blocks: u32::try_from(free).unwrap_or(0),
+        }
+    }
+
+    fn install(&mut self, job: u64) -> Result<Answer, Refusal> {
+        if self.working.install(self.alloc, job)? {
+            self.closed = 0;
+        }
+        self.advance();
+        Ok(Answer::Done)
+    }
+
+    fn call(&mut self, step: Step) -> Result<Answer, Refusal> {
+        match step {
+            Step::Commit(change) => self.commit(change),
+            Step::Sync => {
+                self.ladder.sync();
+                Ok(Answer::Done)
+            }
+            Step::SyncTo(number) => self.sync_to(number),
+            Step::Get(at, key) => self.get(at, key),
+            Step::Scan(at, from, limit) => self.scan(at, from, limit),
+            Step::Snapshot => Ok(Answer::Number(self.ladder.mark()?)),
+            Step::Release(number) => self.release(number),
+            Step::Rotate => self.rotate(),
+            Step::Room => Ok(Answer::Number(self.room().into())),
+            Step::Stat => Ok(Answer::Numbers(self.stat())),
+            _ => self.work(step),
+        }
+    }
+
+    fn work(&mut self, step: Step) -> Result<Answer, Refusal> {
+        match step {
+            Step::Take => self.working.take(self.alloc, &self.ladder),
+            Step::Read(job) => self.working.read(job),
+            Step::Build(job, _) => self.working.build(self.alloc, job),
+            Step::Accept(job) => self.working.accept(self.alloc, job),
+            Step::Write(job) => self.working.write(job),
+            Step::Install(job) => self.install(job),
+            Step::Drop(job) => self.working.drop_job(self.alloc, job),
+            _ => Ok(Answer::NoResult),
+        }
+    }
+
+    /// Makes a step, and answers it.
+    pub(crate) fn answer(&mut self, step: Step) -> Answer {
+        if matches!(step, Step::Accept(_)) && !self.working.has_result() {
+            return Answer::NoResult;
+        }
+        if self.stopped {
+            return Answer::Refused(Refusal::Stopped);
+        }
+        told(self.call(step))
+    }
+
+    /// A write or a sync of a step met a fault: nothing more is known to be synced, and a commit's batch may stand or not. It
+    /// answers what the step answers without the fault.
+    pub(crate) fn stop(&mut self, step: Step) -> Answer {
+        let synced = self.ladder.synced;
+        let answer = self.answer(step);
+        self.ladder.synced = synced;
+        self.stopped = true;
+        answer
+    }
+
+    /// Whether a crash may leave so many batches: all that are synced, and no more than there are.
+    pub(crate) fn may_leave(&self, count: u64) -> bool {
+        self.ladder.synced <= count && count <= self.ladder.count()
+    }
+
+    /// All rows of the map after so many batches.
+    pub(crate) fn rows_after(&self, count: u64) -> Result<RowsTold, Refusal> {
+        let map = self.ladder.map(self.alloc, count)?;
+        Ok(rows_of(&map, 0, 64))
+    }
+}

@@ -1,0 +1,76 @@
+//! Hostile use of a store: one call of its device fails, one growth of memory is refused, or its image is none that a store
+//! wrote. Its answers agree with those of a plain machine.
+#![tactic(auto)]
+
+mod checks;
+mod disk;
+mod draws;
+mod faults;
+mod foreign;
+mod growths;
+mod image;
+mod keeping;
+mod ladder;
+mod layout;
+mod lists;
+mod machine;
+mod openings;
+mod pieces;
+mod playing;
+mod scripts;
+mod spots;
+mod step;
+mod subject;
+mod sweeps;
+mod table;
+mod trouble;
+mod working;
+
+use crate::sweeps::{Extent, Found};
+use crate::trouble::Tally;
+use anyhow::Result;
+use std::env;
+use std::process::ExitCode;
+
+/// Of all cases the part, in ten-thousandths, that is tried where no argument says so.
+const PART: u64 = 500;
+
+fn main(rt: HostRuntime) -> Result<ExitCode> {
+    let mut words = env::args(&rt)?.skip(1);
+    let part = match words.next() {
+        Some(word) => word.parse::<u64>()?,
+        None => PART,
+    };
+    let alone = match words.next() {
+        Some(word) => Some(word.parse::<usize>()?),
+        None => None,
+    };
+    let alloc = rt.alloc();
+    let mut found = Found::new(alloc);
+    let ended = found.sweep(&rt, alloc, Extent::of(part), alone);
+    for (sweep, tally) in [
+        ("one call fails", found.faults),
+        ("one growth is refused", found.growths),
+        ("openings and checks", found.openings),
+        ("foreign images", found.images),
+    ] {
+        let Tally {
+            cases,
+            failed,
+            refused,
+            openings,
+        } = tally;
+        eprintln!(rt;
+            "{sweep}: {cases} cases, {failed} calls failed, {refused} growths refused, {openings} openings"
+        )?;
+    }
+    for difference in found.differences.iter() {
+        eprintln!(rt; "{difference:?}")?;
+    }
+    let differences = found.differences.len();
+    println!(rt; "{}: {differences} differences", found.told())?;
+    if ended.is_err() || differences > 0 {
+        return Ok(ExitCode::FAILURE);
+    }
+    Ok(ExitCode::SUCCESS)
+}

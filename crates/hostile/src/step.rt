@@ -1,0 +1,168 @@
+//! What is done with a store, and what it answers.
+
+use lsm_device::Refusal;
+use lsm_store::{At, Stat};
+
+/// A value: so many equal bytes.
+#[derive(Clone, Copy, Debug, PartialEq, Eq)]
+pub(crate) struct Value {
+    pub(crate) byte: u8,
+    pub(crate) length: u16,
+}
+
+/// A key, and the value that it gets, or none where it is deleted.
+#[derive(Clone, Copy)]
+pub(crate) struct Operation {
+    pub(crate) key: u8,
+    pub(crate) value: Option<Value>,
+}
+
+/// What a batch does.
+#[derive(Clone, Copy, Debug)]
+pub(crate) enum Change {
+    /// Gives a key a value of so many equal bytes.
+    Put(u8, u8, u16),
+    Delete(u8),
+    /// Puts a key, deletes another, and puts the first once more.
+    Both(u8, u8),
+    /// Puts thirty keys, with a text that fills 128 sectors.
+    Fill,
+}
+
+/// How many keys the batch that fills a log puts.
+const FILLING: u8 = 30;
+
+/// The operation that puts a value of so many equal bytes under a key.
+fn put(key: u8, byte: u8, length: u16) -> Option<Operation> {
+    let value = Some(Value { byte, length });
+    Some(Operation { key, value })
+}
+
+/// The operation at a place of the batch that puts a key, deletes another, and puts the first again.
+fn of_both(first: u8, second: u8, place: u8) -> Option<Operation> {
+    match place {
+        0 => put(first, 1, 1),
+        1 => Some(Operation {
+            key: second,
+            value: None,
+        }),
+        2 => put(first, 2, 2),
+        _ => None,
+    }
+}
+
+/// The operation at a place of the batch that fills a log: all values but the last have 2,048 bytes.
+fn of_filling(place: u8) -> Option<Operation> {
+    if place >= FILLING {
+        return None;
+    }
+    let key = place.wrapping_add(1);
+    let length = if key == FILLING { 1_896 } else { 2_048 };
+    put(key, key, length)
+}
+
+impl Change {
+    /// The operation at a place, counted from 0.
+    pub(crate) fn operation(self, place: u8) -> Option<Operation> {
+        match self {
+            Change::Put(key, byte, length) if place == 0 => put(key, byte, length),
+            Change::Delete(key) if place == 0 => Some(Operation { key, value: None }),
+            Change::Both(first, second) => of_both(first, second, place),
+            Change::Fill => of_filling(place),
+            _ => None,
+        }
+    }
+}
+
+/// A call of a store, or a piece of work on a job of it.
+#[derive(Clone, Copy, Debug)]
+pub(crate) enum Step {
+    Commit(Change),
+    Sync,
+    SyncTo(u64),
+    Get(At, u8),
+    /// Scans from a key on, for so many rows.
+    Scan(At, u8, u64),
+    Snapshot,
+    Release(u64),
+    Rotate,
+    Room,
+    Stat,
+    Take,
+    Read(u64),
+    /// Builds a result of a job's input, in so many parts.
+    Build(u64, u8),
+    /// For a job, the result that was built last.
+    Accept(u64),
+    Write(u64),
+    Install(u64),
+    Drop(u64),
+}
+
+impl Step {
+    /// Whether it reads the device, and makes no other call of it.
+    pub(crate) fn is_read(self) -> bool {
+        matches!(self, Step::Get(_, _) | Step::Scan(_, _, _) | Step::Read(_))
+    }
+}
+
+/// The rows of a page, as two pages that differ tell apart: their number, and one number of all their bytes.
+#[derive(Clone, Copy, Debug, PartialEq, Eq)]
+pub(crate) struct RowsTold {
+    pub(crate) count: usize,
+    pub(crate) mixed: u64,
+    pub(crate) next: Option<u8>,
+}
+
+/// What is answered to a step.
+#[derive(Clone, Copy, Debug, PartialEq, Eq)]
+pub(crate) enum Answer {
+    Done,
+    /// Of a batch, a snapshot, or sectors.
+    Number(u64),
+    Found(Option<Value>),
+    Rows(RowsTold),
+    /// The number of a job, and the level of its upper tables where it is a merge; none where no job comes next.
+    Taken(Option<(u64, Option<usize>)>),
+    /// How many blocks are left.
+    Left(u64),
+    /// How many tables a result has.
+    Built(usize),
+    /// There is no result that could be accepted.
+    NoResult,
+    Numbers(Stat),
+    Refused(Refusal),
+}
+
+/// One number of two.
+fn mix(number: u64, next: u64) -> u64 {
+    (number ^ next).wrapping_mul(0x0000_0100_0000_01b3)
+}
+
+impl RowsTold {
+    /// No row.
+    pub(crate) const NONE: RowsTold = RowsTold {
+        count: 0,
+        mixed: 0xcbf2_9ce4_8422_2325,
+        next: None,
+    };
+
+    /// With one row more.
+    pub(crate) fn and(self, key: u8, value: Value) -> RowsTold {
+        let mixed = mix(self.mixed, u64::from(key));
+        let mixed = mix(mixed, u64::from(value.byte));
+        RowsTold {
+            count: self.count.wrapping_add(1),
+            mixed: mix(mixed, u64::from(value.length)),
+            next: self.next,
+        }
+    }
+}
+
+/// The answer of a call that answers nothing.
+pub(crate) fn told(answer: Result<Answer, Refusal>) -> Answer {
+    match answer {
+        Ok(answer) => answer,
+        Err(refusal) => Answer::Refused(refusal),
+    }
+}

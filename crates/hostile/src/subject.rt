@@ -1,0 +1,315 @@
+//! A store on a device in memory, whose calls tell the prover nothing.
+
+use crate::disk::Disk;
+use crate::step::{Answer, Change, Operation, RowsTold, Step, Value, told};
+use lsm_codec::{Batch, Op};
+use lsm_device::{MemDevice, Refusal};
+use lsm_merge::{Built, Input, build};
+use lsm_store::{At, Page, Store};
+use std::alloc::{AllocError, Allocator, Global};
+use std::sync::Arc;
+use std::thread::Threads;
+
+/// How many blocks the cache keeps.
+const CACHE: u32 = 256;
+
+/// A store, and the result that was built last of a job of it.
+pub(crate) struct Subject<A: Allocator, B: Allocator = Global> {
+    alloc: A,
+    store: Store<MemDevice<B>, A>,
+    result: Option<Built<A>>,
+}
+
+// One call at each exit, in the place of all that a store is made of.
+impl<A: Allocator, B: Allocator> Drop for Subject<A, B> {
+    fn drop(self) {
+        let Subject {
+            alloc: _,
+            store: _,
+            result: _,
+        } = self;
+    }
+}
+
+/// The only byte, or 0.
+fn only(bytes: &[u8]) -> u8 {
+    match bytes {
+        [byte] => *byte,
+        _ => 0,
+    }
+}
+
+/// What a value says: its byte and its length, or a length that no value has where its bytes are not equal.
+fn value_of(bytes: &[u8]) -> Value {
+    let byte = bytes.first().copied().unwrap_or(0);
+    for other in bytes {
+        if *other != byte {
+            return Value {
+                byte,
+                length: u16::MAX,
+            };
+        }
+    }
+    let length = u16::try_from(bytes.len()).unwrap_or(u16::MAX);
+    Value { byte, length }
+}
+
+fn told_page<A: Allocator>(page: &Page<A>) -> Answer {
+    let mut rows = RowsTold::NONE;
+    for place in 0..page.rows().len() {
+        if let Some(row) = page.rows().get(place) {
+            rows = rows.and(only(row.key), value_of(row.value));
+        }
+    }
+    if let Some(key) = page.next_key() {
+        rows.next = Some(only(key));
+    }
+    Answer::Rows(rows)
+}
+
+/// The bytes of a value.
+fn bytes_of<A: Allocator>(alloc: A, value: Value) -> Result<Vec<u8, A>, AllocError> {
+    let bytes = vec![in alloc; value.byte; usize::from(value.length)]?;
+    Ok(bytes)
+}
+
+fn operation_of<A: Allocator + Clone>(alloc: A, operation: Operation) -> Result<Op<A>, Refusal> {
+    match operation.value {
+        Some(value) => {
+            let bytes = bytes_of(alloc.clone()?, value)?;
+            Op::put(alloc, &[operation.key], &bytes)
+        }
+        None => Op::delete(alloc, &[operation.key]),
+    }
+}
+
+fn add_to<A: Allocator + Clone>(
+    alloc: &A,
+    batch: &mut Batch<A>,
+    operation: Operation,
+) -> Result<(), Refusal> {
+    match operation.value {
+        Some(value) => {
+            let bytes = bytes_of(alloc.clone()?, value)?;
+            batch.put(&[operation.key], &bytes)
+        }
+        None => batch.delete(&[operation.key]),
+    }
+}
+
+/// The batch that makes a change.
+fn batch_of<A: Allocator + Clone>(alloc: &A, change: Change) -> Result<Batch<A>, Refusal> {
+    let Some(first) = change.operation(0) else {
+        return Err(Refusal::BadKey);
+    };
+    let op = operation_of(alloc.clone()?, first)?;
+    let mut batch = Batch::new(alloc.clone()?, op)?;
+    for place in 1..=u8::MAX {
+        match change.operation(place) {
+            Some(operation) => add_to(alloc, &mut batch, operation)?,
+            None => return Ok(batch),
+        }
+    }
+    Ok(batch)
+}
+
+/// Opens the store on a device.
+pub(crate) fn open<A: Allocator + Clone, B: Allocator>(
+    alloc: A,
+    own: A,
+    disk: Disk<B>,
+) -> Result<Subject<A, B>, (Refusal, Disk<B>)> {
+    match Store::open(alloc, disk.into_device(), CACHE) {
+        Ok(store) => Ok(Subject {
+            alloc: own,
+            store,
+            result: None,
+        }),
+        Err((refusal, device)) => Err((refusal, Disk { device })),
+    }
+}
+
+impl<A: Allocator + Clone, B: Allocator> Subject<A, B> {
+    fn commit(&mut self, change: Change) -> Result<Answer, Refusal> {
+        let batch = batch_of(&self.alloc, change)?;
+        Ok(Answer::Number(self.store.commit(&batch)?))
+    }
+
+    fn get(&mut self, at: At, key: u8) -> Result<Answer, Refusal> {
+        match self.store.get(at, &[key])? {
+            Some(value) => Ok(Answer::Found(Some(value_of(&value)))),
+            None => Ok(Answer::Found(None)),
+        }
+    }
+
+    fn scan(&mut self, at: At, from: u8, limit: u64) -> Result<Answer, Refusal> {
+        let page = self.store.scan(at, &[from], None, limit)?;
+        Ok(told_page(&page))
+    }
+
+    fn sync(&mut self) -> Result<Answer, Refusal> {
+        self.store.sync()?;
+        Ok(Answer::Done)
+    }
+
+    fn sync_to(&mut self, number: u64) -> Result<Answer, Refusal> {
+        self.store.sync_to(number)?;
+        Ok(Answer::Done)
+    }
+
+    fn snapshot(&mut self) -> Result<Answer, Refusal> {
+        Ok(Answer::Number(self.store.snapshot()?))
+    }
+
+    fn release(&mut self, number: u64) -> Result<Answer, Refusal> {
+        self.store.release(number)?;
+        Ok(Answer::Done)
+    }
+
+    fn rotate(&mut self) -> Result<Answer, Refusal> {
+        self.store.rotate()?;
+        Ok(Answer::Done)
+    }
+
+    fn room(&self) -> Result<Answer, Refusal> {
+        Ok(Answer::Number(self.store.log_room()?.into()))
+    }
+
+    fn stat(&self) -> Result<Answer, Refusal> {
+        Ok(Answer::Numbers(self.store.stat()?))
+    }
+
+    fn take(&mut self) -> Result<Answer, Refusal> {
+        match self.store.job_take()? {
+            Some(job) => Ok(Answer::Taken(Some((job.number, job.level)))),
+            None => Ok(Answer::Taken(None)),
+        }
+    }
+
+    fn read(&mut self, job: u64) -> Result<Answer, Refusal> {
+        let left = self.store.job_read(job)?;
+        Ok(Answer::Left(left as u64))
+    }
+
+    fn accept(&mut self, job: u64) -> Result<Answer, Refusal> {
+        let Some(built) = &self.result else {
+            return Ok(Answer::NoResult);
+        };
+        self.store.job_accept(job, built)?;
+        Ok(Answer::Done)
+    }
+
+    fn write(&mut self, job: u64) -> Result<Answer, Refusal> {
+        Ok(Answer::Left(self.store.job_write(job)?.into()))
+    }
+
+    fn install(&mut self, job: u64) -> Result<Answer, Refusal> {
+        self.store.job_install(job)?;
+        Ok(Answer::Done)
+    }
+
+    fn drop_job(&mut self, job: u64) -> Result<Answer, Refusal> {
+        self.store.job_drop(job)?;
+        Ok(Answer::Done)
+    }
+
+    /// What a piece of work answers that builds nothing.
+    fn worked(&mut self, step: Step) -> Result<Answer, Refusal> {
+        match step {
+            Step::Take => self.take(),
+            Step::Read(job) => self.read(job),
+            Step::Accept(job) => self.accept(job),
+            Step::Write(job) => self.write(job),
+            Step::Install(job) => self.install(job),
+            Step::Drop(job) => self.drop_job(job),
+            _ => Ok(Answer::NoResult),
+        }
+    }
+
+    /// What a step answers that builds nothing.
+    fn made(&mut self, step: Step) -> Result<Answer, Refusal> {
+        match step {
+            Step::Commit(change) => self.commit(change),
+            Step::Sync => self.sync(),
+            Step::SyncTo(number) => self.sync_to(number),
+            Step::Get(at, key) => self.get(at, key),
+            Step::Scan(at, from, limit) => self.scan(at, from, limit),
+            Step::Snapshot => self.snapshot(),
+            Step::Release(number) => self.release(number),
+            Step::Rotate => self.rotate(),
+            Step::Room => self.room(),
+            Step::Stat => self.stat(),
+            _ => self.worked(step),
+        }
+    }
+
+    /// What a step answers. No result is built.
+    pub(crate) fn answer_alone(&mut self, step: Step) -> Answer {
+        told(self.made(step))
+    }
+
+    /// How many batches there are, and how many of them are synced, also of a stopped store.
+    pub(crate) fn counts(&self) -> (u64, u64) {
+        (self.store.batch_count(), self.store.synced_count())
+    }
+
+    /// How many calls the device has had.
+    pub(crate) fn calls(&self) -> u64 {
+        let changes = self.store.writes().wrapping_add(self.store.syncs());
+        self.store.reads().wrapping_add(changes)
+    }
+
+    /// Lets the call of the device with this number fail, counted from 0.
+    pub(crate) fn fail(&mut self, n: u64, kept: bool) {
+        self.store.fail(n, kept);
+    }
+
+    pub(crate) fn into_disk(self) -> Disk<B> {
+        let Subject {
+            alloc: _,
+            store,
+            result: _,
+        } = self;
+        Disk {
+            device: store.into_device(),
+        }
+    }
+}
+
+/// The result of a merge.
+fn merged<R: Threads + Sync, A: Allocator + Clone + Send + Sync>(
+    rt: &R,
+    alloc: &A,
+    input: Arc<Input<A>, A>,
+    parts: u8,
+) -> Result<Built<A>, Refusal> {
+    let built = build(rt, alloc.clone()?, input, parts)?;
+    Ok(built)
+}
+
+impl<A: Allocator + Clone + Send + Sync, B: Allocator> Subject<A, B> {
+    fn result_of<R: Threads + Sync>(
+        &self,
+        rt: &R,
+        job: u64,
+        parts: u8,
+    ) -> Result<Built<A>, Refusal> {
+        let input = self.store.job_input(job)?;
+        merged(rt, &self.alloc, input, parts)
+    }
+
+    fn build<R: Threads + Sync>(&mut self, rt: &R, job: u64, parts: u8) -> Result<Answer, Refusal> {
+        let built = self.result_of(rt, job, parts)?;
+        let tables = built.images().len();
+        self.result = Some(built);
+        Ok(Answer::Built(tables))
+    }
+
+    /// What a step answers.
+    pub(crate) fn answer<R: Threads + Sync>(&mut self, rt: &R, step: Step) -> Answer {
+        match step {
+            Step::Build(job, parts) => told(self.build(rt, job, parts)),
+            _ => self.answer_alone(step),
+        }
+    }
+}

@@ -1,0 +1,203 @@
+//! The sweeps, and what they find.
+
+use crate::lists::List;
+use crate::scripts::LISTS;
+use crate::trouble::{Tally, Trouble};
+use crate::{faults, foreign, growths, openings};
+use lsm_device::Refusal;
+use std::alloc::Global;
+use std::thread::Threads;
+
+/// All cases, where a part of them is told in ten-thousandths.
+pub(crate) const WHOLE: u64 = 10_000;
+
+/// Of this many bytes behind the first ones, divided by the part, one is changed.
+const OTHERS: u64 = 50_000;
+
+/// From this part on each call and each growth of a list is tried.
+const EACH: u64 = 1_000;
+
+/// How much is tried.
+#[derive(Clone, Copy)]
+pub(crate) struct Extent {
+    /// The part of the images, in ten-thousandths.
+    pub(crate) part: u64,
+    /// Of so many calls or growths one is tried.
+    pub(crate) every: u64,
+    /// Whether each crash comes behind each call that fails.
+    pub(crate) whole: bool,
+}
+
+impl Extent {
+    /// A part of all.
+    pub(crate) fn of(part: u64) -> Extent {
+        let part = part.clamp(1, WHOLE);
+        let every = EACH.checked_div(part).unwrap_or(1);
+        Extent {
+            part,
+            every: every.max(1),
+            whole: part == WHOLE,
+        }
+    }
+
+    /// Whether of so many ways to go on behind call n the one of this turn is tried: all of them, or each in its turn.
+    pub(crate) fn takes(self, n: u64, turn: u64, turns: u64) -> bool {
+        if self.whole || turns == 0 || self.every == 0 {
+            return true;
+        }
+        n / self.every % turns == turn
+    }
+}
+
+/// A difference, and where it was found.
+#[derive(Clone, Copy, Debug)]
+pub(crate) struct Difference {
+    pub(crate) sweep: &'static str,
+    pub(crate) list: &'static str,
+    pub(crate) trouble: Trouble,
+}
+
+/// What the sweeps tried, and what they found.
+#[derive(Drop)]
+pub(crate) struct Found {
+    pub(crate) faults: Tally,
+    pub(crate) growths: Tally,
+    pub(crate) openings: Tally,
+    pub(crate) images: Tally,
+    pub(crate) differences: Vec<Difference>,
+}
+
+impl Found {
+    pub(crate) fn new(alloc: Global) -> Found {
+        Found {
+            faults: Tally::NONE,
+            growths: Tally::NONE,
+            openings: Tally::NONE,
+            images: Tally::NONE,
+            differences: Vec::new(alloc),
+        }
+    }
+
+    /// What was met at least once in the sweeps of all lists and images.
+    pub(crate) fn told(&self) -> &'static str {
+        let images = self.images.openings > 0 && self.images.openings < self.images.cases;
+        let is_met = self.faults.failed > 0 && self.growths.refused > 0;
+        if is_met && images {
+            return "calls failed, growths were refused, images were refused and opened";
+        }
+        "a part of the sweeps"
+    }
+
+    fn note(
+        &mut self,
+        sweep: &'static str,
+        list: &'static str,
+        swept: Result<(), Trouble>,
+    ) -> Result<(), Refusal> {
+        if let Err(trouble) = swept {
+            self.differences.push(Difference {
+                sweep,
+                list,
+                trouble,
+            })?;
+        }
+        Ok(())
+    }
+
+    fn attack<R: Threads + Sync>(
+        &mut self,
+        rt: &R,
+        alloc: Global,
+        list: &List,
+        extent: Extent,
+    ) -> Result<(), Refusal> {
+        let swept = faults::sweep(rt, alloc, list, extent, &mut self.faults);
+        self.note("faults", list.name, swept)?;
+        let swept = growths::sweep(rt, alloc, list, extent, &mut self.growths);
+        self.note("growths", list.name, swept)
+    }
+
+    fn attack_opening<R: Threads + Sync>(
+        &mut self,
+        rt: &R,
+        alloc: Global,
+        list: &List,
+        extent: Extent,
+    ) -> Result<(), Refusal> {
+        let swept = openings::sweep(rt, alloc, list, extent, &mut self.openings);
+        self.note("openings", list.name, swept)
+    }
+
+    fn attack_drawn<R: Threads + Sync>(
+        &mut self,
+        rt: &R,
+        alloc: Global,
+        extent: Extent,
+    ) -> Result<(), Refusal> {
+        for seed in 0..(extent.part / 400).wrapping_add(1) {
+            let swept = growths::sweep_drawn(rt, alloc, seed, extent, &mut self.growths);
+            self.note("growths", "random", swept)?;
+        }
+        Ok(())
+    }
+
+    fn try_bytes<R: Threads + Sync>(
+        &mut self,
+        rt: &R,
+        alloc: Global,
+        extent: Extent,
+    ) -> Result<(), Refusal> {
+        let others = OTHERS.checked_div(extent.part).unwrap_or(1);
+        let every = if extent.whole { 1 } else { others };
+        let swept = foreign::sweep_bytes(rt, alloc, (every, extent.every <= 2), &mut self.images);
+        self.note("images", "each byte", swept)
+    }
+
+    fn try_drawn<R: Threads + Sync>(
+        &mut self,
+        rt: &R,
+        alloc: Global,
+        extent: Extent,
+    ) -> Result<(), Refusal> {
+        let swept = foreign::sweep_drawn(rt, alloc, extent.part, &mut self.images);
+        self.note("images", "random", swept)
+    }
+
+    /// The sweep at a place: those of the lists, and then three others.
+    fn sweep_at<R: Threads + Sync>(
+        &mut self,
+        rt: &R,
+        alloc: Global,
+        place: usize,
+        extent: Extent,
+    ) -> Result<(), Refusal> {
+        if let Some(list) = LISTS.get(place) {
+            if list.is_opened {
+                self.attack_opening(rt, alloc, list, extent)?;
+            }
+            return self.attack(rt, alloc, list, extent);
+        }
+        match place.wrapping_sub(LISTS.len()) {
+            0 => self.attack_drawn(rt, alloc, extent),
+            1 => self.try_bytes(rt, alloc, extent),
+            _ => self.try_drawn(rt, alloc, extent),
+        }
+    }
+
+    /// All sweeps, or the one at a place alone.
+    pub(crate) fn sweep<R: Threads + Sync>(
+        &mut self,
+        rt: &R,
+        alloc: Global,
+        extent: Extent,
+        alone: Option<usize>,
+    ) -> Result<(), Refusal> {
+        if let Some(place) = alone {
+            return self.sweep_at(rt, alloc, place, extent);
+        }
+        for place in 0..LISTS.len().wrapping_add(3) {
+            self.sweep_at(rt, alloc, place, extent)?;
+        }
+        Ok(())
+    }
+}

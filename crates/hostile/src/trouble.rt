@@ -1,0 +1,109 @@
+//! How a store differs from what it should do, and how much was tried.
+
+use crate::step::{Answer, Step};
+use lsm_device::Refusal;
+use std::alloc::{AllocError, AllocFailed};
+
+/// How a store differs.
+#[derive(Clone, Copy, Debug)]
+pub(crate) enum Trouble {
+    /// By an answer.
+    Answer {
+        step: Step,
+        found: Answer,
+        wanted: Answer,
+    },
+    /// A call of the device failed, and no step answered so; or one answered so, and its last call was another.
+    Calls {
+        step: Option<Step>,
+    },
+    /// A step answered that a call failed, or that memory was refused, where none was.
+    Unasked {
+        step: Step,
+    },
+    /// An opening has a number of batches that no crash leaves.
+    Count(u64),
+    /// An opening has so many batches, and another map than they make.
+    Map(u64),
+    /// A refusal that is not in the list of the call, or that comes where none is due.
+    Refusal(Refusal),
+    /// A check found something else than with ample memory on a device that doesn't fail.
+    Check,
+    /// A refused opening, or a check, wrote.
+    Written,
+    /// Of the heap so many bytes are not given back.
+    Leak(usize),
+}
+
+impl From<Refusal> for Trouble {
+    fn from(refusal: Refusal) -> Trouble {
+        Trouble::Refusal(refusal)
+    }
+}
+
+impl From<AllocError> for Trouble {
+    fn from(_: AllocError) -> Trouble {
+        Trouble::Refusal(Refusal::NoMemory)
+    }
+}
+
+impl<T: Drop> From<AllocFailed<T>> for Trouble {
+    fn from(_: AllocFailed<T>) -> Trouble {
+        Trouble::Refusal(Refusal::NoMemory)
+    }
+}
+
+/// Whether two answers agree.
+pub(crate) fn agree(step: Step, found: Answer, wanted: Answer) -> Result<(), Trouble> {
+    if found == wanted {
+        return Ok(());
+    }
+    Err(Trouble::Answer {
+        step,
+        found,
+        wanted,
+    })
+}
+
+/// Whether an answer is no refusal: a step that is refused asks neither memory nor device.
+pub(crate) fn unrefused(step: Step, wanted: Answer) -> Result<(), Trouble> {
+    match wanted {
+        Answer::Refused(_) => Err(Trouble::Unasked { step }),
+        _ => Ok(()),
+    }
+}
+
+/// How much was tried.
+#[derive(Clone, Copy)]
+pub(crate) struct Tally {
+    pub(crate) cases: u64,
+    /// How many calls of the device failed, and how many growths were refused.
+    pub(crate) failed: u64,
+    pub(crate) refused: u64,
+    pub(crate) openings: u64,
+}
+
+impl Tally {
+    pub(crate) const NONE: Tally = Tally {
+        cases: 0,
+        failed: 0,
+        refused: 0,
+        openings: 0,
+    };
+
+    pub(crate) fn count_case(&mut self) {
+        self.cases = self.cases.wrapping_add(1);
+    }
+
+    pub(crate) fn count_failed(&mut self, met: bool) {
+        self.failed = self.failed.wrapping_add(met.into());
+    }
+
+    pub(crate) fn count_refused(&mut self, met: bool) {
+        self.refused = self.refused.wrapping_add(met.into());
+    }
+
+    pub(crate) fn count_opening(&mut self) {
+        self.openings = self.openings.wrapping_add(1);
+    }
+}

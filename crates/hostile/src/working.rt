@@ -1,0 +1,364 @@
+//! Tables and jobs of a plain machine.
+
+use crate::keeping::{Input, Version, versions_of};
+use crate::ladder::Ladder;
+use crate::step::Answer;
+use crate::table::{Hull, Table};
+use lsm_device::Refusal;
+use std::alloc::Global;
+
+/// How many jobs there are at most.
+const MOST_JOBS: usize = 4;
+
+/// How many runs of level 0 make a merge come next.
+const MERGED_RUNS: usize = 4;
+
+/// How far a job is.
+#[derive(Clone, Copy)]
+pub(crate) enum Stage {
+    /// So many blocks are left to read.
+    Reading(u64),
+    Frozen,
+    /// So many blocks are left to write.
+    Writing(u64),
+}
+
+/// A job: the level of its upper table where it is a merge, and its output once a result was accepted.
+#[derive(Clone, Copy)]
+pub(crate) struct Job {
+    pub(crate) number: u64,
+    pub(crate) level: Option<usize>,
+    pub(crate) bottom: bool,
+    pub(crate) stage: Stage,
+    pub(crate) output: Option<Table>,
+}
+
+/// The job that comes next: a flush, or the merge of a table and those of the next level that it meets.
+#[derive(Clone, Copy)]
+enum Next {
+    Flush,
+    Merge(Table),
+}
+
+/// A version of a table or of what a job takes in.
+#[derive(Clone, Copy)]
+pub(crate) struct Row {
+    pub(crate) owner: u64,
+    pub(crate) version: Version,
+}
+
+/// A table that a job takes in, or a count whose map it keeps.
+#[derive(Clone, Copy)]
+pub(crate) struct Share {
+    pub(crate) job: u64,
+    pub(crate) number: u64,
+}
+
+/// The tables, the jobs, the result that was built last, and which batches are in tables and which wait for a flush. No number is
+/// given twice, so what belonged to a table or a job that is gone may stay.
+pub(crate) struct Working {
+    pub(crate) tables: Vec<Table>,
+    pub(crate) rows: Vec<Row>,
+    pub(crate) jobs: Vec<Job>,
+    pub(crate) taken_in: Vec<Share>,
+    pub(crate) inputs: Vec<Row>,
+    pub(crate) cuts: Vec<Share>,
+    pub(crate) built: Option<Input>,
+    pub(crate) next_job: u64,
+    pub(crate) next_table: u64,
+    /// The batches up to this number are in tables.
+    pub(crate) base: u64,
+    /// Those up to this number are in tables or sealed.
+    pub(crate) sealed_to: u64,
+}
+
+impl Drop for Working {
+    fn drop(self) {
+        let Working {
+            tables: _,
+            rows: _,
+            jobs: _,
+            taken_in: _,
+            inputs: _,
+            cuts: _,
+            built: _,
+            next_job: _,
+            next_table: _,
+            base: _,
+            sealed_to: _,
+        } = self;
+    }
+}
+
+/// Adds versions of an owner.
+pub(crate) fn add_all(
+    rows: &mut Vec<Row>,
+    owner: u64,
+    versions: &[Version],
+) -> Result<(), Refusal> {
+    for version in versions {
+        rows.push(Row {
+            owner,
+            version: *version,
+        })?;
+    }
+    Ok(())
+}
+
+impl Working {
+    /// Neither a table nor a job, and so many batches are in tables.
+    fn begun(alloc: Global, next_table: u64, base: u64, sealed_to: u64) -> Working {
+        Working {
+            tables: Vec::new(alloc),
+            rows: Vec::new(alloc),
+            jobs: Vec::new(alloc),
+            taken_in: Vec::new(alloc),
+            inputs: Vec::new(alloc),
+            cuts: Vec::new(alloc),
+            built: None,
+            next_job: 1,
+            next_table,
+            base,
+            sealed_to,
+        }
+    }
+
+    /// Neither a table nor a job.
+    pub(crate) fn new(alloc: Global) -> Working {
+        Working::begun(alloc, 1, 0, 0)
+    }
+
+    /// What an opening finds, of so many batches: the tables, and no job.
+    pub(crate) fn reopened(&self, alloc: Global, count: u64) -> Result<Working, Refusal> {
+        let mut working = Working::begun(alloc, self.next_table, self.base, count);
+        working.tables.extend_from_slice(&self.tables)?;
+        working.rows.extend_from_slice(&self.rows)?;
+        Ok(working)
+    }
+
+    /// The newest table stays in level 0, the next is of level 1, and so on.
+    pub(crate) fn spread(&mut self) {
+        let mut level = self.tables.len();
+        for table in self.tables.iter_mut() {
+            level = level.wrapping_sub(1);
+            table.level = level;
+        }
+    }
+
+    /// How many tables there are.
+    pub(crate) fn tables(&self) -> usize {
+        self.tables.len()
+    }
+
+    /// How many runs level 0 has, each of one table.
+    pub(crate) fn runs(&self) -> usize {
+        let mut runs = 0_usize;
+        for table in self.tables.iter() {
+            if table.level == 0 {
+                runs = runs.wrapping_add(1);
+            }
+        }
+        runs
+    }
+
+    /// How many blocks the tables and the placed outputs take.
+    pub(crate) fn blocks(&self) -> u64 {
+        let mut blocks = 0_u64;
+        for table in self.tables.iter() {
+            blocks = blocks.wrapping_add(table.blocks());
+        }
+        for job in self.jobs.iter() {
+            if let Some(output) = job.output {
+                blocks = blocks.wrapping_add(output.blocks());
+            }
+        }
+        blocks
+    }
+
+    /// Whether a job of a level is held, or a flush.
+    fn holds(&self, level: Option<usize>) -> bool {
+        for job in self.jobs.iter() {
+            if job.level == level {
+                return true;
+            }
+        }
+        false
+    }
+
+    /// Whether a job takes a table in.
+    pub(crate) fn takes_in(&self, job: u64, table: u64) -> bool {
+        for share in self.taken_in.iter() {
+            if share.job == job && share.number == table {
+                return true;
+            }
+        }
+        false
+    }
+
+    /// Whether no job takes a table in.
+    fn is_free(&self, table: u64) -> bool {
+        for job in self.jobs.iter() {
+            if self.takes_in(job.number, table) {
+                return false;
+            }
+        }
+        true
+    }
+
+    /// Whether a table and those that a merge of it takes in are free.
+    fn can_merge(&self, upper: Table) -> bool {
+        for lower in self.tables.iter() {
+            if upper.takes_in(*lower) && !self.is_free(lower.number) {
+                return false;
+            }
+        }
+        self.is_free(upper.number)
+    }
+
+    /// The oldest run of level 0: flushes are installed in their order.
+    fn oldest_run(&self) -> Option<Table> {
+        for table in self.tables.iter() {
+            if table.level == 0 {
+                return Some(*table);
+            }
+        }
+        None
+    }
+
+    /// The run that a merge of level 0 takes in, where one comes next.
+    fn next_of_runs(&self) -> Option<Table> {
+        if self.runs() < MERGED_RUNS || self.holds(Some(0)) {
+            return None;
+        }
+        let oldest = self.oldest_run()?;
+        if self.can_merge(oldest) {
+            return Some(oldest);
+        }
+        None
+    }
+
+    /// Of the tables of a level that are mostly deletes and can be merged the least-numbered.
+    fn next_of_deletes(&self, level: usize) -> Option<Table> {
+        let mut least = None;
+        for table in self.tables.iter() {
+            let is_wanted = table.level == level && table.is_mostly_deletes;
+            if is_wanted && self.can_merge(*table) && table.is_less(least) {
+                least = Some(*table);
+            }
+        }
+        least
+    }
+
+    /// The upper table of the merge that comes next. With so few blocks no level is over its limit.
+    fn next_merge(&self) -> Option<Table> {
+        if let Some(oldest) = self.next_of_runs() {
+            return Some(oldest);
+        }
+        for level in 1..4_usize {
+            if let Some(table) = self.next_of_deletes(level) {
+                return Some(table);
+            }
+        }
+        None
+    }
+
+    fn next(&self) -> Option<Next> {
+        if self.jobs.len() >= MOST_JOBS {
+            return None;
+        }
+        if self.base < self.sealed_to && !self.holds(None) {
+            return Some(Next::Flush);
+        }
+        let upper = self.next_merge()?;
+        Some(Next::Merge(upper))
+    }
+
+    /// The job of the next number takes in the tables of a merge. It answers the range of their keys, and their data blocks.
+    fn gather(&mut self, upper: Table) -> Result<(Hull, u64), Refusal> {
+        let mut hull = Hull::EMPTY;
+        let mut blocks = 0_u64;
+        for table in self.tables.iter() {
+            if table.number == upper.number || upper.takes_in(*table) {
+                self.taken_in.push(Share {
+                    job: self.next_job,
+                    number: table.number,
+                })?;
+                hull = hull.and(table.hull);
+                blocks = blocks.wrapping_add(table.data_blocks);
+            }
+        }
+        Ok((hull, blocks))
+    }
+
+    /// The versions of the tables that the job of the next number takes in.
+    fn gathered(&self, alloc: Global) -> Result<Vec<Version>, Refusal> {
+        let mut versions = Vec::new(alloc);
+        for row in self.rows.iter() {
+            if self.takes_in(self.next_job, row.owner) {
+                versions.push(row.version)?;
+            }
+        }
+        Ok(versions)
+    }
+
+    /// Whether no table below the output of a merge of a level has a key of a range.
+    fn is_bottom(&self, level: usize, hull: Hull) -> bool {
+        for table in self.tables.iter() {
+            if table.level > level.wrapping_add(1) && table.hull.meets(hull) {
+                return false;
+            }
+        }
+        true
+    }
+
+    fn merge(&mut self, alloc: Global, upper: Table) -> Result<Job, Refusal> {
+        let (hull, blocks) = self.gather(upper)?;
+        let versions = self.gathered(alloc)?;
+        add_all(&mut self.inputs, self.next_job, &versions)?;
+        Ok(Job {
+            number: self.next_job,
+            level: Some(upper.level),
+            bottom: self.is_bottom(upper.level, hull),
+            stage: Stage::Reading(blocks),
+            output: None,
+        })
+    }
+
+    fn flush(&mut self, alloc: Global, ladder: &Ladder) -> Result<Job, Refusal> {
+        let versions = versions_of(alloc, ladder, self.base, self.sealed_to)?;
+        add_all(&mut self.inputs, self.next_job, &versions)?;
+        Ok(Job {
+            number: self.next_job,
+            level: None,
+            bottom: false,
+            stage: Stage::Frozen,
+            output: None,
+        })
+    }
+
+    fn add_cuts(&mut self, alloc: Global, ladder: &Ladder) -> Result<(), Refusal> {
+        let cuts = ladder.cuts(alloc)?;
+        for cut in cuts.iter() {
+            self.cuts.push(Share {
+                job: self.next_job,
+                number: *cut,
+            })?;
+        }
+        Ok(())
+    }
+
+    /// Takes the job that comes next, if one does.
+    pub(crate) fn take(&mut self, alloc: Global, ladder: &Ladder) -> Result<Answer, Refusal> {
+        let Some(next) = self.next() else {
+            return Ok(Answer::Taken(None));
+        };
+        let job = match next {
+            Next::Flush => self.flush(alloc, ladder)?,
+            Next::Merge(upper) => self.merge(alloc, upper)?,
+        };
+        self.add_cuts(alloc, ladder)?;
+        self.jobs.push(job)?;
+        self.next_job = self.next_job.wrapping_add(1);
+        Ok(Answer::Taken(Some((job.number, job.level))))
+    }
+}
