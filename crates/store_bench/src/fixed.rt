@@ -1,10 +1,11 @@
 //! The run of fixed size, which only checks the answers.
 
+use crate::kept::{KEPT, ROUNDS};
 use crate::measuring::{Measured, measure};
 use crate::sizes::SMALL;
 use crate::subject::Subject;
 use crate::told;
-use crate::workloads::WORKLOADS;
+use crate::workloads::{WORKLOADS, Workload};
 use anyhow::Result;
 use lsm_device::{MemDevice, Refusal};
 use std::alloc::{AllocError, Global};
@@ -30,10 +31,11 @@ fn measure_each<R: Clock + Threads + Wait + Sync>(
     rt: &R,
     alloc: Global,
     subject: &mut Subject<MemDevice>,
+    workloads: &[Workload],
     text: &mut String,
 ) -> Result<bool, Refusal> {
     let mut right = true;
-    for workload in WORKLOADS.iter() {
+    for workload in workloads {
         let measured = measure(rt, alloc, subject, SMALL, *workload)?;
         push_answers(text, workload.name, measured)?;
         right = right && measured.right == measured.wanted;
@@ -47,7 +49,10 @@ fn measured<R: Clock + Threads + Wait + Sync>(
     text: &mut String,
 ) -> Result<bool, Refusal> {
     let mut subject = subject(alloc)?;
-    measure_each(rt, alloc, &mut subject, text)
+    let usual = measure_each(rt, alloc, &mut subject, &WORKLOADS, text)?;
+    let kept = measure_each(rt, alloc, &mut subject, &KEPT, text)?;
+    let rounds = measure_each(rt, alloc, &mut subject, &ROUNDS, text)?;
+    Ok(usual && kept && rounds)
 }
 
 /// Does each workload, prints how many of its answers were right, and tells whether all were.

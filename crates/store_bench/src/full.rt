@@ -3,10 +3,10 @@
 use crate::measuring::measure;
 use crate::raw::Raw;
 use crate::report::{Sample, report};
-use crate::sizes::FULL;
+use crate::sizes::Sizes;
 use crate::subject::Subject;
 use crate::told;
-use crate::workloads::{WORKLOADS, Workload};
+use crate::workloads::Workload;
 use anyhow::Result;
 use lsm_device::{FileDevice, Refusal};
 use std::alloc::Global;
@@ -30,6 +30,19 @@ impl Drop for Outcome {
     }
 }
 
+/// What a run does: workloads in sizes.
+#[derive(Clone, Copy)]
+pub(crate) struct Suite<'a> {
+    pub(crate) sizes: Sizes,
+    pub(crate) workloads: &'a [Workload],
+}
+
+impl<'a> Suite<'a> {
+    pub(crate) fn of(sizes: Sizes, workloads: &'a [Workload]) -> Suite<'a> {
+        Suite { sizes, workloads }
+    }
+}
+
 /// The store that a run measures, and the file of raw calls beside it.
 struct Pair {
     subject: Subject<FileDevice>,
@@ -48,9 +61,10 @@ impl Pair {
         alloc: Global,
         path: &str,
         beside: &str,
+        sectors: u32,
     ) -> Result<Pair, Refusal> {
-        let raw = Raw::create(rt, alloc, beside, FULL.sectors)?;
-        let device = FileDevice::create(rt, path, FULL.sectors)?;
+        let raw = Raw::create(rt, alloc, beside, sectors)?;
+        let device = FileDevice::create(rt, path, sectors)?;
         let subject = Subject::on(alloc, device)?;
         Ok(Pair { subject, raw })
     }
@@ -60,35 +74,42 @@ impl Pair {
         &mut self,
         rt: &R,
         alloc: Global,
+        sizes: Sizes,
         place: usize,
         workload: Workload,
         outcome: &mut Outcome,
     ) -> Result<(), Refusal> {
-        let measured = measure(rt, alloc, &mut self.subject, FULL, workload)?;
-        let nanos = self.raw.measure(rt, alloc, FULL, workload.work, measured)?;
+        let measured = measure(rt, alloc, &mut self.subject, sizes, workload)?;
+        let nanos = self.raw.measure(rt, alloc, sizes, workload.work, measured)?;
         outcome.right = outcome.right && measured.right == measured.wanted;
         outcome.samples.push(Sample::of(place, measured, nanos))?;
         Ok(())
     }
 }
 
-/// Does all workloads on new files.
+/// Does all workloads of a suite on new files.
 fn run<R: Files<File = File> + Clock + Threads + Wait + Sync>(
     rt: &R,
     alloc: Global,
     path: &str,
     beside: &str,
+    suite: Suite<'_>,
     outcome: &mut Outcome,
 ) -> Result<(), Refusal> {
-    let mut pair = Pair::create(rt, alloc, path, beside)?;
-    for (place, workload) in WORKLOADS.iter().enumerate() {
-        pair.measure(rt, alloc, place, *workload, outcome)?;
+    let mut pair = Pair::create(rt, alloc, path, beside, suite.sizes.sectors)?;
+    for (place, workload) in suite.workloads.iter().enumerate() {
+        pair.measure(rt, alloc, suite.sizes, place, *workload, outcome)?;
     }
     Ok(())
 }
 
-fn print<R: Print>(rt: &R, alloc: Global, samples: &[Sample]) -> Result<()> {
-    let text = report(alloc, samples)?;
+fn print<R: Print>(
+    rt: &R,
+    alloc: Global,
+    samples: &[Sample],
+    workloads: &[Workload],
+) -> Result<()> {
+    let text = report(alloc, samples, workloads)?;
     print!(rt; "{text}")?;
     Ok(())
 }
@@ -98,6 +119,7 @@ fn print<R: Print>(rt: &R, alloc: Global, samples: &[Sample]) -> Result<()> {
 pub(crate) fn compare<R: Files<File = File> + Clock + Threads + Wait + Print + AllocGlobal + Sync>(
     rt: &R,
     path: &str,
+    suite: Suite<'_>,
     runs: u32,
 ) -> Result<bool> {
     let alloc = rt.alloc();
@@ -107,8 +129,8 @@ pub(crate) fn compare<R: Files<File = File> + Clock + Threads + Wait + Print + A
         right: true,
     };
     for _ in 0..runs {
-        run(rt, alloc, path, &beside, &mut outcome).map_err(told)?;
+        run(rt, alloc, path, &beside, suite, &mut outcome).map_err(told)?;
     }
-    print(rt, alloc, &outcome.samples)?;
+    print(rt, alloc, &outcome.samples, suite.workloads)?;
     Ok(outcome.right)
 }

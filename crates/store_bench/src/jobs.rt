@@ -1,5 +1,6 @@
 //! A store is settled: its jobs are done, one after another, and its log is empty then.
 
+use crate::rules::Upkeep;
 use crate::subject::Subject;
 use lsm_device::{Device, Refusal};
 use lsm_merge::build;
@@ -13,29 +14,32 @@ const MOST_JOBS: u32 = 10_000;
 /// More pieces than a job has.
 const MOST_PIECES: u32 = 100_000;
 
-/// In how many parts a result is built.
-const PARTS: u8 = 4;
-
-/// What settling wrote: pieces of tables, each of 64 sectors at most, and roots, which rotations and installs write.
+/// What was written: sectors of logs, blocks of tables, and roots, which rotations and installs write, with their sectors.
 #[derive(Clone, Copy)]
 pub(crate) struct Written {
-    pub(crate) pieces: u32,
+    pub(crate) logged: u32,
+    pub(crate) blocks: u32,
     pub(crate) roots: u32,
+    pub(crate) in_roots: u32,
 }
 
 impl Written {
     pub(crate) fn nothing() -> Written {
         Written {
-            pieces: 0,
+            logged: 0,
+            blocks: 0,
             roots: 0,
+            in_roots: 0,
         }
     }
 
     /// This and more.
     pub(crate) fn and(self, more: Written) -> Written {
         Written {
-            pieces: self.pieces.wrapping_add(more.pieces),
+            logged: self.logged.wrapping_add(more.logged),
+            blocks: self.blocks.wrapping_add(more.blocks),
             roots: self.roots.wrapping_add(more.roots),
+            in_roots: self.in_roots.wrapping_add(more.in_roots),
         }
     }
 }
@@ -49,25 +53,38 @@ fn read<D: Device + Drop>(subject: &mut Subject<D>, job: u64) -> Result<(), Refu
     Err(Refusal::WrongState)
 }
 
+/// It answers how many blocks the result takes.
 fn merge<R: Threads + Sync, D: Device + Drop>(
     rt: &R,
     alloc: Global,
     subject: &mut Subject<D>,
     job: u64,
-) -> Result<(), Refusal> {
+    parts: u8,
+) -> Result<u32, Refusal> {
     let input = subject.job_input(job)?;
-    let built = build(rt, alloc, input, PARTS)?;
-    subject.job_accept(job, &built)
+    let built = build(rt, alloc, input, parts)?;
+    let free = subject.free_blocks()?;
+    subject.job_accept(job, &built)?;
+    Ok(free.wrapping_sub(subject.free_blocks()?))
 }
 
-/// It answers how many pieces were written, each of eight blocks at most.
-fn write<D: Device + Drop>(subject: &mut Subject<D>, job: u64) -> Result<u32, Refusal> {
-    for pieces in 1..MOST_PIECES {
+fn write<D: Device + Drop>(subject: &mut Subject<D>, job: u64) -> Result<(), Refusal> {
+    for _ in 0..MOST_PIECES {
         if subject.job_write(job)? == 0 {
-            return Ok(pieces);
+            return Ok(());
         }
     }
     Err(Refusal::WrongState)
+}
+
+/// The root that was just written, beside so many blocks.
+fn with_root<D: Device + Drop>(subject: &Subject<D>, blocks: u32) -> Result<Written, Refusal> {
+    Ok(Written {
+        logged: 0,
+        blocks,
+        roots: 1,
+        in_roots: subject.root_sectors()?,
+    })
 }
 
 /// Does a job that was taken, and answers what it wrote.
@@ -76,14 +93,15 @@ fn finish<R: Threads + Sync, D: Device + Drop>(
     alloc: Global,
     subject: &mut Subject<D>,
     taken: TakenJob,
+    parts: u8,
 ) -> Result<Written, Refusal> {
     if taken.level.is_some() {
         read(subject, taken.number)?;
     }
-    merge(rt, alloc, subject, taken.number)?;
-    let pieces = write(subject, taken.number)?;
+    let blocks = merge(rt, alloc, subject, taken.number, parts)?;
+    write(subject, taken.number)?;
     subject.job_install(taken.number)?;
-    Ok(Written { pieces, roots: 1 })
+    with_root(subject, blocks)
 }
 
 /// Does the next job. It answers what that wrote, none where there is no job.
@@ -91,9 +109,10 @@ fn finish_next<R: Threads + Sync, D: Device + Drop>(
     rt: &R,
     alloc: Global,
     subject: &mut Subject<D>,
+    upkeep: Upkeep,
 ) -> Result<Option<Written>, Refusal> {
-    match subject.job_take()? {
-        Some(taken) => Ok(Some(finish(rt, alloc, subject, taken)?)),
+    match subject.take_by(upkeep.rule)? {
+        Some(taken) => Ok(Some(finish(rt, alloc, subject, taken, upkeep.parts)?)),
         None => Ok(None),
     }
 }
@@ -103,10 +122,11 @@ fn finish_all<R: Threads + Sync, D: Device + Drop>(
     rt: &R,
     alloc: Global,
     subject: &mut Subject<D>,
+    upkeep: Upkeep,
 ) -> Result<Written, Refusal> {
     let mut written = Written::nothing();
     for _ in 0..MOST_JOBS {
-        match finish_next(rt, alloc, subject)? {
+        match finish_next(rt, alloc, subject, upkeep)? {
             Some(more) => written = written.and(more),
             None => return Ok(written),
         }
@@ -117,10 +137,7 @@ fn finish_all<R: Threads + Sync, D: Device + Drop>(
 /// It answers what that wrote: a root, or nothing where the log is empty already.
 fn rotate<D: Device + Drop>(subject: &mut Subject<D>) -> Result<Written, Refusal> {
     match subject.rotate() {
-        Ok(()) => Ok(Written {
-            pieces: 0,
-            roots: 1,
-        }),
+        Ok(()) => with_root(subject, 0),
         Err(Refusal::NothingToRotate) => Ok(Written::nothing()),
         Err(refusal) => Err(refusal),
     }
@@ -131,9 +148,10 @@ pub(crate) fn settle<R: Threads + Sync, D: Device + Drop>(
     rt: &R,
     alloc: Global,
     subject: &mut Subject<D>,
+    upkeep: Upkeep,
 ) -> Result<Written, Refusal> {
-    let before = finish_all(rt, alloc, subject)?;
+    let before = finish_all(rt, alloc, subject, upkeep)?;
     let rotated = rotate(subject)?;
-    let behind = finish_all(rt, alloc, subject)?;
+    let behind = finish_all(rt, alloc, subject, upkeep)?;
     Ok(before.and(rotated).and(behind))
 }

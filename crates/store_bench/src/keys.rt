@@ -1,7 +1,7 @@
 //! Keys, values and batches.
 
 use crate::sizes::TEXT_BYTES;
-use lsm_codec::{Batch, Op};
+use lsm_codec::{Batch, Guard, Op};
 use lsm_device::Refusal;
 use std::alloc::Global;
 
@@ -53,6 +53,14 @@ pub(crate) fn batch_of(alloc: Global, first: u32, count: u32, round: u8) -> Resu
         round,
     )?;
     Ok(batch)
+}
+
+/// A guard that the key of a number has the value of a round.
+pub(crate) fn guards_of(alloc: Global, number: u32, round: u8) -> Result<Vec<Guard>, Refusal> {
+    let key = key_of(number);
+    let mut guards = Vec::with_capacity(alloc, 1)?;
+    guards.push(Guard::holds(alloc, &key, &value_of(&key, round))?)?;
+    Ok(guards)
 }
 
 /// A batch that deletes every second one of so many numbers, beginning with the first.

@@ -5,6 +5,7 @@ use crate::clock::{now, since};
 use crate::commits::{Puts, commit_all, load, load_and_thin};
 use crate::jobs::{Written, settle};
 use crate::reads::{count_hits, count_misses, count_thinned, scan_often};
+use crate::rules::{Rule, Upkeep};
 use crate::sizes::Sizes;
 use crate::subject::Subject;
 use crate::workloads::{Way, Work, Workload};
@@ -21,10 +22,12 @@ pub(crate) struct Measured {
     pub(crate) nanos: u64,
     pub(crate) right: u32,
     pub(crate) wanted: u32,
-    /// What a load wrote beside its log.
+    /// What a load wrote.
     pub(crate) written: Written,
-    /// How many blocks the tables of a load hold when it is done.
+    /// How many blocks tables hold more than before a load when it is done.
     pub(crate) held: u32,
+    /// The most nanoseconds that a put waits for the jobs of a load, or those of a change of rounds.
+    pub(crate) wait: u64,
 }
 
 impl Measured {
@@ -37,6 +40,7 @@ impl Measured {
             wanted: operations,
             written: Written::nothing(),
             held: 0,
+            wait: 0,
         }
     }
 }
@@ -46,14 +50,30 @@ fn right_of(right: u32, batches: u64, wanted: u64) -> u32 {
     if batches == wanted { right } else { 0 }
 }
 
+/// How stores are settled where no workload says otherwise.
+const USUAL: Upkeep = Upkeep {
+    rule: Rule::Next,
+    parts: 4,
+};
+
 /// How many puts a way of committing makes.
-fn puts_of(sizes: Sizes, way: Way) -> u32 {
+fn count_of(sizes: Sizes, way: Way) -> u32 {
     if !way.synced {
         sizes.keys
     } else if way.puts == 1 {
         sizes.synced_puts
     } else {
         sizes.synced_in_batches
+    }
+}
+
+/// All puts of a way of committing.
+fn puts_of(sizes: Sizes, way: Way, round: u8, upkeep: Upkeep) -> Puts {
+    Puts {
+        way,
+        count: count_of(sizes, way),
+        round,
+        upkeep,
     }
 }
 
@@ -80,8 +100,10 @@ fn timed_load<R: Clock + Threads + Sync, D: Device + Drop>(
 ) -> Result<Measured, Refusal> {
     let start = now(rt)?;
     let mut measured = Measured::of(puts.count);
-    measured.written = load(rt, alloc, subject, puts)?;
+    let (written, wait) = load(rt, alloc, subject, puts)?;
     measured.nanos = since(rt, start)?;
+    measured.written = written;
+    measured.wait = wait;
     Ok(measured)
 }
 
@@ -90,13 +112,17 @@ fn loads<R: Clock + Threads + Sync, D: Device + Drop>(
     alloc: Global,
     subject: &mut Subject<D>,
     puts: Puts,
+    fresh: bool,
 ) -> Result<Measured, Refusal> {
-    subject.renew(alloc)?;
+    if fresh {
+        subject.renew(alloc)?;
+    }
+    let before = subject.batch_count();
     let free = subject.free_blocks()?;
     let mut measured = timed_load(rt, alloc, subject, puts)?;
-    measured.held = free.wrapping_sub(subject.free_blocks()?);
+    measured.held = free.saturating_sub(subject.free_blocks()?);
     let right = count_hits(subject, puts.count, puts.round)?;
-    let wanted = u64::from(puts.batches());
+    let wanted = before.wrapping_add(u64::from(puts.batches()));
     measured.right = right_of(right, subject.batch_count(), wanted);
     Ok(measured)
 }
@@ -124,7 +150,7 @@ fn thins<R: Clock + Threads + Sync, D: Device + Drop>(
     subject.renew(alloc)?;
     let free = subject.free_blocks()?;
     let mut measured = timed_thinning(rt, alloc, subject, puts)?;
-    measured.held = free.wrapping_sub(subject.free_blocks()?);
+    measured.held = free.saturating_sub(subject.free_blocks()?);
     let right = count_thinned(subject, puts.count, puts.round)?;
     let wanted = u64::from(puts.batches()).wrapping_mul(2);
     measured.right = right_of(right, subject.batch_count(), wanted);
@@ -207,8 +233,8 @@ fn sessions<R: Clock + Threads + Wait + Sync, D: Device + Drop + Send>(
 ) -> Result<u64, Refusal> {
     let mut nanos = 0_u64;
     for _ in 0..times {
-        settle(rt, alloc, subject)?;
-        nanos = nanos.wrapping_add(subject.share(rt, alloc, task)?);
+        settle(rt, alloc, subject, USUAL)?;
+        nanos = nanos.wrapping_add(subject.share(rt, alloc, task)?.nanos);
     }
     Ok(nanos)
 }
@@ -231,6 +257,23 @@ fn shares<R: Clock + Threads + Wait + Sync, D: Device + Drop + Send>(
     Ok(measured)
 }
 
+/// A session whose trail is filled, behind an empty log. Its wait is that of a change of rounds: the end of the session, and the
+/// beginning of one.
+fn rounds<R: Clock + Threads + Wait + Sync, D: Device + Drop + Send>(
+    rt: &R,
+    alloc: Global,
+    subject: &mut Subject<D>,
+    task: Task,
+) -> Result<Measured, Refusal> {
+    settle(rt, alloc, subject, USUAL)?;
+    let mut measured = Measured::of(task.places);
+    let shared = subject.share(rt, alloc, task)?;
+    measured.nanos = shared.nanos;
+    measured.wait = shared.change;
+    measured.right = shared.entries;
+    Ok(measured)
+}
+
 /// What so many clients do in one of how many sessions.
 fn task_of(sizes: Sizes, clients: u32, synced: bool, round: u8) -> (Task, u32) {
     let (commits, times) = if synced {
@@ -241,10 +284,24 @@ fn task_of(sizes: Sizes, clients: u32, synced: bool, round: u8) -> (Task, u32) {
     let task = Task {
         clients,
         commits: commits / clients.max(1),
+        gets: 0,
+        places: 8_192,
         synced,
         round,
     };
     (task, times)
+}
+
+/// What clients do until the trail is full.
+fn filling_of(sizes: Sizes, clients: u32, round: u8) -> Task {
+    Task {
+        clients,
+        commits: sizes.places,
+        gets: 39,
+        places: sizes.places,
+        synced: false,
+        round,
+    }
 }
 
 /// Has a store do a workload.
@@ -257,29 +314,34 @@ pub(crate) fn measure<R: Clock + Threads + Wait + Sync, D: Device + Drop + Send>
 ) -> Result<Measured, Refusal> {
     let round = workload.round;
     match workload.work {
-        Work::Commit(way) => {
-            let count = puts_of(sizes, way);
-            commits(rt, alloc, subject, Puts { way, count, round })
+        Work::Commit(way) => commits(rt, alloc, subject, puts_of(sizes, way, round, USUAL)),
+        Work::Load(way) => loads(rt, alloc, subject, puts_of(sizes, way, round, USUAL), true),
+        Work::Thin { way, rule } => {
+            let upkeep = Upkeep { rule, parts: 4 };
+            thins(rt, alloc, subject, puts_of(sizes, way, round, upkeep))
         }
-        Work::Load(way) => {
-            let count = sizes.keys;
-            loads(rt, alloc, subject, Puts { way, count, round })
-        }
-        Work::Thin(way) => {
-            let count = sizes.keys;
-            thins(rt, alloc, subject, Puts { way, count, round })
+        Work::Keep { way, rule, fresh } => {
+            let upkeep = Upkeep { rule, parts: 1 };
+            loads(
+                rt,
+                alloc,
+                subject,
+                puts_of(sizes, way, round, upkeep),
+                fresh,
+            )
         }
         Work::GetHit | Work::GetMiss | Work::Scan => {
             reads(rt, subject, sizes, workload.work, round)
         }
         Work::Reopen(way) => {
-            let count = sizes.logged;
-            let puts = Puts { way, count, round };
+            let mut puts = puts_of(sizes, way, round, USUAL);
+            puts.count = sizes.logged;
             reopenings(rt, alloc, subject, puts, sizes.openings)
         }
         Work::Share { clients, synced } => {
             let (task, times) = task_of(sizes, clients, synced, round);
             shares(rt, alloc, subject, task, times)
         }
+        Work::Round { clients } => rounds(rt, alloc, subject, filling_of(sizes, clients, round)),
     }
 }

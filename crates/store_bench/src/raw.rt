@@ -1,9 +1,9 @@
 //! The raw calls of a file that stand beside each workload.
 
 use crate::clock::{now, since};
-use crate::keys::{sectors_of, thinning_sectors_of};
+use crate::keys::sectors_of;
 use crate::measuring::Measured;
-use crate::sizes::{BLOCK_BYTES, KEY_BYTES, PIECE_SECTORS, SECTOR_BYTES, Sizes, VALUE_BYTES};
+use crate::sizes::{BLOCK_BYTES, BLOCK_SECTORS, KEY_BYTES, SECTOR_BYTES, Sizes, VALUE_BYTES};
 use crate::workloads::{Way, Work};
 use lsm_device::{FileDevice, Refusal};
 use std::alloc::Global;
@@ -205,23 +205,18 @@ impl Raw {
 /// The calls of a workload.
 fn calls_of(alloc: Global, sizes: Sizes, work: Work, measured: Measured) -> Result<Calls, Refusal> {
     match work {
-        Work::Commit(way) => Ok(Calls::Write(writes_of(alloc, measured.operations, way)?)),
-        Work::Load(way) => load_of(alloc, way, measured, 0),
-        Work::Thin(way) => {
-            let sectors = thinning_sectors_of(alloc, way.puts)?;
-            load_of(alloc, way, measured, sectors)
+        Work::Commit(way) | Work::Keep { way, .. } => {
+            Ok(Calls::Write(writes_of(alloc, measured.operations, way)?))
         }
+        Work::Load(_) | Work::Thin { .. } => Ok(load_of(measured)),
         Work::GetHit | Work::GetMiss => Ok(Calls::Read(gets_of(measured.operations))),
         Work::Scan => Ok(Calls::Read(scan_of(measured.wanted))),
         Work::Reopen(_) => Ok(Calls::Open {
             times: measured.operations,
             sectors: sizes.logged,
         }),
-        Work::Share { synced, .. } => Ok(Calls::Write(Writes {
-            count: measured.operations,
-            sectors: 1,
-            synced,
-        })),
+        Work::Share { synced, .. } => Ok(Calls::Write(singles_of(measured.operations, synced))),
+        Work::Round { .. } => Ok(Calls::Write(singles_of(measured.operations, false))),
     }
 }
 
@@ -234,18 +229,23 @@ fn writes_of(alloc: Global, puts: u32, way: Way) -> Result<Writes, Refusal> {
     })
 }
 
-/// A write of each sector of the batches and of the pieces of tables, and the roots. Beside each batch of puts there is another
-/// of so many sectors.
-fn load_of(alloc: Global, way: Way, measured: Measured, beside: u32) -> Result<Calls, Refusal> {
-    let logged = writes_of(alloc, measured.wanted, way)?;
-    let in_tables = measured.written.pieces.wrapping_mul(PIECE_SECTORS);
-    let in_logs = logged
-        .count
-        .wrapping_mul(logged.sectors.wrapping_add(beside));
-    Ok(Calls::Load {
-        sectors: in_tables.wrapping_add(in_logs),
-        roots: measured.written.roots,
-    })
+/// So many writes of a sector.
+fn singles_of(count: u32, synced: bool) -> Writes {
+    Writes {
+        count,
+        sectors: 1,
+        synced,
+    }
+}
+
+/// A write of each sector of batches and of tables, and the roots.
+fn load_of(measured: Measured) -> Calls {
+    let written = measured.written;
+    let in_tables = written.blocks.wrapping_mul(BLOCK_SECTORS);
+    Calls::Load {
+        sectors: in_tables.wrapping_add(written.logged),
+        roots: written.roots,
+    }
 }
 
 /// One read of a block for each get.

@@ -15,8 +15,8 @@ pub(crate) const CACHE: u32 = 4_096;
 /// The bytes of a block of a table, and of a raw read beside a get or a scan.
 pub(crate) const BLOCK_BYTES: u32 = 4_096;
 
-/// The sectors of a piece of tables: a job writes eight blocks at most at a time.
-pub(crate) const PIECE_SECTORS: u32 = 64;
+/// The sectors of a block.
+pub(crate) const BLOCK_SECTORS: u32 = 8;
 
 /// The bytes of a key and of a value.
 pub(crate) const KEY_BYTES: u32 = 16;
@@ -47,6 +47,8 @@ pub(crate) struct Sizes {
     pub(crate) shared: u32,
     /// The commits of the session whose clients sync.
     pub(crate) shared_synced: u32,
+    /// The places of a trail that is filled.
+    pub(crate) places: u32,
 }
 
 /// The run that only checks the answers.
@@ -61,6 +63,7 @@ pub(crate) const SMALL: Sizes = Sizes {
     sessions: 1,
     shared: 200,
     shared_synced: 100,
+    places: 400,
 };
 
 /// The run that is measured.
@@ -75,4 +78,13 @@ pub(crate) const FULL: Sizes = Sizes {
     sessions: 10,
     shared: 2_000,
     shared_synced: 1_000,
+    places: 65_536,
 };
+
+/// The run of another number of keys, in a store that they leave half empty.
+pub(crate) fn sizes_of(keys: u32) -> Sizes {
+    let mut sizes = FULL;
+    sizes.sectors = 262_144;
+    sizes.keys = keys;
+    sizes
+}

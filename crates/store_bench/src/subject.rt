@@ -2,8 +2,9 @@
 
 use crate::clients::{Task, shared_by};
 use crate::clock::{now, since};
+use crate::rules::{Rule, take};
 use crate::sizes::{CACHE, LOG_SECTORS};
-use lsm_codec::Batch;
+use lsm_codec::{Batch, Guard};
 use lsm_device::{Device, Refusal};
 use lsm_merge::{Built, Input};
 use lsm_open::format;
@@ -24,21 +25,29 @@ impl<D: Device + Drop> Drop for Subject<D> {
     }
 }
 
-/// A store, and the nanoseconds that were measured.
+/// The nanoseconds that were measured; and of a session those of its beginning and its end, and how many entries it had.
+#[derive(Clone, Copy)]
+pub(crate) struct Times {
+    pub(crate) nanos: u64,
+    pub(crate) change: u64,
+    pub(crate) entries: u32,
+}
+
+/// A store, and what was measured.
 pub(crate) struct Timed<D: Device> {
     pub(crate) store: Store<D>,
-    pub(crate) nanos: u64,
+    pub(crate) times: Times,
 }
 
 impl<D: Device + Drop> Drop for Timed<D> {
     fn drop(self) {
-        let Timed { store: _, nanos: _ } = self;
+        let Timed { store: _, times: _ } = self;
     }
 }
 
 impl<D: Device + Drop> Timed<D> {
     fn into_store(self) -> Store<D> {
-        let Timed { store, nanos: _ } = self;
+        let Timed { store, times: _ } = self;
         store
     }
 }
@@ -66,7 +75,20 @@ fn open_timed<R: Clock, D: Device + Drop>(
     let start = now(rt)?;
     let store = opened(alloc, device)?;
     let nanos = since(rt, start)?;
-    Ok(Timed { store, nanos })
+    let times = Times {
+        nanos,
+        change: 0,
+        entries: 0,
+    };
+    Ok(Timed { store, times })
+}
+
+/// The sectors of a root that names so many tables and three logs at most.
+fn sectors_of_root(tables: usize) -> u32 {
+    let bytes = tables.saturating_mul(20).saturating_add(83);
+    u32::try_from(bytes.div_ceil(512))
+        .unwrap_or(0)
+        .saturating_add(1)
 }
 
 /// An empty store on a device.
@@ -101,7 +123,7 @@ impl<D: Device + Drop> Subject<D> {
     pub(crate) fn reopen<R: Clock>(&mut self, rt: &R, alloc: Global) -> Result<u64, Refusal> {
         let store = self.taken()?;
         let timed = open_timed(rt, alloc, store.into_device())?;
-        let nanos = timed.nanos;
+        let nanos = timed.times.nanos;
         self.store = Some(timed.into_store());
         Ok(nanos)
     }
@@ -117,6 +139,21 @@ impl<D: Device + Drop> Subject<D> {
     pub(crate) fn free_blocks(&self) -> Result<u32, Refusal> {
         match &self.store {
             Some(store) => Ok(store.stat()?.free_blocks),
+            None => Err(Refusal::Stopped),
+        }
+    }
+
+    /// The sectors of a root with the present tables: a superblock, and a manifest of 20 bytes a table.
+    pub(crate) fn root_sectors(&self) -> Result<u32, Refusal> {
+        match &self.store {
+            Some(store) => Ok(sectors_of_root(store.stat()?.tables)),
+            None => Err(Refusal::Stopped),
+        }
+    }
+
+    pub(crate) fn commit_if(&mut self, guards: &[Guard], batch: &Batch) -> Result<u64, Refusal> {
+        match &mut self.store {
+            Some(store) => store.commit_if(guards, batch),
             None => Err(Refusal::Stopped),
         }
     }
@@ -156,9 +193,10 @@ impl<D: Device + Drop> Subject<D> {
         }
     }
 
-    pub(crate) fn job_take(&mut self) -> Result<Option<TakenJob>, Refusal> {
+    /// Takes a job by a rule.
+    pub(crate) fn take_by(&mut self, rule: Rule) -> Result<Option<TakenJob>, Refusal> {
         match &mut self.store {
-            Some(store) => store.job_take(),
+            Some(store) => take(store, rule),
             None => Err(Refusal::Stopped),
         }
     }
@@ -200,17 +238,17 @@ impl<D: Device + Drop> Subject<D> {
 }
 
 impl<D: Device + Drop + Send> Subject<D> {
-    /// Lets clients share the store, and answers the nanoseconds of what they did.
+    /// Lets clients share the store, and answers how long that took.
     pub(crate) fn share<R: Threads + Wait + Clock + Sync>(
         &mut self,
         rt: &R,
         alloc: Global,
         task: Task,
-    ) -> Result<u64, Refusal> {
+    ) -> Result<Times, Refusal> {
         let store = self.taken()?;
         let timed = shared_by(rt, alloc, store, task)?;
-        let nanos = timed.nanos;
+        let times = timed.times;
         self.store = Some(timed.into_store());
-        Ok(nanos)
+        Ok(times)
     }
 }
