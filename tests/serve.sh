@@ -75,7 +75,8 @@ seq -f 'batch %g' 400 >wanted
 serve
 expect 'full logs' 400
 
-# A store that puts fill to a third of its blocks refuses them with NoSpace, as put does, and takes deletes, which make room.
+# A store that puts fill to a third of its blocks refuses them with NoSpace, as put does, and takes deletes. Emptied and compacted it
+# takes puts again.
 for number in $(seq 2600); do
     printf 'commit +%06x=%04000d\n' "$number" 0
 done >lines
@@ -83,14 +84,15 @@ serve
 [ "$status" = 0 ] || fail "a full store: it ends with $status: $(cat err)"
 grep -q '^refused 13 NoSpace$' out || fail 'a full store: no put is refused'
 [ "$(grep -vc '^batch \|^refused 13 NoSpace$' out)" = 0 ] || fail "a full store: $(grep -v '^batch \|^refused 13 NoSpace$' out | head -n 1)"
-{
-    for number in $(seq 2600); do
-        printf 'commit -%06x\n' "$number"
-    done
-    echo 'commit +61=31'
-} >lines
+for number in $(seq 2600); do
+    printf 'commit -%06x\n' "$number"
+done >lines
+"$program" serve F <lines >out 2>err || fail "deletes in a full store: $(cat err)"
+[ "$(grep -vc '^batch ' out)" = 0 ] || fail "deletes in a full store: $(grep -v '^batch ' out | head -n 1)"
+"$program" compact F >out || fail 'an emptied store is not compacted'
+echo 'commit +61=31' >lines
 "$program" serve F <lines >out 2>err || fail "an emptied store: $(cat err)"
-[ "$(grep -vc '^batch ' out)" = 0 ] || fail "an emptied store: $(grep -v '^batch ' out | head -n 1)"
+grep -q '^batch ' out || fail "an emptied store: $(cat out)"
 
 # A standard output that is closed ends it with 1, and so does one whose reader has gone.
 echo 'get 61' >lines

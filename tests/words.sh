@@ -54,6 +54,21 @@ else
     echo "words.sh: skipped: a write that falls short, for want of prlimit"
 fi
 
+# A closed standard stream: a file gets no number of one, so nothing that is printed or read goes to the store.
+"$program" format "$folder/F" 8192 128 >"$folder/output"
+"$program" put "$folder/F" 61 31 >"$folder/output"
+output=$folder/output
+errors=$folder/errors
+for word in 'get "$folder/F" 61' 'put "$folder/F" 62 32' 'replay "$folder/F"'; do
+    for streams in '<&-' '>&-' '2>&-' '<&- >&- 2>&-'; do
+        eval "\"\$program\" $word </dev/null >\"\$output\" 2>\"\$errors\" $streams" || true
+        "$program" check "$folder/F" >"$output" 2>&1 || fail "$word with $streams left $(cat "$output")"
+    done
+done
+status=0
+"$program" get "$folder/F" 61 >&- 2>"$folder/told" || status=$?
+[ "$status" = 1 ] || fail "a closed standard output ended with $status"
+
 # An input that fails at its first read: a folder. One that gives a byte and then fails: a socket whose other end was closed
 # before it had read what was sent to it.
 input=$folder

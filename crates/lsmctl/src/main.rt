@@ -7,8 +7,10 @@ ghost use Rattle.lsm_device.specs.declared.refusal.Refusal.TheVariants.{NoMemory
 ghost use Rattle.lsm_language.specs.Faults.{mistake, reason_of, refusal};
 
 mod meter;
+mod streams;
 
 use crate::meter::Meter;
+use crate::streams::fill_closed;
 use lsm_cli::run;
 use lsm_language::fault::{Fault, Usage};
 use lsm_progress::Progress;
@@ -23,6 +25,7 @@ use std::sync::Wait;
 use std::thread::Threads;
 
 fn main(rt: HostRuntime) -> ExitCode {
+    let _held = fill_closed(&rt);
     let (mut input, mut output, mut errors) = (rt.stdin(), rt.stdout(), rt.stderr());
     let terminal = rt.stderr();
     let shown = if terminal.is_terminal() {
