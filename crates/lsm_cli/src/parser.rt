@@ -12,9 +12,7 @@ ghost use Rattle.lsm_cli.specs.Runs.{has_dash, IsAsked, AskNothing};
 use clap::error::ErrorKind;
 use clap::{Arg, ArgAction, ArgMatches, Command};
 use lsm_device::Refusal;
-use lsm_language::asked::Asked;
-use lsm_language::fault::{Fault, Usage};
-use lsm_language::words::after;
+use lsm_language::{Asked, Fault, Usage, after};
 use std::alloc::{AllocError, Global};
 use std::convert::AsStr;
 

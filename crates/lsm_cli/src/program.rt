@@ -8,13 +8,9 @@ ghost use Rattle.lsm_cli.specs.Runs.{Fails, HasServed, IsRun, IsServed, IsTold, 
 
 use crate::parser::asked_for;
 use lsm_device::{FileDevice, Refusal};
-use lsm_language::fault::Fault;
-use lsm_language::input::script_text;
-use lsm_language::request::Request;
+use lsm_language::{Fault, Request, script_text};
 use lsm_progress::Progress;
-use lsm_requests::answer::Answer;
-use lsm_requests::calls;
-use lsm_requests::ending::conclude;
+use lsm_requests::{Answer, answer_request, conclude};
 use std::convert::AsStr;
 use std::fs::{File, Files};
 use std::io::{Read, Write};
@@ -68,7 +64,7 @@ fn answer<
     let text = script_text(rt.alloc(), &asked, input)?;
     let request = Request::read(rt.alloc(), asked, &text)?;
     let file = request.file();
-    match calls::answer(rt, request, input, output, progress) {
+    match answer_request(rt, request, input, output, progress) {
         Ok(answer) => Ok(answer),
         Err(fault) => Err(told(rt, file, fault)),
     }

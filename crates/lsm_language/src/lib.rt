@@ -1,18 +1,29 @@
 //! What is asked of a store in words and scripts.
 #![tactic(auto)]
 
-pub mod asked;
-pub mod fault;
-pub mod geometry;
-pub mod guards;
-pub mod input;
-pub mod keyed;
-pub mod line;
-pub mod load;
-pub mod number;
-pub mod operations;
-pub mod refused;
-pub mod request;
-pub mod row;
-pub mod script;
-pub mod words;
+mod asked;
+mod fault;
+mod geometry;
+mod guards;
+mod input;
+mod keyed;
+mod line;
+mod load;
+mod number;
+mod operations;
+mod refused;
+mod request;
+mod row;
+mod script;
+mod words;
+
+pub use asked::Asked;
+pub use fault::{Fault, Usage};
+pub use geometry::Geometry;
+pub use input::script_text;
+pub use line::{Kept, Line, read_line};
+pub use load::Load;
+pub use refused::refusal_text;
+pub use request::Request;
+pub use row::{next_line, read_row};
+pub use words::{Unread, after};

@@ -9,7 +9,7 @@ ghost use Rattle.lsm_replies.specs.Replies.{counted_word, digit_of, job_line, ne
 use crate::counted::{Counted, word_of};
 use lsm_codec::word;
 use lsm_device::Refusal;
-use lsm_language::refused::refusal_text;
+use lsm_language::refusal_text;
 use lsm_lives::Reply;
 use lsm_store::{Page, Stat, TakenJob};
 use std::alloc::Global;

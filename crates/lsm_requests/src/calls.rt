@@ -33,13 +33,9 @@ use crate::{committing, runs};
 use lsm_check::Finding;
 use lsm_codec::{Batch, Guard, word};
 use lsm_device::{Device, FileDevice, Refusal};
-use lsm_language::fault::Fault;
-use lsm_language::geometry::Geometry;
-use lsm_language::line::Line;
-use lsm_language::load::Load;
-use lsm_language::request::Request;
+use lsm_language::{Fault, Geometry, Line, Load, Request};
 use lsm_progress::Progress;
-use lsm_replies::reply::stat_text;
+use lsm_replies::stat_text;
 use lsm_store::{At, Store};
 use lsm_upkeep::compact_all_showing;
 use std::alloc::Global;
@@ -50,7 +46,7 @@ use std::thread::Threads;
 
 /// Does what is asked for. With what a request may be refused is said of any file, whatever it holds and whichever of its calls fault.
 /// Compactions, loads and explorations tell `progress` how far they are.
-pub fn answer<
+pub fn answer_request<
     R: Files<File = File> + AllocGlobal + Threads + Wait + Sync,
     I: Read,
     O: Write,

@@ -7,7 +7,7 @@ ghost use Rattle.lsm_requests.specs.Dumping.{Dumps, DumpsPage, rows_lines};
 
 use crate::reply::push_row_lines;
 use lsm_device::{Device, Refusal};
-use lsm_language::fault::Fault;
+use lsm_language::Fault;
 use lsm_store::{At, Page, Store};
 use lsm_walk::Walk;
 use std::alloc::Global;

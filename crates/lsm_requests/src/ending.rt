@@ -8,8 +8,7 @@ ghost use Rattle.lsm_requests.specs.Endings.{Concludes, IsReported, answer_statu
 
 use crate::answer::{Answer, Output};
 use lsm_device::Refusal;
-use lsm_language::fault::{Fault, Usage};
-use lsm_language::refused::refusal_text;
+use lsm_language::{Fault, Usage, refusal_text};
 use std::io;
 use std::io::Write;
 

@@ -1,15 +1,19 @@
 //! What was asked of a store in words: done, and answered in lines.
 #![tactic(auto)]
 
-pub mod answer;
-pub mod calls;
-pub mod committing;
-pub mod dumping;
-pub mod ending;
+mod answer;
+mod calls;
+mod committing;
+mod dumping;
+mod ending;
 mod exploring;
-pub mod loading;
+mod loading;
 mod opening;
-pub mod reply;
-pub mod runs;
-pub mod steps;
+mod reply;
+mod runs;
+mod steps;
 mod tallied;
+
+pub use answer::Answer;
+pub use calls::answer_request;
+pub use ending::conclude;

@@ -11,9 +11,7 @@ ghost use Rattle.lsm_requests.specs.Loading.{ArePut, AreRead, CommitsWaiting, Fi
 use crate::committing::add;
 use lsm_codec::{Batch, Op};
 use lsm_device::{Device, Refusal};
-use lsm_language::fault::{Fault, Usage};
-use lsm_language::row::{next_line, read_row};
-use lsm_language::words::Unread;
+use lsm_language::{Fault, Unread, Usage, next_line, read_row};
 use lsm_progress::{Milestone, Progress};
 use lsm_store::Store;
 use std::alloc::Global;

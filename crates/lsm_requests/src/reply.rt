@@ -12,7 +12,7 @@ use lsm_check::Report;
 use lsm_codec::word;
 use lsm_device::Refusal;
 use lsm_lives::Reply;
-use lsm_replies::reply::{push_next, push_number, push_refusal, push_reply};
+use lsm_replies::{push_next, push_number, push_refusal, push_reply};
 use lsm_store::Page;
 use lsm_storm::Counts;
 use std::alloc::Global;

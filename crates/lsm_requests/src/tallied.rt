@@ -6,7 +6,7 @@ ghost use Rattle.lsm_requests.specs.Answers.{HasCountedTogether};
 
 use crate::answer::{Answer, Output};
 use lsm_device::Refusal;
-use lsm_language::load::Load;
+use lsm_language::Load;
 use std::alloc::Global;
 use std::sync::Wait;
 use std::thread::Threads;

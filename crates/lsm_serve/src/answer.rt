@@ -10,8 +10,7 @@ ghost use Rattle.lsm_serve.specs.Answering.{IsTellable, answer_text, answered_by
 use crate::asking::Wrong;
 use lsm_device::Refusal;
 use lsm_lives::Reply;
-use lsm_replies::counted::Counted;
-use lsm_replies::reply::{push_reply, stat_text};
+use lsm_replies::{Counted, push_reply, stat_text};
 use lsm_store::Stat;
 use std::alloc::Global;
 use std::fmt::Write;

@@ -11,7 +11,7 @@ use crate::asking::{Asked, read_asked};
 use crate::committing::make;
 use lsm_device::{Device, Refusal};
 use lsm_lives::Reply;
-use lsm_replies::counted::{Counted, counted_in};
+use lsm_replies::{Counted, counted_in};
 use lsm_store::Store;
 use std::alloc::Global;
 use std::thread::Threads;

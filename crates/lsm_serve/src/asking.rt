@@ -6,8 +6,7 @@ ghost use Rattle.lsm_serve.specs.Asking.{asked_by, meaning_of, meaning_said, mea
 
 use crate::reading::MOST_BYTES;
 use lsm_device::Refusal;
-use lsm_language::line::{Line, read_line};
-use lsm_language::words::Unread;
+use lsm_language::{Line, Unread, read_line};
 use lsm_lives::Call;
 use std::alloc::{AllocError, Global};
 

@@ -5,7 +5,7 @@ ghost use Rattle.lsm_language.specs.Faults.{reason_of, unread};
 ghost use Rattle.lsm_serve.specs.Reading.{Takes, TakesLine, IsInputFault, most_kept};
 
 use lsm_device::Refusal;
-use lsm_language::fault::Fault;
+use lsm_language::Fault;
 use std::alloc::{AllocError, Global};
 use std::io::{ErrorKind, Read};
 

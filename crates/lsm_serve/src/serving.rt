@@ -11,7 +11,7 @@ use crate::answer::{Answer, text_of};
 use crate::answering::answer_line;
 use crate::reading::next_line;
 use lsm_device::{Device, Refusal};
-use lsm_language::fault::Fault;
+use lsm_language::Fault;
 use lsm_store::Store;
 use std::alloc::Global;
 use std::io;

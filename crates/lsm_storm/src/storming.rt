@@ -7,7 +7,7 @@ use crate::counts::{Counts, accepted_in, rows_in};
 use crate::crew::{Left, Tasks, run};
 use crate::fresh::fresh;
 use lsm_device::{MemDevice, Refusal};
-use lsm_language::load::Load;
+use lsm_language::Load;
 use lsm_shared::prepare;
 use lsm_trail::Opened;
 use std::alloc::Global;

@@ -8,7 +8,7 @@ use crate::counts::accepted_in;
 use crate::crew::Tasks;
 use crate::storming::shared_by_all;
 use lsm_device::Refusal;
-use lsm_language::load::Load;
+use lsm_language::Load;
 use std::alloc::Global;
 use std::sync::Wait;
 use std::thread::Threads;

@@ -1,6 +1,6 @@
 // How far clients count.
 
-use lsm_language::load::Load;
+use lsm_language::Load;
 use lsm_storm::{Tallied, tally};
 use std::alloc::Global;
 use std::process::Abort;
