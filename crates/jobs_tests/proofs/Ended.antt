@@ -1,14 +1,11 @@
--- The extents of tables are handed out, and few tables are read.
+-- The extents of tables are handed out.
 use Rattle.std.proofs.Common.{◌≡◌, ◌≢◌, ℕ, ◌<◌, List, [], ◌∷◌, ◌++◌, sym, ap, ◌∙◌, subst, arith}
 use Rattle.lsm_extent.specs.declared.extent.Extent.{Extent}
 use Rattle.lsm_extent.specs.Area.{Area, IsFreeRun, IsPartition, handed_out}
 use Rattle.lsm_extent.proofs.ExtentLaws.{contains-with, contains-kept, begins_none}
 use Rattle.lsm_levels.specs.Tables.{Table}
 use Rattle.lsm_jobs.proofs.Placed.{all_push, extent_is}
-use Rattle.lsm_jobs.specs.Slots.{Slots}
 use Rattle.lsm_jobs.specs.Placing.{AreHandedOut, extent_of}
-use Rattle.lsm_jobs.specs.Reading.{JobCanBeRead}
-use Rattle.lsm_jobs.specs.Turns.{HasFewTables}
 
 -- one more is handed out besides
 pub one_more : (area : Area) (t : Table) → 0 < t.blocks → IsPartition area → IsFreeRun area t.start t.blocks → (others : List Table) → AreHandedOut others area → AreHandedOut (others ++ t ∷ []) (handed_out (extent_of t) area)
@@ -29,7 +26,3 @@ claimed_more area new t e first blocks starts counts some whole claimed taken ot
     let is : e ≡ extent_of t = claimed.1 ∙ extent_is first blocks t starts counts in
     let run : IsFreeRun area t.start t.blocks = subst (λ (n : ℕ). IsFreeRun area n t.blocks) starts (subst (λ (n : ℕ). IsFreeRun area first n) counts claimed.0) in
     subst (AreHandedOut (others ++ t ∷ [])) (sym (taken ∙ ap (λ (x : Extent). handed_out x area) is)) (one_more area t (omega (arith, some, counts)) whole run others held)
-
--- tables that can be read are few
-pub few_tables : (size area job : ℕ) (slots : Slots) → JobCanBeRead size area job slots → HasFewTables job slots
-few_tables size area job slots can = record { few = λ slot is. (can.is slot is).few }

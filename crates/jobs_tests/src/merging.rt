@@ -155,14 +155,6 @@ impl<A: Allocator + Clone> Subject<A> {
         self.slots.read(&self.alloc, job, AREA, &mut self.device)
     }
 
-    /// How many data blocks of a job's tables are left to read.
-    pub(crate) fn left_to_read(&self, job: u64) -> Result<usize, Refusal> {
-        if !self.slots.can_be_read(job, self.device.sectors(), AREA) {
-            return Err(Refusal::BadGeometry);
-        }
-        Ok(self.slots.left_to_read(job))
-    }
-
     /// Accepts a result for a job, whose outputs are placed behind the tables of the levels.
     pub(crate) fn accept(&mut self, job: u64, built: &Built<A>) -> Result<u64, Refusal> {
         let mut extents = Extents::new(self.alloc.clone()?, 60);

@@ -10,30 +10,30 @@ use std::process::Abort;
 use std::sync::Arc;
 use std::test::Fail;
 
-/// Whether a step of job 1, which had so many blocks left, is made with so many growths, and leaves so many. Otherwise memory
-/// is refused, and as many are left as before.
+/// Whether a step of job 1 is made with so many growths, and leaves so many blocks. Otherwise memory is refused.
 fn is_made<A: Allocator + Clone>(
     heap: &Budget<Global>,
     subject: &mut Subject<A>,
     growths: u64,
-    left: [usize; 2],
+    left: usize,
 ) -> Result<bool, Refusal> {
     heap.allow(growths);
     let made = subject.read(1);
     heap.allow(AMPLE);
-    match (made, subject.left_to_read(1)?) {
-        (Ok(after), now) if after == left[1] && now == left[1] => Ok(true),
-        (Err(Refusal::NoMemory), now) if now == left[0] => Ok(false),
+    match made {
+        Ok(after) if after == left => Ok(true),
+        Err(Refusal::NoMemory) => Ok(false),
         _ => Err(Refusal::WrongState),
     }
 }
 
-/// Whether a step is made with so many growths. Otherwise it is made with ample memory then.
+/// Whether a step is made with so many growths. Otherwise it is made with ample memory then, and leaves as many blocks as it
+/// would have left before.
 fn goes_on<A: Allocator + Clone>(
     heap: &Budget<Global>,
     subject: &mut Subject<A>,
     growths: u64,
-    left: [usize; 2],
+    left: usize,
 ) -> Result<bool, Refusal> {
     if is_made(heap, subject, growths, left)? {
         return Ok(true);
@@ -52,8 +52,8 @@ fn is_read<A: Allocator + Clone>(
     whole: &Input<A>,
 ) -> Result<bool, Refusal> {
     let mut subject = one_merge(alloc.clone()?, 10)?;
-    let first = goes_on(heap, &mut subject, growths, [11, 3])?;
-    let second = goes_on(heap, &mut subject, growths, [3, 0])?;
+    let first = goes_on(heap, &mut subject, growths, 3)?;
+    let second = goes_on(heap, &mut subject, growths, 0)?;
     if !subject.slots.input(1)?.is_same(whole) {
         return Err(Refusal::ForeignResult);
     }

@@ -9,27 +9,16 @@ use std::process::Abort;
 use std::test::Fail;
 use std::thread::Threads;
 
-/// Whether job 1 in the first slot waits for this, with so many blocks left to read and to write.
-fn waits(
-    subject: &Subject,
-    piece: NextPiece,
-    to_read: usize,
-    to_write: u32,
-) -> Result<bool, Refusal> {
-    let turn = JobTurn { job: 1, piece };
-    Ok(
-        subject.slots.turn_at(0) == Some(turn)
-            && subject.left_to_read(1)? == to_read
-            && subject.slots.left_to_write(1) == to_write,
-    )
+/// Whether job 1 in the first slot waits for this.
+fn waits(subject: &Subject, piece: NextPiece) -> bool {
+    subject.slots.turn_at(0) == Some(JobTurn { job: 1, piece })
 }
 
 /// Whether a merge of 10 data blocks with one waits for its reads, and then for a result.
 fn waits_for_reads(subject: &mut Subject) -> Result<bool, Refusal> {
-    let read = NextPiece::Read;
-    let first = waits(subject, read, 11, 0)? && subject.read(1)? == 3;
-    let second = waits(subject, read, 3, 0)? && subject.read(1)? == 0;
-    Ok(first && second && waits(subject, NextPiece::Build, 0, 0)?)
+    let first = waits(subject, NextPiece::Read) && subject.read(1)? == 3;
+    let second = waits(subject, NextPiece::Read) && subject.read(1)? == 0;
+    Ok(first && second && waits(subject, NextPiece::Build))
 }
 
 /// Whether its output, of 10 blocks of data, filter, index and footer, waits to be written, and then to be installed.
@@ -40,10 +29,9 @@ fn waits_for_writes<R: Threads + Sync>(
 ) -> Result<bool, Refusal> {
     let made = built(rt, alloc, &subject.slots, 1)?;
     subject.accept(1, &made)?;
-    let write = NextPiece::Write;
-    let first = waits(subject, write, 0, 13)? && subject.write(1)? == 5;
-    let second = waits(subject, write, 0, 5)? && subject.write(1)? == 0;
-    Ok(first && second && waits(subject, NextPiece::Install, 0, 0)?)
+    let first = waits(subject, NextPiece::Write) && subject.write(1)? == 5;
+    let second = waits(subject, NextPiece::Write) && subject.write(1)? == 0;
+    Ok(first && second && waits(subject, NextPiece::Install))
 }
 
 #[test]
@@ -54,32 +42,36 @@ fn a_merge_waits_for_one_piece_after_the_other(rt: HostRuntime) -> Result<(), Fa
     Ok(())
 }
 
-/// Whether no job is told of in the other slots, nor at a place behind them, nor under another number.
-fn are_free(subject: &Subject) -> Result<bool, Refusal> {
-    let slots = &subject.slots;
-    let places = (1..5_usize).all(|place| slots.turn_at(place).is_none());
-    Ok(places && subject.left_to_read(2)? == 0 && slots.left_to_write(2) == 0)
+/// Whether no job is told of in the other slots, nor at a place behind them.
+fn are_free(subject: &Subject) -> bool {
+    (1..5_usize).all(|place| subject.slots.turn_at(place).is_none())
 }
 
-/// What a check answers of job 1, which is being read, frozen, and being written in turn, and of a job that isn't there.
+/// Whether the input of a job is lent, or why it isn't.
+fn lent(subject: &Subject, job: u64) -> Result<(), Refusal> {
+    let _input = subject.slots.input(job)?;
+    Ok(())
+}
+
+/// What is answered of the input of job 1, which is being read, frozen, and being written in turn, and of a job that isn't there.
 fn answers<R: Threads + Sync>(
     rt: &R,
     alloc: Global,
     subject: &mut Subject,
 ) -> Result<[Result<(), Refusal>; 4], Refusal> {
-    let reading = subject.slots.check_frozen(1);
+    let reading = lent(subject, 1);
     subject.read(1)?;
-    let frozen = subject.slots.check_frozen(1);
+    let frozen = lent(subject, 1);
     let made = built(rt, alloc, &subject.slots, 1)?;
     subject.accept(1, &made)?;
-    let writing = subject.slots.check_frozen(1);
-    Ok([reading, frozen, writing, subject.slots.check_frozen(2)])
+    let writing = lent(subject, 1);
+    Ok([reading, frozen, writing, lent(subject, 2)])
 }
 
 #[test]
 fn a_job_is_frozen_between_its_reads_and_its_writes(rt: HostRuntime) -> Result<(), Fail> {
     let mut subject = one_merge(rt.alloc(), 3)?;
-    assert!(rt; are_free(&subject)?);
+    assert!(rt; are_free(&subject));
     let wrong = Err(Refusal::WrongState);
     assert!(rt;
         answers(&rt, rt.alloc(), &mut subject)? == [wrong, Ok(()), wrong, Err(Refusal::NoSuchJob)]

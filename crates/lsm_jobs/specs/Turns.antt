@@ -1,7 +1,6 @@
 -- What comes next of the jobs that hold slots.
-use Rattle.std.specs.Prelude.{◌≡◌, ◌≤◌, ℕ, ◌+◌, ◌==◌, length, slice_index_or, Option, Some, None, option_map, if◌then◌else◌}
-use Rattle.lsm_jobs.specs.Slots.{Stage, Reading, Frozen, Writing, Slot, Slots, slot_of}
-use Rattle.lsm_jobs.specs.Gathering.{uppers, lowers}
+use Rattle.std.specs.Prelude.{◌==◌, ℕ, slice_index_or, Option, None, option_map, if◌then◌else◌}
+use Rattle.lsm_jobs.specs.Slots.{Stage, Reading, Frozen, Writing, Slot, Slots}
 use Rattle.lsm_jobs.specs.declared.turns.NextPiece.{NextPiece}
 use Rattle.lsm_jobs.specs.declared.turns.NextPiece.TheVariants.{Read, Build, Write, Install}
 use Rattle.lsm_jobs.specs.declared.turns.JobTurn.{JobTurn}
@@ -19,7 +18,3 @@ turn_of slot = record { job = slot.number; piece = piece_at slot.stage }
 -- the job in the slot at a place, and what it waits for; none where the slot is free
 abbrev pub turn_at : Slots → ℕ → Option JobTurn
 turn_at slots place = option_map turn_of (slice_index_or slots place None)
-
--- The tables of the job of a number, if there is one, are 1,024 at most.
-pub record HasFewTables (job : ℕ) (slots : Slots) : Type 0 where
-  pub few : (slot : Slot) → slot_of job slots ≡ Some slot → length (uppers slot.job) + length (lowers slot.job) ≤ 1024

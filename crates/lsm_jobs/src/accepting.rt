@@ -5,11 +5,11 @@ ghost use Rattle.std.specs.Arc.{arc_value};
 ghost use Rattle.lsm_device.specs.declared.refusal.Refusal.TheVariants.{NoMemory, NoSpace};
 ghost use Rattle.lsm_table.specs.Division.{IsTables};
 ghost use Rattle.lsm_merge.specs.Inputs.{kept_of};
-ghost use Rattle.lsm_jobs.specs.Slots.{slot_of, is_frozen};
+ghost use Rattle.lsm_jobs.specs.Slots.{slot_of};
 ghost use Rattle.lsm_jobs.specs.Holding.{IsFrozenAt};
 ghost use Rattle.lsm_jobs.specs.Outputs.{placed_blocks};
 ghost use Rattle.lsm_jobs.specs.Placing.{FindNoRoom, IsPlacing, IsAccepted};
-ghost use Rattle.lsm_jobs.specs.Refusing.{HasInput, IsAtStage, IsNotFrozen, RefusesInput, RefusesResult};
+ghost use Rattle.lsm_jobs.specs.Refusing.{HasInput, IsNotFrozen, RefusesInput, RefusesResult};
 
 use crate::held::Work;
 use crate::outputs::Outputs;
@@ -62,16 +62,6 @@ impl<A: Allocator> Slots<A> {
             Some(input) => Ok((place, input)),
             None => Err(Refusal::WrongState),
         }
-    }
-
-    /// Whether a job is frozen, as an accept wants it. It is refused with `NoSuchJob` exactly where no slot has the number, and
-    /// with `WrongState` exactly where the job is not frozen. It takes no memory.
-    pub fn check_frozen(&self, job: u64) -> Result<(), Refusal>
-        ensures frozen { OnOk result (IsAtStage is_frozen (slot_of job self.now.slots)) }
-        ensures refused { IfErr result (IsNotFrozen (slot_of job self.now.slots)) }
-    {
-        let (_place, _input) = self.frozen(job)?;
-        Ok(())
     }
 
     /// The input of a frozen job, shared with it. It is refused with `NoSuchJob` exactly where no slot has the number, with

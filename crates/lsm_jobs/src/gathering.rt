@@ -116,14 +116,6 @@ impl<A: Allocator + Clone> Gathering<A> {
 }
 
 impl<A: Allocator> Gathering<A> {
-    /// How many data blocks of the tables are left.
-    pub(crate) fn left(&self, upper: &[PlacedTable<A>], lower: &[PlacedTable<A>]) -> usize
-        requires { length upper.now + length lower.now ≤ 1024 }
-        ensures { result ≡ blocks_left upper.now lower.now self.now }
-    {
-        (data_blocks(upper) + data_blocks(lower)).saturating_sub(self.done)
-    }
-
     /// Keeps so many entries of each run, and counts so many blocks.
     fn take_back(&mut self, upper: usize, lower: usize, done: usize)
         ensures { self.new ≡ record { upper = take upper self.old.upper; lower = take lower self.old.lower; done = done; cuts = self.old.cuts; bottom = self.old.bottom } }

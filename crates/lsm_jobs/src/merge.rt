@@ -33,20 +33,6 @@ impl<A: Allocator> Model for MergeTables<A> {
     ghost invariant = { λ m. AreNumbersOf m.numbers (m.upper.items ++ m.lower.items) };
 }
 
-/// Handles of tables.
-pub(crate) fn shared<A: Allocator>(
-    alloc: A,
-    tables: &[PlacedTable<A>],
-) -> Result<Vec<PlacedTable<A>, A>, AllocError>
-    ensures { IfOk result (λ v. v.items ≡ tables.now) }
-{
-    let mut handles = Vec::new(alloc);
-    for table in tables {
-        handles.push(table.share()?)?;
-    }
-    Ok(handles)
-}
-
 /// Adds the numbers of tables to a set.
 fn add_numbers<A: Allocator + Clone>(
     numbers: &mut BTreeSet<u64, A>,

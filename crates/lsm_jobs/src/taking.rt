@@ -13,10 +13,10 @@ ghost use Rattle.lsm_jobs.specs.Holding.{free_from};
 
 use crate::gathering::Gathering;
 use crate::held::{HeldJob, Work};
-use crate::merge::{MergeTables, shared};
+use crate::merge::MergeTables;
 use crate::slots::{Slots, free_place};
 use lsm_device::Refusal;
-use lsm_levels::{Choice, Levels, Pick, PlacedTable};
+use lsm_levels::{Choice, Levels, Pick, PlacedTable, share_all};
 use lsm_mem::Sealed;
 use lsm_merge::Input;
 use std::alloc::{AllocError, Allocator};
@@ -80,7 +80,7 @@ fn tables_of<A: Allocator + Clone>(
 ) -> Result<MergeTables<A>, AllocError>
     ensures { IfOk result (λ m. m ≡ record { level = level; upper = upper.items; lower = lower.now }) }
 {
-    let lower = shared(alloc.clone()?, lower)?;
+    let lower = share_all(alloc.clone()?, lower)?;
     MergeTables::new(alloc, level, upper, lower)
 }
 
@@ -136,7 +136,7 @@ fn job_for<A: Allocator + Clone>(
             flush_of(alloc, number, sealed, cuts)
         }
         Pick::OldestRun { upper, lower } => {
-            let upper = shared(alloc.clone()?, upper)?;
+            let upper = share_all(alloc.clone()?, upper)?;
             let tables = tables_of(alloc, 0, upper, lower)?;
             merge_of(alloc, number, tables, cuts, bottom)
         }
@@ -154,7 +154,7 @@ fn job_for<A: Allocator + Clone>(
             upper,
             lower,
         } => {
-            let upper = shared(alloc.clone()?, upper)?;
+            let upper = share_all(alloc.clone()?, upper)?;
             let tables = tables_of(alloc, *level, upper, lower)?;
             merge_of(alloc, number, tables, cuts, bottom)
         }

@@ -36,5 +36,5 @@ pub use law::{
 pub use levels::Levels;
 pub use picking::{HeldJobs, Pick};
 pub use run::{Run, is_run};
-pub use table::PlacedTable;
+pub use table::{PlacedTable, share_all};
 pub use view::ReadView;

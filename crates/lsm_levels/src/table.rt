@@ -287,3 +287,17 @@ impl<A: Allocator> PlacedTable<A> {
         first.cmp(self.last()).is_le() && self.begins_by(last)
     }
 }
+
+/// Handles of tables.
+pub fn share_all<A: Allocator>(
+    alloc: A,
+    tables: &[PlacedTable<A>],
+) -> Result<Vec<PlacedTable<A>, A>, AllocError>
+    ensures { IfOk result (λ v. v.items ≡ tables.now) }
+{
+    let mut handles = Vec::new(alloc);
+    for table in tables {
+        handles.push(table.share()?)?;
+    }
+    Ok(handles)
+}

@@ -7,22 +7,8 @@ ghost use Rattle.lsm_levels.specs.Pick.{installed as installed_levels};
 ghost use Rattle.lsm_levels.specs.Tables.{IsRun};
 
 use lsm_jobs::Written;
-use lsm_levels::{Levels, PlacedTable, Run};
+use lsm_levels::{Levels, PlacedTable, Run, share_all};
 use std::alloc::{AllocError, Allocator};
-
-// Handles of tables.
-fn shared<A: Allocator>(
-    alloc: A,
-    tables: &[PlacedTable<A>],
-) -> Result<Vec<PlacedTable<A>, A>, AllocError>
-    ensures { IfOk result (λ v. v.items ≡ tables.now) }
-{
-    let mut handles = Vec::new(alloc);
-    for table in tables {
-        handles.push(table.share()?)?;
-    }
-    Ok(handles)
-}
 
 // The run of handles of a run's tables.
 fn shared_run<A: Allocator + Clone>(
@@ -32,7 +18,7 @@ fn shared_run<A: Allocator + Clone>(
     requires { IsRun tables.now }
     ensures { IfOk result (λ run. run ≡ tables.now) }
 {
-    Ok(Run::from_tables(shared(alloc.clone()?, tables)?))
+    Ok(Run::from_tables(share_all(alloc.clone()?, tables)?))
 }
 
 // Adds a run of such tables as the newest of level 0.
@@ -119,7 +105,7 @@ fn put<A: Allocator + Clone>(
             outputs,
             ..
         } => {
-            let mut handles = shared(alloc.clone()?, outputs)?;
+            let mut handles = share_all(alloc.clone()?, outputs)?;
             levels.replace(*level, upper, &mut handles)?;
             Ok(())
         }
