@@ -8,10 +8,10 @@ use Rattle.std.proofs.lemmas.List.Elements.{filter_more}
 use denote.Ref.{Bor}
 use Rattle.lsm_codec.specs.Versions.{AreOrdered, Version, is_same_key}
 use Rattle.lsm_merge.specs.Keeping.{is_newest_at_a_cut, settled}
-use Rattle.lsm_merge.specs.Loops.{shows_at, number_before, previous, settled_onto, all_settled_onto, starts_with_key, shown}
+use Rattle.lsm_merge.specs.Loops.{shows_at, number_before, previous, settled_onto, starts_with_key, shown}
 use Rattle.lsm_merge.proofs.OrderTests.{tested}
 use Rattle.lsm_merge.proofs.KeptLaws.{newest_at_a_cut}
-use Rattle.lsm_merge.proofs.SettledLaws.{settled-from_the_back}
+use Rattle.lsm_merge.proofs.SettledLaws.{settled-from_the_back, all_settled_onto}
 
 pub filter_skip : (test : Version → Bool) (versions : List Version) (i : ℕ) → i < length versions → ((d : Version) → false ≡ test (get_or versions i d)) → filter test (take (i + 1) versions) ≡ filter test (take i versions)
 filter_skip test [] i h e = absurd (omega arith)

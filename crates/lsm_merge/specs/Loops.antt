@@ -45,8 +45,3 @@ starts_with_key key (v ∷ rest) = is_same_key v.key key
 -- versions in order with one more first, but for a delete that no version of its key follows
 abbrev pub settled_onto : Version → List Version → List Version
 settled_onto v rest = cond (is_none v.value && not (starts_with_key v.key rest)) rest (v ∷ rest)
-
--- versions in order, settled onto those behind them
-abbrev pub all_settled_onto : List Version → List Version → List Version
-all_settled_onto [] rest = rest
-all_settled_onto (v ∷ versions) rest = settled_onto v (all_settled_onto versions rest)

@@ -11,7 +11,7 @@ use Rattle.lsm_device.specs.Outcomes.{Leaves}
 use Rattle.lsm_open.specs.CrashState.{CrashState, last_number, in_next_generation}
 use Rattle.lsm_open.specs.LogRegions.{all_batches, regions_with_batches}
 use Rattle.lsm_open.specs.Layout.{open_batches}
-use Rattle.lsm_open.specs.Image.{count_in, base_map, left_in, HoldNamed, StandFor, StandForSome}
+use Rattle.lsm_open.specs.Image.{count_in, left_in, HoldNamed, StandFor, StandForSome}
 use Rattle.lsm_open.specs.Placements.{Placement, IsHeld, state_with}
 use Rattle.lsm_open.specs.Reopening.{kept_records, HasCome}
 use Rattle.lsm_open.specs.Switching.{MayBeInstalled, IsInLeastFree, reopened_at, MayReopen}
@@ -19,7 +19,7 @@ use Rattle.lsm_open.specs.declared.regions.OpenRegion.{OpenRegion}
 use Rattle.lsm_open.proofs.KeptRecords.{same_batches, count_kept, all_hold, same_follow}
 use Rattle.lsm_open.proofs.NewLogs.{HoldsAll, new_held, new_empty}
 use Rattle.lsm_open.proofs.NextManifests.{closed_low}
-use Rattle.lsm_open.proofs.TableFrames.{state_applied}
+use Rattle.lsm_open.proofs.TableFrames.{state_applied, base_map}
 use Rattle.lsm_root.specs.Installed.{IsSettled}
 use Rattle.lsm_root.specs.Layout.{IsGeometry}
 

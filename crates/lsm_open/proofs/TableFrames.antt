@@ -23,7 +23,7 @@ use Rattle.lsm_mem.specs.EntryOrder.{with_batches}
 use Rattle.lsm_mem.specs.Versions.{NumberedAtMost, map_of}
 use Rattle.lsm_open.specs.CrashState.{CrashState}
 use Rattle.lsm_open.specs.LogRegions.{first_region, region_start, batches_at, all_batches, follow_on, one_if_some, regions_with_batches}
-use Rattle.lsm_open.specs.Image.{count_in, base_map, left_in, HoldNamed, StandFor}
+use Rattle.lsm_open.specs.Image.{count_in, left_in, HoldNamed, StandFor}
 use Rattle.lsm_open.specs.Tables.{extent_start, extent_length, extent_at, blocks_at, versions_if, versions_at, table_versions, IsTableAt, AscendInRun, AreTables}
 use Rattle.lsm_open.proofs.HeldRegions.{Same, same_all}
 use Rattle.lsm_open.proofs.NewestFound.{map_of_batches}
@@ -35,6 +35,10 @@ Sectors = List (List ℕ)
 
 abbrev Versions : Type 0
 Versions = List Version
+
+-- the map of the versions in tables
+abbrev pub base_map : ℕ → List (List ℕ) → Contents → Map
+base_map log_sectors sectors m = map_of (table_versions log_sectors sectors m.tables) m.base
 
 -- ---- tables
 

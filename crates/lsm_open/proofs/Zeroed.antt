@@ -9,7 +9,7 @@ use Rattle.lsm_codec.proofs.ManifestLaws.{length-manifest_text, manifest_text_mo
 use Rattle.lsm_device.specs.Disk.{Disk, Write, IsDisk, seen, synced}
 use Rattle.lsm_device.specs.History.{present, Becomes}
 use Rattle.lsm_device.specs.Memory.{length-written}
-use Rattle.lsm_device.specs.Runs.{run_at, grown, Reached}
+use Rattle.lsm_device.specs.Runs.{run_at, grown}
 use Rattle.lsm_device.proofs.Moments.{now_is}
 use Rattle.lsm_device.proofs.Outcomes.{seen-grown}
 use Rattle.lsm_device.proofs.Runs.{run_more, run_whole, written-run_at}

@@ -1,7 +1,6 @@
 -- What the sectors of a device stand for.
 use Rattle.std.specs.Prelude.{◌≡◌, ℕ, ◌+◌, ◌*◌, true, List, [], ◌++◌, length}
 use Rattle.lsm_codec.specs.Manifests.{Contents}
-use Rattle.lsm_codec.specs.Map.{Map}
 use Rattle.lsm_codec.specs.Versions.{Version}
 use Rattle.lsm_device.specs.Areas.{area}
 use Rattle.lsm_log.specs.Opened.{HasNoneAbove}
@@ -19,10 +18,6 @@ count_in log_sectors sectors m = m.base + length (all_batches log_sectors sector
 -- all versions: those of the batches that the regions replay to, and those of the tables
 abbrev pub versions_in : ℕ → List (List ℕ) → Contents → List Version
 versions_in log_sectors sectors m = with_batches m.base (all_batches log_sectors sectors m.logs) [] ++ table_versions log_sectors sectors m.tables
-
--- the map of the versions in tables
-abbrev pub base_map : ℕ → List (List ℕ) → Contents → Map
-base_map log_sectors sectors m = map_of (table_versions log_sectors sectors m.tables) m.base
 
 -- what a crash left, by the manifest that stands: the map is that of all versions at the count
 abbrev pub left_in : ℕ → List (List ℕ) → Contents → CrashState

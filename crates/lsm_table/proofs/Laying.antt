@@ -11,7 +11,7 @@ use Rattle.lsm_codec.proofs.Lists.{all_append}
 use Rattle.lsm_codec.proofs.Sizes.{size-push}
 use Rattle.lsm_table.specs.Division.{Block, TableBlocks, laid, blocks}
 use Rattle.lsm_table.proofs.Blocks.{laid_fits, laid_full}
-use Rattle.lsm_table.specs.Filled.{Filled, none_filled, with_next, filled, blocks_in, AreNextBlocks}
+use Rattle.lsm_table.specs.Filled.{Filled, none_filled, with_next, blocks_in, AreNextBlocks}
 
 abbrev parts : TableBlocks → Block → ℕ → ℕ → Filled
 parts full begun n used = record { full = full; begun = begun; layout = record { blocks = n; used = used } }
@@ -41,6 +41,10 @@ filled_laid full begun n used (v ∷ rest) e = elim (cases_lt 4096 (used + entry
       ∙ filled_laid full (begun ++ v ∷ []) n (used + entry_size v) rest (omega (arith, size-push begun v, e))
       ∙ ap (λ (t : TableBlocks). full ++ t) (sym (laid_fits begun (v ∷ []) rest one))
 ]
+
+-- blocks filled with these entries
+abbrev pub filled : List Version → Filled
+filled entries = fold with_next none_filled entries
 
 pub all_filled : (entries : List Version) → blocks_in (filled entries) ≡ blocks entries
 unfolding blocks

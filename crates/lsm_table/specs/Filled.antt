@@ -1,5 +1,5 @@
 -- Filling blocks, one entry after the other.
-use Rattle.std.specs.Prelude.{◌≡◌, ℕ, ◌+◌, cond, leb, List, [], ◌∷◌, ◌++◌, fold, take, drop}
+use Rattle.std.specs.Prelude.{◌≡◌, ℕ, ◌+◌, cond, leb, List, [], ◌∷◌, ◌++◌, take, drop}
 use Rattle.std.specs.List.{AllByRecursion}
 use Rattle.lsm_table.specs.declared.layout.Layout.{Layout}
 use Rattle.lsm_codec.specs.Versions.{Version, IsEntry}
@@ -24,10 +24,6 @@ with_next s v = record {
   begun = cond (leb (s.layout.used + entry_size v) 4096) (s.begun ++ v ∷ []) (v ∷ []);
   layout = with_entry s.layout (entry_size v);
 }
-
--- with these entries
-abbrev pub filled : List Version → Filled
-filled entries = fold with_next none_filled entries
 
 -- all blocks
 abbrev pub blocks_in : Filled → TableBlocks

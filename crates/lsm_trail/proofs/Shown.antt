@@ -1,10 +1,12 @@
 -- What an entry shows.
 use Rattle.std.proofs.Common.{◌≡◌, ℕ, Bool, true, false, cond, is_some, refl, sym, ◌∙◌}
-use Rattle.std.specs.Prelude.{◌&&◌}
+use Rattle.std.specs.Prelude.{◌&&◌, []}
 use Rattle.lsm_lives.specs.Asked.{Asked, Told, Own, Build, AcceptBuilt, Replied, Built}
 use Rattle.lsm_lives.specs.Calls.{reply_of, told_of}
 use Rattle.lsm_lives.specs.declared.calls.Reply.{Reply as GivenReply}
 use Rattle.lsm_lives.specs.declared.calls.Reply.TheVariants as reply
+use Rattle.lsm_merge.specs.Inputs.{MergeInput}
+use Rattle.lsm_merge.specs.Results.{MergeResult}
 use Rattle.lsm_store.specs.Calls.{Reply}
 use Rattle.lsm_device.specs.declared.refusal.Refusal.TheVariants.{Io}
 use Rattle.lsm_lives.proofs.Made.{called_told}
@@ -14,6 +16,13 @@ use Rattle.lsm_store.specs.Serving.{reply_in}
 use Rattle.lsm_store.specs.State.{State}
 use Rattle.lsm_trail.specs.Entries.{Beside, reply_behind, event_shown, is_build, is_number, MayBeEntered, IsOfStep, told_in}
 use Rattle.lsm_trail.specs.History.{is_lent}
+
+-- an input with no tables, and none at all
+abbrev pub lent : MergeInput → MergeResult
+lent input = record { input = input; images = [] }
+
+abbrev pub no_result : MergeResult
+no_result = lent (record { runs = []; cuts = []; bottom = false })
 
 pub shown_client : (client : ℕ) (asked : Asked) (told : Reply) (b : Beside) → (event_shown client asked told b).client ≡ client
 shown_client client (Own step) told b = refl

@@ -1,6 +1,5 @@
 -- What the entries of a trail show.
-use Rattle.std.specs.Prelude.{◌≡◌, ℕ, Bool, true, false, [], Some}
-use Rattle.lsm_merge.specs.Inputs.{MergeInput}
+use Rattle.std.specs.Prelude.{◌≡◌, ℕ, Bool, true, false, Some}
 use Rattle.lsm_merge.specs.Results.{MergeResult}
 use Rattle.lsm_store.specs.Calls.{Reply}
 use Rattle.lsm_store.specs.Calls.{Number, Handed, as_told}
@@ -16,13 +15,6 @@ use Rattle.lsm_trail.specs.History.{Event, event}
 pub record Beside : Type 0 where
   pub made : MergeResult
   pub machine : Machine
-
--- an input with no tables, and none at all
-abbrev pub lent : MergeInput → MergeResult
-lent input = record { input = input; images = [] }
-
-abbrev pub no_result : MergeResult
-no_result = lent (record { runs = []; cuts = []; bottom = false })
 
 -- a build that was told the number of its result was lent the input; another one was refused
 abbrev build_shown : ℕ → ℕ → Reply → Beside → Event

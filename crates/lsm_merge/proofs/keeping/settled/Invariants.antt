@@ -1,6 +1,7 @@
 use Rattle.std.proofs.Common.{◌≡◌, [], vec_len}
 use Rattle.std.specs.Prelude.{reverse}
-use Rattle.lsm_merge.specs.Loops.{all_settled_onto, shown}
+use Rattle.lsm_merge.specs.Loops.{shown}
+use Rattle.lsm_merge.proofs.SettledLaws.{all_settled_onto}
 use Rattle.lsm_merge.proofs.keeping.settled.Given as goal
 
 abbrev pub invariant-loop-entry : goal.invariant-loop-entry

@@ -4,10 +4,10 @@ use Rattle.lsm_codec.specs.Formats.{blank}
 use Rattle.lsm_device.specs.Calls.{one_more}
 use Rattle.lsm_device.specs.Disk.{synced}
 use Rattle.lsm_device.specs.History.{present}
-use Rattle.lsm_device.specs.Runs.{run_at, Reached}
+use Rattle.lsm_device.specs.Runs.{run_at}
 use Rattle.lsm_device.proofs.Counting.{none_made, sync_made, AtMost-joined}
 use Rattle.lsm_device.proofs.Moments.{now_is}
-use Rattle.lsm_device.proofs.Runs.{reached_none, part_more, run_whole}
+use Rattle.lsm_device.proofs.Runs.{reached_none, part_more, run_whole, Reached}
 use Rattle.lsm_device.proofs.WrittenRuns.{written_of, fault_of}
 use Rattle.lsm_root.proofs.Counting.{CallsMade-none, CallsMade-sync, CallsMade-joined}
 use Rattle.lsm_root.specs.Counted.{CallsMade}

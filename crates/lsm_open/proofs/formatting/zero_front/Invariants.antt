@@ -1,7 +1,8 @@
 use Rattle.std.proofs.Common.{◌≡◌, ◌*◌, min, IsTrue, replicate}
 use Rattle.lsm_codec.specs.Formats.{blank}
 use Rattle.lsm_device.specs.Calls.{AtMost}
-use Rattle.lsm_device.specs.Runs.{run_at, Reached}
+use Rattle.lsm_device.specs.Runs.{run_at}
+use Rattle.lsm_device.proofs.Runs.{Reached}
 use Rattle.lsm_root.specs.Counted.{CallsMade}
 use Rattle.lsm_open.proofs.formatting.zero_front.Given as goal
 

@@ -1,6 +1,7 @@
 use Rattle.std.proofs.Common.{◌≡◌, IsTrue}
 use Rattle.lsm_device.specs.Calls.{after_writes}
-use Rattle.lsm_device.specs.Runs.{run_at, pieces, Reached}
+use Rattle.lsm_device.specs.Runs.{run_at, pieces}
+use Rattle.lsm_device.proofs.Runs.{Reached}
 use Rattle.lsm_device.proofs.device.Device.write_run.Given as goal
 
 abbrev pub invariant-loop-i : goal.invariant-loop-i

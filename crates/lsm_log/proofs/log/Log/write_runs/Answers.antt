@@ -1,8 +1,8 @@
 use Rattle.std.proofs.Common.{rules, ◌≡◌, ◌≤◌, ◌<◌, ◌+◌, ◌*◌, ◌∙◌, ℕ, min, ap, arith, refl, sym, subst, length, take}
 use Rattle.lsm_device.specs.Calls.{after_writes}
-use Rattle.lsm_device.specs.Runs.{run_at, Reached}
+use Rattle.lsm_device.specs.Runs.{run_at}
 use Rattle.lsm_device.proofs.RunCounts.{all_writes, writes_joined, faulted_behind}
-use Rattle.lsm_device.proofs.Runs.{reached_none, part_more, part_fault, run_whole}
+use Rattle.lsm_device.proofs.Runs.{reached_none, part_more, part_fault, run_whole, Reached}
 use Rattle.lsm_device.proofs.WrittenRuns.{counted_of, faulted_of}
 use Rattle.lsm_codec.proofs.Lists.{on_err}
 use Rattle.lsm_log.specs.Batches.{batch_sectors}

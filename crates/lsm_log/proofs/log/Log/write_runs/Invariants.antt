@@ -1,6 +1,7 @@
 use Rattle.std.proofs.Common.{◌≡◌, ◌+◌, ◌*◌, min, IsTrue}
 use Rattle.lsm_device.specs.Calls.{after_writes}
-use Rattle.lsm_device.specs.Runs.{run_at, Reached}
+use Rattle.lsm_device.specs.Runs.{run_at}
+use Rattle.lsm_device.proofs.Runs.{Reached}
 use Rattle.lsm_log.specs.Batches.{batch_sectors}
 use Rattle.lsm_log.proofs.log.Log.write_runs.Given as goal
 

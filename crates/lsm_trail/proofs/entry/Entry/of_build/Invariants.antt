@@ -1,5 +1,5 @@
 use Rattle.lsm_store.specs.Backing.{machine_of}
-use Rattle.lsm_trail.specs.Entries.{lent}
+use Rattle.lsm_trail.proofs.Shown.{lent}
 use Rattle.lsm_trail.proofs.entry.Entry.of_build.Given as goal
 
 abbrev pub ghost-by_input : goal.ghost-by_input

@@ -1,5 +1,5 @@
 use Rattle.lsm_store.specs.Backing.{machine_of}
-use Rattle.lsm_trail.specs.Entries.{no_result}
+use Rattle.lsm_trail.proofs.Shown.{no_result}
 use Rattle.lsm_trail.proofs.entry.Entry.of_call.Given as goal
 
 abbrev pub ghost-by_store : goal.ghost-by_store
