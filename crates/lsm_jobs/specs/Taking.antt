@@ -28,10 +28,6 @@ level_of (Merge i upper lower) = Some i
 abbrev pub told_of : ℕ → Job → TakenJob
 told_of number job = record { number = number; level = level_of job }
 
-abbrev pub sealed_versions : Option (List Version) → List Version
-sealed_versions None = []
-sealed_versions (Some versions) = versions
-
 -- the runs that a job takes in, the newer first
 abbrev pub runs_of : List Version → Job → List (List Version)
 runs_of sealed Flush = sealed ∷ []

@@ -7,7 +7,8 @@ ghost use Rattle.lsm_merge.specs.Inputs.{IsCuts};
 ghost use Rattle.lsm_levels.specs.Pick.{Flush, Merge, is_flush};
 ghost use Rattle.lsm_levels.specs.Picks.{job_of};
 ghost use Rattle.lsm_device.specs.declared.refusal.Refusal.TheVariants.{NoMemory, Exhausted};
-ghost use Rattle.lsm_jobs.specs.Taking.{asked_job, given_job, level_of, told_of, sealed_versions, slot_with, slot_for, with_taken};
+ghost use Rattle.lsm_jobs.specs.Taking.{asked_job, given_job, level_of, told_of, slot_with, slot_for, with_taken};
+ghost use Rattle.lsm_mem.specs.Versions.{sealed_versions};
 ghost use Rattle.lsm_jobs.specs.Slots.{Frozen, held_jobs, with_slot};
 ghost use Rattle.lsm_jobs.specs.Holding.{free_from};
 

@@ -15,7 +15,7 @@ use Rattle.lsm_levels.specs.Cursors.{Cursor, Seeks, SeeksTo, blocks_from_key, pr
 use Rattle.lsm_levels.specs.Sources.{IsNext, head_at}
 use Rattle.lsm_levels.specs.Queues.{AreSpent}
 use Rattle.lsm_levels.specs.Scans.{Advances, Takes, memory_places}
-use Rattle.lsm_levels.specs.Lookups.{sealed_versions}
+use Rattle.lsm_levels.specs.Lookups.{sealed_now}
 use Rattle.lsm_levels.specs.Pages.{EndsWith, Gathers, GathersRuns, GoesOver, IsScan, TakesTurn, cursors_of}
 use Rattle.lsm_levels.proofs.ScanLaws.{some_version}
 use Rattle.lsm_levels.proofs.ScanSources.{no_run}
@@ -112,6 +112,6 @@ module _ (area : ℕ) (key : Bytes) (levels : Levels) (front cursors : List Curs
       given answer a end (first g levels.deeper answer end (subst (λ (rs : List (List Table)). GathersRuns g area key rs mid answer b end) (append-nil older ∙ same_older) (second g [] answer end more)))
 
 pub scan_of : (memory : List Version) (sealed : Option (Bor (List Version))) (runs : List (List Table)) (area : ℕ) (from : Bytes) (to : Option Bytes) (limit n : ℕ) (answer : Result Page Refusal) (old new : Source)
-    → GathersRuns (gathering n to limit) area from runs (cursors_of from n (memory_places memory sealed)) answer old new → IsScan memory (sealed_versions sealed) runs area from to limit n answer old new
+    → GathersRuns (gathering n to limit) area from runs (cursors_of from n (memory_places memory sealed)) answer old new → IsScan memory (sealed_now sealed) runs area from to limit n answer old new
 scan_of memory None runs area from to limit n answer old new h = record { memories = memory ∷ []; are = inl (refl, refl); gathers = h }
 scan_of memory (Some sealed) runs area from to limit n answer old new h = record { memories = memory ∷ sealed.now ∷ []; are = inr refl; gathers = h }

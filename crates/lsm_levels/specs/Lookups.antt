@@ -67,6 +67,6 @@ abbrev pub versions_at : List Version → List Version → List (List Table) →
 versions_at memory sealed runs = memory ∷ sealed ∷ map versions_of runs
 
 -- the versions in sealed memory, if there is one
-abbrev pub sealed_versions : Option (Bor (List Version)) → List Version
-sealed_versions None = []
-sealed_versions (Some sealed) = sealed.now
+abbrev pub sealed_now : Option (Bor (List Version)) → List Version
+sealed_now None = []
+sealed_now (Some sealed) = sealed.now

@@ -1,5 +1,5 @@
 -- The map that versions stand for at a count of batches.
-use Rattle.std.specs.Prelude.{ℕ, ◌<◌, ◌≤◌, List, Option, option_map, option_and_then, filter_map}
+use Rattle.std.specs.Prelude.{ℕ, ◌<◌, ◌≤◌, List, [], Option, Some, None, option_map, option_and_then, filter_map}
 use Rattle.std.specs.List.{AllByRecursion}
 use Rattle.std.specs.FinMap as finite
 use Rattle.lsm_codec.specs.Keys.{Bytes}
@@ -21,3 +21,8 @@ NumberedBelow number versions = AllByRecursion (λ v. v.number < number) version
 -- each version is of a batch up to this number
 abbrev pub NumberedAtMost : ℕ → List Version → Type 0
 NumberedAtMost number versions = AllByRecursion (λ v. v.number ≤ number) versions
+
+-- the versions in a sealed memory table, none where there is no such table
+abbrev pub sealed_versions : Option (List Version) → List Version
+sealed_versions None = []
+sealed_versions (Some versions) = versions

@@ -21,7 +21,7 @@ use Rattle.lsm_levels.specs.Orders.{IsVersionOrder, IsNewerPlace}
 use Rattle.lsm_levels.specs.Stored.{AreStored}
 use Rattle.lsm_levels.specs.Tables.{versions_of}
 use Rattle.lsm_mem.specs.EntryOrder.{with_batches}
-use Rattle.lsm_mem.specs.Versions.{map_of}
+use Rattle.lsm_mem.specs.Versions.{map_of, sealed_versions}
 use Rattle.lsm_open.specs.Counting.{counted, with_tables, IsCountedRoot}
 use Rattle.lsm_open.specs.CrashState.{CrashState, last_number, in_next_generation, left_by_opening, MayRefuseOpening}
 use Rattle.lsm_open.specs.Image.{count_in, left_in, HoldNamed, StandFor}
@@ -29,7 +29,7 @@ use Rattle.lsm_open.specs.Layout.{Layout, open_records, open_batches}
 use Rattle.lsm_open.specs.LogRegions.{all_batches, follow_on, one_if_some, regions_with_batches}
 use Rattle.lsm_open.specs.Placements.{Placement, contents_for, Carries, present_state}
 use Rattle.lsm_open.specs.ReadParts.{AreRead, AreToldBy, ReadsAtMost}
-use Rattle.lsm_open.specs.Recovering.{placed_in, sealed_versions, level_versions, IsReopened, IsRecovered, AreWithinLimits, StandForOne}
+use Rattle.lsm_open.specs.Recovering.{placed_in, level_versions, IsReopened, IsRecovered, AreWithinLimits, StandForOne}
 use Rattle.lsm_open.specs.Reopening.{kept_records, next_contents, IsNextLayout}
 use Rattle.lsm_open.specs.Switching.{MayBeInstalled, IsSwitched, IsInLeastFree, reopened_at}
 use Rattle.lsm_open.specs.Tables.{first_data, table_versions, AreTables}

@@ -20,7 +20,7 @@ use Rattle.lsm_extent.specs.Area.{Area}
 use Rattle.lsm_levels.specs.Held.{AreRuns}
 use Rattle.lsm_levels.specs.Levels.{Levels, places}
 use Rattle.lsm_levels.specs.Stored.{AreWithin, AreNumberedBelow}
-use Rattle.lsm_mem.specs.Versions.{NumberedBelow}
+use Rattle.lsm_mem.specs.Versions.{NumberedBelow, sealed_versions}
 use Rattle.lsm_open.specs.Tables.{first_data, AreTables}
 use Rattle.lsm_mem.specs.EntryOrder.{with_batches}
 use Rattle.lsm_open.specs.CrashState.{last_number}
@@ -30,7 +30,7 @@ use Rattle.lsm_open.specs.Counting.{counted, IsCountedRoot}
 use Rattle.lsm_open.specs.Opening.{manifest_refusal, IsRefusalBesideBadTable}
 use Rattle.lsm_open.specs.RefusedOpenings.{counted_refusal, named_refusal, refusal_behind, opening_refusal}
 use Rattle.lsm_open.specs.ReadParts.{AreRead, AreToldBy, ReadsAtMost}
-use Rattle.lsm_open.specs.Recovering.{sealed_versions, HasWritten, IsOpeningRefusal}
+use Rattle.lsm_open.specs.Recovering.{HasWritten, IsOpeningRefusal}
 use Rattle.lsm_open.specs.Reopening.{kept_records, HasCome, GoesOn}
 use Rattle.lsm_open.specs.ToldTables.{ReadsBlocks, told_levels, IsRefusedFor, IsTableRefusal, AreOutlined, HaveNamed, Held, AreThose}
 use Rattle.lsm_open.specs.declared.replayed.Replayed.{Replayed}

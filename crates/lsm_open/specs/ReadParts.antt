@@ -13,12 +13,11 @@ use Rattle.lsm_levels.specs.Held.{AreRuns}
 use Rattle.lsm_levels.specs.Levels.{Levels, places}
 use Rattle.lsm_levels.specs.Stored.{AreWithin, AreNumberedBelow}
 use Rattle.lsm_mem.specs.EntryOrder.{with_batches}
-use Rattle.lsm_mem.specs.Versions.{NumberedBelow}
+use Rattle.lsm_mem.specs.Versions.{NumberedBelow, sealed_versions}
 use Rattle.lsm_open.specs.Counting.{IsCountedRoot, all_uncounted, all_data}
 use Rattle.lsm_open.specs.CrashState.{last_number}
 use Rattle.lsm_open.specs.Image.{count_in}
 use Rattle.lsm_open.specs.LogRegions.{all_batches}
-use Rattle.lsm_open.specs.Recovering.{sealed_versions}
 use Rattle.lsm_open.specs.Reopening.{kept_records, HasCome}
 use Rattle.lsm_open.specs.Tables.{first_data, AreTables}
 use Rattle.lsm_open.specs.ToldTables.{told_levels, blocks_beside_data, AreOutlined, HaveNamed, Held, AreThose}

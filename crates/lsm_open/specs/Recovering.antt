@@ -20,7 +20,7 @@ use Rattle.lsm_levels.specs.Orders.{IsVersionOrder}
 use Rattle.lsm_levels.specs.Stored.{AreStored, AreWithin, AreNumberedBelow}
 use Rattle.lsm_levels.specs.Tables.{versions_of}
 use Rattle.lsm_mem.specs.EntryOrder.{with_batches}
-use Rattle.lsm_mem.specs.Versions.{NumberedAtMost, NumberedBelow, map_of}
+use Rattle.lsm_mem.specs.Versions.{NumberedAtMost, NumberedBelow, map_of, sealed_versions}
 use Rattle.lsm_open.specs.Answered.{IsInsideIfOpen}
 use Rattle.lsm_open.specs.Counting.{IsCountedRoot}
 use Rattle.lsm_open.specs.CrashState.{CrashState, last_number, in_next_generation, left_by_opening, MayRefuseOpening}
@@ -41,11 +41,6 @@ use Rattle.lsm_root.specs.Roots.{Stands, root_of}
 -- the placement of a layout, with the tables of these records in levels
 abbrev pub placed_in : Layout → Levels → List TableRecord → Placement
 placed_in l levels tables = record { logs = l; runs = length levels.runs; tables = tables }
-
--- the versions in a sealed memory table, none where there is no such table
-abbrev pub sealed_versions : Option (List Version) → List Version
-sealed_versions None = []
-sealed_versions (Some versions) = versions
 
 -- the versions of all tables in levels, the newer places first
 abbrev pub level_versions : Levels → List Version

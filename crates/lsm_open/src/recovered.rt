@@ -15,7 +15,8 @@ ghost use Rattle.lsm_open.specs.Layout.{layout_of};
 ghost use Rattle.lsm_open.specs.RefusedOpenings.{opening_refusal};
 ghost use Rattle.lsm_open.specs.Placements.{contents_for};
 ghost use Rattle.lsm_open.specs.ReadParts.{sectors_read_by, sectors_read_most, AreRead, AreToldBy, ReadsAtMost};
-ghost use Rattle.lsm_open.specs.Recovering.{placed_in, sealed_versions, IsReopened, IsRecovered, AreWithinLimits, IsOpeningRefusal, BeginsWithSync, HasWritten, StandForOne, CrashesWhileOpening, FailsToOpen};
+ghost use Rattle.lsm_open.specs.Recovering.{placed_in, IsReopened, IsRecovered, AreWithinLimits, IsOpeningRefusal, BeginsWithSync, HasWritten, StandForOne, CrashesWhileOpening, FailsToOpen};
+ghost use Rattle.lsm_mem.specs.Versions.{sealed_versions};
 ghost use Rattle.lsm_root.specs.Layout.{IsDeviceSize};
 ghost use Rattle.lsm_root.specs.Roots.{root_of};
 

@@ -17,7 +17,7 @@ use Rattle.lsm_levels.specs.Levels.{Levels}
 use Rattle.lsm_levels.specs.Pick.{Job, Flush, Merge, inputs, is_flush, installed as installed_levels}
 use Rattle.lsm_open.specs.CrashState.{last_number}
 use Rattle.lsm_open.specs.Layout.{Layout, layout_of}
-use Rattle.lsm_open.specs.Recovering.{sealed_versions}
+use Rattle.lsm_mem.specs.Versions.{sealed_versions}
 use Rattle.lsm_open.specs.declared.regions.OpenRegion.{OpenRegion}
 use Rattle.lsm_open.specs.declared.regions.Regions.{Regions}
 use Rattle.lsm_store.specs.declared.memory.Memory.{Memory}

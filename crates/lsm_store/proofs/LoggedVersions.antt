@@ -19,7 +19,8 @@ use Rattle.lsm_mem.proofs.Replays.{with_batches-append}
 use Rattle.lsm_open.specs.Layout.{open_records, open_batches}
 use Rattle.lsm_open.specs.LogRegions.{region_start, all_batches}
 use Rattle.lsm_open.specs.Placements.{Placement, closed_in, IsHeld}
-use Rattle.lsm_open.specs.Recovering.{sealed_versions, IsReopened}
+use Rattle.lsm_open.specs.Recovering.{IsReopened}
+use Rattle.lsm_mem.specs.Versions.{sealed_versions}
 use Rattle.lsm_open.specs.Switching.{rotated}
 use Rattle.lsm_open.specs.declared.regions.OpenRegion.{OpenRegion}
 use Rattle.lsm_open.proofs.HeldRegions.{all_open, placed, same_all}

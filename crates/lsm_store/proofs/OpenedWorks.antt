@@ -12,7 +12,7 @@ use Rattle.lsm_codec.specs.declared.table_record.TableRecord.{TableRecord}
 use Rattle.lsm_codec.proofs.Lists.{all_append}
 use Rattle.lsm_device.specs.Disk.{Disk, seen, written}
 use Rattle.lsm_extent.specs.Area.{Area}
-use Rattle.lsm_mem.specs.Versions.{map_of}
+use Rattle.lsm_mem.specs.Versions.{map_of, sealed_versions}
 use Rattle.lsm_merge.specs.Inputs.{joined}
 use Rattle.lsm_levels.specs.Among.{IsAmong}
 use Rattle.lsm_levels.specs.Tables.{Table, IsRun, versions_of}
@@ -30,7 +30,7 @@ use Rattle.lsm_open.specs.CrashState.{CrashState}
 use Rattle.lsm_open.specs.Layout.{open_records, open_batches}
 use Rattle.lsm_open.specs.LogRegions.{one_if_some}
 use Rattle.lsm_open.specs.Placements.{Placement, closed_in}
-use Rattle.lsm_open.specs.Recovering.{sealed_versions, IsRecovered, AreWithinLimits}
+use Rattle.lsm_open.specs.Recovering.{IsRecovered, AreWithinLimits}
 use Rattle.lsm_open.specs.Tables.{first_data}
 use Rattle.lsm_open.specs.ToldTables.{records_of, Held}
 use Rattle.lsm_open.specs.declared.regions.OpenRegion.{OpenRegion}

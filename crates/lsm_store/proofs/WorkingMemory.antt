@@ -17,12 +17,12 @@ use Rattle.lsm_jobs.specs.Outputs.{placed_blocks}
 use Rattle.lsm_jobs.specs.Placing.{all_given_back, AreHandedOut, IsAccepted}
 use Rattle.lsm_jobs.specs.Slots.{Writing, Slot, JobSlots, outputs_at, slot_of, with_held, outputs_of}
 use Rattle.lsm_table.specs.Division.{TableBlocks}
-use Rattle.lsm_jobs.specs.Taking.{given_job, sealed_versions, slot_for, with_taken}
+use Rattle.lsm_jobs.specs.Taking.{given_job, slot_for, with_taken}
+use Rattle.lsm_mem.specs.Versions.{sealed_versions}
 use Rattle.lsm_levels.specs.Pick.{Job}
 use Rattle.lsm_levels.specs.Levels.{all_tables, places}
 use Rattle.lsm_store.specs.Accounts.{outputs_in, tables_numbered, AreNumbered}
 use Rattle.lsm_jobs.specs.declared.taking.TakenJob.{TakenJob}
-use Rattle.lsm_open.specs.Recovering.{sealed_versions as sealed_of}
 use Rattle.lsm_open.specs.Tables.{first_data}
 use Rattle.lsm_store.specs.declared.memory.Memory.{Memory}
 use Rattle.lsm_store.specs.declared.snapshots.Mark.{Mark}
@@ -155,20 +155,12 @@ module _ {A : Type 0} (m : Memory A) (kept : AreConsistent m) where
   pub told_entries : AllByRecursion IsEntry (sealed_versions waiting_told)
   told_entries = by (nat_le 1 (length m.regions.closed.items))
     where
-      same : (o : Option (List Version)) → AllByRecursion IsEntry (sealed_of o) → AllByRecursion IsEntry (sealed_versions o)
-      same None all = tt
-      same (Some versions) all = all
-
       by : (b : Bool) → AllByRecursion IsEntry (sealed_versions (cond b (option_map arc_value m.sealed) None))
-      by true = same (option_map arc_value m.sealed) kept.taking.sealed_entries
+      by true = kept.taking.sealed_entries
       by false = tt
 
   pub told_sealed : are_waiting (state_of m) ≡ true → sealed_versions waiting_told ≡ (work_of m).sealed
-  told_sealed waits = ap (λ (b : Bool). sealed_versions (cond b (option_map arc_value m.sealed) None)) (ap (nat_le 1) (sym kept.agrees.closed) ∙ waits) ∙ same (option_map arc_value m.sealed)
-    where
-      same : (o : Option (List Version)) → sealed_versions o ≡ sealed_of o
-      same None = refl
-      same (Some versions) = refl
+  told_sealed waits = ap (λ (b : Bool). sealed_versions (cond b (option_map arc_value m.sealed) None)) (ap (nat_le 1) (sym kept.agrees.closed) ∙ waits)
 
   -- ---- the cuts of a job
 

@@ -4,7 +4,7 @@ use Rattle.lsm_codec.specs.Geometry.{data_blocks_of}
 use Rattle.lsm_codec.specs.Versions.{Version}
 use Rattle.lsm_device.specs.Disk.{Disk}
 use Rattle.lsm_extent.specs.Area.{Area}
-use Rattle.lsm_mem.specs.Versions.{map_of}
+use Rattle.lsm_mem.specs.Versions.{map_of, sealed_versions}
 use Rattle.lsm_levels.specs.Among.{IsAmong}
 use Rattle.lsm_levels.specs.Levels.{Levels, places}
 use Rattle.lsm_levels.specs.Held.{HasVersion}
@@ -14,7 +14,7 @@ use Rattle.lsm_merge.specs.Inputs.{joined}
 use Rattle.lsm_jobs.specs.Slots.{no_jobs}
 use Rattle.lsm_open.specs.CrashState.{CrashState}
 use Rattle.lsm_open.specs.Placements.{Placement}
-use Rattle.lsm_open.specs.Recovering.{sealed_versions, IsRecovered, AreWithinLimits}
+use Rattle.lsm_open.specs.Recovering.{IsRecovered, AreWithinLimits}
 use Rattle.lsm_open.specs.ToldTables.{records_of, Held}
 use Rattle.lsm_store.specs.Crash.{reopened}
 use Rattle.lsm_store.specs.JustOpened.{just_opened}

@@ -7,14 +7,13 @@ ghost use Rattle.lsm_device.specs.Refusals.{faultless};
 ghost use Rattle.lsm_device.specs.declared.refusal.Refusal.TheVariants.{Io, BadTable, NoMemory};
 ghost use Rattle.lsm_levels.specs.Cursors.{refusal_of};
 ghost use Rattle.lsm_levels.specs.Levels.{places};
-ghost use Rattle.lsm_levels.specs.Lookups.{IsLookUp, IsTest, answer_of, sealed_versions as sealed_of};
+ghost use Rattle.lsm_levels.specs.Lookups.{IsLookUp, IsTest, answer_of, sealed_now};
 ghost use Rattle.lsm_levels.specs.Orders.{IsVersionOrder};
 ghost use Rattle.lsm_levels.specs.Pages.{IsScan};
 ghost use Rattle.lsm_levels.specs.Scans.{ScansRuns, blocks_in, blocks_of_runs};
 ghost use Rattle.lsm_levels.specs.Stored.{AreWithin, IsReadable};
 ghost use Rattle.lsm_mem.specs.Paging.{page_of};
-ghost use Rattle.lsm_mem.specs.Versions.{map_of};
-ghost use Rattle.lsm_open.specs.Recovering.{sealed_versions};
+ghost use Rattle.lsm_mem.specs.Versions.{map_of, sealed_versions};
 ghost use Rattle.lsm_open.specs.Tables.{first_data};
 ghost use Rattle.lsm_store.specs.Memory.{IsInside, work_of};
 ghost use Rattle.lsm_store.specs.Guarding.{AsksGuards, AnswersGuards, MayEndGuards};
@@ -33,7 +32,7 @@ use std::alloc::Allocator;
 // Memory, sealed memory and the tables.
 fn view_of<A: Allocator>(memory: &Memory<A>) -> ReadView<'_, A>
     ensures memory { result.mem.now ≡ memory.now.mem }
-    ensures sealed { sealed_of result.sealed ≡ sealed_versions (option_map arc_value memory.now.sealed) }
+    ensures sealed { sealed_now result.sealed ≡ sealed_versions (option_map arc_value memory.now.sealed) }
     ensures levels { result.levels.now ≡ memory.now.levels }
     ensures area { result.area ≡ first_data memory.now.regions.log_sectors }
 {

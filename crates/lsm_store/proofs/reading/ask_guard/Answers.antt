@@ -7,7 +7,7 @@ use Rattle.lsm_device.specs.Refusals.{faultless}
 use Rattle.lsm_device.specs.declared.refusal.Refusal.TheVariants.{Io}
 use Rattle.lsm_levels.specs.Asking.{Source}
 use Rattle.lsm_levels.specs.Levels.{Levels, places}
-use Rattle.lsm_levels.specs.Lookups.{IsTest, versions_at, sealed_versions as sealed_of}
+use Rattle.lsm_levels.specs.Lookups.{IsTest, versions_at, sealed_now}
 use Rattle.lsm_levels.specs.Orders.{IsVersionOrder}
 use Rattle.lsm_levels.specs.Stored.{AreWithin, IsReadable}
 use Rattle.lsm_merge.specs.Inputs.{joined}
@@ -33,7 +33,7 @@ returns-clause-answers g c =
     let n = c.args.count in
     same_parts (λ (p : Parts). (place : BlockName → Option ℕ) → IsReadable place p.area (places p.levels) old → IsVersionOrder (versions_at p.memory p.sealed (places p.levels))
     → MatchResult c.meets_guard.result (λ met. met ≡ is_met (map_of (joined (versions_at p.memory p.sealed (places p.levels))) n) c.args.guard.now) (λ refusal. refusal ≡ Io))
-    v.mem.now _ (sealed_of v.sealed) _ v.levels.now _ v.area _ e.memory e.sealed e.levels e.area c.meets_guard.ensures.answers
+    v.mem.now _ (sealed_now v.sealed) _ v.levels.now _ v.area _ e.memory e.sealed e.levels e.area c.meets_guard.ensures.answers
 
 pub returns-clause-tests : goal.returns-clause-tests
 returns-clause-tests g c =
@@ -42,7 +42,7 @@ returns-clause-tests g c =
     let old : Source = record { cache = c.args.cache.now; medium = g.D.Device.medium c.args.device.now } in
     let new : Source = record { cache = c.meets_guard.new.cache; medium = g.D.Device.medium c.meets_guard.new.device } in
     same_parts (λ (p : Parts). IsTest p.memory p.sealed (places p.levels) p.area c.args.guard.now c.args.count c.meets_guard.result old new)
-    v.mem.now _ (sealed_of v.sealed) _ v.levels.now _ v.area _ e.memory e.sealed e.levels e.area c.meets_guard.ensures.tests
+    v.mem.now _ (sealed_now v.sealed) _ v.levels.now _ v.area _ e.memory e.sealed e.levels e.area c.meets_guard.ensures.tests
 
 pub returns-clause-reads : goal.returns-clause-reads
 returns-clause-reads g c =
@@ -63,5 +63,5 @@ returns-clause-reads g c =
       same_size = f.same_size;
       same_lasting = f.same_lasting;
       fresh = f.fresh;
-      others = λ number none before. named_law.tested v.mem.now (sealed_of v.sealed) (places v.levels.now) v.area c.args.guard.now c.args.count number _ old new f.tests none before;
+      others = λ number none before. named_law.tested v.mem.now (sealed_now v.sealed) (places v.levels.now) v.area c.args.guard.now c.args.count number _ old new f.tests none before;
     }))

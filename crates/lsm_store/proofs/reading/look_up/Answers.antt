@@ -8,7 +8,7 @@ use Rattle.lsm_device.specs.Refusals.{faultless}
 use Rattle.lsm_device.specs.declared.refusal.Refusal.TheVariants.{Io, NoMemory}
 use Rattle.lsm_levels.specs.Asking.{Source}
 use Rattle.lsm_levels.specs.Levels.{Levels, places}
-use Rattle.lsm_levels.specs.Lookups.{IsLookUp, answer_of, versions_at, sealed_versions as sealed_of}
+use Rattle.lsm_levels.specs.Lookups.{IsLookUp, answer_of, versions_at, sealed_now}
 use Rattle.lsm_levels.specs.Orders.{IsVersionOrder}
 use Rattle.lsm_levels.specs.Stored.{AreWithin, IsReadable}
 use Rattle.lsm_merge.specs.Inputs.{joined}
@@ -36,7 +36,7 @@ returns-clause-answers g c =
     same_parts (λ (p : Parts). (place : BlockName → Option ℕ) → IsReadable place p.area (places p.levels) old → IsVersionOrder (versions_at p.memory p.sealed (places p.levels))
     → MatchResult c.find.result (λ value. option_map (λ v. v.items) value ≡ finite.get (map_of (joined (versions_at p.memory p.sealed (places p.levels))) n) key)
     (λ refusal. (refusal ≡ Io) ⊎ ((refusal ≡ NoMemory) × (is_some (finite.get (map_of (joined (versions_at p.memory p.sealed (places p.levels))) n) key) ≡ true))))
-    v.mem.now _ (sealed_of v.sealed) _ v.levels.now _ v.area _ e.memory e.sealed e.levels e.area c.find.ensures.answers
+    v.mem.now _ (sealed_now v.sealed) _ v.levels.now _ v.area _ e.memory e.sealed e.levels e.area c.find.ensures.answers
 
 pub returns-clause-looks : goal.returns-clause-looks
 returns-clause-looks g c =
@@ -45,7 +45,7 @@ returns-clause-looks g c =
     let old : Source = record { cache = c.args.cache.now; medium = g.D.Device.medium c.args.device.now } in
     let new : Source = record { cache = c.find.new.cache; medium = g.D.Device.medium c.find.new.device } in
     same_parts (λ (p : Parts). IsLookUp p.memory p.sealed (places p.levels) p.area c.args.key.now c.args.count (answer_of c.find.result) old new)
-    v.mem.now _ (sealed_of v.sealed) _ v.levels.now _ v.area _ e.memory e.sealed e.levels e.area c.find.ensures.looks
+    v.mem.now _ (sealed_now v.sealed) _ v.levels.now _ v.area _ e.memory e.sealed e.levels e.area c.find.ensures.looks
 
 pub returns-clause-reads : goal.returns-clause-reads
 returns-clause-reads g c =
@@ -66,5 +66,5 @@ returns-clause-reads g c =
       same_size = f.same_size;
       same_lasting = f.same_lasting;
       fresh = f.fresh;
-      others = λ number none before. named_law.looked v.mem.now (sealed_of v.sealed) (places v.levels.now) v.area c.args.key.now c.args.count number _ old new f.looks none before;
+      others = λ number none before. named_law.looked v.mem.now (sealed_now v.sealed) (places v.levels.now) v.area c.args.key.now c.args.count number _ old new f.looks none before;
     }))

@@ -2,7 +2,7 @@ use Rattle.std.proofs.Common.{◌≡◌, ℕ, Option, Some, Err, ◌==◌, not, 
 use Rattle.std.specs.Prelude.{Result, option_map}
 use Rattle.lsm_device.specs.declared.refusal.Refusal.{Refusal}
 use Rattle.lsm_device.specs.declared.refusal.Refusal.TheVariants.{Exhausted}
-use Rattle.lsm_jobs.specs.Taking.{sealed_versions}
+use Rattle.lsm_mem.specs.Versions.{sealed_versions}
 use Rattle.lsm_jobs.specs.declared.taking.TakenJob.{TakenJob}
 use Rattle.lsm_store.specs.Backing.{machine_of}
 use Rattle.lsm_store.specs.Calls.{Refused, reply_of}
