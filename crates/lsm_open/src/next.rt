@@ -1,32 +1,15 @@
 // What the manifest of the next generation names: the regions after a rotation, and the tables of levels.
 ghost use Rattle.std.specs.Prelude.{◌≡◌, ◌≤◌, ◌<◌, ◌^◌, ◌++◌, [], length, map, IfOk, OnOk};
 ghost use Rattle.lsm_levels.specs.Tables.{record_of};
-ghost use Rattle.lsm_open.specs.Layout.{layout_of, open_records};
+ghost use Rattle.lsm_open.specs.Layout.{layout_of};
 ghost use Rattle.lsm_open.specs.Switching.{IsRotated};
 ghost use Rattle.lsm_open.specs.ToldTables.{records_of, records_of_runs, records_of_levels};
 
-use crate::regions::{OpenRegion, Regions};
+use crate::regions::Regions;
 use crate::reopened::open_least_free;
-use lsm_codec::{LogRecord, TableRecord};
+use lsm_codec::TableRecord;
 use lsm_levels::{Levels, PlacedTable, Run};
 use std::alloc::{AllocError, Allocator};
-
-// The log record of the open log, if one is open.
-fn open_records<A: Allocator>(
-    alloc: A,
-    region: &Option<OpenRegion>,
-) -> Result<Vec<LogRecord, A>, AllocError>
-    ensures { IfOk result (λ records. records.items ≡ open_records region.now) }
-{
-    let mut records = Vec::new(alloc);
-    match region {
-        Some(open) => {
-            records.push(open.record())?;
-            Ok(records)
-        }
-        None => Ok(records),
-    }
-}
 
 impl<A: Allocator + Clone> Regions<A> {
     /// The regions after a rotation behind so many batches, in the next generation: the open log's is closed, if one is
@@ -38,7 +21,7 @@ impl<A: Allocator + Clone> Regions<A> {
         requires count_high { count ≤ 2 ^ 63 }
         ensures { IfOk result (λ next. IsRotated (layout_of self.now) count (layout_of next)) }
     {
-        let closed = open_records(alloc, &self.open_region)?;
+        let closed = self.log_records(alloc, true)?;
         let generation = self.generation + 1;
         let open_region = open_least_free(self.log_sectors, &closed, generation, count);
         Ok(Regions {

@@ -1,7 +1,7 @@
 // Where a store's batches lie on its device.
-ghost use Rattle.std.specs.Prelude.{◌≡◌, ◌≤◌, ◌+◌, ◌*◌, length, IfOk};
+ghost use Rattle.std.specs.Prelude.{◌≡◌, ◌≤◌, ◌+◌, ◌*◌, ◌++◌, [], length, if◌then◌else◌, IfOk};
 ghost use Rattle.lsm_open.specs.LogRegions.{first_region, region_start};
-ghost use Rattle.lsm_open.specs.Layout.{record_of, layout_of};
+ghost use Rattle.lsm_open.specs.Layout.{record_of, open_records, layout_of};
 ghost use Rattle.lsm_open.specs.Placements.{contents_for};
 ghost use Rattle.lsm_open.specs.Tables.{first_data};
 
@@ -61,6 +61,24 @@ impl<A: Allocator> Regions<A> {
     {
         region_start(self.log_sectors, 3)
     }
+
+    /// The log records of the regions that hold batches behind those in tables: of the closed ones, unless all of their batches
+    /// are in tables, and then that of the open log, if one is open.
+    pub fn log_records(&self, alloc: A, settled: bool) -> Result<Vec<LogRecord, A>, AllocError>
+        ensures { IfOk result (λ logs. logs.items ≡ (if settled then [] else self.now.closed.items) ++ open_records self.now.open_region) }
+    {
+        let mut logs = Vec::new(alloc);
+        if !settled {
+            logs.extend_from_slice(&self.closed)?;
+        }
+        match &self.open_region {
+            Some(open) => {
+                logs.push(open.record())?;
+                Ok(logs)
+            }
+            None => Ok(logs),
+        }
+    }
 }
 
 impl<A: Allocator + Clone> Regions<A> {
@@ -74,11 +92,7 @@ impl<A: Allocator + Clone> Regions<A> {
     ) -> Result<Manifest<A>, AllocError>
         ensures { IfOk result (λ m. m ≡ contents_for (record { logs = layout_of self.now; runs = runs; tables = tables.now })) }
     {
-        let mut logs = Vec::new(alloc.clone()?);
-        logs.extend_from_slice(&self.closed)?;
-        if let Some(open) = &self.open_region {
-            logs.push(open.record())?;
-        }
+        let logs = self.log_records(alloc.clone()?, false)?;
         let mut named = Vec::new(alloc);
         named.extend_from_slice(tables)?;
         Ok(Manifest::new(

@@ -1,10 +1,10 @@
 // An install: a job's outputs come into the levels, in the place of what it took in, and the next manifest names them.
-ghost use Rattle.std.specs.Prelude.{◌≡◌, ◌⊎◌, ◌<◌, ◌≤◌, length, ◌++◌, ◌-◌, ◌^◌, [], Some, None, option_map, if◌then◌else◌, IfOk, IfErr, OnOk};
+ghost use Rattle.std.specs.Prelude.{◌≡◌, ◌⊎◌, ◌<◌, ◌≤◌, length, ◌-◌, ◌^◌, Some, None, option_map, if◌then◌else◌, IfOk, IfErr, OnOk};
 ghost use Rattle.std.specs.Arc.{arc_value};
 ghost use Rattle.lsm_cache.specs.Recency.{Cached};
 ghost use Rattle.lsm_jobs.specs.Refusing.{IsAtStage};
 ghost use Rattle.lsm_jobs.specs.Slots.{Slot, slot_of, is_written};
-ghost use Rattle.lsm_open.specs.Layout.{layout_of, open_records};
+ghost use Rattle.lsm_open.specs.Layout.{layout_of};
 ghost use Rattle.lsm_open.specs.Placements.{contents_for};
 ghost use Rattle.lsm_open.specs.Recovering.{placed_in};
 ghost use Rattle.lsm_open.specs.ToldTables.{records_of};
@@ -20,10 +20,10 @@ use crate::fitting::fit;
 use crate::install_checks::is_flush;
 use crate::memory::{Memory, Status};
 use crate::next_levels::next_levels;
-use lsm_codec::{LogRecord, Manifest};
+use lsm_codec::Manifest;
 use lsm_device::{Device, Refusal};
 use lsm_levels::Levels;
-use lsm_open::{Regions, table_records};
+use lsm_open::table_records;
 use lsm_root::NextRoot;
 use std::alloc::{AllocError, Allocator};
 
@@ -32,27 +32,6 @@ use std::alloc::{AllocError, Allocator};
 struct Installed<A: Allocator> {
     flush: bool,
     levels: Levels<A>,
-}
-
-// The log records of the regions after an install.
-fn kept_logs<A: Allocator>(
-    alloc: A,
-    regions: &Regions<A>,
-    flush: bool,
-) -> Result<Vec<LogRecord, A>, AllocError>
-    ensures { IfOk result (λ logs. logs.items ≡ (if flush then [] else regions.now.closed.items) ++ open_records regions.now.open_region) }
-{
-    let mut logs = Vec::new(alloc);
-    if !flush {
-        logs.extend_from_slice(&regions.closed)?;
-    }
-    match &regions.open_region {
-        Some(open) => {
-            logs.push(open.record())?;
-            Ok(logs)
-        }
-        None => Ok(logs),
-    }
 }
 
 impl<A: Allocator> Memory<A> {
@@ -143,7 +122,7 @@ impl<A: Allocator + Clone> Memory<A> {
     {
         let alloc = self.allocator();
         let records = table_records(alloc.clone()?, &next.levels)?;
-        let logs = kept_logs(alloc.clone()?, &self.regions, next.flush)?;
+        let logs = self.regions.log_records(alloc.clone()?, next.flush)?;
         Ok(Manifest::new(
             self.regions.generation + 1,
             self.next_base(next.flush),
