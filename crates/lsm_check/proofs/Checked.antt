@@ -15,7 +15,7 @@ use Rattle.lsm_open.specs.Counting.{with_tables, IsCountedRoot}
 use Rattle.lsm_open.specs.CrashState.{CrashState}
 use Rattle.lsm_open.specs.Image.{count_in, HoldNamed, StandFor}
 use Rattle.lsm_open.specs.Tables.{first_data, table_versions}
-use Rattle.lsm_open.specs.ToldTables.{told_tables, extent_of, records_of_runs, records_of_levels, HaveNamed}
+use Rattle.lsm_open.specs.ToldTables.{told_tables, record_extent, records_of_runs, records_of_levels, HaveNamed}
 use Rattle.lsm_open.proofs.CountedTables.{counted_one, counted_all, same_versions, manifest_counted}
 use Rattle.lsm_open.proofs.OneMeaning.{same_stands}
 use Rattle.lsm_open.proofs.OpenedStores.{named_here}
@@ -55,13 +55,13 @@ few_tables m levels is named = omega (arith, counted_runs 0 levels.runs levels.d
 
 module _ (n : ℕ) (s : List (List ℕ)) where
   -- counts change no extent
-  none_covers : (block : ℕ) (ts : List TableRecord) → list_any (λ t. covers block (extent_of t)) (counted_all n s ts) ≡ list_any (λ t. covers block (extent_of t)) ts
+  none_covers : (block : ℕ) (ts : List TableRecord) → list_any (λ t. covers block (record_extent t)) (counted_all n s ts) ≡ list_any (λ t. covers block (record_extent t)) ts
   none_covers block [] = refl
-  none_covers block (t ∷ ts) = ap (λ (b : Bool). covers block (extent_of t) || b) (none_covers block ts)
+  none_covers block (t ∷ ts) = ap (λ (b : Bool). covers block (record_extent t) || b) (none_covers block ts)
 
   same_blocks : (blocks : ℕ) (ts : List TableRecord) → blocks_in_none blocks (counted_all n s ts) ≡ blocks_in_none blocks ts
   same_blocks blocks ts =
-      count_same (λ block. not (list_any (λ t. covers block (extent_of t)) (counted_all n s ts))) (λ block. not (list_any (λ t. covers block (extent_of t)) ts)) blocks (λ k below. ap not (none_covers k ts))
+      count_same (λ block. not (list_any (λ t. covers block (record_extent t)) (counted_all n s ts))) (λ block. not (list_any (λ t. covers block (record_extent t)) ts)) blocks (λ k below. ap not (none_covers k ts))
 
   module _ (m : Contents) (root : IsCountedRoot n m s) (holds : HoldNamed n m s) where
     -- what the counted manifest names the sectors hold by the one that stands

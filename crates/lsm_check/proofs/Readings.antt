@@ -13,23 +13,23 @@ use Rattle.lsm_open.specs.CrashState.{CrashState}
 use Rattle.lsm_open.specs.Image.{count_in, StandFor}
 use Rattle.lsm_open.specs.LogRegions.{follow_on}
 use Rattle.lsm_open.specs.Reopening.{GoesOn}
-use Rattle.lsm_open.specs.ToldTables.{extent_of, Held}
+use Rattle.lsm_open.specs.ToldTables.{record_extent, Held}
 use Rattle.lsm_open.specs.declared.replayed.Replayed.{Replayed}
 use Rattle.lsm_open.proofs.OpenedStores.{named_here}
-use Rattle.lsm_check.specs.Images.{blocks_in_none, IsShortRefusal}
+use Rattle.lsm_check.specs.Images.{blocks_in_none, IsNoMemoryOrIo}
 use Rattle.lsm_check.specs.Named.{HasBatches}
 
 -- ---- what is short
 
-pub short_memory : (e : Refusal) → (e ≡ NoMemory) ⊎ (e ≡ Io) → IsShortRefusal e
-short_memory e (inl is) = subst IsShortRefusal (sym is) tt
-short_memory e (inr is) = subst IsShortRefusal (sym is) tt
+pub short_memory : (e : Refusal) → (e ≡ NoMemory) ⊎ (e ≡ Io) → IsNoMemoryOrIo e
+short_memory e (inl is) = subst IsNoMemoryOrIo (sym is) tt
+short_memory e (inr is) = subst IsNoMemoryOrIo (sym is) tt
 
-pub short_fault : (e : Refusal) → e ≡ Io → IsShortRefusal e
-short_fault e is = subst IsShortRefusal (sym is) tt
+pub short_fault : (e : Refusal) → e ≡ Io → IsNoMemoryOrIo e
+short_fault e is = subst IsNoMemoryOrIo (sym is) tt
 
 -- where regions follow on, a replay is refused for nothing else
-pub short_replay : (e : Refusal) (follows : Bool) → follows ≡ true → ((e ≡ BadManifest) × (follows ≡ false)) ⊎ ((e ≡ NoMemory) ⊎ (e ≡ Io)) → IsShortRefusal e
+pub short_replay : (e : Refusal) (follows : Bool) → follows ≡ true → ((e ≡ BadManifest) × (follows ≡ false)) ⊎ ((e ≡ NoMemory) ⊎ (e ≡ Io)) → IsNoMemoryOrIo e
 short_replay e follows on (inl found) = absurd (false≢true (sym found.1 ∙ on))
 short_replay e follows on (inr other) = short_memory e other
 
@@ -57,6 +57,6 @@ count_same p q (suc k) same =
 pub free_counted : (blocks : ℕ) (tables : List TableRecord) (area : Area) → Held blocks tables area → free_count area ≡ blocks_in_none blocks tables
 free_counted blocks tables area held =
     ap (λ (n : ℕ). count_below (is_free area) n) held.size
-    ∙ count_same (is_free area) (λ block. not (list_any (λ t. covers block (extent_of t)) tables)) blocks
+    ∙ count_same (is_free area) (λ block. not (list_any (λ t. covers block (record_extent t)) tables)) blocks
     (λ k below. let inside : ltb k area.blocks ≡ true = lt-ltb k area.blocks (subst (λ (n : ℕ). k < n) (sym held.size) below) in
     ap (λ (b : Bool). b && not (is_held area.held k)) inside ∙ ap not (held.only k))

@@ -6,19 +6,19 @@ use Rattle.lsm_device.specs.declared.refusal.Refusal.TheVariants.{NoMemory, Io, 
 use Rattle.lsm_open.specs.ToldTables.{IsTableRefusal}
 use Rattle.lsm_root.specs.Loaded.{refusal_of}
 use Rattle.lsm_root.specs.Roots.{Root, Missing, Damaged, OtherSize, Unreadable, Stands}
-use Rattle.lsm_check.specs.Images.{IsShortRefusal, IsCheckRefusal}
+use Rattle.lsm_check.specs.Images.{IsNoMemoryOrIo, IsCheckRefusal}
 
 -- of bytes in memory
 pub no_fault : (e : Refusal) (P : Type 0) → (e ≡ NoMemory) ⊎ ((e ≡ BadTable) × P) → is_no_fault e ≡ true
 no_fault e P (inl none) = ap is_no_fault none
 no_fault e P (inr bad) = ap is_no_fault bad.0
 
-pub passed_on : (e : Refusal) (P Q : Type 0) → (P → Q) → (e ≡ NoMemory) ⊎ ((e ≡ BadTable) × P) → IsShortRefusal e ⊎ ((e ≡ BadTable) × Q)
-passed_on e P Q more (inl none) = inl (subst IsShortRefusal (sym none) tt)
+pub passed_on : (e : Refusal) (P Q : Type 0) → (P → Q) → (e ≡ NoMemory) ⊎ ((e ≡ BadTable) × P) → IsNoMemoryOrIo e ⊎ ((e ≡ BadTable) × Q)
+passed_on e P Q more (inl none) = inl (subst IsNoMemoryOrIo (sym none) tt)
 passed_on e P Q more (inr bad) = inr (bad.0, more bad.1)
 
 -- where the bytes spell some
-pub only_short : (e : Refusal) (P : Type 0) → (P → ⊥) → IsShortRefusal e ⊎ P → IsShortRefusal e
+pub only_short : (e : Refusal) (P : Type 0) → (P → ⊥) → IsNoMemoryOrIo e ⊎ P → IsNoMemoryOrIo e
 only_short e P none (inl short) = short
 only_short e P none (inr bad) = absurd (none bad)
 
@@ -28,12 +28,12 @@ pub memory_refused : (e : Refusal) → (e ≡ NoMemory) ⊎ (e ≡ Io) → IsChe
 memory_refused e (inl is) = subst IsCheckRefusal (sym is) tt
 memory_refused e (inr is) = subst IsCheckRefusal (sym is) tt
 
-short_refused : (e : Refusal) → IsShortRefusal e → IsCheckRefusal e
+short_refused : (e : Refusal) → IsNoMemoryOrIo e → IsCheckRefusal e
 short_refused NoMemory short = tt
 short_refused Io short = tt
 short_refused other short = absurd short
 
-pub block_refused : (e : Refusal) (P : Type 0) → IsShortRefusal e ⊎ ((e ≡ BadTable) × P) → IsCheckRefusal e
+pub block_refused : (e : Refusal) (P : Type 0) → IsNoMemoryOrIo e ⊎ ((e ≡ BadTable) × P) → IsCheckRefusal e
 block_refused e P (inl short) = short_refused e short
 block_refused e P (inr bad) = subst IsCheckRefusal (sym bad.0) tt
 

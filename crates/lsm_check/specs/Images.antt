@@ -10,7 +10,7 @@ use Rattle.lsm_device.specs.declared.refusal.Refusal.TheVariants.{NoMemory, Io, 
 use Rattle.lsm_extent.specs.Area.{covers, count_below}
 use Rattle.lsm_open.specs.Image.{count_in, HoldNamed}
 use Rattle.lsm_open.specs.Tables.{table_versions}
-use Rattle.lsm_open.specs.ToldTables.{extent_of}
+use Rattle.lsm_open.specs.ToldTables.{record_extent}
 use Rattle.lsm_root.specs.Roots.{Stands, root_of}
 use Rattle.lsm_check.specs.declared.finding.Finding.{Finding}
 use Rattle.lsm_check.specs.declared.finding.Finding.TheVariants.{Refused}
@@ -18,7 +18,7 @@ use Rattle.lsm_check.specs.declared.report.Report.{Report}
 
 -- how many blocks of a data area are in none of these tables
 abbrev pub blocks_in_none : ℕ → List TableRecord → ℕ
-blocks_in_none blocks tables = count_below (λ block. not (list_any (λ t. covers block (extent_of t)) tables)) blocks
+blocks_in_none blocks tables = count_below (λ block. not (list_any (λ t. covers block (record_extent t)) tables)) blocks
 
 -- The sectors of a device of this size are the image of a store, and these are its numbers: a manifest stands there, of either
 -- version of the format, and they hold what it names.
@@ -34,14 +34,14 @@ pub record IsImage (size : ℕ) (sectors : List (List ℕ)) (report : Report) : 
   pub free_blocks : report.free_blocks ≡ blocks_in_none (data_blocks_of size log_sectors) manifest.tables
 
 -- a finding that says nothing of what the device holds: there was no memory, or a read faulted
-abbrev pub IsShortRefusal : Refusal → Type 0
-IsShortRefusal NoMemory = Unit {0}
-IsShortRefusal Io = Unit {0}
-IsShortRefusal other = ⊥
+abbrev pub IsNoMemoryOrIo : Refusal → Type 0
+IsNoMemoryOrIo NoMemory = Unit {0}
+IsNoMemoryOrIo Io = Unit {0}
+IsNoMemoryOrIo other = ⊥
 
-abbrev pub IsShort : Finding → Type 0
-IsShort (Refused refusal) = IsShortRefusal refusal
-IsShort other = ⊥
+abbrev pub IsNoVerdict : Finding → Type 0
+IsNoVerdict (Refused refusal) = IsNoMemoryOrIo refusal
+IsNoVerdict other = ⊥
 
 -- the refusals that a check may end with, of any device
 abbrev pub IsCheckRefusal : Refusal → Type 0

@@ -15,7 +15,7 @@ ghost use Rattle.lsm_open.specs.ToldTables.{Held};
 ghost use Rattle.lsm_root.specs.Layout.{IsDeviceSize};
 ghost use Rattle.lsm_root.specs.Roots.{root_of};
 ghost use Rattle.lsm_check.specs.Counted.{ReadsBetween, IsReadFor};
-ghost use Rattle.lsm_check.specs.Images.{blocks_in_none, IsImage, IsShort, IsShortRefusal, IsCheckRefusal, IsCheckFinding, is_faultless};
+ghost use Rattle.lsm_check.specs.Images.{blocks_in_none, IsImage, IsNoVerdict, IsNoMemoryOrIo, IsCheckRefusal, IsCheckFinding, is_faultless};
 ghost use Rattle.lsm_check.specs.Named.{AreNamed, AreToldBy, HasBatches};
 
 use crate::epochs::has_none_above;
@@ -49,7 +49,7 @@ fn count_batches<A: Allocator + Clone, D: Device>(
     ensures counted { IsTrue (D.medium device.old).lasting.tells → IfOk result
         (HasBatches loaded.now.log_sectors (seen (disk (D.medium device.old))) loaded.now.manifest) }
     ensures fair { (batches : ℕ) → IsTrue (D.medium device.old).lasting.tells
-        → HasBatches loaded.now.log_sectors (seen (disk (D.medium device.old))) loaded.now.manifest batches → IfErr result IsShortRefusal }
+        → HasBatches loaded.now.log_sectors (seen (disk (D.medium device.old))) loaded.now.manifest batches → IfErr result IsNoMemoryOrIo }
     ensures refused { IfErr result IsCheckRefusal }
     ensures device { ReadsAtMost (6 * loaded.now.log_sectors) (faultless result) (D.medium device.old) (D.medium device.new) }
     ensures whole { OnOk result (ReadsBetween (3 * loaded.now.log_sectors) (6 * loaded.now.log_sectors) (D.medium device.old).calls (D.medium device.new).calls) }
@@ -72,7 +72,7 @@ fn read_named<A: Allocator + Clone, D: Device>(
     ensures told { IsTrue (D.medium device.old).lasting.tells → IfOk result (λ n.
         AreToldBy n.loaded.log_sectors (seen (disk (D.medium device.old))) n.loaded.manifest n.tables.levels n.batches) }
     ensures fair { (log_sectors : ℕ) (left : CrashState) → IsTrue (D.medium device.old).lasting.tells → StandFor log_sectors left (seen (disk (D.medium device.old)))
-        → IfErr result IsShortRefusal }
+        → IfErr result IsNoMemoryOrIo }
     ensures refused { IfErr result IsCheckRefusal }
     ensures reads { IsTrue (D.medium device.old).lasting.tells → AtMost (69698 + 8 * uncounted_by (root_of (seen (disk (D.medium device.old))))) 0 0 (D.medium device.old).calls (D.medium device.new).calls }
     ensures device { ReadsAtMost 593986 (faultless result) (D.medium device.old) (D.medium device.new) }
@@ -111,7 +111,7 @@ fn report_of<A: Allocator>(named: &Named<A>, entries: u64) -> Report
 fn check_all<A: Allocator + Clone, D: Device>(alloc: &A, device: &mut D) -> Result<Report, Finding>
     ensures yes { IsTrue (D.medium device.old).lasting.tells → IfOk result (IsImage (D.medium device.old).size (seen (disk (D.medium device.old)))) }
     ensures image { (log_sectors : ℕ) (left : CrashState) → IsTrue (D.medium device.old).lasting.tells → StandFor log_sectors left (seen (disk (D.medium device.old)))
-        → IfErr result IsShort }
+        → IfErr result IsNoVerdict }
     ensures refused { IfErr result IsCheckFinding }
     ensures reads { IsTrue (D.medium device.old).lasting.tells → AtMost (593986 + 8 * uncounted_by (root_of (seen (disk (D.medium device.old))))) 0 0 (D.medium device.old).calls (D.medium device.new).calls }
     ensures device { ReadsAtMost 1118274 (is_faultless result) (D.medium device.old) (D.medium device.new) }
@@ -142,7 +142,7 @@ pub fn check<A: Allocator + Clone, D: Device>(alloc: A, device: &mut D) -> Resul
 
     // Of the image of a store it finds nothing wrong.
     ensures image { (log_sectors : ℕ) (left : CrashState) → IsTrue (D.medium device.old).lasting.tells → StandFor log_sectors left (seen (disk (D.medium device.old)))
-        → IfErr result IsShort }
+        → IfErr result IsNoVerdict }
     ensures size { (IsDeviceSize (D.medium device.old).size → ⊥) → (result ≡ Err (Finding.Refused Refusal.BadGeometry)) × (device.new ≡ device.old) }
 
     // Of any device, whether it tells what it holds or not, a refusal is one of these.

@@ -8,7 +8,7 @@ ghost use Rattle.lsm_device.specs.Refusals.{faultless};
 ghost use Rattle.lsm_levels.specs.Stored.{LiesWithin, IsStored};
 ghost use Rattle.lsm_open.specs.ReadParts.{ReadsAtMost};
 ghost use Rattle.lsm_check.specs.Counted.{ReadsBetween};
-ghost use Rattle.lsm_check.specs.Images.{IsShort, IsShortRefusal, IsCheckRefusal, IsCheckFinding, is_faultless};
+ghost use Rattle.lsm_check.specs.Images.{IsNoVerdict, IsNoMemoryOrIo, IsCheckRefusal, IsCheckFinding, is_faultless};
 ghost use Rattle.lsm_check.specs.Sound.{AreRead, ends_with};
 
 use crate::finding::Finding;
@@ -41,7 +41,7 @@ fn read_entries<D: Device, A: Allocator + Clone>(
     requires { sector + 8 ≤ (D.medium device.old).size }
     ensures spelled { IsTrue (D.medium device.old).lasting.tells → IfOk result (λ entries.
         block_of (block_at (seen (disk (D.medium device.old))) sector) ≡ Some entries.items) }
-    ensures refused { IfErr result (λ refusal. IsShortRefusal refusal ⊎ ((refusal ≡ Refusal.BadTable)
+    ensures refused { IfErr result (λ refusal. IsNoMemoryOrIo refusal ⊎ ((refusal ≡ Refusal.BadTable)
         × (IsTrue (D.medium device.old).lasting.tells → block_of (block_at (seen (disk (D.medium device.old))) sector) ≡ None))) }
     ensures device { ReadsAtMost 8 (faultless result) (D.medium device.old) (D.medium device.new) }
     ensures whole { OnOk result (ReadsBetween 8 8 (D.medium device.old).calls (D.medium device.new).calls) }
@@ -79,7 +79,7 @@ fn add_block<D: Device, A: Allocator + Clone>(
         → AreRead (seen (disk (D.medium device.old))) area (place + 1) table.now entries.new.items) }
     ensures stored { IsTrue (D.medium device.old).lasting.tells → IsStored (seen (disk (D.medium device.old))) area table.now → before ≡ true
         → IfOk result (λ ends. ends ≡ true) }
-    ensures fair { IsTrue (D.medium device.old).lasting.tells → IsStored (seen (disk (D.medium device.old))) area table.now → IfErr result IsShortRefusal }
+    ensures fair { IsTrue (D.medium device.old).lasting.tells → IsStored (seen (disk (D.medium device.old))) area table.now → IfErr result IsNoMemoryOrIo }
     ensures refused { IfErr result IsCheckRefusal }
     ensures device { ReadsAtMost 8 (faultless result) (D.medium device.old) (D.medium device.new) }
     ensures whole { OnOk result (ReadsBetween 8 8 (D.medium device.old).calls (D.medium device.new).calls) }
@@ -103,7 +103,7 @@ pub(crate) fn entries_of<D: Device, A: Allocator + Clone>(
     requires { LiesWithin (D.medium device.old).size area table.now }
     ensures read { IsTrue (D.medium device.old).lasting.tells → IfOk result (λ entries.
         AreRead (seen (disk (D.medium device.old))) area (length table.now.outline.edges) table.now entries.items) }
-    ensures fair { IsTrue (D.medium device.old).lasting.tells → IsStored (seen (disk (D.medium device.old))) area table.now → IfErr result IsShort }
+    ensures fair { IsTrue (D.medium device.old).lasting.tells → IsStored (seen (disk (D.medium device.old))) area table.now → IfErr result IsNoVerdict }
     ensures refused { IfErr result IsCheckFinding }
     ensures device { ReadsAtMost 512 (is_faultless result) (D.medium device.old) (D.medium device.new) }
     ensures whole { OnOk result (ReadsBetween (8 * length table.now.outline.edges) 512 (D.medium device.old).calls (D.medium device.new).calls) }

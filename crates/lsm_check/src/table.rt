@@ -10,7 +10,7 @@ ghost use Rattle.lsm_levels.specs.Orders.{IsNewerPlace};
 ghost use Rattle.lsm_levels.specs.Stored.{LiesWithin};
 ghost use Rattle.lsm_open.specs.ReadParts.{ReadsAtMost};
 ghost use Rattle.lsm_check.specs.Counted.{ReadsBetween};
-ghost use Rattle.lsm_check.specs.Images.{IsShort, IsCheckFinding, is_faultless};
+ghost use Rattle.lsm_check.specs.Images.{IsNoVerdict, IsCheckFinding, is_faultless};
 ghost use Rattle.lsm_check.specs.Seen.{IsSeen};
 ghost use Rattle.lsm_check.specs.Sound.{tells_entries, Fits, IsTold, IsSound};
 
@@ -146,7 +146,7 @@ pub(crate) fn check_table<D: Device, A: Allocator + Clone>(
         → IsTold (seen (disk (D.medium device.old))) area table.now → OnOk result
         (IsSound (seen (disk (D.medium device.old))) area base table.now × IsNewerPlace versions table.now.versions × IsSeen (versions ++ table.now.versions) so_far.new) }
     ensures fair { (versions : List Version) → IsSeen versions so_far.old → IsTrue (D.medium device.old).lasting.tells
-        → IsSound (seen (disk (D.medium device.old))) area base table.now → IsNewerPlace versions table.now.versions → IfErr result IsShort }
+        → IsSound (seen (disk (D.medium device.old))) area base table.now → IsNewerPlace versions table.now.versions → IfErr result IsNoVerdict }
     ensures few { OnOk result (so_far.new.entries ≤ so_far.old.entries + 3200) }
     ensures refused { IfErr result IsCheckFinding }
     ensures device { ReadsAtMost 512 (is_faultless result) (D.medium device.old) (D.medium device.new) }

@@ -25,7 +25,7 @@ use Rattle.lsm_requests.specs.Refusing.{FaultsWith, IsRefusalOf, MayRefuse}
 use Rattle.lsm_requests.specs.Loading.{loaded_line}
 use Rattle.lsm_requests.proofs.EndingLaws.{answer_status-at_most}
 use Rattle.lsm_requests.specs.Endings.{PrintsAnswer, PrintsFault, Written, status_after}
-use Rattle.lsm_cli.specs.Runs.{AskNothing, Fails, HasServed, IsDone, IsElsewhere, IsRead, IsRequested, IsRun, IsServed, IsTold, IsTried, Shows, has_dash, shows_nothing, shows_rows, shows_number, shows_failure}
+use Rattle.lsm_cli.specs.Runs.{AskNothing, Fails, HasServed, IsDone, IsOtherReason, IsRead, IsRequested, IsRun, IsServed, IsTold, IsRequestRefused, Shows, has_dash, shows_nothing, shows_rows, shows_number, shows_failure}
 use Rattle.lsm_cli.proofs.ProgramLaws.{has_words-asked}
 
 -- ---- words that ask for nothing
@@ -130,10 +130,10 @@ module _ (words : List Text) (input output output_after : Option (List ℕ)) (as
   done : (r : Request) → Says asked text r → IsDone words input
   done r says = record { request = r; requested = asked_for r says }
 
-  tried : (r : Request) → Says asked text r → (e : Refusal) → MayRefuse r e → IsTried words input e
+  tried : (r : Request) → Says asked text r → (e : Refusal) → MayRefuse r e → IsRequestRefused words input e
   tried r says e may = record { request = r; requested = asked_for r says; refused = may }
 
-  dumps : (path : Bor (List ℕ)) → Says asked text (request.Dump path) → (reason : Reason) → IsRefusalOr reason → IsElsewhere words input reason
+  dumps : (path : Bor (List ℕ)) → Says asked text (request.Dump path) → (reason : Reason) → IsRefusalOr reason → IsOtherReason words input reason
   dumps path says mistake is = absurd is
   dumps path says (refusal e) is = inr (tried (request.Dump path) says e tt)
   dumps path says in_use is = absurd is
@@ -186,7 +186,7 @@ module _ (words : List Text) (input output output_after : Option (List ℕ)) (as
   fails_with other says reason (is, same) = plain other says reason is same
 
   -- with which refusal it was tried
-  refused_with : (r : Request) → Says asked text r → (e : Refusal) → FaultsWith r input (refusal e) output output_after → IsTried words input e
+  refused_with : (r : Request) → Says asked text r → (e : Refusal) → FaultsWith r input (refusal e) output output_after → IsRequestRefused words input e
   refused_with (request.Dump path) says e is = tried (request.Dump path) says e tt
   refused_with (request.Load path) says e is = tried (request.Load path) says e tt
   refused_with (request.Serve path) says e is = tried (request.Serve path) says e tt

@@ -79,7 +79,7 @@ pub record IsDone (words : List Text) (input : Option (List ℕ)) : Type 0 where
   pub requested : IsRequested words input request
 
 -- nothing is wrong with them, and what they ask for was refused so, as such a request may be
-pub record IsTried (words : List Text) (input : Option (List ℕ)) (r : Refusal) : Type 0 where
+pub record IsRequestRefused (words : List Text) (input : Option (List ℕ)) (r : Refusal) : Type 0 where
   pub request : Request
   pub requested : IsRequested words input request
   pub refused : MayRefuse request r
@@ -98,16 +98,16 @@ pub record HasNoRow (words : List Text) (input : Option (List ℕ)) : Type 0 whe
   pub none : IfSome input (λ all. are_rows (lines_in all) ≡ false)
 
 -- a reason that is no part of words and script that were read
-abbrev pub IsElsewhere : List Text → Option (List ℕ) → Reason → Type 0
-IsElsewhere words input mistake = AskNothing words ⊎ HasNoRow words input
-IsElsewhere words input (refusal r) = (r ≡ NoMemory) ⊎ IsTried words input r
-IsElsewhere words input in_use = IsTried words input Io
-IsElsewhere words input unread = IsUnread words
-IsElsewhere words input unwritten = IsDone words input
+abbrev pub IsOtherReason : List Text → Option (List ℕ) → Reason → Type 0
+IsOtherReason words input mistake = AskNothing words ⊎ HasNoRow words input
+IsOtherReason words input (refusal r) = (r ≡ NoMemory) ⊎ IsRequestRefused words input r
+IsOtherReason words input in_use = IsRequestRefused words input Io
+IsOtherReason words input unread = IsUnread words
+IsOtherReason words input unwritten = IsDone words input
 
 -- Why there is no answer. A mistake is one of the words or of the script, and nothing was done, or a line that is no row.
 abbrev pub Fails : List Text → Option (List ℕ) → Reason → Type 0
-Fails words input reason = IsWrong words input reason ⊎ IsElsewhere words input reason
+Fails words input reason = IsWrong words input reason ⊎ IsOtherReason words input reason
 
 -- What is printed of a run that fails: nothing; of rows that were dumped before a refusal some lines; and of rows that were
 -- loaded before a fault their number.

@@ -33,12 +33,12 @@ use Rattle.lsm_jobs.specs.Refusing.{HasInput, HasOtherInput, IsNotFrozen, Refuse
 -- ---- the blocks of a table
 
 -- those of an image
-pub blocks_are : (image : TableBlocks) (t : Table) → IsTableOf image t → blocks_of t ≡ laid.extent_of t.number (filter_of (keys_of image)) image
+pub blocks_are : (image : TableBlocks) (t : Table) → IsTableOf image t → blocks_of t ≡ laid.extent_in_blocks t.number (filter_of (keys_of image)) image
 blocks_are image t of =
     let only : blocks (entries_of image) ≡ image = sym (only_blocks (entries_of image) image of.is.nonempty of.is.in_blocks) in
-    ap (λ (x : Table). laid.extent_of t.number x.outline.filter (blocks x.versions)) of.same ∙ ap (laid.extent_of t.number (filter_of (keys_of image))) only
+    ap (λ (x : Table). laid.extent_in_blocks t.number x.outline.filter (blocks x.versions)) of.same ∙ ap (laid.extent_in_blocks t.number (filter_of (keys_of image))) only
 
-size_is : (image : TableBlocks) (number : ℕ) (filter : List ℕ) → length (laid.extent_of number filter image) ≡ extent_size image
+size_is : (image : TableBlocks) (number : ℕ) (filter : List ℕ) → length (laid.extent_in_blocks number filter image) ≡ extent_size image
 size_is image number filter =
     omega (
       arith,

@@ -6,7 +6,7 @@ use Rattle.lsm_merge.specs.Inputs.{MergeInput, joined}
 use Rattle.lsm_levels.specs.Tables.{Table, versions_of}
 use Rattle.lsm_levels.specs.Levels.{Levels, places}
 use Rattle.lsm_levels.specs.Orders.{IsNewerPlace}
-use Rattle.lsm_levels.specs.Pick.{Job, Flush, Merge, installed}
+use Rattle.lsm_levels.specs.Pick.{Job, Flush, Merge, installed_levels}
 use Rattle.lsm_levels.specs.Held.{AreRuns, IsHeld, AreOutputs, AreOrdered, AreRanged}
 use Rattle.lsm_levels.proofs.Members.{among_left, among_right}
 use Rattle.lsm_levels.proofs.Parts.{all_map}
@@ -43,7 +43,7 @@ module _ (levels : Levels) (input : MergeInput) (outputs : List Table) (runs : A
   newer place h = all_of (λ v. AllByRecursion (λ w. v.key ≡ w.key → w.number < v.number) place) (versions_of outputs)
       (λ v a. of_all (λ u. AllByRecursion (λ w. u.key ≡ w.key → w.number < u.number) place) (joined input.runs) h v (made_among input outputs made v a))
 
-  stay_ordered : (job : Job) → IsHeld levels input.bottom job → IsInputOf levels job input → AreOrdered (installed levels job outputs)
+  stay_ordered : (job : Job) → IsHeld levels input.bottom job → IsInputOf levels job input → AreOrdered (installed_levels levels job outputs)
   stay_ordered Flush held is = flush_law levels outputs ordered (all_map newer (map versions_of (places levels)) is.1) (made_ranged input outputs made)
   stay_ordered (Merge i upper lower) held is = order_law levels input.bottom i upper lower outputs runs held ordered (replaces i upper lower held is).versions (made_ranged input outputs made)
 
@@ -58,5 +58,5 @@ install_law levels next job slots slot outputs runs ordered kept found is made =
       are_outputs = outs;
       runs = runs_law levels slot.input.bottom slot.job outputs runs held outs;
       ordered = stay_ordered levels slot.input outputs runs ordered made slot.job held is;
-      kept = subst (λ (n : ℕ). AreKept (installed levels slot.job outputs) next (with_held n None slots)) number (installing_law levels next slots slot outputs runs kept own outs);
+      kept = subst (λ (n : ℕ). AreKept (installed_levels levels slot.job outputs) next (with_held n None slots)) number (installing_law levels next slots slot outputs runs kept own outs);
     }

@@ -49,7 +49,7 @@ pub record IsBlockAt (images : List TableBlocks) (tables : List Table) (at k b :
   pub within : k < length tables
   pub block : (d : TableBlocks) → b < extent_size (get_or images k d)
   pub one : (t : Table) (image : TableBlocks) → t ≡ get_or tables k t → image ≡ get_or images k image
-      → take 1 (drop at (placed_blocks tables)) ≡ record { at = t.start + b; bytes = get_or (laid.extent_of t.number (filter_of (keys_of image)) image) b [] } ∷ []
+      → take 1 (drop at (placed_blocks tables)) ≡ record { at = t.start + b; bytes = get_or (laid.extent_in_blocks t.number (filter_of (keys_of image)) image) b [] } ∷ []
   pub ends : (t : Table) (size area : ℕ) → t ≡ get_or tables k t → AllByRecursion (EndsWithin size area) tables → EndsWithin size area t
   pub size : (t : Table) (image : TableBlocks) → t ≡ get_or tables k t → image ≡ get_or images k image → IsTableOf image t
 
@@ -82,9 +82,9 @@ block_at (image ∷ images) (t ∷ tables) n at i b of e = by (block_at images t
                 let im_is : other ≡ image = is_image ∙ ap (λ (k : ℕ). get_or (image ∷ images) k other) none in
                 one_of_run t.start at (blocks_of t) (placed_blocks tables) (omega (arith, below, count))
                 ∙ ap (λ (bs : List (List ℕ)). let w : Write = record { at = t.start + at; bytes = get_or bs at [] } in w ∷ []) (blocks_are image t of.0)
-                ∙ ap (λ (k : ℕ). let w : Write = record { at = t.start + k; bytes = get_or (laid.extent_of t.number (filter_of (keys_of image)) image) k [] } in w ∷ []) second
-                ∙ ap (λ (x : Table). let w : Write = record { at = x.start + b; bytes = get_or (laid.extent_of x.number (filter_of (keys_of image)) image) b [] } in w ∷ []) (sym tt_is)
-                ∙ ap (λ (x : TableBlocks). let w : Write = record { at = u.start + b; bytes = get_or (laid.extent_of u.number (filter_of (keys_of x)) x) b [] } in w ∷ []) (sym im_is);
+                ∙ ap (λ (k : ℕ). let w : Write = record { at = t.start + k; bytes = get_or (laid.extent_in_blocks t.number (filter_of (keys_of image)) image) k [] } in w ∷ []) second
+                ∙ ap (λ (x : Table). let w : Write = record { at = x.start + b; bytes = get_or (laid.extent_in_blocks x.number (filter_of (keys_of image)) image) b [] } in w ∷ []) (sym tt_is)
+                ∙ ap (λ (x : TableBlocks). let w : Write = record { at = u.start + b; bytes = get_or (laid.extent_in_blocks u.number (filter_of (keys_of x)) x) b [] } in w ∷ []) (sym im_is);
             ends = λ u size area is_t all. subst (EndsWithin size area) (sym (is_t ∙ ap (λ (k : ℕ). get_or (t ∷ tables) k u) none)) all.0;
             size = λ u other is_t is_image.
                 let tt_is : u ≡ t = is_t ∙ ap (λ (k : ℕ). get_or (t ∷ tables) k u) none in

@@ -5,7 +5,7 @@ use Rattle.lsm_merge.specs.Inputs.{MergeInput, joined}
 use Rattle.lsm_levels.specs.Tables.{Table, versions_of}
 use Rattle.lsm_levels.specs.Levels.{Levels, places}
 use Rattle.lsm_levels.specs.Orders.{IsNewerPlace}
-use Rattle.lsm_levels.specs.Pick.{Job, Flush, Merge, installed}
+use Rattle.lsm_levels.specs.Pick.{Job, Flush, Merge, installed_levels}
 use Rattle.lsm_levels.specs.Held.{AreRuns, IsHeld, AreOutputs, AreOrdered}
 use Rattle.lsm_jobs.specs.Gathering.{run_if_some}
 use Rattle.lsm_jobs.specs.Slots.{Slot, Slots, slot_of, with_held}
@@ -24,9 +24,9 @@ IsInputOf levels (Merge level upper lower) input = input.runs ≡ versions_of up
 pub record CanBeInstalled (levels : Levels) (next job : ℕ) (slots : Slots) (slot : Slot) (outputs : List Table) : Type 0 where
   pub held : IsHeld levels slot.input.bottom slot.job
   pub are_outputs : AreOutputs slot.job outputs
-  pub runs : AreRuns (installed levels slot.job outputs)
-  pub ordered : AreOrdered (installed levels slot.job outputs)
-  pub kept : AreKept (installed levels slot.job outputs) next (with_held job None slots)
+  pub runs : AreRuns (installed_levels levels slot.job outputs)
+  pub ordered : AreOrdered (installed_levels levels slot.job outputs)
+  pub kept : AreKept (installed_levels levels slot.job outputs) next (with_held job None slots)
 
 -- Outputs that are made of a job's input may be installed.
 abbrev pub InstallLaw : Type 0

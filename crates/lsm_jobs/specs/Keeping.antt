@@ -3,7 +3,7 @@ use Rattle.std.specs.Prelude.{◌≡◌, ◌≢◌, ℕ, suc, ◌<◌, List, [],
 use Rattle.lsm_levels.specs.Among.{IsAmong}
 use Rattle.lsm_levels.specs.Tables.{Table}
 use Rattle.lsm_levels.specs.Levels.{Levels}
-use Rattle.lsm_levels.specs.Pick.{is_bottom, installed}
+use Rattle.lsm_levels.specs.Pick.{is_bottom, installed_levels}
 use Rattle.lsm_levels.specs.Held.{AreRuns, IsHeld, AreApart, AreOutputs, MayTake}
 use Rattle.lsm_jobs.specs.Slots.{Slot, Slots, slot_of, held_jobs, with_slot, with_held}
 
@@ -28,7 +28,7 @@ TakingLaw = (levels : Levels) (next : ℕ) (slots : Slots) (new : Slot) → AreK
 -- an install of one job's outputs, whose slot is free then
 abbrev pub InstallingLaw : Type 0
 InstallingLaw = (levels : Levels) (next : ℕ) (slots : Slots) (one : Slot) (new : List Table) → AreRuns levels → AreKept levels next slots → slot_of one.number slots ≡ Some one → AreOutputs one.job new
-    → AreKept (installed levels one.job new) next (with_held one.number None slots)
+    → AreKept (installed_levels levels one.job new) next (with_held one.number None slots)
 
 -- one job goes on, with its tables and its bottom flag
 abbrev pub GoingOnLaw : Type 0

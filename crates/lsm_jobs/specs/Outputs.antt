@@ -6,7 +6,7 @@ use Rattle.lsm_device.specs.Runs.{run_at}
 pub use Rattle.lsm_device.specs.Runs.{pieces as in_sectors}
 use Rattle.lsm_table.specs.Division as division
 use Rattle.lsm_table.specs.Division.{TableBlocks, IsTable, IsTables}
-use Rattle.lsm_table.specs.Extents.{extent_of, extent_size}
+use Rattle.lsm_table.specs.Extents.{extent_in_blocks, extent_size}
 use Rattle.lsm_merge.specs.Inputs.{MergeInput, kept_of}
 use Rattle.lsm_levels.specs.Tables.{Table, table_of}
 
@@ -30,7 +30,7 @@ pub record AreMadeOf (input : MergeInput) (tables : List Table) : Type 0 where
 
 -- the blocks of a table's extent: its data blocks, which its versions fill in order, filter, index and footer
 abbrev pub blocks_of : Table → List (List ℕ)
-blocks_of t = extent_of t.number t.outline.filter (division.blocks t.versions)
+blocks_of t = extent_in_blocks t.number t.outline.filter (division.blocks t.versions)
 
 -- the blocks of tables, one after the other, each with its place in the data area
 abbrev pub placed_blocks : List Table → List Write

@@ -30,7 +30,7 @@ next_of None = []
 next_of (Some slot) = next_at slot.stage
 
 -- The next blocks of a job are written: at most eight fewer are left.
-pub record IsWritten (job left : ℕ) (old new : JobSlots) : Type 0 where
+pub record JobWritesOn (job left : ℕ) (old new : JobSlots) : Type 0 where
   pub slot : Slot
   pub found : slot_of job old.slots ≡ Some slot
   pub writing : is_writing slot.stage ≡ true

@@ -10,7 +10,7 @@ ghost use Rattle.lsm_device.specs.Refusals.{faultless};
 ghost use Rattle.lsm_jobs.specs.Slots.{slot_of, outputs_of, to_write};
 ghost use Rattle.lsm_jobs.specs.Outputs.{in_sectors, EndsWithin};
 ghost use Rattle.lsm_jobs.specs.Holding.{IsWritingAt};
-ghost use Rattle.lsm_jobs.specs.Writing.{WritesBlocks, IsWritten, next_of};
+ghost use Rattle.lsm_jobs.specs.Writing.{WritesBlocks, JobWritesOn, next_of};
 ghost use Rattle.lsm_jobs.specs.Refusing.{IsNotWriting, RefusesWrite};
 
 use crate::outputs::Outputs;
@@ -89,7 +89,7 @@ impl<A: Allocator> Slots<A> {
     pub fn write<D: Device>(&mut self, job: u64, device: &mut D, area: u32) -> Result<u32, Refusal>
         // The extents of the outputs lie in the device.
         requires { AllByRecursion (EndsWithin (D.medium device.old).size area) (outputs_of (slot_of job self.old.slots)) }
-        ensures left { IfOk result (λ left. IsWritten job left self.old self.new) }
+        ensures left { IfOk result (λ left. JobWritesOn job left self.old self.new) }
         ensures written { WritesBlocks area (next_of (slot_of job self.old.slots)) (faultless result) (D.medium device.old) (D.medium device.new) }
         ensures calls { AtMost 0 (8 * min 8 (to_write (slot_of job self.old.slots))) 0 (D.medium device.old).calls (D.medium device.new).calls }
         // Where no block is left the device isn't touched.

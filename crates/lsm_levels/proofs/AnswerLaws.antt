@@ -20,7 +20,7 @@ use Rattle.lsm_cache.specs.Fresh.{IsFresh, IsNumberedBelow}
 use Rattle.lsm_levels.specs.Tables.{Table, IsRun}
 use Rattle.lsm_levels.specs.Orders.{IsVersionOrder}
 use Rattle.lsm_levels.specs.Asking.{Source, OnlyReads}
-use Rattle.lsm_levels.specs.Lookups.{CopiesFound, IsLookUp, IsTest, LooksUpUnless, answer_of, met_by, versions_at}
+use Rattle.lsm_levels.specs.Lookups.{CopiesFound, IsLookUp, IsTest, LooksUpUnless, answer_of, met_by, versions_in_places}
 use Rattle.lsm_levels.specs.Stored.{AreNumberedBelow, ArePlaced, IsReadable}
 use Rattle.lsm_levels.proofs.LookingUp.{IsCounted, Outcome, Stays, looks_counted, looks_fresh, looks_numbered, looks_only_reads, no_reads, nothing_counted}
 use Rattle.lsm_levels.proofs.Finding.{met_found, refusal_found, refusal_tested, value_found}
@@ -108,9 +108,9 @@ module _ {Z : Type 0} (memory sealed : List Version) (runs : List (List Table)) 
   look_stops (Err e) old new look = λ io. (look_counted memory sealed runs area key n (refused e) old new look).stops (copies_io look.found e look.answers io)
 
   pub look_answers : (result : Result (Option (Vec ℕ Z)) Refusal) (old new : Source) → IsLookUp memory sealed runs area key n (answer_of result) old new
-      → (place : BlockName → Option ℕ) → AllByRecursion IsRun runs → IsReadable place area runs old → IsVersionOrder (versions_at memory sealed runs)
-      → MatchResult result (λ value. option_map (λ v. v.items) value ≡ finite.get (map_of (joined (versions_at memory sealed runs)) n) key)
-      (λ refusal. (refusal ≡ Io) ⊎ ((refusal ≡ NoMemory) × (is_some (finite.get (map_of (joined (versions_at memory sealed runs)) n) key) ≡ true)))
+      → (place : BlockName → Option ℕ) → AllByRecursion IsRun runs → IsReadable place area runs old → IsVersionOrder (versions_in_places memory sealed runs)
+      → MatchResult result (λ value. option_map (λ v. v.items) value ≡ finite.get (map_of (joined (versions_in_places memory sealed runs)) n) key)
+      (λ refusal. (refusal ≡ Io) ⊎ ((refusal ≡ NoMemory) × (is_some (finite.get (map_of (joined (versions_in_places memory sealed runs)) n) key) ≡ true)))
   look_answers (Ok value) old new look place r readable order = value_found place memory sealed runs area key n r (option_map (λ v. v.items) value) old new look readable order
   look_answers (Err e) old new look place r readable order = refusal_found place memory sealed runs area key n r e old new look readable order
 
@@ -156,7 +156,7 @@ module _ (memory sealed : List Version) (runs : List (List Table)) (area : ℕ) 
       (test_counted memory sealed runs area condition n (Err e) old new test).stops (met_refusal test.found condition e test.answers ∙ ap (λ (x : Refusal). Err x) io)
 
   pub test_answers : (result : Result Bool Refusal) (old new : Source) → IsTest memory sealed runs area condition n result old new
-      → (place : BlockName → Option ℕ) → AllByRecursion IsRun runs → IsReadable place area runs old → IsVersionOrder (versions_at memory sealed runs)
-      → MatchResult result (λ met. met ≡ is_met (map_of (joined (versions_at memory sealed runs)) n) condition) (λ refusal. refusal ≡ Io)
+      → (place : BlockName → Option ℕ) → AllByRecursion IsRun runs → IsReadable place area runs old → IsVersionOrder (versions_in_places memory sealed runs)
+      → MatchResult result (λ met. met ≡ is_met (map_of (joined (versions_in_places memory sealed runs)) n) condition) (λ refusal. refusal ≡ Io)
   test_answers (Ok met) old new test place r readable order = met_found place memory sealed runs area condition n r met old new test readable order
   test_answers (Err e) old new test place r readable order = refusal_tested place memory sealed runs area condition n r e old new test readable order

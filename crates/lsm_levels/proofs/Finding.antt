@@ -18,7 +18,7 @@ use Rattle.lsm_levels.specs.Tables.{Table, IsRun, versions_of}
 use Rattle.lsm_levels.specs.Orders.{IsVersionOrder}
 use Rattle.lsm_levels.specs.Asking.{Source, Says, SaysOnce, IsDenied, said_in, asked_of_run}
 use Rattle.lsm_levels.specs.Founds.{TestsRuns}
-use Rattle.lsm_levels.specs.Lookups.{EndsOr, LooksUp, LooksUpUnless, CopiesFound, IsLookUp, IsTest, met_by, value_of, versions_at}
+use Rattle.lsm_levels.specs.Lookups.{EndsOr, LooksUp, LooksUpUnless, CopiesFound, IsLookUp, IsTest, met_by, value_of, versions_in_places}
 use Rattle.lsm_levels.specs.Stored.{IsStored, IsPlaced, AreStored, ArePlaced, IsReadable}
 use Rattle.lsm_levels.specs.declared.placed.PlacedBlock.{PlacedBlock}
 use Rattle.lsm_levels.proofs.LookingUp.{Outcome, same_refusal, given_bytes, Stays, says_fresh, placed_stands}
@@ -87,13 +87,13 @@ or_both (Some v) b c = refl
 module _ (place : BlockName → Option ℕ) (memory sealed : List Version) (runs : List (List Table)) (area : ℕ) (key : Bytes) (n : ℕ) (r : AllByRecursion IsRun runs) where
   -- the newest version in all places
   abbrev newest_of_all : Option Version
-  newest_of_all = newest key n (joined (versions_at memory sealed runs))
+  newest_of_all = newest key n (joined (versions_in_places memory sealed runs))
 
   -- its value is that of the map
-  value_of_all : value_of newest_of_all ≡ finite.get (map_of (joined (versions_at memory sealed runs)) n) key
-  value_of_all = value-from_newest (joined (versions_at memory sealed runs)) n key newest_of_all refl
+  value_of_all : value_of newest_of_all ≡ finite.get (map_of (joined (versions_in_places memory sealed runs)) n) key
+  value_of_all = value-from_newest (joined (versions_in_places memory sealed runs)) n key newest_of_all refl
 
-  found_is : (found : Outcome) (old new : Source) → LooksUpUnless (option_or (newest key n memory) (newest key n sealed)) area key n runs found old new → IsReadable place area runs old → IsVersionOrder (versions_at memory sealed runs)
+  found_is : (found : Outcome) (old new : Source) → LooksUpUnless (option_or (newest key n memory) (newest key n sealed)) area key n runs found old new → IsReadable place area runs old → IsVersionOrder (versions_in_places memory sealed runs)
       → Finds found newest_of_all
   found_is found old new looks s order =
       let all : option_or (option_or (newest key n memory) (newest key n sealed)) (first_found key n runs) ≡ newest_of_all =
@@ -105,8 +105,8 @@ module _ (place : BlockName → Option ℕ) (memory sealed : List Version) (runs
       (unless_finds place (seen (disk old.medium)) area key n (option_or (newest key n memory) (newest key n sealed)) runs r s.stored s.placed found old new (s.tells, refl, s.fresh) looks)
 
   -- the value of the map
-  pub value_found : (value : Option Bytes) (old new : Source) → IsLookUp memory sealed runs area key n (Ok value) old new → IsReadable place area runs old → IsVersionOrder (versions_at memory sealed runs)
-      → value ≡ finite.get (map_of (joined (versions_at memory sealed runs)) n) key
+  pub value_found : (value : Option Bytes) (old new : Source) → IsLookUp memory sealed runs area key n (Ok value) old new → IsReadable place area runs old → IsVersionOrder (versions_in_places memory sealed runs)
+      → value ≡ finite.get (map_of (joined (versions_in_places memory sealed runs)) n) key
   value_found value old new look s order =
       ⊎_elim
       (λ (io : look.found ≡ Err Io). absurd (let no : Ok value ≡ Err Io = subst (λ (f : Outcome). CopiesFound f (Ok value)) io look.answers in cc))
@@ -118,8 +118,8 @@ module _ (place : BlockName → Option ℕ) (memory sealed : List Version) (runs
       (found_is look.found old new look.looks s order)
 
   -- or a read faulted, or memory was refused for the copy of a value that the map has
-  pub refusal_found : (e : Refusal) (old new : Source) → IsLookUp memory sealed runs area key n (Err e) old new → IsReadable place area runs old → IsVersionOrder (versions_at memory sealed runs)
-      → (e ≡ Io) ⊎ ((e ≡ NoMemory) × (is_some (finite.get (map_of (joined (versions_at memory sealed runs)) n) key) ≡ true))
+  pub refusal_found : (e : Refusal) (old new : Source) → IsLookUp memory sealed runs area key n (Err e) old new → IsReadable place area runs old → IsVersionOrder (versions_in_places memory sealed runs)
+      → (e ≡ Io) ⊎ ((e ≡ NoMemory) × (is_some (finite.get (map_of (joined (versions_in_places memory sealed runs)) n) key) ≡ true))
   refusal_found e old new look s order =
       ⊎_elim
       (λ (io : look.found ≡ Err Io).
@@ -139,8 +139,8 @@ module _ (place : BlockName → Option ℕ) (memory sealed : List Version) (runs
   found_so = newest_of_all place memory sealed runs area condition.key n r
 
   -- whether the map meets the condition
-  pub met_found : (met : Bool) (old new : Source) → IsTest memory sealed runs area condition n (Ok met) old new → IsReadable place area runs old → IsVersionOrder (versions_at memory sealed runs)
-      → met ≡ is_met (map_of (joined (versions_at memory sealed runs)) n) condition
+  pub met_found : (met : Bool) (old new : Source) → IsTest memory sealed runs area condition n (Ok met) old new → IsReadable place area runs old → IsVersionOrder (versions_in_places memory sealed runs)
+      → met ≡ is_met (map_of (joined (versions_in_places memory sealed runs)) n) condition
   met_found met old new test s order =
       ⊎_elim
       (λ (io : test.found ≡ Err Io). absurd (let no : Ok met ≡ Err Io = subst (λ (f : Outcome). Ok met ≡ met_by f condition) io test.answers in cc))
@@ -151,7 +151,7 @@ module _ (place : BlockName → Option ℕ) (memory sealed : List Version) (runs
       (found_is place memory sealed runs area condition.key n r test.found old new test.looks s order)
 
   -- or a read faulted
-  pub refusal_tested : (e : Refusal) (old new : Source) → IsTest memory sealed runs area condition n (Err e) old new → IsReadable place area runs old → IsVersionOrder (versions_at memory sealed runs) → e ≡ Io
+  pub refusal_tested : (e : Refusal) (old new : Source) → IsTest memory sealed runs area condition n (Err e) old new → IsReadable place area runs old → IsVersionOrder (versions_in_places memory sealed runs) → e ≡ Io
   refusal_tested e old new test s order =
       ⊎_elim
       (λ (io : test.found ≡ Err Io). let one : Err e ≡ Err Io = subst (λ (f : Outcome). Err e ≡ met_by f condition) io test.answers in cc)

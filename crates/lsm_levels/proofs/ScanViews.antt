@@ -20,7 +20,7 @@ use Rattle.lsm_merge.specs.Inputs.{joined}
 use Rattle.lsm_levels.specs.Tables.{Table, IsRun, at_most, versions_of}
 use Rattle.lsm_levels.specs.Asking.{Source, IsGiven, IsDenied}
 use Rattle.lsm_levels.specs.Levels.{Levels, places}
-use Rattle.lsm_levels.specs.Lookups.{sealed_now, versions_at}
+use Rattle.lsm_levels.specs.Lookups.{sealed_now, versions_in_places}
 use Rattle.lsm_levels.specs.Orders.{IsVersionOrder}
 use Rattle.lsm_levels.specs.Stored.{ArePlaced, AreStored, IsPlaced, IsStored}
 use Rattle.lsm_levels.specs.Cursors.{Cursor, IsPlacedAt, Shows, blocks_from_key, passed_blocks}
@@ -174,11 +174,11 @@ left_of_all_places : (n : ℕ) (from : Bytes) (memory : List Version) (sealed : 
 left_of_all_places n from memory None runs = (inr refl, left_of_runs n from runs)
 left_of_all_places n from memory (Some sealed) runs = (inr refl, (inr refl, left_of_runs n from runs))
 
-version_order : (memory : List Version) (sealed : Option (Bor (List Version))) (runs : List (List Table)) → IsVersionOrder (versions_at memory (sealed_now sealed) runs) → IsVersionOrder (memory_places memory sealed ++ map versions_of runs)
+version_order : (memory : List Version) (sealed : Option (Bor (List Version))) (runs : List (List Table)) → IsVersionOrder (versions_in_places memory (sealed_now sealed) runs) → IsVersionOrder (memory_places memory sealed ++ map versions_of runs)
 version_order memory None runs h = (h.0.1, h.1.1)
 version_order memory (Some sealed) runs h = h
 
-same_joined : (memory : List Version) (sealed : Option (Bor (List Version))) (runs : List (List Table)) → joined (memory_places memory sealed ++ map versions_of runs) ≡ joined (versions_at memory (sealed_now sealed) runs)
+same_joined : (memory : List Version) (sealed : Option (Bor (List Version))) (runs : List (List Table)) → joined (memory_places memory sealed ++ map versions_of runs) ≡ joined (versions_in_places memory (sealed_now sealed) runs)
 same_joined memory None runs = refl
 same_joined memory (Some sealed) runs = refl
 
@@ -188,9 +188,9 @@ runs_ordered sectors area (run ∷ runs) r all = (run_ordered sectors area run r
 
 -- sources of a view come to the page of its map
 pub view_comes : (place : BlockName → Option ℕ) (sectors : List (List ℕ)) (area n limit : ℕ) (from : Bytes) (to : Option Bytes) (memory : List Version) (sealed : Option (Bor (List Version))) (runs : List (List Table)) (cursors : List Cursor) (s : Source)
-    → AllByRecursion AreOrdered (memory_places memory sealed) → AllByRecursion IsRun runs → AreStored sectors area runs → IsVersionOrder (versions_at memory (sealed_now sealed) runs)
+    → AllByRecursion AreOrdered (memory_places memory sealed) → AllByRecursion IsRun runs → AreStored sectors area runs → IsVersionOrder (versions_in_places memory (sealed_now sealed) runs)
     → AllGive place sectors (map (λ place. from_key from (newest_each n place)) (memory_places memory sealed) ++ map (λ run. from_key from (versions_of run)) runs) cursors → Shows place sectors s
-    → ComesTo place sectors (page_of (map_of (joined (versions_at memory (sealed_now sealed) runs)) n) from to limit) (gathering n to limit) cursors s
+    → ComesTo place sectors (page_of (map_of (joined (versions_in_places memory (sealed_now sealed) runs)) n) from to limit) (gathering n to limit) cursors s
 view_comes place sectors area n limit from to memory sealed runs cursors s ordered r stored order gives shows =
     let all : List (List Version) = memory_places memory sealed ++ map versions_of runs in
     let sources : List (List Version) = map (λ place. from_key from (newest_each n place)) (memory_places memory sealed) ++ map (λ run. from_key from (versions_of run)) runs in

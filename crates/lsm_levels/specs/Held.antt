@@ -6,7 +6,7 @@ use Rattle.lsm_levels.specs.Among.{IsAmong}
 use Rattle.lsm_levels.specs.Tables.{Table, KeyRange, at_most, hull, meets, meeting, IsRun, versions_of}
 use Rattle.lsm_levels.specs.Levels.{Levels, level, places, last_run}
 use Rattle.lsm_levels.specs.Orders.{IsNewerPlace, IsVersionOrder}
-use Rattle.lsm_levels.specs.Pick.{Job, Flush, Merge, inputs, is_flush, is_several, pick, is_bottom, installed}
+use Rattle.lsm_levels.specs.Pick.{Job, Flush, Merge, inputs, is_flush, is_several, pick, is_bottom, installed_levels}
 use Rattle.lsm_levels.specs.Choices.{chosen}
 use Rattle.lsm_levels.specs.declared.choosing.Choice.{Choice}
 
@@ -96,10 +96,10 @@ ChoiceLaw = (levels : Levels) (jobs : List Job) (choice : Choice) (job : Job) �
 
 abbrev pub SurvivalLaw : Type 0
 SurvivalLaw = (levels : Levels) (bottom flag : Bool) (job other : Job) (new : List Table) → AreRuns levels → IsHeld levels bottom job → IsHeld levels flag other → AreApart job other → AreOutputs other new
-    → IsHeld (installed levels other new) bottom job
+    → IsHeld (installed_levels levels other new) bottom job
 
 abbrev pub RunsLaw : Type 0
-RunsLaw = (levels : Levels) (flag : Bool) (job : Job) (new : List Table) → AreRuns levels → IsHeld levels flag job → AreOutputs job new → AreRuns (installed levels job new)
+RunsLaw = (levels : Levels) (flag : Bool) (job : Job) (new : List Table) → AreRuns levels → IsHeld levels flag job → AreOutputs job new → AreRuns (installed_levels levels job new)
 
 -- The versions in the levels are in their order, and in the ranges of their tables.
 pub record AreOrdered (levels : Levels) : Type 0 where
@@ -109,12 +109,12 @@ pub record AreOrdered (levels : Levels) : Type 0 where
 -- A merge keeps that, where its outputs have versions of its inputs, in their tables' ranges.
 abbrev pub OrderLaw : Type 0
 OrderLaw = (levels : Levels) (flag : Bool) (i : ℕ) (upper lower new : List Table) → AreRuns levels → IsHeld levels flag (Merge i upper lower) → AreOrdered levels
-    → AreVersionsOf upper lower new → AreRanged new → AreOrdered (installed levels (Merge i upper lower) new)
+    → AreVersionsOf upper lower new → AreRanged new → AreOrdered (installed_levels levels (Merge i upper lower) new)
 
 -- And so does a flush, where its outputs have versions that are newer than those of their keys in all levels, in their
 -- tables' ranges.
 abbrev pub FlushLaw : Type 0
-FlushLaw = (levels : Levels) (new : List Table) → AreOrdered levels → AllByRecursion (IsNewerPlace (versions_of new)) (map versions_of (places levels)) → AreRanged new → AreOrdered (installed levels Flush new)
+FlushLaw = (levels : Levels) (new : List Table) → AreOrdered levels → AllByRecursion (IsNewerPlace (versions_of new)) (map versions_of (places levels)) → AreRanged new → AreOrdered (installed_levels levels Flush new)
 
 -- What a merge makes of the versions in the levels: each stays, but for the inputs', and the outputs' are new. At the bottom,
 -- what stays of an input's key and is older is an output's.
@@ -127,4 +127,4 @@ pub record MergesVersions (levels after : Levels) (flag : Bool) (inputs new : Li
       → (v w : Version) → IsAmong v (versions_of inputs) → HasVersion after w → w.key ≡ v.key → w.number < v.number → IsAmong w (versions_of new)
 
 abbrev pub MergingLaw : Type 0
-MergingLaw = (levels : Levels) (flag : Bool) (i : ℕ) (upper lower new : List Table) → AreRuns levels → IsHeld levels flag (Merge i upper lower) → MergesVersions levels (installed levels (Merge i upper lower) new) flag (upper ++ lower) new
+MergingLaw = (levels : Levels) (flag : Bool) (i : ℕ) (upper lower new : List Table) → AreRuns levels → IsHeld levels flag (Merge i upper lower) → MergesVersions levels (installed_levels levels (Merge i upper lower) new) flag (upper ++ lower) new

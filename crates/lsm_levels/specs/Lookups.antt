@@ -63,8 +63,8 @@ pub record IsTest (memory sealed : List Version) (runs : List (List Table)) (are
   pub answers : answer ≡ met_by found condition
 
 -- the versions in each place, the newer first: memory, sealed memory, and runs
-abbrev pub versions_at : List Version → List Version → List (List Table) → List (List Version)
-versions_at memory sealed runs = memory ∷ sealed ∷ map versions_of runs
+abbrev pub versions_in_places : List Version → List Version → List (List Table) → List (List Version)
+versions_in_places memory sealed runs = memory ∷ sealed ∷ map versions_of runs
 
 -- the versions in sealed memory, if there is one
 abbrev pub sealed_now : Option (Bor (List Version)) → List Version

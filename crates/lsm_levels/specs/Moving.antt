@@ -2,7 +2,7 @@
 use Rattle.std.specs.Prelude.{◌≡◌, ◌≤◌, ℕ, ◌+◌, Bool, List, length, filter, if◌then◌else◌}
 use Rattle.lsm_levels.specs.Tables.{Table, hull, meeting}
 use Rattle.lsm_levels.specs.Levels.{Levels, all_tables, level, places}
-use Rattle.lsm_levels.specs.Pick.{Job, Merge, inputs, is_flush, installed}
+use Rattle.lsm_levels.specs.Pick.{Job, Merge, inputs, is_flush, installed_levels}
 use Rattle.lsm_levels.specs.Held.{AreRuns, IsHeld}
 
 -- how many tables of these levels pass a test
@@ -16,9 +16,9 @@ table_count levels = length (all_tables (places levels))
 -- An install of a job leaves just the tables that were there, without its inputs and with its outputs: so many as that pass any
 -- test, and so many in all. A flush adds a run to level 0, and a merge none.
 pub record MovesTables (levels : Levels) (job : Job) (new : List Table) : Type 0 where
-  pub passed : (test : Table → Bool) → count_in test (installed levels job new) + length (filter test (inputs job)) ≡ count_in test levels + length (filter test new)
-  pub number : table_count (installed levels job new) + length (inputs job) ≡ table_count levels + length new
-  pub runs : length (installed levels job new).runs ≤ length levels.runs + (if is_flush job then 1 else 0)
+  pub passed : (test : Table → Bool) → count_in test (installed_levels levels job new) + length (filter test (inputs job)) ≡ count_in test levels + length (filter test new)
+  pub number : table_count (installed_levels levels job new) + length (inputs job) ≡ table_count levels + length new
+  pub runs : length (installed_levels levels job new).runs ≤ length levels.runs + (if is_flush job then 1 else 0)
 
 abbrev pub MovingLaw : Type 0
 MovingLaw = (levels : Levels) (flag : Bool) (job : Job) (new : List Table) → AreRuns levels → IsHeld levels flag job → MovesTables levels job new

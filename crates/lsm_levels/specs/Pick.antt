@@ -132,6 +132,6 @@ is_bottom levels Flush = false
 is_bottom levels (Merge i upper lower) = meets_none (hull (upper ++ lower)) (below_output levels i)
 
 -- the levels after an install of a job with these outputs
-abbrev pub installed : Levels → Job → List Table → Levels
-installed levels Flush new = flushed new levels
-installed levels (Merge i upper lower) new = merged i upper new levels
+abbrev pub installed_levels : Levels → Job → List Table → Levels
+installed_levels levels Flush new = flushed new levels
+installed_levels levels (Merge i upper lower) new = merged i upper new levels

@@ -27,7 +27,7 @@ ghost use Rattle.lsm_levels.specs.Cursors.{refusal_of};
 ghost use Rattle.lsm_levels.specs.Pages.{EndsWith, Gathers, GathersRuns, GoesOver, IsScan, cursors_of};
 ghost use Rattle.lsm_levels.specs.Scans.{AreReady, AsksOn, AsksSome, ComesTo, HasCome, ScansRuns, blocks_of_runs, blocks_to_come, memory_places};
 ghost use Rattle.lsm_levels.specs.SourceCursors.{cursor_of_versions};
-ghost use Rattle.lsm_levels.specs.Lookups.{IsLookUp, IsTest, answer_of, sealed_now, versions_at};
+ghost use Rattle.lsm_levels.specs.Lookups.{IsLookUp, IsTest, answer_of, sealed_now, versions_in_places};
 
 use crate::found::copied;
 use crate::levels::Levels;
@@ -144,11 +144,11 @@ impl<'a, A: Allocator + Clone> ReadView<'a, A> {
         // Where the tables stand, and the blocks of the cache are those of the device, the answer is that of the map, unless a
         // read faults, or the key has a value and memory for its copy is refused.
         ensures answers { (place : Name → Option ℕ) → IsReadable place self.now.area (places self.now.levels.now) (record { cache = cache.old; medium = D.medium device.old })
-            → IsVersionOrder (versions_at self.now.mem.now (sealed_now self.now.sealed) (places self.now.levels.now))
+            → IsVersionOrder (versions_in_places self.now.mem.now (sealed_now self.now.sealed) (places self.now.levels.now))
             → MatchResult result (λ value. option_map (λ v. v.items) value
-            ≡ finite.get (map_of (joined (versions_at self.now.mem.now (sealed_now self.now.sealed) (places self.now.levels.now))) at) key.now)
+            ≡ finite.get (map_of (joined (versions_in_places self.now.mem.now (sealed_now self.now.sealed) (places self.now.levels.now))) at) key.now)
             (λ refusal. (refusal ≡ Io) ⊎ ((refusal ≡ NoMemory)
-            × (is_some (finite.get (map_of (joined (versions_at self.now.mem.now (sealed_now self.now.sealed) (places self.now.levels.now))) at) key.now) ≡ true))) }
+            × (is_some (finite.get (map_of (joined (versions_in_places self.now.mem.now (sealed_now self.now.sealed) (places self.now.levels.now))) at) key.now) ≡ true))) }
 
         // The blocks of the cache go on to be those of the device, of tables with numbers below any that all have been below.
         ensures fresh { (place : Name → Option ℕ) → IsTrue (D.medium device.old).lasting.tells
@@ -190,9 +190,9 @@ impl<'a, A: Allocator + Clone> ReadView<'a, A> {
         // Where the tables stand, and the blocks of the cache are those of the device, the answer is that of the map, unless a
         // read faults.
         ensures answers { (place : Name → Option ℕ) → IsReadable place self.now.area (places self.now.levels.now) (record { cache = cache.old; medium = D.medium device.old })
-            → IsVersionOrder (versions_at self.now.mem.now (sealed_now self.now.sealed) (places self.now.levels.now))
+            → IsVersionOrder (versions_in_places self.now.mem.now (sealed_now self.now.sealed) (places self.now.levels.now))
             → MatchResult result
-            (λ met. met ≡ is_met (map_of (joined (versions_at self.now.mem.now (sealed_now self.now.sealed) (places self.now.levels.now))) at) guard.now)
+            (λ met. met ≡ is_met (map_of (joined (versions_in_places self.now.mem.now (sealed_now self.now.sealed) (places self.now.levels.now))) at) guard.now)
             (λ refusal. refusal ≡ Io) }
 
         // Cache and device are used as for a look-up.
@@ -270,10 +270,10 @@ impl<'a, A: Allocator + Clone> ReadView<'a, A> {
             (λ refusal. AsksSome (blocks_of_runs self.now.area from.now (places self.now.levels.now)) (Some refusal)
             (record { cache = cache.old; medium = D.medium device.old }) (record { cache = cache.new; medium = D.medium device.new })) }
         ensures comes { (place : Name → Option ℕ) → IsReadable place self.now.area (places self.now.levels.now) (record { cache = cache.old; medium = D.medium device.old })
-            → IsVersionOrder (versions_at self.now.mem.now (sealed_now self.now.sealed) (places self.now.levels.now))
+            → IsVersionOrder (versions_in_places self.now.mem.now (sealed_now self.now.sealed) (places self.now.levels.now))
             → MatchResult result (λ sources. (to : Option Bytes) (limit : ℕ)
             → ComesTo place (seen (disk (D.medium device.old)))
-            (page_of (map_of (joined (versions_at self.now.mem.now (sealed_now self.now.sealed) (places self.now.levels.now))) at) from.now to limit)
+            (page_of (map_of (joined (versions_in_places self.now.mem.now (sealed_now self.now.sealed) (places self.now.levels.now))) at) from.now to limit)
             (gathering at to limit) sources.items (record { cache = cache.new; medium = D.medium device.new }))
             (λ refusal. (refusal ≡ Io) ⊎ (refusal ≡ NoMemory)) }
         ensures ready { IfOk result (λ sources. AreReady (D.medium device.new).size sources.items) }
@@ -304,9 +304,9 @@ impl<'a, A: Allocator + Clone> ReadView<'a, A> {
         ensures asks { AsksSome (blocks_of_runs self.now.area from.now (places self.now.levels.now)) (refusal_of result)
             (record { cache = cache.old; medium = D.medium device.old }) (record { cache = cache.new; medium = D.medium device.new }) }
         ensures comes { (place : Name → Option ℕ) (to : Option Bytes) (limit : ℕ) → IsReadable place self.now.area (places self.now.levels.now) (record { cache = cache.old; medium = D.medium device.old })
-            → IsVersionOrder (versions_at self.now.mem.now (sealed_now self.now.sealed) (places self.now.levels.now)) → builder.old ≡ gathering at to limit
+            → IsVersionOrder (versions_in_places self.now.mem.now (sealed_now self.now.sealed) (places self.now.levels.now)) → builder.old ≡ gathering at to limit
             → MatchResult result
-            (λ _. HasCome (page_of (map_of (joined (versions_at self.now.mem.now (sealed_now self.now.sealed) (places self.now.levels.now))) at) from.now to limit) builder.new)
+            (λ _. HasCome (page_of (map_of (joined (versions_in_places self.now.mem.now (sealed_now self.now.sealed) (places self.now.levels.now))) at) from.now to limit) builder.new)
             (λ refusal. (refusal ≡ Io) ⊎ (refusal ≡ NoMemory)) }
         ensures refused { IfErr result (λ refusal. (refusal ≡ Io) ⊎ ((refusal ≡ BadTable) ⊎ (refusal ≡ NoMemory))) }
     {
@@ -345,9 +345,9 @@ impl<'a, A: Allocator + Clone> ReadView<'a, A> {
         // Where the tables stand, and the blocks of the cache are those of the device, the page is that of the map, unless a
         // read faults or memory is refused.
         ensures answers { (place : Name → Option ℕ) → IsReadable place self.now.area (places self.now.levels.now) (record { cache = cache.old; medium = D.medium device.old })
-            → IsVersionOrder (versions_at self.now.mem.now (sealed_now self.now.sealed) (places self.now.levels.now))
+            → IsVersionOrder (versions_in_places self.now.mem.now (sealed_now self.now.sealed) (places self.now.levels.now))
             → MatchResult result (λ page. page
-            ≡ page_of (map_of (joined (versions_at self.now.mem.now (sealed_now self.now.sealed) (places self.now.levels.now))) at) range.entry.0.now (option_map (λ to. to.now) range.entry.1) limit)
+            ≡ page_of (map_of (joined (versions_in_places self.now.mem.now (sealed_now self.now.sealed) (places self.now.levels.now))) at) range.entry.0.now (option_map (λ to. to.now) range.entry.1) limit)
             (λ refusal. (refusal ≡ Io) ⊎ (refusal ≡ NoMemory)) }
         ensures refused { IfErr result (λ refusal. (refusal ≡ Io) ⊎ ((refusal ≡ BadTable) ⊎ (refusal ≡ NoMemory))) }
     {

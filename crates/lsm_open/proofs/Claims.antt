@@ -13,7 +13,7 @@ use Rattle.lsm_codec.specs.declared.table_record.TableRecord.{TableRecord}
 use Rattle.lsm_extent.specs.Area.{Area, covers, is_held, IsFreeRun, handed_out}
 use Rattle.lsm_extent.specs.declared.extent.Extent.{Extent}
 use Rattle.lsm_open.proofs.ListPairs.{pairwise_cross}
-use Rattle.lsm_open.specs.ToldTables.{extent_of}
+use Rattle.lsm_open.specs.ToldTables.{record_extent}
 
 -- the tables before one are apart from it
 pub apart_before : (ts : List TableRecord) (i : ℕ) (d : TableRecord) → i < length ts → Pairwise AreApart ts → All (λ u. AreApart u (get_or ts i d)) (take i ts)
@@ -23,7 +23,7 @@ apart_before ts i d lt apart =
     All-weaker (λ u. All (AreApart u) (drop i ts)) (λ u. AreApart u (get_or ts i d))
     (λ u h. All-head (AreApart u) (get_or ts i d) (drop (i + 1) ts) (subst (λ (l : List TableRecord). All (AreApart u) l) (drop_more ts i d lt) h)) (take i ts) each
 
-not_covered : (k : ℕ) (t u : TableRecord) → t.first_block ≤ k → k < extent_end t → AreApart u t → covers k (extent_of u) ≡ false
+not_covered : (k : ℕ) (t u : TableRecord) → t.first_block ≤ k → k < extent_end t → AreApart u t → covers k (record_extent u) ≡ false
 not_covered k t u low high = ⊎_elim
     (λ before. second (leb u.first_block k) (ltb k (extent_end u)) (le-ltb k (extent_end u) (omega (arith, before, low))))
     (λ after. ap (λ (b : Bool). b && ltb k (extent_end u)) (lt-leb u.first_block k (omega (arith, after, high))))
@@ -33,11 +33,11 @@ not_covered k t u low high = ⊎_elim
     second false b is = refl
 
 -- a table's blocks are free where those before it are handed out alone
-pub free_then : (old : Area) (blocks : ℕ) (done : List TableRecord) (t : TableRecord) → old.blocks ≡ blocks → ((k : ℕ) → is_held old.held k ≡ list_any (λ u. covers k (extent_of u)) done) → extent_end t ≤ blocks → All (λ u. AreApart u t) done
+pub free_then : (old : Area) (blocks : ℕ) (done : List TableRecord) (t : TableRecord) → old.blocks ≡ blocks → ((k : ℕ) → is_held old.held k ≡ list_any (λ u. covers k (record_extent u)) done) → extent_end t ≤ blocks → All (λ u. AreApart u t) done
     → IsFreeRun old t.first_block (extent_blocks t)
 free_then old blocks done t size only inside apart = record {
   each = λ k low high.
-      let none : list_any (λ u. covers k (extent_of u)) done ≡ false = list_any_none (λ u. covers k (extent_of u)) done (All-weaker (λ u. AreApart u t) (λ u. covers k (extent_of u) ≡ false) (λ u h. not_covered k t u low high h) done apart) in
+      let none : list_any (λ u. covers k (record_extent u)) done ≡ false = list_any_none (λ u. covers k (record_extent u)) done (All-weaker (λ u. AreApart u t) (λ u. covers k (record_extent u) ≡ false) (λ u h. not_covered k t u low high h) done apart) in
       ap (λ (b : Bool). ltb k old.blocks && not b) (only k ∙ none) ∙ ap (λ (b : Bool). b && true) (lt-ltb k old.blocks (omega (arith, high, size, inside)));
 }
 

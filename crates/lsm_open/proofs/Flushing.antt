@@ -21,7 +21,7 @@ use Rattle.lsm_mem.proofs.Maps.{map_of-newest}
 use Rattle.lsm_merge.specs.Inputs.{joined}
 use Rattle.lsm_open.specs.CrashState.{CrashState}
 use Rattle.lsm_open.specs.LogRegions.{first_region, follow_on, one_if_some}
-use Rattle.lsm_open.specs.Layout.{open_records, open_batches, IsClosed, IsOpened}
+use Rattle.lsm_open.specs.Layout.{open_records, open_batches, IsClosed, IsLogAtIfOpen}
 use Rattle.lsm_open.specs.Placements.{Placement, table_map, closed_in, IsHeld, Carries, state_with}
 use Rattle.lsm_open.specs.Switching.{MayBeInstalled, pushed, flushed, left_flushed, IsNewestRun, AreFlushed}
 use Rattle.lsm_open.specs.Tables.{blocks_at, versions_at, table_versions, IsTableAt, IsSameRun, AscendInRun, AreTables}
@@ -146,7 +146,7 @@ module _ (p : Placement) (c : Sectors) (next_table : ℕ) (new : List TableRecor
   follows_by (Some o) begins = ap (λ (b : Bool). b && true) (eq-eqb o.log.first ((p.logs.base + length (closed_in p c)) + 1) (omega (arith, begins)))
   follows_by None begins = refl
 
-  opened_by : (o : Option OpenRegion) → IsOpened p.logs (at_rest c) o → IsOpened (flushed p (length (closed_in p c)) next_table new).logs (at_rest c) o
+  opened_by : (o : Option OpenRegion) → IsLogAtIfOpen p.logs (at_rest c) o → IsLogAtIfOpen (flushed p (length (closed_in p c)) next_table new).logs (at_rest c) o
   opened_by (Some o) opened = record { region = opened.region; start = opened.start; sectors = opened.sectors; epoch = omega (arith, opened.epoch); is_open = opened.is_open }
   opened_by None opened = tt
 

@@ -23,7 +23,7 @@ use Rattle.lsm_log.proofs.Logs.{open_elsewhere, open_after_sync}
 use Rattle.lsm_mem.specs.Versions.{map_of}
 use Rattle.lsm_open.specs.CrashState.{CrashState}
 use Rattle.lsm_open.specs.LogRegions.{first_region, region_start, one_if_some}
-use Rattle.lsm_open.specs.Layout.{open_batches, IsClosed, IsOpened}
+use Rattle.lsm_open.specs.Layout.{open_batches, IsClosed, IsLogAtIfOpen}
 use Rattle.lsm_open.specs.Image.{HoldNamed, StandForSome}
 use Rattle.lsm_open.specs.Placements.{Placement, contents_for, table_map, closed_in, IsStill, IsHeld, Carries, state_with, present_state, MayBeLeft, IsFreeWrite}
 use Rattle.lsm_open.specs.Tables.{first_data, extent_start, extent_length, extent_at}
@@ -55,16 +55,16 @@ module _ (p : Placement) (d : Disk) (held : IsHeld p d) (ws : List Write) (free 
   outside_log : (region : ℕ) → region ≤ 2 → All (IsOutside (region_start p.logs.log_sectors region) p.logs.log_sectors) ws
   outside_log region low = All-weaker (IsFreeWrite p) (IsOutside (region_start p.logs.log_sectors region) p.logs.log_sectors) (λ w is. outside_region p.logs.log_sectors region w low is.low) ws free
 
-  outside_open : (o : OpenRegion) → IsOpened p.logs d (Some o) → All (IsOutside o.log.start o.log.sectors) ws
+  outside_open : (o : OpenRegion) → IsLogAtIfOpen p.logs d (Some o) → All (IsOutside o.log.start o.log.sectors) ws
   outside_open o opened =
       subst (λ (k : ℕ). All (IsOutside k o.log.sectors) ws) (sym opened.start)
       (subst (λ (k : ℕ). All (IsOutside (region_start p.logs.log_sectors o.region) k) ws) (sym opened.sectors) (outside_log o.region opened.region))
 
-  opened_elsewhere : (o : Option OpenRegion) → IsOpened p.logs d o → IsOpened p.logs (grown ws d) o
+  opened_elsewhere : (o : Option OpenRegion) → IsLogAtIfOpen p.logs d o → IsLogAtIfOpen p.logs (grown ws d) o
   opened_elsewhere (Some o) opened = record { region = opened.region; start = opened.start; sectors = opened.sectors; epoch = opened.epoch; is_open = (open_elsewhere o.log d opened.is_open ws (outside_open o opened)).0 }
   opened_elsewhere None opened = tt
 
-  pub reads_elsewhere : (o : Option OpenRegion) → IsOpened p.logs d o → open_batches o (seen (grown ws d)) ≡ open_batches o (seen d)
+  pub reads_elsewhere : (o : Option OpenRegion) → IsLogAtIfOpen p.logs d o → open_batches o (seen (grown ws d)) ≡ open_batches o (seen d)
   reads_elsewhere (Some o) opened = (open_elsewhere o.log d opened.is_open ws (outside_open o opened)).1
   reads_elsewhere None opened = refl
 
@@ -139,7 +139,7 @@ module _ (p : Placement) (d : Disk) (held : IsHeld p d) where
   abbrev whole : List Bool
   whole = replicate (length d.pending) true
 
-  opened_synced : (o : Option OpenRegion) → IsOpened p.logs d o → IsOpened p.logs (synced d) o
+  opened_synced : (o : Option OpenRegion) → IsLogAtIfOpen p.logs d o → IsLogAtIfOpen p.logs (synced d) o
   opened_synced (Some o) opened = record { region = opened.region; start = opened.start; sectors = opened.sectors; epoch = opened.epoch; is_open = open_after_sync o.log d opened.is_open }
   opened_synced None opened = tt
 

@@ -17,7 +17,7 @@ use Rattle.lsm_log.proofs.Logs.{open_leaves}
 use Rattle.lsm_mem.specs.Versions.{map_of}
 use Rattle.lsm_open.specs.CrashState.{CrashState}
 use Rattle.lsm_open.specs.LogRegions.{first_region, region_start, all_batches, one_if_some, regions_with_batches}
-use Rattle.lsm_open.specs.Layout.{Layout, open_records, open_batches, IsOpened}
+use Rattle.lsm_open.specs.Layout.{Layout, open_records, open_batches, IsLogAtIfOpen}
 use Rattle.lsm_open.specs.Image.{left_in, HoldNamed, StandFor, StandForSome}
 use Rattle.lsm_open.specs.Placements.{Placement, contents_for, table_map, closed_in, IsHeld, Carries, state_with, present_state, MayBeLeft}
 use Rattle.lsm_open.specs.Tables.{extent_start, extent_length, AreTables}
@@ -40,7 +40,7 @@ pub settled_image : (start n : ℕ) (d : Disk) → (disk_in start n d).pending �
 settled_image start n d settled mask = area-image start n mask d ∙ ap (λ (ws : List Write). written (area start n d.stands) (kept (mask_in start n mask d.pending) ws)) settled
 
 -- a crash leaves all of the open log's batches that stand and a beginning of the others
-pub open_between : (l : Layout) (d : Disk) (o : Option OpenRegion) → IsOpened l d o → (mask : List Bool) → IsBetween (open_batches o d.stands) (open_batches o (seen d)) (open_batches o (image mask d))
+pub open_between : (l : Layout) (d : Disk) (o : Option OpenRegion) → IsLogAtIfOpen l d o → (mask : List Bool) → IsBetween (open_batches o d.stands) (open_batches o (seen d)) (open_batches o (image mask d))
 open_between l d (Some o) opened mask = open_leaves o.log d opened.is_open mask
 open_between l d None opened mask = record { from = ([], refl); to = ([], refl) }
 

@@ -16,10 +16,10 @@ use Rattle.lsm_mem.specs.Versions.{value_at, map_of}
 use Rattle.lsm_merge.specs.Inputs.{joined}
 use Rattle.lsm_open.specs.CrashState.{CrashState, in_next_generation}
 use Rattle.lsm_open.specs.LogRegions.{first_region, one_if_some}
-use Rattle.lsm_open.specs.Layout.{open_batches, IsOpened}
+use Rattle.lsm_open.specs.Layout.{open_batches, IsLogAtIfOpen}
 use Rattle.lsm_open.specs.Placements.{Placement, table_map, closed_in, IsHeld, Carries, state_with, present_state}
 use Rattle.lsm_open.specs.Replacing.{MayReplace}
-use Rattle.lsm_open.specs.Switching.{MayBeInstalled, merged, Parts, with_inputs, with_outputs, IsKept, AreMerged}
+use Rattle.lsm_open.specs.Switching.{MayBeInstalled, merged, Parts, with_inputs, with_outputs, KeepsNewestOrMap, AreMerged}
 use Rattle.lsm_open.specs.Tables.{versions_at, table_versions, IsTableAt}
 use Rattle.lsm_open.specs.declared.regions.OpenRegion.{OpenRegion}
 use Rattle.lsm_open.proofs.Flushing.{joined_versions}
@@ -40,7 +40,7 @@ Tables = List TableRecord
 module _ (n base : ℕ) (c : Sectors) (x : Parts) (new : List TableRecord) (each : All (IsTableAt n base c) (with_inputs x)) (order : IsVersionOrder (map (versions_at n c) (with_inputs x)))
     (each_new : All (IsTableAt n base c) new) (order_new : IsVersionOrder (map (versions_at n c) new))
     (may : MayReplace (table_versions n c x.upper) (table_versions n c x.between) (table_versions n c x.lower) (table_versions n c new))
-    (kept : IsKept base (table_versions n c x.upper ++ table_versions n c x.lower) (table_versions n c x.behind) (table_versions n c new)) where
+    (kept : KeepsNewestOrMap base (table_versions n c x.upper ++ table_versions n c x.lower) (table_versions n c x.behind) (table_versions n c new)) where
   abbrev places : List TableRecord → List Versions
   places ts = map (versions_at n c) ts
 
@@ -67,12 +67,12 @@ module _ (n base : ℕ) (c : Sectors) (x : Parts) (new : List TableRecord) (each
       (subst (λ (l : Versions). MayReplace (table_versions n c x.upper) (table_versions n c x.between) l (joined (places new))) (sym (joined_versions n c x.lower))
       (subst (λ (o : Versions). MayReplace (table_versions n c x.upper) (table_versions n c x.between) (table_versions n c x.lower) o) (sym (joined_versions n c new)) may)))
 
-  kept_places : IsKept base (joined (map (versions_at n c) x.upper) ++ joined (map (versions_at n c) x.lower)) (joined (map (versions_at n c) x.behind)) (joined (map (versions_at n c) new))
+  kept_places : KeepsNewestOrMap base (joined (map (versions_at n c) x.upper) ++ joined (map (versions_at n c) x.lower)) (joined (map (versions_at n c) x.behind)) (joined (map (versions_at n c) new))
   kept_places =
-      subst (λ (u : Versions). IsKept base (u ++ joined (places x.lower)) (joined (places x.behind)) (joined (places new))) (sym (joined_versions n c x.upper))
-      (subst (λ (l : Versions). IsKept base (table_versions n c x.upper ++ l) (joined (places x.behind)) (joined (places new))) (sym (joined_versions n c x.lower))
-      (subst (λ (d : Versions). IsKept base (table_versions n c x.upper ++ table_versions n c x.lower) d (joined (places new))) (sym (joined_versions n c x.behind))
-      (subst (λ (o : Versions). IsKept base (table_versions n c x.upper ++ table_versions n c x.lower) (table_versions n c x.behind) o) (sym (joined_versions n c new)) kept)))
+      subst (λ (u : Versions). KeepsNewestOrMap base (u ++ joined (places x.lower)) (joined (places x.behind)) (joined (places new))) (sym (joined_versions n c x.upper))
+      (subst (λ (l : Versions). KeepsNewestOrMap base (table_versions n c x.upper ++ l) (joined (places x.behind)) (joined (places new))) (sym (joined_versions n c x.lower))
+      (subst (λ (d : Versions). KeepsNewestOrMap base (table_versions n c x.upper ++ table_versions n c x.lower) d (joined (places new))) (sym (joined_versions n c x.behind))
+      (subst (λ (o : Versions). KeepsNewestOrMap base (table_versions n c x.upper ++ table_versions n c x.lower) (table_versions n c x.behind) o) (sym (joined_versions n c new)) kept)))
 
   pub merged_order : IsVersionOrder (map (versions_at n c) (with_outputs x new))
   merged_order = subst IsVersionOrder (sym outputs_places) (merge_order (places x.before) (places x.upper) (places x.between) (places x.lower) (places x.behind) (places new) ordered may_places order_new)
@@ -91,7 +91,7 @@ module _ (n base : ℕ) (c : Sectors) (x : Parts) (new : List TableRecord) (each
       ≡ value_at (joined (map (versions_at n c) x.before ++ (map (versions_at n c) x.upper ++ (map (versions_at n c) x.between ++ (map (versions_at n c) x.lower ++ map (versions_at n c) x.behind))))) base q
   same_values = by kept_places
     where
-      by : IsKept base (joined (map (versions_at n c) x.upper) ++ joined (map (versions_at n c) x.lower)) (joined (map (versions_at n c) x.behind)) (joined (map (versions_at n c) new))
+      by : KeepsNewestOrMap base (joined (map (versions_at n c) x.upper) ++ joined (map (versions_at n c) x.lower)) (joined (map (versions_at n c) x.behind)) (joined (map (versions_at n c) new))
           → (q : Bytes) → value_at (joined (map (versions_at n c) x.before ++ (map (versions_at n c) x.between ++ (map (versions_at n c) new ++ map (versions_at n c) x.behind)))) base q
           ≡ value_at (joined (map (versions_at n c) x.before ++ (map (versions_at n c) x.upper ++ (map (versions_at n c) x.between ++ (map (versions_at n c) x.lower ++ map (versions_at n c) x.behind))))) base q
       by (inl same) = λ q. ap (option_and_then (λ (v : Version). v.value)) (merge_newest (places x.before) (places x.upper) (places x.between) (places x.lower) (places x.behind) (places new) ordered may_places base same q)
@@ -111,7 +111,7 @@ module _ (p : Placement) (c : Sectors) (next_table runs : ℕ) (x : Parts) (new 
   order_was : IsVersionOrder (map (versions_at p.logs.log_sectors c) (with_inputs x))
   order_was = subst (λ (ts : Tables). IsVersionOrder (map (versions_at p.logs.log_sectors c) ts)) are.was held.tables.order
 
-  opened_by : (o : Option OpenRegion) → IsOpened p.logs (at_rest c) o → IsOpened (merged p next_table runs (with_outputs x new)).logs (at_rest c) o
+  opened_by : (o : Option OpenRegion) → IsLogAtIfOpen p.logs (at_rest c) o → IsLogAtIfOpen (merged p next_table runs (with_outputs x new)).logs (at_rest c) o
   opened_by (Some o) opened = record { region = opened.region; start = opened.start; sectors = opened.sectors; epoch = omega (arith, opened.epoch); is_open = opened.is_open }
   opened_by None opened = tt
 

@@ -12,7 +12,7 @@ use Rattle.lsm_log.proofs.Epochs.{later_is_free, none_above_more}
 use Rattle.lsm_log.proofs.Logs.{none_read, new_open}
 use Rattle.lsm_open.specs.CrashState.{last_number}
 use Rattle.lsm_open.specs.LogRegions.{first_region, region_start, batches_at, all_batches, follow_on}
-use Rattle.lsm_open.specs.Layout.{open_records, open_batches, IsOther, IsOpened}
+use Rattle.lsm_open.specs.Layout.{open_records, open_batches, IsOther, IsLogAtIfOpen}
 use Rattle.lsm_open.specs.Placements.{Placement, IsHeld}
 use Rattle.lsm_open.specs.Reopening.{least_free, IsNewLog, IsNewIfOpen}
 use Rattle.lsm_open.specs.Switching.{IsInLeastFree}
@@ -73,7 +73,7 @@ module _ (q : Placement) (g count : ℕ) (c : Sectors) (all : HoldsAll q g count
         last_high = omega (arith, fresh_log.first, all.count_high);
       }
 
-  opened_by : (o : Option OpenRegion) → q.logs.open_region ≡ o → IsOpened q.logs (at_rest c) o
+  opened_by : (o : Option OpenRegion) → q.logs.open_region ≡ o → IsLogAtIfOpen q.logs (at_rest c) o
   opened_by None is = tt
   opened_by (Some o) is =
       let fresh_log = new_of o is in

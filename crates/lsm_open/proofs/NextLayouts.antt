@@ -5,7 +5,7 @@ use Rattle.std.proofs.Math.Nat.{mul-le-mul_right}
 use Rattle.lsm_codec.specs.declared.log_record.LogRecord.{LogRecord}
 use Rattle.lsm_codec.specs.declared.table_record.TableRecord.{TableRecord}
 use Rattle.lsm_codec.specs.Manifests.{Contents, IsManifest}
-use Rattle.lsm_open.specs.Answered.{IsInsideIfOpen}
+use Rattle.lsm_open.specs.Answered.{IsNewRegionIfOpen}
 use Rattle.lsm_open.specs.CrashState.{last_number}
 use Rattle.lsm_open.specs.LogRegions.{first_region}
 use Rattle.lsm_open.specs.Layout.{Layout, open_records}
@@ -58,7 +58,7 @@ module _ (size k : ℕ) (m : Contents) (count : ℕ) (l : Layout) (geometry : Is
   next_here : IsManifest (next_contents m l.closed count)
   next_here = next_fits m count l.closed fits come has_next
 
-  pub opened_in : (o : Option OpenRegion) → l.open_region ≡ o → IsNewIfOpen k (m.generation + 1) count o → IsInsideIfOpen size l.log_sectors l.generation count o
+  pub opened_in : (o : Option OpenRegion) → l.open_region ≡ o → IsNewIfOpen k (m.generation + 1) count o → IsNewRegionIfOpen size l.log_sectors l.generation count o
   opened_in None is new = tt
   opened_in (Some o) is new =
       let low : o.region ≤ 2 = least_low l.closed o.region (sym next.least ∙ ap (option_map (λ (x : OpenRegion). x.region)) is) in

@@ -8,9 +8,9 @@ use Rattle.lsm_codec.specs.Map.{Operation, apply_all}
 use Rattle.lsm_device.specs.Disk.{Disk, at_rest, seen, synced}
 use Rattle.lsm_open.specs.CrashState.{CrashState, last_number}
 use Rattle.lsm_open.specs.LogRegions.{batches_at, all_batches, follow_on, one_if_some}
-use Rattle.lsm_open.specs.Layout.{record_of, open_records, open_batches, IsOpened}
+use Rattle.lsm_open.specs.Layout.{record_of, open_records, open_batches, IsLogAtIfOpen}
 use Rattle.lsm_open.specs.Placements.{Placement, table_map, closed_in, IsHeld, Carries, state_with, present_state}
-use Rattle.lsm_open.specs.Switching.{MayBeInstalled, rotated, left_rotated, MayRotate, IsInLeastFree}
+use Rattle.lsm_open.specs.Switching.{MayBeInstalled, rotated_placement, left_rotated, MayRotate, IsInLeastFree}
 use Rattle.lsm_open.specs.declared.regions.OpenRegion.{OpenRegion}
 use Rattle.lsm_open.proofs.FreeWrites.{held_synced, present_synced}
 use Rattle.lsm_open.proofs.HeldRegions.{all_open, placed}
@@ -32,7 +32,7 @@ module _ (p : Placement) (c : Sectors) (o : OpenRegion) (count : ℕ) (held : Is
   now_closed : all_batches p.logs.log_sectors c (open_records p.logs.open_region) ≡ open_batches p.logs.open_region c
   now_closed = all_open p.logs.log_sectors c p.logs.open_region (placed p.logs (at_rest c) p.logs.open_region held.opened)
 
-  holds_by : (x : Option OpenRegion) → IsOpened p.logs (at_rest c) x → (IsSome x → 1 ≤ length (open_batches x c)) → all_batches p.logs.log_sectors c (open_records x) ≡ open_batches x c → All (HoldsBatches p.logs.log_sectors c) (open_records x)
+  holds_by : (x : Option OpenRegion) → IsLogAtIfOpen p.logs (at_rest c) x → (IsSome x → 1 ≤ length (open_batches x c)) → all_batches p.logs.log_sectors c (open_records x) ≡ open_batches x c → All (HoldsBatches p.logs.log_sectors c) (open_records x)
   holds_by None opened has same = All-nil (HoldsBatches p.logs.log_sectors c)
   holds_by (Some x) opened has same =
       let here : batches_at p.logs.log_sectors c (record_of x) ≡ open_batches (Some x) c = sym (append-nil (batches_at p.logs.log_sectors c (record_of x))) ∙ same in
@@ -44,7 +44,7 @@ module _ (p : Placement) (c : Sectors) (o : OpenRegion) (count : ℕ) (held : Is
   alone : length (closed_in p c ++ open_batches p.logs.open_region c) ≡ length (open_batches p.logs.open_region c)
   alone = ap (λ (t : Batches). length (t ++ open_batches p.logs.open_region c)) none_before
 
-  holds_all : HoldsAll (rotated p o) p.logs.generation count c
+  holds_all : HoldsAll (rotated_placement p o) p.logs.generation count c
   holds_all = record {
     generation = refl;
     inside = held.inside;
@@ -57,28 +57,28 @@ module _ (p : Placement) (c : Sectors) (o : OpenRegion) (count : ℕ) (held : Is
     count_high = count_high;
   }
 
-  pub rotate_held : IsHeld (rotated p o) (at_rest c)
-  rotate_held = new_held (rotated p o) p.logs.generation count c holds_all new
+  pub rotate_held : IsHeld (rotated_placement p o) (at_rest c)
+  rotate_held = new_held (rotated_placement p o) p.logs.generation count c holds_all new
 
-  batches_are : closed_in p c ++ open_batches p.logs.open_region c ≡ closed_in (rotated p o) c ++ open_batches (Some o) c
+  batches_are : closed_in p c ++ open_batches p.logs.open_region c ≡ closed_in (rotated_placement p o) c ++ open_batches (Some o) c
   batches_are =
       ap (λ (t : Batches). t ++ open_batches p.logs.open_region c) none_before
       ∙ sym now_closed
       ∙ sym (append-nil (all_batches p.logs.log_sectors c (open_records p.logs.open_region)))
-      ∙ ap (λ (t : Batches). all_batches p.logs.log_sectors c (open_records p.logs.open_region) ++ t) (sym (new_empty (rotated p o) p.logs.generation count c holds_all new))
+      ∙ ap (λ (t : Batches). all_batches p.logs.log_sectors c (open_records p.logs.open_region) ++ t) (sym (new_empty (rotated_placement p o) p.logs.generation count c holds_all new))
 
   -- the same batches, all in the region that is closed now
-  pub rotate_state : record (state_with p c (open_batches p.logs.open_region c)) { closed = length (open_records p.logs.open_region); generation = p.logs.generation + 1 } ≡ state_with (rotated p o) c (open_batches (Some o) c)
+  pub rotate_state : record (state_with p c (open_batches p.logs.open_region c)) { closed = length (open_records p.logs.open_region); generation = p.logs.generation + 1 } ≡ state_with (rotated_placement p o) c (open_batches (Some o) c)
   rotate_state =
       let none : length (open_records p.logs.open_region) ≡ length (open_records p.logs.open_region) + 0 = omega arith in
       ap (λ (bs : Batches). made bs (length (open_records p.logs.open_region))) batches_are
-      ∙ ap (λ (k : ℕ). made (closed_in (rotated p o) c ++ open_batches (Some o) c) k) (none ∙ ap (λ (t : Batches). length (open_records p.logs.open_region) + one_if_some t) (sym (new_empty (rotated p o) p.logs.generation count c holds_all new)))
+      ∙ ap (λ (k : ℕ). made (closed_in (rotated_placement p o) c ++ open_batches (Some o) c) k) (none ∙ ap (λ (t : Batches). length (open_records p.logs.open_region) + one_if_some t) (sym (new_empty (rotated_placement p o) p.logs.generation count c holds_all new)))
     where
       made : Batches → ℕ → CrashState
       made bs k = record { count = p.logs.base + length bs; map = apply_all (table_map p c) bs; closed = k; generation = p.logs.generation + 1 }
 
 pub rotate_installs : (p : Placement) (d : Disk) (o : OpenRegion) → Carries d p → MayRotate p d
-    → IsInLeastFree p.logs.log_sectors (p.logs.generation + 1) (present_state p d).count (open_records p.logs.open_region) (Some o) → MayBeInstalled (rotated p o) (left_rotated p d) d
+    → IsInLeastFree p.logs.log_sectors (p.logs.generation + 1) (present_state p d).count (open_records p.logs.open_region) (Some o) → MayBeInstalled (rotated_placement p o) (left_rotated p d) d
 rotate_installs p d o carried may new =
     let held = held_synced p d carried.held in
     let same : present_state p (synced d) ≡ present_state p d = present_synced p d carried.held in

@@ -17,7 +17,7 @@ use Rattle.lsm_log.proofs.Logs.{open_same}
 use Rattle.lsm_mem.specs.Versions.{map_of}
 use Rattle.lsm_open.specs.CrashState.{CrashState}
 use Rattle.lsm_open.specs.LogRegions.{first_region, region_start, batches_at, one_if_some}
-use Rattle.lsm_open.specs.Layout.{open_batches, IsOpened}
+use Rattle.lsm_open.specs.Layout.{open_batches, IsLogAtIfOpen}
 use Rattle.lsm_open.specs.Image.{StandFor, StandForSome}
 use Rattle.lsm_open.specs.Placements.{Placement, contents_for, table_map, closed_in, IsHeld, Carries, state_with, present_state}
 use Rattle.lsm_open.specs.Switching.{MayBeInstalled, IsSwitched}
@@ -84,7 +84,7 @@ module _ (q : Placement) (c e : Sectors) (behind : drop 130 c ≡ drop 130 e) (s
   region_same : (r : LogRecord) → batches_at q.logs.log_sectors c r ≡ batches_at q.logs.log_sectors e r
   region_same r = ap (replay r.epoch r.first_batch) (area_behind c e behind (region_start q.logs.log_sectors r.region) q.logs.log_sectors (omega arith))
 
-  opened_behind : (o : Option OpenRegion) → IsOpened q.logs (at_rest e) o → IsOpened q.logs (at_rest c) o
+  opened_behind : (o : Option OpenRegion) → IsLogAtIfOpen q.logs (at_rest e) o → IsLogAtIfOpen q.logs (at_rest c) o
   opened_behind (Some o) opened = record {
     region = opened.region;
     start = opened.start;
@@ -94,7 +94,7 @@ module _ (q : Placement) (c e : Sectors) (behind : drop 130 c ≡ drop 130 e) (s
   }
   opened_behind None opened = tt
 
-  open_same_behind : (o : Option OpenRegion) → IsOpened q.logs (at_rest e) o → open_batches o c ≡ open_batches o e
+  open_same_behind : (o : Option OpenRegion) → IsLogAtIfOpen q.logs (at_rest e) o → open_batches o c ≡ open_batches o e
   open_same_behind (Some o) opened = ap (replay o.log.epoch o.log.first) (area_behind c e behind o.log.start o.log.sectors (omega (arith, opened.start)))
   open_same_behind None opened = refl
 

@@ -10,13 +10,13 @@ use Rattle.lsm_levels.specs.Stored.{blocks_from}
 use Rattle.lsm_mem.specs.Versions.{NumberedAtMost}
 use Rattle.lsm_open.specs.Tables.{extent_at, blocks_at, versions_if, IsTableAt}
 use Rattle.lsm_table.specs.Division.{TableBlocks, IsTable, entries_of}
-use Rattle.lsm_table.specs.Extents.{extent_of}
+use Rattle.lsm_table.specs.Extents.{extent_in_blocks}
 use Rattle.lsm_table.specs.Outlines.{IsRecordOf, outline_in}
 use Rattle.lsm_table.specs.Stored.{table_in, outline_at}
 use Rattle.lsm_table.proofs.Outlines.{edge_count}
 use Rattle.lsm_table.proofs.StoredTables.{stored_laws_hold}
 
-pub table_stands : (n base : ℕ) (sectors : List (List ℕ)) (t : TableRecord) (filter : List ℕ) (table : TableBlocks) → blocks_from (extent_at n sectors t) 0 (extent_blocks t) ≡ extent_of t.number filter table
+pub table_stands : (n base : ℕ) (sectors : List (List ℕ)) (t : TableRecord) (filter : List ℕ) (table : TableBlocks) → blocks_from (extent_at n sectors t) 0 (extent_blocks t) ≡ extent_in_blocks t.number filter table
     → IsTable table → t.number ≤ 2 ^ 63 → IsRecordOf t (outline_in t.number filter table) → AllByRecursion (λ v. is_perhaps filter v.key ≡ true) (entries_of table) → NumberedAtMost base (entries_of table)
     → IfSome t.deletes (λ deletes. deletes ≡ deletes_in (entries_of table)) → IsTableAt n base sectors t
 table_stands n base sectors t filter table blocks is high recorded members numbered counted =

@@ -11,12 +11,12 @@ abbrev pub OpensUnless : {X : Type 0} → Option Refusal → Result X Refusal �
 OpensUnless refusal result = MatchResult result (λ x. refusal ≡ None) (λ e. (refusal ≡ Some e) ⊎ ((e ≡ NoMemory) ⊎ (e ≡ Io)))
 
 -- an open region of a device of this size: a new log of the generation, behind so many batches
-pub record IsInside (size log_sectors generation count : ℕ) (o : OpenRegion) : Type 0 where
+pub record IsNewRegion (size log_sectors generation count : ℕ) (o : OpenRegion) : Type 0 where
   pub region : o.region ≤ 2
   pub within : o.log.start + o.log.sectors ≤ size
   pub numbers : AreNumbers o.log.epoch o.log.first 0
   pub new_log : IsNewLog log_sectors generation count o
 
-abbrev pub IsInsideIfOpen : ℕ → ℕ → ℕ → ℕ → Option OpenRegion → Type 0
-IsInsideIfOpen size log_sectors generation count (Some o) = IsInside size log_sectors generation count o
-IsInsideIfOpen size log_sectors generation count None = Unit {0}
+abbrev pub IsNewRegionIfOpen : ℕ → ℕ → ℕ → ℕ → Option OpenRegion → Type 0
+IsNewRegionIfOpen size log_sectors generation count (Some o) = IsNewRegion size log_sectors generation count o
+IsNewRegionIfOpen size log_sectors generation count None = Unit {0}

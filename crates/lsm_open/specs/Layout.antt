@@ -55,6 +55,6 @@ pub record IsLogAt (log_sectors generation : ℕ) (d : Disk) (o : OpenRegion) : 
   pub epoch : o.log.epoch ≤ generation
   pub is_open : IsOpen o.log d
 
-abbrev pub IsOpened : Layout → Disk → Option OpenRegion → Type 0
-IsOpened l d (Some o) = IsLogAt l.log_sectors l.generation d o
-IsOpened l d None = Unit {0}
+abbrev pub IsLogAtIfOpen : Layout → Disk → Option OpenRegion → Type 0
+IsLogAtIfOpen l d (Some o) = IsLogAt l.log_sectors l.generation d o
+IsLogAtIfOpen l d None = Unit {0}

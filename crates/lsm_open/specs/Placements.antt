@@ -10,7 +10,7 @@ use Rattle.lsm_log.specs.Opened.{NoneAboveIn}
 use Rattle.lsm_mem.specs.Versions.{map_of}
 use Rattle.lsm_open.specs.CrashState.{CrashState}
 use Rattle.lsm_open.specs.LogRegions.{first_region, all_batches, follow_on, one_if_some}
-use Rattle.lsm_open.specs.Layout.{Layout, open_records, open_batches, IsClosed, IsOpened}
+use Rattle.lsm_open.specs.Layout.{Layout, open_records, open_batches, IsClosed, IsLogAtIfOpen}
 use Rattle.lsm_open.specs.Tables.{first_data, extent_start, extent_length, table_versions, AreTables}
 use Rattle.lsm_root.specs.Installed.{IsSettled}
 use Rattle.lsm_root.specs.Roots.{Stands, root_of}
@@ -44,7 +44,7 @@ pub record IsHeld (p : Placement) (d : Disk) : Type 0 where
   pub inside : first_region + 3 * p.logs.log_sectors ≤ length d.stands
   pub closed : All (IsClosed p.logs d) p.logs.closed
   pub follows : follow_on p.logs.log_sectors d.stands (p.logs.base + 1) (contents_for p).logs ≡ true
-  pub opened : IsOpened p.logs d p.logs.open_region
+  pub opened : IsLogAtIfOpen p.logs d p.logs.open_region
   pub above : NoneAboveIn p.logs.generation first_region (3 * p.logs.log_sectors) d
   pub tables : AreTables p.logs.log_sectors p.logs.base p.tables d.stands
   pub still : All (IsStill p d) p.tables

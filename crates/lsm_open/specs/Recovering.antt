@@ -21,7 +21,7 @@ use Rattle.lsm_levels.specs.Stored.{AreStored, AreWithin, AreNumberedBelow}
 use Rattle.lsm_levels.specs.Tables.{versions_of}
 use Rattle.lsm_mem.specs.EntryOrder.{with_batches}
 use Rattle.lsm_mem.specs.Versions.{NumberedAtMost, NumberedBelow, map_of, sealed_versions}
-use Rattle.lsm_open.specs.Answered.{IsInsideIfOpen}
+use Rattle.lsm_open.specs.Answered.{IsNewRegionIfOpen}
 use Rattle.lsm_open.specs.Counting.{IsCountedRoot}
 use Rattle.lsm_open.specs.CrashState.{CrashState, last_number, in_next_generation, left_by_opening, MayRefuseOpening}
 use Rattle.lsm_open.specs.Image.{count_in, StandForSome}
@@ -89,7 +89,7 @@ pub record AreWithinLimits (size : ℕ) (p : Placement) (count : ℕ) (sealed : 
   pub manifest : IsManifest (contents_for p)
   pub inside : LieInside size p.logs.log_sectors p.tables
   pub least : option_map (λ o. o.region) p.logs.open_region ≡ least_free p.logs.closed
-  pub opened : IsInsideIfOpen size p.logs.log_sectors p.logs.generation count p.logs.open_region
+  pub opened : IsNewRegionIfOpen size p.logs.log_sectors p.logs.generation count p.logs.open_region
   pub count_high : count ≤ last_number
   pub sealed_if : (sealed ≡ None) ↔ (length p.logs.closed ≡ 0)
   pub numbered : NumberedBelow (count + 1) (sealed_versions sealed)

@@ -37,8 +37,8 @@ IsSwitched log_sectors P start q left sectors =
 -- ---- a rotation
 
 -- The placement after a rotation, where no region was closed: the open log's is, if one was open, and a new log is open.
-abbrev pub rotated : Placement → OpenRegion → Placement
-rotated p o = record p { logs = record p.logs { generation = p.logs.generation + 1; closed = open_records p.logs.open_region; open_region = Some o } }
+abbrev pub rotated_placement : Placement → OpenRegion → Placement
+rotated_placement p o = record p { logs = record p.logs { generation = p.logs.generation + 1; closed = open_records p.logs.open_region; open_region = Some o } }
 
 -- what it leaves: the same count and map
 abbrev pub left_rotated : Placement → Disk → CrashState
@@ -114,8 +114,8 @@ abbrev pub with_outputs : Parts → List TableRecord → List TableRecord
 with_outputs x new = x.before ++ (x.between ++ (new ++ x.behind))
 
 -- what the outputs keep: the newest versions of the inputs, or at the bottom their map, with none of their keys behind
-abbrev pub IsKept : ℕ → List Version → List Version → List Version → Type 0
-IsKept n inputs behind outputs = HaveSameNewest n inputs outputs ⊎ (HaveSameMap n inputs outputs × ShareNoKey inputs behind)
+abbrev pub KeepsNewestOrMap : ℕ → List Version → List Version → List Version → Type 0
+KeepsNewestOrMap n inputs behind outputs = HaveSameNewest n inputs outputs ⊎ (HaveSameMap n inputs outputs × ShareNoKey inputs behind)
 
 -- The new tables are of what a merge keeps of its inputs, and stand in their run.
 pub record AreMerged (p : Placement) (sectors : List (List ℕ)) (x : Parts) (new : List TableRecord) : Type 0 where
@@ -124,7 +124,7 @@ pub record AreMerged (p : Placement) (sectors : List (List ℕ)) (x : Parts) (ne
   pub order : IsVersionOrder (map (versions_at p.logs.log_sectors sectors) new)
   pub ascend : Pairwise (AscendInRun p.logs.log_sectors sectors) (with_outputs x new)
   pub may : MayReplace (table_versions p.logs.log_sectors sectors x.upper) (table_versions p.logs.log_sectors sectors x.between) (table_versions p.logs.log_sectors sectors x.lower) (table_versions p.logs.log_sectors sectors new)
-  pub kept : IsKept p.logs.base (table_versions p.logs.log_sectors sectors x.upper ++ table_versions p.logs.log_sectors sectors x.lower) (table_versions p.logs.log_sectors sectors x.behind) (table_versions p.logs.log_sectors sectors new)
+  pub kept : KeepsNewestOrMap p.logs.base (table_versions p.logs.log_sectors sectors x.upper ++ table_versions p.logs.log_sectors sectors x.lower) (table_versions p.logs.log_sectors sectors x.behind) (table_versions p.logs.log_sectors sectors new)
 
 -- ---- an opening
 

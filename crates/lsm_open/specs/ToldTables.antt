@@ -147,14 +147,14 @@ beside_data_from m k = blocks_beside_data (filter (λ t. leb k (run_place m.runs
 -- ---- extents
 
 -- the extent of a record's table
-abbrev pub extent_of : TableRecord → Extent
-extent_of t = record { first = t.first_block; blocks = extent_blocks t }
+abbrev pub record_extent : TableRecord → Extent
+record_extent t = record { first = t.first_block; blocks = extent_blocks t }
 
 -- The data area of so many blocks, where the extents of these tables are handed out, and no other block.
 pub record Held (blocks : ℕ) (tables : List TableRecord) (area : Area) : Type 0 where
   pub size : area.blocks ≡ blocks
-  pub each : All (λ t. Contains area.held (extent_of t)) tables
-  pub only : (k : ℕ) → is_held area.held k ≡ list_any (λ t. covers k (extent_of t)) tables
+  pub each : All (λ t. Contains area.held (record_extent t)) tables
+  pub only : (k : ℕ) → is_held area.held k ≡ list_any (λ t. covers k (record_extent t)) tables
 
 -- ---- tables that stand
 

@@ -11,7 +11,7 @@ ghost use Rattle.lsm_open.specs.Counting.{counted};
 ghost use Rattle.lsm_open.specs.Image.{count_in, StandFor};
 ghost use Rattle.lsm_open.specs.Placements.{Placement, contents_for, closed_in, Carries, present_state, MayBeLeft};
 ghost use Rattle.lsm_open.specs.Reopening.{kept_records};
-ghost use Rattle.lsm_open.specs.Switching.{MayBeInstalled, IsSwitched, rotated, left_rotated, MayRotate, IsInLeastFree, flushed, left_flushed, AreFlushed, merged, Parts, with_outputs, AreMerged, reopened_at, MayReopen};
+ghost use Rattle.lsm_open.specs.Switching.{MayBeInstalled, IsSwitched, rotated_placement, left_rotated, MayRotate, IsInLeastFree, flushed, left_flushed, AreFlushed, merged, Parts, with_outputs, AreMerged, reopened_at, MayReopen};
 ghost use Rattle.lsm_open.specs.declared.regions.OpenRegion.{OpenRegion};
 ghost use Rattle.lsm_root.specs.Installed.{IsOldOrNew, IsInstalled};
 ghost use Rattle.lsm_root.specs.Roots.{Stands};
@@ -38,7 +38,7 @@ pub fn installs_switch()
 pub fn rotations_may_be_installed()
     ensures { (p : Placement) (d : Disk) (o : OpenRegion) → Carries d p → MayRotate p d
         → IsInLeastFree p.logs.log_sectors (p.logs.generation + 1) (present_state p d).count (open_records p.logs.open_region) (Some o)
-        → MayBeInstalled (rotated p o) (left_rotated p d) d }
+        → MayBeInstalled (rotated_placement p o) (left_rotated p d) d }
 {}
 
 /// A flush may be installed where its tables are written: they are the newest run, and the batches of the closed regions are

@@ -17,7 +17,7 @@ ghost use Rattle.lsm_open.specs.Writing.{PlacedTable, tables_of, IsWritten, IsCl
 ghost use Rattle.lsm_root.specs.Installed.{IsInstalled};
 ghost use Rattle.lsm_root.specs.Roots.{Stands};
 ghost use Rattle.lsm_table.specs.Division.{TableBlocks, IsTable, entries_of};
-ghost use Rattle.lsm_table.specs.Extents.{extent_of};
+ghost use Rattle.lsm_table.specs.Extents.{extent_in_blocks};
 ghost use Rattle.lsm_table.specs.Outlines.{IsRecordOf, outline_in};
 
 /// The next sectors of an image, in an extent that no table's meets, are writes to blocks of no table.
@@ -53,7 +53,7 @@ pub fn installs_take_over()
 pub fn written_tables_stand()
     ensures all { (log_sectors : ℕ) (d : Disk) (x : PlacedTable) → IsWritten log_sectors d x → x.done ≡ length x.image → extent_at log_sectors (seen d) x.table ≡ x.image }
     ensures stands { (log_sectors base : ℕ) (sectors : List (List ℕ)) (t : TableRecord) (filter : List ℕ) (table : TableBlocks)
-        → blocks_from (extent_at log_sectors sectors t) 0 (extent_blocks t) ≡ extent_of t.number filter table → IsTable table → t.number ≤ 2 ^ 63 → IsRecordOf t (outline_in t.number filter table)
+        → blocks_from (extent_at log_sectors sectors t) 0 (extent_blocks t) ≡ extent_in_blocks t.number filter table → IsTable table → t.number ≤ 2 ^ 63 → IsRecordOf t (outline_in t.number filter table)
         → AllByRecursion (λ v. is_perhaps filter v.key ≡ true) (entries_of table) → NumberedAtMost base (entries_of table)
         → IfSome t.deletes (λ deletes. deletes ≡ deletes_in (entries_of table)) → IsTableAt log_sectors base sectors t }
 {}

@@ -9,7 +9,7 @@ use Rattle.lsm_store.specs.Machine.{Step, Called, Worked}
 use Rattle.lsm_store.specs.Serving.{Serves}
 use Rattle.lsm_store.specs.Work.{Work, Take, Read, Ask, Accept, Write, Install, Drop}
 use Rattle.lsm_store.specs.Working.{Works, ServesStep}
-use Rattle.lsm_upkeep.specs.Finishing.{HasLeft, IsFinished, IsGivenUp, IsHeldUp, IsOffered, IsReadWhole, IsStuck, IsUndone, IsUnfinished, IsUnmerged, IsUnread, LeavesSome, Taken}
+use Rattle.lsm_upkeep.specs.Finishing.{HasLeft, IsFinished, IsGivenUp, DoesNotGoThrough, IsOffered, IsReadWhole, IsStuck, IsUndone, IsUnfinished, IsUnmerged, IsUnread, LeavesBlocksEachTime, Taken}
 use Rattle.lsm_upkeep.specs.Keeping.{IsSameMap, KeepsMap}
 use Rattle.lsm_upkeep.specs.Upkeep.{AreDone, AsksChosen, Compacts, IsIdle, IsNoMore}
 use Rattle.lsm_upkeep.proofs.KeptMaps.{onward, rotate_keeps, stays as stays_same, works_keep}
@@ -57,14 +57,14 @@ module _ (call : Call) where
 
   -- ---- one job
 
-  some_left : (piece : Work) (n : ℕ) (old new : StoreView) → LeavesSome piece n old new → Passes call old new
+  some_left : (piece : Work) (n : ℕ) (old new : StoreView) → LeavesBlocksEachTime piece n old new → Passes call old new
   some_left piece zero old new e = stays old new e
   some_left piece (suc n) old new (mid, before, left, w) = then old mid new (some_left piece n old mid before) (works mid new piece _ w)
 
   left_last : (piece : Work) (left : ℕ) (old new : StoreView) → HasLeft piece left old new → Passes call old new
   left_last piece left old new h = then old h.last new (some_left piece h.count old h.last h.some) (works h.last new piece _ h.told)
 
-  held_up : (piece : Work) (old new : StoreView) → IsHeldUp piece old new → Passes call old new
+  held_up : (piece : Work) (old new : StoreView) → DoesNotGoThrough piece old new → Passes call old new
   held_up piece old new (inl (count, last, before, (e, w))) = then old last new (some_left piece count old last before) (works last new piece _ w)
   held_up piece old new (inr (mid, before, now, h, w, le)) = then old mid new (left_last piece (suc before) old mid h) (works mid new piece _ w)
 

@@ -30,7 +30,7 @@ use Rattle.lsm_lives.specs.Calls.{reply_of, told_of}
 use Rattle.lsm_lives.specs.declared.calls.Reply.{Reply as GivenReply}
 use Rattle.lsm_lives.proofs.Made.{called_told}
 use Rattle.lsm_shared.specs.Holds.{AreServedBy}
-use Rattle.lsm_shared.specs.Sessions.{IsPinned, SessionView, IsSession, Knows, Finds, HasSeen, Enters, EntersOne, EntersStep, IsMade, IsFull, IsReserved, IsShort, IsLost}
+use Rattle.lsm_shared.specs.Sessions.{IsPinned, SessionView, IsSession, Knows, Finds, HasSeen, Enters, EntersOne, EntersStep, IsMade, IsFull, IsReserved, FindsNoMemory, IsLost}
 use Rattle.lsm_shared.proofs.Faults.{device_unused, device_entered, device_kept}
 
 -- ---- a step that a store served
@@ -265,7 +265,7 @@ session_kept id base store new log session call reply serves short = record {
 
 -- what its hold did
 pub short_to : (id : SessionId) (old : SessionView) (new : StoreView) (c d : Known) (call : Call) (reply : Reply) → Finds id old c → d ≡ known id.begin c.number old.log c.mine → length old.log < id.begin.limit
-    → Serves old.store call reply new → IsLost reply → IsShort id old c call (record { store = new; log = old.log }) d
+    → Serves old.store call reply new → IsLost reply → FindsNoMemory id old c call (record { store = new; log = old.log }) d
 short_to id old new c d call reply finds is room serves short = record {
   enters = entered_none id old new c d finds is (lost_machine old.store new call reply serves short) serves.backed;
   room = room;
@@ -286,9 +286,9 @@ reserved_to id old c d call finds is room releases = record { enters = entered_n
 
 -- the same where the parts of the session are known
 pub short_was : (id : SessionId) (store new : StoreView) (log : List Event) (old : SessionView) → record { store = store; log = log } ≡ old → (c d : Known) (call : Call) (reply : Reply) → Finds id old c → d ≡ known id.begin c.number old.log c.mine
-    → length log < id.begin.limit → Serves store call reply new → IsLost reply → IsShort id old c call (record { store = new; log = log }) d
+    → length log < id.begin.limit → Serves store call reply new → IsLost reply → FindsNoMemory id old c call (record { store = new; log = log }) d
 short_was id store new log old was c d call reply finds shown room serves short =
-    subst (λ (v : SessionView). Finds id v c → d ≡ known id.begin c.number v.log c.mine → IsShort id v c call (record { store = new; log = log }) d) was
+    subst (λ (v : SessionView). Finds id v c → d ≡ known id.begin c.number v.log c.mine → FindsNoMemory id v c call (record { store = new; log = log }) d) was
     (λ f is. short_to id (record { store = store; log = log }) new c d call reply f is room serves short) finds shown
 
 -- what a client knows of an entry that was made after it was shown the history

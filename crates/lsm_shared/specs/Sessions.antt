@@ -160,7 +160,7 @@ pub record IsReserved (id : SessionId) (old : SessionView) (c : Known) (call : C
 
 -- One hold of the lock found no memory, in the store or for a second copy of its reply. The history and the machine are as
 -- they were, and the client has seen the history.
-pub record IsShort (id : SessionId) (old : SessionView) (c : Known) (call : Call) (new : SessionView) (d : Known) : Type 0 where
+pub record FindsNoMemory (id : SessionId) (old : SessionView) (c : Known) (call : Call) (new : SessionView) (d : Known) : Type 0 where
   pub enters : Enters id old c [] new d
   pub room : length old.log < id.begin.limit
   pub admitted : Admits old.store.state call (Refused NoMemory)
@@ -172,7 +172,7 @@ pub record IsShort (id : SessionId) (old : SessionView) (c : Known) (call : Call
 abbrev pub IsRefused : SessionId → SessionView → Known → Call → Refusal → SessionView → Known → Type 0
 IsRefused id old c call TrailFull new d = IsFull id old c new d
 IsRefused id old c call NotYours new d = IsReserved id old c call new d
-IsRefused id old c call NoMemory new d = IsShort id old c call new d
+IsRefused id old c call NoMemory new d = FindsNoMemory id old c call new d
 IsRefused id old c call other new d = ⊥
 
 -- ---- an end

@@ -8,7 +8,7 @@ use Rattle.lsm_extent.specs.Area.{Area, IsPartition}
 use Rattle.lsm_merge.specs.Results.{MergeResult}
 use Rattle.lsm_levels.specs.Held.{AreRuns, IsHeld}
 use Rattle.lsm_levels.specs.Levels.{Levels, all_tables, places}
-use Rattle.lsm_levels.specs.Pick.{Job, Flush, Merge, inputs, installed as installed_levels}
+use Rattle.lsm_levels.specs.Pick.{Job, Flush, Merge, inputs, installed_levels}
 use Rattle.lsm_levels.specs.Tables.{Table}
 use Rattle.lsm_levels.proofs.Moving.{moving_law}
 use Rattle.lsm_jobs.specs.Keeping.{AreKept}

@@ -22,7 +22,7 @@ use Rattle.lsm_log.specs.Replay.{replay}
 use Rattle.lsm_log.proofs.Epochs.{above_crash, above_by_log}
 use Rattle.lsm_open.specs.CrashState.{CrashState}
 use Rattle.lsm_open.specs.Image.{StandFor}
-use Rattle.lsm_open.specs.Layout.{record_of, open_records, open_batches, IsOther, IsClosed, IsOpened, IsLogAt}
+use Rattle.lsm_open.specs.Layout.{record_of, open_records, open_batches, IsOther, IsClosed, IsLogAtIfOpen, IsLogAt}
 use Rattle.lsm_open.specs.LogRegions.{first_region, region_start, follow_on}
 use Rattle.lsm_open.specs.Placements.{Placement, contents_for, table_map, closed_in, IsStill, IsHeld, Carries, state_with}
 use Rattle.lsm_open.specs.Recovering.{StandForOne}
@@ -64,7 +64,7 @@ area_elsewhere start n d ws outside =
 
 module _ (p : Placement) (d : Disk) (held : IsHeld p d) (o : OpenRegion) (is_open : p.logs.open_region ≡ Some o) (ws : List Write) (of_log : All (IsOfLog o.log) ws) where
   pub log_at : IsLogAt p.logs.log_sectors p.logs.generation d o
-  log_at = subst (IsOpened p.logs d) is_open held.opened
+  log_at = subst (IsLogAtIfOpen p.logs d) is_open held.opened
 
   below_data : (o.region + 1) * p.logs.log_sectors ≤ 3 * p.logs.log_sectors
   below_data = mul-le-mul_right p.logs.log_sectors (omega (arith, log_at.region))

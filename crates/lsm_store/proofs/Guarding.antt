@@ -44,7 +44,7 @@ use Rattle.lsm_levels.specs.Orders.{IsVersionOrder}
 use Rattle.lsm_levels.specs.Stored.{IsReadable}
 use Rattle.lsm_store.specs.declared.asked.At.TheVariants.{Now}
 use Rattle.lsm_store.specs.Refusals.{most_guards}
-use Rattle.lsm_store.specs.Work.{versions_at}
+use Rattle.lsm_store.specs.Work.{versions_by_place}
 use Rattle.lsm_store.proofs.Backed.{place_in, readable}
 use Rattle.lsm_store.proofs.Marking.{asked_map}
 use Rattle.lsm_store.proofs.Refusing.{serves_refused}
@@ -288,7 +288,7 @@ module _ (v : StoreView) (guards : List Condition) (batch : List Operation) (non
 
   -- what the versions answer the present map does, where the device backs the state
   pub present_answers : (count : ℕ) → batch_count v.state.points ≡ count → (r : Result (Unit {0}) Refusal)
-      → ((place : BlockName → Option ℕ) → IsReadable place (data_start v) (places v.work.levels) (source_of v) → IsVersionOrder (versions_at v.work) → AnswersGuards 0 (map_of (versions_in v.work) count) guards r)
+      → ((place : BlockName → Option ℕ) → IsReadable place (data_start v) (places v.work.levels) (source_of v) → IsVersionOrder (versions_by_place v.work) → AnswersGuards 0 (map_of (versions_in v.work) count) guards r)
       → IsBacked v → AnswersGuards 0 (present_map v.state.points) guards r
   present_answers count is r answers backed =
       let runs = backed.runs runs_now in

@@ -12,7 +12,7 @@ use Rattle.lsm_levels.specs.Among.{IsAmong}
 use Rattle.lsm_levels.specs.Tables.{Table, versions_of}
 use Rattle.lsm_levels.specs.Levels.{Levels, level, places}
 use Rattle.lsm_levels.specs.Orders.{IsNewerPlace, IsVersionOrder}
-use Rattle.lsm_levels.specs.Pick.{Job, Flush, Merge, is_flush, installed as installed_levels}
+use Rattle.lsm_levels.specs.Pick.{Job, Flush, Merge, is_flush, installed_levels}
 use Rattle.lsm_levels.specs.Held.{HasVersion, IsHeld, AreRanged}
 use Rattle.lsm_levels.proofs.Members.{among_left, among_right, among_either}
 use Rattle.lsm_levels.proofs.Ranges.{of_all}

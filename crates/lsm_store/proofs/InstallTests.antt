@@ -13,7 +13,7 @@ use Rattle.lsm_jobs.specs.Slots.{Slot, Slots, Writing, slot_of, is_written, outp
 use Rattle.lsm_jobs.specs.declared.installing.Written.{Written}
 use Rattle.lsm_levels.specs.Held.{AreRuns, AreOutputs}
 use Rattle.lsm_levels.specs.Levels.{Levels, all_tables, places}
-use Rattle.lsm_levels.specs.Pick.{Job, inputs, is_flush, installed as installed_levels}
+use Rattle.lsm_levels.specs.Pick.{Job, inputs, is_flush, installed_levels}
 use Rattle.lsm_levels.specs.Tables.{Table}
 use Rattle.lsm_store.specs.declared.memory.Memory.{Memory}
 use Rattle.lsm_store.specs.Accounts.{outputs_in}

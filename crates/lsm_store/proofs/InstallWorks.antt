@@ -12,7 +12,7 @@ use Rattle.lsm_device.proofs.Moments.{unchanged}
 use Rattle.lsm_levels.specs.Held.{AreOutputs}
 use Rattle.lsm_levels.specs.Levels.{all_tables, places}
 use Rattle.lsm_levels.specs.NamedBlocks.{AreNumberedApart}
-use Rattle.lsm_levels.specs.Pick.{is_flush, installed as installed_levels}
+use Rattle.lsm_levels.specs.Pick.{is_flush, installed_levels}
 use Rattle.lsm_levels.specs.Tables.{Table}
 use Rattle.lsm_levels.proofs.Moving.{moving_law}
 use Rattle.lsm_jobs.specs.Outputs.{AreMadeOf}

@@ -14,7 +14,7 @@ use Rattle.lsm_jobs.specs.Outputs.{AreTablesOf, AreMadeOf}
 use Rattle.lsm_levels.specs.Held.{AreRuns}
 use Rattle.lsm_levels.specs.Levels.{Levels, all_tables, places}
 use Rattle.lsm_levels.specs.NamedBlocks.{AreNumberedApart}
-use Rattle.lsm_levels.specs.Pick.{Job, Flush, Merge, installed as installed_levels}
+use Rattle.lsm_levels.specs.Pick.{Job, Flush, Merge, installed_levels}
 use Rattle.lsm_levels.specs.Tables.{Table, table_of}
 use Rattle.lsm_merge.specs.Inputs.{MergeInput}
 use Rattle.lsm_open.proofs.ListPairs.{All-right, pairwise_right}

@@ -16,7 +16,7 @@ use Rattle.lsm_merge.proofs.MapLaws.{keep_law}
 use Rattle.lsm_levels.specs.Among.{IsAmong}
 use Rattle.lsm_levels.specs.Tables.{Table, versions_of}
 use Rattle.lsm_levels.specs.Levels.{Levels, all_tables, places}
-use Rattle.lsm_levels.specs.Pick.{Job, Flush, Merge, is_flush, installed as installed_levels}
+use Rattle.lsm_levels.specs.Pick.{Job, Flush, Merge, is_flush, installed_levels}
 use Rattle.lsm_levels.specs.Orders.{IsNewerPlace}
 use Rattle.lsm_levels.specs.Held.{IsHeld, HasVersion, MergesVersions}
 use Rattle.lsm_levels.proofs.Members.{among_left, among_right, among_either}

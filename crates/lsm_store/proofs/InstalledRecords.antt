@@ -6,7 +6,7 @@ use Rattle.std.proofs.lemmas.List.{append-nil, map-append, length-take-le}
 use Rattle.lsm_codec.specs.Keys.{Bytes}
 use Rattle.lsm_codec.specs.declared.table_record.TableRecord.{TableRecord}
 use Rattle.lsm_levels.specs.Levels.{Levels, level, newer_runs, last_run}
-use Rattle.lsm_levels.specs.Pick.{Flush, installed as installed_levels}
+use Rattle.lsm_levels.specs.Pick.{Flush, installed_levels}
 use Rattle.lsm_levels.specs.Tables.{Table, KeyRange, record_of, at_most, is_below, meets, put_at, IsRun}
 use Rattle.lsm_levels.proofs.KeyOrder.{at_most_trans, below_at_most, below_then, below_is}
 use Rattle.lsm_levels.proofs.Parts.{filter_step, filter_none, filter_all, all_map}

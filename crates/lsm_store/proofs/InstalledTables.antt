@@ -19,11 +19,11 @@ use Rattle.lsm_log.specs.Opened.{batches_in}
 use Rattle.lsm_log.proofs.Logs.{open_used, read_batches}
 use Rattle.lsm_open.specs.CrashState.{CrashState, last_number, in_next_generation}
 use Rattle.lsm_open.specs.Image.{StandFor}
-use Rattle.lsm_open.specs.Layout.{open_records, open_batches, IsOpened}
+use Rattle.lsm_open.specs.Layout.{open_records, open_batches, IsLogAtIfOpen}
 use Rattle.lsm_open.specs.LogRegions.{all_batches, one_if_some}
 use Rattle.lsm_open.specs.Placements.{Placement, contents_for, table_map, closed_in, present_state, MayBeLeft}
 use Rattle.lsm_open.specs.Recovering.{StandForOne}
-use Rattle.lsm_open.specs.Switching.{MayBeInstalled, IsSwitched, rotated as rotated_placement, left_rotated, MayRotate, IsInLeastFree, flushed, left_flushed, AreFlushed, merged, Parts, with_outputs, AreMerged}
+use Rattle.lsm_open.specs.Switching.{MayBeInstalled, IsSwitched, rotated_placement, left_rotated, MayRotate, IsInLeastFree, flushed, left_flushed, AreFlushed, merged, Parts, with_outputs, AreMerged}
 use Rattle.lsm_open.specs.Tables.{extent_start, extent_length}
 use Rattle.lsm_open.specs.declared.regions.OpenRegion.{OpenRegion}
 use Rattle.lsm_open.proofs.Flushing.{flush_installs}
@@ -216,12 +216,12 @@ module _ (p : Placement) (s : State) (d : Disk) (stored : IsStoredIn p s d) (non
   pub no_records : p.logs.closed ≡ []
   no_records = none_length p.logs.closed (sym stored.state.placed.closed ∙ none_closed)
 
-  has_batch : (o : Option OpenRegion) → IsOpened p.logs d o → ((log : OpenLog) → option_map open_log_of o ≡ Some log → 1 ≤ log.used) → IsSome o → 1 ≤ length (open_batches o (seen d))
+  has_batch : (o : Option OpenRegion) → IsLogAtIfOpen p.logs d o → ((log : OpenLog) → option_map open_log_of o ≡ Some log → 1 ≤ log.used) → IsSome o → 1 ≤ length (open_batches o (seen d))
   has_batch (Some x) opened used some = used_holds (batches_in x.log (seen d)) x.log.used (open_used x.log d opened.is_open) (used (open_log_of x) refl)
   has_batch None opened used some = absurd cc
 
   -- the present count is that of a batch
-  count_high : (o : Option OpenRegion) → IsOpened p.logs d o → BeginsAfter p.logs.base (closed_in p d.stands) o → p.logs.base + length (closed_in p d.stands ++ open_batches o (seen d)) ≤ last_number
+  count_high : (o : Option OpenRegion) → IsLogAtIfOpen p.logs d o → BeginsAfter p.logs.base (closed_in p d.stands) o → p.logs.base + length (closed_in p d.stands ++ open_batches o (seen d)) ≤ last_number
   count_high (Some x) opened begins =
       let reads = batches_in x.log (seen d) in
       let is = opened.is_open in

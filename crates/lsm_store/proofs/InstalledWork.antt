@@ -15,7 +15,7 @@ use Rattle.lsm_levels.proofs.Runs.{runs_law}
 use Rattle.lsm_levels.specs.Held.{AreRuns, IsHeld, AreOutputs}
 use Rattle.lsm_levels.specs.Levels.{Levels, all_tables, places}
 use Rattle.lsm_levels.specs.NamedBlocks.{AreNumberedApart}
-use Rattle.lsm_levels.specs.Pick.{inputs, installed as installed_levels}
+use Rattle.lsm_levels.specs.Pick.{inputs, installed_levels}
 use Rattle.lsm_levels.specs.Tables.{Table}
 use Rattle.lsm_open.specs.CrashState.{last_number}
 use Rattle.lsm_open.specs.Layout.{Layout}

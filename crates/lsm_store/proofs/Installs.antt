@@ -15,7 +15,7 @@ use Rattle.lsm_levels.specs.Among.{IsAmong}
 use Rattle.lsm_levels.specs.Held.{AreRuns, IsHeld}
 use Rattle.lsm_levels.specs.Levels.{Levels, all_tables, places}
 use Rattle.lsm_levels.specs.NamedBlocks.{AreNumberedApart, HasNoBlock, place_among}
-use Rattle.lsm_levels.specs.Pick.{Job, Flush, Merge, is_flush, installed as installed_levels}
+use Rattle.lsm_levels.specs.Pick.{Job, Flush, Merge, is_flush, installed_levels}
 use Rattle.lsm_levels.specs.Stored.{AreStored}
 use Rattle.lsm_levels.specs.Tables.{Table}
 use Rattle.lsm_levels.proofs.Members.{among_left, among_right, among_either}

@@ -8,7 +8,7 @@ use Rattle.lsm_device.specs.Runs.{run_at, grown, HasSomeOf}
 use Rattle.lsm_log.specs.Opened.{IsOfLog, IsGrownBy}
 use Rattle.lsm_open.specs.Placements.{Placement, contents_for, closed_in}
 use Rattle.lsm_open.specs.Recovering.{StandForOne}
-use Rattle.lsm_open.specs.Switching.{rotated as rotated_placement, flushed, AreFlushed, merged, Parts, with_outputs, AreMerged}
+use Rattle.lsm_open.specs.Switching.{rotated_placement, flushed, AreFlushed, merged, Parts, with_outputs, AreMerged}
 use Rattle.lsm_open.specs.Tables.{extent_start, extent_length}
 use Rattle.lsm_open.specs.Writing.{PlacedTable, tables_of, IsWritten, MayBePlaced}
 use Rattle.lsm_open.specs.declared.regions.OpenRegion.{OpenRegion}

@@ -9,7 +9,7 @@ use Rattle.lsm_open.proofs.Openings.{one_opening}
 use Rattle.lsm_store.specs.Calls.{Reply}
 use Rattle.lsm_store.specs.Calls.{Number, Done, Value, Rows, Given, Handed, Refused, Unread}
 use Rattle.lsm_store.specs.Machine.{Step}
-use Rattle.lsm_store.specs.Promise.{accepted, acknowledged, in_flight, IsBeginning}
+use Rattle.lsm_store.specs.Promise.{accepted, acknowledged, in_flight, IsAfterBeginning}
 use Rattle.lsm_store.specs.Lives.{Life, KeptByLife, IsAfter, PromiseOverLives}
 use Rattle.lsm_open.proofs.Beginnings.{apply_all-append, take_sum}
 use Rattle.lsm_store.proofs.Promises.{promise}
@@ -28,7 +28,7 @@ record IsKeptBy (before : List (List Operation)) (steps : List Step) (replies : 
   pub after : IsAfter kept left
 
 module _ (before : List (List Operation)) (opened : CrashState) (was : IsAfter before opened) where
-  from_beginning : (n : ℕ) (steps : List Step) (replies : List Reply) (left : CrashState) → IsBeginning opened (accepted steps replies ++ in_flight steps replies) (acknowledged opened.count steps replies) left
+  from_beginning : (n : ℕ) (steps : List Step) (replies : List Reply) (left : CrashState) → IsAfterBeginning opened (accepted steps replies ++ in_flight steps replies) (acknowledged opened.count steps replies) left
       → IsKeptBy before steps (Number n ∷ replies) left
   from_beginning n steps replies left h =
       let more = accepted steps replies ++ in_flight steps replies in

@@ -21,7 +21,7 @@ use Rattle.lsm_open.specs.LogRegions.{region_start, all_batches}
 use Rattle.lsm_open.specs.Placements.{Placement, closed_in, IsHeld}
 use Rattle.lsm_open.specs.Recovering.{IsReopened}
 use Rattle.lsm_mem.specs.Versions.{sealed_versions}
-use Rattle.lsm_open.specs.Switching.{rotated}
+use Rattle.lsm_open.specs.Switching.{rotated_placement}
 use Rattle.lsm_open.specs.declared.regions.OpenRegion.{OpenRegion}
 use Rattle.lsm_open.proofs.HeldRegions.{all_open, placed, same_all}
 use Rattle.lsm_open.proofs.KeptRecords.{same_batches}
@@ -82,12 +82,12 @@ module _ (p : Placement) (s : State) (o x : OpenRegion) (old new : Disk) (stored
 
 -- ---- a rotation
 
-module _ (number : ℕ) (p : Placement) (o : OpenRegion) (old new : Disk) (held : IsHeld p old) (next : IsHeld (with_next number (rotated p o)) new) (none_closed : p.logs.closed ≡ []) (same : behind (seen new) ≡ behind (seen old)) where
+module _ (number : ℕ) (p : Placement) (o : OpenRegion) (old new : Disk) (held : IsHeld p old) (next : IsHeld (with_next number (rotated_placement p o)) new) (none_closed : p.logs.closed ≡ []) (same : behind (seen new) ≡ behind (seen old)) where
   abbrev n : ℕ
   n = p.logs.log_sectors
 
   -- the batches of the region that is closed now are those of the open log
-  now_closed : closed_in (with_next number (rotated p o)) (seen new) ≡ open_batches p.logs.open_region (seen old)
+  now_closed : closed_in (with_next number (rotated_placement p o)) (seen new) ≡ open_batches p.logs.open_region (seen old)
   now_closed =
       batches_behind n (seen new) (seen old) same (open_records p.logs.open_region)
       ∙ all_open n (seen old) p.logs.open_region (placed p.logs old p.logs.open_region held.opened)
@@ -96,7 +96,7 @@ module _ (number : ℕ) (p : Placement) (o : OpenRegion) (old new : Disk) (held 
   none_before = ap (all_batches n (seen old)) none_closed
 
   -- what was in memory is sealed
-  pub rotated_sealed : (memory : List Version) → AreLoggedIn p (seen old) memory → AreSealedIn (with_next number (rotated p o)) (seen new) memory
+  pub rotated_sealed : (memory : List Version) → AreLoggedIn p (seen old) memory → AreSealedIn (with_next number (rotated_placement p o)) (seen new) memory
   rotated_sealed memory are =
       let were = open_batches p.logs.open_region (seen old) in
       are
@@ -108,8 +108,8 @@ module _ (number : ℕ) (p : Placement) (o : OpenRegion) (old new : Disk) (held 
   none_new : o.log.next ≡ o.log.first → batches_in o.log (seen new) ≡ []
   none_new unused = none_length (batches_in o.log (seen new)) (omega (arith, open_next o.log new next.opened.is_open, unused))
 
-  pub rotated_logged : o.log.next ≡ o.log.first → AreLoggedIn (with_next number (rotated p o)) (seen new) []
-  rotated_logged unused = sym (ap (λ (t : Batches). with_batches (p.logs.base + length (closed_in (with_next number (rotated p o)) (seen new))) t []) (none_new unused))
+  pub rotated_logged : o.log.next ≡ o.log.first → AreLoggedIn (with_next number (rotated_placement p o)) (seen new) []
+  rotated_logged unused = sym (ap (λ (t : Batches). with_batches (p.logs.base + length (closed_in (with_next number (rotated_placement p o)) (seen new))) t []) (none_new unused))
 
 -- ---- an install of a job's outputs
 

@@ -5,7 +5,7 @@ use Rattle.lsm_codec.specs.declared.table_record.TableRecord.{TableRecord}
 use Rattle.lsm_device.specs.Disk.{Disk}
 use Rattle.lsm_levels.specs.Held.{AreRuns, IsUpper, HasItsTables, IsHeld}
 use Rattle.lsm_levels.specs.Levels.{Levels, level, newer_runs, last_run, replaced, merged_at}
-use Rattle.lsm_levels.specs.Pick.{Job, Flush, Merge, installed as installed_levels}
+use Rattle.lsm_levels.specs.Pick.{Job, Flush, Merge, installed_levels}
 use Rattle.lsm_levels.specs.Tables.{Table, KeyRange, record_of, at_most, put_at}
 use Rattle.lsm_levels.proofs.Runs.{run_at, upper_order}
 use Rattle.lsm_open.specs.Placements.{Placement}

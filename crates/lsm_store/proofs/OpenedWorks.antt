@@ -25,7 +25,7 @@ use Rattle.lsm_levels.proofs.Ranges.{of_all}
 use Rattle.lsm_levels.proofs.RunOrders.{stored_ranged, run_ordered}
 use Rattle.lsm_levels.proofs.Taking.{newer_than, place_of_level}
 use Rattle.lsm_jobs.specs.Slots.{Slot, no_jobs}
-use Rattle.lsm_open.specs.Answered.{IsInsideIfOpen}
+use Rattle.lsm_open.specs.Answered.{IsNewRegionIfOpen}
 use Rattle.lsm_open.specs.CrashState.{CrashState}
 use Rattle.lsm_open.specs.Layout.{open_records, open_batches}
 use Rattle.lsm_open.specs.LogRegions.{one_if_some}
@@ -103,7 +103,7 @@ abbrev log_at : ℕ → ℕ → OpenLog
 log_at first used = record { first = first; used = used }
 
 -- a log that holds no batch is open unless all three regions are closed
-open_log_is : (size log_sectors generation count : ℕ) (closed : List LogRecord) (o : Option OpenRegion) → (o ≡ None → length closed ≡ 3) → length (closed ++ open_records o) ≤ 3 → IsInsideIfOpen size log_sectors generation count o
+open_log_is : (size log_sectors generation count : ℕ) (closed : List LogRecord) (o : Option OpenRegion) → (o ≡ None → length closed ≡ 3) → length (closed ++ open_records o) ≤ 3 → IsNewRegionIfOpen size log_sectors generation count o
     → option_map open_log_of o ≡ cond (nat_lt (length closed) 3) (Some (log_at (count + 1) 0)) None
 open_log_is size log_sectors generation count closed (Some o) full few inside =
     let room : length closed < 3 = omega (arith, few, length-append closed (open_records (Some o))) in

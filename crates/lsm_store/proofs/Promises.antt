@@ -19,7 +19,7 @@ use Rattle.lsm_store.specs.Effects.{after}
 use Rattle.lsm_store.specs.Crash.{crash_state_at, left_between, left_with, may_leave, last_crash_state, left_besides, reopened}
 use Rattle.lsm_store.specs.Machine.{Machine, Step, Called, Worked}
 use Rattle.lsm_store.specs.Run.{left_in_step, last_machine}
-use Rattle.lsm_store.specs.Promise.{accepted, acknowledged, in_flight, IsBeginning, beginnings, Promise}
+use Rattle.lsm_store.specs.Promise.{accepted, acknowledged, in_flight, IsAfterBeginning, beginnings, Promise}
 use Rattle.lsm_store.specs.WorkRefusals.{running_refusal, work_refusal}
 use Rattle.lsm_store.specs.WorkReplies.{work_left_besides}
 use Rattle.lsm_store.proofs.Flights.{IsMore, flight_more}
@@ -29,7 +29,7 @@ use Rattle.lsm_store.proofs.Reached.{IsPresent, rotated_present, work_present, I
 
 module _ (opened : CrashState) (done : List (List Operation)) (known : ℕ) (flight : List (List Operation)) (t : State) (here : IsReached opened.count opened.map done known flight t) where
   -- a recovery point
-  kept_between : (left : CrashState) → Contains (left_between t) left → IsBeginning opened (done ++ flight) known left
+  kept_between : (left : CrashState) → Contains (left_between t) left → IsAfterBeginning opened (done ++ flight) known left
   kept_between left found =
       let of = map_cases (crash_state_at t) (recovery_points t.points) left found in
       let at = in_beginnings opened.count opened.map done known of.0 here.within (subst (λ (p : RecoveryPoints). Contains (recovery_points p) of.0) here.points of.1) in
@@ -42,7 +42,7 @@ module _ (opened : CrashState) (done : List (List Operation)) (known : ℕ) (fli
       }
 
   -- all of the batches and one more
-  kept_whole : (batch : List Operation) (left : CrashState) → left ≡ last_crash_state (after t (Commit batch)) → IsBeginning opened (done ++ batch ∷ []) known left
+  kept_whole : (batch : List Operation) (left : CrashState) → left ≡ last_crash_state (after t (Commit batch)) → IsAfterBeginning opened (done ++ batch ∷ []) known left
   kept_whole batch left is =
       let all = done ++ batch ∷ [] in
       let points : (after t (Commit batch)).points ≡ beginnings opened.count opened.map all known =
@@ -57,8 +57,8 @@ module _ (opened : CrashState) (done : List (List Operation)) (known : ℕ) (fli
       }
 
   -- all of the batches
-  kept_present : (left : CrashState) → IsPresent t left → IsBeginning opened (done ++ []) known left
-  kept_present left is = subst (λ l. IsBeginning opened l known left) (sym (append-nil done)) (record {
+  kept_present : (left : CrashState) → IsPresent t left → IsAfterBeginning opened (done ++ []) known left
+  kept_present left is = subst (λ l. IsAfterBeginning opened l known left) (sym (append-nil done)) (record {
     holds = length done;
     at_least = here.within;
     among = omega arith;
@@ -74,20 +74,20 @@ module _ (opened : CrashState) (done : List (List Operation)) (known : ℕ) (fli
       (λ later. present_among rest left each.1 later)
       (in_cases one left rest found)
 
-  kept_besides : (f : List (List Operation)) (others : List CrashState) (left : CrashState) → IsWithFlight t (Some others) f → Contains others left → IsBeginning opened (done ++ f) known left
+  kept_besides : (f : List (List Operation)) (others : List CrashState) (left : CrashState) → IsWithFlight t (Some others) f → Contains others left → IsAfterBeginning opened (done ++ f) known left
   kept_besides [] others left is found = kept_present left (present_among others left is found)
   kept_besides (batch ∷ []) others left is found = kept_whole batch left (one_in (last_crash_state (after t (Commit batch))) left (subst (λ l. Contains l left) is found))
   kept_besides (batch ∷ more ∷ rest) others left is found = absurd is
 
-  kept_now : (left : CrashState) → Contains (may_leave t) left → IsBeginning opened (done ++ flight) known left
+  kept_now : (left : CrashState) → Contains (may_leave t) left → IsAfterBeginning opened (done ++ flight) known left
   kept_now left found = by t.stopped here.besides found
     where
-      by : (o : Option (List CrashState)) → IsWithFlight t o flight → Contains (left_with t o) left → IsBeginning opened (done ++ flight) known left
+      by : (o : Option (List CrashState)) → IsWithFlight t o flight → Contains (left_with t o) left → IsAfterBeginning opened (done ++ flight) known left
       by None is h = kept_between left h
       by (Some others) is h = ⊎_elim (λ between. kept_between left between) (λ other. kept_besides flight others left is other) (Contains-append_cases (left_between t) others left h)
 
   -- a beginning of a list is one of a longer list
-  longer_beginning : (all rest : List (List Operation)) (left : CrashState) → IsBeginning opened all known left → IsBeginning opened (all ++ rest) known left
+  longer_beginning : (all rest : List (List Operation)) (left : CrashState) → IsAfterBeginning opened all known left → IsAfterBeginning opened (all ++ rest) known left
   longer_beginning all rest left kept = record {
     holds = kept.holds;
     at_least = kept.at_least;
@@ -105,7 +105,7 @@ module _ (opened : CrashState) (done : List (List Operation)) (known : ℕ) (fli
       by (Some others) runs besides = absurd (false≢true (sym runs))
 
   -- what a call adds
-  kept_by_call : (call : Call) (left : CrashState) → Contains (left_besides t call) left → IsBeginning opened (done ++ in_flight (Called call ∷ []) []) known left
+  kept_by_call : (call : Call) (left : CrashState) → Contains (left_besides t call) left → IsAfterBeginning opened (done ++ in_flight (Called call ∷ []) []) known left
   kept_by_call (Commit batch) left found = kept_whole batch left (one_in (last_crash_state (after t (Commit batch))) left found)
   kept_by_call (CommitIf guards batch) left found = kept_whole batch left (one_in (last_crash_state (after t (Commit batch))) left found)
   kept_by_call Sync left found = absurd (none_in left found)
@@ -119,21 +119,21 @@ module _ (opened : CrashState) (done : List (List Operation)) (known : ℕ) (fli
 
   -- what a step adds to what the state may leave, where nothing refuses it
   module _ (step : Step) (longer : List (List Operation)) (more : IsMore flight (in_flight (step ∷ []) []) longer) (left : CrashState) where
-    kept_before : Contains (may_leave t) left → IsBeginning opened (done ++ longer) known left
+    kept_before : Contains (may_leave t) left → IsAfterBeginning opened (done ++ longer) known left
     kept_before found =
-        subst (λ l. IsBeginning opened l known left) (append_assoc done flight more.rest ∙ ap (λ l. done ++ l) (sym more.joined)) (longer_beginning (done ++ flight) more.rest left (kept_now left found))
+        subst (λ l. IsAfterBeginning opened l known left) (append_assoc done flight more.rest ∙ ap (λ l. done ++ l) (sym more.joined)) (longer_beginning (done ++ flight) more.rest left (kept_now left found))
 
-    kept_added : is_some t.stopped ≡ false → IsBeginning opened (done ++ in_flight (step ∷ []) []) known left → IsBeginning opened (done ++ longer) known left
+    kept_added : is_some t.stopped ≡ false → IsAfterBeginning opened (done ++ in_flight (step ∷ []) []) known left → IsAfterBeginning opened (done ++ longer) known left
     kept_added running kept =
         let none = none_yet running in
         let same : longer ≡ in_flight (step ∷ []) [] = more.joined ∙ ap (λ l. l ++ more.rest) none ∙ more.fresh none in
-        subst (λ l. IsBeginning opened (done ++ l) known left) (sym same) kept
+        subst (λ l. IsAfterBeginning opened (done ++ l) known left) (sym same) kept
 
-    kept_inside : (refused : Bool) (besides : List CrashState) → (refused ≡ false → is_some t.stopped ≡ false) → (Contains besides left → IsBeginning opened (done ++ in_flight (step ∷ []) []) known left)
-        → Contains (may_leave t ++ cond refused [] besides) left → IsBeginning opened (done ++ longer) known left
+    kept_inside : (refused : Bool) (besides : List CrashState) → (refused ≡ false → is_some t.stopped ≡ false) → (Contains besides left → IsAfterBeginning opened (done ++ in_flight (step ∷ []) []) known left)
+        → Contains (may_leave t ++ cond refused [] besides) left → IsAfterBeginning opened (done ++ longer) known left
     kept_inside refused besides runs adds found = ⊎_elim kept_before (by refused runs) (Contains-append_cases (may_leave t) (cond refused [] besides) left found)
       where
-        by : (b : Bool) → (b ≡ false → is_some t.stopped ≡ false) → Contains (cond b [] besides) left → IsBeginning opened (done ++ longer) known left
+        by : (b : Bool) → (b ≡ false → is_some t.stopped ≡ false) → Contains (cond b [] besides) left → IsAfterBeginning opened (done ++ longer) known left
         by true runs h = absurd (none_in left h)
         by false runs h = kept_added (runs refl) (adds h)
 
@@ -143,7 +143,7 @@ unrefused_runs true rest is = absurd (false≢true (sym is))
 unrefused_runs false rest is = refl
 
 module _ (opened : CrashState) (done : List (List Operation)) (known : ℕ) (flight : List (List Operation)) (x : Machine) (here : IsReached opened.count opened.map done known flight x.state) where
-  inside_step : (step : Step) (longer : List (List Operation)) → IsMore flight (in_flight (step ∷ []) []) longer → (left : CrashState) → Contains (left_in_step x step) left → IsBeginning opened (done ++ longer) known left
+  inside_step : (step : Step) (longer : List (List Operation)) → IsMore flight (in_flight (step ∷ []) []) longer → (left : CrashState) → Contains (left_in_step x step) left → IsAfterBeginning opened (done ++ longer) known left
   inside_step (Called call) longer more left found =
       kept_inside opened done known flight x.state here (Called call) longer more left (is_some (full_refusal x.state call)) (left_besides x.state call)
       (unrefused_runs (is_some x.state.stopped) (first_refusal (refusals x.state call ++ later_refusals x.state call)))

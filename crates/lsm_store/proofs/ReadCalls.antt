@@ -31,7 +31,7 @@ use Rattle.lsm_store.specs.Refusals.{refusal}
 use Rattle.lsm_store.specs.Run.{Allows, Admits, next}
 use Rattle.lsm_store.specs.Serving.{is_faultless, use_before, use_by, IsOnlyRead, IsRead, IsUsed, IsCacheUsed, Serves}
 use Rattle.lsm_store.specs.State.{count_at, map_at, may_ask}
-use Rattle.lsm_store.specs.Work.{versions_at, versions_in}
+use Rattle.lsm_store.specs.Work.{versions_by_place, versions_in}
 use Rattle.lsm_store.specs.WorkEffects.{work_by}
 use Rattle.lsm_store.specs.declared.asked.At.{At}
 use Rattle.lsm_store.proofs.Backed.{place_in, read_on, readable, backed_on}
@@ -101,12 +101,12 @@ module _ (v : StoreView) (numbered : AreNumbered v.work.next_table (tables_place
   map_is : (call : Call) → refusal v.state call ≡ None → may_ask v.state at ≡ true → IsBacked v → map_of (versions_in v.work) count ≡ map_at v.state at
   map_is call none may backed = ap (map_of (versions_in v.work)) is ∙ asked_map (versions_in v.work) v.state (backed.runs (unrefused_runs v.state call none)).sound.tied.maps at may
 
-  order_is : (call : Call) → refusal v.state call ≡ None → IsBacked v → IsVersionOrder (versions_at v.work)
+  order_is : (call : Call) → refusal v.state call ≡ None → IsBacked v → IsVersionOrder (versions_by_place v.work)
   order_is call none backed = (backed.runs (unrefused_runs v.state call none)).sound.tied.versions.order
 
   module _ (new : Medium) (cache : Cached) (most : ℕ) where
     abbrev Answers : {T : Type 0} → Result T Refusal → (T → Type 0) → (Refusal → Type 0) → Type 0
-    Answers r Is May = (place : BlockName → Option ℕ) → IsReadable place (data_start v) (places v.work.levels) (source_of v) → IsVersionOrder (versions_at v.work) → MatchResult r Is May
+    Answers r Is May = (place : BlockName → Option ℕ) → IsReadable place (data_start v) (places v.work.levels) (source_of v) → IsVersionOrder (versions_by_place v.work) → MatchResult r Is May
 
     abbrev IsRefusal : Refusal → Type 0
     IsRefusal refusal = (refusal ≡ Io) ⊎ ((refusal ≡ BadTable) ⊎ (refusal ≡ NoMemory))

@@ -13,7 +13,7 @@ use Rattle.lsm_open.specs.Layout.{record_of, open_records, open_batches, IsClose
 use Rattle.lsm_open.specs.LogRegions.{all_batches}
 use Rattle.lsm_open.specs.Placements.{Placement, contents_for, closed_in, present_state}
 use Rattle.lsm_open.specs.Reopening.{least_free, new_records, HasCome}
-use Rattle.lsm_open.specs.Switching.{rotated as rotated_placement, IsInLeastFree}
+use Rattle.lsm_open.specs.Switching.{rotated_placement, IsInLeastFree}
 use Rattle.lsm_open.specs.Writing.{PlacedTable}
 use Rattle.lsm_open.specs.declared.regions.OpenRegion.{OpenRegion}
 use Rattle.lsm_open.proofs.HeldRegions.{BeginsAfter}

@@ -19,7 +19,7 @@ use Rattle.lsm_open.specs.Layout.{Layout, layout_of, open_records}
 use Rattle.lsm_open.specs.Placements.{contents_for}
 use Rattle.lsm_open.specs.Recovering.{placed_in}
 use Rattle.lsm_mem.specs.Versions.{sealed_versions}
-use Rattle.lsm_open.specs.Switching.{IsInLeastFree, IsRotated, rotated as rotated_placement}
+use Rattle.lsm_open.specs.Switching.{IsInLeastFree, IsRotated, rotated_placement}
 use Rattle.lsm_open.specs.ToldTables.{records_of}
 use Rattle.lsm_open.specs.declared.regions.OpenRegion.{OpenRegion}
 use Rattle.lsm_open.specs.declared.regions.Regions.{Regions}

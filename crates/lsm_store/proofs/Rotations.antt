@@ -15,7 +15,7 @@ use Rattle.lsm_open.specs.CrashState.{last_number}
 use Rattle.lsm_open.specs.Layout.{open_records}
 use Rattle.lsm_open.specs.Placements.{Placement, contents_for}
 use Rattle.lsm_open.specs.Recovering.{StandForOne}
-use Rattle.lsm_open.specs.Switching.{rotated as rotated_placement, IsInLeastFree}
+use Rattle.lsm_open.specs.Switching.{rotated_placement, IsInLeastFree}
 use Rattle.lsm_open.specs.declared.regions.OpenRegion.{OpenRegion}
 use Rattle.lsm_root.specs.Installed.{IsReady, IsInstalled}
 use Rattle.lsm_root.specs.Layout.{behind}

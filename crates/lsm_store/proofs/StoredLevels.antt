@@ -11,7 +11,7 @@ use Rattle.lsm_levels.specs.Asking.{sector_of}
 use Rattle.lsm_levels.specs.Held.{IsHeld, IsUpper}
 use Rattle.lsm_levels.specs.Levels.{Levels, all_tables, level, places, with_level, replaced, merged_at}
 use Rattle.lsm_levels.specs.NamedBlocks.{HasSameBlocks}
-use Rattle.lsm_levels.specs.Pick.{Job, Flush, Merge, installed}
+use Rattle.lsm_levels.specs.Pick.{Job, Flush, Merge, installed_levels}
 use Rattle.lsm_levels.specs.Stored.{blocks_from, IsStored, AreStored}
 use Rattle.lsm_levels.specs.Tables.{Table, KeyRange, hull, is_below, put_at, record_of}
 use Rattle.lsm_levels.proofs.Ranges.{all_of, of_all}
@@ -162,11 +162,11 @@ module _ (P : Table → Type 0) (new : List Table) (made : AllByRecursion P new)
   merged_have i None levels all = all
 
   -- holds of each after an install, where it holds of the outputs
-  pub installed_have : (levels : Levels) (job : Job) → Have levels → Have (installed levels job new)
+  pub installed_have : (levels : Levels) (job : Job) → Have levels → Have (installed_levels levels job new)
   installed_have levels Flush all = (made, all)
   installed_have levels (Merge i upper lower) all = merged_have i (hull upper) levels all
 
-pub levels_installed : (sectors : Sectors) (area : ℕ) (levels : Levels) (job : Job) (new : List Table) → AreStored sectors area (places levels) → AllByRecursion (IsStored sectors area) new → AreStored sectors area (places (installed levels job new))
+pub levels_installed : (sectors : Sectors) (area : ℕ) (levels : Levels) (job : Job) (new : List Table) → AreStored sectors area (places levels) → AllByRecursion (IsStored sectors area) new → AreStored sectors area (places (installed_levels levels job new))
 levels_installed sectors area levels job new stored made = installed_have (IsStored sectors area) new made levels job stored
 
 pub jobs_have : (P : Table → Type 0) (levels : Levels) (bottom : Bool) (job : Job) → AllByRecursion (AllByRecursion P) (places levels) → IsHeld levels bottom job → AllByRecursion P (uppers job) × AllByRecursion P (lowers job)

@@ -8,7 +8,7 @@ use Rattle.lsm_jobs.proofs.KeptJobs.{going_on_law}
 use Rattle.lsm_jobs.specs.Keeping.{AreKept}
 use Rattle.lsm_jobs.specs.Outputs.{EndsWithin}
 use Rattle.lsm_jobs.specs.Slots.{Stage, Reading, Frozen, Writing, Slot, Slots, JobSlots, slot_of, with_held, is_reading, is_writing, less_left, outputs_of}
-use Rattle.lsm_jobs.specs.Writing.{IsWritten}
+use Rattle.lsm_jobs.specs.Writing.{JobWritesOn}
 use Rattle.lsm_levels.specs.Levels.{all_tables, places}
 use Rattle.lsm_levels.specs.Tables.{Table}
 use Rattle.lsm_open.specs.Tables.{first_data}
@@ -33,7 +33,7 @@ still_writing Frozen at = refl
 still_writing (Writing outputs left) at = refl
 
 -- a step of writing keeps them
-pub written_tables : (w : WorkView) (job left : ℕ) (js : JobSlots) → HaveTables w.levels w.jobs w.area → IsWritten job left w.jobs js → HaveTables w.levels js w.area
+pub written_tables : (w : WorkView) (job left : ℕ) (js : JobSlots) → HaveTables w.levels w.jobs w.area → JobWritesOn job left w.jobs js → HaveTables w.levels js w.area
 written_tables w job left js have h =
     let slot = h.slot in
     let then : Slot = record slot { stage = less_left 8 slot.stage } in
@@ -68,7 +68,7 @@ stopped_same m then js is same = is ∙ ap (stopped_with m) same
 
 module _ {A : Type 0} (m : Memory A) (kept : AreConsistent m) where
   -- blocks of a job were written
-  pub written_kept : (job left : ℕ) (js : JobSlots) → IsWritten job left m.jobs js → AreConsistent (record m { jobs = js })
+  pub written_kept : (job left : ℕ) (js : JobSlots) → JobWritesOn job left m.jobs js → AreConsistent (record m { jobs = js })
   written_kept job left js h = record {
     synced = kept.synced;
     count = kept.count;

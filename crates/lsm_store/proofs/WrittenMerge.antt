@@ -32,7 +32,7 @@ use Rattle.lsm_open.proofs.TableFrames.{numbered_tables}
 use Rattle.lsm_open.proofs.VersionOrders.{share_none_back}
 use Rattle.lsm_open.specs.Placements.{Placement}
 use Rattle.lsm_open.specs.Replacing.{AreAmong}
-use Rattle.lsm_open.specs.Switching.{Parts, with_inputs, with_outputs, IsKept, AreMerged}
+use Rattle.lsm_open.specs.Switching.{Parts, with_inputs, with_outputs, KeepsNewestOrMap, AreMerged}
 use Rattle.lsm_open.specs.Tables.{first_data, table_versions, IsTableAt, AscendInRun}
 use Rattle.lsm_open.specs.ToldTables.{records_of}
 use Rattle.lsm_open.specs.Writing.{PlacedTable}
@@ -212,11 +212,11 @@ module _ (m : Machine) (p : Placement) (xs ys : List PlacedTable) (d : Disk) (jo
       ∙ ((keep_law slot.input.cuts input_versions).same_map slot.input.bottom base kept_at_base).values key
       ∙ ap (option_and_then (λ (v : Version). v.value)) (same_inputs key base)
 
-  is_kept : IsKept p.logs.base (table_versions p.logs.log_sectors (seen d) (parts_at m.work.levels i has.range).upper ++ table_versions p.logs.log_sectors (seen d) (parts_at m.work.levels i has.range).lower)
+  is_kept : KeepsNewestOrMap p.logs.base (table_versions p.logs.log_sectors (seen d) (parts_at m.work.levels i has.range).upper ++ table_versions p.logs.log_sectors (seen d) (parts_at m.work.levels i has.range).lower)
       (table_versions p.logs.log_sectors (seen d) (parts_at m.work.levels i has.range).behind) (table_versions p.logs.log_sectors (seen d) (map (record_of (suc i) 0) outputs))
   is_kept = by slot.input.bottom refl
     where
-      by : (b : Bool) → slot.input.bottom ≡ b → IsKept base there_versions (table_versions n (seen d) x.behind) new_versions
+      by : (b : Bool) → slot.input.bottom ≡ b → KeepsNewestOrMap base there_versions (table_versions n (seen d) x.behind) new_versions
       by false flag = inl (record { found = kept_newest flag })
       by true flag = inr (record { values = kept_values; maps = map_of-values base base new_versions there_versions kept_values }, none_behind flag)
 

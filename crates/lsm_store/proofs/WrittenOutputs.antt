@@ -94,10 +94,10 @@ blocks_then : (xs ys : List (List ℕ)) → AllByRecursion IsBlock xs → AllByR
 blocks_then [] ys all more = more
 blocks_then (x ∷ xs) ys all more = (all.0, blocks_then xs ys all.1 more)
 
-all_blocks : (number : ℕ) (image : TableBlocks) → number ≤ 2 ^ 63 → IsTable image → AllByRecursion IsBlock (laid.extent_of number (filter_of (keys_of image)) image)
+all_blocks : (number : ℕ) (image : TableBlocks) → number ≤ 2 ^ 63 → IsTable image → AllByRecursion IsBlock (laid.extent_in_blocks number (filter_of (keys_of image)) image)
 all_blocks number image high is =
     let filter = filter_of (keys_of image) in
-    let spelled = (stored_laws_hold.spelled (take (length image) (laid.extent_of number filter image)) image (stored_laws_hold.table number filter image is)).0 in
+    let spelled = (stored_laws_hold.spelled (take (length image) (laid.extent_in_blocks number filter image)) image (stored_laws_hold.table number filter image is)).0 in
     let footer = length-footer_block (summary_in (outline_in number [] image)) (outline_fits number [] image high is).summary in
     blocks_then (map data_block image) (filter ∷ (index_in_blocks image ++ footer_in number image ∷ [])) (data_blocks image spelled)
     (length-filter_of (keys_of image), blocks_then (index_in_blocks image) (footer_in number image ∷ []) (all_pieces (index_count (edges_of image)) (index_blocks (edges_of image)) (length-index_blocks (edges_of image))) (footer, tt))
@@ -150,7 +150,7 @@ module _ (n : ℕ) (d : Disk) (level : ℕ) where
       named = λ base numbered. table_stands n base (seen d) r filter image blocks is high (record { number = refl; data_blocks = refl; index_blocks = refl; entries = refl }) members numbered refl;
     }
       where
-        blocks : blocks_from (extent_at n (seen d) r) 0 (extent_blocks r) ≡ laid.extent_of number filter image
+        blocks : blocks_from (extent_at n (seen d) r) 0 (extent_blocks r) ≡ laid.extent_in_blocks number filter image
         blocks =
             ap (λ (c : Sectors). blocks_from c 0 (extent_blocks r)) (all_written n d (placed_as level done t) written all)
             ∙ ap (blocks_from (sectors_of t) 0) count

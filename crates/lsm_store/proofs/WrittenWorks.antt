@@ -17,7 +17,7 @@ use Rattle.lsm_device.proofs.Moments.{ended, weaker}
 use Rattle.lsm_jobs.specs.Outputs.{writes_of, next_blocks}
 use Rattle.lsm_jobs.specs.Refusing.{RefusesWrite}
 use Rattle.lsm_jobs.specs.Slots.{Stage, Slot, Slots, Reading, Frozen, Writing, JobSlots, slot_of, with_held, is_writing, left_at, left_to_write, less_left, outputs_at, to_write}
-use Rattle.lsm_jobs.specs.Writing.{WritesBlocks, IsWritten, next_at, next_of}
+use Rattle.lsm_jobs.specs.Writing.{WritesBlocks, JobWritesOn, next_at, next_of}
 use Rattle.lsm_levels.proofs.NamedBlocks.{named_law}
 use Rattle.lsm_levels.specs.Levels.{all_tables, places}
 use Rattle.lsm_levels.specs.Tables.{Table}
@@ -97,7 +97,7 @@ same_outputs_in job other (Some one ∷ rest) slot is same = by (one.number == j
     by false there later = ap (λ (ts : List Table). outputs_at one.stage ++ ts) (later there)
 
 -- a step of writing leaves all outputs
-pub written_outputs_in : (job left : ℕ) (old new : JobSlots) → IsWritten job left old new → outputs_in new.slots ≡ outputs_in old.slots
+pub written_outputs_in : (job left : ℕ) (old new : JobSlots) → JobWritesOn job left old new → outputs_in new.slots ≡ outputs_in old.slots
 written_outputs_in job left old new h =
     ap (λ (js : JobSlots). outputs_in js.slots) h.staged
     ∙ same_outputs_in job (record h.slot { stage = less_left 8 h.slot.stage }) old.slots h.slot h.found (same_outputs 8 h.slot.stage)
@@ -270,7 +270,7 @@ module _ (v : StoreView) (job : ℕ) (new : Medium) (running : IsNone v.state.st
 
   -- ---- by what the slots answer
 
-  pub write_done : (left : ℕ) (js : JobSlots) → IsWritten job left v.work.jobs js → IsWriteStep (data_start v) (held m job) true v.device new → Works v piece (Number left) (worked_on v js v.work.area new)
+  pub write_done : (left : ℕ) (js : JobSlots) → JobWritesOn job left v.work.jobs js → IsWriteStep (data_start v) (held m job) true v.device new → Works v piece (Number left) (worked_on v js v.work.area new)
   write_done left js h step =
       let writing = writing_at h.slot.stage h.writing in
       let answers = write_answers m job in

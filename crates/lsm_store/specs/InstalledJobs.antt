@@ -4,7 +4,7 @@ use Rattle.lsm_codec.specs.Versions.{Version}
 use Rattle.lsm_codec.specs.declared.table_record.TableRecord.{TableRecord}
 use Rattle.lsm_device.specs.Disk.{Disk, seen}
 use Rattle.lsm_levels.specs.Levels.{Levels, level, newer_runs, last_run}
-use Rattle.lsm_levels.specs.Pick.{Job, Flush, Merge, is_flush, installed as installed_levels}
+use Rattle.lsm_levels.specs.Pick.{Job, Flush, Merge, is_flush, installed_levels}
 use Rattle.lsm_levels.specs.Tables.{Table, KeyRange, record_of, hull, is_below, meets}
 use Rattle.lsm_jobs.specs.Pieces.{sectors_of, sector_count, written_of}
 use Rattle.lsm_jobs.specs.Slots.{Slot, Slots, with_held, outputs_at, left_at}

@@ -6,7 +6,7 @@ use Rattle.lsm_jobs.specs.Placing.{all_given_back}
 use Rattle.lsm_jobs.specs.Slots.{Slot, Writing, slot_of, with_held, outputs_at}
 use Rattle.lsm_levels.specs.Held.{AreOutputs}
 use Rattle.lsm_levels.specs.Levels.{Levels}
-use Rattle.lsm_levels.specs.Pick.{inputs, is_flush, installed as installed_levels}
+use Rattle.lsm_levels.specs.Pick.{inputs, is_flush, installed_levels}
 use Rattle.lsm_open.specs.Layout.{Layout, layout_of}
 use Rattle.lsm_store.specs.declared.memory.Memory.{Memory}
 use Rattle.lsm_store.specs.declared.memory.Status.TheVariants.{Stopped}

@@ -13,7 +13,7 @@ use Rattle.lsm_jobs.specs.Slots.{JobSlots}
 use Rattle.lsm_jobs.specs.Reading.{JobReadsOn}
 use Rattle.lsm_jobs.specs.Refusing.{HasInput, IsNotWritten, RefusesInput, RefusesResult, RefusesWrite}
 use Rattle.lsm_jobs.specs.Placing.{ArePlaced, FindNoRoom, IsAccepted}
-use Rattle.lsm_jobs.specs.Writing.{IsWritten}
+use Rattle.lsm_jobs.specs.Writing.{JobWritesOn}
 use Rattle.lsm_store.specs.State.{State}
 use Rattle.lsm_store.specs.Calls.{Number, Handed}
 use Rattle.lsm_store.specs.Placings.{place_all}
@@ -52,9 +52,9 @@ pub record AcceptsResult (m : Machine) (job : ℕ) (result : MergeResult) : Type
 
 -- Slots that write blocks of a job leave the work as it says, with its answer, and refuse it as the work does, or for a fault.
 pub record WritesSome (m : Machine) (job : ℕ) : Type 0 where
-  pub unrefused : (left : ℕ) (jobs : JobSlots) → IsWritten job left m.work.jobs jobs → running_refusal m (Write job) ≡ None
-  pub answer : (left : ℕ) (jobs : JobSlots) → IsWritten job left m.work.jobs jobs → work_answer m (Write job) ≡ Number left
-  pub after : (left : ℕ) (jobs : JobSlots) → IsWritten job left m.work.jobs jobs → record m.work { jobs = jobs } ≡ work_after m (Write job)
+  pub unrefused : (left : ℕ) (jobs : JobSlots) → JobWritesOn job left m.work.jobs jobs → running_refusal m (Write job) ≡ None
+  pub answer : (left : ℕ) (jobs : JobSlots) → JobWritesOn job left m.work.jobs jobs → work_answer m (Write job) ≡ Number left
+  pub after : (left : ℕ) (jobs : JobSlots) → JobWritesOn job left m.work.jobs jobs → record m.work { jobs = jobs } ≡ work_after m (Write job)
   pub refused : (e : Refusal) → RefusesWrite (held m job) e → IsRefusedOr Io m (Write job) e
 
 -- Slots that read data blocks of a job answer what the work says. They leave the work as it says where the job's input stays

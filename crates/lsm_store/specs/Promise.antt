@@ -52,7 +52,7 @@ in_flight (step ∷ steps) (reply ∷ replies) = in_flight steps replies
 in_flight steps replies = []
 
 -- the map after a beginning of these batches that holds at least so many, applied to what was opened
-pub record IsBeginning (opened : CrashState) (batches : List (List Operation)) (least : ℕ) (left : CrashState) : Type 0 where
+pub record IsAfterBeginning (opened : CrashState) (batches : List (List Operation)) (least : ℕ) (left : CrashState) : Type 0 where
   pub holds : ℕ
   pub at_least : least ≤ holds
   pub among : holds ≤ length batches
@@ -90,10 +90,10 @@ pub record IsKept (opened : CrashState) (m : Machine) (steps : List Step) (repli
   -- A crash now leaves the map after a beginning of the accepted batches that holds every acknowledged one, or all of
   -- them and the one in flight.
   pub between : (left : CrashState) → Contains (may_leave (last_machine m steps replies).state) left
-      → IsBeginning opened (accepted steps replies ++ in_flight steps replies) (acknowledged opened.count steps replies) left
+      → IsAfterBeginning opened (accepted steps replies ++ in_flight steps replies) (acknowledged opened.count steps replies) left
   -- and so does a crash inside one step more
   pub inside : (step : Step) (left : CrashState) → Contains (left_in_step (last_machine m steps replies) step) left
-      → IsBeginning opened (accepted steps replies ++ in_flight (steps ++ step ∷ []) replies) (acknowledged opened.count steps replies) left
+      → IsAfterBeginning opened (accepted steps replies ++ in_flight (steps ++ step ∷ []) replies) (acknowledged opened.count steps replies) left
 
 -- So it is after any steps of a machine in that state, whatever its work; an opened store is one (`IsOpened`).
 abbrev pub Promise : Type 0

@@ -45,12 +45,12 @@ pub data Work : Type 0 where
   Drop : ℕ → Work
 
 -- the versions of each place, the newer places first
-abbrev pub versions_at : WorkView → List (List Version)
-versions_at w = w.memory ∷ (w.sealed ∷ map versions_of (places w.levels))
+abbrev pub versions_by_place : WorkView → List (List Version)
+versions_by_place w = w.memory ∷ (w.sealed ∷ map versions_of (places w.levels))
 
 -- all versions
 abbrev pub versions_in : WorkView → List Version
-versions_in w = joined (versions_at w)
+versions_in w = joined (versions_by_place w)
 
 -- a count before these, but for one that is equal to the first of them
 abbrev pub with_count : ℕ → List ℕ → List ℕ

@@ -2,7 +2,7 @@
 use Rattle.std.specs.Prelude.{ℕ, ◌+◌, ◌-◌, ◌==◌, Bool, List, [], length, Option, Some, None, option_map, if◌then◌else◌}
 use Rattle.lsm_mem.specs.EntryOrder.{with_batch}
 use Rattle.lsm_levels.specs.Tables.{Table}
-use Rattle.lsm_levels.specs.Pick.{inputs, is_flush, installed as installed_levels}
+use Rattle.lsm_levels.specs.Pick.{inputs, is_flush, installed_levels}
 use Rattle.lsm_jobs.specs.Slots.{Stage, Slot, Writing, with_held, left_at, less_left, outputs_at, outputs_of}
 use Rattle.lsm_jobs.specs.Taking.{level_of, with_taken}
 use Rattle.lsm_jobs.specs.Reading.{stage_with}

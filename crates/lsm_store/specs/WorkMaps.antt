@@ -16,7 +16,7 @@ use Rattle.lsm_jobs.specs.Taking.{runs_of}
 use Rattle.lsm_store.specs.RecoveryPoints.{batch_count}
 use Rattle.lsm_store.specs.State.{State, LiveSnapshot}
 use Rattle.lsm_store.specs.Calls.{Commit}
-use Rattle.lsm_store.specs.Work.{WorkView, versions_at, versions_in}
+use Rattle.lsm_store.specs.Work.{WorkView, versions_by_place, versions_in}
 use Rattle.lsm_store.specs.WorkEffects.{with_installed, with_sealed, work_called}
 use Rattle.lsm_store.specs.Machine.{Machine}
 
@@ -28,7 +28,7 @@ IsUnique versions = (v w : Version) → IsAmong v versions → IsAmong w version
 -- version of a table is in its range.
 pub record AreVersions (w : WorkView) : Type 0 where
   pub unique : IsUnique (versions_in w)
-  pub order : IsVersionOrder (versions_at w)
+  pub order : IsVersionOrder (versions_by_place w)
   pub runs : AreRuns w.levels
   pub ranges : (k : ℕ) → AreRanged (level w.levels k)
 

@@ -9,7 +9,7 @@ ghost use Rattle.lsm_jobs.specs.Slots.{Slot, Slots, Writing, slot_of, outputs_at
 ghost use Rattle.lsm_levels.specs.Held.{AreRuns, IsHeld, AreOutputs};
 ghost use Rattle.lsm_levels.specs.Levels.{Levels, all_tables, places};
 ghost use Rattle.lsm_levels.specs.NamedBlocks.{AreNumberedApart};
-ghost use Rattle.lsm_levels.specs.Pick.{Job, Flush, Merge, installed as installed_levels};
+ghost use Rattle.lsm_levels.specs.Pick.{Job, Flush, Merge, installed_levels};
 ghost use Rattle.lsm_levels.specs.Stored.{IsStored, AreStored};
 ghost use Rattle.lsm_levels.specs.Tables.{Table, versions_of};
 ghost use Rattle.lsm_mem.specs.Versions.{NumberedAtMost};

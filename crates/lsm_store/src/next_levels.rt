@@ -3,7 +3,7 @@ ghost use Rattle.std.specs.Prelude.{◌≡◌, ◌<◌, ◌∷◌, ◌++◌, Boo
 ghost use Rattle.std.specs.List.{AllByRecursion};
 ghost use Rattle.lsm_jobs.specs.Installing.{job_told, outputs_told};
 ghost use Rattle.lsm_levels.specs.Held.{IsHeld, AreOutputs};
-ghost use Rattle.lsm_levels.specs.Pick.{installed as installed_levels};
+ghost use Rattle.lsm_levels.specs.Pick.{installed_levels};
 ghost use Rattle.lsm_levels.specs.Tables.{IsRun};
 
 use lsm_jobs::Written;

@@ -19,7 +19,7 @@ ghost use Rattle.lsm_store.specs.Memory.{IsInside, work_of};
 ghost use Rattle.lsm_store.specs.Guarding.{AsksGuards, AnswersGuards, MayEndGuards};
 ghost use Rattle.lsm_codec.specs.Guards.{is_met};
 ghost use Rattle.lsm_store.specs.Reading.{ReadsThrough};
-ghost use Rattle.lsm_store.specs.Work.{versions_at, versions_in};
+ghost use Rattle.lsm_store.specs.Work.{versions_by_place, versions_in};
 
 use crate::Page;
 use crate::memory::Memory;
@@ -54,7 +54,7 @@ pub(crate) fn look_up<D: Device, A: Allocator + Clone>(
 ) -> Result<Option<Vec<u8, A>>, Refusal>
     requires { IsInside (D.medium device.old).size memory.now }
     ensures answers { (place : Name → Option ℕ) → IsReadable place (first_data memory.now.regions.log_sectors) (places memory.now.levels) (record { cache = cache.old; medium = D.medium device.old })
-        → IsVersionOrder (versions_at (work_of memory.now))
+        → IsVersionOrder (versions_by_place (work_of memory.now))
         → MatchResult result
         (λ value. option_map (λ v. v.items) value ≡ finite.get (map_of (versions_in (work_of memory.now)) count) key.now)
         (λ refusal. (refusal ≡ Io) ⊎ ((refusal ≡ NoMemory) × (is_some (finite.get (map_of (versions_in (work_of memory.now)) count) key.now) ≡ true))) }
@@ -80,7 +80,7 @@ fn ask_guard<D: Device, A: Allocator + Clone>(
     ensures tests { IsTest memory.now.mem (work_of memory.now).sealed (places memory.now.levels) (first_data memory.now.regions.log_sectors) guard.now count result
         (record { cache = cache.old; medium = D.medium device.old }) (record { cache = cache.new; medium = D.medium device.new }) }
     ensures answers { (place : Name → Option ℕ) → IsReadable place (first_data memory.now.regions.log_sectors) (places memory.now.levels) (record { cache = cache.old; medium = D.medium device.old })
-        → IsVersionOrder (versions_at (work_of memory.now))
+        → IsVersionOrder (versions_by_place (work_of memory.now))
         → MatchResult result
         (λ met. met ≡ is_met (map_of (versions_in (work_of memory.now)) count) guard.now)
         (λ refusal. refusal ≡ Io) }
@@ -107,7 +107,7 @@ pub(crate) fn ask_guards<D: Device, A: Allocator + Clone>(
     ensures asks { AsksGuards memory.now.mem (work_of memory.now).sealed (places memory.now.levels) (first_data memory.now.regions.log_sectors) count first guards.now (refusal_of result)
         (record { cache = cache.old; medium = D.medium device.old }) (record { cache = cache.new; medium = D.medium device.new }) }
     ensures answers { (place : Name → Option ℕ) → IsReadable place (first_data memory.now.regions.log_sectors) (places memory.now.levels) (record { cache = cache.old; medium = D.medium device.old })
-        → IsVersionOrder (versions_at (work_of memory.now))
+        → IsVersionOrder (versions_by_place (work_of memory.now))
         → AnswersGuards first (map_of (versions_in (work_of memory.now)) count) guards.now result }
     ensures reads { ReadsThrough (128 * length guards.now) (first_data memory.now.regions.log_sectors) memory.now.levels (faultless result)
         (record { cache = cache.old; medium = D.medium device.old }) (record { cache = cache.new; medium = D.medium device.new }) }
@@ -136,7 +136,7 @@ pub(crate) fn page<D: Device, A: Allocator + Clone>(
 ) -> Result<Page<A>, Refusal>
     requires { IsInside (D.medium device.old).size memory.now }
     ensures answers { (place : Name → Option ℕ) → IsReadable place (first_data memory.now.regions.log_sectors) (places memory.now.levels) (record { cache = cache.old; medium = D.medium device.old })
-        → IsVersionOrder (versions_at (work_of memory.now))
+        → IsVersionOrder (versions_by_place (work_of memory.now))
         → MatchResult result
         (λ page. page ≡ page_of (map_of (versions_in (work_of memory.now)) count) range.entry.0.now (option_map (λ to. to.now) range.entry.1) limit)
         (λ refusal. (refusal ≡ Io) ⊎ (refusal ≡ NoMemory)) }

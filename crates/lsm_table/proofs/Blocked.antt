@@ -5,7 +5,7 @@ use Rattle.lsm_codec.specs.Entries.{data_block}
 use Rattle.lsm_codec.specs.Indexes.{index_count, index_blocks}
 use Rattle.lsm_table.specs.Division.{TableBlocks}
 use Rattle.lsm_table.specs.BlockEdges.{edges_of}
-use Rattle.lsm_table.specs.Extents.{in_pieces, index_in_blocks, footer_in, extent_of, extent_size}
+use Rattle.lsm_table.specs.Extents.{in_pieces, index_in_blocks, footer_in, extent_in_blocks, extent_size}
 
 pub length-in_pieces : (n : ℕ) (bytes : List ℕ) → length (in_pieces n bytes) ≡ n
 length-in_pieces zero bytes = refl
@@ -29,7 +29,7 @@ piece_at (suc n) (suc i) bytes d lt =
 
 module _ (number : ℕ) (filter : List ℕ) (table : TableBlocks) where
   abbrev whole : List (List ℕ)
-  whole = extent_of number filter table
+  whole = extent_in_blocks number filter table
 
   pub at_data : (at : ℕ) → at < length table → get_or whole at [] ≡ data_block (get_or table at [])
   at_data at lt =

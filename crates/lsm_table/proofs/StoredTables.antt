@@ -15,7 +15,7 @@ use Rattle.lsm_codec.specs.declared.table_record.TableRecord.{TableRecord}
 use Rattle.lsm_table.specs.Division.{Block, TableBlocks, IsTable, entries_of}
 use Rattle.lsm_table.specs.BlockEdges.{edges_of}
 use Rattle.lsm_table.specs.Outlines.{IsRecordOf, outline_in}
-use Rattle.lsm_table.specs.Extents.{in_pieces, index_in_blocks, footer_in, extent_of}
+use Rattle.lsm_table.specs.Extents.{in_pieces, index_in_blocks, footer_in, extent_in_blocks}
 use Rattle.lsm_table.specs.Stored.{table_of, table_in, outline_at, StoredLaws}
 use Rattle.lsm_table.proofs.Outlines.{edge_count, outline_fits, spelled}
 use Rattle.lsm_table.proofs.Blocked.{length-in_pieces, at_filter, at_footer}
@@ -45,7 +45,7 @@ blocks_fit (b ∷ table) all some fits =
 
 -- ---- the extent
 
-table_back : (number : ℕ) (filter : List ℕ) (table : TableBlocks) → IsTable table → table_in (length table) (extent_of number filter table) ≡ Some table
+table_back : (number : ℕ) (filter : List ℕ) (table : TableBlocks) → IsTable table → table_in (length table) (extent_in_blocks number filter table) ≡ Some table
 table_back number filter table is =
     ap table_of (take_at (map data_block table) (filter ∷ (index_in_blocks table ++ footer_in number table ∷ [])) (length table) (length-map table data_block))
     ∙ reads table (blocks_fit table is.versions is.in_blocks.nonempty is.in_blocks.fits)
@@ -56,17 +56,17 @@ pieces_joined zero [] e = refl
 pieces_joined zero (x ∷ bytes) e = absurd (omega (arith, e))
 pieces_joined (suc n) bytes e = ap (λ (rest : List ℕ). take 4096 bytes ++ rest) (pieces_joined n (drop 4096 bytes) (omega (arith, e, length-drop 4096 bytes))) ∙ take-append-drop 4096 bytes
 
-behind : (number : ℕ) (filter : List ℕ) (table : TableBlocks) → drop (length table + 1) (extent_of number filter table) ≡ index_in_blocks table ++ footer_in number table ∷ []
+behind : (number : ℕ) (filter : List ℕ) (table : TableBlocks) → drop (length table + 1) (extent_in_blocks number filter table) ≡ index_in_blocks table ++ footer_in number table ∷ []
 behind number filter table =
     let front : List (List ℕ) = map data_block table ++ filter ∷ [] in
     let rest : List (List ℕ) = index_in_blocks table ++ footer_in number table ∷ [] in
     ap (λ (bs : List (List ℕ)). drop (length table + 1) bs) (sym (append_assoc (map data_block table) (filter ∷ []) rest))
     ∙ drop_at front rest (length table + 1) (omega (arith, length-append (map data_block table) (filter ∷ []), length-map table data_block))
 
-outline_back : (t : TableRecord) (number : ℕ) (filter : List ℕ) (table : TableBlocks) → number ≤ 2 ^ 63 → IsTable table → IsRecordOf t (outline_in number filter table) → outline_at t (extent_of number filter table) ≡ Some (outline_in number filter table)
+outline_back : (t : TableRecord) (number : ℕ) (filter : List ℕ) (table : TableBlocks) → number ≤ 2 ^ 63 → IsTable table → IsRecordOf t (outline_in number filter table) → outline_at t (extent_in_blocks number filter table) ≡ Some (outline_in number filter table)
 outline_back t number filter table le is recorded =
     let x : ℕ = index_count (edges_of table) in
-    let whole : List (List ℕ) = extent_of number filter table in
+    let whole : List (List ℕ) = extent_in_blocks number filter table in
     let n : t.data_blocks ≡ length table = recorded.data_blocks ∙ edge_count table is in
     let m : t.index_blocks ≡ x = recorded.index_blocks in
     let footer : get_or whole (t.data_blocks + t.index_blocks + 1) [] ≡ footer_in number table =

@@ -41,5 +41,5 @@ abbrev pub extent_size : TableBlocks → ℕ
 extent_size table = length table + index_count (edges_of table) + 2
 
 -- the blocks of a table's extent, in order: data blocks, filter, index and footer
-abbrev pub extent_of : ℕ → List ℕ → TableBlocks → List (List ℕ)
-extent_of number filter table = map data_block table ++ (filter ∷ (index_in_blocks table ++ footer_in number table ∷ []))
+abbrev pub extent_in_blocks : ℕ → List ℕ → TableBlocks → List (List ℕ)
+extent_in_blocks number filter table = map data_block table ++ (filter ∷ (index_in_blocks table ++ footer_in number table ∷ []))

@@ -6,7 +6,7 @@ use Rattle.lsm_codec.specs.Entries.{IsDataBlock, data_block, block_of}
 use Rattle.lsm_codec.specs.declared.table_record.TableRecord.{TableRecord}
 use Rattle.lsm_table.specs.Division.{TableBlocks, IsTable}
 use Rattle.lsm_table.specs.Outlines.{Outline, IsRecordOf, outline_in, outline_of}
-use Rattle.lsm_table.specs.Extents.{extent_of}
+use Rattle.lsm_table.specs.Extents.{extent_in_blocks}
 
 -- the table that data blocks spell, if each of them spells entries
 abbrev pub table_of : List (List ℕ) → Option TableBlocks
@@ -30,5 +30,5 @@ outline_at t blocks =
 pub record StoredLaws : Type 0 where
   pub read : (table : TableBlocks) → AllByRecursion IsDataBlock table → table_of (map data_block table) ≡ Some table
   pub spelled : (blocks : List (List ℕ)) (table : TableBlocks) → table_of blocks ≡ Some table → AllByRecursion IsDataBlock table × (blocks ≡ map data_block table)
-  pub table : (number : ℕ) (filter : List ℕ) (table : TableBlocks) → IsTable table → table_in (length table) (extent_of number filter table) ≡ Some table
-  pub outline : (t : TableRecord) (number : ℕ) (filter : List ℕ) (table : TableBlocks) → number ≤ 2 ^ 63 → IsTable table → IsRecordOf t (outline_in number filter table) → outline_at t (extent_of number filter table) ≡ Some (outline_in number filter table)
+  pub table : (number : ℕ) (filter : List ℕ) (table : TableBlocks) → IsTable table → table_in (length table) (extent_in_blocks number filter table) ≡ Some table
+  pub outline : (t : TableRecord) (number : ℕ) (filter : List ℕ) (table : TableBlocks) → number ≤ 2 ^ 63 → IsTable table → IsRecordOf t (outline_in number filter table) → outline_at t (extent_in_blocks number filter table) ≡ Some (outline_in number filter table)

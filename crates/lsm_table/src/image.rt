@@ -9,7 +9,7 @@ ghost use Rattle.lsm_filter.specs.Bits.{filter_of, with_key, is_perhaps};
 ghost use Rattle.lsm_table.specs.Division.{IsTable, entries_of};
 ghost use Rattle.lsm_table.specs.BlockEdges.{edges_of, first_key_of};
 ghost use Rattle.lsm_table.specs.Outlines.{outline_in, IsRecordOf};
-ghost use Rattle.lsm_table.specs.Extents.{keys_of, footer_in, extent_size, extent_of};
+ghost use Rattle.lsm_table.specs.Extents.{keys_of, footer_in, extent_size, extent_in_blocks};
 
 use crate::edges::edges_of;
 use crate::layout::BLOCK;
@@ -248,7 +248,7 @@ impl<A: Allocator> Image<A> {
     /// takes no memory.
     pub fn block(&self, number: u64, at: usize) -> [u8; 4_096]
         requires { at < extent_size self.now }
-        ensures { result ≡ slice_index_or (extent_of number (filter_of (keys_of self.now)) self.now) at [] }
+        ensures { result ≡ slice_index_or (extent_in_blocks number (filter_of (keys_of self.now)) self.now) at [] }
     {
         let data = self.data_blocks();
         if at < data {

@@ -10,7 +10,7 @@ use Rattle.lsm_store.specs.Working.{Works, taken_reply}
 use Rattle.lsm_jobs.specs.declared.taking.TakenJob.{TakenJob}
 use Rattle.lsm_levels.specs.declared.choosing.Choice.{Choice}
 use Rattle.lsm_table.specs.Division.{IsTables}
-use Rattle.lsm_upkeep.specs.Finishing.{LeavesSome, HasLeft, GoesThrough, IsHeldUp, IsReadWhole, IsOffered, IsUnmerged, IsFinished, IsStuck}
+use Rattle.lsm_upkeep.specs.Finishing.{LeavesBlocksEachTime, HasLeft, GoesThrough, DoesNotGoThrough, IsReadWhole, IsOffered, IsUnmerged, IsFinished, IsStuck}
 use Rattle.lsm_upkeep.specs.Upkeep.{AreDone, IsDone}
 
 -- ---- a piece that is done again and again
@@ -20,7 +20,7 @@ pub left-first : (piece : Work) (left : ℕ) (old new : StoreView) → Works old
 left-first piece left old new works = record { count = 0; last = old; some = refl; told = works }
 
 -- each time so far it left some
-left-some : (piece : Work) (left : ℕ) (old mid : StoreView) → 0 < left → (h : HasLeft piece left old mid) → LeavesSome piece (suc h.count) old mid
+left-some : (piece : Work) (left : ℕ) (old mid : StoreView) → 0 < left → (h : HasLeft piece left old mid) → LeavesBlocksEachTime piece (suc h.count) old mid
 left-some piece left old mid some h = let one : left ≡ suc (left - 1) = omega (arith, some) in
     (h.last, h.some, left - 1, subst (λ (n : ℕ). Works h.last piece (Number n) mid) one h.told)
 
@@ -29,15 +29,15 @@ pub left-again : (piece : Work) (left now : ℕ) (old mid new : StoreView) → 0
 left-again piece left now old mid new some h works = record { count = suc h.count; last = mid; some = left-some piece left old mid some h; told = works }
 
 -- it was refused at once
-pub held_up-first : (piece : Work) (e : Refusal) (old new : StoreView) → Works old piece (Refused e) new → IsHeldUp piece old new
+pub held_up-first : (piece : Work) (e : Refusal) (old new : StoreView) → Works old piece (Refused e) new → DoesNotGoThrough piece old new
 held_up-first piece e old new works = inl (0, old, refl, (e, works))
 
 -- it was refused later
-pub held_up-later : (piece : Work) (left : ℕ) (e : Refusal) (old mid new : StoreView) → 0 < left → HasLeft piece left old mid → Works mid piece (Refused e) new → IsHeldUp piece old new
+pub held_up-later : (piece : Work) (left : ℕ) (e : Refusal) (old mid new : StoreView) → 0 < left → HasLeft piece left old mid → Works mid piece (Refused e) new → DoesNotGoThrough piece old new
 held_up-later piece left e old mid new some h works = inl (suc h.count, mid, left-some piece left old mid some h, (e, works))
 
 -- it left no fewer
-pub held_up-no_fewer : (piece : Work) (left now : ℕ) (old mid new : StoreView) → 0 < left → left ≤ now → HasLeft piece left old mid → Works mid piece (Number now) new → IsHeldUp piece old new
+pub held_up-no_fewer : (piece : Work) (left now : ℕ) (old mid new : StoreView) → 0 < left → left ≤ now → HasLeft piece left old mid → Works mid piece (Number now) new → DoesNotGoThrough piece old new
 held_up-no_fewer piece left now old mid new some most h works = let one : left ≡ suc (left - 1) = omega (arith, some) in
     inr (mid, left - 1, now, subst (λ (n : ℕ). HasLeft piece n old mid) one h, works, omega (arith, some, most))
 

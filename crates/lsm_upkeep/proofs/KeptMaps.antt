@@ -20,7 +20,7 @@ use Rattle.lsm_store.specs.WorkReplies.{after_work_fault, next_worked}
 use Rattle.lsm_store.specs.Working.{Works}
 use Rattle.lsm_store.proofs.Points.{present_synced}
 use Rattle.lsm_upkeep.specs.Keeping.{IsSameMap, KeepsMap}
-use Rattle.lsm_upkeep.specs.Finishing.{HasLeft, IsFinished, IsGivenUp, IsHeldUp, IsOffered, IsReadWhole, IsStuck, IsUndone, IsUnfinished, IsUnmerged, IsUnread, LeavesSome, Taken}
+use Rattle.lsm_upkeep.specs.Finishing.{HasLeft, IsFinished, IsGivenUp, DoesNotGoThrough, IsOffered, IsReadWhole, IsStuck, IsUndone, IsUnfinished, IsUnmerged, IsUnread, LeavesBlocksEachTime, Taken}
 use Rattle.lsm_upkeep.specs.Upkeep.{AreDone, FinishesJobs, IsNoMore, IsRotatedAt, OpensLog}
 
 -- ---- states
@@ -83,14 +83,14 @@ stays old new e = subst (λ (s : StoreView). KeepsMap old s) (sym e) (same old.s
 pub onward : (old mid new : StoreView) → KeepsMap old mid → KeepsMap mid new → KeepsMap old new
 onward old mid new first second = then old.state mid.state new.state first second
 
-some_left : (piece : Work) (n : ℕ) (old new : StoreView) → LeavesSome piece n old new → KeepsMap old new
+some_left : (piece : Work) (n : ℕ) (old new : StoreView) → LeavesBlocksEachTime piece n old new → KeepsMap old new
 some_left piece zero old new e = stays old new e
 some_left piece (suc n) old new (mid, before, left, works) = onward old mid new (some_left piece n old mid before) (works_keep mid new piece _ works)
 
 left_keeps : (piece : Work) (left : ℕ) (old new : StoreView) → HasLeft piece left old new → KeepsMap old new
 left_keeps piece left old new h = onward old h.last new (some_left piece h.count old h.last h.some) (works_keep h.last new piece _ h.told)
 
-held_up_keeps : (piece : Work) (old new : StoreView) → IsHeldUp piece old new → KeepsMap old new
+held_up_keeps : (piece : Work) (old new : StoreView) → DoesNotGoThrough piece old new → KeepsMap old new
 held_up_keeps piece old new (inl (count, last, before, (e, works))) = onward old last new (some_left piece count old last before) (works_keep last new piece _ works)
 held_up_keeps piece old new (inr (mid, before, now, h, works, le)) = onward old mid new (left_keeps piece (suc before) old mid h) (works_keep mid new piece _ works)
 

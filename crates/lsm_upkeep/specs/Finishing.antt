@@ -17,15 +17,15 @@ IsRefused piece old new = (e : Refusal) × Works old piece (Refused e) new
 -- ---- pieces that are done until no block is left
 
 -- so many times a piece of work left some blocks
-abbrev pub LeavesSome : Work → ℕ → StoreView → StoreView → Type 0
-LeavesSome piece zero old new = new ≡ old
-LeavesSome piece (suc n) old new = (mid : StoreView) × LeavesSome piece n old mid × (left : ℕ) × Works mid piece (Number (suc left)) new
+abbrev pub LeavesBlocksEachTime : Work → ℕ → StoreView → StoreView → Type 0
+LeavesBlocksEachTime piece zero old new = new ≡ old
+LeavesBlocksEachTime piece (suc n) old new = (mid : StoreView) × LeavesBlocksEachTime piece n old mid × (left : ℕ) × Works mid piece (Number (suc left)) new
 
 -- A piece of work was done again and again, as long as it left some blocks, and the last time it left so many.
 pub record HasLeft (piece : Work) (left : ℕ) (old new : StoreView) : Type 0 where
   pub count : ℕ
   pub last : StoreView
-  pub some : LeavesSome piece count old last
+  pub some : LeavesBlocksEachTime piece count old last
   pub told : Works last piece (Number left) new
 
 -- it was done until none was left
@@ -34,15 +34,15 @@ GoesThrough piece old new = HasLeft piece 0 old new
 
 -- it was refused, the first time or a later one
 abbrev pub IsStopped : Work → StoreView → StoreView → Type 0
-IsStopped piece old new = (count : ℕ) × (last : StoreView) × LeavesSome piece count old last × IsRefused piece last new
+IsStopped piece old new = (count : ℕ) × (last : StoreView) × LeavesBlocksEachTime piece count old last × IsRefused piece last new
 
 -- it left as many blocks as the time before, or more
-abbrev pub IsNoFewer : Work → StoreView → StoreView → Type 0
-IsNoFewer piece old new = (mid : StoreView) × (before now : ℕ) × HasLeft piece (suc before) old mid × Works mid piece (Number now) new × (suc before ≤ now)
+abbrev pub LeavesNoFewer : Work → StoreView → StoreView → Type 0
+LeavesNoFewer piece old new = (mid : StoreView) × (before now : ℕ) × HasLeft piece (suc before) old mid × Works mid piece (Number now) new × (suc before ≤ now)
 
 -- it didn't get through
-abbrev pub IsHeldUp : Work → StoreView → StoreView → Type 0
-IsHeldUp piece old new = IsStopped piece old new ⊎ IsNoFewer piece old new
+abbrev pub DoesNotGoThrough : Work → StoreView → StoreView → Type 0
+DoesNotGoThrough piece old new = IsStopped piece old new ⊎ LeavesNoFewer piece old new
 
 -- ---- one job
 
@@ -54,7 +54,7 @@ IsReadWhole job (Some level) old new = GoesThrough (Read job) old new
 -- that was not read to the end
 abbrev pub IsUnread : ℕ → Option ℕ → StoreView → StoreView → Type 0
 IsUnread job None old new = ⊥
-IsUnread job (Some level) old new = IsHeldUp (Read job) old new
+IsUnread job (Some level) old new = DoesNotGoThrough (Read job) old new
 
 -- The job's input was lent, and the result of a merge of it was answered so.
 pub record IsOffered (job : ℕ) (reply : Reply) (old new : StoreView) : Type 0 where
@@ -84,7 +84,7 @@ pub record IsFinished (job : ℕ) (level : Option ℕ) (old new : StoreView) : T
 abbrev pub IsUnfinished : ℕ → StoreView → StoreView → Type 0
 IsUnfinished job old new = IsUnmerged job old new
     ⊎ ((merged : StoreView) × IsOffered job Done old merged
-    × (IsHeldUp (Write job) merged new ⊎ ((written : StoreView) × GoesThrough (Write job) merged written × IsRefused (Install job) written new)))
+    × (DoesNotGoThrough (Write job) merged new ⊎ ((written : StoreView) × GoesThrough (Write job) merged written × IsRefused (Install job) written new)))
 
 -- a job was done as far as it went: the piece whose turn it was didn't go on
 abbrev pub IsStuck : ℕ → Option ℕ → StoreView → StoreView → Type 0

@@ -4,7 +4,7 @@ ghost use Rattle.std.specs.Prelude.{◌≡◌, true, false, MatchResult};
 ghost use Rattle.lsm_store.specs.Calls.{Done, reply_of};
 ghost use Rattle.lsm_store.specs.Work.{Take, Read, Write};
 ghost use Rattle.lsm_store.specs.Working.{Works, taken_reply};
-ghost use Rattle.lsm_upkeep.specs.Finishing.{GoesThrough, IsFinished, IsGivenUp, IsHeldUp, IsOffered, IsReadWhole, IsStuck, IsUndone, IsUnmerged, IsUnread, Taken};
+ghost use Rattle.lsm_upkeep.specs.Finishing.{GoesThrough, IsFinished, IsGivenUp, DoesNotGoThrough, IsOffered, IsReadWhole, IsStuck, IsUndone, IsUnmerged, IsUnread, Taken};
 
 use lsm_device::{Device, Refusal};
 use lsm_merge::build;
@@ -83,7 +83,7 @@ fn read<D: Device>(store: &mut Store<D>, taken: TakenJob) -> Result<(), Refusal>
 }
 
 fn read_tables<D: Device>(store: &mut Store<D>, job: u64) -> Result<(), Refusal>
-    ensures { MatchResult result (λ _. GoesThrough (Read job) store.old store.new) (λ _. IsHeldUp (Read job) store.old store.new) }
+    ensures { MatchResult result (λ _. GoesThrough (Read job) store.old store.new) (λ _. DoesNotGoThrough (Read job) store.old store.new) }
 {
     let mut left = store.job_read(job)?;
     while left > 0 {
@@ -111,7 +111,7 @@ fn merge<R: Threads + Sync, D: Device>(
 }
 
 fn write<D: Device>(store: &mut Store<D>, job: u64) -> Result<(), Refusal>
-    ensures { MatchResult result (λ _. GoesThrough (Write job) store.old store.new) (λ _. IsHeldUp (Write job) store.old store.new) }
+    ensures { MatchResult result (λ _. GoesThrough (Write job) store.old store.new) (λ _. DoesNotGoThrough (Write job) store.old store.new) }
 {
     let mut left = store.job_write(job)?;
     while left > 0 {

@@ -7,7 +7,7 @@ ghost use Rattle.lsm_device.specs.Outcomes.{Leaves};
 ghost use Rattle.lsm_open.specs.CrashState.{CrashState};
 ghost use Rattle.lsm_open.specs.Image.{StandFor};
 ghost use Rattle.lsm_store.specs.Lives.{IsAfter};
-ghost use Rattle.lsm_check.specs.Images.{IsShort};
+ghost use Rattle.lsm_check.specs.Images.{IsNoVerdict};
 
 use lsm_check::{Finding, Report, check};
 use lsm_device::MemDevice;
@@ -17,7 +17,7 @@ use std::thread::Threads;
 
 // Checks a device that is handed over.
 fn checked(alloc: Global, device: MemDevice) -> Result<Report, Finding>
-    ensures { (log_sectors : ℕ) (left : CrashState) → Leaves (StandFor log_sectors left) (disk (medium_in device)) → IfErr result IsShort }
+    ensures { (log_sectors : ℕ) (left : CrashState) → Leaves (StandFor log_sectors left) (disk (medium_in device)) → IfErr result IsNoVerdict }
 {
     let mut device = device;
     let report = check(alloc, &mut device)?;
@@ -33,7 +33,7 @@ pub fn check_after_lives<R: Threads + Sync>(
     given: &[Life],
 ) -> Result<Report, Finding>
     ensures { (log_sectors : ℕ) (before : List (List Operation)) (opened : CrashState) → IsAfter before opened → Leaves (StandFor log_sectors opened) (disk (medium_in device))
-        → IfErr result IsShort }
+        → IfErr result IsNoVerdict }
 {
     match lives(rt, alloc, device, given) {
         Ok((_replies, device)) => checked(alloc, device),

@@ -1,7 +1,7 @@
 use Rattle.std.proofs.Common.{[], ◌∙◌, ◌+◌, ◌*◌, ◌<◌, ℕ, get_or, take, drop, ap, sym, subst, arith}
 use Rattle.lsm_filter.specs.Bits.{filter_of}
 use Rattle.lsm_table.specs.Division.{TableBlocks}
-use Rattle.lsm_table.specs.Extents.{extent_size, extent_of, keys_of}
+use Rattle.lsm_table.specs.Extents.{extent_size, extent_in_blocks, keys_of}
 use Rattle.lsm_jobs.specs.Outputs.{placed_blocks}
 use Rattle.lsm_jobs.proofs.Sectors.{block_here, none_at, here_ends, block_written}
 use Rattle.lsm_jobs.proofs.outputs.write_one.Goals as goal
@@ -45,5 +45,5 @@ returns-clause-written g c =
     let image = c.index-images-i.result in
     block_written c.args.area (c.args.area + 8 * (c.first_block.result + c.in-Some.block)) c.block-bytes.result (take 1 (drop c.args.at (placed_blocks c.args.tables.now))) _ c.write_block.result (g.D.Device.medium c.args.device.now) (g.D.Device.medium c.write_block.new.device)
     (here.one c.index-tables-i.result image c.index-tables-i.is c.index-images-i.is) (ap (λ (n : ℕ). c.args.area + 8 * (n + c.in-Some.block)) c.first_block.ensures)
-    (c.block-bytes.ensures ∙ ap (λ (n : ℕ). get_or (extent_of n (filter_of (keys_of image)) image) c.in-Some.block []) c.number.ensures)
+    (c.block-bytes.ensures ∙ ap (λ (n : ℕ). get_or (extent_in_blocks n (filter_of (keys_of image)) image) c.in-Some.block []) c.number.ensures)
     c.write_block.ensures.moments c.write_block.ensures.pends c.write_block.ensures.faults c.write_block.ensures.stops c.write_block.ensures.same_size c.write_block.ensures.same_lasting

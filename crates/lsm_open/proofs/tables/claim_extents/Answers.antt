@@ -6,7 +6,7 @@ use Rattle.lsm_codec.specs.TableRecords.{extent_end}
 use Rattle.lsm_codec.specs.declared.table_record.TableRecord.{TableRecord}
 use Rattle.lsm_extent.specs.Area.{Area, covers, is_held, handed_out}
 use Rattle.lsm_extent.specs.declared.extent.Extent.{Extent}
-use Rattle.lsm_open.specs.ToldTables.{extent_of}
+use Rattle.lsm_open.specs.ToldTables.{record_extent}
 use Rattle.lsm_open.proofs.Claims.{apart_before, free_then, given_then, or_swap}
 use Rattle.lsm_open.proofs.tables.claim_extents.Goals as goal
 
@@ -20,16 +20,16 @@ loop-table-preserved g c =
     let old : Area = c.loop-table.extents in
     let new : Area = c.claim.new.self in
     let lt = c.loop-table-test.true in
-    let e : Extent = extent_of t in
+    let e : Extent = record_extent t in
     let laws = c.extent_laws.ensures in
     let free = free_then old c.args.extents.now.blocks (take i ts) t inv.size inv.only (All-get_or (λ u. extent_end u ≤ c.args.extents.now.blocks) ts i d lt c.requires.inside) (apart_before ts i d lt c.requires.apart) in
     let is : new ≡ handed_out e old = given_then old new c.in_ok-claim.field-0 e (rw (sym c.extent_blocks.ensures) c.in_ok-claim.ensures.claimed) c.in_ok-claim.ensures.held free in
     record {
       size = ap (λ (a : Area). a.blocks) is ∙ inv.size;
-      each = subst (λ (a : Area). All (λ u. Contains a.held (extent_of u)) (take (i + 1) ts)) (sym is)
-          (All-more (λ u. Contains (handed_out e old).held (extent_of u)) ts i d lt (All-weaker (λ u. Contains old.held (extent_of u)) (λ u. Contains (handed_out e old).held (extent_of u)) (λ u h. laws.others e (extent_of u) old h) (take i ts) inv.each) (laws.among e old));
+      each = subst (λ (a : Area). All (λ u. Contains a.held (record_extent u)) (take (i + 1) ts)) (sym is)
+          (All-more (λ u. Contains (handed_out e old).held (record_extent u)) ts i d lt (All-weaker (λ u. Contains old.held (record_extent u)) (λ u. Contains (handed_out e old).held (record_extent u)) (λ u h. laws.others e (record_extent u) old h) (take i ts) inv.each) (laws.among e old));
       only = λ k. ap (λ (a : Area). is_held a.held k) is ∙ laws.blocks e old k ∙ ap (λ (b : Bool). covers k e || b) (inv.only k)
-          ∙ or_swap (covers k e) (list_any (λ u. covers k (extent_of u)) (take i ts)) ∙ sym (list_any_more (λ u. covers k (extent_of u)) ts i d lt);
+          ∙ or_swap (covers k e) (list_any (λ u. covers k (record_extent u)) (take i ts)) ∙ sym (list_any_more (λ u. covers k (record_extent u)) ts i d lt);
     }
 
 pub returns-clause-held : goal.returns-clause-held
@@ -39,6 +39,6 @@ returns-clause-held g c =
     let all : take c.loop-table.table-index ts ≡ ts = take_all c.loop-table.table-index ts (omega (arith, c.loop-table-test.false)) in
     record {
       size = inv.size;
-      each = subst (λ (l : List TableRecord). All (λ t. Contains c.loop-table.extents.held (extent_of t)) l) all inv.each;
-      only = λ k. inv.only k ∙ ap (list_any (λ t. covers k (extent_of t))) all;
+      each = subst (λ (l : List TableRecord). All (λ t. Contains c.loop-table.extents.held (record_extent t)) l) all inv.each;
+      only = λ k. inv.only k ∙ ap (list_any (λ t. covers k (record_extent t))) all;
     }

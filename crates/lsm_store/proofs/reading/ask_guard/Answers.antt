@@ -7,7 +7,7 @@ use Rattle.lsm_device.specs.Refusals.{faultless}
 use Rattle.lsm_device.specs.declared.refusal.Refusal.TheVariants.{Io}
 use Rattle.lsm_levels.specs.Asking.{Source}
 use Rattle.lsm_levels.specs.Levels.{Levels, places}
-use Rattle.lsm_levels.specs.Lookups.{IsTest, versions_at, sealed_now}
+use Rattle.lsm_levels.specs.Lookups.{IsTest, versions_in_places, sealed_now}
 use Rattle.lsm_levels.specs.Orders.{IsVersionOrder}
 use Rattle.lsm_levels.specs.Stored.{AreWithin, IsReadable}
 use Rattle.lsm_merge.specs.Inputs.{joined}
@@ -31,8 +31,8 @@ returns-clause-answers g c =
     let e = c.view_of-view.ensures in
     let old : Source = record { cache = c.args.cache.now; medium = g.D.Device.medium c.args.device.now } in
     let n = c.args.count in
-    same_parts (λ (p : Parts). (place : BlockName → Option ℕ) → IsReadable place p.area (places p.levels) old → IsVersionOrder (versions_at p.memory p.sealed (places p.levels))
-    → MatchResult c.meets_guard.result (λ met. met ≡ is_met (map_of (joined (versions_at p.memory p.sealed (places p.levels))) n) c.args.guard.now) (λ refusal. refusal ≡ Io))
+    same_parts (λ (p : Parts). (place : BlockName → Option ℕ) → IsReadable place p.area (places p.levels) old → IsVersionOrder (versions_in_places p.memory p.sealed (places p.levels))
+    → MatchResult c.meets_guard.result (λ met. met ≡ is_met (map_of (joined (versions_in_places p.memory p.sealed (places p.levels))) n) c.args.guard.now) (λ refusal. refusal ≡ Io))
     v.mem.now _ (sealed_now v.sealed) _ v.levels.now _ v.area _ e.memory e.sealed e.levels e.area c.meets_guard.ensures.answers
 
 pub returns-clause-tests : goal.returns-clause-tests

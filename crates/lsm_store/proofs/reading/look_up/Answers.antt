@@ -8,7 +8,7 @@ use Rattle.lsm_device.specs.Refusals.{faultless}
 use Rattle.lsm_device.specs.declared.refusal.Refusal.TheVariants.{Io, NoMemory}
 use Rattle.lsm_levels.specs.Asking.{Source}
 use Rattle.lsm_levels.specs.Levels.{Levels, places}
-use Rattle.lsm_levels.specs.Lookups.{IsLookUp, answer_of, versions_at, sealed_now}
+use Rattle.lsm_levels.specs.Lookups.{IsLookUp, answer_of, versions_in_places, sealed_now}
 use Rattle.lsm_levels.specs.Orders.{IsVersionOrder}
 use Rattle.lsm_levels.specs.Stored.{AreWithin, IsReadable}
 use Rattle.lsm_merge.specs.Inputs.{joined}
@@ -33,9 +33,9 @@ returns-clause-answers g c =
     let old : Source = record { cache = c.args.cache.now; medium = g.D.Device.medium c.args.device.now } in
     let key = c.args.key.now in
     let n = c.args.count in
-    same_parts (λ (p : Parts). (place : BlockName → Option ℕ) → IsReadable place p.area (places p.levels) old → IsVersionOrder (versions_at p.memory p.sealed (places p.levels))
-    → MatchResult c.find.result (λ value. option_map (λ v. v.items) value ≡ finite.get (map_of (joined (versions_at p.memory p.sealed (places p.levels))) n) key)
-    (λ refusal. (refusal ≡ Io) ⊎ ((refusal ≡ NoMemory) × (is_some (finite.get (map_of (joined (versions_at p.memory p.sealed (places p.levels))) n) key) ≡ true))))
+    same_parts (λ (p : Parts). (place : BlockName → Option ℕ) → IsReadable place p.area (places p.levels) old → IsVersionOrder (versions_in_places p.memory p.sealed (places p.levels))
+    → MatchResult c.find.result (λ value. option_map (λ v. v.items) value ≡ finite.get (map_of (joined (versions_in_places p.memory p.sealed (places p.levels))) n) key)
+    (λ refusal. (refusal ≡ Io) ⊎ ((refusal ≡ NoMemory) × (is_some (finite.get (map_of (joined (versions_in_places p.memory p.sealed (places p.levels))) n) key) ≡ true))))
     v.mem.now _ (sealed_now v.sealed) _ v.levels.now _ v.area _ e.memory e.sealed e.levels e.area c.find.ensures.answers
 
 pub returns-clause-looks : goal.returns-clause-looks

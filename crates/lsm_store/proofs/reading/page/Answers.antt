@@ -7,7 +7,7 @@ use Rattle.lsm_device.specs.declared.refusal.Refusal.TheVariants.{Io, NoMemory}
 use Rattle.lsm_levels.specs.Asking.{Source}
 use Rattle.lsm_levels.specs.Cursors.{refusal_of}
 use Rattle.lsm_levels.specs.Levels.{Levels, places}
-use Rattle.lsm_levels.specs.Lookups.{versions_at, sealed_now}
+use Rattle.lsm_levels.specs.Lookups.{versions_in_places, sealed_now}
 use Rattle.lsm_levels.specs.Orders.{IsVersionOrder}
 use Rattle.lsm_levels.specs.Pages.{IsScan}
 use Rattle.lsm_levels.specs.Scans.{ScansRuns, blocks_in, blocks_of_runs}
@@ -36,8 +36,8 @@ returns-clause-answers g c =
     let from = c.args.range.0.now in
     let to = option_map (λ to. to.now) c.args.range.1 in
     let n = c.args.count in
-    same_parts (λ (p : Parts). (place : BlockName → Option ℕ) → IsReadable place p.area (places p.levels) old → IsVersionOrder (versions_at p.memory p.sealed (places p.levels))
-    → MatchResult c.scan.result (λ page. page ≡ page_of (map_of (joined (versions_at p.memory p.sealed (places p.levels))) n) from to c.args.limit)
+    same_parts (λ (p : Parts). (place : BlockName → Option ℕ) → IsReadable place p.area (places p.levels) old → IsVersionOrder (versions_in_places p.memory p.sealed (places p.levels))
+    → MatchResult c.scan.result (λ page. page ≡ page_of (map_of (joined (versions_in_places p.memory p.sealed (places p.levels))) n) from to c.args.limit)
     (λ refusal. (refusal ≡ Io) ⊎ (refusal ≡ NoMemory)))
     v.mem.now _ (sealed_now v.sealed) _ v.levels.now _ v.area _ e.memory e.sealed e.levels e.area c.scan.ensures.answers
 

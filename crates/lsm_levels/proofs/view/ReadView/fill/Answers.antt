@@ -7,7 +7,7 @@ use Rattle.lsm_mem.specs.Paging.{Page, page_of}
 use Rattle.lsm_mem.specs.Gathering.{Gathering}
 use Rattle.lsm_merge.specs.Inputs.{joined}
 use Rattle.lsm_levels.specs.Levels.{places}
-use Rattle.lsm_levels.specs.Lookups.{sealed_now, versions_at}
+use Rattle.lsm_levels.specs.Lookups.{sealed_now, versions_in_places}
 use Rattle.lsm_levels.specs.Asking.{Source}
 use Rattle.lsm_levels.specs.Cursors.{Cursor}
 use Rattle.lsm_levels.specs.Scans.{AreReady, AsksSome, ComesTo, blocks_to_come}
@@ -55,7 +55,7 @@ returns-in_err-gather_all-clause-comes g c = λ place to limit readable order is
     let v = c.args.self.now in
     let b : Source = record { cache = c.sources.new.cache; medium = g.D.Device.medium c.sources.new.device } in
     let S = seen (disk (g.D.Device.medium c.args.device.now)) in
-    let page : Page = page_of (map_of (joined (versions_at v.mem.now (sealed_now v.sealed) (places v.levels.now))) c.args.at) c.args.from.now to limit in
+    let page : Page = page_of (map_of (joined (versions_in_places v.mem.now (sealed_now v.sealed) (places v.levels.now))) c.args.at) c.args.from.now to limit in
     let comes = subst (λ (cs : List Cursor). ComesTo place S page c.args.builder.now cs b) (sym c.deref_mut.ensures.value)
     (subst (λ (x : Gathering). ComesTo place S page x c.in_ok-sources.sources.items b) (sym is) (c.in_ok-sources.ensures.comes place readable order to limit)) in
     let p = err_from_is_err_and c.from_residual-in_err-gather_all.result c.from_residual-in_err-gather_all.ensures.1 in
@@ -71,7 +71,7 @@ returns-clause-comes g c = λ place to limit readable order is.
     let v = c.args.self.now in
     let b : Source = record { cache = c.sources.new.cache; medium = g.D.Device.medium c.sources.new.device } in
     let S = seen (disk (g.D.Device.medium c.args.device.now)) in
-    let page : Page = page_of (map_of (joined (versions_at v.mem.now (sealed_now v.sealed) (places v.levels.now))) c.args.at) c.args.from.now to limit in
+    let page : Page = page_of (map_of (joined (versions_in_places v.mem.now (sealed_now v.sealed) (places v.levels.now))) c.args.at) c.args.from.now to limit in
     let comes = subst (λ (cs : List Cursor). ComesTo place S page c.args.builder.now cs b) (sym c.deref_mut.ensures.value)
     (subst (λ (x : Gathering). ComesTo place S page x c.in_ok-sources.sources.items b) (sym is) (c.in_ok-sources.ensures.comes place readable order to limit)) in
     c.in_ok-gather_all.ensures.comes place S page comes

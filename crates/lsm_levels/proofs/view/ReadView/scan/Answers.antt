@@ -6,7 +6,7 @@ use Rattle.lsm_mem.specs.Paging.{page_of}
 use Rattle.lsm_mem.specs.Gathering.{Gathering, gathering}
 use Rattle.lsm_merge.specs.Inputs.{joined}
 use Rattle.lsm_levels.specs.Levels.{places}
-use Rattle.lsm_levels.specs.Lookups.{sealed_now, versions_at}
+use Rattle.lsm_levels.specs.Lookups.{sealed_now, versions_in_places}
 use Rattle.lsm_levels.specs.Asking.{Source}
 use Rattle.lsm_levels.proofs.ScanAsking.{asks_nothing}
 use Rattle.lsm_levels.proofs.ScanViews.{page_has_come, scans_runs}
@@ -59,7 +59,7 @@ returns-clause-asks g c =
 pub returns-clause-answers : goal.returns-clause-answers
 returns-clause-answers g c = λ place readable order.
     let v = c.args.self.now in
-    page_has_come (page_of (map_of (joined (versions_at v.mem.now (sealed_now v.sealed) (places v.levels.now))) c.args.at) c.args.range.0.now (option_map (λ to. to.now) c.args.range.1) c.args.limit) c.into_page.result c.fill.new.builder
+    page_has_come (page_of (map_of (joined (versions_in_places v.mem.now (sealed_now v.sealed) (places v.levels.now))) c.args.at) c.args.range.0.now (option_map (λ to. to.now) c.args.range.1) c.args.limit) c.into_page.result c.fill.new.builder
     (c.in_ok-fill.ensures.comes place (option_map (λ to. to.now) c.args.range.1) c.args.limit readable order c.in_ok-builder.ensures) c.into_page.ensures.so_far c.into_page.ensures.whole
 
 pub returns-in_err-builder-clause-scans : goal.returns-in_err-builder-clause-scans
