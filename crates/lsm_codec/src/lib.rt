@@ -37,7 +37,10 @@ pub use batch::Batch;
 pub use data_block::encode_data_block;
 pub use entry::Entry;
 pub use footer::Footer;
-pub use geometry::{ROOT_SECTORS, data_blocks, is_device_size, is_log_size};
+pub use geometry::{
+    LEAST_LOG_SECTORS, LEAST_SECTORS, MOST_LOG_SECTORS, MOST_SECTORS, ROOT_SECTORS, data_blocks,
+    is_device_size, is_log_size,
+};
 pub use guard::Guard;
 pub use index::{Edge, Index};
 pub use key::Key;

@@ -6,7 +6,7 @@ ghost use Rattle.lsm_device.specs.declared.refusal.Refusal.TheVariants.{BadGeome
 ghost use Rattle.lsm_root.specs.Layout.{IsGeometry};
 ghost use Rattle.lsm_language.specs.Limits.{is_geometry};
 
-use lsm_codec::data_blocks;
+use lsm_codec::{LEAST_LOG_SECTORS, LEAST_SECTORS, MOST_LOG_SECTORS, MOST_SECTORS, data_blocks};
 use lsm_device::Refusal;
 
 /// The sectors of a device and of each of its three log regions, within the limits.
@@ -22,7 +22,9 @@ impl Geometry {
     pub fn new(sectors: u64, log_sectors: u64) -> Result<Geometry, Refusal>
         ensures { MatchResult result (λ g. IsTrue (is_geometry sectors log_sectors) × (g.sectors ≡ sectors) × (g.log_sectors ≡ log_sectors)) (λ e. (is_geometry sectors log_sectors ≡ false) × (e ≡ BadGeometry)) }
     {
-        if !(8_192..=1_048_576).contains(&sectors) || !(128..=2_048).contains(&log_sectors) {
+        let (least, most) = (LEAST_SECTORS as u64, MOST_SECTORS as u64);
+        let (least_log, most_log) = (LEAST_LOG_SECTORS as u64, MOST_LOG_SECTORS as u64);
+        if !(least..=most).contains(&sectors) || !(least_log..=most_log).contains(&log_sectors) {
             return Err(Refusal::BadGeometry);
         }
         Ok(Geometry {

@@ -1,5 +1,5 @@
 // Every crash of a life, and every crash of the opening after it.
-ghost use Rattle.std.specs.Prelude.{◌≡◌, ◌⊎◌, ◌≤◌, ◌<◌, ◌+◌, ◌∷◌, ◌^◌, ℕ, List, [], None, Some, IfOk, IfErr, OnOk, All, Err, IsTrue, ◌↔◌, drop, map, length, if◌then◌else◌};
+ghost use Rattle.std.specs.Prelude.{◌≡◌, ◌⊎◌, ◌≤◌, ◌<◌, ◌+◌, ◌∷◌, ◌^◌, ℕ, List, [], None, Some, IfOk, IfErr, OnOk, All, Err, ◌↔◌, drop, map, length, if◌then◌else◌};
 ghost use Rattle.lsm_codec.specs.Map.{Operation};
 ghost use Rattle.lsm_device.specs.declared.refusal.Refusal.TheVariants.{NoMemory, BadGeometry};
 ghost use Rattle.lsm_device.specs.Disk.{IsSector, image};
@@ -24,6 +24,7 @@ use lsm_device::{MemDevice, Refusal};
 use lsm_image::{Image, ImageDevice, sectors_of};
 use lsm_open::format;
 use lsm_progress::{Milestone, Progress};
+use lsm_root::is_geometry;
 use std::alloc::{AllocError, Allocator, Global};
 use std::thread::Threads;
 
@@ -52,13 +53,6 @@ fn one_more(count: u64) -> Result<u64, Refusal>
         Some(more) => Ok(more),
         None => Err(Refusal::NoMemory),
     }
-}
-
-// Whether a device of so many sectors can be formatted with log regions of so many.
-fn is_geometry(sectors: u32, log_sectors: u16) -> bool
-    ensures { IsTrue result ↔ IsGeometry sectors log_sectors }
-{
-    (8_192..=1_048_576).contains(&sectors) && (128..=2_048).contains(&log_sectors)
 }
 
 // The sectors of a device with an empty store.

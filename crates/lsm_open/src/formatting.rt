@@ -13,9 +13,9 @@ ghost use Rattle.lsm_open.specs.CrashState.{formatted as empty_store};
 ghost use Rattle.lsm_open.specs.Image.{StandFor};
 ghost use Rattle.lsm_open.specs.Formatted.{empty_manifest, IsFormatted, handed_back, without_device};
 
-use lsm_codec::{Manifest, ROOT_SECTORS, is_device_size, is_log_size};
+use lsm_codec::{Manifest, ROOT_SECTORS};
 use lsm_device::{Device, Fault, Refusal};
-use lsm_root::NextRoot;
+use lsm_root::{NextRoot, is_geometry};
 use std::alloc::Allocator;
 
 /// How many sectors of zeros one call of the device writes.
@@ -24,13 +24,6 @@ const ZERO_SECTORS: u32 = 128;
 const SECTOR_BYTES: usize = 512;
 
 const LOG_REGIONS: u32 = 3;
-
-// Whether a device and a log region may have these sizes.
-fn is_geometry(sectors: u32, log_sectors: u16) -> bool
-    ensures { IsTrue result ↔ IsGeometry sectors log_sectors }
-{
-    is_device_size(sectors) && is_log_size(log_sectors)
-}
 
 // Zeroes the first sectors, 64 KiB by a call of the device, and makes that stand.
 fn zero_front<D: Device>(device: &mut D, count: u32) -> Result<(), Fault>

@@ -1,9 +1,16 @@
-// Where tables lie.
+// Which sizes a device may have, and where tables lie.
 ghost use Rattle.std.specs.Prelude.{◌≤◌, ◌↔◌, IsTrue};
 ghost use Rattle.lsm_codec.specs.TableRecords.{extent_end};
 ghost use Rattle.lsm_root.specs.Layout.{IsGeometry, LieInside};
 
-use lsm_codec::{TableRecord, data_blocks};
+use lsm_codec::{TableRecord, data_blocks, is_device_size, is_log_size};
+
+/// Whether a device and each of its three log regions may have so many sectors.
+pub fn is_geometry(sectors: u32, log_sectors: u16) -> bool
+    ensures { IsTrue result ↔ IsGeometry sectors log_sectors }
+{
+    is_device_size(sectors) && is_log_size(log_sectors)
+}
 
 // Whether a table's extent lies in a data area of so many blocks.
 fn lies_inside(table: &TableRecord, blocks: u32) -> bool
