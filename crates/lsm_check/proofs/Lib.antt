@@ -9,7 +9,6 @@ pub mod OrderWalks
 pub mod SoundTables
 pub mod SoundRuns
 pub mod ToldTables
-pub mod RunsAscend
 pub mod StandSoundly
 pub mod Readings
 pub mod Checked

@@ -19,7 +19,7 @@ use Rattle.lsm_open.specs.ToldTables.{told_tables, HaveNamed}
 use Rattle.lsm_open.proofs.StandingTables.{told_stored}
 use Rattle.lsm_table.specs.Outlines.{Outline, outline_in}
 use Rattle.lsm_check.specs.Sound.{IsSound, AreSound}
-use Rattle.lsm_check.proofs.RunsAscend.{records_ascend}
+use Rattle.lsm_open.proofs.StoredRecords.{records_ascend}
 use Rattle.lsm_check.proofs.ToldTables.{IsOneTold, AreEachTold, each_told, same_blocks, told_versions, same_places}
 
 module _ (n base : ℕ) (s : List (List ℕ)) where

@@ -9,7 +9,7 @@ use Rattle.lsm_levels.specs.Orders.{IsNewerPlace}
 use Rattle.lsm_levels.specs.Pick.{Job, Flush, Merge, installed_levels}
 use Rattle.lsm_levels.specs.Held.{AreRuns, IsHeld, AreOutputs, AreOrdered, AreRanged}
 use Rattle.lsm_levels.proofs.Members.{among_left, among_right}
-use Rattle.lsm_levels.proofs.Parts.{all_map}
+use Rattle.lsm_codec.proofs.Lists.{all_map}
 use Rattle.lsm_levels.proofs.Ranges.{all_of, of_all}
 use Rattle.lsm_levels.proofs.Runs.{runs_law}
 use Rattle.lsm_levels.proofs.Taking.{order_law, flush_law, merging_law}

@@ -20,7 +20,7 @@ use Rattle.lsm_table.specs.Places.{stands_before}
 use Rattle.lsm_table.specs.Stored.{table_of}
 use Rattle.lsm_table.proofs.Orders.{Before, before_along, next_before, befores, later_pairs, front_pairs}
 use Rattle.lsm_merge.proofs.OrderTests.{entry_order_total}
-use Rattle.lsm_levels.proofs.Parts.{filter_all, filter_none, all_map}
+use Rattle.lsm_codec.proofs.Lists.{filter_all, filter_none, all_map}
 use Rattle.lsm_levels.proofs.StoredLaws.{block_entries}
 use Rattle.lsm_jobs.specs.Gathering.{items_in}
 use Rattle.lsm_jobs.proofs.GoingOn.{Item}

@@ -12,7 +12,7 @@ use Rattle.lsm_levels.specs.Cursors.{AreLeft, EndsWithin, blocks_at, blocks_of_t
 use Rattle.lsm_levels.specs.Stored.{LiesWithin}
 use Rattle.lsm_levels.specs.declared.placed.PlacedBlock.{PlacedBlock}
 use Rattle.lsm_levels.proofs.KeyOrder.{below_not}
-use Rattle.lsm_levels.proofs.Parts.{all_append, all_left, all_right, all_filter}
+use Rattle.lsm_codec.proofs.Lists.{all_append, all_left, all_right, all_filter}
 
 -- ---- what holds of all blocks
 

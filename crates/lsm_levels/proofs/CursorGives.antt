@@ -18,7 +18,7 @@ use Rattle.lsm_levels.specs.Cursors.{Cursor, CursorLaw, Gives, GoesOn, IsPlacedA
 use Rattle.lsm_levels.proofs.CursorBlocks.{all_blocks, left_of_all}
 use Rattle.lsm_levels.proofs.CursorLaws.{Reached, goes_to_next, seek_blocks, step_blocks}
 use Rattle.lsm_levels.proofs.CursorStored.{run_sought}
-use Rattle.lsm_levels.proofs.Parts.{all_filter}
+use Rattle.lsm_codec.proofs.Lists.{all_filter}
 
 placed_from : (place : BlockName → Option ℕ) (area : ℕ) (key : Bytes) (run : List Table) → AllByRecursion (IsPlaced place area) run → AllByRecursion (IsPlacedAt place) (blocks_from_key area key run)
 placed_from place area key run all =

@@ -27,7 +27,7 @@ use Rattle.lsm_levels.specs.Cursors.{Items, Cursor, IsPlacedAt, Shows, Seeks, bl
 use Rattle.lsm_levels.specs.declared.placed.PlacedBlock.{PlacedBlock}
 use Rattle.lsm_levels.proofs.CursorLaws.{Reached, enters_left, nothing_left}
 use Rattle.lsm_levels.proofs.KeyOrder.{at_most_trans, at_most_itself, at_most_turned, below_at_most, below_not, not_below, then_below}
-use Rattle.lsm_levels.proofs.Parts.{filter_step, filter_none, filter_all, all_map, all_right, all_append}
+use Rattle.lsm_codec.proofs.Lists.{filter_step, filter_none, filter_all, all_map, all_right, all_append}
 use Rattle.lsm_levels.proofs.Searching.{run_ranges}
 use Rattle.lsm_levels.proofs.StoredLaws.{block_entries}
 

@@ -10,7 +10,7 @@ use Rattle.lsm_levels.specs.Held.{AreRuns, HasItsTables}
 use Rattle.lsm_levels.specs.Moving.{MovingLaw, LowerLaw}
 use Rattle.lsm_levels.proofs.KeyOrder.{below_not, below_at_most, below_then}
 use Rattle.lsm_levels.proofs.Members.{among_passed, passed_among}
-use Rattle.lsm_levels.proofs.Parts.{filter_step}
+use Rattle.lsm_codec.proofs.Lists.{filter_step}
 use Rattle.lsm_levels.proofs.Ranges.{no, all_of, run_order, sides, meets_ends}
 use Rattle.lsm_levels.proofs.Replacing.{newer_cons, last_cons}
 use Rattle.lsm_levels.proofs.Runs.{run_at, run_filter, upper_is, upper_order}

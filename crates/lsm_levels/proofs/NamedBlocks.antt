@@ -28,7 +28,7 @@ use Rattle.lsm_levels.proofs.AskedLaws.{of_run}
 use Rattle.lsm_levels.proofs.CursorBlocks.{all_blocks, left_of_all}
 use Rattle.lsm_levels.proofs.LookingUp.{Outcome, looks_keep}
 use Rattle.lsm_levels.proofs.Members.{among_left, among_right}
-use Rattle.lsm_levels.proofs.Parts.{all_filter}
+use Rattle.lsm_codec.proofs.Lists.{all_filter}
 use Rattle.lsm_levels.proofs.Ranges.{all_of, of_all}
 use Rattle.lsm_levels.proofs.ScanAsking.{all_of_place, all_with}
 

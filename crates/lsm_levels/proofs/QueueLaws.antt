@@ -18,7 +18,8 @@ use Rattle.lsm_levels.specs.Sources.{head_at, is_sooner, comes_before, IsNext}
 use Rattle.lsm_levels.specs.Queues.{AreSpent, EndsIn, IsQueue, IsQueued, OneGoesOn}
 use Rattle.lsm_levels.proofs.Least.{not_less}
 use Rattle.lsm_levels.proofs.Members.{among_left, among_right, among_either}
-use Rattle.lsm_levels.proofs.Parts.{Falls, all_map, all_append, all_left, all_right, all_passed, all_up_to_last}
+use Rattle.lsm_levels.proofs.Parts.{Falls, all_passed, all_up_to_last}
+use Rattle.lsm_codec.proofs.Lists.{all_map, all_append, all_left, all_right}
 
 no : true ≡ false → ⊥
 no e = cc

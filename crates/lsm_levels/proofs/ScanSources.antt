@@ -19,7 +19,7 @@ use Rattle.lsm_levels.specs.Cursors.{Cursor, EndsWithin, Gives, Seeks, SeeksTo, 
 use Rattle.lsm_levels.specs.Scans.{AllGive, AreReady, AsksOn, AsksSome, IsFairItem, blocks_to_come, blocks_of_runs}
 use Rattle.lsm_levels.specs.declared.placed.PlacedBlock.{PlacedBlock}
 use Rattle.lsm_levels.proofs.CursorGives.{cursor_law}
-use Rattle.lsm_levels.proofs.Parts.{all_append}
+use Rattle.lsm_codec.proofs.Lists.{all_append}
 use Rattle.lsm_levels.proofs.ScanAsking.{fair_in, fair_refusal, fair_sought, seeks_asking, refused_asking}
 use Rattle.lsm_levels.proofs.ScanLaws.{given_more}
 

@@ -30,7 +30,7 @@ use Rattle.lsm_levels.specs.Scans.{AllGive, AreReady, AsksInTurn, AsksOn, AsksSo
 use Rattle.lsm_levels.specs.declared.placed.PlacedBlock.{PlacedBlock}
 use Rattle.lsm_levels.proofs.CursorBlocks.{all_blocks, left_of_all}
 use Rattle.lsm_levels.proofs.MemoryCursors.{first_present}
-use Rattle.lsm_levels.proofs.Parts.{all_append, all_filter, all_left, all_right}
+use Rattle.lsm_codec.proofs.Lists.{all_append, all_filter, all_left, all_right}
 use Rattle.lsm_levels.proofs.RunOrders.{run_ordered}
 use Rattle.lsm_levels.proofs.ScanAsking.{fair_oks, still_shown, sums}
 use Rattle.lsm_levels.proofs.SourceLaws.{parts_in_order, same_page}

@@ -5,7 +5,8 @@ use Rattle.std.specs.List.{AllByRecursion}
 use Rattle.lsm_codec.specs.Keys.{Bytes}
 use Rattle.lsm_levels.specs.Tables.{Table, at_most, is_below, IsRun}
 use Rattle.lsm_levels.proofs.KeyOrder.{at_most_trans, below_at_most, below_not, then_below, not_below, below_is, at_most_turned}
-use Rattle.lsm_levels.proofs.Parts.{Falls, all_map, filter_fewer}
+use Rattle.lsm_levels.proofs.Parts.{Falls, filter_fewer}
+use Rattle.lsm_codec.proofs.Lists.{all_map}
 
 -- the ranges of a run's tables are not empty
 pub run_ranges : (run : List Table) → IsRun run → AllByRecursion (λ t. at_most t.first t.last ≡ true) run

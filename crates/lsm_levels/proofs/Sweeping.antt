@@ -9,7 +9,7 @@ use Rattle.lsm_levels.specs.Picks.{is_less}
 use Rattle.lsm_levels.proofs.CursorBlocks.{filter_passes}
 use Rattle.lsm_levels.proofs.KeyOrder.{at_most_itself, at_most_trans, at_most_turned, below_at_most, below_not, not_below, then_below}
 use Rattle.lsm_levels.proofs.Least.{step_fails, step_stays, step_taken, with_rest}
-use Rattle.lsm_levels.proofs.Parts.{all_map, filter_all, filter_none, filter_step}
+use Rattle.lsm_codec.proofs.Lists.{all_map, filter_all, filter_none, filter_step}
 use Rattle.lsm_levels.proofs.Ranges.{no}
 use Rattle.lsm_levels.proofs.Runs.{run_filter}
 use Rattle.lsm_levels.proofs.Searching.{filter_twice, run_ranges}

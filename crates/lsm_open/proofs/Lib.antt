@@ -42,6 +42,7 @@ pub mod StandingTables
 pub mod StandingRuns
 pub mod StandingLevels
 pub mod ReadPlaces
+pub mod StoredRecords
 pub mod OpenedStores
 pub mod OpeningAnswers
 pub mod OpeningReads

@@ -9,7 +9,7 @@ use Rattle.lsm_levels.specs.Levels.{Levels, level, newer_runs, last_run}
 use Rattle.lsm_levels.specs.Pick.{Flush, installed_levels}
 use Rattle.lsm_levels.specs.Tables.{Table, KeyRange, record_of, at_most, is_below, meets, put_at, IsRun}
 use Rattle.lsm_levels.proofs.KeyOrder.{at_most_trans, below_at_most, below_then, below_is}
-use Rattle.lsm_levels.proofs.Parts.{filter_step, filter_none, filter_all, all_map}
+use Rattle.lsm_codec.proofs.Lists.{filter_step, filter_none, filter_all, all_map}
 use Rattle.lsm_levels.proofs.Ranges.{sides, apart_left, apart_right, meets_ends}
 use Rattle.lsm_levels.proofs.Replacing.{newer_cons, last_cons}
 use Rattle.lsm_open.specs.Switching.{pushed}

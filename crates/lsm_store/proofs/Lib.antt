@@ -66,7 +66,6 @@ pub mod NumberedApart
 pub mod VersionPoints
 pub mod InstalledRecords
 pub mod MergedRecords
-pub mod StoredRecords
 pub mod WrittenOutputs
 pub mod WrittenSteps
 pub mod PlacedJobs

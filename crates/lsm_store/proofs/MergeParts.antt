@@ -5,7 +5,7 @@ use Rattle.lsm_codec.specs.Keys.{Bytes}
 use Rattle.lsm_codec.specs.Versions.{Version}
 use Rattle.lsm_codec.specs.declared.table_record.TableRecord.{TableRecord}
 use Rattle.lsm_levels.proofs.Members.{among_left, among_right, among_either, passed_among}
-use Rattle.lsm_levels.proofs.Parts.{all_append, all_left, all_right}
+use Rattle.lsm_codec.proofs.Lists.{all_append, all_left, all_right}
 use Rattle.lsm_levels.proofs.Ranges.{all_of, of_all, apart_left, apart_right}
 use Rattle.lsm_levels.proofs.RunOrders.{stored_ranged}
 use Rattle.lsm_levels.proofs.Runs.{all_or, all_set, all_take, all_filter}
@@ -18,7 +18,7 @@ use Rattle.lsm_open.proofs.Flushing.{table_versions-append}
 use Rattle.lsm_open.specs.Tables.{first_data, table_versions}
 use Rattle.lsm_open.specs.ToldTables.{records_of_levels}
 use Rattle.lsm_store.proofs.MergeInputs.{uppers_at, IsBeside, in_dropped}
-use Rattle.lsm_store.proofs.StoredRecords.{versions_run}
+use Rattle.lsm_open.proofs.StoredRecords.{versions_run}
 use Rattle.lsm_store.specs.InstalledJobs.{ending_before, that_meet, beginning_behind, parts_at}
 use Rattle.lsm_table.specs.Division.{ShareNoKey}
 

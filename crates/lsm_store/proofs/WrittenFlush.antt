@@ -30,7 +30,7 @@ use Rattle.lsm_open.specs.Switching.{IsNewestRun, AreFlushed}
 use Rattle.lsm_open.specs.Tables.{first_data, table_versions, IsTableAt}
 use Rattle.lsm_open.specs.Writing.{PlacedTable}
 use Rattle.lsm_store.proofs.InstalledMaps.{kept_input}
-use Rattle.lsm_store.proofs.StoredRecords.{versions_run, run_ascends, run_order}
+use Rattle.lsm_open.proofs.StoredRecords.{versions_run, run_ascends, run_order}
 use Rattle.lsm_store.proofs.WorkSounds.{there}
 use Rattle.lsm_store.proofs.WrittenOutputs.{outputs_stored, outputs_named}
 use Rattle.lsm_store.specs.InstalledJobs.{output_records, placed_for, AreSealedIn}

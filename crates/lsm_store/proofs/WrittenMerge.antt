@@ -10,7 +10,7 @@ use Rattle.lsm_jobs.proofs.Outcomes.{made_versions, made_run}
 use Rattle.lsm_jobs.specs.Outputs.{AreMadeOf}
 use Rattle.lsm_jobs.specs.Slots.{Slot, Writing, is_writing, outputs_at}
 use Rattle.lsm_levels.proofs.Members.{among_left, among_right, among_either}
-use Rattle.lsm_levels.proofs.Parts.{all_append}
+use Rattle.lsm_codec.proofs.Lists.{all_append}
 use Rattle.lsm_levels.proofs.Ranges.{all_of, of_all}
 use Rattle.lsm_levels.proofs.Runs.{runs_law}
 use Rattle.lsm_levels.proofs.Taking.{in_tables, of_table, merging_law}
@@ -39,7 +39,7 @@ use Rattle.lsm_open.specs.Writing.{PlacedTable}
 use Rattle.lsm_store.proofs.InstalledMaps.{in_has, runs_tables, kept_input}
 use Rattle.lsm_store.proofs.MergedRecords.{merge_order, merge_inputs, after_parts}
 use Rattle.lsm_store.proofs.MergeInputs.{same_newest, tables_of_runs, uppers_at, IsBeside, upper_in, in_upper, lower_in, in_lower, beside_upper, beside_inputs, beside_bottom}
-use Rattle.lsm_store.proofs.StoredRecords.{versions_run, run_order, records_ascend}
+use Rattle.lsm_open.proofs.StoredRecords.{versions_run, run_order, records_ascend}
 use Rattle.lsm_store.proofs.WorkSounds.{there}
 use Rattle.lsm_store.proofs.WrittenOutputs.{outputs_stored, outputs_named}
 use Rattle.lsm_store.specs.InstalledJobs.{output_records, placed_for, that_meet, parts_at, parts_if, parts_of}

@@ -5,7 +5,8 @@ use Rattle.lsm_codec.specs.References.{shown}
 use Rattle.std.specs.Prelude.{map, Some}
 use Rattle.lsm_levels.specs.Cursors.{present}
 use Rattle.lsm_levels.specs.Sources.{head_at, is_sooner}
-use Rattle.lsm_levels.proofs.Parts.{all_map, filter_all, filter_none, passed, left, partitioned}
+use Rattle.lsm_levels.proofs.Parts.{left, partitioned}
+use Rattle.lsm_codec.proofs.Lists.{all_map, filter_all, filter_none, passed}
 use Rattle.lsm_levels.proofs.QueueLaws.{comes_before_all, falls}
 use Rattle.lsm_levels.proofs.queue.count_later.Goals as goal
 

@@ -4,7 +4,7 @@ use Rattle.std.proofs.lemmas.Result.{err_from_is_err_and}
 use Rattle.lsm_levels.specs.Asking.{Source}
 use Rattle.lsm_levels.specs.Cursors.{Cursor, EndsWithin}
 use Rattle.lsm_levels.specs.Scans.{AreEndingWithin}
-use Rattle.lsm_levels.proofs.Parts.{all_at}
+use Rattle.lsm_codec.proofs.Lists.{all_at}
 use Rattle.lsm_levels.proofs.ScanAsking.{all_with}
 use Rattle.lsm_levels.proofs.ScanLaws.{goes_on_at}
 use Rattle.lsm_levels.proofs.scan.advance_at.Goals as goal

@@ -2,7 +2,8 @@ use Rattle.std.proofs.Common.{rules}
 use Rattle.std.proofs.lemmas.List.Sorted.{IsPartitionPoint-from_clause}
 use Rattle.lsm_levels.specs.Tables.{is_below}
 use Rattle.lsm_levels.proofs.KeyOrder.{at_most_turned}
-use Rattle.lsm_levels.proofs.Parts.{passed, left, partitioned}
+use Rattle.lsm_levels.proofs.Parts.{left, partitioned}
+use Rattle.lsm_codec.proofs.Lists.{passed}
 use Rattle.lsm_levels.proofs.Searching.{falls_before}
 use Rattle.lsm_levels.proofs.slices.count_before.Goals as goal
 

@@ -2,7 +2,8 @@ use Rattle.std.proofs.Common.{rules}
 use Rattle.std.proofs.lemmas.List.Sorted.{IsPartitionPoint-from_clause}
 use Rattle.lsm_levels.specs.Tables.{at_most}
 use Rattle.lsm_levels.proofs.KeyOrder.{below_is}
-use Rattle.lsm_levels.proofs.Parts.{passed, left, partitioned}
+use Rattle.lsm_levels.proofs.Parts.{left, partitioned}
+use Rattle.lsm_codec.proofs.Lists.{passed}
 use Rattle.lsm_levels.proofs.Searching.{falls_up_to}
 use Rattle.lsm_levels.proofs.slices.count_up_to.Goals as goal
 

@@ -11,7 +11,7 @@ use Rattle.lsm_levels.specs.Levels.{places}
 use Rattle.lsm_levels.specs.Asking.{Source}
 use Rattle.lsm_levels.specs.Cursors.{Cursor, Shows}
 use Rattle.lsm_levels.specs.Scans.{AllGive, AreReady, memory_places}
-use Rattle.lsm_levels.proofs.Parts.{all_append, all_left, all_right}
+use Rattle.lsm_codec.proofs.Lists.{all_append, all_left, all_right}
 use Rattle.lsm_levels.proofs.ScanViews.{memory_ready, newer_do, older_do, view_given, view_comes, view_newer_refused, view_older_refused, view_sought}
 use Rattle.lsm_levels.specs.Pages.{cursors_of}
 use Rattle.lsm_levels.proofs.PageLaws.{all_go, newer_fail, no_memory_for, older_fail}
