@@ -24,7 +24,7 @@ use Rattle.lsm_check.specs.declared.report.Report.{Report}
 use Rattle.lsm_check.specs.Images.{blocks_in_none, IsImage}
 use Rattle.lsm_check.specs.Named.{AreNamed, AreToldBy}
 use Rattle.lsm_check.specs.Sound.{IsTold, AreSound}
-use Rattle.lsm_check.proofs.Readings.{count_same}
+use Rattle.lsm_extent.proofs.Counting.{count_below-same}
 use Rattle.lsm_check.proofs.StandSoundly.{tables_stand, stand_soundly}
 use Rattle.lsm_check.proofs.ToldTables.{all_told, are_told, entries_counted}
 
@@ -61,7 +61,7 @@ module _ (n : ℕ) (s : List (List ℕ)) where
 
   same_blocks : (blocks : ℕ) (ts : List TableRecord) → blocks_in_none blocks (counted_all n s ts) ≡ blocks_in_none blocks ts
   same_blocks blocks ts =
-      count_same (λ block. not (list_any (λ t. covers block (record_extent t)) (counted_all n s ts))) (λ block. not (list_any (λ t. covers block (record_extent t)) ts)) blocks (λ k below. ap not (none_covers k ts))
+      count_below-same (λ block. not (list_any (λ t. covers block (record_extent t)) (counted_all n s ts))) (λ block. not (list_any (λ t. covers block (record_extent t)) ts)) blocks (λ k below. ap not (none_covers k ts))
 
   module _ (m : Contents) (root : IsCountedRoot n m s) (holds : HoldNamed n m s) where
     -- what the counted manifest names the sectors hold by the one that stands

@@ -17,7 +17,7 @@ use Rattle.lsm_codec.specs.Versions.{Version, is_same_key}
 use Rattle.lsm_codec.proofs.KeyOrder.{same_key, key_itself}
 use Rattle.lsm_codec.proofs.Lists.{all_map, all_append, all_at}
 use Rattle.lsm_levels.specs.Orders.{IsNewerPlace}
-use Rattle.lsm_open.proofs.InPlace.{newer_than_both}
+use Rattle.lsm_levels.proofs.NewestOf.{newer_append}
 use Rattle.lsm_check.specs.Seen.{Numbers, plain, number_of, least_with, IsCovered, HasVersion, AreLeast, SeenView, IsSeen}
 
 -- ---- the tree's entries as plain lists
@@ -184,7 +184,7 @@ joined_more xs ys i y lt is = append_assoc xs (take i ys) (y ∷ []) ∙ ap (λ 
 
 -- one more is older
 pub older_more : (versions entries : List Version) (i : ℕ) (v : Version) → i < length entries → v ≡ get_or entries i v → IsNewerPlace versions (take i entries) → IsNewerPlace versions (v ∷ []) → IsNewerPlace versions (take (i + 1) entries)
-older_more versions entries i v lt is before here = subst (IsNewerPlace versions) (joined_more [] entries i v lt is) (newer_than_both versions (take i entries) (v ∷ []) before here)
+older_more versions entries i v lt is before here = subst (IsNewerPlace versions) (joined_more [] entries i v lt is) (newer_append versions (take i entries) (v ∷ []) before here)
 
 -- one of those that are older
 pub older_one : (versions entries : List Version) (i : ℕ) (v : Version) → i < length entries → v ≡ get_or entries i v → IsNewerPlace versions entries → IsNewerPlace versions (v ∷ [])

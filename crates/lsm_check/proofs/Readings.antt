@@ -1,5 +1,5 @@
 -- What a check has read, as an opening would.
-use Rattle.std.proofs.Common.{◌≡◌, ◌⊎◌, inl, inr, ℕ, zero, suc, ◌+◌, ◌<◌, Bool, true, false, cond, not, List, [], Some, None, refl, sym, ◌∙◌, ap, subst, arith}
+use Rattle.std.proofs.Common.{◌≡◌, ◌⊎◌, inl, inr, ℕ, ◌+◌, ◌<◌, Bool, true, false, not, List, [], Some, None, refl, sym, ◌∙◌, ap, subst, arith}
 use Rattle.std.specs.Prelude.{ltb, ◌&&◌}
 use Rattle.std.specs.List.{list_any}
 use Rattle.std.proofs.lemmas.Bool.{false≢true, lt-ltb}
@@ -18,6 +18,7 @@ use Rattle.lsm_open.specs.declared.replayed.Replayed.{Replayed}
 use Rattle.lsm_open.proofs.OpenedStores.{named_here}
 use Rattle.lsm_check.specs.Images.{blocks_in_none, IsNoMemoryOrIo}
 use Rattle.lsm_check.specs.Named.{HasBatches}
+use Rattle.lsm_extent.proofs.Counting.{count_below-same}
 
 -- ---- what is short
 
@@ -46,17 +47,10 @@ batches_named k n left m s is root = let named = named_here k n left m s is root
 
 -- ---- blocks in no table
 
-pub count_same : (p q : ℕ → Bool) (n : ℕ) → ((k : ℕ) → k < n → p k ≡ q k) → count_below p n ≡ count_below q n
-unfolding count_below
-count_same p q zero same = refl
-count_same p q (suc k) same =
-    let one = ap {B = ℕ} (λ (b : Bool). cond b 1 0) (same k (omega arith)) in
-    omega (arith, one, count_same p q k (λ j below. same j (omega arith)))
-
 -- the free blocks are those in none of the tables whose extents are handed out
 pub free_counted : (blocks : ℕ) (tables : List TableRecord) (area : Area) → Held blocks tables area → free_count area ≡ blocks_in_none blocks tables
 free_counted blocks tables area held =
     ap (λ (n : ℕ). count_below (is_free area) n) held.size
-    ∙ count_same (is_free area) (λ block. not (list_any (λ t. covers block (record_extent t)) tables)) blocks
+    ∙ count_below-same (is_free area) (λ block. not (list_any (λ t. covers block (record_extent t)) tables)) blocks
     (λ k below. let inside : ltb k area.blocks ≡ true = lt-ltb k area.blocks (subst (λ (n : ℕ). k < n) (sym held.size) below) in
     ap (λ (b : Bool). b && not (is_held area.held k)) inside ∙ ap not (held.only k))

@@ -21,7 +21,7 @@ one_if-not : (b : Bool) → one_if (not b) + one_if b ≡ 1
 one_if-not true = refl
 one_if-not false = refl
 
-count_below-same : (p q : ℕ → Bool) (n : ℕ) → ((k : ℕ) → k < n → p k ≡ q k) → count_below p n ≡ count_below q n
+pub count_below-same : (p q : ℕ → Bool) (n : ℕ) → ((k : ℕ) → k < n → p k ≡ q k) → count_below p n ≡ count_below q n
 unfolding count_below
 count_below-same p q zero same = refl
 count_below-same p q (suc k) same =

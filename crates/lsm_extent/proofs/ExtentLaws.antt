@@ -16,7 +16,7 @@ use Rattle.lsm_extent.proofs.Handing.{laid_without, without_extent_at}
 use Rattle.lsm_extent.proofs.Searching.{found}
 use Rattle.lsm_extent.proofs.Counting.{covers_below, covers_after, free_is_not_held}
 
-at_more : (x y : Extent) (es : List Extent) → Contains es x → Contains (y ∷ es) x
+pub at_more : (x y : Extent) (es : List Extent) → Contains es x → Contains (y ∷ es) x
 at_more x y es has = (suc has.0, omega (arith, has.1), has.2)
 
 -- an extent that is handed out is among those that are
@@ -98,7 +98,7 @@ extent_laws_hold = record {
 
 -- ---- an extent is given back
 
-kept_without : (e x : Extent) (es : List Extent) (k : ℕ) → k < length es → get_or es k x ≡ x → x.first ≢ e.first → Contains (without_extent e es) x
+pub kept_without : (e x : Extent) (es : List Extent) (k : ℕ) → k < length es → get_or es k x ≡ x → x.first ≢ e.first → Contains (without_extent e es) x
 kept_without e x [] k within is ne = absurd (omega arith)
 kept_without e x (y ∷ ys) zero within is ne =
     cond_both (y.first == e.first) ys (y ∷ without_extent e ys) (λ (es : List Extent). Contains es x)

@@ -13,6 +13,7 @@ use Rattle.lsm_image.specs.Laid.{write_of, made_of, image_of, now_of, IsImage, n
 use Rattle.lsm_image.specs.declared.laid.Laid.{Laid}
 use Rattle.lsm_image.specs.Media.{begun, lasting_with, length-image, image_whole}
 use Rattle.lsm_image.proofs.Newest.{newest_is_read}
+use Rattle.lsm_device.proofs.Replay.{kept_step}
 
 -- the writes are those that a device in memory would keep
 pub same_writes : (made : List Laid) → map made_write (map made_of made) ≡ map write_of made
@@ -203,14 +204,6 @@ all_sectors all now at so_far past = so_far ∙ take_all at all past
 kept_nil : (ws : List Write) → kept [] ws ≡ []
 kept_nil [] = refl
 kept_nil (w ∷ ws) = refl
-
--- whether the first of the writes is kept is what the mask has at its place
-kept_step : (keep : List Bool) (i : ℕ) (w : Write) (ws : List Write) → kept (drop i keep) (w ∷ ws) ≡ cond (get_or keep i false) (w ∷ kept (drop (suc i) keep) ws) (kept (drop (suc i) keep) ws)
-kept_step [] zero w ws = sym (kept_nil ws)
-kept_step [] (suc i) w ws = sym (kept_nil ws)
-kept_step (true ∷ keep) zero w ws = refl
-kept_step (false ∷ keep) zero w ws = refl
-kept_step (b ∷ keep) (suc i) w ws = kept_step keep i w ws
 
 -- with those of the writes that are left, what was added is what is wanted
 module _ (keep : List Bool) (pending : List Laid) (i : ℕ) (lt : i < length pending) (d : Laid) (before wanted : List Write)

@@ -79,7 +79,7 @@ held_sum (t ∷ tables) area =
     let own : (extent_of t).blocks ≡ t.blocks = refl in
     omega (arith, own, held_sum tables (handed_out (extent_of t) area), blocks-with (extent_of t) area.held, sum_by-cons (λ (x : Table). x.blocks) t tables)
 
-same_blocks : (tables : List Table) (area : Area) → (all_handed_out tables area).blocks ≡ area.blocks
+pub same_blocks : (tables : List Table) (area : Area) → (all_handed_out tables area).blocks ≡ area.blocks
 same_blocks [] area = refl
 same_blocks (t ∷ tables) area = same_blocks tables (handed_out (extent_of t) area)
 

@@ -1,35 +1,21 @@
 -- The extents of what a job took in are given back, those of the lower tables first.
-use Rattle.std.proofs.Common.{◌≡◌, ◌≢◌, ℕ, zero, suc, ◌<◌, List, [], ◌∷◌, ◌++◌, length, get_or, Contains, refl, sym, ap, ◌∙◌, subst, arith}
-use Rattle.std.specs.Prelude.{◌==◌}
+use Rattle.std.proofs.Common.{◌≡◌, ◌≢◌, ℕ, List, [], ◌∷◌, ◌++◌, Contains, refl, sym, ap, ◌∙◌, subst}
 use Rattle.std.specs.List.{AllByRecursion}
-use Rattle.std.proofs.lemmas.Bool.{eqb-true, cond_both}
 use Rattle.lsm_extent.specs.declared.extent.Extent.{Extent}
-use Rattle.lsm_extent.specs.Area.{Area, given_back, without_extent}
+use Rattle.lsm_extent.specs.Area.{Area, given_back}
 use Rattle.lsm_levels.specs.Tables.{Table}
 use Rattle.lsm_levels.specs.Pick.{Job, Flush, Merge, inputs}
 use Rattle.lsm_jobs.specs.Slots.{Slot, Slots, slot_of, outputs_at, outputs_of}
 use Rattle.lsm_jobs.specs.Holding.{IsAt}
 use Rattle.lsm_jobs.specs.Gathering.{uppers, lowers}
 use Rattle.lsm_jobs.specs.Placing.{extent_of, all_given_back, AreHandedOut}
-
-at_more : (x y : Extent) (es : List Extent) → Contains es x → Contains (y ∷ es) x
-at_more x y es has = (suc has.0, omega (arith, has.1), has.2)
-
--- an extent stays where one that begins elsewhere is given back
-kept_at : (e x : Extent) (es : List Extent) (k : ℕ) → k < length es → get_or es k x ≡ x → x.first ≢ e.first → Contains (without_extent e es) x
-kept_at e x [] k within is apart = absurd (omega (arith, within))
-kept_at e x (y ∷ ys) zero within is apart =
-    cond_both (y.first == e.first) ys (y ∷ without_extent e ys) (λ (es : List Extent). Contains es x)
-    (λ t. absurd (apart (ap (λ (z : Extent). z.first) (sym is) ∙ eqb-true y.first e.first t))) (λ _. (0, omega arith, is))
-kept_at e x (y ∷ ys) (suc k) within is apart =
-    cond_both (y.first == e.first) ys (y ∷ without_extent e ys) (λ (es : List Extent). Contains es x)
-    (λ _. (k, omega (arith, within), is)) (λ _. at_more x y (without_extent e ys) (kept_at e x ys k (omega (arith, within)) is apart))
+use Rattle.lsm_extent.proofs.ExtentLaws.{kept_without}
 
 pub still_held : (ys : List Table) (x : Extent) (area : Area) → Contains area.held x → AllByRecursion (λ (u : Table). u.start ≢ x.first) ys → Contains (all_given_back ys area).held x
 still_held [] x area has apart = has
 still_held (y ∷ ys) x area has apart =
     let more = still_held ys x area has apart.1 in
-    kept_at (extent_of y) x (all_given_back ys area).held more.0 more.1 more.2 (λ same. apart.0 (sym same))
+    kept_without (extent_of y) x (all_given_back ys area).held more.0 more.1 more.2 (λ same. apart.0 (sym same))
 
 all_parts : {X : Type 0} (P : X → Type 0) (xs ys : List X) → AllByRecursion P (xs ++ ys) → AllByRecursion P xs × AllByRecursion P ys
 all_parts P [] ys all = (tt, all)

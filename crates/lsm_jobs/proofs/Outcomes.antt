@@ -4,7 +4,7 @@ use Rattle.std.specs.Prelude.{Contains}
 use Rattle.std.specs.List.{AllByRecursion, flat_map}
 use Rattle.std.specs.declared.cmp.Ordering.{Ordering}
 use Rattle.std.specs.declared.cmp.Ordering.TheVariants.{Less, Equal, Greater}
-use Rattle.std.specs.Ordering.{is_le, is_lt, is_gt, is_eq, nat_cmp, ordering_then}
+use Rattle.std.specs.Ordering.{is_lt, is_gt, is_eq, nat_cmp}
 use Rattle.std.proofs.lemmas.Bool.{and_from, le-leb}
 use Rattle.std.proofs.lemmas.List.Elements.{recursion_from_All}
 use Rattle.lsm_codec.specs.Keys.{Bytes, byte_order}
@@ -33,16 +33,12 @@ use Rattle.lsm_jobs.specs.Taking.{runs_of}
 use Rattle.lsm_jobs.specs.Outcomes.{SeesSome, ReplaceInputs, OutputsLaw}
 use Rattle.lsm_jobs.proofs.Accepted.{tables_of}
 use Rattle.lsm_levels.proofs.RunOrders.{is_there}
+use Rattle.lsm_levels.proofs.CursorStored.{less_at_most}
 
 -- ---- versions in order, from the first to the last
 
-le_then : (o p : Ordering) → ordering_then o p ≡ Less → is_le o ≡ true
-le_then Less p e = refl
-le_then Equal p e = refl
-le_then Greater p e = absurd cc
-
 rises : (v w : Version) → Before v w → at_most v.key w.key ≡ true
-rises v w before = le_then (byte_order v.key w.key) (nat_cmp w.number v.number) before
+rises v w before = less_at_most (byte_order v.key w.key) (nat_cmp w.number v.number) before
 
 abbrev last_or : Version → List Version → Version
 last_or v [] = v
@@ -202,7 +198,7 @@ contained xs v c = at xs c.0 c.1 c.2
     at (y ∷ ys) (suc k) lt e = inr (at ys k (omega (arith, lt)) e)
 
 -- a version that is kept is one of the input
-kept_among : (input : MergeInput) (v : Version) → IsAmong v (kept_of input) → IsAmong v (joined input.runs)
+pub kept_among : (input : MergeInput) (v : Version) → IsAmong v (kept_of input) → IsAmong v (joined input.runs)
 kept_among input v a =
     let all = recursion_from_All (Contains (joined input.runs)) (kept_of input) ((keeps input).among input.bottom) in
     contained (joined input.runs) v (of_all (Contains (joined input.runs)) (kept_of input) all v a)

@@ -1,14 +1,13 @@
 -- A job that is read goes back into its slot.
-use Rattle.std.proofs.Common.{◌≡◌, ◌↔◌, ℕ, zero, suc, ◌<◌, Bool, IsTrue, Decides, List, [], ◌∷◌, length, set, get_or, Option, Some, None, Result, Ok, Err, refl, sym, ap, subst, ◌∙◌, arith}
+use Rattle.std.proofs.Common.{◌≡◌, ◌↔◌, ℕ, zero, suc, ◌<◌, Bool, IsTrue, List, [], ◌∷◌, length, set, get_or, Option, Some, None, Result, Ok, Err, refl, sym, ap, subst, ◌∙◌, arith}
 use Rattle.std.specs.Result.{IfOk, OnErr}
 use Rattle.std.specs.List.{AllByRecursion, list_all}
-use Rattle.std.proofs.lemmas.Bool.Decides.{Decides-like}
 use Rattle.std.proofs.lemmas.List.{set-set}
 use Rattle.lsm_device.specs.declared.refusal.Refusal.{Refusal}
 use Rattle.lsm_device.specs.Disk.{seen}
 use Rattle.lsm_device.specs.Medium.{Medium, disk}
 use Rattle.lsm_codec.specs.Versions.{AreOrdered}
-use Rattle.lsm_codec.proofs.Limits.{at_most-Decides, each-Decides}
+use Rattle.lsm_codec.proofs.Limits.{each-Decides}
 use Rattle.lsm_levels.specs.Stored.{LiesWithin, is_within}
 use Rattle.lsm_levels.specs.Tables.{Table}
 use Rattle.lsm_levels.specs.Pick.{Job}
@@ -16,6 +15,7 @@ use Rattle.lsm_jobs.specs.Slots.{Slot, Slots, JobSlots, Reading}
 use Rattle.lsm_jobs.specs.Gathering.{Gathered, uppers, lowers, input_ahead, blocks_left, BothGoOn}
 use Rattle.lsm_jobs.specs.Reading.{SlotReadsOn, IsBadNext, JobReadsOn}
 use Rattle.lsm_jobs.specs.Holding.{IsAt}
+use Rattle.lsm_levels.proofs.WithinLaws.{within-Decides}
 
 abbrev these : ℕ → Slots → JobSlots
 these next slots = record { next = next; slots = slots }
@@ -66,9 +66,6 @@ slot_bad area m number job g upper lower slot first second view ordered none = s
 })
 
 -- ---- whether a job can be read
-
-within-Decides : (size area : ℕ) (t : Table) → Decides (is_within size area t) (LiesWithin size area t)
-within-Decides size area t = Decides-like (is_within size area t) (λ h. record { ends = h }) (λ h. h.ends) (at_most-Decides _ _)
 
 pub all_within : (size area : ℕ) (tables : List Table) (r : Bool) → r ≡ list_all (is_within size area) tables → IsTrue r ↔ AllByRecursion (LiesWithin size area) tables
 all_within size area tables r e =

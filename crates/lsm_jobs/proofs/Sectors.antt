@@ -14,7 +14,7 @@ use Rattle.lsm_device.specs.Disk.{Disk, Write}
 use Rattle.lsm_device.specs.History.{present, EachSince}
 use Rattle.lsm_device.specs.Runs.{run_at, grown, HasSomeOf}
 use Rattle.lsm_device.proofs.Moments.{Comes, joined, weaker}
-use Rattle.lsm_device.proofs.Runs.{length-run_at}
+use Rattle.lsm_device.proofs.Runs.{length-run_at, grown_twice}
 use Rattle.lsm_filter.specs.Bits.{filter_of}
 use Rattle.lsm_table.specs.Division.{TableBlocks}
 use Rattle.lsm_table.specs.Extents.{extent_size, keys_of}
@@ -230,9 +230,6 @@ take_split {X} (suc k) j (x ∷ xs) = let same : suc k + j ≡ suc (k + j) = ome
 pub writes_append : (area : ℕ) (xs ys : List Write) → writes_of area (xs ++ ys) ≡ writes_of area xs ++ writes_of area ys
 writes_append area [] ys = refl
 writes_append area (x ∷ xs) ys = ap (λ (ws : List Write). block_writes area x ++ ws) (writes_append area xs ys) ∙ sym (append_assoc (block_writes area x) (writes_of area xs) (writes_of area ys))
-
-grown_twice : (d : Disk) (ws more : List Write) → grown more (grown ws d) ≡ grown (ws ++ more) d
-grown_twice d ws more = ap (λ (p : List Write). let e : Disk = record { stands = d.stands; pending = p } in e) (append_assoc d.pending ws more)
 
 -- some of what comes behind a beginning, on a disk that has the beginning
 some_more : (d mid e : Disk) (first next rest : List Write) → mid ≡ grown first d → HasSomeOf mid next e → HasSomeOf d (first ++ (next ++ rest)) e

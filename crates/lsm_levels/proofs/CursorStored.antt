@@ -40,7 +40,7 @@ oks_append (v ∷ xs) ys = ap (λ (t : Items). Ok v ∷ t) (oks_append xs ys)
 
 -- ---- versions in order, without those below a key
 
-less_at_most : (o p : Ordering) → ordering_then o p ≡ Less → is_le o ≡ true
+pub less_at_most : (o p : Ordering) → ordering_then o p ≡ Less → is_le o ≡ true
 less_at_most Less p e = refl
 less_at_most Equal p e = refl
 less_at_most Greater p e = absurd cc
@@ -132,7 +132,7 @@ last_high v (w ∷ block) ordered =
     let rest = last_high w block ordered.1 in
     (at_most_trans v.key w.key (last_edge w block).key (keys_behind v (w ∷ block) ordered).0 rest.0, rest)
 
-abbrev AreSome : TableBlocks → Type 0
+abbrev pub AreSome : TableBlocks → Type 0
 AreSome table = AllByRecursion (λ block. 0 < length block) table
 
 -- no key of a table is above its last
@@ -152,7 +152,7 @@ highest ((v ∷ block) ∷ (w ∷ next) ∷ table) some ordered =
         (at_most_trans x.key w.key (last_key (edges_of ((w ∷ next) ∷ table))) behind.0 high, ahead front ordered.1 high)
 
 -- nor below its first
-lowest : (table : TableBlocks) → AreSome table → AreOrdered (entries_of table) → AllByRecursion (λ v. at_most (first_key_of table) v.key ≡ true) (entries_of table)
+pub lowest : (table : TableBlocks) → AreSome table → AreOrdered (entries_of table) → AllByRecursion (λ v. at_most (first_key_of table) v.key ≡ true) (entries_of table)
 lowest [] some ordered = tt
 lowest ([] ∷ table) some ordered = absurd (omega (arith, some.0))
 lowest ((v ∷ block) ∷ table) some ordered = (at_most_itself v.key, keys_behind v (block ++ entries_of table) ordered)

@@ -58,7 +58,7 @@ newest_in_order key n (v ∷ xs) ys h =
     by all o p false b e q k = q
 
 -- a place that is newer than two is newer than both joined
-newer_append : (xs ys zs : List Version) → IsNewerPlace xs ys → IsNewerPlace xs zs → IsNewerPlace xs (ys ++ zs)
+pub newer_append : (xs ys zs : List Version) → IsNewerPlace xs ys → IsNewerPlace xs zs → IsNewerPlace xs (ys ++ zs)
 newer_append [] ys zs h k = tt
 newer_append (x ∷ xs) ys zs h k = (all_append (λ w. x.key ≡ w.key → w.number < x.number) ys zs h.0 k.0, newer_append xs ys zs h.1 k.1)
 

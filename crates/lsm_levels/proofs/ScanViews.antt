@@ -182,7 +182,7 @@ same_joined : (memory : List Version) (sealed : Option (Bor (List Version))) (ru
 same_joined memory None runs = refl
 same_joined memory (Some sealed) runs = refl
 
-runs_ordered : (sectors : List (List ℕ)) (area : ℕ) (runs : List (List Table)) → AllByRecursion IsRun runs → AreStored sectors area runs → AllByRecursion AreOrdered (map versions_of runs)
+pub runs_ordered : (sectors : List (List ℕ)) (area : ℕ) (runs : List (List Table)) → AllByRecursion IsRun runs → AreStored sectors area runs → AllByRecursion AreOrdered (map versions_of runs)
 runs_ordered sectors area [] r all = tt
 runs_ordered sectors area (run ∷ runs) r all = (run_ordered sectors area run r.0 all.0, runs_ordered sectors area runs r.1 all.1)
 

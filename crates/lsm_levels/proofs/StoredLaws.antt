@@ -4,7 +4,7 @@ use Rattle.std.specs.Prelude.{option_map, option_and_then}
 use Rattle.std.specs.List.{AllByRecursion}
 use Rattle.std.specs.declared.cmp.Ordering.{Ordering}
 use Rattle.std.specs.declared.cmp.Ordering.TheVariants.{Less, Equal, Greater}
-use Rattle.std.specs.Ordering.{is_le, is_lt, is_gt, nat_cmp, ordering_then}
+use Rattle.std.specs.Ordering.{is_le, is_gt, nat_cmp}
 use Rattle.std.proofs.lemmas.Bool.{and_parts}
 use Rattle.std.proofs.lemmas.Option.{same_Some}
 use Rattle.lsm_device.specs.declared.refusal.Refusal.{Refusal}
@@ -24,7 +24,7 @@ use Rattle.lsm_table.specs.Stored.{table_of}
 use Rattle.lsm_table.proofs.Orders.{later_pairs, front_pairs}
 use Rattle.lsm_table.proofs.Places.{finds_by}
 use Rattle.lsm_table.proofs.Rising.{edges_rise}
-use Rattle.lsm_table.proofs.Searching.{parted}
+use Rattle.lsm_table.proofs.Searching.{parted, less_by_first}
 use Rattle.lsm_merge.proofs.NewestLaws.{first_at, newest-first}
 use Rattle.lsm_merge.proofs.OrderTests.{tested}
 use Rattle.lsm_cache.specs.Reads.{block_at}
@@ -108,14 +108,9 @@ unfolding place_from
 past_none k key n [] all = refl
 past_none k key n (e ∷ edges) all = ap (λ b. cond b (place_from (k + 1) key n edges) (Some k)) all.0 ∙ past_none (k + 1) key n edges all.1
 
-less_first : (o p : Ordering) → is_lt o ≡ true → is_lt (ordering_then o p) ≡ true
-less_first Less p h = refl
-less_first Equal p h = absurd cc
-less_first Greater p h = absurd cc
-
 all_before : (key : Bytes) (n : ℕ) (edges : List Edge) → are_rising edges ≡ true → is_below (last_key edges) key ≡ true → AllByRecursion (λ e. stands_before key n e ≡ true) edges
 all_before key n [] rising h = tt
-all_before key n (e ∷ []) rising h = (less_first (byte_order e.key key) (nat_cmp n e.number) h, tt)
+all_before key n (e ∷ []) rising h = (less_by_first (byte_order e.key key) (nat_cmp n e.number) h, tt)
 all_before key n (e ∷ f ∷ edges) rising h =
     let rest = all_before key n (f ∷ edges) (and_parts (is_edge_before e f) (are_rising (f ∷ edges)) rising).1 h in
     (parted key n (e ∷ f ∷ edges) rising 0 1 e (omega arith) (omega arith) rest.0, rest)

@@ -6,7 +6,7 @@ use Rattle.lsm_codec.proofs.Limits.{at_most-Decides, each-Decides}
 use Rattle.lsm_levels.specs.Tables.{Table}
 use Rattle.lsm_levels.specs.Stored.{LiesWithin, AreWithin, is_within}
 
-within-Decides : (size area : ℕ) (t : Table) → Decides (is_within size area t) (LiesWithin size area t)
+pub within-Decides : (size area : ℕ) (t : Table) → Decides (is_within size area t) (LiesWithin size area t)
 within-Decides size area t = Decides-like (is_within size area t) (λ h. record { ends = h }) (λ h. h.ends) (at_most-Decides _ _)
 
 runs-Decides : (size area : ℕ) (runs : List (List Table)) → Decides (list_all (list_all (is_within size area)) runs) (AreWithin size area runs)

@@ -1,4 +1,4 @@
-mod Steps
+pub mod Steps
 mod Opened
 mod Lived
 mod Lifetimes

@@ -132,7 +132,7 @@ record GoAlike (m n : Machine) (steps : List Step) (replies : List Reply) : Type
   work : IsNone (last_machine m steps replies).state.stopped → (last_machine m steps replies).work ≡ (last_machine n steps replies).work
   left : (left : CrashState) → Contains (left_in_run m steps replies) left → Contains (left_in_run n steps replies) left
 
-not_some : {X : Type 0} (o : Option X) → IsSome o → IsNone o → ⊥
+pub not_some : {X : Type 0} (o : Option X) → IsSome o → IsNone o → ⊥
 not_some (Some x) is none = cc
 not_some None is none = cc
 

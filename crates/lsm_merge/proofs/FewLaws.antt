@@ -2,7 +2,6 @@
 use Rattle.std.proofs.Common.{◌≡◌, ℕ, ◌+◌, ◌<◌, ◌≤◌, Bool, true, false, cond, not, ◌||◌, ◌==◌, List, [], ◌∷◌, length, filter, Option, Some, None, refl, ap, sym, ◌∙◌, arith}
 use Rattle.std.specs.Prelude.{count_by}
 use Rattle.std.proofs.lemmas.Bool.{eqb-true, ne_eqb}
-use Rattle.std.proofs.lemmas.List.Sums.{sum_by-cons}
 use Rattle.lsm_table.specs.Division.{IsInput}
 use Rattle.lsm_codec.specs.Keys.{Bytes}
 use Rattle.lsm_codec.specs.Versions.{Version, is_same_key, newest}
@@ -15,6 +14,7 @@ use Rattle.lsm_merge.proofs.Orders.{older_number}
 use Rattle.lsm_merge.proofs.NewestLaws.{in_order_skip, first_less}
 use Rattle.lsm_merge.proofs.RangeLaws.{is_in_order-in_order, is_in_order-keep}
 use Rattle.lsm_merge.proofs.OrderTests.{ordered_tested}
+use Rattle.lsm_table.proofs.Ends.{count-cons}
 
 abbrev of_key : Bytes → Version → Bool
 of_key key v = is_same_key key v.key
@@ -27,9 +27,6 @@ one passes is_version_of = cond passes (cond is_version_of 1 0) 0
 abbrev passing : Bytes → (Version → Bool) → List Version → ℕ
 passing key test [] = 0
 passing key test (v ∷ rest) = one (test v) (of_key key v) + passing key test rest
-
-count-cons : (p : Version → Bool) (v : Version) (rest : List Version) → count_by p (v ∷ rest) ≡ cond (p v) 1 0 + count_by p rest
-count-cons p v rest = sum_by-cons (λ (x : Version). cond (p x) 1 0) v rest
 
 counted_at : (key : Bytes) (v : Version) (kept : List Version) (n : ℕ) (b : Bool) → count_by (of_key key) kept ≡ n → count_by (of_key key) (cond b (v ∷ kept) kept) ≡ one b (of_key key v) + n
 counted_at key v kept n true e = count-cons (of_key key) v kept ∙ ap (λ (m : ℕ). cond (of_key key v) 1 0 + m) e

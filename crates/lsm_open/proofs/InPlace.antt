@@ -178,10 +178,6 @@ among_apart these all behind among h = of_all (λ v. AllByRecursion (λ w. v.key
 pub apart_is_newer : (xs ys : List Version) → ShareNoKey xs ys → IsNewerPlace xs ys
 apart_is_newer xs ys h = all_map (λ v others. all_map (λ w no e. absurd (no e)) ys others) xs h
 
-pub newer_than_both : (xs ys zs : List Version) → IsNewerPlace xs ys → IsNewerPlace xs zs → IsNewerPlace xs (ys ++ zs)
-newer_than_both [] ys zs h k = tt
-newer_than_both (x ∷ xs) ys zs h k = (all_append (λ (w : Version). x.key ≡ w.key → w.number < x.number) ys zs h.0 k.0, newer_than_both xs ys zs h.1 k.1)
-
 pub newer_than_left : (xs ys zs : List Version) → IsNewerPlace xs (ys ++ zs) → IsNewerPlace xs ys
 newer_than_left [] ys zs h = tt
 newer_than_left (x ∷ xs) ys zs h = (all_left (λ (w : Version). x.key ≡ w.key → w.number < x.number) ys zs h.0, newer_than_left xs ys zs h.1)

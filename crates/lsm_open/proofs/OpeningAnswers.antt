@@ -184,7 +184,7 @@ blocks_read blocks c ok old new le reads = record {
 
 -- ---- how often it writes and syncs
 
-none_more : (k n m : ℕ) → k ≤ 0 → m ≡ more k n → m ≡ n
+pub none_more : (k n m : ℕ) → k ≤ 0 → m ≡ more k n → m ≡ n
 none_more zero n m low is = is
 none_more (suc k) n m low is = absurd (omega (arith, low))
 

@@ -1,27 +1,25 @@
 -- The levels of tables that stand are told.
 use Rattle.std.proofs.Common.{◌≡◌, ⊎_elim, ◌⊎◌, ℕ, zero, suc, ◌+◌, ◌<◌, ◌≤◌, Bool, true, false, cond, List, [], ◌∷◌, ◌++◌, length, take, filter, All, Option, Some, None, refl, sym, ap, subst, ◌∙◌, arith}
 use Rattle.std.specs.List.{AllByRecursion}
-use Rattle.std.specs.Ordering.{is_le, is_lt, nat_cmp, ordering_then}
-use Rattle.std.specs.declared.cmp.Ordering.{Ordering}
-use Rattle.std.specs.declared.cmp.Ordering.TheVariants.{Less, Equal, Greater}
+use Rattle.std.specs.Ordering.{is_lt}
+use Rattle.std.specs.declared.cmp.Ordering.TheVariants.{Less}
 use Rattle.std.proofs.lemmas.Bool.{eqb-true, ne_eqb}
-use Rattle.std.proofs.lemmas.List.Elements.{All-nil, All-cons, All-head, All-tail, All-weaker, All-filter, recursion_from_All}
+use Rattle.std.proofs.lemmas.List.Elements.{All-nil, All-cons, All-head, All-tail, All-weaker, All-filter}
 use Rattle.std.proofs.lemmas.Option.{same_Some}
-use Rattle.lsm_codec.proofs.Lists.{filter_step, all_map, all_right}
+use Rattle.lsm_codec.proofs.Lists.{filter_step, all_right}
 use Rattle.lsm_codec.specs.Keys.{Bytes, byte_order}
 use Rattle.lsm_codec.specs.Manifests.{Contents}
 use Rattle.lsm_codec.specs.Pairs.{Pairwise}
 use Rattle.lsm_codec.specs.Reading.{◌>>=◌}
 use Rattle.lsm_codec.specs.TableRecords.{HasSizes, IsTableRecord, IsOfVersion, runs_in, extent_blocks}
 use Rattle.lsm_codec.specs.declared.superblock.FormatVersion.TheVariants.{Two}
-use Rattle.lsm_codec.specs.Versions.{Version, entry_order, AreOrdered}
+use Rattle.lsm_codec.specs.Versions.{Version}
 use Rattle.lsm_codec.specs.declared.table_record.TableRecord.{TableRecord}
 use Rattle.lsm_device.specs.declared.refusal.Refusal.{Refusal}
 use Rattle.lsm_device.specs.declared.refusal.Refusal.TheVariants.{NoMemory, Io}
 use Rattle.lsm_levels.specs.Levels.{Levels}
 use Rattle.lsm_levels.specs.Stored.{blocks_from}
 use Rattle.lsm_levels.specs.Tables.{Table, IsRun, at_most, is_below}
-use Rattle.lsm_levels.proofs.KeyOrder.{at_most_itself}
 use Rattle.lsm_open.specs.Tables.{extent_start, versions_if, versions_at, IsTableAt, AscendInRun, AreTables}
 use Rattle.lsm_open.specs.ToldTables.{told_tables, run_if, run_place, is_in_run, run_records, told_run, told_runs, told_levels, levels_of, IsRefusedFor}
 use Rattle.lsm_open.proofs.BlockReads.{extent_is}
@@ -31,9 +29,7 @@ use Rattle.lsm_table.specs.BlockEdges.{last_edge, edges_of, first_key_of, last_k
 use Rattle.lsm_table.specs.Division.{Block, TableBlocks, entries_of}
 use Rattle.lsm_table.specs.Places.{IsSorted}
 use Rattle.lsm_table.specs.Stored.{table_of}
-
-abbrev AreSome : TableBlocks → Type 0
-AreSome table = AllByRecursion (λ block. 0 < length block) table
+use Rattle.lsm_levels.proofs.CursorStored.{lowest, AreSome}
 
 -- ---- first and last key of a table
 
@@ -55,18 +51,6 @@ module _ (P : Bytes → Type 0) where
   last_has ((v ∷ block) ∷ [] ∷ table) some lt all = absurd (omega (arith, some.1.0))
   last_has ((v ∷ block) ∷ (w ∷ next) ∷ table) some lt all =
       last_has ((w ∷ next) ∷ table) some.1 (omega arith) (all_right (λ x. P x.key) (v ∷ block) (entries_of ((w ∷ next) ∷ table)) all)
-
-less_at_most : (o p : Ordering) → ordering_then o p ≡ Less → is_le o ≡ true
-less_at_most Less p e = refl
-less_at_most Equal p e = refl
-less_at_most Greater p e = absurd cc
-
--- no key of a table is below its first
-lowest : (table : TableBlocks) → AreSome table → AreOrdered (entries_of table) → AllByRecursion (λ v. at_most (first_key_of table) v.key ≡ true) (entries_of table)
-lowest [] some ordered = tt
-lowest ([] ∷ table) some ordered = absurd (omega (arith, some.0))
-lowest ((v ∷ block) ∷ table) some ordered =
-    (at_most_itself v.key, all_map (λ w e. less_at_most (byte_order v.key w.key) (nat_cmp w.number v.number) e) (block ++ entries_of table) (recursion_from_All (λ w. entry_order v w ≡ Less) (block ++ entries_of table) ordered.0))
 
 first_at_most : (table : TableBlocks) → IsSorted table → 0 < length table → at_most (first_key_of table) (last_key (edges_of table)) ≡ true
 first_at_most table sorted some = last_has (λ k. at_most (first_key_of table) k ≡ true) table sorted.nonempty some (lowest table sorted.nonempty sorted.ordered)

@@ -10,7 +10,8 @@ use Rattle.lsm_merge.specs.Inputs.{joined}
 use Rattle.lsm_merge.specs.Laws.{HaveSameMap}
 use Rattle.lsm_open.specs.Replacing.{HaveSameNewest, MayReplace}
 use Rattle.lsm_table.specs.Division.{ShareNoKey}
-use Rattle.lsm_open.proofs.InPlace.{inputs_together, same_newest_within, same_map_at_bottom, newer_than_among, among_newer_than, among_apart, apart_is_newer, newer_than_both, newer_than_left, newer_than_right, both_newer_than}
+use Rattle.lsm_open.proofs.InPlace.{inputs_together, same_newest_within, same_map_at_bottom, newer_than_among, among_newer_than, among_apart, apart_is_newer, newer_than_left, newer_than_right, both_newer_than}
+use Rattle.lsm_levels.proofs.NewestOf.{newer_append}
 use Rattle.std.proofs.Common.{option_and_then}
 
 abbrev Versions : Type 0
@@ -49,7 +50,7 @@ newer_than_none (v ∷ p) = (tt, newer_than_none p)
 
 each_joined : (p : List Version) (ys : List (List Version)) → AllByRecursion (IsNewerPlace p) ys → IsNewerPlace p (joined ys)
 each_joined p [] h = newer_than_none p
-each_joined p (y ∷ ys) h = newer_than_both p y (joined ys) h.0 (each_joined p ys h.1)
+each_joined p (y ∷ ys) h = newer_append p y (joined ys) h.0 (each_joined p ys h.1)
 
 joined_each : (p : List Version) (ys : List (List Version)) → IsNewerPlace p (joined ys) → AllByRecursion (IsNewerPlace p) ys
 joined_each p [] h = tt
@@ -126,10 +127,10 @@ module _ (A U F L D N : List (List Version)) (order : IsVersionOrder (A ++ (U ++
   a_last = newer_than_right (joined A) (joined F) (joined L ++ joined D) a_behind
 
   a_inputs : IsNewerPlace (joined A) (joined U ++ joined L)
-  a_inputs = newer_than_both (joined A) (joined U) (joined L) (newer_than_left (joined A) (joined U) (joined F ++ (joined L ++ joined D)) a_rest) (newer_than_left (joined A) (joined L) (joined D) a_last)
+  a_inputs = newer_append (joined A) (joined U) (joined L) (newer_than_left (joined A) (joined U) (joined F ++ (joined L ++ joined D)) a_rest) (newer_than_left (joined A) (joined L) (joined D) a_last)
 
   f_inputs : IsNewerPlace (joined F) (joined U ++ joined L)
-  f_inputs = newer_than_both (joined F) (joined U) (joined L) (apart_is_newer (joined F) (joined U) may.apart) (newer_than_left (joined F) (joined L) (joined D) f_rest)
+  f_inputs = newer_append (joined F) (joined U) (joined L) (apart_is_newer (joined F) (joined U) may.apart) (newer_than_left (joined F) (joined L) (joined D) f_rest)
 
   inputs_d : IsNewerPlace (joined U ++ joined L) (joined D)
   inputs_d = both_newer_than (joined U) (joined L) (joined D)
@@ -140,11 +141,11 @@ module _ (A U F L D N : List (List Version)) (order : IsVersionOrder (A ++ (U ++
   n_d = among_newer_than (joined N) (joined U ++ joined L) (joined D) may.among inputs_d
 
   f_new : IsNewerPlace (joined F) (joined N ++ joined D)
-  f_new = newer_than_both (joined F) (joined N) (joined D) (newer_than_among (joined F) (joined N) (joined U ++ joined L) may.among f_inputs) (newer_than_right (joined F) (joined L) (joined D) f_rest)
+  f_new = newer_append (joined F) (joined N) (joined D) (newer_than_among (joined F) (joined N) (joined U ++ joined L) may.among f_inputs) (newer_than_right (joined F) (joined L) (joined D) f_rest)
 
   a_new : IsNewerPlace (joined A) (joined F ++ (joined N ++ joined D))
-  a_new = newer_than_both (joined A) (joined F) (joined N ++ joined D) (newer_than_left (joined A) (joined F) (joined L ++ joined D) a_behind)
-      (newer_than_both (joined A) (joined N) (joined D) (newer_than_among (joined A) (joined N) (joined U ++ joined L) may.among a_inputs) (newer_than_right (joined A) (joined L) (joined D) a_last))
+  a_new = newer_append (joined A) (joined F) (joined N ++ joined D) (newer_than_left (joined A) (joined F) (joined L ++ joined D) a_behind)
+      (newer_append (joined A) (joined N) (joined D) (newer_than_among (joined A) (joined N) (joined U ++ joined L) may.among a_inputs) (newer_than_right (joined A) (joined L) (joined D) a_last))
 
   -- the outputs stand one level down in the order of versions
   pub merge_order : IsVersionOrder N → IsVersionOrder (A ++ (F ++ (N ++ D)))

@@ -10,6 +10,7 @@ use Rattle.lsm_store.specs.declared.asked.At.{At}
 use Rattle.lsm_store.specs.declared.asked.At.TheVariants.{Now}
 use Rattle.lsm_walk.specs.Walking.{GoesOn, WalkView, WalksThrough}
 use Rattle.lsm_requests.specs.Dumping.{Dumps, DumpsPage, pages_lines, rows_lines}
+use Rattle.lsm_serve.proofs.ServingLaws.{appends_none, appends_more}
 
 -- pages were found and printed so far, and whatever pages the walk goes on with are those behind them
 pub record IsDumping (walk : WalkView) (old now : StoreView) (output output_now : Option (List ℕ)) : Type 0 where
@@ -17,16 +18,6 @@ pub record IsDumping (walk : WalkView) (old now : StoreView) (output output_now 
   pub at : walk.at ≡ Now
   pub onward : (rest : List Page) (end : StoreView) → WalksThrough Now walk.from rest now end → WalksThrough Now (Some []) (pages ++ rest) old end
   pub prints : Appends output output_now (pages_lines pages)
-
-appends_none : (output : Option (List ℕ)) → Appends output output []
-appends_none None = tt
-appends_none (Some xs) = sym (append-nil xs)
-
-appends_more : (a b c : Option (List ℕ)) (first second : List ℕ) → Appends a b first → Appends b c second → Appends a c (first ++ second)
-appends_more None b c first second h k = tt
-appends_more (Some xs) None c first second h k = absurd h
-appends_more (Some xs) (Some ys) None first second h k = absurd k
-appends_more (Some xs) (Some ys) (Some zs) first second h k = k ∙ ap (λ (l : List ℕ). l ++ second) h ∙ append_assoc xs first second
 
 pages_lines-more : (pages : List Page) (page : Page) → pages_lines (pages ++ page ∷ []) ≡ pages_lines pages ++ rows_lines page
 pages_lines-more [] page = append-nil (rows_lines page)

@@ -28,11 +28,11 @@ pub record IsServing (input left : Option (List ℕ)) (number : ℕ) (before now
   pub told : Appends output output_now (answers_text 1 answers)
   pub next : number ≡ 1 + length answers
 
-appends_none : (output : Option (List ℕ)) → Appends output output []
+pub appends_none : (output : Option (List ℕ)) → Appends output output []
 appends_none None = tt
 appends_none (Some xs) = sym (append-nil xs)
 
-appends_more : (a b c : Option (List ℕ)) (first second : List ℕ) → Appends a b first → Appends b c second → Appends a c (first ++ second)
+pub appends_more : (a b c : Option (List ℕ)) (first second : List ℕ) → Appends a b first → Appends b c second → Appends a c (first ++ second)
 appends_more None b c first second h k = tt
 appends_more (Some xs) None c first second h k = absurd h
 appends_more (Some xs) (Some ys) None first second h k = absurd k

@@ -1,7 +1,7 @@
 -- Turns over the slots, one place after another.
 use Rattle.std.proofs.Common.{◌≡◌, ◌≢◌, ℕ, ◌-◌, ◌≤◌, Bool, true, false, Option, Some, None, List, [], ◌∷◌, ◌++◌, length, drop, take, get_or, Result, Ok, Err, refl, ap, sym, ◌∙◌, subst, arith, append_assoc, if◌then◌else◌}
 use Rattle.std.specs.Arc.{arc_value}
-use Rattle.std.specs.Prelude.{IsNone, MatchResult}
+use Rattle.std.specs.Prelude.{MatchResult}
 use Rattle.std.proofs.Math.Seq.{take-length}
 use Rattle.std.proofs.lemmas.List.{map-append}
 use Rattle.lsm_device.specs.declared.refusal.Refusal.{Refusal}
@@ -27,6 +27,7 @@ use Rattle.lsm_shared.specs.Turns.{tells_full_levels, with_piece, pieces_among, 
 use Rattle.lsm_shared.specs.declared.turn.Turn.{Turn}
 use Rattle.lsm_shared.specs.declared.turn.Turn.TheVariants as turn
 use Rattle.lsm_shared.proofs.Holds.{enters_join, served_join, entered_none, shown_before}
+use Rattle.lsm_store.proofs.NextPieces.{none_not_full}
 
 -- ---- the pieces at one place, and behind it
 
@@ -165,10 +166,6 @@ put_back_at id old new c d place w r at p = record {
 
 -- ---- installs that are put off
 
-unrefused_full : (o : Option Refusal) → IsNone o → is_of_full_levels o ≡ false
-unrefused_full None none = refl
-unrefused_full (Some e) none = absurd (cc none)
-
 module _ (m : Machine) (job : ℕ) where
   decided_by : (o : Option Refusal) → tells_full_levels (Replied (work_reply_by m (Install job) o)) ≡ is_of_full_levels o
   decided_by None = refl
@@ -179,9 +176,9 @@ module _ (m : Machine) (job : ℕ) where
 
   -- the reply to an install tells whether it is put off
   full_told : (reply : Reply) → WorkAdmits m (Install job) reply → tells_full_levels (Replied reply) ≡ is_put_off m (Install job)
-  full_told (Refused NoMemory) admitted = sym (unrefused_full (work_refusal m (Install job)) admitted)
-  full_told (Refused Io) admitted = sym (unrefused_full (work_refusal m (Install job)) admitted.0)
-  full_told (Refused BadTable) admitted = sym (unrefused_full (work_refusal m (Install job)) admitted.0)
+  full_told (Refused NoMemory) admitted = sym (none_not_full (work_refusal m (Install job)) admitted)
+  full_told (Refused Io) admitted = sym (none_not_full (work_refusal m (Install job)) admitted.0)
+  full_told (Refused BadTable) admitted = sym (none_not_full (work_refusal m (Install job)) admitted.0)
   full_told (Refused e) admitted = decided_full (Refused e) admitted
   full_told (Number n) admitted = decided_full (Number n) admitted
   full_told Done admitted = decided_full Done admitted

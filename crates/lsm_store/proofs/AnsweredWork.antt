@@ -43,7 +43,7 @@ module _ {X : Type 0} (same : X → X → Bool) where
   list_itself h [] = refl
   list_itself h (x ∷ xs) = ap (λ b. b && is_same_list same xs xs) (h x) ∙ list_itself h xs
 
-values_same : (a b : Option Bytes) → is_same_value a b ≡ true → a ≡ b
+pub values_same : (a b : Option Bytes) → is_same_value a b ≡ true → a ≡ b
 values_same None None e = refl
 values_same (Some a) (Some b) e = ap (λ (x : Bytes). Some x) (same_key a b e)
 values_same None (Some b) e = absurd (false≢true e)

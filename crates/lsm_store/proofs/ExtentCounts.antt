@@ -378,10 +378,6 @@ tables_extents e (t ∷ rest) =
 
 -- ---- the size of the area
 
-pub out_blocks : (tables : List Table) (area : Area) → (all_handed_out tables area).blocks ≡ area.blocks
-out_blocks [] area = refl
-out_blocks (t ∷ rest) area = out_blocks rest (handed_out (extent_of t) area)
-
 pub back_blocks : (tables : List Table) (area : Area) → (all_given_back tables area).blocks ≡ area.blocks
 back_blocks [] area = refl
 back_blocks (t ∷ rest) area = back_blocks rest area

@@ -51,7 +51,8 @@ use Rattle.lsm_store.proofs.Refusing.{serves_refused}
 use Rattle.lsm_store.proofs.Running.{IsDecided, first_decided, guards_decided}
 use Rattle.lsm_store.proofs.Unrefused.{none_taken, refusal_decided}
 use Rattle.lsm_store.proofs.Backed.{read_on, backed_on}
-use Rattle.lsm_store.proofs.ReadCalls.{only_read, none_more}
+use Rattle.lsm_store.proofs.ReadCalls.{only_read}
+use Rattle.lsm_open.proofs.OpeningAnswers.{none_more}
 use Rattle.lsm_store.proofs.Running.{first_tests, none_by}
 use Rattle.lsm_store.proofs.Serving.{now_inside, none_of}
 use Rattle.lsm_store.proofs.Unrefused.{unguarded, unrefused_runs}

@@ -31,7 +31,8 @@ use Rattle.lsm_store.specs.WorkEffects.{with_installed, installed, work_after, s
 use Rattle.lsm_store.specs.WorkMaps.{AreVersions, IsAsked, IsJobOf, MayBePutIn}
 use Rattle.lsm_store.specs.WorkSound.{IsSound, IsServed, SoundLaw}
 use Rattle.lsm_store.specs.Machine.{Machine}
-use Rattle.lsm_store.proofs.InstalledMaps.{table_versions, has_in, in_has, runs_tables, kept_input, front_newer, installed_replacing, install_law}
+use Rattle.lsm_store.proofs.InstalledMaps.{table_versions, has_in, in_has, runs_tables, front_newer, installed_replacing, install_law}
+use Rattle.lsm_jobs.proofs.Outcomes.{kept_among}
 use Rattle.lsm_store.proofs.Unrefused.{none_taken}
 use Rattle.lsm_store.proofs.Remembering.{all_synced-points_of}
 use Rattle.lsm_store.proofs.Replaced.{IsReplacing}
@@ -206,7 +207,7 @@ module _ (m : Machine) (sound : IsSound m) where
     install_one : IsSound (machine state_then work_then)
     install_one =
         let now : (v : Version) → IsAmong v (versions_in work_then) → v.number ≤ d.count = λ v a. sound.tied.numbered v (replacing.nothing_else v a) in
-        let from_input : (v : Version) → IsAmong v (versions_of new) → IsAmong v (joined slot.input.runs) = λ v a. kept_input slot.input v (subst (IsAmong v) outputs.versions a) in
+        let from_input : (v : Version) → IsAmong v (versions_of new) → IsAmong v (joined slot.input.runs) = λ v a. kept_among slot.input v (subst (IsAmong v) outputs.versions a) in
         let tables = table_versions (places work_then.levels) in
         record {
           tied = record {

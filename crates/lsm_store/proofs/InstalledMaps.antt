@@ -1,7 +1,5 @@
 -- What stays of the maps when a job is installed, a batch committed, or the log rotated.
-use Rattle.std.proofs.Common.{◌≡◌, ◌⊎◌, inl, inr, ⊎_elim, ℕ, zero, suc, Option, option_and_then, ◌+◌, ◌<◌, ◌≤◌, false, cond, List, [], ◌∷◌, ◌++◌, map, sym, ap, ◌∙◌, subst, arith}
-use Rattle.std.specs.Prelude.{Contains}
-use Rattle.std.proofs.lemmas.List.Elements.{recursion_from_All}
+use Rattle.std.proofs.Common.{◌≡◌, ◌⊎◌, inl, inr, ⊎_elim, ℕ, Option, option_and_then, ◌+◌, ◌<◌, ◌≤◌, false, cond, List, [], ◌∷◌, ◌++◌, map, sym, ap, ◌∙◌, subst, arith}
 use Rattle.lsm_codec.specs.Keys.{Bytes}
 use Rattle.std.specs.List.{AllByRecursion}
 use Rattle.std.proofs.lemmas.Bool.{false≢true}
@@ -12,7 +10,6 @@ use Rattle.lsm_mem.proofs.Maps.{map_of-newest}
 use Rattle.lsm_mem.proofs.Newest.{newest-with_batch_newer}
 use Rattle.lsm_merge.specs.Inputs.{MergeInput, joined, kept_of}
 use Rattle.lsm_merge.specs.Laws.{IsKeptAt}
-use Rattle.lsm_merge.proofs.MapLaws.{keep_law}
 use Rattle.lsm_levels.specs.Among.{IsAmong}
 use Rattle.lsm_levels.specs.Tables.{Table, versions_of}
 use Rattle.lsm_levels.specs.Levels.{Levels, all_tables, places}
@@ -20,7 +17,7 @@ use Rattle.lsm_levels.specs.Pick.{Job, Flush, Merge, is_flush, installed_levels}
 use Rattle.lsm_levels.specs.Orders.{IsNewerPlace}
 use Rattle.lsm_levels.specs.Held.{IsHeld, HasVersion, MergesVersions}
 use Rattle.lsm_levels.proofs.Members.{among_left, among_right, among_either}
-use Rattle.lsm_levels.proofs.Ranges.{all_of, of_all}
+use Rattle.lsm_levels.proofs.Ranges.{all_of}
 use Rattle.lsm_levels.proofs.Taking.{in_tables, of_table, level_of_place, place_of_level, newer_than, merging_law}
 use Rattle.lsm_jobs.specs.Gathering.{run_if_some}
 use Rattle.lsm_jobs.specs.Slots.{Slot, outputs_at}
@@ -33,6 +30,7 @@ use Rattle.lsm_store.specs.WorkEffects.{with_installed}
 use Rattle.lsm_store.specs.WorkMaps.{AreVersions, IsAsked, IsJobOf, MayBePutIn, InstallLaw, RotationLaw, CommitLaw}
 use Rattle.lsm_store.specs.Machine.{Machine}
 use Rattle.lsm_store.proofs.Replaced.{IsReplacing, replaced_maps}
+use Rattle.lsm_jobs.proofs.Outcomes.{kept_among}
 
 -- ---- the versions of runs of tables
 
@@ -88,16 +86,6 @@ tables_runs v upper lower a =
 
 -- ---- an install
 
-pub kept_input : (input : MergeInput) (v : Version) → IsAmong v (kept_of input) → IsAmong v (joined input.runs)
-kept_input input v a =
-    let among = recursion_from_All (Contains (joined input.runs)) (kept_of input) ((keep_law input.cuts (joined input.runs)).among input.bottom) in
-    contained v (joined input.runs) (of_all (Contains (joined input.runs)) (kept_of input) among v a)
-  where
-    contained : (u : Version) (xs : List Version) → Contains xs u → IsAmong u xs
-    contained u [] (k, lt, at) = absurd (omega (arith, lt))
-    contained u (x ∷ xs) (zero, lt, at) = inl (sym at)
-    contained u (x ∷ xs) (suc k, lt, at) = inr (contained u xs (k, omega (arith, lt), at))
-
 module _ (w : WorkView) (good : AreVersions w) where
   abbrev tabled : Levels → List Version
   tabled levels = table_versions (places levels)
@@ -136,7 +124,7 @@ module _ (w : WorkView) (good : AreVersions w) where
         (λ b. ⊎_elim
         (λ none. absurd none)
         (λ c. ⊎_elim
-        (λ d. in_sealed w.memory w.sealed (tabled w.levels) v (sealed_of v (kept_input input v (subst (IsAmong v) outputs d))))
+        (λ d. in_sealed w.memory w.sealed (tabled w.levels) v (sealed_of v (kept_among input v (subst (IsAmong v) outputs d))))
         (λ d. in_tabled w.memory w.sealed (tabled w.levels) v d)
         (among_either v (versions_of new) (tabled w.levels) c))
         b)
@@ -209,7 +197,7 @@ module _ (w : WorkView) (good : AreVersions w) where
           (λ c. in_sealed w.memory w.sealed (tabled w.levels) v c)
           (λ c. ⊎_elim
           (λ d. before_tables v d)
-          (λ d. before_tables v (input_in v (kept_input input v (subst (IsAmong v) outputs d))))
+          (λ d. before_tables v (input_in v (kept_among input v (subst (IsAmong v) outputs d))))
           (law.nothing_else v (has_in merged_levels v c)))
           b)
           (three_places w.memory w.sealed (tabled merged_levels) v a);

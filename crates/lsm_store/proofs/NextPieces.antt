@@ -102,7 +102,7 @@ module _ (m : Machine) where
 refused_same : (a b : Refusal) → Refused a ≡ Refused b → a ≡ b
 refused_same a b is = cc
 
-none_not_full : (o : Option Refusal) → IsNone o → is_of_full_levels o ≡ false
+pub none_not_full : (o : Option Refusal) → IsNone o → is_of_full_levels o ≡ false
 none_not_full None none = refl
 none_not_full (Some e) none = absurd cc
 

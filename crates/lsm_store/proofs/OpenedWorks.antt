@@ -22,7 +22,7 @@ use Rattle.lsm_levels.specs.Held.{HasVersion, IsRanged}
 use Rattle.lsm_levels.specs.Stored.{IsStored, AreStored}
 use Rattle.lsm_levels.proofs.Members.{among_either}
 use Rattle.lsm_levels.proofs.Ranges.{of_all}
-use Rattle.lsm_levels.proofs.RunOrders.{stored_ranged, run_ordered}
+use Rattle.lsm_levels.proofs.RunOrders.{stored_ranged}
 use Rattle.lsm_levels.proofs.Taking.{newer_than, place_of_level}
 use Rattle.lsm_jobs.specs.Slots.{Slot, no_jobs}
 use Rattle.lsm_open.specs.Answered.{IsNewRegionIfOpen}
@@ -47,6 +47,7 @@ use Rattle.lsm_store.proofs.CallSounds.{unique_ordered}
 use Rattle.lsm_store.proofs.InstalledMaps.{table_versions, in_has}
 use Rattle.lsm_store.proofs.States.{made_same}
 use Rattle.lsm_store.proofs.StateMaps.{alone, points_alone}
+use Rattle.lsm_levels.proofs.ScanViews.{runs_ordered}
 
 -- ---- versions in their places
 
@@ -77,10 +78,6 @@ unique_joined (p ∷ ps) each order v w a b key number =
     by older (inr c) (inr e) = older c e
 
 -- ---- tables that stand
-
-each_ordered : (sectors : List (List ℕ)) (area : ℕ) (runs : List (List Table)) → AllByRecursion IsRun runs → AreStored sectors area runs → AllByRecursion AreOrdered (map versions_of runs)
-each_ordered sectors area [] are stored = tt
-each_ordered sectors area (r ∷ rest) are stored = (run_ordered sectors area r are.0 stored.0, each_ordered sectors area rest are.1 stored.1)
 
 stored_in : (sectors : List (List ℕ)) (area : ℕ) (runs : List (List Table)) → AreStored sectors area runs → (t : Table) → IsAmong t (all_tables runs) → IsStored sectors area t
 stored_in sectors area [] stored t a = absurd a
@@ -175,7 +172,7 @@ module _ (size log_sectors count : ℕ) (left : CrashState) (p : Placement) (sea
       (among_either v (sealed_versions sealed) (table_versions (places levels)) a)
 
   ordered_is : AllByRecursion AreOrdered (map versions_of (places levels))
-  ordered_is = each_ordered (seen d) (first_data log_sectors) (places levels) (all_append IsRun levels.runs levels.deeper within.runs.runs within.runs.deeper) is.stored
+  ordered_is = runs_ordered (seen d) (first_data log_sectors) (places levels) (all_append IsRun levels.runs levels.deeper within.runs.runs within.runs.deeper) is.stored
 
   ranged_is : (k : ℕ) (t : Table) → IsAmong t (level levels k) → IsRanged t
   ranged_is k t a = stored_ranged (seen d) (first_data log_sectors) t (stored_in (seen d) (first_data log_sectors) (places levels) is.stored t (place_of_level levels k t a))

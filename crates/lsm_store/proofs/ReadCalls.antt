@@ -1,12 +1,12 @@
 -- What a read of a store's memory and tables does, by what it finds there.
-use Rattle.std.proofs.Common.{◌≡◌, ◌⊎◌, ⊎_elim, ◌≤◌, ℕ, zero, suc, Bool, true, cond, None, is_some, refl, sym, ◌∙◌, ap, subst, arith, Vec}
+use Rattle.std.proofs.Common.{◌≡◌, ◌⊎◌, ⊎_elim, ℕ, Bool, true, cond, None, is_some, refl, sym, ◌∙◌, ap, subst, Vec}
 use Rattle.std.specs.Prelude.{Result, Ok, Err, Option, option_map, IfErr, MatchResult}
 use Rattle.std.specs.FinMap as finite
 use Rattle.lsm_cache.specs.Recency.{Cached}
 use Rattle.lsm_cache.specs.declared.name.BlockName.{BlockName}
 use Rattle.lsm_codec.specs.Keys.{Bytes}
 use Rattle.lsm_codec.specs.Map.{Map}
-use Rattle.lsm_device.specs.Calls.{AtMost, more, faults_after}
+use Rattle.lsm_device.specs.Calls.{AtMost, faults_after}
 use Rattle.lsm_device.specs.Medium.{Medium}
 use Rattle.lsm_device.specs.Outcomes.{Leaves}
 use Rattle.lsm_device.specs.Refusals.{faultless}
@@ -38,10 +38,7 @@ use Rattle.lsm_store.proofs.Backed.{place_in, read_on, readable, backed_on}
 use Rattle.lsm_store.proofs.Marking.{asked_map}
 use Rattle.lsm_store.proofs.Unrefused.{unrefused_runs, unrefused_get, unrefused_scan}
 use Rattle.lsm_store.proofs.Serving.{answered, now_inside}
-
-pub none_more : (k n m : ℕ) → k ≤ 0 → m ≡ more k n → m ≡ n
-none_more zero n m few is = is
-none_more (suc k) n m few is = absurd (omega (arith, few))
+use Rattle.lsm_open.proofs.OpeningAnswers.{none_more}
 
 pub no_use : Reads ≡ Untouched → ⊥
 no_use e = cc

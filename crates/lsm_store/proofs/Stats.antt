@@ -1,11 +1,11 @@
 -- A store's memory tells its numbers.
-use Rattle.std.proofs.Common.{◌≡◌, ℕ, zero, suc, ◌<◌, Bool, true, false, not, ◌&&◌, cond, [], ◌∷◌, length, Some, None, is_some, refl, sym, ap, ◌∙◌, arith}
+use Rattle.std.proofs.Common.{◌≡◌, Bool, true, false, not, ◌&&◌, [], ◌∷◌, length, Some, None, is_some, sym, ap, ◌∙◌}
 use Rattle.std.specs.Prelude.{Result, Ok, Err, if◌then◌else◌}
 use Rattle.std.proofs.lemmas.Bool.{lt-ltb}
 use Rattle.lsm_device.specs.declared.refusal.Refusal.{Refusal}
 use Rattle.lsm_device.specs.declared.refusal.Refusal.TheVariants.{Stopped}
 use Rattle.lsm_extent.specs.declared.extent.Extent.{Extent}
-use Rattle.lsm_extent.specs.Area.{IsPartition, count_below, free_count, is_free, is_held}
+use Rattle.lsm_extent.specs.Area.{IsPartition, free_count, is_free, is_held}
 use Rattle.lsm_levels.specs.Levels.{all_tables, places}
 use Rattle.lsm_store.specs.declared.memory.Memory.{Memory}
 use Rattle.lsm_store.specs.declared.stat.Stat.{Stat}
@@ -16,20 +16,13 @@ use Rattle.lsm_store.specs.State.{are_waiting, log_room}
 use Rattle.lsm_store.specs.Stats.{is_in_no_table, blocks_in_no_table, stat_of, stat_answer}
 use Rattle.lsm_store.specs.Work.{WorkView}
 use Rattle.lsm_store.proofs.ExtentCounts.{placed_in}
+use Rattle.lsm_extent.proofs.Counting.{count_below-same}
 
 -- ---- free blocks
 
--- what passes one test below a block passes the other
-count_same : (p q : ℕ → Bool) (n : ℕ) → ((k : ℕ) → k < n → p k ≡ q k) → count_below p n ≡ count_below q n
-unfolding count_below
-count_same p q zero same = refl
-count_same p q (suc k) same =
-    let one = ap {B = ℕ} (λ (b : Bool). cond b 1 0) (same k (omega arith)) in
-    omega (arith, one, count_same p q k (λ j below. same j (omega arith)))
-
 -- the blocks that are free are just those in no table
 pub free_in_no_table : (w : WorkView) → IsPartition w.area → ((e : Extent) → extents_like e w.area.held ≡ tables_like e (tables_placed w)) → free_count w.area ≡ blocks_in_no_table w
-free_in_no_table w whole each = count_same (is_free w.area) (is_in_no_table w) w.area.blocks (λ k below.
+free_in_no_table w whole each = count_below-same (is_free w.area) (is_in_no_table w) w.area.blocks (λ k below.
     ap (λ (b : Bool). b && not (is_held w.area.held k)) (lt-ltb k w.area.blocks below) ∙ ap not ((placed_in w.area whole (tables_placed w) each).only k))
 
 -- ---- the answer

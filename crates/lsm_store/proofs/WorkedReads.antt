@@ -30,7 +30,8 @@ use Rattle.lsm_store.specs.Working.{work_use_before, work_use_by, IsWorkUsed, Wo
 use Rattle.lsm_store.proofs.AnsweredWork.{stage_passes, no_job, other_stage, read_answers}
 use Rattle.lsm_store.specs.Memory.{AreReadAsMerges}
 use Rattle.lsm_store.proofs.HeldTables.{reading_stored, merges_at}
-use Rattle.lsm_store.proofs.ReadCalls.{none_more, no_use}
+use Rattle.lsm_store.proofs.ReadCalls.{no_use}
+use Rattle.lsm_open.proofs.OpeningAnswers.{none_more}
 use Rattle.lsm_store.proofs.WorkSounds.{read_sound}
 use Rattle.lsm_store.proofs.Works.{GoesOn, running_refuses, backed_moved, worked_on, now_within, works_refused}
 use Rattle.lsm_store.proofs.Accounts.{read_none}

@@ -8,7 +8,7 @@ use Rattle.lsm_codec.specs.Keys.{Bytes}
 use Rattle.lsm_codec.specs.Map.{Operation}
 use Rattle.lsm_codec.specs.Versions.{Version, newest}
 use Rattle.lsm_device.specs.Disk.{Disk, seen}
-use Rattle.lsm_jobs.proofs.Outcomes.{made_versions, made_run}
+use Rattle.lsm_jobs.proofs.Outcomes.{made_versions, made_run, kept_among}
 use Rattle.lsm_jobs.specs.Outputs.{AreMadeOf}
 use Rattle.lsm_jobs.specs.Slots.{Slot, Writing}
 use Rattle.lsm_levels.proofs.Ranges.{all_of, of_all}
@@ -29,7 +29,6 @@ use Rattle.lsm_open.specs.Placements.{Placement, closed_in}
 use Rattle.lsm_open.specs.Switching.{IsNewestRun, AreFlushed}
 use Rattle.lsm_open.specs.Tables.{first_data, table_versions, IsTableAt}
 use Rattle.lsm_open.specs.Writing.{PlacedTable}
-use Rattle.lsm_store.proofs.InstalledMaps.{kept_input}
 use Rattle.lsm_open.proofs.StoredRecords.{versions_run, run_ascends, run_order}
 use Rattle.lsm_store.proofs.WorkSounds.{there}
 use Rattle.lsm_store.proofs.WrittenOutputs.{outputs_stored, outputs_named}
@@ -81,7 +80,7 @@ module _ (base : ℕ) (batches : List (List Operation)) (s : State) (sealed : Li
 
   -- each that is kept is one of the batches
   kept_sealed : (v : Version) → IsAmong v (kept_of input) → IsAmong v (with_batches base batches [])
-  kept_sealed v a = subst (IsAmong v) inputs_are (kept_input input v a)
+  kept_sealed v a = subst (IsAmong v) inputs_are (kept_among input v a)
 
   kept_later : AllByRecursion (λ v. base < v.number) (kept_of input)
   kept_later = all_of (λ (v : Version). base < v.number) (kept_of input) (λ v a. of_all (λ (u : Version). base < u.number) those_sealed (batches_later base batches) v (kept_sealed v a))

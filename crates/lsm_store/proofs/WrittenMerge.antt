@@ -6,7 +6,7 @@ use Rattle.lsm_codec.specs.Pairs.{Pairwise}
 use Rattle.lsm_codec.specs.Versions.{Version, newest}
 use Rattle.lsm_codec.specs.declared.table_record.TableRecord.{TableRecord}
 use Rattle.lsm_device.specs.Disk.{Disk, seen}
-use Rattle.lsm_jobs.proofs.Outcomes.{made_versions, made_run}
+use Rattle.lsm_jobs.proofs.Outcomes.{made_versions, made_run, kept_among}
 use Rattle.lsm_jobs.specs.Outputs.{AreMadeOf}
 use Rattle.lsm_jobs.specs.Slots.{Slot, Writing, is_writing, outputs_at}
 use Rattle.lsm_levels.proofs.Members.{among_left, among_right, among_either}
@@ -36,7 +36,7 @@ use Rattle.lsm_open.specs.Switching.{Parts, with_inputs, with_outputs, KeepsNewe
 use Rattle.lsm_open.specs.Tables.{first_data, table_versions, IsTableAt, AscendInRun}
 use Rattle.lsm_open.specs.ToldTables.{records_of}
 use Rattle.lsm_open.specs.Writing.{PlacedTable}
-use Rattle.lsm_store.proofs.InstalledMaps.{in_has, runs_tables, kept_input}
+use Rattle.lsm_store.proofs.InstalledMaps.{in_has, runs_tables}
 use Rattle.lsm_store.proofs.MergedRecords.{merge_order, merge_inputs, after_parts}
 use Rattle.lsm_store.proofs.MergeInputs.{same_newest, tables_of_runs, uppers_at, IsBeside, upper_in, in_upper, lower_in, in_lower, beside_upper, beside_inputs, beside_bottom}
 use Rattle.lsm_open.proofs.StoredRecords.{versions_run, run_order, records_ascend}
@@ -175,10 +175,10 @@ module _ (m : Machine) (p : Placement) (xs ys : List PlacedTable) (d : Disk) (jo
   on_disk = versions_run n (seen d) (suc i) 0 outputs they_stand ∙ kept
 
   low : NumberedAtMost p.logs.base (versions_of outputs)
-  low = subst (NumberedAtMost base) (sym kept) (all_of (λ (v : Version). v.number ≤ base) (kept_of slot.input) (λ v a. of_all (λ (u : Version). u.number ≤ base) input_versions inputs_numbered v (kept_input slot.input v a)))
+  low = subst (NumberedAtMost base) (sym kept) (all_of (λ (v : Version). v.number ≤ base) (kept_of slot.input) (λ v a. of_all (λ (u : Version). u.number ≤ base) input_versions inputs_numbered v (kept_among slot.input v a)))
 
   among : AreAmong (table_versions p.logs.log_sectors (seen d) (map (record_of (suc i) 0) outputs)) (table_versions p.logs.log_sectors (seen d) (parts_at m.work.levels i has.range).upper ++ table_versions p.logs.log_sectors (seen d) (parts_at m.work.levels i has.range).lower)
-  among = all_of (λ (v : Version). IsAmong v there_versions) (table_versions n (seen d) (map (record_of (suc i) 0) outputs)) (λ v a. to_disk v (kept_input slot.input v (subst (IsAmong v) on_disk a)))
+  among = all_of (λ (v : Version). IsAmong v there_versions) (table_versions n (seen d) (map (record_of (suc i) 0) outputs)) (λ v a. to_disk v (kept_among slot.input v (subst (IsAmong v) on_disk a)))
 
   apart : ShareNoKey (table_versions p.logs.log_sectors (seen d) (parts_at m.work.levels i has.range).between) (table_versions p.logs.log_sectors (seen d) (parts_at m.work.levels i has.range).upper)
   apart =

@@ -47,6 +47,7 @@ use Rattle.lsm_table.specs.Extents.{in_pieces, index_in_blocks, footer_in, keys_
 use Rattle.lsm_table.specs.Extents as laid
 use Rattle.lsm_table.specs.Outlines.{summary_in, outline_in}
 use Rattle.lsm_table.specs.Stored.{table_of, table_in}
+use Rattle.lsm_jobs.proofs.Sectors.{length-in_sectors}
 
 abbrev Sectors : Type 0
 Sectors = List (List ℕ)
@@ -57,10 +58,6 @@ sectors_joined : (n : ℕ) (text : List ℕ) → length text ≡ 512 * n → con
 sectors_joined zero [] e = refl
 sectors_joined zero (x ∷ text) e = absurd (omega (arith, e))
 sectors_joined (suc n) text e = ap (λ (rest : List ℕ). take 512 text ++ rest) (sectors_joined n (drop 512 text) (omega (arith, e, length-drop 512 text))) ∙ take-append-drop 512 text
-
-length-in_sectors : (n : ℕ) (text : List ℕ) → length (in_sectors n text) ≡ n
-length-in_sectors zero text = refl
-length-in_sectors (suc n) text = ap suc (length-in_sectors n (drop 512 text))
 
 abbrev IsBlock : List ℕ → Type 0
 IsBlock b = length b ≡ 4096

@@ -28,6 +28,7 @@ use Rattle.lsm_store.specs.State.{State}
 use Rattle.lsm_store.specs.StoredTables.{IsStoredWithJobs, KeepsExtents}
 use Rattle.lsm_store.proofs.WrittenOutputs.{has_placed}
 use Rattle.lsm_store.proofs.StoredTables.{free_stored, free_each, free_extents, closed_seen}
+use Rattle.lsm_device.proofs.Runs.{grown_twice}
 
 abbrev Batches : Type 0
 Batches = List (List Operation)
@@ -37,10 +38,6 @@ Batches = List (List Operation)
 -- none
 grown_none : (d : Disk) → grown [] d ≡ d
 grown_none d = ap (λ (ws : List Write). let e : Disk = record { stands = d.stands; pending = ws } in e) (append-nil d.pending)
-
--- and some behind others
-grown_twice : (d : Disk) (ws more : List Write) → grown more (grown ws d) ≡ grown (ws ++ more) d
-grown_twice d ws more = ap (λ (p : List Write). let e : Disk = record { stands = d.stands; pending = p } in e) (append_assoc d.pending ws more)
 
 -- ---- fewer sectors count as written
 

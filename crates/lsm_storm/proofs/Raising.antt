@@ -6,11 +6,11 @@ use Rattle.std.specs.FinMap as finite
 use Rattle.std.specs.FinMap.{get-empty, get-insert}
 use Rattle.byteorder.specs.Endian.{big_number, big_bytes}
 use Rattle.byteorder.specs.Numbers.{big_number-reads_back}
-use Rattle.lsm_codec.specs.Guards.{Condition, is_met, is_same_value}
+use Rattle.lsm_codec.specs.Guards.{Condition, is_met}
 use Rattle.lsm_codec.specs.Keys.{Bytes, byte_order}
 use Rattle.lsm_codec.specs.Map.{Map, Operation, apply}
 use Rattle.lsm_codec.specs.Versions.{is_same_key}
-use Rattle.lsm_codec.proofs.KeyOrder.{key_itself, same_key}
+use Rattle.lsm_codec.proofs.KeyOrder.{key_itself}
 use Rattle.lsm_device.specs.declared.refusal.Refusal.{Refusal}
 use Rattle.lsm_device.specs.declared.refusal.Refusal.TheVariants.{Io, Stopped, TooManyGuards, Exhausted, LogFull, GuardFailed}
 use Rattle.lsm_store.specs.Calls.{Call, Reply}
@@ -31,6 +31,7 @@ use Rattle.lsm_trail.specs.Knowledge.{Known}
 use Rattle.lsm_shared.specs.Sessions.{IsEnded, released}
 use Rattle.lsm_storm.specs.Counters.{AreCounting, IsCountingStep, Raises, count_said, counted_in, counter_key, next_count, unchanged}
 use Rattle.lsm_storm.specs.Storms.{IsFresh, accepted_in, is_commit}
+use Rattle.lsm_store.proofs.AnsweredWork.{values_same}
 
 -- the counter of a state
 abbrev pub counter : State → ℕ
@@ -54,12 +55,6 @@ counted_next m count fits =
 
 -- ---- the guard
 
-same_value : (a b : Option Bytes) → is_same_value a b ≡ true → a ≡ b
-same_value None None e = refl
-same_value (Some a) (Some b) e = ap (λ (x : Bytes). Some x) (same_key a b e)
-same_value None (Some b) e = cc
-same_value (Some a) None e = cc
-
 -- behind four other tests, one that holds refuses
 last_test : (s : State) (call : Call) (n : ℕ) (a b c d g : Bool) (p q r t u : Refusal)
     → Number n ≡ reply_by s call (first_refusal ((a, p) ∷ (b, q) ∷ (c, r) ∷ (d, t) ∷ (not g, u) ∷ [])) → g ≡ true
@@ -76,7 +71,7 @@ was_met : (s : State) (old : Option Bytes) (batch : List Operation) (n : ℕ) �
 was_met s old batch n e =
     let call = CommitIf (unchanged old ∷ []) batch in
     let m = present_map s.points in
-    same_value (finite.get m counter_key) old
+    values_same (finite.get m counter_key) old
     (last_test s call n (is_some s.stopped) (nat_lt most_guards (length (unchanged old ∷ []))) (batch_count s.points == last_number) (not (fits s batch)) (is_met m (unchanged old))
     Stopped TooManyGuards Exhausted LogFull (GuardFailed 0) e)
 

@@ -26,7 +26,7 @@ with_key key w = is_same_key key w.key
 group_length : (v : Version) (rest : List Version) → length (first_group (v ∷ rest)) ≡ 1 + prefix_len (with_key v.key) rest
 group_length v rest = omega (arith, length-prefix_len (with_key v.key) rest)
 
-count-cons : (p : Version → Bool) (v : Version) (rest : List Version) → count_by p (v ∷ rest) ≡ cond (p v) 1 0 + count_by p rest
+pub count-cons : (p : Version → Bool) (v : Version) (rest : List Version) → count_by p (v ∷ rest) ≡ cond (p v) 1 0 + count_by p rest
 count-cons p v rest = omega (arith, sum_by-append (λ x. cond (p x) 1 0) (v ∷ []) rest)
 
 prefix_counts : (p : Version → Bool) (xs : List Version) → prefix_len p xs ≤ count_by p xs

@@ -72,7 +72,7 @@ not_found key at edges i le h = not_found_from 0 key at edges i le h
 
 -- ---- blocks that end before a key
 
-less_by_first : (o p : Ordering) → is_lt o ≡ true → is_lt (ordering_then o p) ≡ true
+pub less_by_first : (o p : Ordering) → is_lt o ≡ true → is_lt (ordering_then o p) ≡ true
 less_by_first Less p h = refl
 less_by_first Equal p h = absurd cc
 less_by_first Greater p h = absurd cc

@@ -1,6 +1,6 @@
 -- Histories, with one entry more.
-use Rattle.std.proofs.Common.{◌≡◌, ◌≢◌, ℕ, ◌+◌, ◌≤◌, ◌==◌, Bool, true, false, Option, Some, None, is_some, List, [], ◌∷◌, ◌++◌, length, if◌then◌else◌, refl, ap, sym, ◌∙◌, subst, arith, append_assoc, length-append, eq-eqb, ne_eqb}
-use Rattle.std.specs.Prelude.{IsNone, IsSome}
+use Rattle.std.proofs.Common.{◌≡◌, ◌≢◌, ℕ, ◌+◌, ◌≤◌, ◌==◌, Bool, true, false, is_some, List, [], ◌∷◌, ◌++◌, length, if◌then◌else◌, refl, ap, sym, ◌∙◌, subst, arith, append_assoc, length-append, eq-eqb, ne_eqb}
+use Rattle.std.specs.Prelude.{IsNone}
 use Rattle.std.proofs.lemmas.List.{append-nil}
 use Rattle.std.proofs.lemmas.List.Elements.{All-push}
 use Rattle.lsm_device.specs.declared.refusal.Refusal.TheVariants.{NoMemory}
@@ -14,6 +14,7 @@ use Rattle.lsm_store.proofs.Steps.{stopped_run, stopped_last}
 use Rattle.lsm_trail.specs.Begins.{Begin, base_of, first_machine, CanPin}
 use Rattle.lsm_trail.specs.Following.{MayFollow}
 use Rattle.lsm_trail.specs.History.{Event, steps_of, replies_of, machine_behind, AreServed, AreRun, handed, inputs_of, IsNextNumber, TakesResult, AreNumbered, IsLegal, machine_after, entries_by, is_call, is_lent, calls_in}
+use Rattle.lsm_lives.proofs.Steps.{not_some}
 
 -- the machine after these entries, as the replies tell it
 abbrev told_behind : Machine → List Event → Machine
@@ -39,10 +40,6 @@ served_more m [] e served may goes = (may, goes, tt)
 served_more m (x ∷ log) e (first, on, rest) may goes = (first, on, served_more x.machine log e rest may goes)
 
 -- ---- where the device backs the state
-
-not_some : {X : Type 0} (o : Option X) → IsSome o → IsNone o → ⊥
-not_some (Some x) is none = cc
-not_some None is none = cc
 
 -- Two machines in one state, with one work while it runs, allow the same step, and go on alike.
 record GoAlike (m n : Machine) (step : Step) (reply : Reply) (end : Machine) : Type 0 where

@@ -11,7 +11,7 @@ use Rattle.lsm_store.proofs.Unrefused.{err_of}
 use Rattle.lsm_store.proofs.WorkingMemory.{accepted_kept, unaccepted_kept}
 use Rattle.lsm_store.proofs.Works.{moved_on, stopped_refuses, runs_then, works_refused}
 use Rattle.lsm_extent.specs.Area.{Area}
-use Rattle.lsm_store.proofs.ExtentCounts.{out_blocks}
+use Rattle.lsm_jobs.proofs.Accepted.{same_blocks}
 use Rattle.lsm_store.proofs.working.accept.Goals as goal
 
 pub returns-in_err-check_running-clause-works : goal.returns-in_err-check_running-clause-works
@@ -54,4 +54,4 @@ returns-clause-kept g c =
 pub returns-clause-inside : goal.returns-clause-inside
 returns-clause-inside g c = λ size within.
     let placing = c.in_ok-next.ensures.accepted.placing in
-    record { lie = within.lie; area = ap (λ (x : Area). x.blocks) placing.taken ∙ out_blocks c.in_ok-next.ensures.accepted.tables c.args.memory.now.extents ∙ within.area }
+    record { lie = within.lie; area = ap (λ (x : Area). x.blocks) placing.taken ∙ same_blocks c.in_ok-next.ensures.accepted.tables c.args.memory.now.extents ∙ within.area }
