@@ -1,8 +1,8 @@
 -- What was read and found sound is the image of a store, and the image of a store is sound.
-use Rattle.std.proofs.Common.{◌≡◌, ℕ, suc, ◌≤◌, ◌||◌, Bool, List, [], ◌∷◌, ◌++◌, length, map, Some, refl, sym, ap, subst, ◌∙◌, arith}
+use Rattle.std.proofs.Common.{◌≡◌, ℕ, ◌≤◌, ◌||◌, Bool, List, [], ◌∷◌, length, Some, refl, sym, ap, subst, ◌∙◌, arith}
 use Rattle.std.specs.Prelude.{not}
 use Rattle.std.specs.List.{AllByRecursion, list_any}
-use Rattle.std.proofs.lemmas.List.{length-append, length-map}
+use Rattle.std.proofs.lemmas.List.{length-map}
 use Rattle.std.proofs.lemmas.Option.{same_Some}
 use Rattle.lsm_codec.specs.Geometry.{data_blocks_of}
 use Rattle.lsm_codec.specs.Manifests.{Contents, IsManifest}
@@ -10,12 +10,12 @@ use Rattle.lsm_codec.specs.Versions.{Version}
 use Rattle.lsm_codec.specs.declared.table_record.TableRecord.{TableRecord}
 use Rattle.lsm_extent.specs.Area.{Area, covers, count_below}
 use Rattle.lsm_levels.specs.Levels.{Levels, all_tables, places}
-use Rattle.lsm_levels.specs.Tables.{Table, record_of, versions_of}
+use Rattle.lsm_levels.specs.Tables.{versions_of}
 use Rattle.lsm_open.specs.Counting.{with_tables, IsCountedRoot}
 use Rattle.lsm_open.specs.CrashState.{CrashState}
 use Rattle.lsm_open.specs.Image.{count_in, HoldNamed, StandFor}
 use Rattle.lsm_open.specs.Tables.{first_data, table_versions}
-use Rattle.lsm_open.specs.ToldTables.{told_tables, record_extent, records_of_runs, records_of_levels, HaveNamed}
+use Rattle.lsm_open.specs.ToldTables.{told_tables, record_extent, HaveNamed}
 use Rattle.lsm_open.proofs.CountedTables.{counted_one, counted_all, same_versions, manifest_counted}
 use Rattle.lsm_open.proofs.OneMeaning.{same_stands}
 use Rattle.lsm_open.proofs.OpenedStores.{named_here}
@@ -27,25 +27,9 @@ use Rattle.lsm_check.specs.Sound.{IsTold, AreSound}
 use Rattle.lsm_extent.proofs.Counting.{count_below-same}
 use Rattle.lsm_check.proofs.StandSoundly.{tables_stand, stand_soundly}
 use Rattle.lsm_check.proofs.ToldTables.{all_told, are_told, entries_counted}
+use Rattle.lsm_open.proofs.NamedRecords.{counted_runs}
 
 -- ---- how many tables there are
-
-counted_levels : (k : ℕ) (xs : List (List Table)) → length (records_of_levels k xs) ≡ length (all_tables xs)
-counted_levels k [] = refl
-counted_levels k (x ∷ xs) = omega (arith, length-append (map (record_of k 0) x) (records_of_levels (suc k) xs), length-map x (record_of k 0), length-append x (all_tables xs), counted_levels (suc k) xs)
-
-counted_runs : (k : ℕ) (xs deeper : List (List Table)) → length (records_of_runs k xs ++ records_of_levels 1 deeper) ≡ length (all_tables (xs ++ deeper))
-counted_runs k [] deeper = counted_levels 1 deeper
-counted_runs k (x ∷ xs) deeper =
-    omega (
-      arith,
-      length-append (map (record_of 0 k) x ++ records_of_runs (suc k) xs) (records_of_levels 1 deeper),
-      length-append (map (record_of 0 k) x) (records_of_runs (suc k) xs),
-      length-append (records_of_runs (suc k) xs) (records_of_levels 1 deeper),
-      length-map x (record_of 0 k),
-      length-append x (all_tables (xs ++ deeper)),
-      counted_runs (suc k) xs deeper,
-    )
 
 -- Levels have no more tables than a manifest can name.
 pub few_tables : (m : Contents) (levels : Levels) → IsManifest m → HaveNamed m levels → length (all_tables (places levels)) ≤ 1024

@@ -43,7 +43,7 @@ unfolding count_below
 count_below-none zero = refl
 count_below-none (suc k) = omega (arith, count_below-none k)
 
-covers_inside : (k : ℕ) (e : Extent) → e.first ≤ k → k < e.first + e.blocks → covers k e ≡ true
+pub covers_inside : (k : ℕ) (e : Extent) → e.first ≤ k → k < e.first + e.blocks → covers k e ≡ true
 covers_inside k e from below = and_from (leb e.first k) (ltb k (e.first + e.blocks)) (le-leb e.first k from) (lt-ltb k (e.first + e.blocks) below)
 
 covers_before : (k : ℕ) (e : Extent) → k < e.first → covers k e ≡ false

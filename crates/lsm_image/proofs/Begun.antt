@@ -201,10 +201,6 @@ all_sectors all now at so_far past = so_far ∙ take_all at all past
 
 -- ---- writes that a mask keeps
 
-kept_nil : (ws : List Write) → kept [] ws ≡ []
-kept_nil [] = refl
-kept_nil (w ∷ ws) = refl
-
 -- with those of the writes that are left, what was added is what is wanted
 module _ (keep : List Bool) (pending : List Laid) (i : ℕ) (lt : i < length pending) (d : Laid) (before wanted : List Write)
     (so_far : before ++ kept (drop i keep) (map write_of (drop i pending)) ≡ wanted) where

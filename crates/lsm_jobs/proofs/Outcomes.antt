@@ -33,12 +33,12 @@ use Rattle.lsm_jobs.specs.Taking.{runs_of}
 use Rattle.lsm_jobs.specs.Outcomes.{SeesSome, ReplaceInputs, OutputsLaw}
 use Rattle.lsm_jobs.proofs.Accepted.{tables_of}
 use Rattle.lsm_levels.proofs.RunOrders.{is_there}
-use Rattle.lsm_levels.proofs.CursorStored.{less_at_most}
+use Rattle.lsm_merge.proofs.RangeLaws.{then_le}
 
 -- ---- versions in order, from the first to the last
 
 rises : (v w : Version) → Before v w → at_most v.key w.key ≡ true
-rises v w before = less_at_most (byte_order v.key w.key) (nat_cmp w.number v.number) before
+rises v w before = then_le (byte_order v.key w.key) (nat_cmp w.number v.number) before
 
 abbrev last_or : Version → List Version → Version
 last_or v [] = v
@@ -222,7 +222,7 @@ module _ (input : MergeInput) (tables : List Table) (made : AreMadeOf input tabl
 
 -- ---- of a merge
 
-joined_lower : (v : Version) (lower : List Table) → IsAmong v (joined (run_if_some lower (versions_of lower))) → IsAmong v (versions_of lower)
+pub joined_lower : (v : Version) (lower : List Table) → IsAmong v (joined (run_if_some lower (versions_of lower))) → IsAmong v (versions_of lower)
 joined_lower v [] a = a
 joined_lower v (t ∷ lower) a = ⊎_elim (λ b. b) (λ b. absurd b) (among_either v (versions_of (t ∷ lower)) [] a)
 

@@ -1,9 +1,8 @@
 -- What a cursor finds where the tables of its run stand.
 use Rattle.std.proofs.Common.{◌≡◌, ℕ, suc, ◌+◌, ◌<◌, Bool, true, false, cond, not, List, [], ◌∷◌, ◌++◌, length, map, drop, filter, Option, Some, Ok, refl, ap, sym, subst, ◌∙◌, arith, append_assoc}
 use Rattle.std.specs.List.{AllByRecursion, flat_map}
-use Rattle.std.specs.declared.cmp.Ordering.{Ordering}
-use Rattle.std.specs.declared.cmp.Ordering.TheVariants.{Less, Equal, Greater}
-use Rattle.std.specs.Ordering.{is_le, nat_cmp, ordering_then}
+use Rattle.std.specs.declared.cmp.Ordering.TheVariants.{Less}
+use Rattle.std.specs.Ordering.{nat_cmp}
 use Rattle.std.proofs.lemmas.Option.{same_Some}
 use Rattle.lsm_device.specs.declared.refusal.Refusal.{Refusal}
 use Rattle.lsm_codec.specs.Keys.{Bytes, byte_order}
@@ -30,6 +29,7 @@ use Rattle.lsm_levels.proofs.KeyOrder.{at_most_trans, at_most_itself, at_most_tu
 use Rattle.lsm_codec.proofs.Lists.{filter_step, filter_none, filter_all, all_map, all_right, all_append}
 use Rattle.lsm_levels.proofs.Searching.{run_ranges}
 use Rattle.lsm_levels.proofs.StoredLaws.{block_entries}
+use Rattle.lsm_merge.proofs.RangeLaws.{then_le}
 
 abbrev oks : List Version → Items
 oks versions = map (λ v. Ok v) versions
@@ -40,13 +40,8 @@ oks_append (v ∷ xs) ys = ap (λ (t : Items). Ok v ∷ t) (oks_append xs ys)
 
 -- ---- versions in order, without those below a key
 
-pub less_at_most : (o p : Ordering) → ordering_then o p ≡ Less → is_le o ≡ true
-less_at_most Less p e = refl
-less_at_most Equal p e = refl
-less_at_most Greater p e = absurd cc
-
 keys_ascend : (v w : Version) → entry_order v w ≡ Less → at_most v.key w.key ≡ true
-keys_ascend v w e = less_at_most (byte_order v.key w.key) (nat_cmp w.number v.number) e
+keys_ascend v w e = then_le (byte_order v.key w.key) (nat_cmp w.number v.number) e
 
 -- the versions behind one in order have no lesser key
 keys_behind : (v : Version) (vs : List Version) → AreOrdered (v ∷ vs) → AllByRecursion (λ w. at_most v.key w.key ≡ true) vs

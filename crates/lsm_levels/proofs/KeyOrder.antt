@@ -6,6 +6,7 @@ use Rattle.std.specs.declared.cmp.Ordering.TheVariants.{Less, Equal, Greater}
 use Rattle.std.specs.Ordering.{is_lt, is_le, is_gt, ordering_reverse}
 use Rattle.lsm_codec.specs.Keys.{Bytes, byte_order}
 use Rattle.lsm_levels.specs.Tables.{at_most, is_below}
+use Rattle.lsm_merge.proofs.PartLaws.{lt_is_le}
 
 le_gt : (r : Ordering) → is_le r ≡ not (is_gt r)
 le_gt Less = refl
@@ -39,13 +40,8 @@ not_below a b h = by (is_below a b) (sym (at_most_turned a b) ∙ h)
 pub below_not : (a b : Bytes) → is_below a b ≡ true → at_most b a ≡ false
 below_not a b h = at_most_turned a b ∙ ap not h
 
-lt_le : (r : Ordering) → is_lt r ≡ true → is_le r ≡ true
-lt_le Less h = refl
-lt_le Equal h = absurd cc
-lt_le Greater h = absurd cc
-
 pub below_at_most : (a b : Bytes) → is_below a b ≡ true → at_most a b ≡ true
-below_at_most a b h = lt_le (byte_order a b) h
+below_at_most a b h = lt_is_le (byte_order a b) h
 
 gt_le : (r : Ordering) → is_le r ≡ false → is_le (ordering_reverse r) ≡ true
 gt_le Less h = absurd cc

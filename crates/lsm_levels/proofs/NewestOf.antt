@@ -62,11 +62,11 @@ pub newer_append : (xs ys zs : List Version) → IsNewerPlace xs ys → IsNewerP
 newer_append [] ys zs h k = tt
 newer_append (x ∷ xs) ys zs h k = (all_append (λ w. x.key ≡ w.key → w.number < x.number) ys zs h.0 k.0, newer_append xs ys zs h.1 k.1)
 
-newer_none : (xs : List Version) → IsNewerPlace xs []
+pub newer_none : (xs : List Version) → IsNewerPlace xs []
 newer_none [] = tt
 newer_none (x ∷ xs) = (tt, newer_none xs)
 
-newer_than_all : (xs : List Version) (older : List (List Version)) → AllByRecursion (IsNewerPlace xs) older → IsNewerPlace xs (joined older)
+pub newer_than_all : (xs : List Version) (older : List (List Version)) → AllByRecursion (IsNewerPlace xs) older → IsNewerPlace xs (joined older)
 newer_than_all xs [] h = newer_none xs
 newer_than_all xs (ys ∷ older) h = newer_append xs ys (joined older) h.0 (newer_than_all xs older h.1)
 

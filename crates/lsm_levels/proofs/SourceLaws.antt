@@ -30,12 +30,10 @@ use Rattle.lsm_merge.proofs.RangeLaws.{is_in_order-filter, newest-filter}
 use Rattle.lsm_levels.specs.Orders.{IsNewerPlace, IsVersionOrder}
 use Rattle.lsm_levels.specs.Sources.{IsLeftOf, AreLeftOf, AreInOrder, heads_of, head_at, is_sooner, comes_before, IsNext, Splits}
 use Rattle.lsm_levels.proofs.NewestOf.{newest_place}
+use Rattle.lsm_merge.proofs.Sameness.{unsome}
 
 no : true ≡ false → ⊥
 no e = cc
-
-some_same : {X : Type 0} (a b : X) → Some a ≡ Some b → a ≡ b
-some_same a b e = cc
 
 none_some : {X : Type 0} (a : X) → None ≡ Some a → ⊥
 none_some a e = cc
@@ -110,13 +108,13 @@ all_late k i v (l ∷ ls) lt next ordered n =
 
 all_replaced : {X : Type 0} (P : X → Type 0) (xs : List X) (p : ℕ) (x y : X) → slice_get xs p ≡ Some x → (P x → P y) → AllByRecursion P xs → AllByRecursion P (set xs p y)
 all_replaced P [] p x y is f h = tt
-all_replaced P (z ∷ xs) zero x y is f h = (f (subst P (some_same z x is) h.0), h.1)
+all_replaced P (z ∷ xs) zero x y is f h = (f (subst P (unsome z x is) h.0), h.1)
 all_replaced P (z ∷ xs) (suc p) x y is f h = (h.0, all_replaced P xs p x y is f h.1)
 
 splits : (ls : List (List Version)) (k p i : ℕ) (v : Version) (rest : List Version) → i ≡ k + p → AreInOrder ls → slice_get ls p ≡ Some (v ∷ rest) → Next k i v ls → Splits ls p v rest
 splits [] k p i v rest e order is next = absurd (none_some (v ∷ rest) is)
 splits (l ∷ ls) k zero i v rest e order is next =
-    subst (λ (l : List Version). AreInOrder (l ∷ ls) → Splits (l ∷ ls) 0 v rest) (sym (some_same l (v ∷ rest) is))
+    subst (λ (l : List Version). AreInOrder (l ∷ ls) → Splits (l ∷ ls) 0 v rest) (sym (unsome l (v ∷ rest) is))
     (λ order. record {
       newer = [];
       older = rest ++ joined ls;
@@ -143,7 +141,7 @@ splits (l ∷ ls) k (suc p) i v rest e order is next =
 
 head_of : (ls : List (List Version)) (i : ℕ) (l : List Version) → slice_get ls i ≡ Some l → head_at (heads_of ls) i ≡ slice_get l 0
 head_of [] i l is = absurd (none_some l is)
-head_of (m ∷ ls) zero l is = ap (λ (x : List Version). slice_get x 0) (some_same m l is)
+head_of (m ∷ ls) zero l is = ap (λ (x : List Version). slice_get x 0) (unsome m l is)
 head_of (m ∷ ls) (suc i) l is = head_of ls i l is
 
 pub next_law : (sources : List (List Version)) (i : ℕ) (v : Version) (rest : List Version) → AreInOrder sources → slice_get sources i ≡ Some (v ∷ rest) → IsNext (heads_of sources) i → Splits sources i v rest

@@ -40,10 +40,10 @@ Pairs = List (Bytes × Bytes)
 
 -- ---- rising keys
 
-abbrev AreAbove : Bytes → Pairs → Type 0
+abbrev pub AreAbove : Bytes → Pairs → Type 0
 AreAbove key es = AllByRecursion (λ pair. byte_order key pair.0 ≡ Less) es
 
-abbrev Rise : Pairs → Type 0
+abbrev pub Rise : Pairs → Type 0
 Rise [] = Unit {0}
 Rise (e ∷ es) = AreAbove e.0 es × Rise es
 
@@ -61,7 +61,7 @@ above_all key (e ∷ es) h =
     let parts = both (is_lt (byte_order key e.0)) (below_all byte_order key es) h in
     (is_lt_Less (byte_order key e.0) (holds (is_lt (byte_order key e.0)) parts.0), above_all key es parts.1)
 
-rising : (es : Pairs) → T (is_sorted byte_order es) → Rise es
+pub rising : (es : Pairs) → T (is_sorted byte_order es) → Rise es
 rising [] h = tt
 rising (e ∷ es) h =
     let parts = both (below_all byte_order e.0 es) (is_sorted byte_order es) h in

@@ -1,28 +1,24 @@
 -- The rows of a map after an operation.
-use Rattle.std.proofs.Common.{◌≡◌, ◌&&◌, ℕ, Bool, true, false, not, cond, List, [], ◌∷◌, ◌++◌, take, drop, Option, None, Some, refl, ap, sym, subst, ◌∙◌}
-use Rattle.std.specs.Prelude.{T}
-use Rattle.std.specs.List.{AllByRecursion}
+use Rattle.std.proofs.Common.{◌≡◌, ℕ, Bool, not, cond, List, [], ◌∷◌, ◌++◌, take, drop, Option, None, Some, refl, ap, sym, subst, ◌∙◌}
 use Rattle.std.specs.declared.cmp.Ordering.{Ordering}
 use Rattle.std.specs.declared.cmp.Ordering.TheVariants.{Less, Equal, Greater}
-use Rattle.std.specs.Ordering.{is_eq, is_lt, eq_by_cmp}
+use Rattle.std.specs.Ordering.{is_eq, eq_by_cmp}
 use Rattle.std.specs.Cmp.{alike_right, eq_by_cmp_equiv}
 use Rattle.std.specs.Cmp.Lexicographic.{nat_list_cmp_total}
-use Rattle.std.specs.FinMap.{nat_cmp-IsAntisymmetric, slice_cmp-IsAntisymmetric, entries, entries_sorted, from_sorted, entries-from_sorted, get, get-entries, get-remove, get-from_sorted, same_map, entries-insert, remove, is_sorted}
-use Rattle.std.specs.FinMap.Entries.{put, where_key, below_all, is_sorted-where_key, find-where_key}
+use Rattle.std.specs.FinMap.{nat_cmp-IsAntisymmetric, slice_cmp-IsAntisymmetric, entries, entries_sorted, from_sorted, entries-from_sorted, get, get-entries, get-remove, get-from_sorted, same_map, entries-insert, remove}
+use Rattle.std.specs.FinMap.Entries.{put, where_key, is_sorted-where_key, find-where_key}
 use Rattle.lsm_codec.specs.Keys.{Bytes, byte_order}
 use Rattle.lsm_codec.specs.Map.{Map, changed}
-use Rattle.lsm_codec.proofs.KeyOrder.{same_keys, is_lt_Less}
+use Rattle.lsm_codec.proofs.KeyOrder.{same_keys}
 use Rattle.lsm_mem.specs.Rows.{shown_row}
 use Rattle.lsm_mem.specs.declared.rows.RowRef.{RowRef}
 use Rattle.std.proofs.lemmas.List.{map-append, take-map, drop-map, append_assoc}
 use Rattle.lsm_lives.specs.Plain.{place_in, behind, row_of, rows_of, with_row}
+use Rattle.lsm_merge.proofs.SettledLaws.{turned}
+use Rattle.lsm_lives.proofs.Listing.{AreAbove, Rise, rising}
 
 abbrev Pairs : Type 0
 Pairs = List (Bytes × Bytes)
-
-turned : {A : Type 0} (b : Bool) (x y : A) → cond (not b) x y ≡ cond b y x
-turned true x y = refl
-turned false x y = refl
 
 -- the entries of a map after a removal
 entries-remove : (m : Map) (k : Bytes) → entries (remove m k) ≡ where_key byte_order (λ x. not (eq_by_cmp byte_order k x)) (entries m)
@@ -50,37 +46,10 @@ put_at_place key value (row ∷ rows) = by (byte_order key row.0) refl (put_at_p
     by Equal is later = let same = same_keys key row.0 is in rw is (rw is (ap (λ (k : Bytes). (k, value) ∷ rows) (sym same)))
     by Greater is later = rw is (ap (λ (l : Pairs). row ∷ l) later)
 
--- keys that come behind one stay where that is taken out
-abbrev AreAbove : Bytes → Pairs → Type 0
-AreAbove key rows = AllByRecursion (λ row. byte_order key row.0 ≡ Less) rows
-
-abbrev Rise : Pairs → Type 0
-Rise [] = Unit {0}
-Rise (row ∷ rows) = AreAbove row.0 rows × Rise rows
-
-holds : (b : Bool) → T b → b ≡ true
-holds true h = refl
-holds false h = absurd h
-
-both : (a b : Bool) → T (a && b) → T a × T b
-both true b h = (tt, h)
-both false b h = absurd h
-
-above_all : (key : Bytes) (rows : Pairs) → T (below_all byte_order key rows) → AreAbove key rows
-above_all key [] h = tt
-above_all key (row ∷ rows) h =
-    let parts = both (is_lt (byte_order key row.0)) (below_all byte_order key rows) h in
-    (is_lt_Less (byte_order key row.0) (holds (is_lt (byte_order key row.0)) parts.0), above_all key rows parts.1)
-
-rising : (rows : Pairs) → T (is_sorted byte_order rows) → Rise rows
-rising [] h = tt
-rising (row ∷ rows) h =
-    let parts = both (below_all byte_order row.0 rows) (is_sorted byte_order rows) h in
-    (above_all row.0 rows parts.0, rising rows parts.1)
-
 abbrev without : Bytes → Pairs → Pairs
 without key rows = where_key byte_order (λ x. not (eq_by_cmp byte_order key x)) rows
 
+-- keys that come behind one stay where that is taken out
 all_stay : (key : Bytes) (rows : Pairs) → AreAbove key rows → without key rows ≡ rows
 all_stay key [] h = refl
 all_stay key (row ∷ rows) h = rw h.0 (ap (λ (l : Pairs). row ∷ l) (all_stay key rows h.1))

@@ -15,7 +15,7 @@ use Rattle.lsm_merge.specs.Parts.{is_before_first, are_ascending, end_of, part_o
 use Rattle.lsm_merge.proofs.NewestLaws.{first_less}
 use Rattle.lsm_merge.proofs.RangeLaws.{key_order, until_down}
 
-lt_is_le : (o : Ordering) → is_lt o ≡ true → is_le o ≡ true
+pub lt_is_le : (o : Ordering) → is_lt o ≡ true → is_le o ≡ true
 lt_is_le Less e = refl
 lt_is_le Equal e = refl
 lt_is_le Greater e = e

@@ -190,7 +190,7 @@ pub until_down : (to : Option Bytes) (a b : Bytes) → is_le (byte_order a b) �
 until_down None a b e h = refl
 until_down (Some to) a b e h = le_then_lt a b to e h
 
-then_le : (a b : Ordering) → ordering_then a b ≡ Less → is_le a ≡ true
+pub then_le : (a b : Ordering) → ordering_then a b ≡ Less → is_le a ≡ true
 then_le Less b e = refl
 then_le Equal b e = refl
 then_le Greater b e = cc

@@ -16,7 +16,7 @@ Tells r a b = (IsTrue r → a ≡ b) × (a ≡ b → IsTrue r)
 pub bytes_told : (a b : List ℕ) (r : Bool) → r ≡ is_same_key a b → Tells r a b
 bytes_told a b r e = (λ t. same_key a b (sym e ∙ t), λ same. e ∙ same_key-from a b same)
 
-unsome : {X : Type 0} (a b : X) → Some a ≡ Some b → a ≡ b
+pub unsome : {X : Type 0} (a b : X) → Some a ≡ Some b → a ≡ b
 unsome a b e = cc
 
 pub some_told : (a b : Bytes) (r : Bool) → Tells r a b → Tells r (Some a) (Some b)

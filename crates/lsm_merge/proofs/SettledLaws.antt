@@ -103,7 +103,7 @@ pub any_is_start : (w : Version) (rest : List Version) → is_in_order (w ∷ re
 any_is_start w [] h = refl
 any_is_start w (u ∷ rest) h = any_at w u rest h (any_is_start w rest (in_order_skip w u rest h)) (byte_order w.key u.key) refl
 
-turned : {A : Type 0} (b : Bool) (x y : A) → cond (not b) x y ≡ cond b y x
+pub turned : {A : Type 0} (b : Bool) (x y : A) → cond (not b) x y ≡ cond b y x
 turned true x y = refl
 turned false x y = refl
 

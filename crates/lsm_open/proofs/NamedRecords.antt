@@ -9,9 +9,10 @@ use Rattle.lsm_codec.specs.Pairs.{Pairwise}
 use Rattle.lsm_codec.specs.TableRecords.{IsTableRecord, IsOfVersion, InOrder, TablesAgree, runs_in}
 use Rattle.lsm_codec.specs.declared.superblock.FormatVersion.TheVariants.{Two}
 use Rattle.lsm_codec.specs.declared.table_record.TableRecord.{TableRecord}
-use Rattle.lsm_levels.specs.Levels.{Levels, places}
+use Rattle.lsm_levels.specs.Levels.{Levels, places, all_tables}
 use Rattle.lsm_levels.specs.Tables.{Table, record_of}
 use Rattle.lsm_open.specs.ToldTables.{run_place, is_in_run, run_records, records_of_runs, records_of_levels, records_of, AreNamedBy, AreRunsRead, HaveNamed}
+use Rattle.std.proofs.lemmas.List.{length-append, length-map}
 
 -- whether the run of a record is at a place or behind it
 abbrev pub is_from : ℕ → ℕ → TableRecord → Bool
@@ -217,3 +218,22 @@ levels_told level (us ∷ rest) = All-append (IsOfVersion Two) (map (record_of l
 -- a manifest of the tables in levels is one of version 2
 pub records_told : (levels : Levels) → All (IsOfVersion Two) (records_of levels)
 records_told levels = All-append (IsOfVersion Two) (records_of_runs 0 levels.runs) (records_of_levels 1 levels.deeper) (runs_told 0 levels.runs) (levels_told 1 levels.deeper)
+
+-- ---- how many records there are
+
+pub counted_levels : (k : ℕ) (xs : List (List Table)) → length (records_of_levels k xs) ≡ length (all_tables xs)
+counted_levels k [] = refl
+counted_levels k (x ∷ xs) = omega (arith, length-append (map (record_of k 0) x) (records_of_levels (suc k) xs), length-map x (record_of k 0), length-append x (all_tables xs), counted_levels (suc k) xs)
+
+pub counted_runs : (k : ℕ) (xs deeper : List (List Table)) → length (records_of_runs k xs ++ records_of_levels 1 deeper) ≡ length (all_tables (xs ++ deeper))
+counted_runs k [] deeper = counted_levels 1 deeper
+counted_runs k (x ∷ xs) deeper =
+    omega (
+      arith,
+      length-append (map (record_of 0 k) x ++ records_of_runs (suc k) xs) (records_of_levels 1 deeper),
+      length-append (map (record_of 0 k) x) (records_of_runs (suc k) xs),
+      length-append (records_of_runs (suc k) xs) (records_of_levels 1 deeper),
+      length-map x (record_of 0 k),
+      length-append x (all_tables (xs ++ deeper)),
+      counted_runs (suc k) xs deeper,
+    )

@@ -1,5 +1,5 @@
 -- The order of versions among places, and what a flush and a merge keep of it.
-use Rattle.std.proofs.Common.{◌≡◌, ℕ, ◌<◌, List, [], ◌∷◌, ◌++◌, refl, ap, sym, ◌∙◌, subst, arith, append_assoc}
+use Rattle.std.proofs.Common.{◌≡◌, ℕ, ◌<◌, List, [], ◌∷◌, ◌++◌, ap, sym, ◌∙◌, subst, arith, append_assoc}
 use Rattle.std.specs.List.{AllByRecursion}
 use Rattle.lsm_codec.specs.Keys.{Bytes}
 use Rattle.lsm_codec.specs.Versions.{Version, newest}
@@ -11,8 +11,9 @@ use Rattle.lsm_merge.specs.Laws.{HaveSameMap}
 use Rattle.lsm_open.specs.Replacing.{HaveSameNewest, MayReplace}
 use Rattle.lsm_table.specs.Division.{ShareNoKey}
 use Rattle.lsm_open.proofs.InPlace.{inputs_together, same_newest_within, same_map_at_bottom, newer_than_among, among_newer_than, among_apart, apart_is_newer, newer_than_left, newer_than_right, both_newer_than}
-use Rattle.lsm_levels.proofs.NewestOf.{newer_append}
+use Rattle.lsm_levels.proofs.NewestOf.{newer_append, newer_than_all}
 use Rattle.std.proofs.Common.{option_and_then}
+use Rattle.lsm_merge.proofs.JoinLaws.{joined-append}
 
 abbrev Versions : Type 0
 Versions = List Version
@@ -40,18 +41,6 @@ share_none_back xs ys h = all_map (λ w all. all_map (λ v no e. no (sym e)) xs 
 
 -- ---- places one after the other
 
-pub joined-append : (xs ys : List (List Version)) → joined (xs ++ ys) ≡ joined xs ++ joined ys
-joined-append [] ys = refl
-joined-append (x ∷ xs) ys = ap (λ (l : Versions). x ++ l) (joined-append xs ys) ∙ sym (append_assoc x (joined xs) (joined ys))
-
-newer_than_none : (p : List Version) → IsNewerPlace p []
-newer_than_none [] = tt
-newer_than_none (v ∷ p) = (tt, newer_than_none p)
-
-each_joined : (p : List Version) (ys : List (List Version)) → AllByRecursion (IsNewerPlace p) ys → IsNewerPlace p (joined ys)
-each_joined p [] h = newer_than_none p
-each_joined p (y ∷ ys) h = newer_append p y (joined ys) h.0 (each_joined p ys h.1)
-
 joined_each : (p : List Version) (ys : List (List Version)) → IsNewerPlace p (joined ys) → AllByRecursion (IsNewerPlace p) ys
 joined_each p [] h = tt
 joined_each p (y ∷ ys) h = (newer_than_left p y (joined ys) h, joined_each p ys (newer_than_right p y (joined ys) h))
@@ -69,7 +58,7 @@ OverAll older v = AllByRecursion (λ w. v.key ≡ w.key → w.number < v.number)
 
 pub order_cross : (xs ys : List (List Version)) → IsVersionOrder (xs ++ ys) → IsNewerPlace (joined xs) (joined ys)
 order_cross [] ys h = tt
-order_cross (x ∷ xs) ys h = all_append (OverAll (joined ys)) x (joined xs) (each_joined x ys (all_right (IsNewerPlace x) xs ys h.0)) (order_cross xs ys h.1)
+order_cross (x ∷ xs) ys h = all_append (OverAll (joined ys)) x (joined xs) (newer_than_all x ys (all_right (IsNewerPlace x) xs ys h.0)) (order_cross xs ys h.1)
 
 pub order_join : (xs ys : List (List Version)) → IsVersionOrder xs → IsVersionOrder ys → IsNewerPlace (joined xs) (joined ys) → IsVersionOrder (xs ++ ys)
 order_join [] ys h k cross = k

@@ -15,14 +15,12 @@ use Rattle.lsm_trail.specs.Knowledge.{SessionId, Known}
 use Rattle.lsm_store.specs.Backing.{StoreView}
 use Rattle.lsm_shared.specs.Sessions.{SessionView, HasSeen}
 use Rattle.lsm_shared.specs.Turns.{WasLent}
-
-no_more : {X : Type 0} (x : X) → Contains [] x → ⊥
-no_more x (k, below, at) = absurd (omega (arith, below))
+use Rattle.lsm_store.proofs.Membership.{none_in}
 
 -- what is in a list is the first of it, or behind
 first_or : {X : Type 0} (y : X) (ys : List X) (x : X) → Contains (y ∷ ys) x → (y ≡ x) ⊎ Contains ys x
 first_or y ys x found = ⊎_elim
-    (λ (here : Contains (y ∷ []) x). ⊎_elim (λ (none : Contains [] x). absurd (no_more x none)) (λ (is : y ≡ x). inl is) (Contains-push_cases [] y x here))
+    (λ (here : Contains (y ∷ []) x). ⊎_elim (λ (none : Contains [] x). absurd (none_in x none)) (λ (is : y ≡ x). inl is) (Contains-push_cases [] y x here))
     (λ (there : Contains ys x). inr there)
     (Contains-append_cases (y ∷ []) ys x found)
 
@@ -49,7 +47,7 @@ numbered_here inputs more input number is =
 
 -- an input that was lent is that of its number
 lent_found : (inputs : List MergeInput) (log : List Event) (e : Event) (input : MergeInput) → AreNumbered inputs log → e.reply ≡ Handed input → Contains log e → input_of e.result (inputs ++ inputs_of log) ≡ Some input
-lent_found inputs [] e input numbered lent found = absurd (no_more e found)
+lent_found inputs [] e input numbered lent found = absurd (none_in e found)
 lent_found inputs (x ∷ log) e input (next, takes, rest) lent found = ⊎_elim
     (λ (is : x ≡ e).
     let reply : x.reply ≡ Handed input = ap (λ (y : Event). y.reply) is ∙ lent in

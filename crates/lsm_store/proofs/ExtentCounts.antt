@@ -2,7 +2,7 @@
 use Rattle.std.proofs.Common.{◌≡◌, ◌≢◌, ◌⊎◌, inl, inr, ℕ, zero, suc, ◌+◌, ◌<◌, ◌≤◌, Bool, true, false, cond, leb, ltb, List, [], ◌∷◌, ◌++◌, length, get_or, map, filter, Contains, refl, sym, ap, ◌∙◌, subst, arith, All}
 use Rattle.std.specs.Prelude.{◌==◌, count_by}
 use Rattle.std.specs.List.{AllByRecursion, list_any}
-use Rattle.std.proofs.lemmas.Bool.{and_from, and_parts, eqb-true, eqb-false, eq-eqb, leb-true, le-leb, lt-ltb, ltb-true, cases_lt, cond_both}
+use Rattle.std.proofs.lemmas.Bool.{and_from, and_parts, eqb-true, eqb-false, eq-eqb, leb-true, ltb-true, cases_lt, cond_both}
 use Rattle.std.proofs.lemmas.List.{length-append}
 use Rattle.std.proofs.lemmas.List.Elements.{All-head, All-tail, filter-append}
 use Rattle.std.proofs.lemmas.List.Sums.{sum_by-cons}
@@ -14,6 +14,7 @@ use Rattle.lsm_levels.proofs.Members.{any_of, of_any}
 use Rattle.lsm_levels.proofs.Ranges.{all_of, of_all}
 use Rattle.lsm_jobs.specs.Placing.{extent_of, all_handed_out, all_given_back, AreHandedOut}
 use Rattle.lsm_store.specs.Accounts.{is_same_extent, extents_like, tables_like, LieApart, AllLieApart, ArePlacedIn}
+use Rattle.lsm_extent.proofs.Counting.{covers_inside}
 
 -- ---- counting
 
@@ -205,9 +206,6 @@ stand_out (t ∷ rest) area apart all = (
 
 -- ---- a partition
 
-covers_by : (k : ℕ) (x : Extent) → x.first ≤ k → k < x.first + x.blocks → covers k x ≡ true
-covers_by k x low high = and_from (leb x.first k) (ltb k (x.first + x.blocks)) (le-leb x.first k low) (lt-ltb k (x.first + x.blocks) high)
-
 covered_by : (k : ℕ) (x : Extent) → covers k x ≡ true → (x.first ≤ k) × (k < x.first + x.blocks)
 covered_by k x h =
     let parts = and_parts (leb x.first k) (ltb k (x.first + x.blocks)) h in
@@ -248,8 +246,8 @@ begin_apart blocks (x ∷ xs) once inside = (
     by : (y : Extent) → IsAmong y xs → y.first ≡ x.first → ⊥
     by y a same =
         let its = of_all (IsInside blocks) xs inside.1 y a in
-        let own : covers x.first x ≡ true = covers_by x.first x (omega arith) (omega (arith, inside.0.0)) in
-        let also : covers x.first y ≡ true = covers_by x.first y (omega (arith, same)) (omega (arith, same, its.0)) in
+        let own : covers x.first x ≡ true = covers_inside x.first x (omega arith) (omega (arith, inside.0.0)) in
+        let also : covers x.first y ≡ true = covers_inside x.first y (omega (arith, same)) (omega (arith, same, its.0)) in
         omega (arith, once x.first (omega (arith, inside.0.0, inside.0.1)), count_by_yes x.first x xs own, once_counted x.first y xs a also)
 
 module _ (area : Area) (whole : IsPartition area) where
@@ -283,8 +281,8 @@ module _ (area : Area) (whole : IsPartition area) where
       both k h g lt = omega (arith, covered_once k lt, twice_counted k x y area.held other a b h g)
 
       shared : x.first < y.first + y.blocks → y.first < x.first + x.blocks → (x.first < y.first) ⊎ (y.first ≤ x.first) → ⊥
-      shared p q (inl lt) = both y.first (covers_by y.first x (omega (arith, lt)) q) (covers_by y.first y (omega arith) (omega (arith, its.0))) (omega (arith, its.0, its.1))
-      shared p q (inr le) = both x.first (covers_by x.first x (omega arith) (omega (arith, mine.0))) (covers_by x.first y le p) (omega (arith, mine.0, mine.1))
+      shared p q (inl lt) = both y.first (covers_inside y.first x (omega (arith, lt)) q) (covers_inside y.first y (omega arith) (omega (arith, its.0))) (omega (arith, its.0, its.1))
+      shared p q (inr le) = both x.first (covers_inside x.first x (omega arith) (omega (arith, mine.0))) (covers_inside x.first y le p) (omega (arith, mine.0, mine.1))
 
       by : (x.first < y.first + y.blocks) ⊎ (y.first + y.blocks ≤ x.first) → (y.first < x.first + x.blocks) ⊎ (x.first + x.blocks ≤ y.first) → (x.first + x.blocks ≤ y.first) ⊎ (y.first + y.blocks ≤ x.first)
       by (inr behind) q = inr behind
@@ -351,7 +349,7 @@ module _ (area : Area) (whole : IsPartition area) where
       found : IsAmong e area.held → (x : Extent) × IsAmong x es × (covers e.first x ≡ true) → IsAmong e es
       found a x =
           let own = of_all (IsInside area.blocks) area.held each_inside e a in
-          let here : covers e.first e ≡ true = covers_by e.first e (omega arith) (omega (arith, own.0)) in
+          let here : covers e.first e ≡ true = covers_inside e.first e (omega arith) (omega (arith, own.0)) in
           let first : x.0.first ≡ e.first = equal (x.0.first == e.first) refl (λ differ. omega (arith, covered_once e.first (omega (arith, own.0, own.1)), twice_counted e.first x.0 e area.held differ (among x.0 x.1) a x.2 here)) in
           subst (λ (y : Extent). IsAmong y es) (one_first x.0 e area.held partition_apart (among x.0 x.1) a first) x.1
         where
@@ -363,7 +361,7 @@ module _ (area : Area) (whole : IsPartition area) where
       one some =
           let a = among_like e area.held some in
           let own = of_all (IsInside area.blocks) area.held each_inside e a in
-          let here : covers e.first e ≡ true = covers_by e.first e (omega arith) (omega (arith, own.0)) in
+          let here : covers e.first e ≡ true = covers_inside e.first e (omega arith) (omega (arith, own.0)) in
           like_among e es (found a (of_any (covers e.first) es (sym (only e.first) ∙ any_of (covers e.first) e area.held a here)))
 
       other : 1 ≤ extents_like e es → 1 ≤ extents_like e area.held

@@ -30,7 +30,7 @@ use Rattle.lsm_store.specs.WorkEffects.{with_installed}
 use Rattle.lsm_store.specs.WorkMaps.{AreVersions, IsAsked, IsJobOf, MayBePutIn, InstallLaw, RotationLaw, CommitLaw}
 use Rattle.lsm_store.specs.Machine.{Machine}
 use Rattle.lsm_store.proofs.Replaced.{IsReplacing, replaced_maps}
-use Rattle.lsm_jobs.proofs.Outcomes.{kept_among}
+use Rattle.lsm_jobs.proofs.Outcomes.{kept_among, joined_lower}
 
 -- ---- the versions of runs of tables
 
@@ -62,10 +62,6 @@ in_has levels v h = of_places v h.table (places levels) (place_of_level levels h
 
 -- ---- the versions of a job's input
 
-run_of : (v : Version) (tables : List Table) → IsAmong v (joined (run_if_some tables (versions_of tables))) → IsAmong v (versions_of tables)
-run_of v [] a = absurd a
-run_of v (t ∷ rest) a = ⊎_elim (λ b. b) (λ none. absurd none) (among_either v (versions_of (t ∷ rest)) [] a)
-
 of_run : (v : Version) (tables : List Table) → IsAmong v (versions_of tables) → IsAmong v (joined (run_if_some tables (versions_of tables)))
 of_run v [] a = absurd a
 of_run v (t ∷ rest) a = among_left v (versions_of (t ∷ rest)) [] a
@@ -73,7 +69,7 @@ of_run v (t ∷ rest) a = among_left v (versions_of (t ∷ rest)) [] a
 pub runs_tables : (v : Version) (upper lower : List Table) → IsAmong v (joined (versions_of upper ∷ run_if_some lower (versions_of lower))) → IsAmong v (versions_of (upper ++ lower))
 runs_tables v upper lower a = ⊎_elim
     (λ b. let t = in_tables v upper b in of_table v t.0 (upper ++ lower) (among_left t.0 upper lower t.1) t.2)
-    (λ b. let t = in_tables v lower (run_of v lower b) in of_table v t.0 (upper ++ lower) (among_right t.0 upper lower t.1) t.2)
+    (λ b. let t = in_tables v lower (joined_lower v lower b) in of_table v t.0 (upper ++ lower) (among_right t.0 upper lower t.1) t.2)
     (among_either v (versions_of upper) (joined (run_if_some lower (versions_of lower))) a)
 
 tables_runs : (v : Version) (upper lower : List Table) → IsAmong v (versions_of (upper ++ lower)) → IsAmong v (joined (versions_of upper ∷ run_if_some lower (versions_of lower)))

@@ -1,8 +1,8 @@
 -- What lives keep, one after another.
-use Rattle.std.proofs.Common.{◌≡◌, ◌≤◌, ⊎_elim, ℕ, ◌+◌, List, [], ◌∷◌, ◌++◌, length, take, drop, refl, ap, sym, subst, ◌∙◌, arith}
+use Rattle.std.proofs.Common.{◌≤◌, ⊎_elim, ℕ, ◌+◌, List, [], ◌∷◌, ◌++◌, length, take, refl, ap, sym, subst, ◌∙◌, arith}
 use Rattle.std.specs.Prelude.{Contains}
 use Rattle.std.specs.FinMap as finite
-use Rattle.std.proofs.lemmas.List.{length-append, length-take-le, take-append-le, take_all, drop_at}
+use Rattle.std.proofs.lemmas.List.{length-append, length-take-le}
 use Rattle.lsm_codec.specs.Map.{Operation, apply_all}
 use Rattle.lsm_open.specs.CrashState.{CrashState, left_by_opening}
 use Rattle.lsm_open.proofs.Openings.{one_opening}
@@ -11,15 +11,9 @@ use Rattle.lsm_store.specs.Calls.{Number, Done, Value, Rows, Given, Handed, Refu
 use Rattle.lsm_store.specs.Machine.{Step}
 use Rattle.lsm_store.specs.Promise.{accepted, acknowledged, in_flight, IsAfterBeginning}
 use Rattle.lsm_store.specs.Lives.{Life, KeptByLife, IsAfter, PromiseOverLives}
-use Rattle.lsm_open.proofs.Beginnings.{apply_all-append, take_sum}
+use Rattle.lsm_open.proofs.Beginnings.{apply_all-append}
 use Rattle.lsm_store.proofs.Promises.{promise}
-
--- a beginning that goes beyond the first of two lists
-beyond : {X : Type 0} (xs ys : List X) (n : ℕ) → take (length xs + n) (xs ++ ys) ≡ xs ++ take n ys
-beyond xs ys n =
-    take_sum (length xs) n (xs ++ ys)
-    ∙ ap (λ l. l ++ take n (drop (length xs) (xs ++ ys))) (take-append-le (length xs) xs ys (omega arith) ∙ take_all (length xs) xs (omega arith))
-    ∙ ap (λ l. xs ++ take n l) (drop_at xs ys (length xs) refl)
+use Rattle.lsm_jobs.proofs.Sectors.{take_past}
 
 -- what a life keeps
 record IsKeptBy (before : List (List Operation)) (steps : List Step) (replies : List Reply) (left : CrashState) : Type 0 where
@@ -40,7 +34,7 @@ module _ (before : List (List Operation)) (opened : CrashState) (was : IsAfter b
         after = record {
           count = h.count ∙ ap (λ k. k + h.holds) was.count ∙ sym (length-take-le (length before + h.holds) (before ++ more) within);
           same_map = h.same_map ∙ ap (λ m. apply_all m (take h.holds more)) was.same_map
-              ∙ sym (apply_all-append finite.empty before (take h.holds more)) ∙ ap (apply_all finite.empty) (sym (beyond before more h.holds));
+              ∙ sym (apply_all-append finite.empty before (take h.holds more)) ∙ ap (apply_all finite.empty) (sym (take_past before more h.holds));
         };
       }
 

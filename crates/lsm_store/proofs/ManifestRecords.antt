@@ -2,7 +2,6 @@
 use Rattle.std.proofs.Common.{◌≡◌, ◌⊎◌, inl, inr, ℕ, zero, suc, ◌+◌, ◌≤◌, ◌<◌, Bool, cond, List, [], ◌∷◌, ◌++◌, length, map, All, refl, sym, ap, subst, append_assoc, arith}
 use Rattle.std.specs.List.{AllByRecursion}
 use Rattle.std.proofs.lemmas.Bool.{eq-eqb, ne_eqb}
-use Rattle.std.proofs.lemmas.List.{length-append, length-map}
 use Rattle.std.proofs.lemmas.List.Elements.{All-nil, All-cons, All-append}
 use Rattle.lsm_codec.specs.Pairs.{Pairwise}
 use Rattle.lsm_codec.specs.TableRecords.{runs_in, InOrder, HasRun, HasRuns}
@@ -12,6 +11,7 @@ use Rattle.lsm_levels.specs.Levels.{Levels, all_tables, places}
 use Rattle.lsm_levels.specs.Tables.{Table, record_of}
 use Rattle.lsm_open.proofs.ListPairs.{pairwise_join}
 use Rattle.lsm_open.specs.ToldTables.{records_of_runs, records_of_levels, records_of}
+use Rattle.lsm_open.proofs.NamedRecords.{counted_runs}
 
 all_records : (P : TableRecord → Type 0) (level run : ℕ) (ts : List Table) → ((t : Table) → P (record_of level run t)) → All P (map (record_of level run) ts)
 all_records P level run [] each = All-nil P
@@ -101,21 +101,5 @@ records_have_runs levels runs are count = record {
 
 -- ---- there are as many as tables
 
-count_levels : (k : ℕ) (xs : List (List Table)) → length (records_of_levels k xs) ≡ length (all_tables xs)
-count_levels k [] = refl
-count_levels k (x ∷ xs) = omega (arith, length-append (map (record_of k 0) x) (records_of_levels (suc k) xs), length-map x (record_of k 0), length-append x (all_tables xs), count_levels (suc k) xs)
-
-count_runs : (k : ℕ) (xs deeper : List (List Table)) → length (records_of_runs k xs ++ records_of_levels 1 deeper) ≡ length (all_tables (xs ++ deeper))
-count_runs k [] deeper = count_levels 1 deeper
-count_runs k (x ∷ xs) deeper =
-    omega (
-      arith,
-      ap (λ (l : List TableRecord). length l) (append_assoc (map (record_of 0 k) x) (records_of_runs (suc k) xs) (records_of_levels 1 deeper)),
-      length-append (map (record_of 0 k) x) (records_of_runs (suc k) xs ++ records_of_levels 1 deeper),
-      length-map x (record_of 0 k),
-      length-append x (all_tables (xs ++ deeper)),
-      count_runs (suc k) xs deeper,
-    )
-
 pub records_count : (levels : Levels) → length (records_of levels) ≡ length (all_tables (places levels))
-records_count levels = count_runs 0 levels.runs levels.deeper
+records_count levels = counted_runs 0 levels.runs levels.deeper

@@ -21,14 +21,10 @@ use Rattle.lsm_store.proofs.MergeInputs.{uppers_at, IsBeside, in_dropped}
 use Rattle.lsm_open.proofs.StoredRecords.{versions_run}
 use Rattle.lsm_store.specs.InstalledJobs.{ending_before, that_meet, beginning_behind, parts_at}
 use Rattle.lsm_table.specs.Division.{ShareNoKey}
+use Rattle.lsm_levels.proofs.CursorBlocks.{all_dropped}
 
 abbrev Versions : Type 0
 Versions = List Version
-
-all_drop : {X : Type 0} (P : X → Type 0) (j : ℕ) (xs : List X) → AllByRecursion P xs → AllByRecursion P (drop j xs)
-all_drop P zero xs all = all
-all_drop P (suc j) [] all = tt
-all_drop P (suc j) (x ∷ xs) all = all_drop P j xs all.1
 
 module _ (n : ℕ) (s : List (List ℕ)) where
   abbrev S : Table → Type 0
@@ -116,7 +112,7 @@ module _ (n : ℕ) (s : List (List ℕ)) where
     behind_at j =
         from_both (IsBehind j) (map (record_of (suc j) 0) (beginning_behind r (level levels (suc j)))) (records_of_levels (suc (suc j)) (drop (suc j) levels.deeper))
         (from_weaker (λ t. IsApart t × IsAmong t (level levels (suc j))) (IsBehind j) (map (record_of (suc j) 0) (beginning_behind r (level levels (suc j)))) (λ t p. inl p) (behind_apart j))
-        (from_levels (IsBehind j) (suc (suc j)) (drop (suc j) levels.deeper) (all_drop (AllByRecursion S) (suc j) levels.deeper (all_right (AllByRecursion S) levels.runs levels.deeper stored))
+        (from_levels (IsBehind j) (suc (suc j)) (drop (suc j) levels.deeper) (all_dropped (AllByRecursion S) (suc j) levels.deeper (all_right (AllByRecursion S) levels.runs levels.deeper stored))
         (λ t a. let l = in_dropped t (suc j) levels.deeper a in let le = l.1 in inr (suc l.0, omega (arith, le), l.2)))
 
     pub behind_from : (i : ℕ) → FromTables (IsBehind i) (parts_at levels i r).behind

@@ -24,6 +24,7 @@ use Rattle.lsm_store.specs.WorkRefusals.{held, of_slot, placing, has_too_many_ru
 use Rattle.lsm_store.specs.Machine.{Machine}
 use Rattle.lsm_store.proofs.Accounts.{tests_behind, first_not, behind_not}
 use Rattle.lsm_store.proofs.OpenedAccounts.{tables_joined}
+use Rattle.lsm_open.proofs.NamedRecords.{counted_levels}
 
 -- ---- an install
 
@@ -64,18 +65,13 @@ runs_counted run [] = refl
 runs_counted run (ts ∷ rest) =
     omega (arith, length-append (map (record_of 0 run) ts) (records_of_runs (suc run) rest), length-map ts (record_of 0 run), runs_counted (suc run) rest, length-append ts (all_tables rest))
 
-levels_counted : (lev : ℕ) (runs : List (List Table)) → length (records_of_levels lev runs) ≡ length (all_tables runs)
-levels_counted lev [] = refl
-levels_counted lev (ts ∷ rest) =
-    omega (arith, length-append (map (record_of lev 0) ts) (records_of_levels (suc lev) rest), length-map ts (record_of lev 0), levels_counted (suc lev) rest, length-append ts (all_tables rest))
-
 pub records_counted : (levels : Levels) → length (records_of levels) ≡ length (all_tables (places levels))
 records_counted levels =
     omega (
       arith,
       length-append (records_of_runs 0 levels.runs) (records_of_levels 1 levels.deeper),
       runs_counted 0 levels.runs,
-      levels_counted 1 levels.deeper,
+      counted_levels 1 levels.deeper,
       length-append (all_tables levels.runs) (all_tables levels.deeper),
       ap length (tables_joined levels.runs levels.deeper),
     )
