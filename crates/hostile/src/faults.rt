@@ -51,15 +51,28 @@ fn read_nothing(
     machine: &mut Machine,
     step: Step,
 ) -> Result<(), Trouble> {
-    let Step::Get(_, _) = step else {
+    if !matches!(step, Step::Get(_, _)) {
         return Ok(());
-    };
+    }
     let before = subject.calls();
-    agree(step, subject.answer_alone(step), machine.answer(step))?;
-    if subject.calls() == before {
+    let found = subject.answer_alone(step);
+    let made = subject.calls().wrapping_sub(before);
+    agree(step, found, machine.answer(step))?;
+    made_none(step, made)
+}
+
+/// Whether a step made no call of the device.
+fn made_none(step: Step, made: u64) -> Result<(), Trouble> {
+    if made == 0 {
         return Ok(());
     }
     Err(Trouble::Calls { step: Some(step) })
+}
+
+/// A step is answered, and not refused.
+fn is_answered(step: Step, found: Answer, wanted: Answer) -> Result<(), Trouble> {
+    unrefused(step, wanted)?;
+    agree(step, found, wanted)
 }
 
 /// After a read that failed nothing has changed, and the same step answers.
@@ -69,9 +82,8 @@ fn make_again(
     step: Step,
 ) -> Result<(), Trouble> {
     is_unchanged(subject, machine)?;
-    let wanted = machine.answer(step);
-    unrefused(step, wanted)?;
-    agree(step, subject.answer_alone(step), wanted)?;
+    let found = subject.answer_alone(step);
+    is_answered(step, found, machine.answer(step))?;
     read_nothing(subject, machine, step)
 }
 
@@ -163,7 +175,7 @@ pub(crate) fn sweep<R: Threads + Sync>(
 ) -> Result<(), Trouble> {
     let attacked = prepare(rt, alloc, list)?;
     for turn in 0..MOST {
-        let n = turn.wrapping_mul(extent.every);
+        let n = extent.call(turn);
         if !attack_at(rt, alloc, &attacked, (n, extent), tally)? {
             return Ok(());
         }

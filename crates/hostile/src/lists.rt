@@ -61,7 +61,7 @@ fn push_job(steps: &mut Vec<Step>, job: u64) -> Result<(), Refusal> {
 }
 
 /// The step of a line that is one step.
-fn step_of(line: Line) -> Option<Step> {
+pub(crate) fn step_of(line: Line) -> Option<Step> {
     match line {
         Line::Put(key) => Some(Step::Commit(Change::Put(key, key, 1))),
         Line::Long(key, length) => Some(Step::Commit(Change::Put(key, key, length))),

@@ -2,7 +2,8 @@
 
 use crate::ladder::{Ladder, rows_of, sectors_of};
 use crate::step::{Answer, Change, RowsTold, Step, Value, told};
-use crate::working::Working;
+use crate::turns::piece_in;
+use crate::working::{MOST_JOBS, Working};
 use lsm_device::Refusal;
 use lsm_store::{At, Stat};
 use std::alloc::Global;
@@ -258,6 +259,34 @@ impl Machine {
         self.ladder.synced = synced;
         self.stopped = true;
         answer
+    }
+
+    /// What is answered to an accept for a job of a result that was not built.
+    pub(crate) fn foreign(&self, job: u64) -> Answer {
+        if self.stopped {
+            return Answer::Refused(Refusal::Stopped);
+        }
+        told(self.working.foreign(job))
+    }
+
+    /// Whether a write or a sync met a fault.
+    pub(crate) fn is_stopped(&self) -> bool {
+        self.stopped
+    }
+
+    /// The piece of work that comes next for a client, which asks the four slots in turn, from that of its number on.
+    pub(crate) fn turn_of(&self, client: u32) -> Option<Step> {
+        if self.stopped {
+            return None;
+        }
+        let first = client as usize;
+        for next in 0..MOST_JOBS {
+            let slot = first.wrapping_add(next) % MOST_JOBS;
+            if let Some(step) = piece_in(&self.working, slot) {
+                return Some(step);
+            }
+        }
+        None
     }
 
     /// Whether a crash may leave so many batches: all that are synced, and no more than there are.

@@ -2,13 +2,18 @@
 //! wrote. Its answers agree with those of a plain machine.
 #![tactic(auto)]
 
+mod asking;
 mod checks;
+mod deeds;
 mod disk;
 mod draws;
+mod entries;
+mod explorations;
 mod faults;
 mod foreign;
 mod growths;
 mod image;
+mod judge;
 mod keeping;
 mod ladder;
 mod layout;
@@ -17,13 +22,18 @@ mod machine;
 mod openings;
 mod pieces;
 mod playing;
+mod replays;
 mod scripts;
+mod session;
+mod sessions;
+mod sitting;
 mod spots;
 mod step;
 mod subject;
 mod sweeps;
 mod table;
 mod trouble;
+mod turns;
 mod working;
 
 use crate::sweeps::{Extent, Found};
@@ -52,6 +62,8 @@ fn main(rt: HostRuntime) -> Result<ExitCode> {
         ("one call fails", found.faults),
         ("one growth is refused", found.growths),
         ("openings and checks", found.openings),
+        ("sessions", found.sessions),
+        ("replays and explorations", found.replays),
         ("foreign images", found.images),
     ] {
         let Tally {

@@ -97,6 +97,12 @@ impl Working {
         }
     }
 
+    /// What an accept for a job is answered of a result that was not built.
+    pub(crate) fn foreign(&self, number: u64) -> Result<Answer, Refusal> {
+        let _frozen = self.frozen(number)?;
+        Err(Refusal::ForeignResult)
+    }
+
     pub(crate) fn build(&mut self, alloc: Global, number: u64) -> Result<Answer, Refusal> {
         let job = self.frozen(number)?;
         let input = self.input(alloc, job)?;

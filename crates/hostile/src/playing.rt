@@ -94,21 +94,29 @@ fn torn<R: Threads + Sync>(rt: &R, alloc: Global, past: &[Line]) -> Result<Begin
     }
 }
 
+/// The image that some lines make, whose runs are spread over all levels.
+fn spread_out<R: Threads + Sync>(
+    rt: &R,
+    alloc: Global,
+    past: &[Line],
+) -> Result<Beginning, Trouble> {
+    let mut beginning = begun(rt, alloc, past)?;
+    spread(&mut beginning.image);
+    beginning.machine.spread();
+    Ok(beginning)
+}
+
 /// The image that a list begins with.
 pub(crate) fn begin<R: Threads + Sync>(
     rt: &R,
     alloc: Global,
     list: &List,
 ) -> Result<Beginning, Trouble> {
-    if matches!(list.after, After::Torn) {
-        return torn(rt, alloc, list.past);
+    match list.after {
+        After::Nothing => begun(rt, alloc, list.past),
+        After::Torn => torn(rt, alloc, list.past),
+        After::Spread => spread_out(rt, alloc, list.past),
     }
-    let mut beginning = begun(rt, alloc, list.past)?;
-    if matches!(list.after, After::Spread) {
-        spread(&mut beginning.image);
-        beginning.machine.spread();
-    }
-    Ok(beginning)
 }
 
 /// A list of steps over its beginning.

@@ -5,7 +5,7 @@ use crate::step::{Change, Step};
 use lsm_store::At;
 
 /// Four runs of level 0, of which the merge of the oldest comes next.
-const FOUR_RUNS: [Line; 4] = [
+pub(crate) const FOUR_RUNS: [Line; 4] = [
     Line::Flush(1, 1),
     Line::Flush(2, 2),
     Line::Flush(3, 3),
@@ -36,7 +36,7 @@ const FIVE_RUNS: [Line; 7] = [
 ];
 
 /// Two batches in a log, and one in a table before them.
-const BATCHES: [Line; 4] = [
+pub(crate) const BATCHES: [Line; 4] = [
     Line::Flush(1, 1),
     Line::Put(2),
     Line::Long(3, 600),

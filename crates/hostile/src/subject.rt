@@ -4,6 +4,7 @@ use crate::disk::Disk;
 use crate::step::{Answer, Change, Operation, RowsTold, Step, Value, told};
 use lsm_codec::{Batch, Op};
 use lsm_device::{MemDevice, Refusal};
+use lsm_lives::{Reply, Step as Asked, replay};
 use lsm_merge::{Built, Input, build};
 use lsm_store::{At, Page, Store};
 use std::alloc::{AllocError, Allocator, Global};
@@ -40,7 +41,7 @@ fn only(bytes: &[u8]) -> u8 {
 }
 
 /// What a value says: its byte and its length, or a length that no value has where its bytes are not equal.
-fn value_of(bytes: &[u8]) -> Value {
+pub(crate) fn value_of(bytes: &[u8]) -> Value {
     let byte = bytes.first().copied().unwrap_or(0);
     for other in bytes {
         if *other != byte {
@@ -54,7 +55,7 @@ fn value_of(bytes: &[u8]) -> Value {
     Value { byte, length }
 }
 
-fn told_page<A: Allocator>(page: &Page<A>) -> Answer {
+pub(crate) fn told_page<A: Allocator>(page: &Page<A>) -> Answer {
     let mut rows = RowsTold::NONE;
     for place in 0..page.rows().len() {
         if let Some(row) = page.rows().get(place) {
@@ -98,7 +99,10 @@ fn add_to<A: Allocator + Clone>(
 }
 
 /// The batch that makes a change.
-fn batch_of<A: Allocator + Clone>(alloc: &A, change: Change) -> Result<Batch<A>, Refusal> {
+pub(crate) fn batch_of<A: Allocator + Clone>(
+    alloc: &A,
+    change: Change,
+) -> Result<Batch<A>, Refusal> {
     let Some(first) = change.operation(0) else {
         return Err(Refusal::BadKey);
     };
@@ -120,11 +124,7 @@ pub(crate) fn open<A: Allocator + Clone, B: Allocator>(
     disk: Disk<B>,
 ) -> Result<Subject<A, B>, (Refusal, Disk<B>)> {
     match Store::open(alloc, disk.into_device(), CACHE) {
-        Ok(store) => Ok(Subject {
-            alloc: own,
-            store,
-            result: None,
-        }),
+        Ok(store) => Ok(Subject::of(own, store)),
         Err((refusal, device)) => Err((refusal, Disk { device })),
     }
 }
@@ -264,6 +264,25 @@ impl<A: Allocator + Clone, B: Allocator> Subject<A, B> {
         self.store.fail(n, kept);
     }
 
+    /// A store without a result.
+    pub(crate) fn of(alloc: A, store: Store<MemDevice<B>, A>) -> Subject<A, B> {
+        Subject {
+            alloc,
+            store,
+            result: None,
+        }
+    }
+
+    /// The store.
+    pub(crate) fn into_parts(self) -> (A, Store<MemDevice<B>, A>) {
+        let Subject {
+            alloc,
+            store,
+            result: _,
+        } = self;
+        (alloc, store)
+    }
+
     pub(crate) fn into_disk(self) -> Disk<B> {
         let Subject {
             alloc: _,
@@ -303,6 +322,17 @@ impl<A: Allocator + Clone + Send + Sync, B: Allocator> Subject<A, B> {
         let tables = built.images().len();
         self.result = Some(built);
         Ok(Answer::Built(tables))
+    }
+
+    /// What a replay of these steps replies.
+    pub(crate) fn replay<R: Threads + Sync>(
+        &mut self,
+        rt: &R,
+        steps: &[Asked<A>],
+    ) -> Result<Vec<Reply<A>, A>, Refusal> {
+        let alloc = self.alloc.clone()?;
+        let replies = replay(rt, alloc, &mut self.store, steps)?;
+        Ok(replies)
     }
 
     /// What a step answers.

@@ -1,11 +1,14 @@
 //! The sweeps, and what they find.
 
+use crate::deeds::SITTINGS;
+use crate::explorations::TOURS;
 use crate::lists::List;
 use crate::scripts::LISTS;
 use crate::trouble::{Tally, Trouble};
-use crate::{faults, foreign, growths, openings};
+use crate::{explorations, faults, foreign, growths, openings, replays, sessions};
 use lsm_device::Refusal;
 use std::alloc::Global;
+use std::sync::Wait;
 use std::thread::Threads;
 
 /// All cases, where a part of them is told in ten-thousandths.
@@ -16,6 +19,9 @@ const OTHERS: u64 = 50_000;
 
 /// From this part on each call and each growth of a list is tried.
 const EACH: u64 = 1_000;
+
+/// Each of so many first calls is tried in any part: a short list has few syncs.
+const FIRST: u64 = 16;
 
 /// How much is tried.
 #[derive(Clone, Copy)]
@@ -38,6 +44,13 @@ impl Extent {
             every: every.max(1),
             whole: part == WHOLE,
         }
+    }
+
+    /// The call that fails, or the growth that is refused, in a turn of a sweep: each of the first ones, and then of so many one.
+    pub(crate) fn call(self, turn: u64) -> u64 {
+        let others = turn.saturating_sub(FIRST);
+        turn.min(FIRST)
+            .wrapping_add(others.wrapping_mul(self.every))
     }
 
     /// Whether of so many ways to go on behind call n the one of this turn is tried: all of them, or each in its turn.
@@ -63,6 +76,8 @@ pub(crate) struct Found {
     pub(crate) faults: Tally,
     pub(crate) growths: Tally,
     pub(crate) openings: Tally,
+    pub(crate) sessions: Tally,
+    pub(crate) replays: Tally,
     pub(crate) images: Tally,
     pub(crate) differences: Vec<Difference>,
 }
@@ -73,6 +88,8 @@ impl Found {
             faults: Tally::NONE,
             growths: Tally::NONE,
             openings: Tally::NONE,
+            sessions: Tally::NONE,
+            replays: Tally::NONE,
             images: Tally::NONE,
             differences: Vec::new(alloc),
         }
@@ -82,7 +99,8 @@ impl Found {
     pub(crate) fn told(&self) -> &'static str {
         let images = self.images.openings > 0 && self.images.openings < self.images.cases;
         let is_met = self.faults.failed > 0 && self.growths.refused > 0;
-        if is_met && images {
+        let is_shared = self.sessions.failed > 0 && self.sessions.refused > 0;
+        if is_met && is_shared && self.replays.refused > 0 && images {
             return "calls failed, growths were refused, images were refused and opened";
         }
         "a part of the sweeps"
@@ -114,7 +132,9 @@ impl Found {
         let swept = faults::sweep(rt, alloc, list, extent, &mut self.faults);
         self.note("faults", list.name, swept)?;
         let swept = growths::sweep(rt, alloc, list, extent, &mut self.growths);
-        self.note("growths", list.name, swept)
+        self.note("growths", list.name, swept)?;
+        let swept = replays::sweep(rt, alloc, list, extent, &mut self.replays);
+        self.note("replays", list.name, swept)
     }
 
     fn attack_opening<R: Threads + Sync>(
@@ -141,6 +161,32 @@ impl Found {
         Ok(())
     }
 
+    fn share<R: Threads + Wait + Sync>(
+        &mut self,
+        rt: &R,
+        alloc: Global,
+        extent: Extent,
+    ) -> Result<(), Refusal> {
+        for sitting in SITTINGS.iter() {
+            let swept = sessions::sweep(rt, alloc, sitting, extent, &mut self.sessions);
+            self.note("sessions", sitting.name, swept)?;
+        }
+        Ok(())
+    }
+
+    fn explore<R: Threads + Sync>(
+        &mut self,
+        rt: &R,
+        alloc: Global,
+        extent: Extent,
+    ) -> Result<(), Refusal> {
+        for tour in TOURS.iter() {
+            let swept = explorations::sweep(rt, alloc, tour, extent, &mut self.replays);
+            self.note("replays", tour.name, swept)?;
+        }
+        Ok(())
+    }
+
     fn try_bytes<R: Threads + Sync>(
         &mut self,
         rt: &R,
@@ -163,8 +209,8 @@ impl Found {
         self.note("images", "random", swept)
     }
 
-    /// The sweep at a place: those of the lists, and then three others.
-    fn sweep_at<R: Threads + Sync>(
+    /// The sweep at a place: those of the lists, and then five others.
+    fn sweep_at<R: Threads + Wait + Sync>(
         &mut self,
         rt: &R,
         alloc: Global,
@@ -180,12 +226,14 @@ impl Found {
         match place.wrapping_sub(LISTS.len()) {
             0 => self.attack_drawn(rt, alloc, extent),
             1 => self.try_bytes(rt, alloc, extent),
-            _ => self.try_drawn(rt, alloc, extent),
+            2 => self.try_drawn(rt, alloc, extent),
+            3 => self.share(rt, alloc, extent),
+            _ => self.explore(rt, alloc, extent),
         }
     }
 
     /// All sweeps, or the one at a place alone.
-    pub(crate) fn sweep<R: Threads + Sync>(
+    pub(crate) fn sweep<R: Threads + Wait + Sync>(
         &mut self,
         rt: &R,
         alloc: Global,
@@ -195,7 +243,7 @@ impl Found {
         if let Some(place) = alone {
             return self.sweep_at(rt, alloc, place, extent);
         }
-        for place in 0..LISTS.len().wrapping_add(3) {
+        for place in 0..LISTS.len().wrapping_add(5) {
             self.sweep_at(rt, alloc, place, extent)?;
         }
         Ok(())

@@ -31,6 +31,14 @@ pub(crate) enum Trouble {
     Check,
     /// A refused opening, or a check, wrote.
     Written,
+    /// A turn of a client came to something else than this.
+    Turn {
+        step: Option<Step>,
+    },
+    /// A trail has other entries.
+    Trail,
+    /// An exploration counts otherwise than with ample memory, or found something wrong.
+    Explored,
     /// Of the heap so many bytes are not given back.
     Leak(usize),
 }

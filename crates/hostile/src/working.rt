@@ -8,7 +8,7 @@ use lsm_device::Refusal;
 use std::alloc::Global;
 
 /// How many jobs there are at most.
-const MOST_JOBS: usize = 4;
+pub(crate) const MOST_JOBS: usize = 4;
 
 /// How many runs of level 0 make a merge come next.
 const MERGED_RUNS: usize = 4;
@@ -23,10 +23,11 @@ pub(crate) enum Stage {
     Writing(u64),
 }
 
-/// A job: the level of its upper table where it is a merge, and its output once a result was accepted.
+/// A job: its slot, the level of its upper table where it is a merge, and its output once a result was accepted.
 #[derive(Clone, Copy)]
 pub(crate) struct Job {
     pub(crate) number: u64,
+    pub(crate) slot: usize,
     pub(crate) level: Option<usize>,
     pub(crate) bottom: bool,
     pub(crate) stage: Stage,
@@ -175,6 +176,16 @@ impl Working {
         blocks
     }
 
+    /// The job that a slot holds.
+    pub(crate) fn job_in(&self, slot: usize) -> Option<Job> {
+        for job in self.jobs.iter() {
+            if job.slot == slot {
+                return Some(*job);
+            }
+        }
+        None
+    }
+
     /// Whether a job of a level is held, or a flush.
     fn holds(&self, level: Option<usize>) -> bool {
         for job in self.jobs.iter() {
@@ -262,6 +273,21 @@ impl Working {
         None
     }
 
+    /// The first slot that holds no job.
+    fn free_slot(&self) -> usize {
+        for slot in 0..MOST_JOBS {
+            if self.job_in(slot).is_none() {
+                return slot;
+            }
+        }
+        MOST_JOBS
+    }
+
+    /// Whether a job comes next.
+    pub(crate) fn has_next(&self) -> bool {
+        self.next().is_some()
+    }
+
     fn next(&self) -> Option<Next> {
         if self.jobs.len() >= MOST_JOBS {
             return None;
@@ -318,6 +344,7 @@ impl Working {
         Ok(Job {
             number: self.next_job,
             level: Some(upper.level),
+            slot: self.free_slot(),
             bottom: self.is_bottom(upper.level, hull),
             stage: Stage::Reading(blocks),
             output: None,
@@ -329,6 +356,7 @@ impl Working {
         add_all(&mut self.inputs, self.next_job, &versions)?;
         Ok(Job {
             number: self.next_job,
+            slot: self.free_slot(),
             level: None,
             bottom: false,
             stage: Stage::Frozen,

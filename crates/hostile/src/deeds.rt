@@ -1,0 +1,153 @@
+//! Lists of what the clients of a session do.
+
+use crate::lists::Line;
+use crate::scripts::{BATCHES, FOUR_RUNS};
+use crate::session::Sizes;
+use crate::step::{Change, Step};
+use lsm_store::At;
+
+/// What a client does.
+#[derive(Clone, Copy)]
+pub(crate) enum Deed {
+    /// It makes a call.
+    Call(u32, Line),
+    /// It takes a turn. What that hands out is built and brought.
+    Turn(u32),
+}
+
+/// What is done by the clients of a session, over the image that some lines make.
+#[derive(Clone, Copy)]
+pub(crate) struct Sitting {
+    pub(crate) name: &'static str,
+    pub(crate) past: &'static [Line],
+    pub(crate) sizes: Sizes,
+    pub(crate) deeds: &'static [Deed],
+}
+
+/// One client, with a flush between its calls.
+const FLUSHED: [Deed; 24] = [
+    Deed::Turn(0),
+    Deed::Call(0, Line::Put(1)),
+    Deed::Call(0, Line::Long(2, 600)),
+    Deed::Turn(0),
+    Deed::Call(0, Line::One(Step::Sync)),
+    Deed::Call(0, Line::One(Step::Rotate)),
+    Deed::Turn(0),
+    Deed::Call(0, Line::Put(3)),
+    Deed::Turn(0),
+    Deed::Call(0, Line::One(Step::Snapshot)),
+    Deed::Turn(0),
+    Deed::Call(0, Line::Delete(1)),
+    Deed::Turn(0),
+    Deed::Turn(0),
+    Deed::Call(0, Line::Get(2)),
+    Deed::Call(0, Line::One(Step::Get(At::Snap(1), 2))),
+    Deed::Call(0, Line::One(Step::Get(At::Snap(2), 1))),
+    Deed::Call(0, Line::One(Step::Release(1))),
+    Deed::Call(0, Line::One(Step::Release(2))),
+    Deed::Call(0, Line::One(Step::Release(2))),
+    Deed::Call(0, Line::One(Step::SyncTo(4))),
+    Deed::Call(0, Line::One(Step::SyncTo(5))),
+    Deed::Call(0, Line::One(Step::Room)),
+    Deed::Call(0, Line::Scan(0, 64)),
+];
+
+/// One client, with a merge, and a flush behind it.
+const MERGED: [Deed; 16] = [
+    Deed::Turn(0),
+    Deed::Call(0, Line::Put(5)),
+    Deed::Turn(0),
+    Deed::Turn(0),
+    Deed::Call(0, Line::Get(1)),
+    Deed::Turn(0),
+    Deed::Turn(0),
+    Deed::Turn(0),
+    Deed::Call(0, Line::One(Step::Rotate)),
+    Deed::Turn(0),
+    Deed::Turn(0),
+    Deed::Turn(0),
+    Deed::Turn(0),
+    Deed::Turn(0),
+    Deed::Call(0, Line::Delete(5)),
+    Deed::Call(0, Line::Scan(0, 64)),
+];
+
+/// Two clients, with a flush and a merge side by side.
+const SIDE_BY_SIDE: [Deed; 18] = [
+    Deed::Call(0, Line::Put(6)),
+    Deed::Call(1, Line::One(Step::Rotate)),
+    Deed::Turn(0),
+    Deed::Turn(1),
+    Deed::Turn(1),
+    Deed::Turn(0),
+    Deed::Call(0, Line::One(Step::Commit(Change::Both(1, 2)))),
+    Deed::Turn(1),
+    Deed::Turn(1),
+    Deed::Turn(0),
+    Deed::Turn(0),
+    Deed::Turn(1),
+    Deed::Turn(1),
+    Deed::Turn(0),
+    Deed::Call(1, Line::Get(1)),
+    Deed::Call(0, Line::Get(6)),
+    Deed::Call(1, Line::Scan(0, 64)),
+    Deed::Call(0, Line::One(Step::Sync)),
+];
+
+/// Four clients, each of which commits and syncs, until the trail has no place left.
+const FOUR: [Deed; 14] = [
+    Deed::Call(0, Line::Put(1)),
+    Deed::Call(1, Line::Long(2, 600)),
+    Deed::Call(1, Line::One(Step::Sync)),
+    Deed::Call(2, Line::Put(3)),
+    Deed::Call(3, Line::Delete(1)),
+    Deed::Call(0, Line::One(Step::Sync)),
+    Deed::Call(2, Line::One(Step::SyncTo(5))),
+    Deed::Call(3, Line::One(Step::SyncTo(6))),
+    Deed::Call(2, Line::Get(1)),
+    Deed::Call(1, Line::Scan(0, 64)),
+    Deed::Call(3, Line::Put(4)),
+    Deed::Turn(3),
+    Deed::Call(0, Line::Put(5)),
+    Deed::Call(1, Line::One(Step::Sync)),
+];
+
+/// The sessions.
+pub(crate) const SITTINGS: [Sitting; 4] = [
+    Sitting {
+        name: "a session with a flush",
+        past: &[],
+        sizes: Sizes {
+            clients: 1,
+            places: 64,
+        },
+        deeds: &FLUSHED,
+    },
+    Sitting {
+        name: "a session with a merge",
+        past: &FOUR_RUNS,
+        sizes: Sizes {
+            clients: 1,
+            places: 64,
+        },
+        deeds: &MERGED,
+    },
+    Sitting {
+        name: "a session with a flush and a merge",
+        past: &FOUR_RUNS,
+        sizes: Sizes {
+            clients: 2,
+            places: 64,
+        },
+        deeds: &SIDE_BY_SIDE,
+    },
+    Sitting {
+        name: "a session of four clients",
+        past: &BATCHES,
+        sizes: Sizes {
+            clients: 4,
+            places: 11,
+        },
+        deeds: &FOUR,
+    },
+];

@@ -1,0 +1,267 @@
+//! What the clients of a session are to be told, by a plain machine beside it.
+
+use crate::entries::{Entries, is_entered};
+use crate::machine::Machine;
+use crate::session::{Brought, Turned};
+use crate::step::{Answer, Step};
+use crate::trouble::{Trouble, agree, unrefused};
+use crate::turns::PARTS;
+use lsm_device::Refusal;
+use lsm_trail::{Numbers, Trail};
+use merge_tests::budget::Budget;
+use std::alloc::{Allocator, Global};
+
+/// The number of the snapshot that a session pins, the first behind an opening.
+pub(crate) const BASE: u64 = 1;
+
+/// What is done behind the step that a harm meets and that may be made again.
+#[derive(Clone, Copy, PartialEq, Eq)]
+pub(crate) enum Then {
+    /// It is made again.
+    Again,
+    /// The next one is made.
+    Next,
+    /// The session ends.
+    End,
+}
+
+/// What harms a session: of this heap a growth is refused, or else a call of its device fails.
+#[derive(Clone, Copy)]
+pub(crate) struct Harm<'h> {
+    pub(crate) heap: Option<&'h Budget<Global>>,
+    pub(crate) then: Then,
+}
+
+/// How a client is answered.
+#[derive(Clone, Copy, PartialEq, Eq)]
+pub(crate) enum Heard {
+    /// As the machine says.
+    Same,
+    /// For want of memory nothing was done.
+    Unmade,
+    /// A read failed.
+    Failed,
+    /// A write or a sync failed.
+    Stopped,
+}
+
+/// The machine, the entries that the trail is to have, and the harm.
+pub(crate) struct Judge<'h> {
+    pub(crate) machine: Machine,
+    entries: Entries,
+    pub(crate) harm: Harm<'h>,
+    /// Whether the growth was refused before the deed that is done now.
+    is_before: bool,
+    /// Whether a client was told of the harm.
+    pub(crate) is_met: bool,
+}
+
+impl<'h> Drop for Judge<'h> {
+    fn drop(self) {
+        let Judge {
+            machine: _,
+            entries: _,
+            harm: _,
+            is_before: _,
+            is_met: _,
+        } = self;
+    }
+}
+
+/// The job of which a result is to be built.
+fn built_of(step: Option<Step>) -> Option<u64> {
+    match step {
+        Some(Step::Build(job, _)) => Some(job),
+        _ => None,
+    }
+}
+
+impl<'h> Judge<'h> {
+    /// A judge of a session with so many places in its trail.
+    pub(crate) fn new(alloc: Global, machine: Machine, places: u32, harm: Harm<'h>) -> Judge<'h> {
+        Judge {
+            machine,
+            entries: Entries::new(alloc, places),
+            harm,
+            is_before: false,
+            is_met: false,
+        }
+    }
+
+    /// Whether a growth was refused so far.
+    fn has_refused(&self) -> bool {
+        match self.harm.heap {
+            Some(heap) => heap.has_refused(),
+            None => false,
+        }
+    }
+
+    /// The next deed begins.
+    pub(crate) fn go_on(&mut self) {
+        self.is_before = self.has_refused();
+    }
+
+    /// Memory was wanting, for the first time, and since now.
+    pub(crate) fn miss(&mut self) -> Result<(), Trouble> {
+        if self.is_met || self.is_before || !self.has_refused() {
+            return Err(Trouble::Refusal(Refusal::NoMemory));
+        }
+        self.is_met = true;
+        Ok(())
+    }
+
+    /// A call of the device failed, for the first time: that which was to, or since now a write for which it has no memory.
+    fn fail(&mut self, step: Step) -> Result<(), Trouble> {
+        let is_due = match self.harm.heap {
+            Some(heap) => heap.has_refused() && !self.is_before && !step.is_read(),
+            None => true,
+        };
+        if self.is_met || !is_due {
+            return Err(Trouble::Unasked { step });
+        }
+        self.is_met = true;
+        Ok(())
+    }
+
+    /// What a client is to be answered.
+    fn due(&mut self, step: Step) -> Answer {
+        if self.entries.is_full() {
+            return Answer::Refused(Refusal::TrailFull);
+        }
+        match step {
+            Step::Release(BASE) => Answer::Refused(Refusal::NotYours),
+            _ => self.machine.answer(step),
+        }
+    }
+
+    fn compare(&mut self, client: u32, step: Step, found: Answer) -> Result<Heard, Trouble> {
+        agree(step, found, self.due(step))?;
+        if is_entered(found) {
+            self.entries.add(client, step, found)?;
+        }
+        Ok(Heard::Same)
+    }
+
+    /// A step answers that a call of the device failed, which is entered.
+    fn hear_fault(&mut self, client: u32, step: Step) -> Result<Heard, Trouble> {
+        self.fail(step)?;
+        self.entries
+            .add(client, step, Answer::Refused(Refusal::Io))?;
+        if step.is_read() {
+            return Ok(Heard::Failed);
+        }
+        unrefused(step, self.machine.stop(step))?;
+        Ok(Heard::Stopped)
+    }
+
+    /// Hears what a client is answered to a step.
+    pub(crate) fn hear(
+        &mut self,
+        client: u32,
+        step: Step,
+        found: Answer,
+    ) -> Result<Heard, Trouble> {
+        match found {
+            Answer::Refused(Refusal::NoMemory) => {
+                self.miss()?;
+                Ok(Heard::Unmade)
+            }
+            Answer::Refused(Refusal::Io) => self.hear_fault(client, step),
+            _ => self.compare(client, step, found),
+        }
+    }
+
+    /// The input of a job was handed out, for the result of the next number.
+    fn lend(&mut self, client: u32, job: u64, brought: Brought) -> Result<(), Trouble> {
+        let is_next = brought.job == job && brought.result == self.entries.next_result();
+        if !is_next || self.entries.is_full() {
+            return Err(Trouble::Turn {
+                step: Some(Step::Build(job, PARTS)),
+            });
+        }
+        let number = Answer::Number(brought.result);
+        self.entries.add(client, Step::Build(job, PARTS), number)?;
+        Ok(())
+    }
+
+    /// A result was built and brought. The entry of the build stands whatever comes behind it.
+    fn merge(&mut self, client: u32, job: u64, brought: Brought) -> Result<Heard, Trouble> {
+        self.lend(client, job, brought)?;
+        if brought.built == Answer::Refused(Refusal::NoMemory) {
+            self.miss()?;
+            return Ok(Heard::Unmade);
+        }
+        let step = Step::Build(job, PARTS);
+        agree(step, brought.built, self.machine.answer(step))?;
+        self.hear(client, Step::Accept(job), brought.accepted)
+    }
+
+    /// Hears what a piece of work was answered that is to be this one.
+    fn hear_piece(
+        &mut self,
+        client: u32,
+        due: Option<Step>,
+        found: Answer,
+    ) -> Result<Heard, Trouble> {
+        match due {
+            Some(step) => self.hear(client, step, found),
+            None => Err(Trouble::Turn { step: None }),
+        }
+    }
+
+    /// Hears what came of an input that was handed out, where this is to be done.
+    fn hear_merge(
+        &mut self,
+        client: u32,
+        due: Option<Step>,
+        brought: Brought,
+    ) -> Result<Heard, Trouble> {
+        match built_of(due) {
+            Some(job) => self.merge(client, job, brought),
+            None => Err(Trouble::Turn { step: due }),
+        }
+    }
+
+    /// Hears what a turn of a client came to.
+    pub(crate) fn hear_turn(&mut self, client: u32, turned: Turned) -> Result<Heard, Trouble> {
+        let due = self.machine.turn_of(client);
+        match turned {
+            Turned::Idle if due.is_none() => Ok(Heard::Same),
+            Turned::Idle => Err(Trouble::Turn { step: due }),
+            Turned::Did(found) => self.hear_piece(client, due, found),
+            Turned::Merged(brought) => self.hear_merge(client, due, brought),
+        }
+    }
+
+    /// Whether a client reads these numbers of the history.
+    pub(crate) fn has_numbers(&self, numbers: Option<Numbers>) -> Result<(), Trouble> {
+        let (batches, synced) = self.machine.counts();
+        let wanted = Numbers {
+            calls: self.entries.calls(),
+            batches,
+            synced,
+        };
+        if self.machine.is_stopped() || numbers == Some(wanted) {
+            return Ok(());
+        }
+        Err(Trouble::Count(batches))
+    }
+
+    /// A session begins, and pins a snapshot of this number.
+    pub(crate) fn pin(&mut self, base: u64) -> Result<(), Trouble> {
+        agree(
+            Step::Snapshot,
+            Answer::Number(base),
+            self.machine.answer(Step::Snapshot),
+        )
+    }
+
+    /// A session ended with a trail, and lets its snapshot go, unless the store is stopped.
+    pub(crate) fn unpin<A: Allocator>(&mut self, trail: &Trail<A>) -> Result<(), Trouble> {
+        if !self.entries.are_in(trail) {
+            return Err(Trouble::Trail);
+        }
+        let _released = self.machine.answer(Step::Release(BASE));
+        Ok(())
+    }
+}

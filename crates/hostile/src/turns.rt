@@ -1,0 +1,26 @@
+//! What the slots of a plain machine's jobs wait for.
+
+use crate::step::Step;
+use crate::working::{Job, Stage, Working};
+
+/// In how many parts a session's results are built.
+pub(crate) const PARTS: u8 = 2;
+
+/// What a job waits for.
+fn piece_of(job: Job) -> Step {
+    match job.stage {
+        Stage::Reading(_) => Step::Read(job.number),
+        Stage::Frozen => Step::Build(job.number, PARTS),
+        Stage::Writing(0) => Step::Install(job.number),
+        Stage::Writing(_) => Step::Write(job.number),
+    }
+}
+
+/// What a slot waits for: a free one for a job, where one comes next. So few runs are in level 0 that no install is put off.
+pub(crate) fn piece_in(working: &Working, slot: usize) -> Option<Step> {
+    match working.job_in(slot) {
+        Some(job) => Some(piece_of(job)),
+        None if working.has_next() => Some(Step::Take),
+        None => None,
+    }
+}
