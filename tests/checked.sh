@@ -110,7 +110,7 @@ checks 1 other 'refused 25 BadGeometry'
 truncate -s $((8191 * 512)) other
 checks 1 other 'refused 25 BadGeometry'
 cp table other && truncate -s $((8192 * 512 - 1)) other
-checks 1 other 'refused 02 Io'
+checks 1 other $'refused 02 Io\nerror: the length of the file is not a whole number of sectors'
 
 # The footer of the table, in block 3, begins otherwise; its data block, in block 0, says that it has no entry.
 cp table other && patch other 538 0 00

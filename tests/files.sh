@@ -220,7 +220,7 @@ if command -v flock >/dev/null; then
     ) &
     holder=$!
     until [ -e locked ]; do sleep 0.05; done
-    for words in 'get held 61' 'put held 61 31' 'del held 61' 'scan held empty 1' 'stat held' 'check held' 'compact held' 'dump held' 'load held' 'replay held' 'format held 8192 128'; do
+    for words in 'get held 61' 'put held 61 31' 'putif held 61 absent 31' 'del held 61' 'scan held empty 1' 'stat held' 'check held' 'compact held' 'dump held' 'load held' 'serve held' 'replay held' 'format held 8192 128'; do
         status=0
         # The words are parted by spaces.
         # shellcheck disable=SC2086

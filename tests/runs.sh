@@ -267,17 +267,22 @@ until_none_is_left() {
     done
 }
 
+# A life that begins with a run of 261 data blocks.
+large_run() {
+    echo 'lives 16384 2048 | open 0'
+    full_commits 1 9
+    printf '%s\n' 'rotate | ok' 'take | job 1 flush' 'build 1 4 | built 1 images 5' 'accept 1 1 | ok'
+    until_none_is_left 'write 1' 276
+    echo 'install 1 | ok'
+}
+
 # A run of 261 data blocks goes down to level 1 in four tables of 67 blocks, filter, index and footer among them, and one of 8.
 # So many are more than the 256 that level 1 may have. Of its tables each may be merged by a job of its own, as long as there
 # are slots; when one has gone down to level 2, the others are few enough.
 deep_levels() {
     local number
     {
-        echo 'lives 16384 2048 | open 0'
-        full_commits 1 9
-        printf '%s\n' 'rotate | ok' 'take | job 1 flush' 'build 1 4 | built 1 images 5' 'accept 1 1 | ok'
-        until_none_is_left 'write 1' 276
-        echo 'install 1 | ok'
+        large_run
         for number in 2 3 4; do
             echo "commit +ffff=31 | batch $((number + 8))"
             flush "$number"
@@ -307,11 +312,7 @@ deep_levels() {
 meeting_levels() {
     local number
     {
-        echo 'lives 16384 2048 | open 0'
-        full_commits 1 9
-        printf '%s\n' 'rotate | ok' 'take | job 1 flush' 'build 1 4 | built 1 images 5' 'accept 1 1 | ok'
-        until_none_is_left 'write 1' 276
-        echo 'install 1 | ok'
+        large_run
         full_commits 10 3 0a
         printf '%s\n' 'commit +ffff=31 | batch 13' 'rotate | ok' 'take | job 2 flush' 'build 2 1 | built 2 images 2' 'accept 2 2 | ok'
         until_none_is_left 'write 2' 93

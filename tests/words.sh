@@ -1,6 +1,6 @@
 #!/usr/bin/env bash
-# words.sh PROGRAM: a word that is no UTF-8, an answer or a fault that can't be written, and an input that can't be read to its
-# end. What can be told is told on standard error. A writer that takes four bytes is a limit of the file size, which
+# words.sh PROGRAM: a word that is no UTF-8, a file that can't be opened, an answer or a fault that can't be written, and an input
+# that can't be read to its end. What can be told is told on standard error. A writer that takes four bytes is a limit of the file size, which
 # `prlimit` sets; where the machine lacks it that part is skipped, and a line says so.
 set -eu
 program=$(realpath "$1")
@@ -30,6 +30,34 @@ output=$folder/output
 errors=$folder/errors
 expect 2 "error: a word is no UTF-8 text" get "$folder/"$'\xff' 61
 [ ! -s "$output" ] || fail "an answer was printed"
+
+# opens_not CAUSE WORD..: so the program refuses a file on these words.
+opens_not() {
+    local cause=$1 status=0 told
+    shift
+    told=$("$program" "$@" </dev/null 2>&1) || status=$?
+    [ "$status" = 1 ] && [ "$told" = "$(printf 'refused 02 Io\nerror: %s' "$cause")" ] || fail "$* ended with $status: $told"
+}
+
+printf x >"$folder/byte"
+for word in 'get FILE 61' 'put FILE 61 31' 'check FILE' 'serve FILE' 'dump FILE'; do
+    # The words are parted by spaces.
+    # shellcheck disable=SC2086
+    {
+        opens_not "there is no such file" ${word/FILE/$folder/none}
+        opens_not "the folder of the file is missing" ${word/FILE/$folder/none/F}
+        opens_not "the file is a folder" ${word/FILE/$folder}
+        opens_not "the length of the file is not a whole number of sectors" ${word/FILE/$folder/byte}
+    }
+done
+opens_not "the folder of the file is missing" format "$folder/none/F" 8192 128
+opens_not "the file is a folder" format "$folder" 8192 128
+[ ! -e "$folder/none" ] || fail "a file that is only read was made"
+if [ "$(id -u)" != 0 ]; then
+    : >"$folder/denied"
+    chmod 000 "$folder/denied"
+    opens_not "the file may not be read and written" get "$folder/denied" 61
+fi
 
 output=/dev/full
 expect 1 "error: the answer could not be written: " lives 8192 128

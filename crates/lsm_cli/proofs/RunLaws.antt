@@ -14,11 +14,12 @@ use Rattle.lsm_language.specs.declared.asked.Asked.{Asked}
 use Rattle.lsm_language.specs.declared.asked.Asked.TheVariants as asked
 use Rattle.lsm_language.specs.declared.request.Request.{Request}
 use Rattle.lsm_language.specs.declared.request.Request.TheVariants as request
+use Rattle.lsm_language.specs.declared.cause.Cause.{Cause}
 use Rattle.lsm_language.specs.declared.fault.Fault.{Fault}
-use Rattle.lsm_language.specs.Faults.{Reason, IsRefusalOr, mistake, refusal, in_use, unread, unwritten, reason_of, status_of}
+use Rattle.lsm_language.specs.Faults.{Reason, mistake, refusal, unopened, unread, unwritten, IsUnopened, reason_of, status_of}
 use Rattle.lsm_cli.specs.Program.{has_words, program}
 use Rattle.lsm_language.specs.Requests.{Says, prints_rows, reason_for, wants_input, wants_rows, wants_script}
-use Rattle.lsm_requests.specs.Answers.{Comes, TellsLoaded, TellsServed}
+use Rattle.lsm_requests.specs.Answers.{Comes, TellsDumped, TellsLoaded, TellsServed}
 use Rattle.lsm_serve.specs.Answering.{Answered}
 use Rattle.lsm_serve.specs.Serving.{ToldBefore}
 use Rattle.lsm_requests.specs.Refusing.{FaultsWith, IsRefusalOf, MayRefuse}
@@ -110,18 +111,18 @@ told_before (refusal r) answers output output_after told = tt
 told_before unread answers output output_after told = tt
 told_before unwritten answers output output_after told = tt
 told_before mistake answers output output_after told = told
-told_before in_use answers output output_after told = told
+told_before (unopened cause) answers output output_after told = told
 
 serving_reason : (input output output_after : Option (List ℕ)) (reason : Reason) → TellsServed input reason output output_after → IsServingReason reason
 serving_reason input output output_after reason (inl (e, is, opening, same)) = subst IsServingReason (sym is) tt
 serving_reason input output output_after reason (inr s) = subst IsServingReason s.same (told_before (reason_of s.fault) s.serves.answers output output_after s.serves.told)
 
-no_mistake : (reason : Reason) → IsRefusalOr reason → reason ≢ mistake
-no_mistake mistake is = absurd is
-no_mistake (refusal r) is = λ e. cc
-no_mistake in_use is = λ e. cc
-no_mistake unread is = λ e. cc
-no_mistake unwritten is = λ e. cc
+no_mistake : (reason : Reason) → (output output_after : Option (List ℕ)) → TellsDumped reason output output_after → reason ≢ mistake
+no_mistake mistake output output_after told = absurd told
+no_mistake (refusal r) output output_after told = λ e. cc
+no_mistake (unopened cause) output output_after told = λ e. cc
+no_mistake unread output output_after told = λ e. cc
+no_mistake unwritten output output_after told = λ e. cc
 
 module _ (words : List Text) (input output output_after : Option (List ℕ)) (asked : Asked) (text : List ℕ) (read : IsRead words input asked text) (sound : reason_for asked text ≡ None) where
   asked_for : (r : Request) → Says asked text r → IsRequested words input r
@@ -133,17 +134,17 @@ module _ (words : List Text) (input output output_after : Option (List ℕ)) (as
   tried : (r : Request) → Says asked text r → (e : Refusal) → MayRefuse r e → IsRequestRefused words input e
   tried r says e may = record { request = r; requested = asked_for r says; refused = may }
 
-  dumps : (path : Bor (List ℕ)) → Says asked text (request.Dump path) → (reason : Reason) → IsRefusalOr reason → IsOtherReason words input reason
-  dumps path says mistake is = absurd is
-  dumps path says (refusal e) is = inr (tried (request.Dump path) says e tt)
-  dumps path says in_use is = absurd is
-  dumps path says unread is = absurd is
-  dumps path says unwritten is = done (request.Dump path) says
+  dumps : (path : Bor (List ℕ)) → Says asked text (request.Dump path) → (reason : Reason) → TellsDumped reason output output_after → IsOtherReason words input reason
+  dumps path says mistake told = absurd told
+  dumps path says (refusal e) told = inr (tried (request.Dump path) says e (output, output_after, told))
+  dumps path says (unopened cause) told = absurd told
+  dumps path says unread told = absurd told
+  dumps path says unwritten told = done (request.Dump path) says
 
   plain : (r : Request) → Says asked text r → (reason : Reason) → IsRefusalOf r reason → output_after ≡ output → Fails words input reason × Shows words reason output output_after
   plain r says mistake is same = absurd is
   plain r says (refusal e) is same = (inr (inr (tried r says e is)), shows_nothing (keeps output output_after same))
-  plain r says in_use is same = absurd is
+  plain r says (unopened cause) is same = absurd is
   plain r says unread is same = absurd is
   plain r says unwritten is same = absurd is
 
@@ -156,8 +157,8 @@ module _ (words : List Text) (input output output_after : Option (List ℕ)) (as
       → Fails words input reason × Shows words reason output output_after
   loads path says mistake (none, told) =
       (inr (inr record { asked = asked; words_ask = read.words_ask; wants = loading asked text path says; none = none }), shows_loaded path says mistake (inr told))
-  loads path says (refusal e) told = (inr (inr (tried (request.Load path) says e tt)), shows_loaded path says (refusal e) told)
-  loads path says in_use told = absurd told
+  loads path says (refusal e) (may, told) = (inr (inr (tried (request.Load path) says e may)), shows_loaded path says (refusal e) told)
+  loads path says (unopened cause) told = absurd told
   loads path says unread told = (
     inr record { asked = asked; words_ask = read.words_ask; wants = loading_input asked text path says },
     shows_loaded path says unread told,
@@ -170,8 +171,8 @@ module _ (words : List Text) (input output output_after : Option (List ℕ)) (as
   serves : (path : Bor (List ℕ)) → Says asked text (request.Serve path) → (reason : Reason) → TellsServed input reason output output_after
       → Fails words input reason × Shows words reason output output_after
   serves path says mistake told = absurd (serving_reason input output output_after mistake told)
-  serves path says (refusal e) told = (inr (inr (tried (request.Serve path) says e tt)), shows_served path says (refusal e) (λ h. cc))
-  serves path says in_use told = absurd (serving_reason input output output_after in_use told)
+  serves path says (refusal e) told = (inr (inr (tried (request.Serve path) says e (input, output, output_after, told))), shows_served path says (refusal e) (λ h. cc))
+  serves path says (unopened cause) told = absurd (serving_reason input output output_after (unopened cause) told)
   serves path says unread told =
       (inr record { asked = asked; words_ask = read.words_ask; wants = wants_lines asked text path says }, shows_served path says unread (λ h. cc))
   serves path says unwritten told = (inr (done (request.Serve path) says), shows_failure refl)
@@ -180,16 +181,16 @@ module _ (words : List Text) (input output output_after : Option (List ℕ)) (as
   pub fails_with : (r : Request) → Says asked text r → (reason : Reason) → FaultsWith r input reason output output_after
       → Fails words input reason × Shows words reason output output_after
   fails_with (request.Dump path) says reason is =
-      (inr (dumps path says reason is), shows_rows asked read.words_ask (printing asked text path says) (no_mistake reason is))
+      (inr (dumps path says reason is), shows_rows asked read.words_ask (printing asked text path says) (no_mistake reason output output_after is))
   fails_with (request.Load path) says reason is = loads path says reason is
   fails_with (request.Serve path) says reason is = serves path says reason is
   fails_with other says reason (is, same) = plain other says reason is same
 
   -- with which refusal it was tried
   refused_with : (r : Request) → Says asked text r → (e : Refusal) → FaultsWith r input (refusal e) output output_after → IsRequestRefused words input e
-  refused_with (request.Dump path) says e is = tried (request.Dump path) says e tt
-  refused_with (request.Load path) says e is = tried (request.Load path) says e tt
-  refused_with (request.Serve path) says e is = tried (request.Serve path) says e tt
+  refused_with (request.Dump path) says e is = tried (request.Dump path) says e (output, output_after, is)
+  refused_with (request.Load path) says e (may, told) = tried (request.Load path) says e may
+  refused_with (request.Serve path) says e is = tried (request.Serve path) says e (input, output, output_after, is)
   refused_with other says e (is, same) = tried other says e is
 
 -- the input is left as it is before it is read for rows
@@ -212,29 +213,32 @@ module _ (asked : Asked) (text : List ℕ) (before after output output_after : O
   faults_of (request.Serve path) reason says faults = subst (λ (i : Option (List ℕ)). FaultsWith (request.Serve path) i reason output output_after) (same (untouched_lines asked text path says)) faults
   faults_of other reason says faults = faults
 
--- what is shown of a refusal, where another program had the file
-shows_in_use : (words : List Text) (e : Refusal) (output output_after : Option (List ℕ)) → Shows words (refusal e) output output_after → Shows words in_use output output_after
-shows_in_use words e output output_after (shows_nothing same) = shows_nothing same
-shows_in_use words e output output_after (shows_rows asked is prints other) = shows_rows asked is prints (λ h. cc)
-shows_in_use words e output output_after (shows_number asked is wants number appends) = shows_number asked is wants number appends
-shows_in_use words e output output_after (shows_failure h) = absurd (not_unwritten h)
+-- what is shown of a refusal, where the file couldn't be opened
+shows_unopened : (words : List Text) (e : Refusal) (cause : Cause) (output output_after : Option (List ℕ)) → Shows words (refusal e) output output_after → Shows words (unopened cause) output output_after
+shows_unopened words e cause output output_after (shows_nothing same) = shows_nothing same
+shows_unopened words e cause output output_after (shows_rows asked is prints other) = shows_rows asked is prints (λ h. cc)
+shows_unopened words e cause output output_after (shows_number asked is wants number appends) = shows_number asked is wants number appends
+shows_unopened words e cause output output_after (shows_failure h) = absurd (not_unwritten h)
   where
     not_unwritten : refusal e ≡ unwritten → ⊥
     not_unwritten h = cc
 
--- a fault as it is told: as it is, or that another program has the file
+-- a fault as it is told: as it is, or as a file that can't be opened
 module _ (words : List Text) (input output output_after : Option (List ℕ)) (asked : Asked) (text : List ℕ) (read : IsRead words input asked text) (sound : reason_for asked text ≡ None) where
-  pub fails_told : (r : Request) → Says asked text r → (reason told : Reason) → (told ≡ reason) ⊎ ((reason ≡ refusal Io) × (told ≡ in_use))
+  pub fails_told : (r : Request) → Says asked text r → (reason told : Reason) → (told ≡ reason) ⊎ ((reason ≡ refusal Io) × IsUnopened told)
       → FaultsWith r input reason output output_after → Fails words input told × Shows words told output output_after
   fails_told r says reason told (inl same) faults =
       subst (λ (as_told : Reason). Fails words input as_told × Shows words as_told output output_after) (sym same)
       (fails_with words input output output_after asked text read sound r says reason faults)
-  fails_told r says reason told (inr (is, becomes)) faults =
-      let io = subst (λ (it : Reason). FaultsWith r input it output output_after) is faults in
-      subst (λ (as_told : Reason). Fails words input as_told × Shows words as_told output output_after) (sym becomes) (
+  fails_told r says reason (unopened cause) (inr (is, becomes)) faults =
+      let io = subst (λ (it : Reason). FaultsWith r input it output output_after) is faults in (
         inr (refused_with words input output output_after asked text read sound r says Io io),
-        shows_in_use words Io output output_after (fails_with words input output output_after asked text read sound r says (refusal Io) io).1,
+        shows_unopened words Io cause output output_after (fails_with words input output output_after asked text read sound r says (refusal Io) io).1,
       )
+  fails_told r says reason mistake (inr (is, becomes)) faults = absurd becomes
+  fails_told r says reason (refusal other) (inr (is, becomes)) faults = absurd becomes
+  fails_told r says reason unread (inr (is, becomes)) faults = absurd becomes
+  fails_told r says reason unwritten (inr (is, becomes)) faults = absurd becomes
 
 -- one that comes before anything is done
 pub fails_before : (words : List Text) (input output : Option (List ℕ)) (reason : Reason) → Fails words input reason → Fails words input reason × Shows words reason output output
@@ -245,14 +249,14 @@ fails_before words input output reason fails = (fails, shows_nothing (keeps outp
 status_of-positive : (r : Reason) → status_of r ≡ 0 → ⊥
 status_of-positive mistake e = grind arith
 status_of-positive (refusal r) e = grind arith
-status_of-positive in_use e = grind arith
+status_of-positive (unopened cause) e = grind arith
 status_of-positive unread e = grind arith
 status_of-positive unwritten e = grind arith
 
 status_of-mistake : (r : Reason) → status_of r ≡ 2 → r ≡ mistake
 status_of-mistake mistake e = grind arith
 status_of-mistake (refusal r) e = grind arith
-status_of-mistake in_use e = grind arith
+status_of-mistake (unopened cause) e = grind arith
 status_of-mistake unread e = grind arith
 status_of-mistake unwritten e = grind arith
 

@@ -9,7 +9,7 @@ use Rattle.lsm_language.specs.declared.asked.Asked.{Asked}
 use Rattle.lsm_language.specs.declared.request.Request.{Request}
 use Rattle.lsm_requests.specs.declared.answer.Answer.{Answer}
 use Rattle.lsm_language.specs.declared.fault.Fault.{Fault}
-use Rattle.lsm_language.specs.Faults.{Reason, mistake, refusal, in_use, unread, unwritten, reason_of}
+use Rattle.lsm_language.specs.Faults.{Reason, mistake, refusal, unopened, unread, unwritten, reason_of}
 use Rattle.lsm_language.specs.Words.{after}
 use Rattle.lsm_cli.specs.Program.{program, Asks}
 use Rattle.lsm_language.specs.Requests.{Says, prints_rows, reason_for, wants_input, wants_rows, wants_script}
@@ -101,7 +101,7 @@ pub record HasNoRow (words : List Text) (input : Option (List ℕ)) : Type 0 whe
 abbrev pub IsOtherReason : List Text → Option (List ℕ) → Reason → Type 0
 IsOtherReason words input mistake = AskNothing words ⊎ HasNoRow words input
 IsOtherReason words input (refusal r) = (r ≡ NoMemory) ⊎ IsRequestRefused words input r
-IsOtherReason words input in_use = IsRequestRefused words input Io
+IsOtherReason words input (unopened cause) = IsRequestRefused words input Io
 IsOtherReason words input unread = IsUnread words
 IsOtherReason words input unwritten = IsDone words input
 

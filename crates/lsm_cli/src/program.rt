@@ -3,11 +3,12 @@
 ghost use Rattle.std.specs.Prelude.{◌≡◌, ◌≤◌, ◌⊎◌, map, MatchResult};
 ghost use Rattle.std.specs.Io.KnownBytes.{Keeps};
 ghost use Rattle.lsm_device.specs.declared.refusal.Refusal.TheVariants.{Io};
-ghost use Rattle.lsm_language.specs.Faults.{in_use, mistake, reason_of, refusal};
+ghost use Rattle.lsm_language.specs.Faults.{IsUnopened, mistake, reason_of, refusal};
 ghost use Rattle.lsm_cli.specs.Runs.{Fails, HasServed, IsRun, IsServed, IsTold, Shows};
 
 use crate::parser::asked_for;
-use lsm_device::{FileDevice, Refusal};
+use crate::unopened::cause_of;
+use lsm_device::Refusal;
 use lsm_language::{Fault, Request, script_text};
 use lsm_progress::Progress;
 use lsm_requests::{Answer, answer_request, conclude};
@@ -64,26 +65,22 @@ fn answer<
     let text = script_text(rt.alloc(), &asked, input)?;
     let request = Request::read(rt.alloc(), asked, &text)?;
     let file = request.file();
+    let is_made = matches!(request, Request::Format { .. });
     match answer_request(rt, request, input, output, progress) {
         Ok(answer) => Ok(answer),
-        Err(fault) => Err(told(rt, file, fault)),
+        Err(fault) => Err(told(rt, file, is_made, fault)),
     }
 }
 
-// A fault as it is told: of a file that another program has, that.
-fn told<R: Files<File = File>>(rt: &R, file: Option<&str>, fault: Fault) -> Fault
-    ensures { (reason_of result ≡ reason_of fault) ⊎ ((reason_of fault ≡ refusal Io) × (reason_of result ≡ in_use)) }
+// A fault as it is told: of a file that can't be opened, with the cause.
+fn told<R: Files<File = File>>(rt: &R, file: Option<&str>, is_made: bool, fault: Fault) -> Fault
+    ensures { (reason_of result ≡ reason_of fault) ⊎ ((reason_of fault ≡ refusal Io) × IsUnopened (reason_of result)) }
 {
     match fault {
-        Fault::Refused(Refusal::Io) if is_in_use(rt, file) => Fault::InUse,
+        Fault::Refused(Refusal::Io) => match cause_of(rt, file, is_made) {
+            Some(cause) => Fault::Unopened(cause),
+            None => Fault::Refused(Refusal::Io),
+        },
         other => other,
-    }
-}
-
-// Whether another program has the file just now.
-fn is_in_use<R: Files<File = File>>(rt: &R, file: Option<&str>) -> bool {
-    match file {
-        Some(file) => FileDevice::is_in_use(rt, file),
-        None => false,
     }
 }

@@ -3,30 +3,31 @@ use Rattle.std.specs.Prelude.{ℕ, ◌/◌, ◌%◌, List, [], ◌∷◌, ◌++�
 use Rattle.lsm_device.specs.declared.refusal.Refusal.{Refusal}
 use Rattle.lsm_device.specs.declared.refusal.Refusal.TheVariants.{Io}
 use Rattle.lsm_device.specs.Refusals.{number_of, name_of, place_of}
+use Rattle.lsm_language.specs.declared.cause.Cause.{Cause}
+use Rattle.lsm_language.specs.declared.cause.Cause.TheVariants.{InUse, Missing, NoFolder, Denied, Folder, Uneven}
 use Rattle.lsm_language.specs.declared.fault.Fault.{Fault}
-use Rattle.lsm_language.specs.declared.fault.Fault.TheVariants.{Usage, Refused, InUse, Input, Output}
+use Rattle.lsm_language.specs.declared.fault.Fault.TheVariants.{Usage, Refused, Unopened, Input, Output}
 
--- a mistake in the words or the input, a refusal, a file that another program has, an input that could not be read, or an answer
--- that could not be written
+-- a mistake in the words or the input, a refusal, a file that can't be opened, an input that could not be read, or an answer that
+-- could not be written
 pub data Reason : Type 0 where
   mistake : Reason
   refusal : Refusal → Reason
-  in_use : Reason
+  unopened : Cause → Reason
   unread : Reason
   unwritten : Reason
 
 abbrev pub reason_of : Fault → Reason
 reason_of (Usage usage) = mistake
 reason_of (Refused r) = refusal r
-reason_of InUse = in_use
+reason_of (Unopened cause) = unopened cause
 reason_of (Input error) = unread
 reason_of (Output error) = unwritten
 
--- a refusal, or that something could not be printed
-abbrev pub IsRefusalOr : Reason → Type 0
-IsRefusalOr (refusal r) = Unit {0}
-IsRefusalOr unwritten = Unit {0}
-IsRefusalOr other = ⊥
+-- a file that can't be opened
+abbrev pub IsUnopened : Reason → Type 0
+IsUnopened (unopened cause) = Unit {0}
+IsUnopened other = ⊥
 
 abbrev pub IsRefusal : Reason → Type 0
 IsRefusal (refusal r) = Unit {0}
@@ -35,7 +36,7 @@ IsRefusal other = ⊥
 -- the exit status
 abbrev pub status_of : Reason → ℕ
 status_of (refusal r) = 1
-status_of in_use = 1
+status_of (unopened cause) = 1
 status_of unread = 1
 status_of unwritten = 1
 status_of mistake = 2
@@ -52,6 +53,14 @@ refusal_text r = codes "refused " ++ decimal (number_of r / 10) ++ decimal (numb
 abbrev pub refusal_line : Refusal → List ℕ
 refusal_line r = refusal_text r ++ 10 ∷ []
 
--- what is printed of a file that another program has: the refusal, and then the cause
-abbrev pub in_use_lines : List ℕ
-in_use_lines = refusal_line Io ++ codes "error: the file is in use" ++ 10 ∷ []
+abbrev pub cause_text : Cause → List ℕ
+cause_text InUse = codes "the file is in use"
+cause_text Missing = codes "there is no such file"
+cause_text NoFolder = codes "the folder of the file is missing"
+cause_text Denied = codes "the file may not be read and written"
+cause_text Folder = codes "the file is a folder"
+cause_text Uneven = codes "the length of the file is not a whole number of sectors"
+
+-- what is printed of a file that can't be opened: the refusal, and then the cause
+abbrev pub unopened_lines : Cause → List ℕ
+unopened_lines cause = refusal_line Io ++ codes "error: " ++ cause_text cause ++ 10 ∷ []

@@ -4,6 +4,7 @@ ghost use Rattle.std.specs.Prelude.{◌≡◌};
 ghost use Rattle.lsm_device.specs.declared.refusal.Refusal.TheVariants.{NoMemory};
 ghost use Rattle.lsm_language.specs.Faults.{reason_of, mistake, refusal};
 
+use crate::cause::{Cause, cause_text};
 use crate::refused::refusal_text;
 use lsm_device::Refusal;
 use std::alloc::{AllocError, AllocFailed};
@@ -45,7 +46,7 @@ pub enum Usage {
     Misplaced { number: usize, line: String },
 }
 
-/// A mistake in the words or the input, a refusal, a file that another program has, an input that could not be read, or an
+/// A mistake in the words or the input, a refusal, a file that can't be opened, an input that could not be read, or an
 /// answer that could not be written.
 #[derive(Debug, Drop, Error)]
 pub enum Fault {
@@ -53,8 +54,8 @@ pub enum Fault {
     Usage(Usage),
     #[error("{text}", text = refusal_text(.0))]
     Refused(Refusal),
-    #[error("the file is in use")]
-    InUse,
+    #[error("{text}", text = cause_text(.0))]
+    Unopened(Cause),
     #[error("the input could not be read: {0}")]
     Input(io::Error),
     #[error("the answer could not be written: {0}")]

@@ -2,6 +2,7 @@
 #![tactic(auto)]
 
 mod asked;
+mod cause;
 mod fault;
 mod geometry;
 mod guards;
@@ -18,6 +19,7 @@ mod script;
 mod words;
 
 pub use asked::Asked;
+pub use cause::{Cause, cause_text};
 pub use fault::{Fault, Usage};
 pub use geometry::Geometry;
 pub use input::script_text;

@@ -57,7 +57,8 @@ impl Policy {
     }
 
     /// Whether there is room for more entries where so many blocks are free: with two blocks taken for each that is free, at least a
-    /// third of all. A store that puts no more where there is none can be emptied by deletes: each delete wants a table first.
+    /// third of all. Deletes want room before they make some, since each wants a table first: that is what a store has left which puts no
+    /// more where there is none. No clause says that it is enough.
     pub fn has_room<A: Allocator>(&self, levels: &Levels<A>, free_blocks: u32) -> bool
         ensures { result ≡ nat_le (taken_blocks levels.now) (self.now.taken_for_each_free * free_blocks) }
     {

@@ -5,13 +5,13 @@ use Rattle.lsm_requests.specs.declared.answer.Answer.{Answer}
 use Rattle.lsm_requests.specs.declared.answer.Output.{Output}
 use Rattle.lsm_requests.specs.declared.answer.Output.TheVariants.{Formatted, Batch, Value, Absent, Lines, Loaded, Dumped, Served, Found, Explored, Tally}
 use Rattle.lsm_language.specs.declared.fault.Fault.{Fault}
-use Rattle.lsm_language.specs.Faults.{Reason, mistake, refusal, in_use, unread, unwritten, reason_of, status_of}
+use Rattle.lsm_language.specs.Faults.{Reason, mistake, refusal, unopened, unread, unwritten, reason_of, status_of}
 use Rattle.lsm_requests.specs.Endings.{answer_status, status_after}
 
 status_of-at_most : (r : Reason) → status_of r ≤ 2
 status_of-at_most mistake = grind arith
 status_of-at_most (refusal r) = grind arith
-status_of-at_most in_use = grind arith
+status_of-at_most (unopened cause) = grind arith
 status_of-at_most unread = grind arith
 status_of-at_most unwritten = grind arith
 

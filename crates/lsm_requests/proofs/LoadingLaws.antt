@@ -1,6 +1,6 @@
 -- How a loading goes on.
 use Rattle.std.proofs.Common.{◌≡◌, ◌∙◌, ◌+◌, ℕ, Bool, true, false, List, [], ◌∷◌, ◌++◌, length, Option, Some, None, Result, Ok, Err, is_some, ◌&&◌, ◌==◌, ◌⊎◌, inl, inr, refl, sym, ap, subst, append_assoc, append-nil, length-append, arith}
-use Rattle.std.specs.Prelude.{IfSome, if◌then◌else◌}
+use Rattle.std.specs.Prelude.{IfOk, IfSome, if◌then◌else◌}
 use Rattle.std.specs.Io.Buffered.{reader_buffer, reader_capacity, reader_inner, reader_remaining}
 use Rattle.std.specs.Io.KnownBytes.{Appends, prepend_known}
 use Rattle.std.specs.declared.io.buffered.BufReader.{BufReader}
@@ -8,8 +8,10 @@ use Rattle.lsm_codec.specs.Map.{Map, Operation, apply, changed}
 use Rattle.lsm_device.specs.declared.refusal.Refusal.{Refusal}
 use Rattle.std.specs.Io.BufRead.{drop_through}
 use Rattle.lsm_language.specs.declared.fault.Fault.{Fault}
-use Rattle.lsm_language.specs.Faults.{Reason, mistake, refusal, in_use, unread, unwritten, reason_of}
+use Rattle.lsm_language.specs.declared.fault.Fault.TheVariants.{Refused}
+use Rattle.lsm_language.specs.Faults.{Reason, mistake, refusal, unopened, unread, unwritten, reason_of}
 use Rattle.lsm_language.specs.Rows.{ReadsLine, are_rows, lines_of, row_said, rows_of, with_row}
+use Rattle.lsm_open.specs.Recovering.{IsOpeningRefusal}
 use Rattle.lsm_store.specs.Backing.{StoreView}
 use Rattle.lsm_store.specs.Calls.{Done, Sync}
 use Rattle.lsm_store.specs.RecoveryPoints.{present_map}
@@ -22,7 +24,7 @@ use Rattle.lsm_requests.specs.Answers.{TellsLoaded}
 use Rattle.lsm_requests.specs.Commits.{Puts, map_in}
 use Rattle.lsm_requests.specs.declared.answer.Output.{Output}
 use Rattle.lsm_requests.specs.declared.answer.Output.TheVariants.{Loaded as LoadedRows}
-use Rattle.lsm_requests.specs.Loading.{ArePut, AreRead, BeginsWith, CommitsWaiting, EndsFor, EndsWith, FitsIf, HasLoaded, HasRead, IsOther, IsLoaded, IsLoading, Takes, loaded_line, none_loaded, rows_waiting, waits_after, with_taken}
+use Rattle.lsm_requests.specs.Loading.{ArePut, AreRead, BeginsWith, CommitsWaiting, EndsFor, EndsWith, FitsIf, HasLoaded, HasRead, IsLoadRefusal, IsLoaded, IsLoading, IsOther, Takes, loaded_line, none_loaded, rows_waiting, waits_after, with_taken}
 
 -- ---- maps
 
@@ -180,8 +182,8 @@ reading-fails input left fault loading before now r other = record { rows = r.ro
   where
     by : (reason : Reason) → IsOther reason → IfSome input (λ all. BeginsWith (rows_of (lines_of all)) r.rows) → EndsFor reason input r.rows
     by mistake is starts = absurd is
-    by (refusal e) is starts = starts
-    by in_use is starts = absurd is
+    by (refusal e) is starts = (is, starts)
+    by (unopened cause) is starts = absurd is
     by unread is starts = starts
     by unwritten is starts = starts
 
@@ -203,8 +205,8 @@ put-read input ended loading new before now next r commits =
 -- and where it was not, some of them
 ends-other : (input : Option (List ℕ)) (reason : Reason) → IsOther reason → (rows : List Operation) → IfSome input (λ all. BeginsWith (rows_of (lines_of all)) rows) → EndsFor reason input rows
 ends-other input mistake is rows begins = absurd is
-ends-other input (refusal e) is rows begins = begins
-ends-other input in_use is rows begins = absurd is
+ends-other input (refusal e) is rows begins = (is, begins)
+ends-other input (unopened cause) is rows begins = absurd is
 ends-other input unread is rows begins = begins
 ends-other input unwritten is rows begins = begins
 
@@ -223,8 +225,8 @@ ends-begin (Some all) (Err fault) rows ends = by (reason_of fault) ends
   where
     by : (reason : Reason) → EndsFor reason (Some all) rows → BeginsWith (rows_of (lines_of all)) rows
     by mistake (is, bad) = ([], sym is ∙ sym (append-nil rows))
-    by (refusal e) begins = begins
-    by in_use begins = absurd begins
+    by (refusal e) (is, begins) = begins
+    by (unopened cause) begins = absurd begins
     by unread begins = begins
     by unwritten begins = begins
 
@@ -242,6 +244,18 @@ put-refused input ended fault loading new before now next r other waits =
 -- nothing more was done
 pub waits-as_it_is : (loading : Loading) (now : StoreView) → CommitsWaiting false loading now loading now
 waits-as_it_is loading now = (refl, λ begun rows l. l)
+
+-- what a reading that was refused has put
+pub put-as_read : (input : Option (List ℕ)) (e : Refusal) (loading : Loading) (before now : StoreView) → AreRead input (Err (Refused e)) loading before now
+    → ArePut input (Err (Refused e)) loading before now
+put-as_read input e loading before now r = put-refused input (Err (Refused e)) (Refused e) loading loading before now now r r.ends.0 (waits-as_it_is loading now)
+
+pub put-if_refused : (input : Option (List ℕ)) (ended : Result (Unit {0}) Fault) (fault : Fault) (e : Refusal) (loading : Loading) (before now : StoreView) → ended ≡ Err fault
+    → fault ≡ Refused e → AreRead input ended loading before now → ArePut input ended loading before now
+put-if_refused input ended fault e loading before now is refused r =
+    let same : ended ≡ Err (Refused e) = is ∙ ap (λ (f : Fault). Err f) refused in
+    subst (λ (x : Result (Unit {0}) Fault). ArePut input x loading before now) (sym same)
+    (put-as_read input e loading before now (subst (λ (x : Result (Unit {0}) Fault). AreRead input x loading before now) same r))
 
 -- ---- the sync
 
@@ -263,6 +277,11 @@ pub loaded-behind : (input : Option (List ℕ)) (loaded : Loaded) (before mid af
 loaded-behind input loaded before mid after keeps l =
     record { rows = l.rows; number = l.number; ends = l.ends; map = l.map ∙ ap (λ (m : Map). apply m l.rows) keeps.map; synced = l.synced }
 
+pub loads_behind : (input : Option (List ℕ)) (r : Result Loaded Refusal) (before mid after : StoreView) → KeepsMap before mid → IfOk r (λ loaded. IsLoaded input loaded mid after)
+    → IfOk r (λ loaded. IsLoaded input loaded before after)
+loads_behind input (Ok loaded) before mid after keeps loads = loaded-behind input loaded before mid after keeps loads
+loads_behind input (Err e) before mid after keeps loads = tt
+
 -- all rows of the input
 pub has_loaded : (input : Option (List ℕ)) (loaded : Loaded) (before after : StoreView) (output : Output) → IsLoaded input loaded before after → loaded.ended ≡ Ok tt
     → output ≡ LoadedRows loaded.rows → HasLoaded input before after output
@@ -282,8 +301,8 @@ none_bad (Some all) rows ends = ends.1
 tells_number : (input output output_after : Option (List ℕ)) (rows : List Operation) (number : ℕ) (reason : Reason) → EndsFor reason input rows
     → Appends output output_after (loaded_line number) → TellsLoaded input reason output output_after
 tells_number input output output_after rows number mistake ends appends = (none_bad input rows ends, (number, appends))
-tells_number input output output_after rows number (refusal e) ends appends = inr (number, appends)
-tells_number input output output_after rows number in_use ends appends = absurd ends
+tells_number input output output_after rows number (refusal e) ends appends = (inr ends.0, inr (number, appends))
+tells_number input output output_after rows number (unopened cause) ends appends = absurd ends
 tells_number input output output_after rows number unread ends appends = inr (number, appends)
 tells_number input output output_after rows number unwritten ends appends = tt
 
@@ -295,8 +314,8 @@ tells_loaded input output output_after loaded fault told before after l is (inr 
     (tells_number input output output_after l.rows loaded.rows (reason_of fault) (subst (λ (ended : Result (Unit {0}) Fault). EndsWith ended input l.rows) is l.ends) appends)
 
 -- a refusal before any row was loaded
-pub tells_refused : (input output : Option (List ℕ)) (reason : Reason) (e : Refusal) → reason ≡ refusal e → TellsLoaded input reason output output
-tells_refused input output reason e is = subst (λ (r : Reason). TellsLoaded input r output output) (sym is) (inl refl)
+pub tells_refused : (input output : Option (List ℕ)) (reason : Reason) (e : Refusal) → reason ≡ refusal e → IsOpeningRefusal e ⊎ IsLoadRefusal e → TellsLoaded input reason output output
+tells_refused input output reason e is may = subst (λ (r : Reason). TellsLoaded input r output output) (sym is) (may, inl refl)
 
 -- ---- the reader
 

@@ -29,7 +29,7 @@ reading-refused input left fault row old new before now next r takes other = rea
 
 -- an input that can't be read, or no memory for a line
 unread_other : (reason : Reason) → (reason ≡ refusal NoMemory) ⊎ (reason ≡ unread) → IsOther reason
-unread_other reason (inl is) = subst IsOther (sym is) tt
+unread_other reason (inl is) = subst IsOther (sym is) (inl refl)
 unread_other reason (inr is) = subst IsOther (sym is) tt
 
 pub reading-unread : (input left : Option (List ℕ)) (fault : Fault) (loading : Loading) (before now : StoreView) → IsReading input left loading before now
@@ -40,7 +40,7 @@ reading-unread input left fault loading before now r is = reading-fails input le
 pub reading-no_row : (input left after : Option (List ℕ)) (line : List ℕ) (fault : Fault) (loading : Loading) (before now : StoreView) → IsReading input left loading before now
     → ReadsLine left true line after → ((reason_of fault ≡ mistake) × (row_said line ≡ None)) ⊎ (reason_of fault ≡ refusal NoMemory) → AreRead input (Err fault) loading before now
 reading-no_row input left after line fault loading before now r reads (inl (is, none)) = reading-stops input left after line fault loading before now r reads none is
-reading-no_row input left after line fault loading before now r reads (inr is) = reading-fails input left fault loading before now r (subst IsOther (sym is) tt)
+reading-no_row input left after line fault loading before now r reads (inr is) = reading-fails input left fault loading before now r (subst IsOther (sym is) (inl refl))
 
 -- ---- a row
 

@@ -1,5 +1,5 @@
 -- Calls of a store that were refused.
-use Rattle.std.proofs.Common.{◌≡◌, ◌⊎◌, ℕ, Bool, true, false, List, Ok, Err, refl, sym, ap, subst, inl, inr}
+use Rattle.std.proofs.Common.{◌≡◌, ◌⊎◌, ℕ, Bool, true, false, List, Result, Ok, Err, IfErr, refl, sym, ap, subst, inl, inr}
 use Rattle.std.specs.Prelude.{is_some, if◌then◌else◌}
 use Rattle.lsm_codec.specs.Guards.{Condition}
 use Rattle.lsm_codec.specs.Map.{Operation}
@@ -7,14 +7,15 @@ use Rattle.lsm_device.specs.declared.refusal.Refusal.{Refusal}
 use Rattle.lsm_device.specs.declared.refusal.Refusal.TheVariants.{NoMemory, Io, Stopped, NoSpace}
 use Rattle.lsm_open.specs.Recovering.{IsOpeningRefusal}
 use Rattle.lsm_store.specs.Backing.{StoreView, machine_of}
-use Rattle.lsm_store.specs.Calls.{Call, CommitIf, Sync, Number, Refused, Unread, as_told}
+use Rattle.lsm_store.specs.Calls.{Call, Reply, CommitIf, Sync, Number, Refused, Unread, as_told, reply_of}
 use Rattle.lsm_store.specs.Serving.{Serves, reply_in}
 use Rattle.lsm_store.specs.State.{State}
 use Rattle.lsm_store.specs.Stats.{stat_answer, stat_of}
 use Rattle.lsm_store.specs.declared.stat.Stat.{Stat}
 use Rattle.lsm_requests.specs.Answers.{WasOpened}
-use Rattle.lsm_requests.specs.Refusing.{IsRefusedOpened, Refuses, RefusesToCommit, RefusesToTell}
-use Rattle.lsm_requests.specs.Commits.{IsKeptUp, takes_puts}
+use Rattle.lsm_requests.specs.Commits.{IsKeptUp, Refuses, takes_puts}
+use Rattle.lsm_requests.specs.Loading.{IsLoadRefusal, IsLoadingCall}
+use Rattle.lsm_requests.specs.Refusing.{IsRefusedOpened, RefusesToCommit, RefusesToTell}
 
 -- what is told of a batch under guards that was refused, whether a read or a write faulted
 told_refused : (guards : List Condition) (batch : List Operation) (s : State) (e : Refusal) → as_told (reply_in (CommitIf guards batch) s (Refused e)) ≡ Refused e
@@ -55,6 +56,24 @@ sync_refused puts call before kept between after number e keeps commits refused 
   keeps = keeps;
   refused = inr (inr record { number = number; between = between; commits = commits; refused = refuses Sync between after e refused });
 }
+
+-- ---- of a loading
+
+-- a call of it was refused
+pub loading_refused : (call : Call) (before after : StoreView) (e : Refusal) → IsLoadingCall call → Serves before call (Refused e) after → IsLoadRefusal e
+loading_refused call before after e is serves = inr (inr (inr record { call = call; store = before; is = is; refuses = refuses call before after e serves }))
+
+-- or it was answered
+pub loading_called : {X : Type 0} (call : Call) (say : X → Reply) (result : Result X Refusal) (before after : StoreView) → IsLoadingCall call → Serves before call (reply_of say result) after
+    → IfErr result IsLoadRefusal
+loading_called call say (Ok x) before after is serves = tt
+loading_called call say (Err e) before after is serves = loading_refused call before after e is serves
+
+-- there was no room
+pub loading_room : (store : StoreView) (beside : ℕ) (e : Refusal) → e ≡ NoSpace → takes_puts beside store ≡ false → IsLoadRefusal e
+loading_room store beside e is lacks = inr (inr (inl record { store = store; beside = beside; lacks = lacks; is = is }))
+
+-- ---- a store that was opened
 
 -- a store that was opened was refused so
 pub opened_refused : (RefusesSo : StoreView → Refusal → Type 0) (store : StoreView) (e : Refusal) → WasOpened store → RefusesSo store e → IsRefusedOpened RefusesSo e

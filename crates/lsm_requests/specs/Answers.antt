@@ -1,7 +1,7 @@
 -- What the program prints.
 use Rattle.std.specs.Prelude.{◌≡◌, ◌⊎◌, ℕ, ◌+◌, ◌*◌, ◌==◌, List, [], ◌∷◌, ◌++◌, map, Option, Some, None, Result, Ok, Err, IfOk, IfSome, IsTrue, false, true, codes, decimal, string_bytes}
 use Rattle.std.specs.Io.KnownBytes.{Appends}
-use Rattle.lsm_language.specs.Faults.{Reason, mistake, refusal, in_use, unwritten, reason_of}
+use Rattle.lsm_language.specs.Faults.{Reason, mistake, refusal, unopened, unwritten, reason_of}
 use Rattle.lsm_language.specs.declared.fault.Fault.{Fault}
 use Rattle.lsm_language.specs.Rows.{are_rows, lines_of as lines_in}
 use Rattle.lsm_codec.specs.Keys.{Bytes}
@@ -39,8 +39,8 @@ use Rattle.lsm_lives.specs.Living.{KeepPromise, asked_in}
 use Rattle.lsm_requests.specs.Steps.{steps_after, told_after, lives_said, told_lives}
 use Rattle.lsm_upkeep.specs.Upkeep.{CompactsAll}
 use Rattle.lsm_requests.specs.Commits.{HasCommitted, IsKeptUp}
-use Rattle.lsm_requests.specs.Dumping.{HasDumped}
-use Rattle.lsm_requests.specs.Loading.{HasLoaded, loaded_line}
+use Rattle.lsm_requests.specs.Dumping.{HasDumped, StopsDumping}
+use Rattle.lsm_requests.specs.Loading.{IsLoadRefusal, HasLoaded, loaded_line}
 use Rattle.lsm_replies.specs.Replies.{stat_line}
 use Rattle.lsm_requests.specs.Replies.{page_lines, report_line, table_line, counts_lines, replies_text, lives_text}
 use Rattle.lsm_requests.specs.declared.steps.Told.{Told}
@@ -254,12 +254,21 @@ Comes (request.Load file) input output output_after answer = OfOpened (HasLoaded
 Comes (request.Serve file) input output output_after answer = OfOpened (HasServed input output output_after) answer
 Comes other input output output_after answer = Gives other answer × (output_after ≡ output)
 
--- Why rows were not loaded, and what was printed: a line is no row, and the number of the rows before it; or nothing, or
--- a number too, or the number could not be printed.
+-- Why not all rows were printed, and what was printed: the store was not opened, and nothing was; or lines were, up to a refusal or to a
+-- failure of the output.
+abbrev pub TellsDumped : Reason → Option (List ℕ) → Option (List ℕ) → Type 0
+TellsDumped (refusal e) output output_after = (IsOpeningRefusal e × (output_after ≡ output))
+    ⊎ ((store : StoreView) × WasOpened store × StopsDumping (refusal e) store output output_after)
+TellsDumped unwritten output output_after = Unit {0}
+TellsDumped other output output_after = ⊥
+
+-- Why rows were not loaded, and what was printed: a line is no row, and the number of the rows before it; or a refusal or an input that
+-- can't be read, and nothing, or a number too; or the number could not be printed.
 abbrev pub TellsLoaded : Option (List ℕ) → Reason → Option (List ℕ) → Option (List ℕ) → Type 0
 TellsLoaded input mistake output output_after = IfSome input (λ all. are_rows (lines_in all) ≡ false)
     × ((number : ℕ) × Appends output output_after (loaded_line number))
-TellsLoaded input in_use output output_after = ⊥
+TellsLoaded input (refusal e) output output_after = (IsOpeningRefusal e ⊎ IsLoadRefusal e) × ((output_after ≡ output) ⊎ ((number : ℕ) × Appends output output_after (loaded_line number)))
+TellsLoaded input (unopened cause) output output_after = ⊥
 TellsLoaded input unwritten output output_after = Unit {0}
 TellsLoaded input other output output_after = (output_after ≡ output) ⊎ ((number : ℕ) × Appends output output_after (loaded_line number))
 

@@ -1,8 +1,9 @@
 -- Batches that are committed to a store that is kept up.
 use Rattle.std.specs.Prelude.{◌≡◌, ◌||◌, ℕ, Bool, true, is_some, List, [], Option, Some, None, IsTrue}
 use Rattle.lsm_codec.specs.Map.{Map, Operation, apply}
+use Rattle.lsm_device.specs.declared.refusal.Refusal.{Refusal}
 use Rattle.lsm_store.specs.Backing.{StoreView}
-use Rattle.lsm_store.specs.Calls.{Call, Sync, Done, Number}
+use Rattle.lsm_store.specs.Calls.{Call, Reply, Sync, Done, Number, Refused, as_told}
 use Rattle.lsm_store.specs.RecoveryPoints.{present_map}
 use Rattle.lsm_store.specs.Serving.{Serves}
 use Rattle.lsm_upkeep.specs.Upkeep.{KeepsUp, has_room}
@@ -17,6 +18,13 @@ IsKeptUp before after = KeepsUp 768 before after
 -- to be filled.
 abbrev pub takes_puts : ℕ → StoreView → Bool
 takes_puts beside s = is_some s.state.stopped || has_room 2 beside s
+
+-- a store served a call, and told this refusal
+pub record Refuses (call : Call) (before : StoreView) (e : Refusal) : Type 0 where
+  pub reply : Reply
+  pub after : StoreView
+  pub serves : Serves before call reply after
+  pub told : as_told reply ≡ Refused e
 
 -- the store was kept up, then a batch was added by this call and synced, and its number is told; what puts found room
 pub record HasCommitted (puts : Bool) (call : Call) (before after : StoreView) (output : Output) : Type 0 where

@@ -1,12 +1,14 @@
 -- Rows that are loaded.
-use Rattle.std.specs.Prelude.{◌≡◌, ℕ, Bool, true, false, List, [], ◌∷◌, ◌++◌, length, Option, Some, None, Result, Ok, Err, IfSome, codes, decimal}
+use Rattle.std.specs.Prelude.{◌≡◌, ◌⊎◌, ℕ, Bool, true, false, List, [], ◌∷◌, ◌++◌, length, Option, Some, None, Result, Ok, Err, IfSome, codes, decimal}
 use Rattle.lsm_codec.specs.Map.{Map, Operation, apply}
 use Rattle.lsm_device.specs.declared.refusal.Refusal.{Refusal}
+use Rattle.lsm_device.specs.declared.refusal.Refusal.TheVariants.{Exhausted, NoMemory, NoSpace}
 use Rattle.lsm_store.specs.Backing.{StoreView}
+use Rattle.lsm_store.specs.Calls.{Call, Commit, LogRoom, Rotate, Sync}
 use Rattle.lsm_language.specs.declared.fault.Fault.{Fault}
-use Rattle.lsm_language.specs.Faults.{Reason, mistake, in_use, reason_of}
+use Rattle.lsm_language.specs.Faults.{Reason, mistake, refusal, unopened, reason_of}
 use Rattle.lsm_language.specs.Rows.{are_rows, lines_of, rows_of}
-use Rattle.lsm_requests.specs.Commits.{map_in}
+use Rattle.lsm_requests.specs.Commits.{Refuses, map_in, takes_puts}
 use Rattle.lsm_requests.specs.declared.loading.Loading.{Loading}
 use Rattle.lsm_requests.specs.declared.loading.Loaded.{Loaded}
 use Rattle.lsm_requests.specs.declared.answer.Output.{Output}
@@ -34,16 +36,48 @@ HasRead input rows left = IfSome input (λ all. (text : List ℕ) × (left ≡ S
 abbrev pub BeginsWith : List Operation → List Operation → Type 0
 BeginsWith all rows = (rest : List Operation) × (all ≡ rows ++ rest)
 
+-- ---- refusals
+
+-- the calls that a loading makes
+abbrev pub IsLoadingCall : Call → Type 0
+IsLoadingCall (Commit batch) = Unit {0}
+IsLoadingCall Rotate = Unit {0}
+IsLoadingCall LogRoom = Unit {0}
+IsLoadingCall Sync = Unit {0}
+IsLoadingCall other = ⊥
+
+-- a store refused such a call so
+pub record RefusesLoading (e : Refusal) : Type 0 where
+  pub call : Call
+  pub store : StoreView
+  pub is : IsLoadingCall call
+  pub refuses : Refuses call store e
+
+-- a store had no room for puts, beside some blocks that are to be filled
+pub record LacksLoadRoom (e : Refusal) : Type 0 where
+  pub store : StoreView
+  pub beside : ℕ
+  pub lacks : takes_puts beside store ≡ false
+  pub is : e ≡ NoSpace
+
+-- With what a loading may be refused: a call that it makes was, there was no room or no memory, or 2^64 - 1 rows were read.
+abbrev pub IsLoadRefusal : Refusal → Type 0
+IsLoadRefusal e = (e ≡ NoMemory) ⊎ ((e ≡ Exhausted) ⊎ (LacksLoadRoom e ⊎ RefusesLoading e))
+
+-- ---- how a loading ends
+
 -- A loading ends with all rows of the input, with a line that is no row behind these, or with some of them.
 abbrev pub EndsFor : Reason → Option (List ℕ) → List Operation → Type 0
 EndsFor mistake input rows = IfSome input (λ all. (rows ≡ rows_of (lines_of all)) × (are_rows (lines_of all) ≡ false))
-EndsFor in_use input rows = ⊥
+EndsFor (refusal e) input rows = IsLoadRefusal e × IfSome input (λ all. BeginsWith (rows_of (lines_of all)) rows)
+EndsFor (unopened cause) input rows = ⊥
 EndsFor other input rows = IfSome input (λ all. BeginsWith (rows_of (lines_of all)) rows)
 
 -- a reason that a loading may have beside a mistake
 abbrev pub IsOther : Reason → Type 0
 IsOther mistake = ⊥
-IsOther in_use = ⊥
+IsOther (refusal e) = IsLoadRefusal e
+IsOther (unopened cause) = ⊥
 IsOther other = Unit {0}
 
 abbrev pub EndsWith : Result (Unit {0}) Fault → Option (List ℕ) → List Operation → Type 0

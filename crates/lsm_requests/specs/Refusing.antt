@@ -3,24 +3,18 @@ use Rattle.std.specs.Prelude.{◌≡◌, ◌⊎◌, ℕ, Bool, true, false, List
 use Rattle.lsm_check.specs.Images.{IsCheckRefusal}
 use Rattle.lsm_device.specs.declared.refusal.Refusal.{Refusal}
 use Rattle.lsm_device.specs.declared.refusal.Refusal.TheVariants.{NoMemory, Io, Stopped, NoSpace}
-use Rattle.lsm_language.specs.Faults.{Reason, IsRefusalOr, refusal}
+use Rattle.lsm_language.specs.Faults.{Reason, refusal}
 use Rattle.lsm_language.specs.declared.request.Request.{Request}
 use Rattle.lsm_language.specs.declared.request.Request.TheVariants as request
 use Rattle.lsm_open.specs.Recovering.{IsOpeningRefusal}
 use Rattle.lsm_store.specs.declared.asked.At.TheVariants.{Now}
 use Rattle.lsm_store.specs.Backing.{StoreView}
-use Rattle.lsm_store.specs.Calls.{Call, Reply, Commit, CommitIf, Get, Scan, Sync, Number, Refused, as_told}
+use Rattle.lsm_store.specs.Calls.{Call, Commit, CommitIf, Get, Scan, Sync, Number}
 use Rattle.lsm_store.specs.Serving.{Serves}
 use Rattle.lsm_storm.specs.Storms.{IsSessionRefusal, IsStormRefusal}
-use Rattle.lsm_requests.specs.Answers.{WasOpened, TellsLoaded, TellsServed}
-use Rattle.lsm_requests.specs.Commits.{IsKeptUp, takes_puts}
-
--- a store served a call, and told this refusal
-pub record Refuses (call : Call) (before : StoreView) (e : Refusal) : Type 0 where
-  pub reply : Reply
-  pub after : StoreView
-  pub serves : Serves before call reply after
-  pub told : as_told reply ≡ Refused e
+use Rattle.lsm_requests.specs.Answers.{WasOpened, TellsDumped, TellsLoaded, TellsServed}
+use Rattle.lsm_requests.specs.Commits.{IsKeptUp, Refuses, takes_puts}
+use Rattle.lsm_requests.specs.Loading.{IsLoadRefusal}
 
 -- a call that reads was refused, or there was no memory for the text of its answer
 abbrev pub RefusesToTell : Call → StoreView → Refusal → Type 0
@@ -53,7 +47,7 @@ pub record OpensAndRefuses (RefusesSo : StoreView → Refusal → Type 0) (e : R
 abbrev pub IsRefusedOpened : (StoreView → Refusal → Type 0) → Refusal → Type 0
 IsRefusedOpened RefusesSo e = IsOpeningRefusal e ⊎ OpensAndRefuses RefusesSo e
 
--- with what a request may be refused; of rows that are printed or loaded nothing is said
+-- with what a request may be refused
 abbrev pub MayRefuse : Request → Refusal → Type 0
 MayRefuse (request.Format file geometry) e = (e ≡ NoMemory) ⊎ (e ≡ Io)
 MayRefuse (request.Put file batch) e = IsRefusedOpened (RefusesToCommit true (Commit batch)) e
@@ -64,9 +58,9 @@ MayRefuse (request.Scan file from limit) e = IsRefusedOpened (RefusesToTell (Sca
 MayRefuse (request.Stat file) e = IsOpeningRefusal e
 MayRefuse (request.Check file) e = IsCheckRefusal e
 MayRefuse (request.Compact file) e = IsOpeningRefusal e ⊎ (e ≡ Stopped)
-MayRefuse (request.Dump file) e = Unit {0}
-MayRefuse (request.Load file) e = Unit {0}
-MayRefuse (request.Serve file) e = Unit {0}
+MayRefuse (request.Dump file) e = (output : Option (List ℕ)) × (output_after : Option (List ℕ)) × TellsDumped (refusal e) output output_after
+MayRefuse (request.Load file) e = IsOpeningRefusal e ⊎ IsLoadRefusal e
+MayRefuse (request.Serve file) e = (input : Option (List ℕ)) × (output : Option (List ℕ)) × (output_after : Option (List ℕ)) × TellsServed input (refusal e) output output_after
 MayRefuse (request.Replay file script) e = IsOpeningRefusal e
 MayRefuse (request.Lives geometry script) e = e ≡ NoMemory
 MayRefuse (request.Explore geometry script) e = e ≡ NoMemory
@@ -80,7 +74,7 @@ IsRefusalOf request other = ⊥
 
 -- why there is no answer, and what was printed then
 abbrev pub FaultsWith : Request → Option (List ℕ) → Reason → Option (List ℕ) → Option (List ℕ) → Type 0
-FaultsWith (request.Dump file) input reason output output_after = IsRefusalOr reason
+FaultsWith (request.Dump file) input reason output output_after = TellsDumped reason output output_after
 FaultsWith (request.Load file) input reason output output_after = TellsLoaded input reason output output_after
 FaultsWith (request.Serve file) input reason output output_after = TellsServed input reason output output_after
 FaultsWith other input reason output output_after = IsRefusalOf other reason × (output_after ≡ output)

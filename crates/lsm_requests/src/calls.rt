@@ -11,13 +11,13 @@ ghost use Rattle.lsm_store.specs.Calls.{Commit, CommitIf, Get, Scan};
 ghost use Rattle.lsm_store.specs.Stats.{stat_answer};
 ghost use Rattle.lsm_store.specs.declared.asked.At.TheVariants.{Now};
 ghost use Rattle.lsm_storm.specs.Storms.{IsStormRefusal};
-ghost use Rattle.lsm_language.specs.Faults.{IsRefusalOr, reason_of, unwritten};
+ghost use Rattle.lsm_language.specs.Faults.{reason_of, unwritten};
 ghost use Rattle.lsm_lives.specs.Calls.{asked_of};
 ghost use Rattle.lsm_requests.specs.Steps.{steps_after, lives_said, told_after, told_lives};
 ghost use Rattle.lsm_requests.specs.Replies.{table_line};
 ghost use Rattle.lsm_requests.specs.Commits.{HasCommitted};
-ghost use Rattle.lsm_requests.specs.Loading.{HasLoaded, IsLoaded, loaded_line};
-ghost use Rattle.lsm_requests.specs.Answers.{Comes, HasCompacted, HasFormatted, HasCounted, OfDumped, TellsLoaded, TellsServed, HasFound, HasServed, HasLives, HasNumbers, HasChecked, IsChecked, TellsFound, HasRows, HasReplies, OfOpened};
+ghost use Rattle.lsm_requests.specs.Loading.{HasLoaded, IsLoadRefusal, IsLoaded, loaded_line};
+ghost use Rattle.lsm_requests.specs.Answers.{Comes, HasCompacted, HasFormatted, HasCounted, OfDumped, TellsDumped, TellsLoaded, TellsServed, HasFound, HasServed, HasLives, HasNumbers, HasChecked, IsChecked, TellsFound, HasRows, HasReplies, OfOpened};
 ghost use Rattle.lsm_requests.specs.Refusing.{FaultsWith, IsRefusedOpened, RefusesToCommit, RefusesToTell};
 
 use crate::answer::{Answer, Output};
@@ -123,7 +123,7 @@ fn dump<R: Files<File = File> + AllocGlobal, O: Write>(
     output: &mut O,
 ) -> Result<Answer, Fault>
     ensures answer { IfOk result (OfDumped (O.contents output.old) (O.contents output.new)) }
-    ensures fault { IfErr result (λ e. IsRefusalOr (reason_of e)) }
+    ensures fault { IfErr result (λ e. TellsDumped (reason_of e) (O.contents output.old) (O.contents output.new)) }
 {
     let mut store = open(rt, file)?;
     dump_rows(rt.alloc(), &mut store, output)?;
@@ -173,7 +173,8 @@ fn keep_and_load<R: Threads + Sync, D: Device, I: BufRead, P: Progress>(
     lines: &mut I,
     progress: &mut P,
 ) -> Result<Loaded, Refusal>
-    ensures { IfOk result (λ loaded. IsLoaded (I.remaining lines.old) loaded store.old store.new) }
+    ensures loads { IfOk result (λ loaded. IsLoaded (I.remaining lines.old) loaded store.old store.new) }
+    ensures refused { IfErr result IsLoadRefusal }
 {
     keep(rt, alloc, store);
     check_room(store, blocks_of_log(store)?)?;

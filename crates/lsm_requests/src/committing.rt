@@ -5,6 +5,7 @@ ghost use Rattle.lsm_device.specs.declared.refusal.Refusal.TheVariants.{NoSpace}
 ghost use Rattle.lsm_upkeep.specs.Keeping.{KeepsMap};
 ghost use Rattle.lsm_store.specs.Calls.{Commit, CommitIf};
 ghost use Rattle.lsm_requests.specs.Commits.{HasCommitted, IsKeptUp, Puts, takes_puts};
+ghost use Rattle.lsm_requests.specs.Loading.{IsLoadRefusal};
 ghost use Rattle.lsm_requests.specs.Refusing.{RefusesToCommit};
 
 use crate::answer::Output;
@@ -95,7 +96,8 @@ pub fn add<R: Threads + Sync, D: Device>(
     store: &mut Store<D>,
     batch: &Batch,
 ) -> Result<u64, Refusal>
-    ensures { MatchResult result (λ _. Puts batch.now store.old store.new) (λ _. KeepsMap store.old store.new) }
+    ensures puts { MatchResult result (λ _. Puts batch.now store.old store.new) (λ _. KeepsMap store.old store.new) }
+    ensures refused { IfErr result IsLoadRefusal }
 {
     match store.commit(batch) {
         Err(Refusal::LogFull) => add_behind(rt, alloc, store, batch),
@@ -110,7 +112,8 @@ fn add_behind<R: Threads + Sync, D: Device>(
     store: &mut Store<D>,
     batch: &Batch,
 ) -> Result<u64, Refusal>
-    ensures { MatchResult result (λ _. Puts batch.now store.old store.new) (λ _. KeepsMap store.old store.new) }
+    ensures puts { MatchResult result (λ _. Puts batch.now store.old store.new) (λ _. KeepsMap store.old store.new) }
+    ensures refused { IfErr result IsLoadRefusal }
 {
     store.rotate()?;
     compact(rt, alloc, store, &Policy::new());
@@ -119,6 +122,8 @@ fn add_behind<R: Threads + Sync, D: Device>(
 }
 
 /// The blocks that tables of the entries fill for which the open log has room.
-pub fn blocks_of_log<D: Device>(store: &Store<D>) -> Result<u32, Refusal> {
+pub fn blocks_of_log<D: Device>(store: &Store<D>) -> Result<u32, Refusal>
+    ensures { IfErr result IsLoadRefusal }
+{
     Ok(store.log_room()? / 8)
 }

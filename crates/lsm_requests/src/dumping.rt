@@ -2,8 +2,8 @@
 
 ghost use Rattle.std.specs.Prelude.{MatchResult};
 ghost use Rattle.std.specs.Io.KnownBytes.{Appends};
-ghost use Rattle.lsm_language.specs.Faults.{IsRefusalOr, reason_of};
-ghost use Rattle.lsm_requests.specs.Dumping.{Dumps, DumpsPage, rows_lines};
+ghost use Rattle.lsm_language.specs.Faults.{reason_of};
+ghost use Rattle.lsm_requests.specs.Dumping.{Dumps, DumpsPage, IsUnprinted, StopsAtPage, StopsDumping, rows_lines};
 
 use crate::reply::push_row_lines;
 use lsm_device::{Device, Refusal};
@@ -19,7 +19,8 @@ pub fn dump_rows<D: Device, O: Write>(
     store: &mut Store<D>,
     output: &mut O,
 ) -> Result<(), Fault>
-    ensures { MatchResult result (λ _. Dumps (O.contents output.old) (O.contents output.new) store.old store.new) (λ e. IsRefusalOr (reason_of e)) }
+    ensures { MatchResult result (λ _. Dumps (O.contents output.old) (O.contents output.new) store.old store.new)
+        (λ e. StopsDumping (reason_of e) store.old (O.contents output.old) (O.contents output.new)) }
 {
     let mut walk = Walk::new(alloc, At::Now, &[])?;
     for _ in 0..u64::MAX {
@@ -37,7 +38,8 @@ fn dump_page<D: Device, O: Write>(
     store: &mut Store<D>,
     output: &mut O,
 ) -> Result<bool, Fault>
-    ensures { MatchResult result (λ more. DumpsPage more walk.old walk.new store.old store.new (O.contents output.old) (O.contents output.new)) (λ e. IsRefusalOr (reason_of e)) }
+    ensures { MatchResult result (λ more. DumpsPage more walk.old walk.new store.old store.new (O.contents output.old) (O.contents output.new))
+        (λ e. StopsAtPage (reason_of e) walk.old store.old (O.contents output.old) (O.contents output.new)) }
 {
     match walk.next_page(alloc, store)? {
         Some(page) => {
@@ -49,7 +51,7 @@ fn dump_page<D: Device, O: Write>(
 }
 
 fn print_page<O: Write>(alloc: Global, page: &Page, output: &mut O) -> Result<(), Fault>
-    ensures { MatchResult result (λ _. Appends (O.contents output.old) (O.contents output.new) (rows_lines page.now)) (λ e. IsRefusalOr (reason_of e)) }
+    ensures { MatchResult result (λ _. Appends (O.contents output.old) (O.contents output.new) (rows_lines page.now)) (λ e. IsUnprinted (reason_of e) (O.contents output.old) (O.contents output.new)) }
 {
     let mut text = String::new(alloc);
     push_row_lines(alloc, &mut text, page)?;

@@ -8,7 +8,7 @@ ghost use Rattle.lsm_requests.specs.Endings.{Concludes, IsReported, answer_statu
 
 use crate::answer::{Answer, Output};
 use lsm_device::Refusal;
-use lsm_language::{Fault, Usage, refusal_text};
+use lsm_language::{Fault, Usage, cause_text, refusal_text};
 use std::io;
 use std::io::Write;
 
@@ -50,7 +50,7 @@ fn status(answered: &Result<Answer, Fault>, written: &io::Result<()>) -> u8
     }
     match answered {
         Ok(answer) => answer_status(answer),
-        Err(Fault::Refused(_) | Fault::InUse | Fault::Input(_) | Fault::Output(_)) => REFUSED,
+        Err(Fault::Refused(_) | Fault::Unopened(_) | Fault::Input(_) | Fault::Output(_)) => REFUSED,
         Err(Fault::Usage(_)) => USAGE,
     }
 }
@@ -106,9 +106,10 @@ fn report<E: Write>(errors: &mut E, fault: &Fault) -> io::Result<()>
             let refused = refusal_text(refusal);
             writeln!(errors, "{refused}")?;
         }
-        Fault::InUse => {
+        Fault::Unopened(cause) => {
             let refused = refusal_text(&Refusal::Io);
-            writeln!(errors, "{refused}\nerror: the file is in use")?;
+            let text = cause_text(cause);
+            writeln!(errors, "{refused}\nerror: {text}")?;
         }
         Fault::Usage(Usage::Words(error)) => write!(errors, "{error}")?,
         _ => writeln!(errors, "error: {fault}")?,

@@ -1,12 +1,12 @@
 //! Rows are loaded: read a line at a time, and committed in batches as large as a batch may be.
 
-ghost use Rattle.std.specs.Prelude.{◌≡◌, ◌⊎◌, ◌<◌, ◌∷◌, ◌++◌, [], Some, None, IfOk, OnOk, OnErr, MatchResult, is_ok, if◌then◌else◌};
-ghost use Rattle.lsm_device.specs.declared.refusal.Refusal.TheVariants.{NoMemory};
+ghost use Rattle.std.specs.Prelude.{◌≡◌, ◌⊎◌, ◌<◌, ◌∷◌, ◌++◌, [], Some, None, IfOk, IfErr, OnOk, OnErr, MatchResult, is_ok, if◌then◌else◌};
+ghost use Rattle.lsm_device.specs.declared.refusal.Refusal.TheVariants.{BatchTooBig, NoMemory};
 ghost use Rattle.lsm_upkeep.specs.Keeping.{KeepsMap};
 ghost use Rattle.lsm_language.specs.Faults.{mistake, reason_of, refusal};
 ghost use Rattle.lsm_language.specs.Rows.{row_said};
 ghost use Rattle.lsm_requests.specs.Commits.{Puts};
-ghost use Rattle.lsm_requests.specs.Loading.{ArePut, AreRead, CommitsWaiting, Fits, IsLoaded, Takes, none_loaded, rows_waiting};
+ghost use Rattle.lsm_requests.specs.Loading.{ArePut, AreRead, CommitsWaiting, Fits, IsLoadRefusal, IsLoaded, Takes, none_loaded, rows_waiting};
 
 use crate::committing::add;
 use lsm_codec::{Batch, Op};
@@ -45,7 +45,8 @@ pub fn load_rows<R: Threads + Sync, D: Device, I: BufRead, P: Progress>(
     input: &mut I,
     progress: &mut P,
 ) -> Result<Loaded, Refusal>
-    ensures { IfOk result (λ loaded. IsLoaded (I.remaining input.old) loaded store.old store.new) }
+    ensures loads { IfOk result (λ loaded. IsLoaded (I.remaining input.old) loaded store.old store.new) }
+    ensures refused { IfErr result IsLoadRefusal }
 {
     let mut loading = Loading {
         batch: None,
@@ -130,7 +131,8 @@ fn take<R: Threads + Sync, D: Device>(
     row: Op,
 ) -> Result<(), Refusal>
     requires { loading.old.read < 18446744073709551615 }
-    ensures { Takes row (is_ok result) loading.old store.old loading.new store.new }
+    ensures takes { Takes row (is_ok result) loading.old store.old loading.new store.new }
+    ensures refused { IfErr result IsLoadRefusal }
 {
     if fits(loading, &row)? {
         loading.read += 1;
@@ -144,7 +146,8 @@ fn take<R: Threads + Sync, D: Device>(
 
 // Adds a row to the batch of those that wait, if there is one and it takes the row.
 fn fits(loading: &mut Loading, row: &Op) -> Result<bool, Refusal>
-    ensures { Fits row.now result loading.old loading.new }
+    ensures fits { Fits row.now result loading.old loading.new }
+    ensures refused { IfErr result (λ e. e ≡ NoMemory) }
 {
     match &mut loading.batch {
         Some(batch) => has_taken(batch, row),
@@ -156,6 +159,7 @@ fn fits(loading: &mut Loading, row: &Op) -> Result<bool, Refusal>
 fn has_taken(batch: &mut Batch, row: &Op) -> Result<bool, Refusal>
     ensures added { IfOk result (λ taken. batch.new ≡ (if taken then batch.old ++ row.now ∷ [] else batch.old)) }
     ensures same { OnErr result (batch.new ≡ batch.old) }
+    ensures refused { IfErr result (λ e. e ≡ NoMemory) }
 {
     match add_to(batch, row) {
         Ok(()) => Ok(true),
@@ -167,6 +171,7 @@ fn has_taken(batch: &mut Batch, row: &Op) -> Result<bool, Refusal>
 fn add_to(batch: &mut Batch, row: &Op) -> Result<(), Refusal>
     ensures added { OnOk result (batch.new ≡ batch.old ++ row.now ∷ []) }
     ensures same { OnErr result (batch.new ≡ batch.old) }
+    ensures refused { IfErr result (λ e. (e ≡ BatchTooBig) ⊎ (e ≡ NoMemory)) }
 {
     match row.value() {
         Some(value) => batch.put(row.key(), value),
@@ -181,7 +186,8 @@ fn commit_waiting<R: Threads + Sync, D: Device>(
     store: &mut Store<D>,
     loading: &mut Loading,
 ) -> Result<(), Refusal>
-    ensures { CommitsWaiting (is_ok result) loading.old store.old loading.new store.new }
+    ensures waits { CommitsWaiting (is_ok result) loading.old store.old loading.new store.new }
+    ensures refused { IfErr result IsLoadRefusal }
 {
     commit_batch(rt, alloc, store, &loading.batch)?;
     loading.batch = None;
@@ -195,7 +201,8 @@ fn commit_batch<R: Threads + Sync, D: Device>(
     store: &mut Store<D>,
     waiting: &Option<Batch>,
 ) -> Result<(), Refusal>
-    ensures { MatchResult result (λ _. Puts (rows_waiting waiting.now) store.old store.new) (λ _. KeepsMap store.old store.new) }
+    ensures puts { MatchResult result (λ _. Puts (rows_waiting waiting.now) store.old store.new) (λ _. KeepsMap store.old store.new) }
+    ensures refused { IfErr result IsLoadRefusal }
 {
     match waiting {
         Some(batch) => {

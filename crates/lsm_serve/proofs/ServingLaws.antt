@@ -5,7 +5,7 @@ use Rattle.std.specs.Io.KnownBytes.{Appends}
 use Rattle.lsm_device.specs.declared.refusal.Refusal.{Refusal}
 use Rattle.lsm_device.specs.declared.refusal.Refusal.TheVariants.{Stopped}
 use Rattle.lsm_language.specs.declared.fault.Fault.{Fault}
-use Rattle.lsm_language.specs.Faults.{Reason, mistake, refusal, in_use, unread, unwritten, reason_of}
+use Rattle.lsm_language.specs.Faults.{Reason, mistake, refusal, unopened, unread, unwritten, reason_of}
 use Rattle.lsm_language.specs.Rows.{lines_of}
 use Rattle.lsm_store.specs.Backing.{StoreView}
 use Rattle.lsm_store.specs.Calls.{Done, Refused, Sync, reply_of}
@@ -108,7 +108,7 @@ module _ (input left after : Option (List ℕ)) (number : ℕ) (before now new :
       }
       by unwritten t = tt
       by mistake none = absurd none
-      by in_use none = absurd none
+      by (unopened cause) none = absurd none
       by unread none = absurd none
 
 -- ---- its end

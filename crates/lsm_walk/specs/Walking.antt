@@ -34,9 +34,12 @@ pub record IsHeld (old : WalkView) (refusal : Refusal) (new : WalkView) (before 
   pub served : Serves before (Scan old.at from None 64) (Refused refusal) after
       ⊎ ((refusal ≡ NoMemory) × (page : Page) × Serves before (Scan old.at from None 64) (Rows page) after)
 
+-- pages one after another, from a key to the one with which the next page would begin
+abbrev pub WalksTo : At → Option Bytes → List Page → Option Bytes → StoreView → StoreView → Type 0
+WalksTo at from [] to old new = (to ≡ from) × (new ≡ old)
+WalksTo at (Some from) (page ∷ pages) to old new = (mid : StoreView) × Serves old (Scan at from None 64) (Rows page) mid × WalksTo at page.next pages to mid new
+WalksTo at None (page ∷ pages) to old new = ⊥
+
 -- pages one after another, to the end
 abbrev pub WalksThrough : At → Option Bytes → List Page → StoreView → StoreView → Type 0
-WalksThrough at None [] old new = new ≡ old
-WalksThrough at (Some from) (page ∷ pages) old new = (mid : StoreView) × Serves old (Scan at from None 64) (Rows page) mid × WalksThrough at page.next pages mid new
-WalksThrough at None (page ∷ pages) old new = ⊥
-WalksThrough at (Some from) [] old new = ⊥
+WalksThrough at from pages old new = WalksTo at from pages None old new

@@ -1,5 +1,7 @@
 use Rattle.std.proofs.Common.{rules, refl}
+use Rattle.std.proofs.lemmas.Result.{err_from_is_err_and}
 use Rattle.lsm_requests.specs.Dumping.{pages_lines}
+use Rattle.lsm_requests.proofs.DumpingLaws.{tells_stopped}
 use Rattle.lsm_requests.proofs.calls.dump.Goals as goal
 
 pub returns-clause-answer : goal.returns-clause-answer
@@ -19,3 +21,8 @@ returns-clause-answer g c = record {
     hands = search rules;
   };
 }
+
+pub returns-in_err-dump_rows-clause-fault : goal.returns-in_err-dump_rows-clause-fault
+returns-in_err-dump_rows-clause-fault g c =
+    let p = err_from_is_err_and c.from_residual-in_err-dump_rows.result c.from_residual-in_err-dump_rows.ensures.1 in
+    rw (p.1, p.2) (tells_stopped _ c.in_ok-store.store _ _ (search rules) c.in_err-dump_rows.ensures)

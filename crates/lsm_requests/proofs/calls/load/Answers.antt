@@ -10,7 +10,7 @@ returns-in-Ok-clause-answer g c = (
     after = c.keep_and_load.new.store;
     opened = search rules;
     tells =
-        let loaded = subst (λ (input : Option (List ℕ)). IsLoaded input c.in_ok-rows.field-0 c.in_ok-store.store c.keep_and_load.new.store) c.in_ok-lines.ensures.lines c.in_ok-rows.ensures in
+        let loaded = subst (λ (input : Option (List ℕ)). IsLoaded input c.in_ok-rows.field-0 c.in_ok-store.store c.keep_and_load.new.store) c.in_ok-lines.ensures.lines c.in_ok-rows.ensures.loads in
         let is : c.in_ok-rows.field-0.ended ≡ Ok tt = search rules in
         has_loaded _ c.in_ok-rows.field-0 c.in_ok-store.store c.keep_and_load.new.store c.of_store.result.output loaded is c.of_store.ensures.output;
     hands = search rules;

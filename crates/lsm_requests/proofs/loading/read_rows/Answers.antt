@@ -1,4 +1,4 @@
-use Rattle.std.proofs.Common.{ap, subst, sym}
+use Rattle.std.proofs.Common.{ap, inl, inr, refl, subst, sym}
 use Rattle.std.proofs.lemmas.Result.{err_from_is_err_and}
 use Rattle.lsm_requests.specs.Loading.{IsOther}
 use Rattle.lsm_requests.specs.declared.loading.Loading.{Loading}
@@ -14,8 +14,8 @@ returns-then-not-branch g c = ends_when _ _ _ _ _ _ _ _ c.if-not-branch.true c.l
 
 pub loop-preserved : goal.loop-preserved
 loop-preserved g c = (
-  more_when _ _ _ _ _ _ _ _ _ _ _ _ c.if-not-branch.false c.loop.invariant.0 c.in_ok-next_line.ensures.line c.deref.ensures.value c.in_ok-row.ensures c.in_ok-take.ensures,
-  reading-counted _ _ _ _ _ _ _ _ _ c.loop.invariant.0 c.in_ok-take.ensures c.loop.invariant.1,
+  more_when _ _ _ _ _ _ _ _ _ _ _ _ c.if-not-branch.false c.loop.invariant.0 c.in_ok-next_line.ensures.line c.deref.ensures.value c.in_ok-row.ensures c.in_ok-take.ensures.takes,
+  reading-counted _ _ _ _ _ _ _ _ _ c.loop.invariant.0 c.in_ok-take.ensures.takes c.loop.invariant.1,
 )
 
 pub returns-in_err-next_line : goal.returns-in_err-next_line
@@ -31,7 +31,7 @@ returns-in_err-row g c =
 pub returns-in_err-take : goal.returns-in_err-take
 returns-in_err-take g c =
     let p = err_from_is_err_and c.from_residual-in_err-take.result c.from_residual-in_err-take.ensures.1 in
-    rw p.1 (reading-refused _ _ p.0 c.in_ok-row.row _ _ _ _ _ c.loop.invariant.0 c.in_err-take.ensures (subst IsOther (sym p.2) tt))
+    rw p.1 (reading-refused _ _ p.0 c.in_ok-row.row _ _ _ _ _ c.loop.invariant.0 c.in_err-take.ensures.takes (subst IsOther (sym p.2) c.in_err-take.ensures.refused))
 
 pub returns : goal.returns
-returns g c = reading-fails _ _ _ _ _ _ c.loop.invariant.0 tt
+returns g c = reading-fails _ _ _ _ _ _ c.loop.invariant.0 (inr (inl refl))
