@@ -1,5 +1,5 @@
 -- A text is cut into sectors, and joined again.
-use Rattle.std.proofs.Common.{◌≡◌, ◌≤◌, ℕ, zero, suc, ◌*◌, List, [], ◌++◌, length, take, drop, refl, sym, ◌∙◌, ap, arith}
+use Rattle.std.proofs.Common.{◌≡◌, ℕ, zero, suc, ◌*◌, List, [], ◌++◌, length, take, drop, refl, sym, ◌∙◌, ap, arith}
 use Rattle.std.proofs.lemmas.List.{length-drop, take-append-drop, nil_from_length}
 use Rattle.lsm_root.specs.Pieces.{pieces, joined}
 pub use Rattle.lsm_device.proofs.Pieces.{length-pieces}

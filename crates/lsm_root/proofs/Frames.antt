@@ -3,7 +3,6 @@ use Rattle.std.proofs.Common.{◌≡◌, ◌⊎◌, inl, inr, ⊎_elim, ℕ, ◌
 use Rattle.std.proofs.lemmas.List.{get_or-take, take-take, drop-take, drop-drop, get_or-set_same, get_or-set_other, length-set, take-set-le, drop-set-lt, drop_at, take_at, length-take-le}
 use Rattle.std.proofs.lemmas.List.Elements.{All-nil, All-head, All-tail, All-append, All-weaker}
 use Rattle.std.proofs.lemmas.Bool.{eq-eqb, cond-true, cond-false, le-ltb, cases_lt}
-use Rattle.lsm_codec.specs.declared.superblock.FormatVersion.{FormatVersion}
 use Rattle.lsm_codec.specs.declared.superblock.FormatVersion.TheVariants.{Two}
 use Rattle.lsm_codec.specs.declared.superblock.Superblock.{Superblock}
 use Rattle.lsm_codec.specs.Superblocks.{IsSuperblock, superblock_sector}

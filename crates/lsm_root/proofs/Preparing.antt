@@ -1,7 +1,6 @@
 -- A root that was prepared is what was asked for.
 use Rattle.std.proofs.Common.{◌≡◌, ◌≤◌, ◌*◌, ℕ, List, [], length, Option, sym, ◌∙◌, ap, subst, arith}
 use Rattle.std.specs.Prelude.{unwrap_or}
-use Rattle.lsm_codec.specs.declared.superblock.FormatVersion.{FormatVersion}
 use Rattle.lsm_codec.specs.declared.superblock.FormatVersion.TheVariants.{Two}
 use Rattle.lsm_codec.specs.declared.superblock.Superblock.{Superblock}
 use Rattle.lsm_codec.specs.Manifests.{Contents, IsManifestOf, sector_count, manifest_bytes, manifest_of}

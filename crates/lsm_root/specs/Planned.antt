@@ -1,6 +1,5 @@
 -- The root that is to be installed.
 use Rattle.std.specs.Prelude.{◌≡◌, ℕ, List, [], unwrap_or}
-use Rattle.lsm_codec.specs.declared.superblock.FormatVersion.{FormatVersion}
 use Rattle.lsm_codec.specs.declared.superblock.FormatVersion.TheVariants.{Two}
 use Rattle.lsm_codec.specs.declared.superblock.Superblock.{Superblock}
 use Rattle.lsm_codec.specs.Superblocks.{IsSuperblock}
