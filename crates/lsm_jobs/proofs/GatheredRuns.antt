@@ -8,7 +8,7 @@ use Rattle.lsm_merge.proofs.Sameness.{items_at}
 use Rattle.lsm_levels.specs.Tables.{Table, versions_of}
 use Rattle.lsm_levels.specs.Levels.{all_tables}
 use Rattle.lsm_jobs.specs.Gathering.{data_blocks, ends_run, with_first, ascending_runs, run_length, items_between, runs_ahead, fronts, GoesOn, IsLonger, RunsGoOn}
-use Rattle.lsm_jobs.proofs.GoingOn.{Item, taken_back}
+use Rattle.lsm_jobs.proofs.GoingOn.{Item, first_ordered, taken_back}
 
 -- ---- the runs of tables
 
@@ -102,6 +102,10 @@ none_ahead [] = refl
 none_ahead (run ∷ runs) =
     let none : 0 - data_blocks run ≡ 0 = omega arith in
     ap (λ (n : ℕ). versions_of run ∷ runs_ahead n runs (map blank runs)) none ∙ ap (λ (l : List (List Version)). versions_of run ∷ l) (none_ahead runs)
+
+pub none_ordered : (runs : List (List Table)) → AreRuns (map blank runs)
+none_ordered [] = tt
+none_ordered (run ∷ runs) = (tt, none_ordered runs)
 
 -- ---- one run after the other
 
@@ -232,3 +236,13 @@ pub all_cut : (lengths : List ℕ) (old now : List (List Version)) (i : ℕ) →
 all_cut lengths old now i past count so_far =
     let none : fronts (drop i lengths) (drop i old) ≡ [] = ap (λ (ns : List ℕ). fronts ns (drop i old)) (drop_all i lengths past) in
     sym (ap (λ (l : List (List Version)). take i now ++ l) none ∙ append-nil (take i now) ∙ take_all i now (omega (arith, past, count))) ∙ so_far.same
+
+pub fronts_ordered : (lengths : List ℕ) (runs : List (List Version)) → AreRuns runs → AreRuns (fronts lengths runs)
+fronts_ordered [] runs all = tt
+fronts_ordered (n ∷ lengths) [] all = tt
+fronts_ordered (n ∷ lengths) (run ∷ runs) all = (first_ordered n run all.0, fronts_ordered lengths runs all.1)
+
+-- a vector's list, written back whole
+pub written_back : {X : Type 0} (new old : List X) (n : ℕ) → n ≡ length old → length new ≡ length old → take n (new ++ drop (length new) old) ≡ new
+written_back new old n all count =
+    ap (λ l. take n (new ++ l)) (drop_all (length new) old (omega (arith, count))) ∙ ap (take n) (append-nil new) ∙ take_all n new (omega (arith, all, count))
