@@ -203,11 +203,11 @@ still_there old now i run within e at =
     let inside : i < length old = omega (arith, within, length-drop i now, length-drop i old, ap (λ (l : List (List Version)). length l) e) in
     let here : i + 0 ≡ i = omega arith in
     let same : run ≡ get_or old i run =
-        at
-        ∙ sym (get_or-drop i now 0 run ∙ ap (λ (n : ℕ). get_or now n run) here)
-        ∙ ap (λ (l : List (List Version)). get_or l 0 run) e
-        ∙ get_or-drop i old 0 run
-        ∙ ap (λ (n : ℕ). get_or old n run) here in
+    at
+    ∙ sym (get_or-drop i now 0 run ∙ ap (λ (n : ℕ). get_or now n run) here)
+    ∙ ap (λ (l : List (List Version)). get_or l 0 run) e
+    ∙ get_or-drop i old 0 run
+    ∙ ap (λ (n : ℕ). get_or old n run) here in
     (same, inside, drop_more old i run inside ∙ ap (λ (l : List Version). l ∷ drop (i + 1) old) (sym same))
 
 -- ---- lists in vectors

@@ -8,5 +8,5 @@ pub invariant_of-result : goal.invariant_of-result
 invariant_of-result g c =
     let upper = c.args.upper in
     let some : c.len-uppers.result ≤ length c.add_handles.new.handles.items =
-        omega (arith, c.len-uppers.ensures, upper.ok.0, ap (λ (ts : List Table). length ts) c.in_ok-add_handles.ensures, length-append upper.items c.args.lower.now) in
+    omega (arith, c.len-uppers.ensures, upper.ok.0, ap (λ (ts : List Table). length ts) c.in_ok-add_handles.ensures, length-append upper.items c.args.lower.now) in
     (some, all_added c.new-numbers.result c.add_numbers.new.numbers c.add_handles.new.handles.items c.deref.result.now c.new-numbers.ensures.empty c.deref.ensures.value c.in_ok-add_numbers.ensures)
