@@ -5,6 +5,7 @@ ghost use Rattle.std.specs.List.{AllByRecursion};
 ghost use Rattle.lsm_codec.specs.Versions.{IsEntry};
 ghost use Rattle.lsm_merge.specs.Inputs.{IsCuts};
 ghost use Rattle.lsm_levels.specs.Pick.{Flush, Merge, is_flush};
+ghost use Rattle.lsm_levels.specs.Levels.{all_tables};
 ghost use Rattle.lsm_levels.specs.Picks.{job_of};
 ghost use Rattle.lsm_device.specs.declared.refusal.Refusal.TheVariants.{NoMemory, Exhausted};
 ghost use Rattle.lsm_jobs.specs.Taking.{asked_job, given_job, level_of, told_of, slot_with, slot_for, with_taken};
@@ -14,10 +15,10 @@ ghost use Rattle.lsm_jobs.specs.Holding.{free_from};
 
 use crate::gathering::Gathering;
 use crate::held::{HeldJob, Work};
-use crate::merge::MergeTables;
+use crate::merge::{MergeTables, add_handles};
 use crate::slots::{Slots, free_place};
 use lsm_device::Refusal;
-use lsm_levels::{Choice, Levels, Pick, PlacedTable, share_all};
+use lsm_levels::{Choice, Levels, Pick, PlacedTable, Run, share_all};
 use lsm_mem::Sealed;
 use lsm_merge::Input;
 use std::alloc::{AllocError, Allocator};
@@ -36,7 +37,7 @@ fn level_of<A: Allocator>(job: &Pick<'_, A>) -> Option<usize>
 {
     match job {
         Pick::Flush => None,
-        Pick::OldestRun { upper: _, lower: _ } => Some(0),
+        Pick::OldestRuns { runs: _, lower: _ } => Some(0),
         Pick::OneTable {
             level,
             upper: _,
@@ -72,19 +73,6 @@ fn flush_of<A: Allocator + Clone>(
     })
 }
 
-/// What a merge of these tables takes in.
-fn tables_of<A: Allocator + Clone>(
-    alloc: &A,
-    level: usize,
-    upper: Vec<PlacedTable<A>, A>,
-    lower: &[PlacedTable<A>],
-) -> Result<MergeTables<A>, AllocError>
-    ensures { IfOk result (λ m. m ≡ record { level = level; upper = upper.items; lower = lower.now }) }
-{
-    let lower = share_all(alloc.clone()?, lower)?;
-    MergeTables::new(alloc, level, upper, lower)
-}
-
 /// A handle of a table alone.
 fn one_handle<A: Allocator>(
     alloc: A,
@@ -97,18 +85,35 @@ fn one_handle<A: Allocator>(
     Ok(handles)
 }
 
-/// A merge whose data blocks have to be read.
+/// Handles of the tables of runs, one run after the other.
+fn run_handles<A: Allocator>(
+    alloc: A,
+    runs: &[Run<A>],
+) -> Result<Vec<PlacedTable<A>, A>, AllocError>
+    ensures { IfOk result (λ handles. handles.items ≡ all_tables runs.now) }
+{
+    let mut handles = Vec::new(alloc);
+    for run in runs {
+        add_handles(&mut handles, run.tables())?;
+    }
+    Ok(handles)
+}
+
+/// A merge of these tables of a level with those of the next one, whose data blocks have to be read.
 fn merge_of<A: Allocator + Clone>(
     alloc: &A,
     number: u64,
-    tables: MergeTables<A>,
+    level: usize,
+    upper: Vec<PlacedTable<A>, A>,
+    lower: &[PlacedTable<A>],
     cuts: Vec<u64, A>,
     bottom: bool,
 ) -> Result<HeldJob<A>, AllocError>
     requires { IsCuts cuts.items }
-    ensures { IfOk result (λ held. held ≡ slot_with number [] cuts.items bottom (Merge tables.level tables.upper tables.lower)) }
+    ensures { IfOk result (λ held. held ≡ slot_with number [] cuts.items bottom (Merge level upper.items lower.now)) }
 {
-    let gathering = Gathering::new(alloc, cuts, bottom)?;
+    let tables = MergeTables::new(alloc, level, upper, lower)?;
+    let gathering = Gathering::new(alloc, tables.tables(), cuts, bottom)?;
     Ok(HeldJob {
         number,
         tables: Some(tables),
@@ -136,10 +141,9 @@ fn job_for<A: Allocator + Clone>(
             let sealed = sealed.unwrap();
             flush_of(alloc, number, sealed, cuts)
         }
-        Pick::OldestRun { upper, lower } => {
-            let upper = share_all(alloc.clone()?, upper)?;
-            let tables = tables_of(alloc, 0, upper, lower)?;
-            merge_of(alloc, number, tables, cuts, bottom)
+        Pick::OldestRuns { runs, lower } => {
+            let upper = run_handles(alloc.clone()?, runs)?;
+            merge_of(alloc, number, 0, upper, lower, cuts, bottom)
         }
         Pick::OneTable {
             level,
@@ -147,8 +151,7 @@ fn job_for<A: Allocator + Clone>(
             lower,
         } => {
             let upper = one_handle(alloc.clone()?, upper)?;
-            let tables = tables_of(alloc, *level, upper, lower)?;
-            merge_of(alloc, number, tables, cuts, bottom)
+            merge_of(alloc, number, *level, upper, lower, cuts, bottom)
         }
         Pick::Neighbours {
             level,
@@ -156,8 +159,7 @@ fn job_for<A: Allocator + Clone>(
             lower,
         } => {
             let upper = share_all(alloc.clone()?, upper)?;
-            let tables = tables_of(alloc, *level, upper, lower)?;
-            merge_of(alloc, number, tables, cuts, bottom)
+            merge_of(alloc, number, *level, upper, lower, cuts, bottom)
         }
     }
 }
