@@ -1,5 +1,5 @@
 -- How a loading goes on.
-use Rattle.std.proofs.Common.{◌≡◌, ◌∙◌, ◌+◌, ℕ, Bool, true, false, List, [], ◌∷◌, ◌++◌, length, Option, Some, None, Result, Ok, Err, is_some, ◌&&◌, ◌==◌, ◌⊎◌, inl, inr, refl, sym, ap, subst, append_assoc, append-nil, length-append, arith}
+use Rattle.std.proofs.Common.{◌≡◌, ◌∙◌, ◌+◌, ℕ, Bool, true, false, List, [], ◌∷◌, ◌++◌, Option, Some, None, Result, Ok, Err, is_some, ◌&&◌, ◌==◌, ◌⊎◌, inl, inr, refl, sym, ap, subst, append_assoc, append-nil, length-append}
 use Rattle.std.specs.Prelude.{IfErr, IfOk, IfSome, if◌then◌else◌}
 use Rattle.std.specs.Io.Buffered.{reader_buffer, reader_capacity, reader_inner, reader_remaining}
 use Rattle.std.specs.Io.KnownBytes.{Appends, prepend_known}
@@ -24,7 +24,7 @@ use Rattle.lsm_requests.specs.Answers.{LoadsTo, TellsLoaded, WasOpened}
 use Rattle.lsm_requests.specs.Commits.{Puts, map_in}
 use Rattle.lsm_requests.specs.declared.answer.Output.{Output}
 use Rattle.lsm_requests.specs.declared.answer.Output.TheVariants.{Loaded as LoadedRows}
-use Rattle.lsm_requests.specs.Loading.{AreFirstRows, ArePut, AreRead, BeginsWith, CommitsWaiting, EndsFor, EndsWith, FitsIf, HasLoaded, HasRead, IsLoadRefusal, IsLoaded, IsLoading, IsOther, RefusesLastSync, RefusesToLoad, Takes, loaded_line, none_loaded, rows_waiting, waits_after, with_taken}
+use Rattle.lsm_requests.specs.Loading.{AreFirstRows, ArePut, AreRead, BeginsWith, CommitsWaiting, EndsFor, EndsWith, FitsIf, HasLoaded, HasRead, IsLoadRefusal, IsLoaded, IsLoading, IsOther, RefusesLastSync, RefusesToLoad, Takes, loaded_line, none_loaded, rows_waiting, waits_after}
 use Rattle.lsm_requests.proofs.RefusedLaws.{loading_behind, opened_refused, refuses}
 
 -- ---- maps

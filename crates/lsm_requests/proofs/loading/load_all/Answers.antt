@@ -9,7 +9,7 @@ returns-in_err-commit_waiting g c =
     rw p.1 (put-refused _ c.read_rows-read.result p.0 _ _ _ _ _ _ c.read_rows-read.ensures p.2 c.in_err-commit_waiting.ensures.refused c.in_err-commit_waiting.ensures.waits)
 
 pub returns : goal.returns
-returns g c = put-read _ c.read_rows-read.result _ _ _ _ _ ? c.read_rows-read.ensures c.in_ok-commit_waiting.ensures.waits
+returns g c = put-read _ c.read_rows-read.result _ _ _ _ _ (search rules) c.read_rows-read.ensures c.in_ok-commit_waiting.ensures.waits
 
 pub returns-in-Err-Refused : goal.returns-in-Err-Refused
 returns-in-Err-Refused g c = put-if_refused _ c.read_rows-read.result _ c.in-Err-Refused.field-0-0 _ _ _ c.in-Err-Refused.is (search rules) c.read_rows-read.ensures
