@@ -14,4 +14,4 @@ returns-in_err-commit_batch-clause-waits g c =
 pub returns-in_err-commit_batch-clause-refused : goal.returns-in_err-commit_batch-clause-refused
 returns-in_err-commit_batch-clause-refused g c =
     let p = err_from_is_err_and c.from_residual.result c.from_residual.ensures.1 in
-    rw (p.1, p.2) (loading_before _ _ _ c.in_err-commit_batch.ensures.puts c.in_err-commit_batch.ensures.refused)
+    rw (p.1, p.2) (loading_before c.args.store.now c.commit_batch.new.store _ c.in_err-commit_batch.ensures.puts c.in_err-commit_batch.ensures.refused)
