@@ -35,6 +35,6 @@ returns-in_err-rows-clause-fault g c =
     let p = err_from_is_err_and c.from_residual-in_err-rows.result c.from_residual-in_err-rows.ensures.1 in
     rw p.1 (tells_refused _ _ _ _ _ c.in_ok-store.store p.2 c.in_ok-store.ensures.opened c.in_ok-lines.ensures.lines c.in_err-rows.ensures.refused)
 
-pub returns-clause-fault : goal.returns-clause-fault
-returns-clause-fault g c =
+pub returns-in-Err-clause-fault : goal.returns-in-Err-clause-fault
+returns-in-Err-clause-fault g c =
     tells_loaded _ _ _ _ c.in_ok-rows.field-0 c.in-Err.fault _ c.in_ok-store.store c.keep_and_load.new.store c.in_ok-store.ensures.opened c.in_ok-lines.ensures.lines c.in_ok-rows.ensures.loads (search rules) c.told_first.ensures
