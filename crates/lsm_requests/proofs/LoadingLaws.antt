@@ -191,7 +191,7 @@ reading-fails input left fault loading before now r other =
 
 -- ---- the whole
 
--- where it was not refused, the map is none of its reasons
+-- an end that is no refusal says nothing of the map
 ends-still : (input : Option (List ℕ)) (ended : Result (Unit {0}) Fault) (rows : List Operation) (m after : Map) → ((e : Refusal) → ended ≡ Err (Refused e) → ⊥) → EndsWith ended input rows m
     → EndsWith ended input rows after
 ends-still input (Ok done) rows m after other ends = ends
