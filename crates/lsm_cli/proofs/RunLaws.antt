@@ -1,5 +1,5 @@
 -- What follows from how a run of the program ends.
-use Rattle.std.proofs.Common.{◌≡◌, ◌≢◌, ◌∙◌, ◌||◌, ℕ, Bool, Bor, List, Option, Some, None, Result, Ok, Err, MatchResult, true, false, true≢false, refl, sym, ap, subst, inl, inr, arith, ◌⊎◌}
+use Rattle.std.proofs.Common.{◌≡◌, ◌≢◌, ◌∙◌, ◌||◌, ℕ, Bool, Bor, List, length, Option, Some, None, Result, Ok, Err, MatchResult, true, false, true≢false, refl, sym, ap, subst, inl, inr, arith, ◌⊎◌}
 use Rattle.std.specs.Prelude.{IsTrue}
 use Rattle.std.specs.Io.KnownBytes.{Appends, Keeps}
 use Rattle.std.specs.declared.io.Error.{Error}
@@ -16,17 +16,19 @@ use Rattle.lsm_language.specs.declared.request.Request.{Request}
 use Rattle.lsm_language.specs.declared.request.Request.TheVariants as request
 use Rattle.lsm_language.specs.declared.cause.Cause.{Cause}
 use Rattle.lsm_language.specs.declared.fault.Fault.{Fault}
-use Rattle.lsm_language.specs.Faults.{Reason, mistake, refusal, unopened, unread, unwritten, IsUnopened, reason_of, status_of}
+use Rattle.lsm_language.specs.Faults.{Reason, mistake, refusal, unopened, unread, unwritten, reason_of, status_of}
 use Rattle.lsm_cli.specs.Program.{has_words, program}
 use Rattle.lsm_language.specs.Requests.{Says, prints_rows, reason_for, wants_input, wants_rows, wants_script}
-use Rattle.lsm_requests.specs.Answers.{Comes, TellsDumped, TellsLoaded, TellsServed}
+use Rattle.lsm_requests.specs.Answers.{Comes, LoadsTo, TellsDumped, TellsLoaded, TellsServed}
+use Rattle.lsm_requests.specs.Commits.{map_in}
 use Rattle.lsm_serve.specs.Answering.{Answered}
 use Rattle.lsm_serve.specs.Serving.{ToldBefore}
 use Rattle.lsm_requests.specs.Refusing.{FaultsWith, IsRefusalOf, MayRefuse}
 use Rattle.lsm_requests.specs.Loading.{loaded_line}
 use Rattle.lsm_requests.proofs.EndingLaws.{answer_status-at_most}
+use Rattle.lsm_requests.proofs.LoadingLaws.{none-bad, told-ends}
 use Rattle.lsm_requests.specs.Endings.{PrintsAnswer, PrintsFault, Written, status_after}
-use Rattle.lsm_cli.specs.Runs.{AskNothing, Fails, HasServed, IsDone, IsOtherReason, IsRead, IsRequested, IsRun, IsServed, IsTold, IsRequestRefused, Shows, has_dash, shows_nothing, shows_rows, shows_number, shows_failure}
+use Rattle.lsm_cli.specs.Runs.{AskNothing, Fails, HasServed, IsDone, IsOtherReason, IsRead, IsRequested, IsRun, IsServed, IsTold, IsToldAs, IsRequestRefused, Shows, has_dash, shows_nothing, shows_rows, shows_loaded, shows_failure}
 use Rattle.lsm_cli.proofs.ProgramLaws.{has_words-asked}
 
 -- ---- words that ask for nothing
@@ -141,35 +143,39 @@ module _ (words : List Text) (input output output_after : Option (List ℕ)) (as
   dumps path says unread told = absurd told
   dumps path says unwritten told = done (request.Dump path) says
 
-  plain : (r : Request) → Says asked text r → (reason : Reason) → IsRefusalOf r reason → output_after ≡ output → Fails words input reason × Shows words reason output output_after
+  plain : (r : Request) → Says asked text r → (reason : Reason) → IsRefusalOf r reason → output_after ≡ output → Fails words input reason × Shows words input reason output output_after
   plain r says mistake is same = absurd is
   plain r says (refusal e) is same = (inr (inr (tried r says e is)), shows_nothing (keeps output output_after same))
   plain r says (unopened cause) is same = absurd is
   plain r says unread is same = absurd is
   plain r says unwritten is same = absurd is
 
-  shows_loaded : (path : Bor (List ℕ)) → Says asked text (request.Load path) → (reason : Reason)
-      → (output_after ≡ output) ⊎ ((number : ℕ) × Appends output output_after (loaded_line number)) → Shows words reason output output_after
-  shows_loaded path says reason (inl same) = shows_nothing (keeps output output_after same)
-  shows_loaded path says reason (inr (number, appends)) = shows_number asked read.words_ask (loading asked text path says) number appends
+  -- why a loading ended
+  ends_loading : (path : Bor (List ℕ)) → Says asked text (request.Load path) → (reason : Reason) → LoadsTo input output output_after reason → Fails words input reason
+  ends_loading path says mistake l = inr (inr record {
+    asked = asked;
+    words_ask = read.words_ask;
+    wants = loading asked text path says;
+    none = none-bad input l.loads.rows (map_in l.after) (told-ends input output output_after mistake l);
+  })
+  ends_loading path says (refusal e) l = inr (inr (tried (request.Load path) says e (input, output, output_after, inr (inr l))))
+  ends_loading path says (unopened cause) l = absurd (told-ends input output output_after (unopened cause) l).0
+  ends_loading path says unread l = inr record { asked = asked; words_ask = read.words_ask; wants = loading_input asked text path says }
+  ends_loading path says unwritten l = inr (done (request.Load path) says)
 
   loads : (path : Bor (List ℕ)) → Says asked text (request.Load path) → (reason : Reason) → TellsLoaded input reason output output_after
-      → Fails words input reason × Shows words reason output output_after
-  loads path says mistake (none, told) =
-      (inr (inr record { asked = asked; words_ask = read.words_ask; wants = loading asked text path says; none = none }), shows_loaded path says mistake (inr told))
-  loads path says (refusal e) (may, told) = (inr (inr (tried (request.Load path) says e may)), shows_loaded path says (refusal e) told)
-  loads path says (unopened cause) told = absurd told
-  loads path says unread told = (
-    inr record { asked = asked; words_ask = read.words_ask; wants = loading_input asked text path says },
-    shows_loaded path says unread told,
-  )
-  loads path says unwritten told = (inr (done (request.Load path) says), shows_failure refl)
+      → Fails words input reason × Shows words input reason output output_after
+  loads path says reason (inl (e, is, may, same)) =
+      subst (λ (r : Reason). Fails words input r × Shows words input r output output_after) (sym is)
+      (inr (inr (tried (request.Load path) says e (input, output, output_after, inl (e, refl, may, same)))), shows_nothing (keeps output output_after same))
+  loads path says reason (inr (inl unknown)) = (subst (Fails words input) (sym unknown) (inr (done (request.Load path) says)), shows_failure unknown)
+  loads path says reason (inr (inr l)) = (ends_loading path says reason l, shows_loaded asked read.words_ask (loading asked text path says) reason (inl refl) l)
 
-  shows_served : (path : Bor (List ℕ)) → Says asked text (request.Serve path) → (reason : Reason) → reason ≢ mistake → Shows words reason output output_after
+  shows_served : (path : Bor (List ℕ)) → Says asked text (request.Serve path) → (reason : Reason) → reason ≢ mistake → Shows words input reason output output_after
   shows_served path says reason other = shows_rows asked read.words_ask (serving asked text path says) other
 
   serves : (path : Bor (List ℕ)) → Says asked text (request.Serve path) → (reason : Reason) → TellsServed input reason output output_after
-      → Fails words input reason × Shows words reason output output_after
+      → Fails words input reason × Shows words input reason output output_after
   serves path says mistake told = absurd (serving_reason input output output_after mistake told)
   serves path says (refusal e) told = (inr (inr (tried (request.Serve path) says e (input, output, output_after, told))), shows_served path says (refusal e) (λ h. cc))
   serves path says (unopened cause) told = absurd (serving_reason input output output_after (unopened cause) told)
@@ -179,7 +185,7 @@ module _ (words : List Text) (input output output_after : Option (List ℕ)) (as
 
   -- why a request has no answer
   pub fails_with : (r : Request) → Says asked text r → (reason : Reason) → FaultsWith r input reason output output_after
-      → Fails words input reason × Shows words reason output output_after
+      → Fails words input reason × Shows words input reason output output_after
   fails_with (request.Dump path) says reason is =
       (inr (dumps path says reason is), shows_rows asked read.words_ask (printing asked text path says) (no_mistake reason output output_after is))
   fails_with (request.Load path) says reason is = loads path says reason is
@@ -189,7 +195,7 @@ module _ (words : List Text) (input output output_after : Option (List ℕ)) (as
   -- with which refusal it was tried
   refused_with : (r : Request) → Says asked text r → (e : Refusal) → FaultsWith r input (refusal e) output output_after → IsRequestRefused words input e
   refused_with (request.Dump path) says e is = tried (request.Dump path) says e (output, output_after, is)
-  refused_with (request.Load path) says e (may, told) = tried (request.Load path) says e may
+  refused_with (request.Load path) says e is = tried (request.Load path) says e (input, output, output_after, is)
   refused_with (request.Serve path) says e is = tried (request.Serve path) says e (input, output, output_after, is)
   refused_with other says e (is, same) = tried other says e is
 
@@ -214,26 +220,31 @@ module _ (asked : Asked) (text : List ℕ) (before after output output_after : O
   faults_of other reason says faults = faults
 
 -- what is shown of a refusal, where the file couldn't be opened
-shows_unopened : (words : List Text) (e : Refusal) (cause : Cause) (output output_after : Option (List ℕ)) → Shows words (refusal e) output output_after → Shows words (unopened cause) output output_after
-shows_unopened words e cause output output_after (shows_nothing same) = shows_nothing same
-shows_unopened words e cause output output_after (shows_rows asked is prints other) = shows_rows asked is prints (λ h. cc)
-shows_unopened words e cause output output_after (shows_number asked is wants number appends) = shows_number asked is wants number appends
-shows_unopened words e cause output output_after (shows_failure h) = absurd (not_unwritten h)
+unopened_too : (why : Reason) (cause : Cause) → IsToldAs why (refusal Io) → IsToldAs why (unopened cause)
+unopened_too why cause (inl same) = inr (sym same, tt)
+unopened_too why cause (inr (is, becomes)) = absurd becomes
+
+shows_unopened : (words : List Text) (input : Option (List ℕ)) (cause : Cause) (output output_after : Option (List ℕ)) → Shows words input (refusal Io) output output_after
+    → Shows words input (unopened cause) output output_after
+shows_unopened words input cause output output_after (shows_nothing same) = shows_nothing same
+shows_unopened words input cause output output_after (shows_rows asked is prints other) = shows_rows asked is prints (λ h. cc)
+shows_unopened words input cause output output_after (shows_loaded asked is wants why told l) = shows_loaded asked is wants why (unopened_too why cause told) l
+shows_unopened words input cause output output_after (shows_failure h) = absurd (not_unwritten h)
   where
-    not_unwritten : refusal e ≡ unwritten → ⊥
+    not_unwritten : refusal Io ≡ unwritten → ⊥
     not_unwritten h = cc
 
 -- a fault as it is told: as it is, or as a file that can't be opened
 module _ (words : List Text) (input output output_after : Option (List ℕ)) (asked : Asked) (text : List ℕ) (read : IsRead words input asked text) (sound : reason_for asked text ≡ None) where
-  pub fails_told : (r : Request) → Says asked text r → (reason told : Reason) → (told ≡ reason) ⊎ ((reason ≡ refusal Io) × IsUnopened told)
-      → FaultsWith r input reason output output_after → Fails words input told × Shows words told output output_after
+  pub fails_told : (r : Request) → Says asked text r → (reason told : Reason) → IsToldAs reason told
+      → FaultsWith r input reason output output_after → Fails words input told × Shows words input told output output_after
   fails_told r says reason told (inl same) faults =
-      subst (λ (as_told : Reason). Fails words input as_told × Shows words as_told output output_after) (sym same)
+      subst (λ (as_told : Reason). Fails words input as_told × Shows words input as_told output output_after) (sym same)
       (fails_with words input output output_after asked text read sound r says reason faults)
   fails_told r says reason (unopened cause) (inr (is, becomes)) faults =
       let io = subst (λ (it : Reason). FaultsWith r input it output output_after) is faults in (
         inr (refused_with words input output output_after asked text read sound r says Io io),
-        shows_unopened words Io cause output output_after (fails_with words input output output_after asked text read sound r says (refusal Io) io).1,
+        shows_unopened words input cause output output_after (fails_with words input output output_after asked text read sound r says (refusal Io) io).1,
       )
   fails_told r says reason mistake (inr (is, becomes)) faults = absurd becomes
   fails_told r says reason (refusal other) (inr (is, becomes)) faults = absurd becomes
@@ -241,7 +252,7 @@ module _ (words : List Text) (input output output_after : Option (List ℕ)) (as
   fails_told r says reason unwritten (inr (is, becomes)) faults = absurd becomes
 
 -- one that comes before anything is done
-pub fails_before : (words : List Text) (input output : Option (List ℕ)) (reason : Reason) → Fails words input reason → Fails words input reason × Shows words reason output output
+pub fails_before : (words : List Text) (input output : Option (List ℕ)) (reason : Reason) → Fails words input reason → Fails words input reason × Shows words input reason output output
 fails_before words input output reason fails = (fails, shows_nothing (keeps output output refl))
 
 -- ---- the clauses of a run, from what it is
@@ -274,12 +285,30 @@ appends_kept (Some xs) (Some ys) None bs first second = absurd second
 appends_kept (Some xs) (Some ys) (Some zs) bs first second = second ∙ first
 
 -- what is shown of a mistake
-told_mistake : (words : List Text) (output between output_after : Option (List ℕ)) → Shows words mistake output between → Keeps between output_after → IsTold words output output_after
-told_mistake words output between output_after (shows_nothing same) kept = inl (keeps_again output between output_after same kept)
-told_mistake words output between output_after (shows_rows asked is prints other) kept = absurd (other refl)
-told_mistake words output between output_after (shows_number asked is wants number appends) kept =
-    inr (asked, is, wants, number, appends_kept output between output_after (loaded_line number) appends kept)
-told_mistake words output between output_after (shows_failure h) kept = absurd (not_unwritten h)
+loads_kept : (input output between output_after : Option (List ℕ)) (reason : Reason) → LoadsTo input output between reason → Keeps between output_after → LoadsTo input output output_after reason
+loads_kept input output between output_after reason l kept = record {
+  store = l.store;
+  after = l.after;
+  loaded = l.loaded;
+  fault = l.fault;
+  opened = l.opened;
+  loads = l.loads;
+  ends = l.ends;
+  same = l.same;
+  told = appends_kept output between output_after (loaded_line (length l.loads.rows)) l.told kept;
+}
+
+as_mistake : (why : Reason) → IsToldAs why mistake → why ≡ mistake
+as_mistake why (inl same) = sym same
+as_mistake why (inr (is, becomes)) = absurd becomes
+
+told_mistake : (words : List Text) (input output between output_after : Option (List ℕ)) → Shows words input mistake output between → Keeps between output_after
+    → IsTold words input output output_after
+told_mistake words input output between output_after (shows_nothing same) kept = inl (keeps_again output between output_after same kept)
+told_mistake words input output between output_after (shows_rows asked is prints other) kept = absurd (other refl)
+told_mistake words input output between output_after (shows_loaded asked is wants why told l) kept =
+    inr (asked, is, wants, loads_kept input output between output_after mistake (subst (LoadsTo input output between) (as_mistake why told) l) kept)
+told_mistake words input output between output_after (shows_failure h) kept = absurd (not_unwritten h)
   where
     not_unwritten : mistake ≡ unwritten → ⊥
     not_unwritten h = cc
@@ -290,7 +319,7 @@ module _ (words : List Text) (input : Option (List ℕ)) (bytes : Written) (ends
   done-of_run run zero = by_cases run.answered run.concludes.written (sym run.concludes.status ∙ zero) run.comes run.concludes.answer run.concludes.fault
     where
       by_cases : (answered : Result Answer Fault) (written : Result (Unit {0}) Error) → status_after answered written ≡ 0
-          → MatchResult answered (IsServed words input bytes.output run.between) (λ fault. Fails words input (reason_of fault) × Shows words (reason_of fault) bytes.output run.between)
+          → MatchResult answered (IsServed words input bytes.output run.between) (λ fault. Fails words input (reason_of fault) × Shows words input (reason_of fault) bytes.output run.between)
           → PrintsAnswer answered written run.between bytes.output_after → PrintsFault answered written bytes.errors bytes.errors_after
           → HasServed words input bytes.output bytes.output_after × Keeps bytes.errors bytes.errors_after
       by_cases (Ok answer) (Ok done) e served printed kept = (record { answer = answer; between = run.between; served = served; prints = printed }, kept)
@@ -299,17 +328,17 @@ module _ (words : List Text) (input : Option (List ℕ)) (bytes : Written) (ends
       by_cases (Err fault) (Err error) e failed kept reported = grind arith
 
   -- a run that ends with 2 found a mistake and printed no answer
-  pub mistake-of_run : IsRun words input bytes ends → ends ≡ 2 → Fails words input mistake × IsTold words bytes.output bytes.output_after
+  pub mistake-of_run : IsRun words input bytes ends → ends ≡ 2 → Fails words input mistake × IsTold words input bytes.output bytes.output_after
   mistake-of_run run two = by_cases run.answered run.concludes.written (sym run.concludes.status ∙ two) run.comes run.concludes.answer
     where
       by_cases : (answered : Result Answer Fault) (written : Result (Unit {0}) Error) → status_after answered written ≡ 2
-          → MatchResult answered (IsServed words input bytes.output run.between) (λ fault. Fails words input (reason_of fault) × Shows words (reason_of fault) bytes.output run.between)
-          → PrintsAnswer answered written run.between bytes.output_after → Fails words input mistake × IsTold words bytes.output bytes.output_after
+          → MatchResult answered (IsServed words input bytes.output run.between) (λ fault. Fails words input (reason_of fault) × Shows words input (reason_of fault) bytes.output run.between)
+          → PrintsAnswer answered written run.between bytes.output_after → Fails words input mistake × IsTold words input bytes.output bytes.output_after
       by_cases (Ok answer) (Ok done) e served printed = absurd (omega (arith, e, answer_status-at_most answer.output))
       by_cases (Ok answer) (Err error) e served printed = grind arith
       by_cases (Err fault) (Ok done) e (failed, shows) kept =
           let is : reason_of fault ≡ mistake = status_of-mistake (reason_of fault) e in (
             subst (Fails words input) is failed,
-            told_mistake words bytes.output run.between bytes.output_after (subst (λ (r : Reason). Shows words r bytes.output run.between) is shows) kept,
+            told_mistake words input bytes.output run.between bytes.output_after (subst (λ (r : Reason). Shows words input r bytes.output run.between) is shows) kept,
           )
       by_cases (Err fault) (Err error) e failed kept = grind arith

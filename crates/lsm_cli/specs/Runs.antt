@@ -9,13 +9,12 @@ use Rattle.lsm_language.specs.declared.asked.Asked.{Asked}
 use Rattle.lsm_language.specs.declared.request.Request.{Request}
 use Rattle.lsm_requests.specs.declared.answer.Answer.{Answer}
 use Rattle.lsm_language.specs.declared.fault.Fault.{Fault}
-use Rattle.lsm_language.specs.Faults.{Reason, mistake, refusal, unopened, unread, unwritten, reason_of}
+use Rattle.lsm_language.specs.Faults.{Reason, mistake, refusal, unopened, unread, unwritten, IsUnopened, reason_of}
 use Rattle.lsm_language.specs.Words.{after}
 use Rattle.lsm_cli.specs.Program.{program, Asks}
 use Rattle.lsm_language.specs.Requests.{Says, prints_rows, reason_for, wants_input, wants_rows, wants_script}
 use Rattle.lsm_language.specs.Rows.{are_rows, lines_of as lines_in}
-use Rattle.lsm_requests.specs.Answers.{Comes, lines_of}
-use Rattle.lsm_requests.specs.Loading.{loaded_line}
+use Rattle.lsm_requests.specs.Answers.{Comes, LoadsTo, lines_of}
 use Rattle.lsm_requests.specs.Refusing.{MayRefuse}
 use Rattle.lsm_requests.specs.Endings.{Concludes, Written}
 
@@ -109,19 +108,23 @@ IsOtherReason words input unwritten = IsDone words input
 abbrev pub Fails : List Text → Option (List ℕ) → Reason → Type 0
 Fails words input reason = IsWrong words input reason ⊎ IsOtherReason words input reason
 
+-- a reason is told as it is, or as a file that can't be opened
+abbrev pub IsToldAs : Reason → Reason → Type 0
+IsToldAs reason told = (told ≡ reason) ⊎ ((reason ≡ refusal Io) × IsUnopened told)
+
 -- What is printed of a run that fails: nothing; of rows that were dumped before a refusal some lines; and of rows that were
--- loaded before a fault their number.
-pub data Shows (words : List Text) (reason : Reason) (output output_after : Option (List ℕ)) : Type 0 where
-  shows_nothing : Keeps output output_after → Shows words reason output output_after
-  shows_rows : (asked : Asked) → IsAsked words asked → IsTrue (prints_rows asked) → reason ≢ mistake → Shows words reason output output_after
-  shows_number : (asked : Asked) → IsAsked words asked → IsTrue (wants_rows asked) → (number : ℕ) → Appends output output_after (loaded_line number)
-      → Shows words reason output output_after
-  shows_failure : reason ≡ unwritten → Shows words reason output output_after
+-- loaded before a fault the number of those that were put, and are synced.
+pub data Shows (words : List Text) (input : Option (List ℕ)) (reason : Reason) (output output_after : Option (List ℕ)) : Type 0 where
+  shows_nothing : Keeps output output_after → Shows words input reason output output_after
+  shows_rows : (asked : Asked) → IsAsked words asked → IsTrue (prints_rows asked) → reason ≢ mistake → Shows words input reason output output_after
+  shows_loaded : (asked : Asked) → IsAsked words asked → IsTrue (wants_rows asked) → (why : Reason) → IsToldAs why reason → LoadsTo input output output_after why
+      → Shows words input reason output output_after
+  shows_failure : reason ≡ unwritten → Shows words input reason output output_after
 
 -- of one that found a mistake
-abbrev pub IsTold : List Text → Option (List ℕ) → Option (List ℕ) → Type 0
-IsTold words output output_after = Keeps output output_after
-    ⊎ ((asked : Asked) × IsAsked words asked × IsTrue (wants_rows asked) × (number : ℕ) × Appends output output_after (loaded_line number))
+abbrev pub IsTold : List Text → Option (List ℕ) → Option (List ℕ) → Option (List ℕ) → Type 0
+IsTold words input output output_after = Keeps output output_after
+    ⊎ ((asked : Asked) × IsAsked words asked × IsTrue (wants_rows asked) × LoadsTo input output output_after mistake)
 
 -- ---- how a run ends
 
@@ -130,7 +133,7 @@ pub record IsRun (words : List Text) (input : Option (List ℕ)) (bytes : Writte
   pub answered : Result Answer Fault
   pub between : Option (List ℕ)
   pub comes : MatchResult answered (IsServed words input bytes.output between)
-      (λ fault. Fails words input (reason_of fault) × Shows words (reason_of fault) bytes.output between)
+      (λ fault. Fails words input (reason_of fault) × Shows words input (reason_of fault) bytes.output between)
   pub concludes : Concludes answered (record bytes { output = between }) ends
 
 -- no words could be taken: one is no text, or memory was refused; just that is told

@@ -1,10 +1,9 @@
 //! The program over a reader and two writers.
 
-ghost use Rattle.std.specs.Prelude.{◌≡◌, ◌≤◌, ◌⊎◌, map, MatchResult};
+ghost use Rattle.std.specs.Prelude.{◌≡◌, ◌≤◌, map, MatchResult};
 ghost use Rattle.std.specs.Io.KnownBytes.{Keeps};
-ghost use Rattle.lsm_device.specs.declared.refusal.Refusal.TheVariants.{Io};
-ghost use Rattle.lsm_language.specs.Faults.{IsUnopened, mistake, reason_of, refusal};
-ghost use Rattle.lsm_cli.specs.Runs.{Fails, HasServed, IsRun, IsServed, IsTold, Shows};
+ghost use Rattle.lsm_language.specs.Faults.{mistake, reason_of};
+ghost use Rattle.lsm_cli.specs.Runs.{Fails, HasServed, IsRun, IsServed, IsTold, IsToldAs, Shows};
 
 use crate::parser::asked_for;
 use crate::unopened::cause_of;
@@ -43,7 +42,7 @@ pub fn run<
 
     // One that ends with 2 found a mistake in the words or the input, and printed no answer, but how many rows it loaded before.
     ensures mistake { result ≡ 2 → Fails (map S.text words.entry.now) (I.remaining input.old) mistake }
-    ensures no_answer { result ≡ 2 → IsTold (map S.text words.entry.now) (O.contents output.old) (O.contents output.new) }
+    ensures no_answer { result ≡ 2 → IsTold (map S.text words.entry.now) (I.remaining input.old) (O.contents output.old) (O.contents output.new) }
 {
     let answered = answer(rt, words, input, output, progress);
     conclude(&answered, output, errors)
@@ -59,7 +58,7 @@ fn answer<
 >(rt: &R, words: &[S], input: &mut I, output: &mut O, progress: &mut P) -> Result<Answer, Fault>
     ensures { MatchResult result (IsServed (map S.text words.entry.now) (I.remaining input.old) (O.contents output.old) (O.contents output.new))
         (λ fault. Fails (map S.text words.entry.now) (I.remaining input.old) (reason_of fault)
-        × Shows (map S.text words.entry.now) (reason_of fault) (O.contents output.old) (O.contents output.new)) }
+        × Shows (map S.text words.entry.now) (I.remaining input.old) (reason_of fault) (O.contents output.old) (O.contents output.new)) }
 {
     let asked = asked_for(rt.alloc(), words)?;
     let text = script_text(rt.alloc(), &asked, input)?;
@@ -74,7 +73,7 @@ fn answer<
 
 // A fault as it is told: of a file that can't be opened, with the cause.
 fn told<R: Files<File = File>>(rt: &R, file: Option<&str>, is_made: bool, fault: Fault) -> Fault
-    ensures { (reason_of result ≡ reason_of fault) ⊎ ((reason_of fault ≡ refusal Io) × IsUnopened (reason_of result)) }
+    ensures { IsToldAs (reason_of fault) (reason_of result) }
 {
     match fault {
         Fault::Refused(Refusal::Io) => match cause_of(rt, file, is_made) {

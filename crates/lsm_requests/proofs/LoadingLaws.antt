@@ -1,6 +1,6 @@
 -- How a loading goes on.
-use Rattle.std.proofs.Common.{◌≡◌, ◌∙◌, ◌+◌, ℕ, Bool, true, false, List, [], ◌∷◌, ◌++◌, length, Option, Some, None, Result, Ok, Err, is_some, ◌&&◌, ◌==◌, ◌⊎◌, inl, inr, refl, sym, ap, subst, append_assoc, append-nil, length-append, arith}
-use Rattle.std.specs.Prelude.{IfOk, IfSome, if◌then◌else◌}
+use Rattle.std.proofs.Common.{◌≡◌, ◌∙◌, ◌+◌, ℕ, Bool, true, false, List, [], ◌∷◌, ◌++◌, Option, Some, None, Result, Ok, Err, is_some, ◌&&◌, ◌==◌, ◌⊎◌, inl, inr, refl, sym, ap, subst, append_assoc, append-nil, length-append}
+use Rattle.std.specs.Prelude.{IfErr, IfOk, IfSome, if◌then◌else◌}
 use Rattle.std.specs.Io.Buffered.{reader_buffer, reader_capacity, reader_inner, reader_remaining}
 use Rattle.std.specs.Io.KnownBytes.{Appends, prepend_known}
 use Rattle.std.specs.declared.io.buffered.BufReader.{BufReader}
@@ -8,23 +8,24 @@ use Rattle.lsm_codec.specs.Map.{Map, Operation, apply, changed}
 use Rattle.lsm_device.specs.declared.refusal.Refusal.{Refusal}
 use Rattle.std.specs.Io.BufRead.{drop_through}
 use Rattle.lsm_language.specs.declared.fault.Fault.{Fault}
-use Rattle.lsm_language.specs.declared.fault.Fault.TheVariants.{Refused}
+use Rattle.lsm_language.specs.declared.fault.Fault.TheVariants.{Input as InputFault, Output as OutputFault, Refused, Unopened, Usage}
 use Rattle.lsm_language.specs.Faults.{Reason, mistake, refusal, unopened, unread, unwritten, reason_of}
 use Rattle.lsm_language.specs.Rows.{ReadsLine, are_rows, lines_of, row_said, rows_of, with_row}
 use Rattle.lsm_open.specs.Recovering.{IsOpeningRefusal}
 use Rattle.lsm_store.specs.Backing.{StoreView}
-use Rattle.lsm_store.specs.Calls.{Done, Sync}
+use Rattle.lsm_store.specs.Calls.{Done, Refused as RefusedSo, Sync}
 use Rattle.lsm_store.specs.RecoveryPoints.{present_map}
 use Rattle.lsm_store.specs.Serving.{Serves}
 use Rattle.lsm_store.specs.State.{State}
 use Rattle.lsm_upkeep.specs.Keeping.{KeepsMap}
 use Rattle.lsm_requests.specs.declared.loading.Loading.{Loading}
 use Rattle.lsm_requests.specs.declared.loading.Loaded.{Loaded}
-use Rattle.lsm_requests.specs.Answers.{TellsLoaded}
+use Rattle.lsm_requests.specs.Answers.{LoadsTo, TellsLoaded, WasOpened}
 use Rattle.lsm_requests.specs.Commits.{Puts, map_in}
 use Rattle.lsm_requests.specs.declared.answer.Output.{Output}
 use Rattle.lsm_requests.specs.declared.answer.Output.TheVariants.{Loaded as LoadedRows}
-use Rattle.lsm_requests.specs.Loading.{ArePut, AreRead, BeginsWith, CommitsWaiting, EndsFor, EndsWith, FitsIf, HasLoaded, HasRead, IsLoadRefusal, IsLoaded, IsLoading, IsOther, Takes, loaded_line, none_loaded, rows_waiting, waits_after, with_taken}
+use Rattle.lsm_requests.specs.Loading.{AreFirstRows, ArePut, AreRead, BeginsWith, CommitsWaiting, EndsFor, EndsWith, FitsIf, HasLoaded, HasRead, IsLoadRefusal, IsLoaded, IsLoading, IsOther, RefusesLastSync, RefusesToLoad, Takes, loaded_line, none_loaded, rows_waiting, waits_after}
+use Rattle.lsm_requests.proofs.RefusedLaws.{loading_behind, opened_refused, refuses}
 
 -- ---- maps
 
@@ -132,7 +133,7 @@ reading-more input left after line row old new before now next r reads said take
         )
 
 -- what was read begins the rows of the input
-begins_rows : (input left : Option (List ℕ)) (rows : List Operation) → HasRead input rows left → IfSome input (λ all. BeginsWith (rows_of (lines_of all)) rows)
+begins_rows : (input left : Option (List ℕ)) (rows : List Operation) → HasRead input rows left → AreFirstRows input rows
 begins_rows None left rows has = tt
 begins_rows (Some all) left rows (text, is, rest, good) = (rows_of (lines_of text), rest)
 
@@ -158,7 +159,7 @@ pub reading-stops : (input left after : Option (List ℕ)) (line : List ℕ) (fa
 reading-stops input left after line fault loading before now r reads said is = record {
   rows = r.rows;
   loads = r.loads;
-  ends = subst (λ (reason : Reason). EndsFor reason input r.rows) (sym is) (at_line input left after line r.rows reads said r.reads);
+  ends = subst (λ (reason : Reason). EndsFor reason input r.rows (map_in now)) (sym is) (at_line input left after line r.rows reads said r.reads);
 }
   where
     at_line : (input left after : Option (List ℕ)) (line : List ℕ) (rows : List Operation) → ReadsLine left true line after → row_said line ≡ None → HasRead input rows left
@@ -176,70 +177,78 @@ reading-stops input left after line fault loading before now r reads said is = r
         )
 
 -- a refusal, or an input that can't be read
+ends-other : (input : Option (List ℕ)) (reason : Reason) (rows : List Operation) (m : Map) → IsOther reason input m → AreFirstRows input rows → EndsFor reason input rows m
+ends-other input mistake rows m is first = absurd is
+ends-other input (refusal e) rows m is first = (is, first)
+ends-other input (unopened cause) rows m is first = absurd is
+ends-other input unread rows m is first = (is, first)
+ends-other input unwritten rows m is first = absurd is
+
 pub reading-fails : (input left : Option (List ℕ)) (fault : Fault) (loading : Loading) (before now : StoreView) → IsReading input left loading before now
-    → IsOther (reason_of fault) → AreRead input (Err fault) loading before now
-reading-fails input left fault loading before now r other = record { rows = r.rows; loads = r.loads; ends = by (reason_of fault) other (begins_rows input left r.rows r.reads) }
-  where
-    by : (reason : Reason) → IsOther reason → IfSome input (λ all. BeginsWith (rows_of (lines_of all)) r.rows) → EndsFor reason input r.rows
-    by mistake is starts = absurd is
-    by (refusal e) is starts = (is, starts)
-    by (unopened cause) is starts = absurd is
-    by unread is starts = starts
-    by unwritten is starts = starts
+    → IsOther (reason_of fault) input (map_in now) → AreRead input (Err fault) loading before now
+reading-fails input left fault loading before now r other =
+    record { rows = r.rows; loads = r.loads; ends = ends-other input (reason_of fault) r.rows (map_in now) other (begins_rows input left r.rows r.reads) }
 
 -- ---- the whole
 
+-- an end that is no refusal says nothing of the map
+ends-still : (input : Option (List ℕ)) (ended : Result (Unit {0}) Fault) (rows : List Operation) (m after : Map) → ((e : Refusal) → ended ≡ Err (Refused e) → ⊥) → EndsWith ended input rows m
+    → EndsWith ended input rows after
+ends-still input (Ok done) rows m after other ends = ends
+ends-still input (Err (Usage usage)) rows m after other ends = ends
+ends-still input (Err (Refused e)) rows m after other ends = absurd (other e refl)
+ends-still input (Err (Unopened cause)) rows m after other ends = ends
+ends-still input (Err (InputFault error)) rows m after other ends = ends
+ends-still input (Err (OutputFault error)) rows m after other ends = ends
+
 -- those that were read were put, where the rest of them was committed
-pub put-read : (input : Option (List ℕ)) (ended : Result (Unit {0}) Fault) (loading new : Loading) (before now next : StoreView) → AreRead input ended loading before now
-    → CommitsWaiting true loading now new next → ArePut input ended new before next
-put-read input ended loading new before now next r commits =
+pub put-read : (input : Option (List ℕ)) (ended : Result (Unit {0}) Fault) (loading new : Loading) (before now next : StoreView) → ((e : Refusal) → ended ≡ Err (Refused e) → ⊥)
+    → AreRead input ended loading before now → CommitsWaiting true loading now new next → ArePut input ended new before next
+put-read input ended loading new before now next other r commits =
     let done = commits.1 (map_in before) r.rows r.loads in
     let none : done.put ++ rows_waiting new.batch ≡ done.put = ap (λ (x : Loading). done.put ++ rows_waiting x.batch) commits.0 ∙ append-nil done.put in
     record {
       rows = r.rows;
       number = ap (λ (x : Loading). x.loaded) commits.0 ∙ r.loads.read;
-      ends = r.ends;
+      ends = ends-still input ended r.rows (map_in now) (map_in next) other r.ends;
       map = done.map ∙ ap (apply (map_in before)) (sym (done.all ∙ none));
     }
 
 -- and where it was not, some of them
-ends-other : (input : Option (List ℕ)) (reason : Reason) → IsOther reason → (rows : List Operation) → IfSome input (λ all. BeginsWith (rows_of (lines_of all)) rows) → EndsFor reason input rows
-ends-other input mistake is rows begins = absurd is
-ends-other input (refusal e) is rows begins = (is, begins)
-ends-other input (unopened cause) is rows begins = absurd is
-ends-other input unread is rows begins = begins
-ends-other input unwritten is rows begins = begins
-
 put-some : (all rows put waiting : List Operation) → rows ≡ put ++ waiting → BeginsWith all rows → BeginsWith all put
 put-some all rows put waiting is (rest, begins) = (waiting ++ rest, begins ∙ ap (λ (l : List Operation). l ++ rest) is ∙ append_assoc put waiting rest)
 
-ends-some : (input : Option (List ℕ)) (rows put waiting : List Operation) → rows ≡ put ++ waiting → IfSome input (λ all. BeginsWith (rows_of (lines_of all)) rows)
-    → IfSome input (λ all. BeginsWith (rows_of (lines_of all)) put)
+ends-some : (input : Option (List ℕ)) (rows put waiting : List Operation) → rows ≡ put ++ waiting → AreFirstRows input rows → AreFirstRows input put
 ends-some None rows put waiting is begins = tt
 ends-some (Some all) rows put waiting is begins = put-some (rows_of (lines_of all)) rows put waiting is begins
 
-ends-begin : (input : Option (List ℕ)) (ended : Result (Unit {0}) Fault) (rows : List Operation) → EndsWith ended input rows → IfSome input (λ all. BeginsWith (rows_of (lines_of all)) rows)
-ends-begin None ended rows ends = tt
-ends-begin (Some all) (Ok done) rows (is, good) = ([], sym is ∙ sym (append-nil rows))
-ends-begin (Some all) (Err fault) rows ends = by (reason_of fault) ends
+ends-begin : (input : Option (List ℕ)) (ended : Result (Unit {0}) Fault) (rows : List Operation) (m : Map) → EndsWith ended input rows m → AreFirstRows input rows
+ends-begin None ended rows m ends = tt
+ends-begin (Some all) (Ok done) rows m (is, good) = ([], sym is ∙ sym (append-nil rows))
+ends-begin (Some all) (Err fault) rows m ends = by (reason_of fault) ends
   where
-    by : (reason : Reason) → EndsFor reason (Some all) rows → BeginsWith (rows_of (lines_of all)) rows
+    by : (reason : Reason) → EndsFor reason (Some all) rows m → BeginsWith (rows_of (lines_of all)) rows
     by mistake (is, bad) = ([], sym is ∙ sym (append-nil rows))
     by (refusal e) (is, begins) = begins
-    by (unopened cause) begins = absurd begins
-    by unread begins = begins
-    by unwritten begins = begins
+    by (unopened cause) (is, begins) = begins
+    by unread (is, begins) = begins
+    by unwritten (is, begins) = begins
 
-pub put-refused : (input : Option (List ℕ)) (ended : Result (Unit {0}) Fault) (fault : Fault) (loading new : Loading) (before now next : StoreView) → AreRead input ended loading before now
-    → IsOther (reason_of fault) → CommitsWaiting false loading now new next → ArePut input (Err fault) new before next
-put-refused input ended fault loading new before now next r other waits =
+put-stopped : (input : Option (List ℕ)) (ended : Result (Unit {0}) Fault) (fault : Fault) (loading new : Loading) (before now next : StoreView) → AreRead input ended loading before now
+    → IsOther (reason_of fault) input (map_in next) → CommitsWaiting false loading now new next → ArePut input (Err fault) new before next
+put-stopped input ended fault loading new before now next r other waits =
     let l = waits.1 (map_in before) r.rows r.loads in
     record {
       rows = l.put;
       number = l.loaded;
-      ends = ends-other input (reason_of fault) other l.put (ends-some input r.rows l.put (rows_waiting new.batch) l.all (ends-begin input ended r.rows r.ends));
+      ends = ends-other input (reason_of fault) l.put (map_in next) other (ends-some input r.rows l.put (rows_waiting new.batch) l.all (ends-begin input ended r.rows (map_in now) r.ends));
       map = l.map;
     }
+
+pub put-refused : (input : Option (List ℕ)) (ended : Result (Unit {0}) Fault) (fault : Fault) (e : Refusal) (loading new : Loading) (before now next : StoreView) → AreRead input ended loading before now
+    → reason_of fault ≡ refusal e → IsLoadRefusal (map_in next) e → CommitsWaiting false loading now new next → ArePut input (Err fault) new before next
+put-refused input ended fault e loading new before now next r is refused waits =
+    put-stopped input ended fault loading new before now next r (subst (λ (reason : Reason). IsOther reason input (map_in next)) (sym is) (inr refused)) waits
 
 -- nothing more was done
 pub waits-as_it_is : (loading : Loading) (now : StoreView) → CommitsWaiting false loading now loading now
@@ -248,7 +257,7 @@ waits-as_it_is loading now = (refl, λ begun rows l. l)
 -- what a reading that was refused has put
 pub put-as_read : (input : Option (List ℕ)) (e : Refusal) (loading : Loading) (before now : StoreView) → AreRead input (Err (Refused e)) loading before now
     → ArePut input (Err (Refused e)) loading before now
-put-as_read input e loading before now r = put-refused input (Err (Refused e)) (Refused e) loading loading before now now r r.ends.0 (waits-as_it_is loading now)
+put-as_read input e loading before now r = put-stopped input (Err (Refused e)) (Refused e) loading loading before now now r r.ends.0 (waits-as_it_is loading now)
 
 pub put-if_refused : (input : Option (List ℕ)) (ended : Result (Unit {0}) Fault) (fault : Fault) (e : Refusal) (loading : Loading) (before now : StoreView) → ended ≡ Err fault
     → fault ≡ Refused e → AreRead input ended loading before now → ArePut input ended loading before now
@@ -262,12 +271,25 @@ put-if_refused input ended fault e loading before now is refused r =
 -- it changes no map, and then all batches outlast a crash
 pub loaded-synced : (input : Option (List ℕ)) (loaded : Loaded) (loading : Loading) (before now after : StoreView) → ArePut input loaded.ended loading before now
     → loaded.rows ≡ loading.loaded → Serves now Sync Done after → IsLoaded input loaded before after
-loaded-synced input loaded loading before now after put is serves = record {
+loaded-synced input loaded loading before now after put is serves =
+    let same : map_in after ≡ map_in now = ap (λ (s : State). present_map s.points) serves.state in
+    record {
+      rows = put.rows;
+      number = is ∙ put.number;
+      ends = subst (EndsWith loaded.ended input put.rows) (sym same) put.ends;
+      map = same ∙ put.map;
+      synced = ap (λ (s : State). s.points.later) serves.state;
+    }
+
+-- or it is refused
+pub refuses_synced : (input : Option (List ℕ)) (ended : Result (Unit {0}) Fault) (loading : Loading) (before now after : StoreView) (e : Refusal) → ArePut input ended loading before now
+    → Serves now Sync (RefusedSo e) after → RefusesLastSync input before e
+refuses_synced input ended loading before now after e put serves = record {
   rows = put.rows;
-  number = is ∙ put.number;
-  ends = put.ends;
-  map = ap (λ (s : State). present_map s.points) serves.state ∙ put.map;
-  synced = ap (λ (s : State). s.points.later) serves.state;
+  between = now;
+  first = ends-begin input ended put.rows (map_in now) put.ends;
+  map = put.map;
+  refused = refuses Sync now after e serves;
 }
 
 -- ---- the answer
@@ -282,40 +304,66 @@ pub loads_behind : (input : Option (List ℕ)) (r : Result Loaded Refusal) (befo
 loads_behind input (Ok loaded) before mid after keeps loads = loaded-behind input loaded before mid after keeps loads
 loads_behind input (Err e) before mid after keeps loads = tt
 
+-- a loading that was refused with no row put
+pub refuses_none : (input : Option (List ℕ)) (before mid : StoreView) (e : Refusal) → KeepsMap before mid → IsLoadRefusal (map_in mid) e → RefusesToLoad input before e
+refuses_none input before mid e keeps refused = inl (loading_behind before mid e keeps refused)
+
+-- or behind them
+pub refuses_behind : (input : Option (List ℕ)) (r : Result Loaded Refusal) (before mid : StoreView) → KeepsMap before mid → IfErr r (RefusesLastSync input mid) → IfErr r (RefusesToLoad input before)
+refuses_behind input (Ok loaded) before mid keeps refused = tt
+refuses_behind input (Err e) before mid keeps r =
+    inr record { rows = r.rows; between = r.between; first = r.first; map = r.map ∙ ap (λ (m : Map). apply m r.rows) keeps.map; refused = r.refused }
+
 -- all rows of the input
 pub has_loaded : (input : Option (List ℕ)) (loaded : Loaded) (before after : StoreView) (output : Output) → IsLoaded input loaded before after → loaded.ended ≡ Ok tt
     → output ≡ LoadedRows loaded.rows → HasLoaded input before after output
 has_loaded input loaded before after output l is told = record {
   rows = l.rows;
-  ends = subst (λ (ended : Result (Unit {0}) Fault). EndsWith ended input l.rows) is l.ends;
+  ends = subst (λ (ended : Result (Unit {0}) Fault). EndsWith ended input l.rows (map_in after)) is l.ends;
   map = l.map;
   synced = l.synced;
   told = told ∙ ap LoadedRows l.number;
 }
 
--- or not all of them
-none_bad : (input : Option (List ℕ)) (rows : List Operation) → EndsFor mistake input rows → IfSome input (λ all. are_rows (lines_of all) ≡ false)
-none_bad None rows ends = tt
-none_bad (Some all) rows ends = ends.1
+-- or not all of them, up to a fault
+pub tells_loaded : (input lines output output_after : Option (List ℕ)) (loaded : Loaded) (fault : Fault) (told : Reason) (store after : StoreView) → WasOpened store → lines ≡ input
+    → IsLoaded lines loaded store after → loaded.ended ≡ Err fault → (told ≡ unwritten) ⊎ ((told ≡ reason_of fault) × Appends output output_after (loaded_line loaded.rows))
+    → TellsLoaded input told output output_after
+tells_loaded input lines output output_after loaded fault told store after opened same l is (inl unknown) = inr (inl unknown)
+tells_loaded input lines output output_after loaded fault told store after opened same l is (inr (as_it_is, appends)) =
+    let here = subst (λ (i : Option (List ℕ)). IsLoaded i loaded store after) same l in
+    inr (inr record {
+      store = store;
+      after = after;
+      loaded = loaded;
+      fault = fault;
+      opened = opened;
+      loads = here;
+      ends = is;
+      same = sym as_it_is;
+      told = subst (λ (n : ℕ). Appends output output_after (loaded_line n)) here.number appends;
+    })
 
-tells_number : (input output output_after : Option (List ℕ)) (rows : List Operation) (number : ℕ) (reason : Reason) → EndsFor reason input rows
-    → Appends output output_after (loaded_line number) → TellsLoaded input reason output output_after
-tells_number input output output_after rows number mistake ends appends = (none_bad input rows ends, (number, appends))
-tells_number input output output_after rows number (refusal e) ends appends = (inr ends.0, inr (number, appends))
-tells_number input output output_after rows number (unopened cause) ends appends = absurd ends
-tells_number input output output_after rows number unread ends appends = inr (number, appends)
-tells_number input output output_after rows number unwritten ends appends = tt
+-- how it ended then
+pub told-ends : (input output output_after : Option (List ℕ)) (reason : Reason) → (l : LoadsTo input output output_after reason) → EndsFor reason input l.loads.rows (map_in l.after)
+told-ends input output output_after reason l =
+    subst (λ (r : Reason). EndsFor r input l.loads.rows (map_in l.after)) l.same
+    (subst (λ (ended : Result (Unit {0}) Fault). EndsWith ended input l.loads.rows (map_in l.after)) l.ends l.loads.ends)
 
-pub tells_loaded : (input output output_after : Option (List ℕ)) (loaded : Loaded) (fault : Fault) (told : Reason) (before after : StoreView) → IsLoaded input loaded before after
-    → loaded.ended ≡ Err fault → (told ≡ unwritten) ⊎ ((told ≡ reason_of fault) × Appends output output_after (loaded_line loaded.rows)) → TellsLoaded input told output output_after
-tells_loaded input output output_after loaded fault told before after l is (inl same) = subst (λ (r : Reason). TellsLoaded input r output output_after) (sym same) tt
-tells_loaded input output output_after loaded fault told before after l is (inr (same, appends)) =
-    subst (λ (r : Reason). TellsLoaded input r output output_after) (sym same)
-    (tells_number input output output_after l.rows loaded.rows (reason_of fault) (subst (λ (ended : Result (Unit {0}) Fault). EndsWith ended input l.rows) is l.ends) appends)
+-- a line is no row
+pub none-bad : (input : Option (List ℕ)) (rows : List Operation) (m : Map) → EndsFor mistake input rows m → IfSome input (λ all. are_rows (lines_of all) ≡ false)
+none-bad None rows m ends = tt
+none-bad (Some all) rows m ends = ends.1
 
--- a refusal before any row was loaded
-pub tells_refused : (input output : Option (List ℕ)) (reason : Reason) (e : Refusal) → reason ≡ refusal e → IsOpeningRefusal e ⊎ IsLoadRefusal e → TellsLoaded input reason output output
-tells_refused input output reason e is may = subst (λ (r : Reason). TellsLoaded input r output output) (sym is) (may, inl refl)
+-- or it was refused: no store was opened
+pub tells_unopened : (input output : Option (List ℕ)) (reason : Reason) (e : Refusal) → reason ≡ refusal e → IsOpeningRefusal e → TellsLoaded input reason output output
+tells_unopened input output reason e is may = inl (e, is, inl may, refl)
+
+-- or one was
+pub tells_refused : (input lines output : Option (List ℕ)) (reason : Reason) (e : Refusal) (store : StoreView) → reason ≡ refusal e → WasOpened store → lines ≡ input
+    → RefusesToLoad lines store e → TellsLoaded input reason output output
+tells_refused input lines output reason e store is opened same refused =
+    inl (e, is, opened_refused (RefusesToLoad input) store e opened (subst (λ (i : Option (List ℕ)). RefusesToLoad i store e) same refused), refl)
 
 -- ---- the reader
 

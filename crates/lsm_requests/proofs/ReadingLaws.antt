@@ -1,14 +1,16 @@
 -- How a reading of rows goes on where it counts them, and where one of them is refused.
-use Rattle.std.proofs.Common.{◌≡◌, ◌∙◌, ◌+◌, ◌⊎◌, ℕ, Bool, true, false, List, [], ◌∷◌, length, Option, Some, None, Err, refl, sym, ap, subst, length-append, inl, inr, Ok, true≢false}
-use Rattle.lsm_codec.specs.Map.{Operation}
-use Rattle.lsm_device.specs.declared.refusal.Refusal.TheVariants.{NoMemory}
+use Rattle.std.proofs.Common.{◌≡◌, ◌∙◌, ◌+◌, ◌⊎◌, ℕ, Bool, true, false, List, [], ◌∷◌, length, Option, Some, None, Err, refl, sym, ap, subst, length-append, inl, inr, Ok, true≢false, arith}
+use Rattle.lsm_codec.specs.Map.{Map, Operation}
+use Rattle.lsm_device.specs.declared.refusal.Refusal.{Refusal}
+use Rattle.lsm_device.specs.declared.refusal.Refusal.TheVariants.{Exhausted, NoMemory}
 use Rattle.lsm_language.specs.declared.fault.Fault.{Fault}
+use Rattle.lsm_language.specs.declared.fault.Fault.TheVariants.{Refused}
 use Rattle.lsm_language.specs.Faults.{Reason, mistake, refusal, unread, reason_of}
-use Rattle.lsm_language.specs.Rows.{ReadsLine, row_said}
+use Rattle.lsm_language.specs.Rows.{ReadsLine, lines_of, row_said, rows_of}
 use Rattle.lsm_store.specs.Backing.{StoreView}
 use Rattle.lsm_requests.specs.declared.loading.Loading.{Loading}
 use Rattle.lsm_requests.specs.Commits.{map_in}
-use Rattle.lsm_requests.specs.Loading.{AreRead, CommitsWaiting, FitsIf, IsOther, Takes}
+use Rattle.lsm_requests.specs.Loading.{AreRead, CommitsWaiting, FitsIf, HasRead, HasTooMany, IsLoadRefusal, IsOther, Takes}
 use Rattle.lsm_requests.proofs.LoadingLaws.{IsReading, reading-ends, reading-fails, reading-more, reading-stops, taken_alone, taken_to}
 
 -- a row more is one more
@@ -23,24 +25,41 @@ reading-same : (input left : Option (List ℕ)) (row : Operation) (old new : Loa
     → Takes row false old now new next → IsReading input left new before next
 reading-same input left row old new before now next r takes = record { rows = r.rows; loads = takes (map_in before) r.rows r.loads; reads = r.reads }
 
-pub reading-refused : (input left : Option (List ℕ)) (fault : Fault) (row : Operation) (old new : Loading) (before now next : StoreView) → IsReading input left old before now
-    → Takes row false old now new next → IsOther (reason_of fault) → AreRead input (Err fault) new before next
-reading-refused input left fault row old new before now next r takes other = reading-fails input left fault new before next (reading-same input left row old new before now next r takes) other
+pub reading-refused : (input left : Option (List ℕ)) (fault : Fault) (e : Refusal) (row : Operation) (old new : Loading) (before now next : StoreView) → IsReading input left old before now
+    → Takes row false old now new next → reason_of fault ≡ refusal e → IsLoadRefusal (map_in next) e → AreRead input (Err fault) new before next
+reading-refused input left fault e row old new before now next r takes is refused =
+    reading-fails input left fault new before next (reading-same input left row old new before now next r takes) (subst (λ (reason : Reason). IsOther reason input (map_in next)) (sym is) (inr refused))
+
+-- no memory
+no_memory : (reason : Reason) (input : Option (List ℕ)) (m : Map) → reason ≡ refusal NoMemory → IsOther reason input m
+no_memory reason input m is = subst (λ (r : Reason). IsOther r input m) (sym is) (inr (inl refl))
 
 -- an input that can't be read, or no memory for a line
-unread_other : (reason : Reason) → (reason ≡ refusal NoMemory) ⊎ (reason ≡ unread) → IsOther reason
-unread_other reason (inl is) = subst IsOther (sym is) (inl refl)
-unread_other reason (inr is) = subst IsOther (sym is) tt
+unread_other : (reason : Reason) (input : Option (List ℕ)) (m : Map) → (reason ≡ refusal NoMemory) ⊎ (reason ≡ unread) → IsOther reason input m
+unread_other reason input m (inl is) = no_memory reason input m is
+unread_other reason input m (inr is) = subst (λ (r : Reason). IsOther r input m) (sym is) tt
 
 pub reading-unread : (input left : Option (List ℕ)) (fault : Fault) (loading : Loading) (before now : StoreView) → IsReading input left loading before now
     → (reason_of fault ≡ refusal NoMemory) ⊎ (reason_of fault ≡ unread) → AreRead input (Err fault) loading before now
-reading-unread input left fault loading before now r is = reading-fails input left fault loading before now r (unread_other (reason_of fault) is)
+reading-unread input left fault loading before now r is = reading-fails input left fault loading before now r (unread_other (reason_of fault) input (map_in now) is)
 
 -- a line that is no row, or no memory for one
 pub reading-no_row : (input left after : Option (List ℕ)) (line : List ℕ) (fault : Fault) (loading : Loading) (before now : StoreView) → IsReading input left loading before now
     → ReadsLine left true line after → ((reason_of fault ≡ mistake) × (row_said line ≡ None)) ⊎ (reason_of fault ≡ refusal NoMemory) → AreRead input (Err fault) loading before now
 reading-no_row input left after line fault loading before now r reads (inl (is, none)) = reading-stops input left after line fault loading before now r reads none is
-reading-no_row input left after line fault loading before now r reads (inr is) = reading-fails input left fault loading before now r (subst IsOther (sym is) (inl refl))
+reading-no_row input left after line fault loading before now r reads (inr is) = reading-fails input left fault loading before now r (no_memory (reason_of fault) input (map_in now) is)
+
+-- the most rows that are read
+too_many : (input left : Option (List ℕ)) (rows : List Operation) → length rows ≡ 18446744073709551615 → HasRead input rows left → HasTooMany input
+too_many None left rows is has = tt
+too_many (Some all) left rows is (text, same, rest, good) =
+    let sum : length (rows_of (lines_of all)) ≡ length rows + length (rows_of (lines_of text)) = ap (λ (l : List Operation). length l) rest ∙ length-append rows (rows_of (lines_of text)) in
+    omega (arith, sum, is)
+
+pub reading-exhausted : (input left : Option (List ℕ)) (loading : Loading) (before now : StoreView) (count : ℕ) → count ≡ 18446744073709551615 → IsReading input left loading before now
+    → loading.read ≡ count → AreRead input (Err (Refused Exhausted)) loading before now
+reading-exhausted input left loading before now count all r is =
+    reading-fails input left (Refused Exhausted) loading before now r (inl (refl, too_many input left r.rows (sym r.loads.read ∙ is ∙ all) r.reads))
 
 -- ---- a row
 

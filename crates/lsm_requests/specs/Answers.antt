@@ -1,9 +1,8 @@
 -- What the program prints.
-use Rattle.std.specs.Prelude.{◌≡◌, ◌⊎◌, ℕ, ◌+◌, ◌*◌, ◌==◌, List, [], ◌∷◌, ◌++◌, map, Option, Some, None, Result, Ok, Err, IfOk, IfSome, IsTrue, false, true, codes, decimal, string_bytes}
+use Rattle.std.specs.Prelude.{◌≡◌, ◌⊎◌, ℕ, ◌+◌, ◌*◌, ◌==◌, List, [], ◌∷◌, ◌++◌, length, map, Option, Some, None, Result, Ok, Err, IfOk, IsTrue, false, true, codes, decimal, string_bytes}
 use Rattle.std.specs.Io.KnownBytes.{Appends}
-use Rattle.lsm_language.specs.Faults.{Reason, mistake, refusal, unopened, unwritten, reason_of}
+use Rattle.lsm_language.specs.Faults.{Reason, refusal, unwritten, reason_of}
 use Rattle.lsm_language.specs.declared.fault.Fault.{Fault}
-use Rattle.lsm_language.specs.Rows.{are_rows, lines_of as lines_in}
 use Rattle.lsm_codec.specs.Keys.{Bytes}
 use Rattle.lsm_codec.specs.Words.{word_of}
 use Rattle.lsm_codec.specs.Geometry.{data_blocks_of}
@@ -40,9 +39,10 @@ use Rattle.lsm_requests.specs.Steps.{steps_after, told_after, lives_said, told_l
 use Rattle.lsm_upkeep.specs.Upkeep.{CompactsAll}
 use Rattle.lsm_requests.specs.Commits.{HasCommitted, IsKeptUp}
 use Rattle.lsm_requests.specs.Dumping.{HasDumped, StopsDumping}
-use Rattle.lsm_requests.specs.Loading.{IsLoadRefusal, HasLoaded, loaded_line}
+use Rattle.lsm_requests.specs.Loading.{HasLoaded, IsLoaded, RefusesToLoad, loaded_line}
 use Rattle.lsm_replies.specs.Replies.{stat_line}
 use Rattle.lsm_requests.specs.Replies.{page_lines, report_line, table_line, counts_lines, replies_text, lives_text}
+use Rattle.lsm_requests.specs.declared.loading.Loaded.{Loaded as LoadedUpTo}
 use Rattle.lsm_requests.specs.declared.steps.Told.{Told}
 use Rattle.lsm_serve.specs.Serving.{IsServed}
 use Rattle.lsm_storm.specs.Storms.{HasStormed}
@@ -103,6 +103,16 @@ pub record WasOpened (store : StoreView) : Type 0 where
   pub unused : file.calls ≡ no_calls
   pub opened : ReopensTo (file_medium file) store
   pub cache : HasNewCache store
+
+-- a store was opened, and refused so
+pub record OpensAndRefuses (RefusesSo : StoreView → Refusal → Type 0) (e : Refusal) : Type 0 where
+  pub store : StoreView
+  pub opened : WasOpened store
+  pub refused : RefusesSo store e
+
+-- no store was opened, or one was, and refused so
+abbrev pub IsRefusedOpened : (StoreView → Refusal → Type 0) → Refusal → Type 0
+IsRefusedOpened RefusesSo e = IsOpeningRefusal e ⊎ OpensAndRefuses RefusesSo e
 
 -- A file was opened, and the store, which went on to another state, answers so. The file is handed out as the calls left it.
 pub record OfOpened (Tells : StoreView → StoreView → Output → Type 0) (answer : Answer) : Type 0 where
@@ -262,15 +272,23 @@ TellsDumped (refusal e) output output_after = (IsOpeningRefusal e × (output_aft
 TellsDumped unwritten output output_after = Unit {0}
 TellsDumped other output output_after = ⊥
 
--- Why rows were not loaded, and what was printed: a line is no row, and the number of the rows before it; or a refusal or an input that
--- can't be read, and nothing, or a number too; or the number could not be printed.
+-- A store was opened, rows of the input were put into it up to this fault, and are synced; their number was printed.
+pub record LoadsTo (input output output_after : Option (List ℕ)) (reason : Reason) : Type 0 where
+  pub store : StoreView
+  pub after : StoreView
+  pub loaded : LoadedUpTo
+  pub fault : Fault
+  pub opened : WasOpened store
+  pub loads : IsLoaded input loaded store after
+  pub ends : loaded.ended ≡ Err fault
+  pub same : reason_of fault ≡ reason
+  pub told : Appends output output_after (loaded_line (length loads.rows))
+
+-- Why rows were not loaded, and what was printed: a refusal, and nothing; or the number could not be printed; or rows were put up to a
+-- fault, and their number was.
 abbrev pub TellsLoaded : Option (List ℕ) → Reason → Option (List ℕ) → Option (List ℕ) → Type 0
-TellsLoaded input mistake output output_after = IfSome input (λ all. are_rows (lines_in all) ≡ false)
-    × ((number : ℕ) × Appends output output_after (loaded_line number))
-TellsLoaded input (refusal e) output output_after = (IsOpeningRefusal e ⊎ IsLoadRefusal e) × ((output_after ≡ output) ⊎ ((number : ℕ) × Appends output output_after (loaded_line number)))
-TellsLoaded input (unopened cause) output output_after = ⊥
-TellsLoaded input unwritten output output_after = Unit {0}
-TellsLoaded input other output output_after = (output_after ≡ output) ⊎ ((number : ℕ) × Appends output output_after (loaded_line number))
+TellsLoaded input reason output output_after = ((e : Refusal) × (reason ≡ refusal e) × IsRefusedOpened (RefusesToLoad input) e × (output_after ≡ output))
+    ⊎ ((reason ≡ unwritten) ⊎ LoadsTo input output output_after reason)
 
 -- Why a store was not served to the end of the input: it was not opened, or there was no memory for a reader, and nothing was printed; or
 -- lines were answered up to a fault.

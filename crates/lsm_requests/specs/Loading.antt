@@ -1,12 +1,13 @@
 -- Rows that are loaded.
-use Rattle.std.specs.Prelude.{◌≡◌, ◌⊎◌, ℕ, Bool, true, false, List, [], ◌∷◌, ◌++◌, length, Option, Some, None, Result, Ok, Err, IfSome, codes, decimal}
+use Rattle.std.specs.Prelude.{◌≡◌, ◌≤◌, ◌⊎◌, ℕ, ◌/◌, Bool, true, false, List, [], ◌∷◌, ◌++◌, length, Option, Some, None, Result, Ok, Err, IfSome, codes, decimal}
 use Rattle.lsm_codec.specs.Map.{Map, Operation, apply}
 use Rattle.lsm_device.specs.declared.refusal.Refusal.{Refusal}
 use Rattle.lsm_device.specs.declared.refusal.Refusal.TheVariants.{Exhausted, NoMemory, NoSpace}
 use Rattle.lsm_store.specs.Backing.{StoreView}
-use Rattle.lsm_store.specs.Calls.{Call, Commit, LogRoom, Rotate, Sync}
+use Rattle.lsm_store.specs.Calls.{Call, Commit, LogRoom, Number, Rotate, Sync}
+use Rattle.lsm_store.specs.Serving.{Serves}
 use Rattle.lsm_language.specs.declared.fault.Fault.{Fault}
-use Rattle.lsm_language.specs.Faults.{Reason, mistake, refusal, unopened, reason_of}
+use Rattle.lsm_language.specs.Faults.{Reason, mistake, refusal, unread, reason_of}
 use Rattle.lsm_language.specs.Rows.{are_rows, lines_of, rows_of}
 use Rattle.lsm_requests.specs.Commits.{Refuses, map_in, takes_puts}
 use Rattle.lsm_requests.specs.declared.loading.Loading.{Loading}
@@ -36,6 +37,10 @@ HasRead input rows left = IfSome input (λ all. (text : List ℕ) × (left ≡ S
 abbrev pub BeginsWith : List Operation → List Operation → Type 0
 BeginsWith all rows = (rest : List Operation) × (all ≡ rows ++ rest)
 
+-- the rows of an input begin with these, which may be none
+abbrev pub AreFirstRows : Option (List ℕ) → List Operation → Type 0
+AreFirstRows input rows = IfSome input (λ all. BeginsWith (rows_of (lines_of all)) rows)
+
 -- ---- refusals
 
 -- the calls that a loading makes
@@ -46,43 +51,66 @@ IsLoadingCall LogRoom = Unit {0}
 IsLoadingCall Sync = Unit {0}
 IsLoadingCall other = ⊥
 
--- a store refused such a call so
-pub record RefusesLoading (e : Refusal) : Type 0 where
+-- a store with just this map refused such a call so
+pub record RefusesLoading (m : Map) (e : Refusal) : Type 0 where
   pub call : Call
   pub store : StoreView
+  pub map : map_in store ≡ m
   pub is : IsLoadingCall call
   pub refuses : Refuses call store e
 
--- a store had no room for puts, beside some blocks that are to be filled
-pub record LacksLoadRoom (e : Refusal) : Type 0 where
+-- so many blocks tables fill of all entries for which the open log has room: an eighth of its free sectors
+pub record FillsWithLog (store : StoreView) (blocks : ℕ) : Type 0 where
+  pub room : ℕ
+  pub asked : Serves store LogRoom (Number room) store
+  pub is : blocks ≡ room / 8
+
+-- a store with just this map had no room for puts, beside the blocks that a full log fills
+pub record LacksLoadRoom (m : Map) (e : Refusal) : Type 0 where
   pub store : StoreView
   pub beside : ℕ
+  pub map : map_in store ≡ m
+  pub fills : FillsWithLog store beside
   pub lacks : takes_puts beside store ≡ false
   pub is : e ≡ NoSpace
 
--- With what a loading may be refused: a call that it makes was, there was no room or no memory, or 2^64 - 1 rows were read.
-abbrev pub IsLoadRefusal : Refusal → Type 0
-IsLoadRefusal e = (e ≡ NoMemory) ⊎ ((e ≡ Exhausted) ⊎ (LacksLoadRoom e ⊎ RefusesLoading e))
+-- With what a loading may be refused that has come to this map: there was no memory, or a store with the map had no room, or refused a
+-- call that a loading makes.
+abbrev pub IsLoadRefusal : Map → Refusal → Type 0
+IsLoadRefusal m e = (e ≡ NoMemory) ⊎ (LacksLoadRoom m e ⊎ RefusesLoading m e)
+
+-- first rows of an input were put into the map of a store, and the sync behind the last of them was refused so
+pub record RefusesLastSync (input : Option (List ℕ)) (store : StoreView) (e : Refusal) : Type 0 where
+  pub rows : List Operation
+  pub between : StoreView
+  pub first : AreFirstRows input rows
+  pub map : map_in between ≡ apply (map_in store) rows
+  pub refused : Refuses Sync between e
+
+-- A loading was refused so that tells no number: before any row was put, or by that sync.
+abbrev pub RefusesToLoad : Option (List ℕ) → StoreView → Refusal → Type 0
+RefusesToLoad input store e = IsLoadRefusal (map_in store) e ⊎ RefusesLastSync input store e
 
 -- ---- how a loading ends
 
--- A loading ends with all rows of the input, with a line that is no row behind these, or with some of them.
-abbrev pub EndsFor : Reason → Option (List ℕ) → List Operation → Type 0
-EndsFor mistake input rows = IfSome input (λ all. (rows ≡ rows_of (lines_of all)) × (are_rows (lines_of all) ≡ false))
-EndsFor (refusal e) input rows = IsLoadRefusal e × IfSome input (λ all. BeginsWith (rows_of (lines_of all)) rows)
-EndsFor (unopened cause) input rows = ⊥
-EndsFor other input rows = IfSome input (λ all. BeginsWith (rows_of (lines_of all)) rows)
+-- an input has 2^64 - 1 rows or more; no more are read
+abbrev pub HasTooMany : Option (List ℕ) → Type 0
+HasTooMany input = IfSome input (λ all. 18446744073709551615 ≤ length (rows_of (lines_of all)))
 
--- a reason that a loading may have beside a mistake
-abbrev pub IsOther : Reason → Type 0
-IsOther mistake = ⊥
-IsOther (refusal e) = IsLoadRefusal e
-IsOther (unopened cause) = ⊥
-IsOther other = Unit {0}
+-- why a loading may end that has come to this map, beside a mistake: a refusal, or an input that can't be read
+abbrev pub IsOther : Reason → Option (List ℕ) → Map → Type 0
+IsOther (refusal e) input m = ((e ≡ Exhausted) × HasTooMany input) ⊎ IsLoadRefusal m e
+IsOther unread input m = Unit {0}
+IsOther other input m = ⊥
 
-abbrev pub EndsWith : Result (Unit {0}) Fault → Option (List ℕ) → List Operation → Type 0
-EndsWith (Ok done) input rows = IfSome input (λ all. (rows ≡ rows_of (lines_of all)) × (are_rows (lines_of all) ≡ true))
-EndsWith (Err fault) input rows = EndsFor (reason_of fault) input rows
+-- A loading that has come to this map ends with all rows of the input, with a line that is no row behind these, or with some of them.
+abbrev pub EndsFor : Reason → Option (List ℕ) → List Operation → Map → Type 0
+EndsFor mistake input rows m = IfSome input (λ all. (rows ≡ rows_of (lines_of all)) × (are_rows (lines_of all) ≡ false))
+EndsFor other input rows m = IsOther other input m × AreFirstRows input rows
+
+abbrev pub EndsWith : Result (Unit {0}) Fault → Option (List ℕ) → List Operation → Map → Type 0
+EndsWith (Ok done) input rows m = IfSome input (λ all. (rows ≡ rows_of (lines_of all)) × (are_rows (lines_of all) ≡ true))
+EndsWith (Err fault) input rows m = EndsFor (reason_of fault) input rows m
 
 -- ---- steps of a loading
 
@@ -120,7 +148,7 @@ CommitsWaiting done old before new after = (new ≡ waits_after done old)
 pub record AreRead (input : Option (List ℕ)) (ended : Result (Unit {0}) Fault) (loading : Loading) (before after : StoreView) : Type 0 where
   pub rows : List Operation
   pub loads : IsLoading (map_in before) rows loading after
-  pub ends : EndsWith ended input rows
+  pub ends : EndsWith ended input rows (map_in after)
 
 -- ---- what comes of it
 
@@ -128,14 +156,14 @@ pub record AreRead (input : Option (List ℕ)) (ended : Result (Unit {0}) Fault)
 pub record ArePut (input : Option (List ℕ)) (ended : Result (Unit {0}) Fault) (loading : Loading) (before after : StoreView) : Type 0 where
   pub rows : List Operation
   pub number : loading.loaded ≡ length rows
-  pub ends : EndsWith ended input rows
+  pub ends : EndsWith ended input rows (map_in after)
   pub map : map_in after ≡ apply (map_in before) rows
 
 -- So many rows of the input were put into the map of a store, in their order, and are synced.
 pub record IsLoaded (input : Option (List ℕ)) (loaded : Loaded) (before after : StoreView) : Type 0 where
   pub rows : List Operation
   pub number : loaded.rows ≡ length rows
-  pub ends : EndsWith loaded.ended input rows
+  pub ends : EndsWith loaded.ended input rows (map_in after)
   pub map : map_in after ≡ apply (map_in before) rows
   pub synced : after.state.points.later ≡ []
 

@@ -12,9 +12,8 @@ use Rattle.lsm_store.specs.Backing.{StoreView}
 use Rattle.lsm_store.specs.Calls.{Call, Commit, CommitIf, Get, Scan, Sync, Number}
 use Rattle.lsm_store.specs.Serving.{Serves}
 use Rattle.lsm_storm.specs.Storms.{IsSessionRefusal, IsStormRefusal}
-use Rattle.lsm_requests.specs.Answers.{WasOpened, TellsDumped, TellsLoaded, TellsServed}
+use Rattle.lsm_requests.specs.Answers.{IsRefusedOpened, TellsDumped, TellsLoaded, TellsServed}
 use Rattle.lsm_requests.specs.Commits.{IsKeptUp, Refuses, takes_puts}
-use Rattle.lsm_requests.specs.Loading.{IsLoadRefusal}
 
 -- a call that reads was refused, or there was no memory for the text of its answer
 abbrev pub RefusesToTell : Call → StoreView → Refusal → Type 0
@@ -37,16 +36,6 @@ pub record RefusesToCommit (puts : Bool) (call : Call) (before : StoreView) (e :
   pub keeps : IsKeptUp before kept
   pub refused : LacksRoom puts kept e ⊎ (Refuses call kept e ⊎ RefusesToSync call kept e)
 
--- a store was opened, and refused so
-pub record OpensAndRefuses (RefusesSo : StoreView → Refusal → Type 0) (e : Refusal) : Type 0 where
-  pub store : StoreView
-  pub opened : WasOpened store
-  pub refused : RefusesSo store e
-
--- no store was opened, or one was, and refused so
-abbrev pub IsRefusedOpened : (StoreView → Refusal → Type 0) → Refusal → Type 0
-IsRefusedOpened RefusesSo e = IsOpeningRefusal e ⊎ OpensAndRefuses RefusesSo e
-
 -- with what a request may be refused
 abbrev pub MayRefuse : Request → Refusal → Type 0
 MayRefuse (request.Format file geometry) e = (e ≡ NoMemory) ⊎ (e ≡ Io)
@@ -59,7 +48,7 @@ MayRefuse (request.Stat file) e = IsOpeningRefusal e
 MayRefuse (request.Check file) e = IsCheckRefusal e
 MayRefuse (request.Compact file) e = IsOpeningRefusal e ⊎ (e ≡ Stopped)
 MayRefuse (request.Dump file) e = (output : Option (List ℕ)) × (output_after : Option (List ℕ)) × TellsDumped (refusal e) output output_after
-MayRefuse (request.Load file) e = IsOpeningRefusal e ⊎ IsLoadRefusal e
+MayRefuse (request.Load file) e = (input : Option (List ℕ)) × (output : Option (List ℕ)) × (output_after : Option (List ℕ)) × TellsLoaded input (refusal e) output output_after
 MayRefuse (request.Serve file) e = (input : Option (List ℕ)) × (output : Option (List ℕ)) × (output_after : Option (List ℕ)) × TellsServed input (refusal e) output output_after
 MayRefuse (request.Replay file script) e = IsOpeningRefusal e
 MayRefuse (request.Lives geometry script) e = e ≡ NoMemory

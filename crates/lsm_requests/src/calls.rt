@@ -16,9 +16,9 @@ ghost use Rattle.lsm_lives.specs.Calls.{asked_of};
 ghost use Rattle.lsm_requests.specs.Steps.{steps_after, lives_said, told_after, told_lives};
 ghost use Rattle.lsm_requests.specs.Replies.{table_line};
 ghost use Rattle.lsm_requests.specs.Commits.{HasCommitted};
-ghost use Rattle.lsm_requests.specs.Loading.{HasLoaded, IsLoadRefusal, IsLoaded, loaded_line};
-ghost use Rattle.lsm_requests.specs.Answers.{Comes, HasCompacted, HasFormatted, HasCounted, OfDumped, TellsDumped, TellsLoaded, TellsServed, HasFound, HasServed, HasLives, HasNumbers, HasChecked, IsChecked, TellsFound, HasRows, HasReplies, OfOpened};
-ghost use Rattle.lsm_requests.specs.Refusing.{FaultsWith, IsRefusedOpened, RefusesToCommit, RefusesToTell};
+ghost use Rattle.lsm_requests.specs.Loading.{HasLoaded, IsLoaded, RefusesToLoad, loaded_line};
+ghost use Rattle.lsm_requests.specs.Answers.{Comes, HasCompacted, HasFormatted, HasCounted, IsRefusedOpened, OfDumped, TellsDumped, TellsLoaded, TellsServed, HasFound, HasServed, HasLives, HasNumbers, HasChecked, IsChecked, TellsFound, HasRows, HasReplies, OfOpened};
+ghost use Rattle.lsm_requests.specs.Refusing.{FaultsWith, RefusesToCommit, RefusesToTell};
 
 use crate::answer::{Answer, Output};
 use crate::committing::{blocks_of_log, check_room, keep};
@@ -174,7 +174,7 @@ fn keep_and_load<R: Threads + Sync, D: Device, I: BufRead, P: Progress>(
     progress: &mut P,
 ) -> Result<Loaded, Refusal>
     ensures loads { IfOk result (λ loaded. IsLoaded (I.remaining lines.old) loaded store.old store.new) }
-    ensures refused { IfErr result IsLoadRefusal }
+    ensures refused { IfErr result (RefusesToLoad (I.remaining lines.old) store.old) }
 {
     keep(rt, alloc, store);
     check_room(store, blocks_of_log(store)?)?;

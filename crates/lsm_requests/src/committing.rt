@@ -4,8 +4,8 @@ ghost use Rattle.std.specs.Prelude.{◌≡◌, true, false, IfOk, IfErr, IsTrue,
 ghost use Rattle.lsm_device.specs.declared.refusal.Refusal.TheVariants.{NoSpace};
 ghost use Rattle.lsm_upkeep.specs.Keeping.{KeepsMap};
 ghost use Rattle.lsm_store.specs.Calls.{Commit, CommitIf};
-ghost use Rattle.lsm_requests.specs.Commits.{HasCommitted, IsKeptUp, Puts, takes_puts};
-ghost use Rattle.lsm_requests.specs.Loading.{IsLoadRefusal};
+ghost use Rattle.lsm_requests.specs.Commits.{HasCommitted, IsKeptUp, Puts, map_in, takes_puts};
+ghost use Rattle.lsm_requests.specs.Loading.{FillsWithLog, IsLoadRefusal};
 ghost use Rattle.lsm_requests.specs.Refusing.{RefusesToCommit};
 
 use crate::answer::Output;
@@ -97,7 +97,7 @@ pub fn add<R: Threads + Sync, D: Device>(
     batch: &Batch,
 ) -> Result<u64, Refusal>
     ensures puts { MatchResult result (λ _. Puts batch.now store.old store.new) (λ _. KeepsMap store.old store.new) }
-    ensures refused { IfErr result IsLoadRefusal }
+    ensures refused { IfErr result (IsLoadRefusal (map_in store.old)) }
 {
     match store.commit(batch) {
         Err(Refusal::LogFull) => add_behind(rt, alloc, store, batch),
@@ -113,7 +113,7 @@ fn add_behind<R: Threads + Sync, D: Device>(
     batch: &Batch,
 ) -> Result<u64, Refusal>
     ensures puts { MatchResult result (λ _. Puts batch.now store.old store.new) (λ _. KeepsMap store.old store.new) }
-    ensures refused { IfErr result IsLoadRefusal }
+    ensures refused { IfErr result (IsLoadRefusal (map_in store.old)) }
 {
     store.rotate()?;
     compact(rt, alloc, store, &Policy::new());
@@ -123,7 +123,8 @@ fn add_behind<R: Threads + Sync, D: Device>(
 
 /// The blocks that tables of the entries fill for which the open log has room.
 pub fn blocks_of_log<D: Device>(store: &Store<D>) -> Result<u32, Refusal>
-    ensures { IfErr result IsLoadRefusal }
+    ensures blocks { IfOk result (FillsWithLog store.now) }
+    ensures refused { IfErr result (IsLoadRefusal (map_in store.now)) }
 {
     Ok(store.log_room()? / 8)
 }

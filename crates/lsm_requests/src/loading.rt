@@ -5,8 +5,8 @@ ghost use Rattle.lsm_device.specs.declared.refusal.Refusal.TheVariants.{BatchToo
 ghost use Rattle.lsm_upkeep.specs.Keeping.{KeepsMap};
 ghost use Rattle.lsm_language.specs.Faults.{mistake, reason_of, refusal};
 ghost use Rattle.lsm_language.specs.Rows.{row_said};
-ghost use Rattle.lsm_requests.specs.Commits.{Puts};
-ghost use Rattle.lsm_requests.specs.Loading.{ArePut, AreRead, CommitsWaiting, Fits, IsLoadRefusal, IsLoaded, Takes, none_loaded, rows_waiting};
+ghost use Rattle.lsm_requests.specs.Commits.{Puts, map_in};
+ghost use Rattle.lsm_requests.specs.Loading.{ArePut, AreRead, CommitsWaiting, Fits, IsLoadRefusal, IsLoaded, RefusesLastSync, Takes, none_loaded, rows_waiting};
 
 use crate::committing::add;
 use lsm_codec::{Batch, Op};
@@ -46,7 +46,7 @@ pub fn load_rows<R: Threads + Sync, D: Device, I: BufRead, P: Progress>(
     progress: &mut P,
 ) -> Result<Loaded, Refusal>
     ensures loads { IfOk result (λ loaded. IsLoaded (I.remaining input.old) loaded store.old store.new) }
-    ensures refused { IfErr result IsLoadRefusal }
+    ensures refused { IfErr result (RefusesLastSync (I.remaining input.old) store.old) }
 {
     let mut loading = Loading {
         batch: None,
@@ -132,7 +132,7 @@ fn take<R: Threads + Sync, D: Device>(
 ) -> Result<(), Refusal>
     requires { loading.old.read < 18446744073709551615 }
     ensures takes { Takes row (is_ok result) loading.old store.old loading.new store.new }
-    ensures refused { IfErr result IsLoadRefusal }
+    ensures refused { IfErr result (IsLoadRefusal (map_in store.new)) }
 {
     if fits(loading, &row)? {
         loading.read += 1;
@@ -187,7 +187,7 @@ fn commit_waiting<R: Threads + Sync, D: Device>(
     loading: &mut Loading,
 ) -> Result<(), Refusal>
     ensures waits { CommitsWaiting (is_ok result) loading.old store.old loading.new store.new }
-    ensures refused { IfErr result IsLoadRefusal }
+    ensures refused { IfErr result (IsLoadRefusal (map_in store.new)) }
 {
     commit_batch(rt, alloc, store, &loading.batch)?;
     loading.batch = None;
@@ -202,7 +202,7 @@ fn commit_batch<R: Threads + Sync, D: Device>(
     waiting: &Option<Batch>,
 ) -> Result<(), Refusal>
     ensures puts { MatchResult result (λ _. Puts (rows_waiting waiting.now) store.old store.new) (λ _. KeepsMap store.old store.new) }
-    ensures refused { IfErr result IsLoadRefusal }
+    ensures refused { IfErr result (IsLoadRefusal (map_in store.old)) }
 {
     match waiting {
         Some(batch) => {

@@ -1,8 +1,6 @@
 use Rattle.std.proofs.Common.{refl}
 use Rattle.std.proofs.lemmas.Result.{err_from_is_err_and}
-use Rattle.lsm_store.specs.Calls.{Sync}
-use Rattle.lsm_requests.proofs.LoadingLaws.{loaded-synced}
-use Rattle.lsm_requests.proofs.RefusedLaws.{loading_refused}
+use Rattle.lsm_requests.proofs.LoadingLaws.{loaded-synced, refuses_synced}
 use Rattle.lsm_requests.proofs.loading.load_rows.Goals as goal
 
 pub returns-clause-loads : goal.returns-clause-loads
@@ -11,4 +9,4 @@ returns-clause-loads g c = loaded-synced _ _ _ _ _ _ c.load_all-ended.ensures re
 pub returns-in_err-sync-clause-refused : goal.returns-in_err-sync-clause-refused
 returns-in_err-sync-clause-refused g c =
     let p = err_from_is_err_and c.from_residual.result c.from_residual.ensures.1 in
-    rw (p.1, p.2) (loading_refused Sync _ _ _ tt c.in_err-sync.ensures.serves)
+    rw (p.1, p.2) (refuses_synced _ _ _ _ _ _ _ c.load_all-ended.ensures c.in_err-sync.ensures.serves)
