@@ -2,7 +2,7 @@
 use Rattle.std.specs.Prelude.{ℕ, suc, ◌==◌, ◌&&◌, ◌||◌, not, nat_le, Bool, List, [], length, filter, Option, Some, None, if◌then◌else◌}
 use Rattle.std.specs.List.{find, list_any}
 use Rattle.lsm_levels.specs.Tables.{Table, meets}
-use Rattle.lsm_levels.specs.Levels.{Levels, level, last_run}
+use Rattle.lsm_levels.specs.Levels.{Levels, all_tables, level, oldest_runs}
 use Rattle.lsm_levels.specs.Pick.{Job, is_merge, is_of_level_0, is_several, are_several, can_merge, merge_of, of_least_level}
 use Rattle.lsm_levels.specs.declared.choosing.Choice.{Choice}
 use Rattle.lsm_levels.specs.declared.choosing.Choice.TheVariants as choice
@@ -15,9 +15,10 @@ may_stand jobs i upper = not (list_any is_several jobs) && (not (are_several i u
 abbrev pub free_merge : ℕ → List Table → List Table → List Job → Option Job
 free_merge i upper below jobs = if may_stand jobs i upper && can_merge jobs upper below then Some (merge_of i upper below) else None
 
--- that of the oldest run of level 0, if there is a run and no job of level 0
-abbrev pub run_job : List (List Table) → List Table → List Job → Option Job
-run_job runs below jobs = if nat_le 1 (length runs) && not (list_any is_of_level_0 jobs) then free_merge 0 (last_run runs) below jobs else None
+-- that of so many of the oldest runs of level 0, if there are so many, one at least, and no job of level 0
+abbrev pub run_job : ℕ → List (List Table) → List Table → List Job → Option Job
+run_job count runs below jobs =
+    if (nat_le 1 count && nat_le count (length runs)) && not (list_any is_of_level_0 jobs) then free_merge 0 (all_tables (oldest_runs count runs)) below jobs else None
 
 -- the tables from one to another, if there are both
 abbrev pub tables_from : List Table → Option Table → Option Table → List Table
@@ -38,7 +39,7 @@ abbrev pub tables_job : ℕ → ℕ → ℕ → List Table → List Table → Li
 tables_job first last i tables below jobs = some_job i (neighbours first last tables) below jobs
 
 -- The job of a choice: none where there are no such tables, where one that it would take in is not free, where a job of level 0
--- goes on beside the oldest run, or where it may not stand beside the others.
+-- goes on beside the oldest runs, or where it may not stand beside the others.
 abbrev pub chosen : Levels → List Job → Choice → Option Job
-chosen levels jobs choice.OldestRun = run_job levels.runs (level levels 1) jobs
+chosen levels jobs (choice.OldestRuns count) = run_job count levels.runs (level levels 1) jobs
 chosen levels jobs (choice.Tables first last) = of_least_level (λ i. tables_job first last i (level levels i) (level levels (suc i)) jobs)

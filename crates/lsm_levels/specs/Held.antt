@@ -4,7 +4,7 @@ use Rattle.std.specs.List.{AllByRecursion}
 use Rattle.lsm_codec.specs.Versions.{Version}
 use Rattle.lsm_levels.specs.Among.{IsAmong}
 use Rattle.lsm_levels.specs.Tables.{Table, KeyRange, at_most, hull, meets, meeting, IsRun, versions_of}
-use Rattle.lsm_levels.specs.Levels.{Levels, level, places, last_run}
+use Rattle.lsm_levels.specs.Levels.{Levels, all_tables, level, places}
 use Rattle.lsm_levels.specs.Orders.{IsNewerPlace, IsVersionOrder}
 use Rattle.lsm_levels.specs.Pick.{Job, Flush, Merge, inputs, is_flush, is_several, pick, is_bottom, installed_levels}
 use Rattle.lsm_levels.specs.Choices.{chosen}
@@ -17,9 +17,17 @@ pub record AreRuns (levels : Levels) : Type 0 where
   pub deeper : AllByRecursion IsRun levels.deeper
   pub some : AllByRecursion (λ run. 0 < length run) levels.runs
 
--- where the upper tables stand: they are the oldest run of level 0, or all of another level that meet their hull
+-- Tables are those of the oldest runs, of one run at least.
+pub record AreOldest (runs : List (List Table)) (tables : List Table) : Type 0 where
+  pub newer : List (List Table)
+  pub oldest : List (List Table)
+  pub split : runs ≡ newer ++ oldest
+  pub one : 1 ≤ length oldest
+  pub all : tables ≡ all_tables oldest
+
+-- where the upper tables stand: they are the oldest runs of level 0, or all of another level that meet their hull
 abbrev pub IsUpper : Levels → ℕ → List Table → Type 0
-IsUpper levels zero upper = (1 ≤ length levels.runs) × (last_run levels.runs ≡ upper)
+IsUpper levels zero upper = AreOldest levels.runs upper
 IsUpper levels (suc i) upper = upper ≡ meeting (hull upper) (level levels (suc i))
 
 -- A merge still has what it was taken with: its upper tables in their level, its lower ones in the next, a run, which are all

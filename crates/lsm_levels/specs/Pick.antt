@@ -2,7 +2,7 @@
 use Rattle.std.specs.Prelude.{ℕ, zero, suc, ◌*◌, Bool, true, false, not, ◌&&◌, nat_le, nat_lt, ◌==◌, List, [], ◌∷◌, ◌++◌, filter, sum_by, length, Option, Some, None, option_map, if◌then◌else◌}
 use Rattle.std.specs.List.{list_any, list_all}
 use Rattle.lsm_levels.specs.Tables.{Table, KeyRange, hull, meets, meeting}
-use Rattle.lsm_levels.specs.Levels.{Levels, level, last_run, flushed, merged}
+use Rattle.lsm_levels.specs.Levels.{Levels, all_tables, level, oldest_runs, flushed, merged}
 
 -- A job: a flush of the sealed versions into level 0, or a merge of tables of a level with those of the next level that
 -- they meet.
@@ -79,7 +79,8 @@ flush_job waiting jobs = if waiting && not (list_any is_flush jobs) then Some Fl
 -- are free
 abbrev pub level_0_job : List (List Table) → List Table → List Job → Option Job
 level_0_job runs below jobs =
-    if nat_le 4 (length runs) && (not (list_any is_of_level_0 jobs) && can_merge jobs (last_run runs) below) then Some (merge_of 0 (last_run runs) below) else None
+    if nat_le 4 (length runs) && (not (list_any is_of_level_0 jobs) && can_merge jobs (all_tables (oldest_runs 1 runs)) below)
+    then Some (merge_of 0 (all_tables (oldest_runs 1 runs)) below) else None
 
 -- of a level, of the tables of which half the entries or more are deletes: the least-numbered one that is free, as are all
 -- tables of the next level that meet it, with these

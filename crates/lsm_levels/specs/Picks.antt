@@ -1,6 +1,7 @@
 -- What a choice of the next job says.
 use Rattle.std.specs.Prelude.{ℕ, Bool, true, ltb, List, [], ◌∷◌, Option, Some, None}
 use Rattle.lsm_levels.specs.Tables.{Table}
+use Rattle.lsm_levels.specs.Levels.{all_tables}
 use Rattle.lsm_levels.specs.Pick.{Job, is_mostly_deletes, limit_of, delete_job, level_job}
 use Rattle.lsm_levels.specs.Pick as job
 use Rattle.lsm_levels.specs.declared.picking.Pick.{Pick}
@@ -8,12 +9,12 @@ use Rattle.lsm_levels.specs.declared.picking.Rule.{Rule}
 use Rattle.lsm_levels.specs.declared.picking.Rule.TheVariants.{ManyDeletes, OverLimit}
 use Rattle.lsm_levels.specs.declared.picking.Wanted.{Wanted}
 use Rattle.lsm_levels.specs.declared.picking.Wanted.TheVariants.{EachTable, MostlyDeletes}
-use Rattle.lsm_levels.specs.declared.picking.Pick.TheVariants.{Flush, OldestRun, OneTable, Neighbours}
+use Rattle.lsm_levels.specs.declared.picking.Pick.TheVariants.{Flush, OldestRuns, OneTable, Neighbours}
 
 -- the job that it says
 abbrev pub job_of : {A : Type 0} → Pick A → Job
 job_of Flush = job.Flush
-job_of (OldestRun upper lower) = job.Merge 0 upper.now lower.now
+job_of (OldestRuns runs lower) = job.Merge 0 (all_tables runs.now) lower.now
 job_of (OneTable level upper lower) = job.Merge level (upper.now ∷ []) lower.now
 job_of (Neighbours level upper lower) = job.Merge level upper.now lower.now
 

@@ -1,6 +1,6 @@
 //! Which job a caller may choose, beside the one that comes next.
 
-ghost use Rattle.std.specs.Prelude.{◌≡◌, ◌==◌, ◌&&◌, option_map};
+ghost use Rattle.std.specs.Prelude.{◌≡◌, ◌==◌, ◌&&◌, List, option_map};
 ghost use Rattle.std.specs.List.{find, list_all};
 ghost use Rattle.std.specs.Option.{option_copied};
 ghost use Rattle.lsm_levels.specs.Tables.{IsRun};
@@ -8,7 +8,7 @@ ghost use Rattle.lsm_levels.specs.Pick.{is_free};
 ghost use Rattle.lsm_levels.specs.Choices.{neighbours, may_stand, run_job, tables_job};
 ghost use Rattle.lsm_levels.specs.Picks.{job_of};
 
-use crate::picking::{HeldJobs, Pick, are_free, lower_of, oldest};
+use crate::picking::{HeldJobs, Pick, are_all_free, are_free, lower_of, lower_of_runs, oldest};
 use crate::run::Run;
 use crate::table::PlacedTable;
 use std::alloc::Allocator;
@@ -16,8 +16,8 @@ use std::alloc::Allocator;
 /// What a job takes in, with the tables of the next level that meet its hull.
 #[derive(Clone, Copy, Debug, PartialEq, Eq)]
 pub enum Choice {
-    /// The oldest run of level 0.
-    OldestRun,
+    /// So many of the oldest runs of level 0.
+    OldestRuns { count: usize },
     /// Neighbouring tables of a level from 1 to 3: from the table of one number to that of another, which may be the same.
     Tables { first: u64, last: u64 },
 }
@@ -56,7 +56,7 @@ fn may_stand<H: HeldJobs, A: Allocator>(held: &H, level: usize, upper: &[PlacedT
     !held.has_several() && (!are_several || !held.has_merge())
 }
 
-/// Whether a merge of these tables may stand beside others, and all that it takes in are free.
+/// Whether a merge of these tables of a level from 1 to 3 may stand beside others, and all that it takes in are free.
 fn is_free_merge<H: HeldJobs, A: Allocator>(
     held: &H,
     level: usize,
@@ -94,21 +94,23 @@ pub(crate) fn tables_job<'a, H: HeldJobs, A: Allocator>(
     None
 }
 
-/// The oldest run of level 0 with the tables of level 1 that meet its hull, if all of them are free and no job is of level 0.
+/// So many of the oldest runs of level 0 with the tables of level 1 that meet their hull, if there are so many runs, all of these
+/// tables are free, and no job is of level 0.
 pub(crate) fn run_job<'a, H: HeldJobs, A: Allocator>(
+    count: usize,
     runs: &'a [Run<A>],
     below: &'a Run<A>,
     held: &H,
 ) -> Option<Pick<'a, A>>
-    ensures { option_map job_of result ≡ run_job runs.now below.now (H.jobs held.now) }
+    ensures { option_map job_of result ≡ run_job count runs.now below.now (H.jobs held.now) }
 {
-    if runs.is_empty() || held.has_level_0() {
+    if count == 0 || runs.len() < count || held.has_level_0() {
         return None;
     }
-    let upper = oldest(runs);
-    let lower = lower_of(upper, below);
-    if is_free_merge(held, 0, upper, lower) {
-        return Some(Pick::OldestRun { upper, lower });
+    let runs = oldest(runs, count);
+    let lower = lower_of_runs(runs, below);
+    if !held.has_several() && (are_all_free(held, runs) && are_free(held, lower)) {
+        return Some(Pick::OldestRuns { runs, lower });
     }
     None
 }

@@ -2,11 +2,12 @@
 
 ghost use Rattle.std.specs.Prelude.{◌≡◌, Option, option_map};
 ghost use Rattle.std.specs.List.{list_any};
-ghost use Rattle.lsm_levels.specs.Tables.{least, greatest, spanned, meets};
+ghost use Rattle.lsm_levels.specs.Tables.{IsRun, least, greatest, spanned, meets};
 ghost use Rattle.lsm_levels.specs.Levels.{all_tables};
 ghost use Rattle.lsm_levels.specs.Hulls.{range_shown, hull_onto};
 
 use crate::run::Run;
+use crate::slices::ends;
 use crate::table::PlacedTable;
 use std::alloc::Allocator;
 
@@ -58,6 +59,40 @@ pub(crate) fn hull_onto<'a, A: Allocator>(
     let mut hull = rest;
     for table in tables.iter().rev() {
         hull = Some(spanned(table, hull));
+    }
+    hull
+}
+
+/// The hull of the tables of a run and of a range, by the run's ends.
+fn run_hull_onto<'a, A: Allocator>(
+    run: &'a [PlacedTable<A>],
+    rest: Option<KeyRange<'a>>,
+) -> Option<KeyRange<'a>>
+    requires { IsRun run.now }
+    ensures { option_map range_shown result ≡ hull_onto run.now (option_map range_shown rest.entry) }
+{
+    let Some((first, last)) = ends(run) else {
+        return rest;
+    };
+    match rest {
+        Some(rest) => Some(KeyRange {
+            first: least(first, rest.first),
+            last: greatest(last, rest.last),
+        }),
+        None => Some(KeyRange { first, last }),
+    }
+}
+
+/// The hull of the tables of runs and of a range.
+pub(crate) fn hull_of_runs<'a, A: Allocator>(
+    runs: &'a [Run<A>],
+    rest: Option<KeyRange<'a>>,
+) -> Option<KeyRange<'a>>
+    ensures { option_map range_shown result ≡ hull_onto (all_tables runs.now) (option_map range_shown rest.entry) }
+{
+    let mut hull = rest;
+    for run in runs.iter().rev() {
+        hull = run_hull_onto(run.tables(), hull);
     }
     hull
 }

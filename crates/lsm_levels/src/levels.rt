@@ -1,20 +1,19 @@
 //! The levels of tables.
 
-ghost use Rattle.std.specs.Prelude.{◌≡◌, ◌≤◌, ◌<◌, ◌-◌, [], slice_set, suc, Bool, List, length, is_ok, if◌then◌else◌, IfOk, IfErr, IfSome, OnOk, OnErr, option_map};
-ghost use Rattle.lsm_levels.specs.Tables.{IsRun, hull, put_at};
+ghost use Rattle.std.specs.Prelude.{◌≡◌, ◌≤◌, ◌<◌, ◌-◌, [], take, slice_set, suc, Bool, List, length, is_ok, if◌then◌else◌, IfOk, IfErr, IfSome, OnOk, OnErr, option_map};
+ghost use Rattle.lsm_levels.specs.Tables.{IsRun, at_most, hull, put_at};
 ghost use Rattle.lsm_levels.specs.Levels.{level as level_of, newer_runs, no_tables, flushed, merged};
 ghost use Rattle.lsm_levels.specs.Pick.{Merge, below_output, is_bottom, meets_none, of_least_level, next_merge, pick};
 ghost use Rattle.lsm_levels.specs.Choices.{chosen};
 ghost use Rattle.lsm_levels.specs.Picks.{job_of, rule_job};
 ghost use Rattle.lsm_levels.specs.Hulls.{range_shown};
 ghost use Rattle.lsm_levels.specs.Held.{AreRuns, HasItsTables, AreOutputs};
-ghost use Rattle.lsm_levels.specs.declared.choosing.Choice.TheVariants.{OldestRun, Tables};
+ghost use Rattle.lsm_levels.specs.declared.choosing.Choice.TheVariants.{OldestRuns, Tables};
 
 use crate::choosing::{Choice, run_job, tables_job};
-use crate::hulls::{KeyRange, hull_onto, is_met, spanned};
+use crate::hulls::{KeyRange, hull_of_runs, hull_onto, is_met, spanned};
 use crate::picking::{HeldJobs, Pick, Rule, level_0_job, rule_job};
 use crate::run::Run;
-use crate::slices::ends;
 use crate::table::PlacedTable;
 use std::alloc::{AllocError, AllocFailed, Allocator, Global};
 use std::marker::Model;
@@ -37,11 +36,27 @@ impl<A: Allocator> Model for Levels<A> {
     ghost invariant = { λ l. AreRuns (record { runs = l.runs.items; deeper = l.deeper.items }) };
 }
 
-/// Drops the oldest run of level 0. It takes no memory.
-fn drop_oldest<A: Allocator>(runs: &mut Vec<Run<A>, A>)
-    ensures { runs.new.items ≡ newer_runs runs.old.items }
+/// How many runs are left before the oldest ones that hold so many tables.
+fn count_newer<A: Allocator>(runs: &[Run<A>], tables: usize) -> usize
+    ensures { take result runs.now ≡ newer_runs tables runs.now }
 {
-    let kept = runs.len().saturating_sub(1);
+    let mut kept = runs.len();
+    let mut left = tables;
+    for run in runs.iter().rev() {
+        match left.checked_sub(run.tables().len()) {
+            Some(rest) => left = rest,
+            None => return kept,
+        }
+        kept -= 1;
+    }
+    kept
+}
+
+/// Drops the oldest runs of level 0 that hold so many tables. It takes no memory.
+fn drop_oldest<A: Allocator>(runs: &mut Vec<Run<A>, A>, tables: usize)
+    ensures { runs.new.items ≡ newer_runs tables runs.old.items }
+{
+    let kept = count_newer(runs, tables);
     runs.truncate(kept);
 }
 
@@ -109,26 +124,27 @@ impl<A: Allocator> Levels<A> {
         outputs: &mut Vec<PlacedTable<A>, A>,
     ) -> Result<(), AllocError>
         requires level { level ≤ 3 }
-        requires run { IsRun upper.now }
+        requires range { IfSome (hull upper.now) (λ range. at_most range.first range.last ≡ true) }
         requires some { 0 < length upper.now }
         requires fits { IfSome (hull upper.now) (λ range. IsRun (put_at range outputs.old.items (level_of self.old (suc level)))) }
         ensures replaced { self.new ≡ (if is_ok result then merged level upper.now outputs.old.items self.old else self.old) }
         ensures moved { outputs.new.items ≡ (if is_ok result then [] else outputs.old.items) }
     {
-        let Some((first, last)) = ends(upper) else {
+        let Some(hull) = hull_onto(upper, None) else {
             return Ok(());
         };
-        self.deeper[level].replace(first, last, outputs)?;
+        self.deeper[level].replace(hull.first, hull.last, outputs)?;
         if level == 0 {
-            drop_oldest(&mut self.runs);
+            drop_oldest(&mut self.runs, upper.len());
         } else {
-            self.deeper[level - 1].remove(first, last);
+            self.deeper[level - 1].remove(hull.first, hull.last);
         }
         Ok(())
     }
 
     /// Replaces the inputs of a merge by its outputs: the upper tables of the level, from 0 to 3, and those of the next level
-    /// that they meet go, and the outputs come into the next level in their place. Where memory is refused, levels and
+    /// that they meet go, and the outputs come into the next level in their place. Of level 0 the upper tables are those of the
+    /// oldest runs, and these runs go. Where memory is refused, levels and
     /// outputs are as they were.
     pub fn replace(
         &mut self,
@@ -219,19 +235,19 @@ impl<A: Allocator> Levels<A> {
         tables_job(first, last, 3, level_3, level_4, held)
     }
 
-    /// The job of the oldest run of level 0.
-    fn choose_run<H: HeldJobs>(&self, held: &H) -> Option<Pick<'_, A>>
-        ensures { option_map job_of result ≡ chosen self.now (H.jobs held.now) OldestRun }
+    /// The job of so many of the oldest runs of level 0.
+    fn choose_runs<H: HeldJobs>(&self, count: usize, held: &H) -> Option<Pick<'_, A>>
+        ensures { option_map job_of result ≡ chosen self.now (H.jobs held.now) (OldestRuns count) }
     {
         let [level_1, ..] = self.deeper() else {
             return None;
         };
-        run_job(&self.runs, level_1, held)
+        run_job(count, &self.runs, level_1, held)
     }
 
     /// The job of a caller's choice, where slots are held by these jobs: the tables that are chosen, with those of the next
-    /// level that meet their hull. None where there are no such tables, where one of all these is not free, where a job of level
-    /// 0 holds a slot and the oldest run is chosen, or where it or a job that holds a slot is a merge of several tables of a level
+    /// level that meet their hull. None where there are no such tables or no runs are asked for, where one of all these is not
+    /// free, where a job of level 0 holds a slot and runs of it are chosen, or where it or a job that holds a slot is a merge of several tables of a level
     /// from 1 to 3, and the other a merge. Whether a level is over its limit doesn't matter.
     ///
     /// It takes no memory.
@@ -239,7 +255,7 @@ impl<A: Allocator> Levels<A> {
         ensures { option_map job_of result ≡ chosen self.now (H.jobs held.now) choice }
     {
         match choice {
-            Choice::OldestRun => self.choose_run(held),
+            Choice::OldestRuns { count } => self.choose_runs(count, held),
             Choice::Tables { first, last } => self.choose_tables(first, last, held),
         }
     }
@@ -264,8 +280,8 @@ impl<A: Allocator> Levels<A> {
     {
         match job {
             Pick::Flush => false,
-            Pick::OldestRun { upper, lower } => {
-                self.meets_none_below(0, hull_onto(upper, hull_onto(lower, None)))
+            Pick::OldestRuns { runs, lower } => {
+                self.meets_none_below(0, hull_of_runs(runs, hull_onto(lower, None)))
             }
             Pick::OneTable {
                 level,

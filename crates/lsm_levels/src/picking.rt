@@ -1,13 +1,14 @@
 //! Which job comes next.
 
-ghost use Rattle.std.specs.Prelude.{◌≡◌, ◌<◌, ◌∷◌, ◌&&◌, [], true, if◌then◌else◌, Some, ltb, ℕ, List, length, sum_by, filter, option_map};
+ghost use Rattle.std.specs.Prelude.{◌≡◌, ◌≤◌, ◌∷◌, ◌&&◌, [], true, if◌then◌else◌, Some, ltb, ℕ, List, length, sum_by, filter, option_map};
 ghost use Rattle.std.specs.List.{AllByRecursion, list_any, list_all};
 ghost use Rattle.std.specs.Option.{option_copied};
 ghost use Rattle.lsm_levels.specs.Tables.{IsRun, at_most};
-ghost use Rattle.lsm_levels.specs.Levels.{last_run};
+ghost use Rattle.lsm_levels.specs.Levels.{all_tables, oldest_runs};
 ghost use Rattle.lsm_levels.specs.Pick.{Job, is_flush, is_merge, is_several, is_of_level_0, is_input, is_free, can_merge, lower_of, least_numbered, level_0_job, least_job, limit_of};
 ghost use Rattle.lsm_levels.specs.Picks.{job_of, is_wanted, rule_job, is_less};
 
+use crate::hulls::hull_of_runs;
 use crate::run::Run;
 use crate::slices::ends;
 use crate::sweep::{begun_by, ending_on};
@@ -46,9 +47,9 @@ pub trait HeldJobs {
 pub enum Pick<'a, A: Allocator = Global> {
     /// A flush of the sealed versions.
     Flush,
-    /// The oldest run of level 0, with the tables of level 1 that meet its hull.
-    OldestRun {
-        upper: &'a [PlacedTable<A>],
+    /// The oldest runs of level 0, of these the newest first, with the tables of level 1 that meet their hull.
+    OldestRuns {
+        runs: &'a [Run<A>],
         lower: &'a [PlacedTable<A>],
     },
     /// A table of a level from 1 to 3, with the tables of the next level that meet it.
@@ -71,6 +72,18 @@ pub(crate) fn are_free<H: HeldJobs, A: Allocator>(held: &H, tables: &[PlacedTabl
     tables.iter().all(|table| !held.takes_in(table.number()))
 }
 
+/// Whether all tables of these runs are free.
+pub(crate) fn are_all_free<H: HeldJobs, A: Allocator>(held: &H, runs: &[Run<A>]) -> bool
+    ensures { result ≡ list_all (is_free (H.jobs held.now)) (all_tables runs.now) }
+{
+    for run in runs {
+        if !are_free(held, run.tables()) {
+            return false;
+        }
+    }
+    true
+}
+
 /// The tables of a run that meet the hull of these.
 pub(crate) fn lower_of<'a, A: Allocator>(
     upper: &[PlacedTable<A>],
@@ -81,6 +94,16 @@ pub(crate) fn lower_of<'a, A: Allocator>(
 {
     match ends(upper) {
         Some((first, last)) => below.meeting(first, last),
+        None => &[],
+    }
+}
+
+/// The tables of a run that meet the hull of these runs.
+pub(crate) fn lower_of_runs<'a, A: Allocator>(runs: &[Run<A>], below: &'a Run<A>) -> &'a [PlacedTable<A>]
+    ensures { result.now ≡ lower_of (all_tables runs.now) below.now }
+{
+    match hull_of_runs(runs, None) {
+        Some(hull) => below.meeting(hull.first, hull.last),
         None => &[],
     }
 }
@@ -183,13 +206,12 @@ fn is_less<A: Allocator>(table: &PlacedTable<A>, other: Option<&PlacedTable<A>>)
     }
 }
 
-/// The oldest run of level 0.
-pub(crate) fn oldest<A: Allocator>(runs: &[Run<A>]) -> &[PlacedTable<A>]
-    requires { 0 < length runs.now }
-    ensures last { result.now ≡ last_run runs.now }
-    ensures run { IsRun result.now }
+/// So many of the oldest runs of level 0.
+pub(crate) fn oldest<A: Allocator>(runs: &[Run<A>], count: usize) -> &[Run<A>]
+    requires { count ≤ length runs.now }
+    ensures { result.now ≡ oldest_runs count runs.now }
 {
-    runs[runs.len() - 1].tables()
+    &runs[runs.len() - count..]
 }
 
 /// The oldest run of level 0 with the tables of level 1 that meet its hull, where there are 4 or more runs and no job of
@@ -204,10 +226,10 @@ pub(crate) fn level_0_job<'a, H: HeldJobs, A: Allocator>(
     if runs.len() < 4 || held.has_level_0() {
         return None;
     }
-    let upper = oldest(runs);
-    let lower = lower_of(upper, below);
-    if are_free(held, upper) && are_free(held, lower) {
-        return Some(Pick::OldestRun { upper, lower });
+    let runs = oldest(runs, 1);
+    let lower = lower_of_runs(runs, below);
+    if are_all_free(held, runs) && are_free(held, lower) {
+        return Some(Pick::OldestRuns { runs, lower });
     }
     None
 }
