@@ -8,23 +8,23 @@ use Rattle.lsm_codec.specs.Versions.{Version, AreOrdered}
 use Rattle.lsm_codec.specs.Entries.{entries_in}
 use Rattle.lsm_table.specs.Places.{stands_before}
 use Rattle.lsm_merge.specs.Inputs.{MergeInput}
-use Rattle.lsm_levels.specs.Tables.{Table, versions_of}
-use Rattle.lsm_levels.specs.Pick.{Job, Flush, Merge}
+use Rattle.lsm_levels.specs.Tables.{Table, is_before_first, versions_of}
 use Rattle.lsm_levels.specs.Asking.{OnlyReads, sector_of}
 use Rattle.lsm_levels.specs.Stored.{blocks_from}
-
--- the upper tables that a job takes in, and the lower ones
-abbrev pub uppers : Job → List Table
-uppers Flush = []
-uppers (Merge i upper lower) = upper
-
-abbrev pub lowers : Job → List Table
-lowers Flush = []
-lowers (Merge i upper lower) = lower
 
 -- how many data blocks tables have
 abbrev pub data_blocks : List Table → ℕ
 data_blocks tables = sum_by (λ t. length t.outline.edges) tables
+
+-- runs with a table before them all: it is the first of their first run where that begins behind it, and else a run of its own
+abbrev pub with_first : Table → List (List Table) → List (List Table)
+with_first t [] = (t ∷ []) ∷ []
+with_first t (run ∷ runs) = if is_before_first t run then (t ∷ run) ∷ runs else (t ∷ []) ∷ run ∷ runs
+
+-- the runs that tables are, one after the other: one ends where the next table doesn't begin behind its last
+abbrev pub ascending_runs : List Table → List (List Table)
+ascending_runs [] = []
+ascending_runs (t ∷ rest) = with_first t (ascending_runs rest)
 
 -- the data blocks of tables as they stand in sectors, in order, where the data area begins with the sector `area`
 abbrev pub blocks_in : List (List ℕ) → ℕ → List Table → List (List ℕ)
@@ -67,62 +67,66 @@ versions_behind zero tables = versions_of tables
 versions_behind (suc d) [] = []
 versions_behind (suc d) (t ∷ rest) = if ltb (suc d) (length t.outline.edges) then versions_from (suc d) t ++ versions_of rest else versions_behind (suc d - length t.outline.edges) rest
 
--- What was read of a merge so far: the entries of the upper tables and those of the lower ones, from so many data blocks;
--- with the cuts of its taking, and its bottom flag.
+-- What was read of a merge so far: the entries of each run of its tables, from so many data blocks; with the cuts of its
+-- taking, and its bottom flag.
 pub record Gathered : Type 0 where
-  pub upper : List Version
-  pub lower : List Version
+  pub runs : List (List Version)
   pub done : ℕ
   pub cuts : List ℕ
   pub bottom : Bool
 
--- nothing is read yet
-abbrev pub none_gathered : List ℕ → Bool → Gathered
-none_gathered cuts bottom = record { upper = []; lower = []; done = 0; cuts = cuts; bottom = bottom }
+-- nothing is read yet of these tables
+abbrev pub none_gathered : List Table → List ℕ → Bool → Gathered
+none_gathered tables cuts bottom = record { runs = map (λ run. []) (ascending_runs tables); done = 0; cuts = cuts; bottom = bottom }
 
--- a run of tables, none where there is no table
-abbrev pub run_if_some : List Table → List Version → List (List Version)
-run_if_some [] versions = []
-run_if_some (t ∷ rest) versions = versions ∷ []
+-- the input that what was read is
+abbrev pub whole_input : Gathered → MergeInput
+whole_input g = record { runs = g.runs; cuts = g.cuts; bottom = g.bottom }
 
--- the input that what was read is, where these are the lower tables
-abbrev pub whole_input : List Table → Gathered → MergeInput
-whole_input lower g = record { runs = g.upper ∷ run_if_some lower g.lower; cuts = g.cuts; bottom = g.bottom }
+-- runs, each followed by what the versions of its tables say of their data blocks, where the first d of all are passed
+abbrev pub runs_ahead : ℕ → List (List Table) → List (List Version) → List (List Version)
+runs_ahead d [] runs = runs
+runs_ahead d (tables ∷ rest) [] = []
+runs_ahead d (tables ∷ rest) (run ∷ runs) = (run ++ versions_behind d tables) ∷ runs_ahead (d - data_blocks tables) rest runs
 
 -- the input that it will be: what was read, followed by what the versions of the tables say of the blocks that are left
-abbrev pub input_ahead : List Table → List Table → Gathered → MergeInput
-input_ahead upper lower g = whole_input lower (record g { upper = g.upper ++ versions_behind g.done upper; lower = g.lower ++ versions_behind (g.done - data_blocks upper) lower })
+abbrev pub input_ahead : List Table → Gathered → MergeInput
+input_ahead tables g = whole_input (record g { runs = runs_ahead g.done (ascending_runs tables) g.runs })
 
 -- how many data blocks are left
-abbrev pub blocks_left : List Table → List Table → Gathered → ℕ
-blocks_left upper lower g = data_blocks upper + data_blocks lower - g.done
+abbrev pub blocks_left : List Table → Gathered → ℕ
+blocks_left tables g = data_blocks tables - g.done
 
--- how many of the next eight data blocks are of the upper tables
-abbrev pub upper_next : List Table → Gathered → ℕ
-upper_next upper g = min 8 (data_blocks upper - g.done)
+-- what the data blocks of tables spell, those from one place on up to another
+abbrev pub items_between : List (List ℕ) → ℕ → ℕ → ℕ → List Table → List (Result Version Refusal)
+items_between sectors area from to tables = items_in (take (to - from) (drop from (blocks_in sectors area tables)))
 
--- what the next eight data blocks spell, those of the upper tables
-abbrev pub upper_items : List (List ℕ) → ℕ → List Table → Gathered → List (Result Version Refusal)
-upper_items sectors area upper g = items_in (take (upper_next upper g) (drop g.done (blocks_in sectors area upper)))
+-- Runs go on, each with what the blocks of its tables spell, those from one place on up to another, counted over the tables of
+-- all runs.
+abbrev pub RunsGoOn : List (List ℕ) → ℕ → ℕ → ℕ → List (List Table) → List (List Version) → List (List Version) → Type 0
+RunsGoOn sectors area from to [] [] [] = Unit {0}
+RunsGoOn sectors area from to (tables ∷ rest) (run ∷ runs) (new ∷ news) = GoesOn run (items_between sectors area from to tables) new × RunsGoOn sectors area (from - data_blocks tables) (to - data_blocks tables) rest runs news
+RunsGoOn sectors area from to others runs news = ⊥
 
--- and those of the lower ones, which come after them
-abbrev pub lower_items : List (List ℕ) → ℕ → List Table → List Table → Gathered → List (Result Version Refusal)
-lower_items sectors area upper lower g = items_in (take (8 - upper_next upper g) (drop (g.done - data_blocks upper) (blocks_in sectors area lower)))
+-- Each run goes on with what the next eight data blocks spell.
+abbrev pub AllGoOn : List (List ℕ) → ℕ → List Table → Gathered → Gathered → Type 0
+AllGoOn sectors area tables old new = RunsGoOn sectors area old.done (old.done + 8) (ascending_runs tables) old.runs new.runs
 
 -- At most eight data blocks more are read, as long as there are some.
-pub record IsNext (upper lower : List Table) (old new : Gathered) : Type 0 where
-  pub done : new.done ≡ min (data_blocks upper + data_blocks lower) (old.done + 8)
+pub record IsNext (tables : List Table) (old new : Gathered) : Type 0 where
+  pub done : new.done ≡ min (data_blocks tables) (old.done + 8)
+  pub same_count : length new.runs ≡ length old.runs
   pub same_cuts : new.cuts ≡ old.cuts
   pub same_bottom : new.bottom ≡ old.bottom
 
--- Both runs go on with what the next eight data blocks spell.
-pub record BothGoOn (sectors : List (List ℕ)) (area : ℕ) (upper lower : List Table) (old new : Gathered) : Type 0 where
-  pub upper_run : GoesOn old.upper (upper_items sectors area upper old) new.upper
-  pub lower_run : GoesOn old.lower (lower_items sectors area upper lower old) new.lower
+-- of each list the first so many
+abbrev pub fronts : List ℕ → List (List Version) → List (List Version)
+fronts [] runs = []
+fronts (n ∷ counts) [] = []
+fronts (n ∷ counts) (run ∷ runs) = take n run ∷ fronts counts runs
 
--- With some entries more, or none.
+-- With some entries more in each run, or none.
 pub record IsGrown (old new : Gathered) : Type 0 where
-  pub upper_run : IsLonger old.upper new.upper
-  pub lower_run : IsLonger old.lower new.lower
+  pub runs : fronts (map length old.runs) new.runs ≡ old.runs
   pub same_cuts : new.cuts ≡ old.cuts
   pub same_bottom : new.bottom ≡ old.bottom

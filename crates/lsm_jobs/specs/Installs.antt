@@ -1,5 +1,5 @@
 -- What an install of a job's outputs leaves.
-use Rattle.std.specs.Prelude.{◌≡◌, ℕ, List, ◌∷◌, map, Some, None}
+use Rattle.std.specs.Prelude.{◌≡◌, ℕ, List, ◌++◌, map, Some, None}
 use Rattle.std.specs.List.{AllByRecursion}
 use Rattle.lsm_merge.specs.Inputs.{MergeInput, joined}
 use Rattle.lsm_levels.specs.Tables.{Table, versions_of}
@@ -7,7 +7,6 @@ use Rattle.lsm_levels.specs.Levels.{Levels, places}
 use Rattle.lsm_levels.specs.Orders.{IsNewerPlace}
 use Rattle.lsm_levels.specs.Pick.{Job, Flush, Merge, installed_levels}
 use Rattle.lsm_levels.specs.Held.{AreRuns, IsHeld, AreOutputs, AreOrdered}
-use Rattle.lsm_jobs.specs.Gathering.{run_if_some}
 use Rattle.lsm_jobs.specs.Slots.{Slot, Slots, slot_of, with_held}
 use Rattle.lsm_jobs.specs.Keeping.{AreKept}
 use Rattle.lsm_jobs.specs.Outputs.{AreMadeOf}
@@ -17,7 +16,7 @@ use Rattle.lsm_jobs.specs.Outcomes.{SeesSome}
 -- which a cut sees; of a merge the versions of its tables.
 abbrev pub IsInputOf : Levels → Job → MergeInput → Type 0
 IsInputOf levels Flush input = SeesSome input × AllByRecursion (IsNewerPlace (joined input.runs)) (map versions_of (places levels))
-IsInputOf levels (Merge level upper lower) input = input.runs ≡ versions_of upper ∷ run_if_some lower (versions_of lower)
+IsInputOf levels (Merge level upper lower) input = joined input.runs ≡ versions_of (upper ++ lower)
 
 -- A job has its tables, and its outputs may take their place: the levels stay runs in the order of versions, and the other
 -- jobs keep theirs.

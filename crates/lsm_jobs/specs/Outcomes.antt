@@ -1,5 +1,5 @@
 -- What an install puts in.
-use Rattle.std.specs.Prelude.{◌≡◌, ◌≤◌, ℕ, false, List, Contains}
+use Rattle.std.specs.Prelude.{◌≡◌, ◌≤◌, ℕ, false, List, ◌++◌, Contains}
 use Rattle.lsm_codec.specs.Versions.{Version}
 use Rattle.lsm_extent.specs.Area.{Area}
 use Rattle.lsm_table.specs.Division.{TableBlocks, IsTables}
@@ -11,7 +11,6 @@ use Rattle.lsm_levels.specs.Held.{AreOutputs, AreRanged, AreVersionsOf}
 use Rattle.lsm_jobs.specs.Slots.{JobSlots}
 use Rattle.lsm_jobs.specs.Outputs.{AreMadeOf}
 use Rattle.lsm_jobs.specs.Placing.{IsAccepted}
-use Rattle.lsm_jobs.specs.Taking.{runs_of}
 
 -- A cut of an input sees some version of it.
 pub record SeesSome (input : MergeInput) : Type 0 where
@@ -35,6 +34,6 @@ pub record OutputsLaw : Type 0 where
   pub versions : (input : MergeInput) (tables : List Table) → AreMadeOf input tables → versions_of tables ≡ kept_of input
   pub run : (input : MergeInput) (tables : List Table) → AreMadeOf input tables → IsRun tables
   pub ranged : (input : MergeInput) (tables : List Table) → AreMadeOf input tables → AreRanged tables
-  pub merge : (sealed : List Version) (input : MergeInput) (level : ℕ) (upper lower tables : List Table) → input.runs ≡ runs_of sealed (Merge level upper lower) → AreRanged upper → AreRanged lower → AreMadeOf input tables
+  pub merge : (input : MergeInput) (level : ℕ) (upper lower tables : List Table) → joined input.runs ≡ versions_of (upper ++ lower) → AreRanged upper → AreRanged lower → AreMadeOf input tables
       → ReplaceInputs level upper lower tables
   pub flush : (input : MergeInput) (tables : List Table) → input.bottom ≡ false → SeesSome input → AreMadeOf input tables → AreOutputs Flush tables

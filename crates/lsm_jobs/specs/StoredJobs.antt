@@ -1,28 +1,26 @@
 -- What reading comes to where a job's tables stand in the sectors of a device.
-use Rattle.std.specs.Prelude.{◌≡◌, ℕ, ◌-◌, Bool, true, IsTrue, List, Some}
+use Rattle.std.specs.Prelude.{◌≡◌, ℕ, ◌-◌, Bool, true, IsTrue, List, ◌++◌, Some}
 use Rattle.std.specs.List.{AllByRecursion}
 use Rattle.lsm_device.specs.Disk.{seen}
 use Rattle.lsm_device.specs.Medium.{Medium, disk}
 use Rattle.lsm_codec.specs.Versions.{Version}
 use Rattle.lsm_merge.specs.Inputs.{AreRuns}
-use Rattle.lsm_levels.specs.Tables.{Table, IsRun}
-use Rattle.lsm_levels.specs.Pick.{Merge}
+use Rattle.lsm_levels.specs.Tables.{Table}
+use Rattle.lsm_levels.specs.Pick.{Merge, inputs}
 use Rattle.lsm_levels.specs.Stored.{IsStored}
-use Rattle.lsm_jobs.specs.Gathering.{uppers, lowers}
 use Rattle.lsm_jobs.specs.Slots.{Slot, JobSlots, slot_of, at_stage, is_reading, left_at}
 use Rattle.lsm_jobs.specs.Taking.{slot_with}
 use Rattle.lsm_jobs.specs.Reading.{IsBadNext, JobReadsOn, stage_with}
 
 -- The tables of a job stand in these sectors, and the runs of its input are in the order of entries.
 pub record HasStored (sectors : List (List ℕ)) (area : ℕ) (slot : Slot) : Type 0 where
-  pub upper : AllByRecursion (IsStored sectors area) (uppers slot.job)
-  pub lower : AllByRecursion (IsStored sectors area) (lowers slot.job)
+  pub tables : AllByRecursion (IsStored sectors area) (inputs slot.job)
   pub ordered : AreRuns slot.input.runs
 
--- So a merge of two runs of tables that stand is taken.
+-- So a merge of tables that stand is taken.
 abbrev pub StoredTakingLaw : Type 0
-StoredTakingLaw = (sectors : List (List ℕ)) (area number level : ℕ) (sealed : List Version) (cuts : List ℕ) (bottom : Bool) (upper lower : List Table) → IsRun upper → IsRun lower
-    → AllByRecursion (IsStored sectors area) upper → AllByRecursion (IsStored sectors area) lower → HasStored sectors area (slot_with number sealed cuts bottom (Merge level upper lower))
+StoredTakingLaw = (sectors : List (List ℕ)) (area number level : ℕ) (sealed : List Version) (cuts : List ℕ) (bottom : Bool) (upper lower : List Table) → AllByRecursion (IsStored sectors area) (upper ++ lower)
+    → HasStored sectors area (slot_with number sealed cuts bottom (Merge level upper lower))
 
 -- Of a job that is being read nothing but the stage goes on: at most eight data blocks fewer are left, and with none left it
 -- is frozen. Its input stays.

@@ -1,12 +1,12 @@
 -- What a job is taken with.
-use Rattle.std.specs.Prelude.{ℕ, ◌+◌, Bool, List, [], ◌∷◌, Option, Some, None, if◌then◌else◌}
+use Rattle.std.specs.Prelude.{ℕ, ◌+◌, Bool, List, [], ◌∷◌, ◌++◌, map, Option, Some, None, if◌then◌else◌}
 use Rattle.lsm_codec.specs.Versions.{Version}
 use Rattle.lsm_levels.specs.Tables.{versions_of}
 use Rattle.lsm_levels.specs.Levels.{Levels}
 use Rattle.lsm_levels.specs.Pick.{Job, Flush, Merge, pick, is_bottom}
 use Rattle.lsm_levels.specs.Choices.{chosen}
 use Rattle.lsm_levels.specs.declared.choosing.Choice.{Choice}
-use Rattle.lsm_jobs.specs.Gathering.{data_blocks, run_if_some}
+use Rattle.lsm_jobs.specs.Gathering.{data_blocks, ascending_runs}
 use Rattle.lsm_jobs.specs.declared.taking.TakenJob.{TakenJob}
 use Rattle.lsm_jobs.specs.Slots.{Stage, Reading, Frozen, Slot, Slots, JobSlots, held_jobs, has_free, with_slot}
 
@@ -28,15 +28,15 @@ level_of (Merge i upper lower) = Some i
 abbrev pub told_of : ℕ → Job → TakenJob
 told_of number job = record { number = number; level = level_of job }
 
--- the runs that a job takes in, the newer first
+-- the versions that a job takes in, in runs, those of newer runs first
 abbrev pub runs_of : List Version → Job → List (List Version)
 runs_of sealed Flush = sealed ∷ []
-runs_of sealed (Merge i upper lower) = versions_of upper ∷ run_if_some lower (versions_of lower)
+runs_of sealed (Merge i upper lower) = map versions_of (ascending_runs (upper ++ lower))
 
 -- a flush begins with a whole input; another job has its data blocks to read
 abbrev pub first_stage : Job → Stage
 first_stage Flush = Frozen
-first_stage (Merge i upper lower) = Reading (data_blocks upper + data_blocks lower)
+first_stage (Merge i upper lower) = Reading (data_blocks (upper ++ lower))
 
 -- the slot of a job with these cuts and this bottom flag
 abbrev pub slot_with : ℕ → List Version → List ℕ → Bool → Job → Slot
