@@ -11,13 +11,12 @@ use Rattle.lsm_levels.specs.Asking.{sector_of}
 use Rattle.lsm_levels.specs.Held.{IsHeld, IsUpper}
 use Rattle.lsm_levels.specs.Levels.{Levels, all_tables, level, places, newer_runs, with_level, replaced, merged_at}
 use Rattle.lsm_levels.specs.NamedBlocks.{HasSameBlocks}
-use Rattle.lsm_levels.specs.Pick.{Job, Flush, Merge, installed_levels}
+use Rattle.lsm_levels.specs.Pick.{Job, Flush, Merge, inputs, installed_levels}
 use Rattle.lsm_levels.specs.Stored.{blocks_from, IsStored, AreStored}
 use Rattle.lsm_levels.specs.Tables.{Table, KeyRange, hull, is_below, put_at, record_of}
 use Rattle.lsm_levels.proofs.Ranges.{all_of, of_all}
 use Rattle.lsm_levels.proofs.Runs.{all_or, all_set, upper_among}
 use Rattle.lsm_merge.specs.Inputs.{AreRuns}
-use Rattle.lsm_jobs.specs.Gathering.{uppers, lowers}
 use Rattle.lsm_jobs.specs.Slots.{Slot}
 use Rattle.lsm_jobs.specs.StoredJobs.{HasStored}
 use Rattle.lsm_open.specs.Placements.{Placement}
@@ -170,11 +169,10 @@ module _ (P : Table → Type 0) (new : List Table) (made : AllByRecursion P new)
 pub levels_installed : (sectors : Sectors) (area : ℕ) (levels : Levels) (job : Job) (new : List Table) → AreStored sectors area (places levels) → AllByRecursion (IsStored sectors area) new → AreStored sectors area (places (installed_levels levels job new))
 levels_installed sectors area levels job new stored made = installed_have (IsStored sectors area) new made levels job stored
 
-pub jobs_have : (P : Table → Type 0) (levels : Levels) (bottom : Bool) (job : Job) → AllByRecursion (AllByRecursion P) (places levels) → IsHeld levels bottom job → AllByRecursion P (uppers job) × AllByRecursion P (lowers job)
-jobs_have P levels bottom Flush all held = (tt, tt)
-jobs_have P levels bottom (Merge i upper lower) all held = (uppers_have P levels all i upper held.uppers, lowers_have P levels all i lower held.lowers)
+pub jobs_have : (P : Table → Type 0) (levels : Levels) (bottom : Bool) (job : Job) → AllByRecursion (AllByRecursion P) (places levels) → IsHeld levels bottom job → AllByRecursion P (inputs job)
+jobs_have P levels bottom Flush all held = tt
+jobs_have P levels bottom (Merge i upper lower) all held = all_append P upper lower (uppers_have P levels all i upper held.uppers) (lowers_have P levels all i lower held.lowers)
 
 pub jobs_stored : (sectors : Sectors) (area : ℕ) (levels : Levels) (slot : Slot) → AreStored sectors area (places levels) → IsHeld levels slot.input.bottom slot.job → AreRuns slot.input.runs → HasStored sectors area slot
 jobs_stored sectors area levels slot stored held ordered =
-    let both = jobs_have (IsStored sectors area) levels slot.input.bottom slot.job stored held in
-    record { upper = both.0; lower = both.1; ordered = ordered }
+    record { tables = jobs_have (IsStored sectors area) levels slot.input.bottom slot.job stored held; ordered = ordered }

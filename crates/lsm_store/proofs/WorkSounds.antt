@@ -30,7 +30,7 @@ use Rattle.lsm_store.specs.WorkMaps.{AreVersions, IsJobOf, MayBePutIn}
 use Rattle.lsm_store.specs.WorkSound.{IsSound, IsServed}
 use Rattle.lsm_store.specs.Machine.{Machine}
 use Rattle.lsm_store.proofs.Cuts.{present_cut, snapshot_cut}
-use Rattle.lsm_store.proofs.InstalledMaps.{runs_tables}
+use Rattle.lsm_store.proofs.InputRuns.{joined_runs}
 use Rattle.lsm_store.proofs.StateMaps.{count_is, synced_is}
 
 some_slot : (a b : Slot) → Some a ≡ Some b → a ≡ b
@@ -184,7 +184,7 @@ module _ (m : Machine) (sound : IsSound m) where
   input_settled : (job : Job) → IsHeld m.work.levels (is_bottom m.work.levels job) job → (v : Version) → IsAmong v (joined (runs_of m.work.sealed job)) → v.number ≤ d.synced
   input_settled Flush held v a = ⊎_elim (λ b. sound.tied.settled v b) (λ none. absurd none) (among_either v m.work.sealed [] a)
   input_settled (Merge i upper lower) held v a =
-      let t = in_tables v (upper ++ lower) (runs_tables v upper lower a) in
+      let t = in_tables v (upper ++ lower) (subst (IsAmong v) (joined_runs (upper ++ lower)) a) in
       let k = (merging_law m.work.levels (is_bottom m.work.levels (Merge i upper lower)) i upper lower [] good.runs held).inputs_there t.0 t.1 in
       sound.tied.tabled v (record { place = k.0; table = t.0; there = k.1; has = t.2 })
 
