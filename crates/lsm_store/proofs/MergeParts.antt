@@ -6,6 +6,7 @@ use Rattle.lsm_codec.specs.Versions.{Version}
 use Rattle.lsm_codec.specs.declared.table_record.TableRecord.{TableRecord}
 use Rattle.lsm_levels.proofs.Members.{among_left, among_right, among_either, passed_among}
 use Rattle.lsm_codec.proofs.Lists.{all_append, all_left, all_right}
+use Rattle.lsm_levels.proofs.OldestRuns.{all_newer}
 use Rattle.lsm_levels.proofs.Ranges.{all_of, of_all, apart_left, apart_right}
 use Rattle.lsm_levels.proofs.RunOrders.{stored_ranged}
 use Rattle.lsm_levels.proofs.Runs.{all_or, all_set, all_filter}
@@ -21,7 +22,7 @@ use Rattle.lsm_open.proofs.StandingLevels.{all_versions}
 use Rattle.lsm_open.specs.ToldTables.{records_of_runs, records_of_levels}
 use Rattle.lsm_store.proofs.MergeInputs.{uppers_at, IsBeside, in_dropped}
 use Rattle.lsm_open.proofs.StoredRecords.{versions_run}
-use Rattle.lsm_store.proofs.UpperRuns.{newer_have, holding_have, all_in_runs}
+use Rattle.lsm_store.proofs.UpperRuns.{all_in_runs}
 use Rattle.lsm_store.specs.InstalledJobs.{ending_before, that_meet, beginning_behind, runs_holding, parts_at}
 use Rattle.lsm_table.specs.Division.{ShareNoKey}
 use Rattle.lsm_levels.proofs.CursorBlocks.{all_dropped}
@@ -87,7 +88,7 @@ module _ (n : ℕ) (s : List (List ℕ)) where
     runs_stored = all_left (AllByRecursion S) levels.runs levels.deeper stored
 
     holding_stored : AreStored s (first_data n) (runs_holding tables levels.runs)
-    holding_stored = holding_have (AllByRecursion S) tables levels.runs runs_stored
+    holding_stored = all_dropped (AllByRecursion S) (length (newer_runs tables levels.runs)) levels.runs runs_stored
 
     pub upper_is : (i : ℕ) → table_versions n s (parts_at levels i r tables).upper ≡ versions_of (uppers_at levels i r tables)
     upper_is zero = versions_runs (length (newer_runs tables levels.runs)) (runs_holding tables levels.runs) holding_stored ∙ sym (all_versions (runs_holding tables levels.runs))
@@ -145,7 +146,7 @@ module _ (n : ℕ) (s : List (List ℕ)) where
       pub replaced_stored : (i : ℕ) → AreStored s (first_data n) (places (replaced i r tables new levels))
       replaced_stored zero =
           let deeper = all_right (AllByRecursion S) levels.runs levels.deeper stored in
-          all_append (AllByRecursion S) (replaced 0 r tables new levels).runs (replaced 0 r tables new levels).deeper (newer_have (AllByRecursion S) tables levels.runs runs_stored)
+          all_append (AllByRecursion S) (replaced 0 r tables new levels).runs (replaced 0 r tables new levels).deeper (all_newer (AllByRecursion S) tables levels.runs runs_stored)
           (all_set (AllByRecursion S) levels.deeper 0 (put_at r new (get_or levels.deeper 0 [])) deeper (put_stored (get_or levels.deeper 0 []) new (level_stored 0) made))
       replaced_stored (suc i) =
           let deeper = all_right (AllByRecursion S) levels.runs levels.deeper stored in

@@ -14,6 +14,7 @@ use Rattle.lsm_levels.specs.NamedBlocks.{HasSameBlocks}
 use Rattle.lsm_levels.specs.Pick.{Job, Flush, Merge, inputs, installed_levels}
 use Rattle.lsm_levels.specs.Stored.{blocks_from, IsStored, AreStored}
 use Rattle.lsm_levels.specs.Tables.{Table, KeyRange, hull, is_below, put_at, record_of}
+use Rattle.lsm_levels.proofs.OldestRuns.{all_newer, oldest_all}
 use Rattle.lsm_levels.proofs.Ranges.{all_of, of_all}
 use Rattle.lsm_levels.proofs.Runs.{all_or, all_set, upper_among}
 use Rattle.lsm_merge.specs.Inputs.{AreRuns}
@@ -23,7 +24,7 @@ use Rattle.lsm_open.specs.Placements.{Placement}
 use Rattle.lsm_open.specs.Tables.{first_data, extent_start, extent_at}
 use Rattle.lsm_open.specs.ToldTables.{records_of_runs, records_of_levels, records_of}
 use Rattle.lsm_open.proofs.BlockReads.{extent_is, some_blocks}
-use Rattle.lsm_store.proofs.UpperRuns.{newer_have, all_in_runs}
+use Rattle.lsm_store.proofs.UpperRuns.{all_in_runs}
 use Rattle.lsm_store.specs.StoredTables.{KeepsExtents}
 use Rattle.lsm_table.specs.Stored.{table_of}
 
@@ -130,7 +131,7 @@ module _ (P : Table → Type 0) (levels : Levels) (all : AllByRecursion (AllByRe
 
   -- holds of what a merge takes in
   pub uppers_have : (i : ℕ) (upper : List Table) → IsUpper levels i upper → AllByRecursion P upper
-  uppers_have zero upper is = subst (AllByRecursion P) (sym is.all) (all_in_runs P is.oldest (all_right (AllByRecursion P) is.newer is.oldest (subst (AllByRecursion (AllByRecursion P)) is.split newer)))
+  uppers_have zero upper is = subst (AllByRecursion P) (sym is.all) (all_in_runs P is.oldest (oldest_all (AllByRecursion P) levels.runs upper is newer).1)
   uppers_have (suc i) upper is = all_of P upper (λ t a. of_all P (level levels (suc i)) (all_or (AllByRecursion P) levels.deeper i [] deeper tt) t (upper_among levels i upper is t a))
 
   pub lowers_have : (i : ℕ) (lower : List Table) → ((t : Table) → IsAmong t lower → IsAmong t (level levels (suc i))) → AllByRecursion P lower
@@ -154,7 +155,7 @@ module _ (P : Table → Type 0) (new : List Table) (made : AllByRecursion P new)
   replaced_have : (i : ℕ) (r : KeyRange) (tables : ℕ) (levels : Levels) → Have levels → Have (replaced i r tables new levels)
   replaced_have zero r tables levels all =
       level_have 1 r new (record levels { runs = newer_runs tables levels.runs }) made
-      (all_append (AllByRecursion P) _ levels.deeper (newer_have (AllByRecursion P) tables levels.runs (newer P levels all)) (deeper P levels all))
+      (all_append (AllByRecursion P) _ levels.deeper (all_newer (AllByRecursion P) tables levels.runs (newer P levels all)) (deeper P levels all))
   replaced_have (suc i) r tables levels all = level_have (suc i) r [] (with_level (suc (suc i)) r new levels) tt (level_have (suc (suc i)) r new levels made all)
 
   merged_have : (i : ℕ) (o : Option KeyRange) (tables : ℕ) (levels : Levels) → Have levels → Have (merged_at i o tables new levels)
