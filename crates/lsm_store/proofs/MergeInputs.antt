@@ -1,17 +1,17 @@
 -- The tables around a merge: its inputs, what lies between and behind them, and the newest versions of its inputs.
-use Rattle.std.proofs.Common.{◌≡◌, ◌⊎◌, inl, ⊎_elim, ℕ, zero, suc, ◌≤◌, ◌<◌, Bool, true, false, List, [], ◌∷◌, ◌++◌, length, drop, get_or, Option, Some, None, refl, sym, ap, subst, ◌∙◌, arith}
+use Rattle.std.proofs.Common.{◌≡◌, ◌⊎◌, ⊎_elim, ℕ, zero, suc, ◌≤◌, ◌<◌, Bool, true, false, List, [], ◌∷◌, ◌++◌, length, drop, get_or, Option, Some, None, refl, sym, ap, subst, ◌∙◌, arith}
 use Rattle.lsm_codec.specs.Keys.{Bytes}
 use Rattle.lsm_codec.specs.Versions.{Version, newest}
 use Rattle.lsm_levels.proofs.HullLaws.{hull_covers}
-use Rattle.lsm_levels.proofs.KeyOrder.{at_most_trans, at_most_itself}
-use Rattle.lsm_levels.proofs.Members.{among_left, among_right, among_either, among_passed, passed_among}
-use Rattle.lsm_levels.proofs.Ranges.{no, in_run, run_order, other_apart, apart_left, apart_right}
+use Rattle.lsm_levels.proofs.KeyOrder.{at_most_trans}
+use Rattle.lsm_levels.proofs.Members.{among_either, among_passed, passed_among}
+use Rattle.lsm_levels.proofs.Ranges.{no, other_apart}
 use Rattle.lsm_levels.proofs.Runs.{run_at, upper_is}
 use Rattle.lsm_levels.proofs.Taking.{covers_meets}
 use Rattle.lsm_levels.specs.Among.{IsAmong}
 use Rattle.lsm_levels.specs.Held.{AreRuns, IsUpper, HasItsTables}
 use Rattle.lsm_levels.specs.Levels.{Levels, all_tables, level}
-use Rattle.lsm_levels.specs.Tables.{Table, KeyRange, range_of, at_most, is_below, spanned, hull, meets}
+use Rattle.lsm_levels.specs.Tables.{Table, KeyRange, range_of, at_most, spanned, hull, meets}
 use Rattle.lsm_store.proofs.NewestAmong.{key_of, newest_is, none_is}
 use Rattle.lsm_store.proofs.UpperRuns.{holding_tables}
 use Rattle.lsm_store.specs.InstalledJobs.{that_meet, runs_holding}
