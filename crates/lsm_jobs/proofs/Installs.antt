@@ -32,7 +32,7 @@ module _ (levels : Levels) (input : MergeInput) (outputs : List Table) (runs : A
   replaces : (i : ℕ) (upper lower : List Table) → IsHeld levels input.bottom (Merge i upper lower) → IsInputOf levels (Merge i upper lower) input → ReplaceInputs i upper lower outputs
   replaces i upper lower held is =
       let ranged = inputs_ranged i upper lower held in
-      merge_outputs [] input i upper lower outputs is made (λ t a. ranged t (among_left t upper lower a)) (λ t a. ranged t (among_right t upper lower a))
+      merge_outputs input i upper lower outputs is made (λ t a. ranged t (among_left t upper lower a)) (λ t a. ranged t (among_right t upper lower a))
 
   are_outputs : (job : Job) → IsHeld levels input.bottom job → IsInputOf levels job input → AreOutputs job outputs
   are_outputs Flush held is = flush_outputs input outputs held is.0 made

@@ -7,6 +7,7 @@ pub mod GoingOn
 pub mod BlockReads
 pub mod Placed
 pub mod GivenBack
+pub mod GatheredRuns
 pub mod Accepted
 pub mod Sectors
 pub mod TableWrites

@@ -27,9 +27,7 @@ use Rattle.lsm_levels.proofs.KeyOrder.{at_most_trans, at_most_itself}
 use Rattle.lsm_levels.proofs.Members.{among_left, among_right, among_either}
 use Rattle.lsm_levels.proofs.Ranges.{all_of, of_all}
 use Rattle.lsm_levels.proofs.Taking.{in_tables, of_table}
-use Rattle.lsm_jobs.specs.Gathering.{run_if_some}
 use Rattle.lsm_jobs.specs.Outputs.{IsTableOf, AreTablesOf, AreMadeOf}
-use Rattle.lsm_jobs.specs.Taking.{runs_of}
 use Rattle.lsm_jobs.specs.Outcomes.{SeesSome, ReplaceInputs, OutputsLaw}
 use Rattle.lsm_jobs.proofs.Accepted.{tables_of}
 use Rattle.lsm_levels.proofs.RunOrders.{is_there}
@@ -222,23 +220,12 @@ module _ (input : MergeInput) (tables : List Table) (made : AreMadeOf input tabl
 
 -- ---- of a merge
 
-pub joined_lower : (v : Version) (lower : List Table) → IsAmong v (joined (run_if_some lower (versions_of lower))) → IsAmong v (versions_of lower)
-joined_lower v [] a = a
-joined_lower v (t ∷ lower) a = ⊎_elim (λ b. b) (λ b. absurd b) (among_either v (versions_of (t ∷ lower)) [] a)
-
-either_tables : (v : Version) (upper lower : List Table) → IsAmong v (versions_of upper) ⊎ IsAmong v (versions_of lower) → IsAmong v (versions_of (upper ++ lower))
-either_tables v upper lower = ⊎_elim
-    (λ a. let p = in_tables v upper a in of_table v p.0 (upper ++ lower) (among_left p.0 upper lower p.1) p.2)
-    (λ a. let p = in_tables v lower a in of_table v p.0 (upper ++ lower) (among_right p.0 upper lower p.1) p.2)
-
 both_ranged : (upper lower : List Table) → AreRanged upper → AreRanged lower → AreRanged (upper ++ lower)
 both_ranged upper lower one two t a = ⊎_elim (λ b. one t b) (λ b. two t b) (among_either t upper lower a)
 
-module _ (sealed : List Version) (input : MergeInput) (level : ℕ) (upper lower tables : List Table) (runs : input.runs ≡ runs_of sealed (Merge level upper lower)) (made : AreMadeOf input tables) where
+module _ (input : MergeInput) (level : ℕ) (upper lower tables : List Table) (versions : joined input.runs ≡ versions_of (upper ++ lower)) (made : AreMadeOf input tables) where
   from_inputs : AreVersionsOf upper lower tables
-  from_inputs v a =
-      let there : IsAmong v (versions_of upper ++ joined (run_if_some lower (versions_of lower))) = subst (λ (rs : List (List Version)). IsAmong v (joined rs)) runs (made_among input tables made v a) in
-      either_tables v upper lower (⊎_elim (λ b. inl b) (λ b. inr (joined_lower v lower b)) (among_either v (versions_of upper) (joined (run_if_some lower (versions_of lower))) there))
+  from_inputs v a = subst (IsAmong v) versions (made_among input tables made v a)
 
   one_within : AreRanged (upper ++ lower) → (t : Table) → IsAmong t tables → IsWithin (upper ++ lower) t
   one_within ranged t a =
@@ -292,6 +279,6 @@ outputs_law = record {
   versions = made_versions;
   run = made_run;
   ranged = made_ranged;
-  merge = λ sealed input level upper lower tables runs one two made. merge_outputs sealed input level upper lower tables runs made one two;
+  merge = λ input level upper lower tables versions one two made. merge_outputs input level upper lower tables versions made one two;
   flush = flush_outputs;
 }

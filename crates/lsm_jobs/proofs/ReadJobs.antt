@@ -6,13 +6,12 @@ use Rattle.std.proofs.lemmas.List.{set-set}
 use Rattle.lsm_device.specs.declared.refusal.Refusal.{Refusal}
 use Rattle.lsm_device.specs.Disk.{seen}
 use Rattle.lsm_device.specs.Medium.{Medium, disk}
-use Rattle.lsm_codec.specs.Versions.{AreOrdered}
 use Rattle.lsm_codec.proofs.Limits.{each-Decides}
 use Rattle.lsm_levels.specs.Stored.{LiesWithin, is_within}
 use Rattle.lsm_levels.specs.Tables.{Table}
-use Rattle.lsm_levels.specs.Pick.{Job}
+use Rattle.lsm_levels.specs.Pick.{Job, inputs}
 use Rattle.lsm_jobs.specs.Slots.{Slot, Slots, JobSlots, Reading}
-use Rattle.lsm_jobs.specs.Gathering.{Gathered, uppers, lowers, input_ahead, blocks_left, BothGoOn}
+use Rattle.lsm_jobs.specs.Gathering.{Gathered, ascending_runs, input_ahead, blocks_left, AllGoOn}
 use Rattle.lsm_jobs.specs.Reading.{SlotReadsOn, IsBadNext, JobReadsOn}
 use Rattle.lsm_jobs.specs.Holding.{IsAt}
 use Rattle.lsm_levels.proofs.WithinLaws.{within-Decides}
@@ -55,14 +54,12 @@ job_stays job place old lifted new slot held now (Err e) at there out back same 
     ∙ ap (these old.next) (ap (λ (s : Slot). set old.slots place (Some s)) same ∙ set_again old.slots place (Some held) at.within (sym there))
 
 -- where what is gathered doesn't go on, neither does the slot that shows it
-pub slot_bad : (area : ℕ) (m : Medium) (number : ℕ) (job : Job) (g : Gathered) (upper lower : List Table) (slot : Slot) → upper ≡ uppers job → lower ≡ lowers job
-    → record { number = number; job = job; input = input_ahead (uppers job) (lowers job) g; stage = Reading (blocks_left (uppers job) (lowers job) g) } ≡ slot
-    → AreOrdered g.upper × AreOrdered g.lower → ((after : Gathered) → BothGoOn (seen (disk m)) area upper lower g after → ⊥) → IsBadNext area m slot
-slot_bad area m number job g upper lower slot first second view ordered none = subst (λ (s : Slot). IsBadNext area m s) view (record {
+pub slot_bad : (area : ℕ) (m : Medium) (number : ℕ) (job : Job) (g : Gathered) (tables : List Table) (slot : Slot) → tables ≡ inputs job → length g.runs ≡ length (ascending_runs (inputs job))
+    → record { number = number; job = job; input = input_ahead (inputs job) g; stage = Reading (blocks_left (inputs job) g) } ≡ slot → ((after : Gathered) → AllGoOn (seen (disk m)) area tables g after → ⊥) → IsBadNext area m slot
+slot_bad area m number job g tables slot same count view none = subst (λ (s : Slot). IsBadNext area m s) view (record {
   before = g;
-  shows = record { input = refl; stage = refl };
-  ordered = ordered;
-  none = λ after h. none after (subst (λ (t : List Table). BothGoOn (seen (disk m)) area t lower g after) (sym first) (subst (λ (t : List Table). BothGoOn (seen (disk m)) area (uppers job) t g after) (sym second) h));
+  shows = record { count = count; input = refl; stage = refl };
+  none = λ after h. none after (subst (λ (t : List Table). AllGoOn (seen (disk m)) area t g after) (sym same) h);
 })
 
 -- ---- whether a job can be read

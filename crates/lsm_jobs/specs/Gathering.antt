@@ -1,5 +1,5 @@
 -- What is read of a merge's tables, before it is merged.
-use Rattle.std.specs.Prelude.{◌≡◌, ℕ, zero, suc, ◌+◌, ◌-◌, ◌*◌, ◌<◌, Bool, false, ltb, IsTrue, List, [], ◌∷◌, ◌++◌, length, map, filter, take, drop, min, sum_by, Result, Ok, if◌then◌else◌}
+use Rattle.std.specs.Prelude.{◌≡◌, ℕ, zero, suc, ◌+◌, ◌-◌, ◌*◌, ◌<◌, Bool, true, false, not, ltb, IsTrue, List, [], ◌∷◌, ◌++◌, length, map, filter, take, drop, min, sum_by, Result, Ok, if◌then◌else◌}
 use Rattle.std.specs.List.{flat_map, list_all}
 use Rattle.lsm_device.specs.declared.refusal.Refusal.{Refusal}
 use Rattle.lsm_device.specs.Calls.{AtMost, faults_after}
@@ -8,7 +8,7 @@ use Rattle.lsm_codec.specs.Versions.{Version, AreOrdered}
 use Rattle.lsm_codec.specs.Entries.{entries_in}
 use Rattle.lsm_table.specs.Places.{stands_before}
 use Rattle.lsm_merge.specs.Inputs.{MergeInput}
-use Rattle.lsm_levels.specs.Tables.{Table, is_before_first, versions_of}
+use Rattle.lsm_levels.specs.Tables.{Table, is_below, versions_of}
 use Rattle.lsm_levels.specs.Asking.{OnlyReads, sector_of}
 use Rattle.lsm_levels.specs.Stored.{blocks_from}
 
@@ -16,15 +16,26 @@ use Rattle.lsm_levels.specs.Stored.{blocks_from}
 abbrev pub data_blocks : List Table → ℕ
 data_blocks tables = sum_by (λ t. length t.outline.edges) tables
 
--- runs with a table before them all: it is the first of their first run where that begins behind it, and else a run of its own
-abbrev pub with_first : Table → List (List Table) → List (List Table)
-with_first t [] = (t ∷ []) ∷ []
-with_first t (run ∷ runs) = if is_before_first t run then (t ∷ run) ∷ runs else (t ∷ []) ∷ run ∷ runs
+-- whether a table is the last of its run, where these come after it
+abbrev pub ends_run : Table → List Table → Bool
+ends_run t [] = true
+ends_run t (u ∷ rest) = not (is_below t.last u.first)
+
+-- runs with a table before them: a run of its own, or with the first of them
+abbrev pub with_first : Bool → Table → List (List Table) → List (List Table)
+with_first true t runs = (t ∷ []) ∷ runs
+with_first false t [] = (t ∷ []) ∷ []
+with_first false t (run ∷ runs) = (t ∷ run) ∷ runs
 
 -- the runs that tables are, one after the other: one ends where the next table doesn't begin behind its last
 abbrev pub ascending_runs : List Table → List (List Table)
 ascending_runs [] = []
-ascending_runs (t ∷ rest) = with_first t (ascending_runs rest)
+ascending_runs (t ∷ rest) = with_first (ends_run t rest) t (ascending_runs rest)
+
+-- how many tables the first run has
+abbrev pub run_length : List Table → ℕ
+run_length [] = 0
+run_length (t ∷ rest) = if ends_run t rest then 1 else suc (run_length rest)
 
 -- the data blocks of tables as they stand in sectors, in order, where the data area begins with the sector `area`
 abbrev pub blocks_in : List (List ℕ) → ℕ → List Table → List (List ℕ)
@@ -108,13 +119,17 @@ RunsGoOn sectors area from to [] [] [] = Unit {0}
 RunsGoOn sectors area from to (tables ∷ rest) (run ∷ runs) (new ∷ news) = GoesOn run (items_between sectors area from to tables) new × RunsGoOn sectors area (from - data_blocks tables) (to - data_blocks tables) rest runs news
 RunsGoOn sectors area from to others runs news = ⊥
 
--- Each run goes on with what the next eight data blocks spell.
-abbrev pub AllGoOn : List (List ℕ) → ℕ → List Table → Gathered → Gathered → Type 0
-AllGoOn sectors area tables old new = RunsGoOn sectors area old.done (old.done + 8) (ascending_runs tables) old.runs new.runs
+-- how many data blocks are read after a step: eight more, or all
+abbrev pub next_done : List Table → Gathered → ℕ
+next_done tables g = min (data_blocks tables) (g.done + 8)
 
--- At most eight data blocks more are read, as long as there are some.
+-- Each run goes on with what the data blocks of a step spell.
+abbrev pub AllGoOn : List (List ℕ) → ℕ → List Table → Gathered → Gathered → Type 0
+AllGoOn sectors area tables old new = RunsGoOn sectors area old.done (next_done tables old) (ascending_runs tables) old.runs new.runs
+
+-- What is gathered after a step has as many runs.
 pub record IsNext (tables : List Table) (old new : Gathered) : Type 0 where
-  pub done : new.done ≡ min (data_blocks tables) (old.done + 8)
+  pub done : new.done ≡ next_done tables old
   pub same_count : length new.runs ≡ length old.runs
   pub same_cuts : new.cuts ≡ old.cuts
   pub same_bottom : new.bottom ≡ old.bottom

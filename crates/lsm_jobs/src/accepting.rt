@@ -11,7 +11,6 @@ ghost use Rattle.lsm_jobs.specs.Outputs.{placed_blocks};
 ghost use Rattle.lsm_jobs.specs.Placing.{FindNoRoom, IsPlacing, IsAccepted};
 ghost use Rattle.lsm_jobs.specs.Refusing.{HasInput, IsNotFrozen, RefusesInput, RefusesResult};
 
-use crate::held::Work;
 use crate::outputs::Outputs;
 use crate::placing::place_all;
 use crate::slots::Slots;
@@ -109,7 +108,7 @@ impl<A: Allocator> Slots<A> {
             return Err(Refusal::Exhausted);
         }
         let outputs = outputs_of(alloc, input, images, next_table, extents)?;
-        self.set_work(place, Work::Writing(outputs));
+        self.set_outputs(place, outputs);
         Ok(next_table + count)
     }
 }

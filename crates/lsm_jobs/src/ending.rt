@@ -7,7 +7,7 @@ ghost use Rattle.lsm_jobs.specs.Slots.{slot_of, with_held, outputs_of};
 ghost use Rattle.lsm_jobs.specs.Placing.{AreHandedOut, all_given_back};
 
 use crate::held::HeldJob;
-use crate::reading::{lowers, uppers};
+use crate::reading::inputs;
 use crate::slots::Slots;
 use lsm_device::Refusal;
 use lsm_extent::{Extent, Extents};
@@ -33,10 +33,7 @@ impl<A: Allocator> HeldJob<A> {
         requires { AreHandedOut (inputs self.now.job) extents.old }
         ensures { extents.new ≡ all_given_back (inputs self.now.job) extents.old }
     {
-        let upper = uppers(&self.tables);
-        let lower = lowers(&self.tables);
-        give_back(lower, extents);
-        give_back(upper, extents);
+        give_back(inputs(&self.tables), extents);
     }
 }
 

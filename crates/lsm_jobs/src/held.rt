@@ -40,16 +40,16 @@ pub(crate) struct HeldJob<A: Allocator> {
 
 impl<A: Allocator> Model for HeldJob<A> {
     ghost use Rattle.lsm_jobs.specs.Slots.{Slot};
-    ghost use Rattle.lsm_jobs.specs.Shown.{job_of, slot_shown};
+    ghost use Rattle.lsm_jobs.specs.Shown.{job_of, slot_shown, HasRuns};
 
     ghost Value = { Slot };
 
     ghost view = { λ h. slot_shown h.number (job_of h.tables) h.work };
+
+    ghost invariant = { λ h. HasRuns (job_of h.tables) h.work };
 }
 
 impl<A: Allocator> HeldJob<A> {
-    ghost use Rattle.lsm_jobs.specs.Shown.{slot_shown};
-
     /// Its number.
     pub(crate) fn number(&self) -> u64
         ensures { result ≡ self.now.number }
@@ -156,11 +156,11 @@ impl<A: Allocator> HeldJob<A> {
         }
     }
 
-    /// Goes over to other work.
-    pub(crate) fn set_work(&mut self, work: Work<A>)
-        ensures { self.new ≡ slot_shown self.old.number self.old.job work }
+    /// Goes over to the writing of outputs.
+    pub(crate) fn set_outputs(&mut self, outputs: Outputs<A>)
+        ensures { self.new ≡ record { number = self.old.number; job = self.old.job; input = outputs.input; stage = Writing outputs.tables outputs.left } }
     {
-        self.work = work;
+        self.work = Work::Writing(outputs);
     }
 
     /// Its outputs, where they are placed; then they are what a merge makes of its input.

@@ -12,6 +12,7 @@ mod merge;
 mod outputs;
 mod placing;
 mod reading;
+mod runs;
 mod slots;
 mod taking;
 mod turns;

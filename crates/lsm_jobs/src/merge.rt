@@ -13,24 +13,37 @@ use std::alloc::{AllocError, Allocator};
 use std::collections::BTreeSet;
 use std::marker::Model;
 
-/// The tables that a merge takes in, by handles of its own, and the set of their numbers.
+/// The tables that a merge takes in, by handles of its own, first so many upper ones, and the set of their numbers.
 #[derive(Drop)]
 pub(crate) struct MergeTables<A: Allocator> {
     level: usize,
-    upper: Vec<PlacedTable<A>, A>,
-    lower: Vec<PlacedTable<A>, A>,
+    uppers: usize,
+    tables: Vec<PlacedTable<A>, A>,
     numbers: BTreeSet<u64, A>,
 }
 
 impl<A: Allocator> Model for MergeTables<A> {
-    ghost use Rattle.std.specs.Prelude.{◌++◌};
+    ghost use Rattle.std.specs.Prelude.{◌≤◌, length, take, drop};
     ghost use Rattle.lsm_jobs.specs.Numbers.{AreNumbersOf, Inputs};
 
     ghost Value = { Inputs };
 
-    ghost view = { λ m. record { level = m.level; upper = m.upper.items; lower = m.lower.items } };
+    ghost view = { λ m. record { level = m.level; upper = take m.uppers m.tables.items; lower = drop m.uppers m.tables.items } };
 
-    ghost invariant = { λ m. AreNumbersOf m.numbers (m.upper.items ++ m.lower.items) };
+    ghost invariant = { λ m. (m.uppers ≤ length m.tables.items) × AreNumbersOf m.numbers m.tables.items };
+}
+
+/// Adds handles of tables.
+pub(crate) fn add_handles<A: Allocator>(
+    handles: &mut Vec<PlacedTable<A>, A>,
+    tables: &[PlacedTable<A>],
+) -> Result<(), AllocError>
+    ensures { OnOk result (handles.new.items ≡ handles.old.items ++ tables.now) }
+{
+    for table in tables {
+        handles.push(table.share()?)?;
+    }
+    Ok(())
 }
 
 /// Adds the numbers of tables to a set.
@@ -52,35 +65,30 @@ impl<A: Allocator + Clone> MergeTables<A> {
         alloc: &A,
         level: usize,
         upper: Vec<PlacedTable<A>, A>,
-        lower: Vec<PlacedTable<A>, A>,
+        lower: &[PlacedTable<A>],
     ) -> Result<MergeTables<A>, AllocError>
-        ensures { IfOk result (λ m. m ≡ record { level = level; upper = upper.items; lower = lower.items }) }
+        ensures { IfOk result (λ m. m ≡ record { level = level; upper = upper.items; lower = lower.now }) }
     {
+        let uppers = upper.len();
+        let mut tables = upper;
+        add_handles(&mut tables, lower)?;
         let mut numbers = BTreeSet::new(alloc.clone()?);
-        add_numbers(&mut numbers, &upper)?;
-        add_numbers(&mut numbers, &lower)?;
+        add_numbers(&mut numbers, &tables)?;
         Ok(MergeTables {
             level,
-            upper,
-            lower,
+            uppers,
+            tables,
             numbers,
         })
     }
 }
 
 impl<A: Allocator> MergeTables<A> {
-    /// The upper tables.
-    pub(crate) fn upper(&self) -> &[PlacedTable<A>]
-        ensures { result.now ≡ self.now.upper }
+    /// All of them, the upper tables first.
+    pub(crate) fn tables(&self) -> &[PlacedTable<A>]
+        ensures { result.now ≡ inputs (merge_of self.now) }
     {
-        &self.upper
-    }
-
-    /// The lower tables.
-    pub(crate) fn lower(&self) -> &[PlacedTable<A>]
-        ensures { result.now ≡ self.now.lower }
-    {
-        &self.lower
+        &self.tables
     }
 
     /// These tables, with the outputs that take their place.
@@ -88,10 +96,11 @@ impl<A: Allocator> MergeTables<A> {
         ensures job { job_told result ≡ merge_of self.now }
         ensures outputs { outputs_told result ≡ outputs.now }
     {
+        let (upper, lower) = self.tables.split_at(self.uppers);
         Written::Merge {
             level: self.level,
-            upper: &self.upper,
-            lower: &self.lower,
+            upper,
+            lower,
             outputs,
         }
     }
@@ -107,7 +116,7 @@ impl<A: Allocator> MergeTables<A> {
     pub(crate) fn is_several(&self) -> bool
         ensures { result ≡ is_several (merge_of self.now) }
     {
-        self.level > 0 && self.upper.len() > 1
+        self.level > 0 && self.uppers > 1
     }
 
     /// Whether it takes in the table of this number.

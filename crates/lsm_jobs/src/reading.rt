@@ -5,10 +5,11 @@ ghost use Rattle.std.specs.List.{AllByRecursion, slice_index_or, list_all};
 ghost use Rattle.lsm_device.specs.declared.refusal.Refusal.TheVariants.{NoMemory, Io, BadTable, NoSuchJob, WrongState};
 ghost use Rattle.lsm_device.specs.Calls.{AtMost, faults_after};
 ghost use Rattle.lsm_device.specs.Refusals.{faultless};
+ghost use Rattle.lsm_levels.specs.Pick.{inputs};
 ghost use Rattle.lsm_levels.specs.Stored.{LiesWithin, is_within};
 ghost use Rattle.lsm_jobs.specs.Slots.{Slot, slot_of, is_reading, is_not_at, left_to_read, to_read};
 ghost use Rattle.lsm_jobs.specs.Shown.{job_of};
-ghost use Rattle.lsm_jobs.specs.Gathering.{uppers, lowers, ReadsBlocks};
+ghost use Rattle.lsm_jobs.specs.Gathering.{ReadsBlocks};
 ghost use Rattle.lsm_jobs.specs.Reading.{CanBeRead, JobCanBeRead, SlotReadsOn, IsBadNext, JobReadsOn};
 
 use crate::held::{HeldJob, Work};
@@ -18,22 +19,12 @@ use lsm_device::{Device, Refusal};
 use lsm_levels::PlacedTable;
 use std::alloc::Allocator;
 
-/// The upper tables, none of a flush.
-pub(crate) fn uppers<A: Allocator>(tables: &Option<MergeTables<A>>) -> &[PlacedTable<A>]
-    ensures { result.now ≡ uppers (job_of tables.now) }
+/// The tables that a job takes in, none of a flush.
+pub(crate) fn inputs<A: Allocator>(tables: &Option<MergeTables<A>>) -> &[PlacedTable<A>]
+    ensures { result.now ≡ inputs (job_of tables.now) }
 {
     match tables {
-        Some(tables) => tables.upper(),
-        None => &[],
-    }
-}
-
-/// The lower tables, none of a flush.
-pub(crate) fn lowers<A: Allocator>(tables: &Option<MergeTables<A>>) -> &[PlacedTable<A>]
-    ensures { result.now ≡ lowers (job_of tables.now) }
-{
-    match tables {
-        Some(tables) => tables.lower(),
+        Some(tables) => tables.tables(),
         None => &[],
     }
 }
@@ -59,27 +50,13 @@ fn are_within<A: Allocator>(tables: &[PlacedTable<A>], sectors: u32, area: u32) 
     all_within(tables, sectors, area)
 }
 
-/// Whether there are at most 1,024 tables.
-fn are_few<A: Allocator>(upper: &[PlacedTable<A>], lower: &[PlacedTable<A>]) -> bool
-    ensures { IsTrue result ↔ (length upper.now + length lower.now ≤ 1024) }
-{
-    upper.len() <= 1_024 && lower.len() <= 1_024 - upper.len()
-}
-
 impl<A: Allocator> HeldJob<A> {
     /// Whether its tables are few, and lie within so many sectors.
     fn can_be_read(&self, sectors: u32, area: u32) -> bool
         ensures { IsTrue result ↔ CanBeRead sectors area self.now.job }
     {
-        let upper = uppers(&self.tables);
-        let lower = lowers(&self.tables);
-        if !are_few(upper, lower) {
-            return false;
-        }
-        if !are_within(upper, sectors, area) {
-            return false;
-        }
-        are_within(lower, sectors, area)
+        let tables = inputs(&self.tables);
+        tables.len() <= 1_024 && are_within(tables, sectors, area)
     }
 }
 
@@ -107,13 +84,8 @@ impl<A: Allocator + Clone> HeldJob<A> {
         } = self;
         match work {
             Work::Reading(gathering) => {
-                let (work, left) = gathering.step(
-                    alloc,
-                    uppers(&tables),
-                    lowers(&tables),
-                    area,
-                    device,
-                );
+                let (work, left) =
+                    gathering.step(alloc, inputs(&tables), area, device);
                 let held = HeldJob {
                     number,
                     tables,
@@ -161,9 +133,9 @@ impl<A: Allocator> Slots<A> {
         }
     }
 
-    /// Reads the next data blocks of a merge, past any cache: of those of its tables that are left eight, or all. Those of the
-    /// upper tables come first, table by table, and then those of the lower ones. It answers how many are left then; with none
-    /// left the job is frozen. The blocks, eight sectors each, are counted from the sector `area` on.
+    /// Reads the next data blocks of a merge, past any cache: of those of its tables that are left eight, or all. They come table
+    /// by table, those of the upper tables first, and a run of tables is gathered as one. It answers how many are left then;
+    /// with none left the job is frozen. The blocks, eight sectors each, are counted from the sector `area` on.
     ///
     /// It is refused with `NoSuchJob` exactly where no slot has the number; with `WrongState` exactly where the job is not being
     /// read; and with `NoMemory`, `Io` or `BadTable` where that is met: `Io` for a read that faulted, its last; `BadTable` where
@@ -180,7 +152,7 @@ impl<A: Allocator> Slots<A> {
         A: Clone,
         requires { JobCanBeRead (D.medium device.old).size area job self.old.slots }
 
-        // The next blocks are read, and both runs go on with what their bytes spell.
+        // The next blocks are read, and each run goes on with what their bytes spell.
         ensures reads { IfOk result (λ left. JobReadsOn area (D.medium device.old) job left self.old self.new) }
 
         // Each refusal comes as it says, and leaves all as it was.

@@ -4,11 +4,11 @@ ghost use Rattle.std.specs.Prelude.{◌≡◌, ◌==◌, ◌<◌, ◌≤◌, len
 ghost use Rattle.std.specs.List.{list_any};
 ghost use Rattle.lsm_device.specs.declared.refusal.Refusal.TheVariants.{NoSuchJob};
 ghost use Rattle.lsm_levels.specs.Pick.{is_flush, is_merge, is_of_level_0, is_several, inputs};
-ghost use Rattle.lsm_jobs.specs.Slots.{Slot, no_jobs, slot_of, with_held, left_at, less_left};
-ghost use Rattle.lsm_jobs.specs.Shown.{slot_shown};
+ghost use Rattle.lsm_jobs.specs.Slots.{Slot, Writing, no_jobs, slot_of, with_held, left_at, less_left};
 ghost use Rattle.lsm_jobs.specs.Holding.{holds, free_from, has_number, place_from, IsAt};
 
-use crate::held::{HeldJob, Work};
+use crate::held::HeldJob;
+use crate::outputs::Outputs;
 use lsm_device::Refusal;
 use lsm_levels::HeldJobs;
 use std::alloc::{AllocError, Allocator, Global};
@@ -176,14 +176,14 @@ impl<A: Allocator> Slots<A> {
         }
     }
 
-    /// Has the job at a place go over to other work.
-    pub(crate) fn set_work(&mut self, place: usize, work: Work<A>)
+    /// Has the job at a place go over to the writing of outputs.
+    pub(crate) fn set_outputs(&mut self, place: usize, outputs: Outputs<A>)
         requires { place < length self.old.slots }
         ensures { (number : ℕ) (slot : Slot) → IsAt number self.old.slots place slot
-            → self.new ≡ record { next = self.old.next; slots = with_held number (Some (slot_shown slot.number slot.job work)) self.old.slots } }
+            → self.new ≡ record { next = self.old.next; slots = with_held number (Some (record { number = slot.number; job = slot.job; input = outputs.input; stage = Writing outputs.tables outputs.left })) self.old.slots } }
     {
         match &mut self.slots[place] {
-            Some(held) => held.set_work(work),
+            Some(held) => held.set_outputs(outputs),
             None => {}
         }
     }

@@ -72,19 +72,6 @@ fn flush_of<A: Allocator + Clone>(
     })
 }
 
-/// What a merge of these tables takes in.
-fn tables_of<A: Allocator + Clone>(
-    alloc: &A,
-    level: usize,
-    upper: Vec<PlacedTable<A>, A>,
-    lower: &[PlacedTable<A>],
-) -> Result<MergeTables<A>, AllocError>
-    ensures { IfOk result (λ m. m ≡ record { level = level; upper = upper.items; lower = lower.now }) }
-{
-    let lower = share_all(alloc.clone()?, lower)?;
-    MergeTables::new(alloc, level, upper, lower)
-}
-
 /// A handle of a table alone.
 fn one_handle<A: Allocator>(
     alloc: A,
@@ -97,18 +84,21 @@ fn one_handle<A: Allocator>(
     Ok(handles)
 }
 
-/// A merge whose data blocks have to be read.
+/// A merge of these tables of a level with those of the next one, whose data blocks have to be read.
 fn merge_of<A: Allocator + Clone>(
     alloc: &A,
     number: u64,
-    tables: MergeTables<A>,
+    level: usize,
+    upper: Vec<PlacedTable<A>, A>,
+    lower: &[PlacedTable<A>],
     cuts: Vec<u64, A>,
     bottom: bool,
 ) -> Result<HeldJob<A>, AllocError>
     requires { IsCuts cuts.items }
-    ensures { IfOk result (λ held. held ≡ slot_with number [] cuts.items bottom (Merge tables.level tables.upper tables.lower)) }
+    ensures { IfOk result (λ held. held ≡ slot_with number [] cuts.items bottom (Merge level upper.items lower.now)) }
 {
-    let gathering = Gathering::new(alloc, cuts, bottom)?;
+    let tables = MergeTables::new(alloc, level, upper, lower)?;
+    let gathering = Gathering::new(alloc, tables.tables(), cuts, bottom)?;
     Ok(HeldJob {
         number,
         tables: Some(tables),
@@ -138,8 +128,7 @@ fn job_for<A: Allocator + Clone>(
         }
         Pick::OldestRun { upper, lower } => {
             let upper = share_all(alloc.clone()?, upper)?;
-            let tables = tables_of(alloc, 0, upper, lower)?;
-            merge_of(alloc, number, tables, cuts, bottom)
+            merge_of(alloc, number, 0, upper, lower, cuts, bottom)
         }
         Pick::OneTable {
             level,
@@ -147,8 +136,7 @@ fn job_for<A: Allocator + Clone>(
             lower,
         } => {
             let upper = one_handle(alloc.clone()?, upper)?;
-            let tables = tables_of(alloc, *level, upper, lower)?;
-            merge_of(alloc, number, tables, cuts, bottom)
+            merge_of(alloc, number, *level, upper, lower, cuts, bottom)
         }
         Pick::Neighbours {
             level,
@@ -156,8 +144,7 @@ fn job_for<A: Allocator + Clone>(
             lower,
         } => {
             let upper = share_all(alloc.clone()?, upper)?;
-            let tables = tables_of(alloc, *level, upper, lower)?;
-            merge_of(alloc, number, tables, cuts, bottom)
+            merge_of(alloc, number, *level, upper, lower, cuts, bottom)
         }
     }
 }
