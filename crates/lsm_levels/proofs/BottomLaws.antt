@@ -6,15 +6,12 @@ use Rattle.lsm_levels.specs.Tables.{Table, KeyRange, spanned, hull, meets}
 use Rattle.lsm_levels.specs.Hulls.{hull_onto}
 use Rattle.lsm_levels.specs.Levels.{Levels, all_tables}
 use Rattle.lsm_levels.specs.Pick.{Merge, below_output, meets_none, is_bottom}
+use Rattle.lsm_levels.proofs.RunHulls.{onto_none}
 use Rattle.lsm_levels.proofs.RunTests.{all_behind}
 
 -- the hull of tables and of others
 pub hull_of_both : (xs ys : List Table) → hull_onto xs (hull_onto ys None) ≡ hull (xs ++ ys)
-hull_of_both [] ys = alone ys
-  where
-    alone : (zs : List Table) → hull_onto zs None ≡ hull zs
-    alone [] = refl
-    alone (t ∷ rest) = ap (λ (o : Option KeyRange). Some (spanned t o)) (alone rest)
+hull_of_both [] ys = onto_none ys
 hull_of_both (t ∷ xs) ys = ap (λ (o : Option KeyRange). Some (spanned t o)) (hull_of_both xs ys)
 
 -- with one table more behind them

@@ -4,13 +4,14 @@ use Rattle.std.proofs.lemmas.Bool.{leb-true}
 use Rattle.std.specs.List.{list_any, find}
 use Rattle.lsm_codec.specs.Keys.{Bytes}
 use Rattle.lsm_levels.specs.Tables.{Table, hull, meets, meeting, IsRun}
-use Rattle.lsm_levels.specs.Levels.{Levels, level, last_run}
+use Rattle.lsm_levels.specs.Levels.{Levels, all_tables, level, oldest_runs}
 use Rattle.lsm_levels.specs.Pick.{Job, is_flush, is_merge, is_several, are_several, is_of_level_0, can_merge, merge_of}
 use Rattle.lsm_levels.specs.Choices.{may_stand, free_merge, run_job, tables_from, neighbours, tables_job, chosen}
 use Rattle.lsm_levels.specs.Held.{AreRuns, IsUpper, MayTake, ChoiceLaw}
 use Rattle.lsm_levels.specs.declared.choosing.Choice.{Choice}
 use Rattle.lsm_levels.specs.declared.choosing.Choice.TheVariants as choice
-use Rattle.lsm_levels.proofs.PickLaws.{in_both, some_job, taken, level_at, merge_apart, held_merge, hull_there, last_in, of_levels}
+use Rattle.lsm_levels.proofs.PickLaws.{in_both, some_job, taken, level_at, merge_apart, held_merge, hull_there, of_levels}
+use Rattle.lsm_levels.proofs.OldestRuns.{oldest_are, oldest_some}
 use Rattle.lsm_levels.proofs.Ranges.{no}
 use Rattle.lsm_levels.proofs.Runs.{run_at}
 use Rattle.lsm_levels.proofs.TablesMet.{met_own}
@@ -24,11 +25,11 @@ stands true are merges e = absurd (no (sym e))
 
 -- ---- what the parts of a choice tell
 
--- the run's job, where a slice shows the levels
-pub chosen_run : (levels : Levels) (jobs : List Job) (runs deeper : List (List Table)) → runs ≡ levels.runs → deeper ≡ levels.deeper
-    → (l1 : List Table) → 1 ≤ length deeper → l1 ≡ get_or deeper 0 l1 → run_job runs l1 jobs ≡ chosen levels jobs choice.OldestRun
-chosen_run levels jobs runs deeper runs_are deeper_are l1 some first =
-    ap (λ (r : List (List Table)). run_job r l1 jobs) runs_are ∙ ap (λ (l : List Table). run_job levels.runs l jobs) (level_at levels deeper 0 l1 deeper_are (omega (arith, some)) first)
+-- the job of runs, where a slice shows the levels
+pub chosen_runs : (count : ℕ) (levels : Levels) (jobs : List Job) (runs deeper : List (List Table)) → runs ≡ levels.runs → deeper ≡ levels.deeper
+    → (l1 : List Table) → 1 ≤ length deeper → l1 ≡ get_or deeper 0 l1 → run_job count runs l1 jobs ≡ chosen levels jobs (choice.OldestRuns count)
+chosen_runs count levels jobs runs deeper runs_are deeper_are l1 some first =
+    ap (λ (r : List (List Table)). run_job count r l1 jobs) runs_are ∙ ap (λ (l : List Table). run_job count levels.runs l jobs) (level_at levels deeper 0 l1 deeper_are (omega (arith, some)) first)
 
 -- the tables from one that is found to another
 pub from_both : (tables : List Table) (from to : Option Table) (a b : Table) (k l : Bytes) → Some a ≡ from → Some b ≡ to → k ≡ a.first → l ≡ b.last
@@ -53,15 +54,18 @@ free_rule i upper levels jobs job runs small some uppers e =
       apart = merge_apart jobs i upper below parts.1 stand.0 stand.1;
     })
 
-run_taken : (levels : Levels) (jobs : List Job) (job : Job) → run_job levels.runs (level levels 1) jobs ≡ Some job
-    → ((leb 1 (length levels.runs) && not (list_any is_of_level_0 jobs)) ≡ true) × (free_merge 0 (last_run levels.runs) (level levels 1) jobs ≡ Some job)
-run_taken levels jobs job e = taken (leb 1 (length levels.runs) && not (list_any is_of_level_0 jobs)) job (free_merge 0 (last_run levels.runs) (level levels 1) jobs) e
+run_taken : (count : ℕ) (levels : Levels) (jobs : List Job) (job : Job) → run_job count levels.runs (level levels 1) jobs ≡ Some job
+    → (((leb 1 count && leb count (length levels.runs)) && not (list_any is_of_level_0 jobs)) ≡ true) × (free_merge 0 (all_tables (oldest_runs count levels.runs)) (level levels 1) jobs ≡ Some job)
+run_taken count levels jobs job e =
+    taken ((leb 1 count && leb count (length levels.runs)) && not (list_any is_of_level_0 jobs)) job (free_merge 0 (all_tables (oldest_runs count levels.runs)) (level levels 1) jobs) e
 
-run_rule : (levels : Levels) (jobs : List Job) (job : Job) → AreRuns levels → run_job levels.runs (level levels 1) jobs ≡ Some job → MayTake levels jobs job
-run_rule levels jobs job runs e =
-    let test = run_taken levels jobs job e in
-    let many = leb-true 1 (length levels.runs) (in_both (leb 1 (length levels.runs)) (not (list_any is_of_level_0 jobs)) test.0).0 in
-    free_rule 0 (last_run levels.runs) levels jobs job runs (omega arith) (last_in (λ run. 0 < length run) levels.runs many runs.some) (many, refl) test.1
+run_rule : (count : ℕ) (levels : Levels) (jobs : List Job) (job : Job) → AreRuns levels → run_job count levels.runs (level levels 1) jobs ≡ Some job → MayTake levels jobs job
+run_rule count levels jobs job runs e =
+    let test = run_taken count levels jobs job e in
+    let many = in_both (leb 1 count) (leb count (length levels.runs)) (in_both (leb 1 count && leb count (length levels.runs)) (not (list_any is_of_level_0 jobs)) test.0).0 in
+    let uppers = oldest_are count levels.runs (leb-true 1 count many.0) (leb-true count (length levels.runs) many.1) in
+    let upper = all_tables (oldest_runs count levels.runs) in
+    free_rule 0 upper levels jobs job runs (omega arith) (oldest_some levels.runs upper runs.some uppers) uppers test.1
 
 -- the tables from one to another are all that meet their hull
 own_hull : (tables : List Table) (a b : Option Table) → IsRun tables → tables_from tables a b ≡ meeting (hull (tables_from tables a b)) tables
@@ -80,7 +84,7 @@ tables_rule from to i levels jobs job runs small e =
     (own_hull tables (find (λ t. t.number == from) tables) (find (λ t. t.number == to) tables) (run_at levels runs i)) test.1
 
 pub choice_law : ChoiceLaw
-choice_law levels jobs choice.OldestRun job runs e = run_rule levels jobs job runs e
+choice_law levels jobs (choice.OldestRuns count) job runs e = run_rule count levels jobs job runs e
 choice_law levels jobs (choice.Tables from to) job runs e =
     of_levels (MayTake levels jobs) (λ i. tables_job from to i (level levels i) (level levels (suc i)) jobs) job
     (λ x f. tables_rule from to 0 levels jobs x runs (omega arith) f) (λ x f. tables_rule from to 1 levels jobs x runs (omega arith) f) (λ x f. tables_rule from to 2 levels jobs x runs (omega arith) f) e
@@ -95,8 +99,8 @@ tables_merge from to i tables below jobs job e =
     free_merges i upper below jobs job (taken (leb 1 (length upper)) job (free_merge i upper below jobs) e).1
 
 pub chosen_merges : (levels : Levels) (jobs : List Job) (choice : Choice) (job : Job) → chosen levels jobs choice ≡ Some job → is_flush job ≡ false
-chosen_merges levels jobs choice.OldestRun job e =
-    free_merges 0 (last_run levels.runs) (level levels 1) jobs job (run_taken levels jobs job e).1
+chosen_merges levels jobs (choice.OldestRuns count) job e =
+    free_merges 0 (all_tables (oldest_runs count levels.runs)) (level levels 1) jobs job (run_taken count levels jobs job e).1
 chosen_merges levels jobs (choice.Tables from to) job e =
     of_levels (λ j. is_flush j ≡ false) (λ i. tables_job from to i (level levels i) (level levels (suc i)) jobs) job
     (tables_merge from to 1 (level levels 1) (level levels 2) jobs) (tables_merge from to 2 (level levels 2) (level levels 3) jobs) (tables_merge from to 3 (level levels 3) (level levels 4) jobs) e

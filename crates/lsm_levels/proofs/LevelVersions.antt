@@ -1,16 +1,16 @@
 -- The versions of tables and of levels: the older level has the older ones.
-use Rattle.std.proofs.Common.{◌≡◌, ◌⊎◌, inl, inr, ⊎_elim, ℕ, zero, suc, ◌-◌, ◌<◌, true, ◌&&◌, List, [], ◌∷◌, ◌++◌, length, map, get_or, refl, ap, ◌∙◌, subst, arith}
+use Rattle.std.proofs.Common.{◌≡◌, ◌⊎◌, inl, inr, ⊎_elim, ℕ, zero, suc, ◌<◌, true, ◌&&◌, List, [], ◌∷◌, ◌++◌, map, get_or, refl, ap, ◌∙◌, subst, sym, arith, append_assoc}
 use Rattle.std.specs.List.{AllByRecursion}
 use Rattle.lsm_codec.specs.Keys.{Bytes}
 use Rattle.lsm_codec.specs.Versions.{Version}
 use Rattle.lsm_levels.specs.Among.{IsAmong}
 use Rattle.lsm_levels.proofs.Members.{among_left, among_right, among_either}
 use Rattle.lsm_levels.specs.Tables.{Table, KeyRange, at_most, meets, versions_of}
-use Rattle.lsm_levels.specs.Levels.{Levels, all_tables, level, places, newer_runs, last_run}
+use Rattle.lsm_levels.specs.Levels.{Levels, all_tables, level, places}
 use Rattle.lsm_levels.specs.Orders.{IsNewerPlace, IsVersionOrder}
 use Rattle.lsm_levels.proofs.KeyOrder.{at_most_trans}
 use Rattle.lsm_levels.proofs.Ranges.{of_all}
-use Rattle.lsm_levels.proofs.Replacing.{newer_cons, last_cons}
+use Rattle.lsm_levels.proofs.OldestRuns.{tables_append}
 
 -- ---- versions of tables
 
@@ -121,21 +121,8 @@ older_level levels k zero t u v w lt order a b c d same = absurd (omega (arith, 
 older_level levels zero (suc l) t u v w lt order a b c d same = in_runs levels.runs levels.deeper t u v w order a (deep_in levels.deeper l u b) c d same
 older_level levels (suc k) (suc l) t u v w lt order a b c d same = in_deeper levels.deeper k l t u v w (omega (arith, lt)) (deeper_order levels.runs levels.deeper order) a b c d same
 
--- the newer runs of level 0 have newer versions than the last
-pub newer_runs_order : (runs deeper : List (List Table)) (t u : Table) (v w : Version) → IsVersionOrder (map versions_of (runs ++ deeper)) → IsAmong t (all_tables (newer_runs runs)) → IsAmong u (last_run runs) → IsAmong v t.versions → IsAmong w u.versions → v.key ≡ w.key → w.number < v.number
-newer_runs_order [] deeper t u v w order a b c d same = absurd b
-newer_runs_order (x ∷ []) deeper t u v w order a b c d same = absurd a
-newer_runs_order (x ∷ y ∷ rest) deeper t u v w order a b c d same = ⊎_elim
-    (λ here. in_runs (x ∷ []) (y ∷ rest ++ deeper) t u v w order (among_left t x [] here) (front (y ∷ rest) (last_among (y ∷ rest) (subst (λ (run : List Table). IsAmong u run) (last_cons x y rest) b))) c d same)
-    (λ later. newer_runs_order (y ∷ rest) deeper t u v w order.1 later (subst (λ (run : List Table). IsAmong u run) (last_cons x y rest) b) c d same)
-    (among_either t x (all_tables (newer_runs (y ∷ rest))) (subst (λ (rs : List (List Table)). IsAmong t (all_tables rs)) (newer_cons x y rest) a))
-  where
-    last_among : (rs : List (List Table)) → IsAmong u (last_run rs) → IsAmong u (all_tables rs)
-    last_among rs e = deep_in rs (length rs - 1) u e
-
-    front : (rs : List (List Table)) → IsAmong u (all_tables rs) → IsAmong u (all_tables (rs ++ deeper))
-    front [] e = absurd e
-    front (p ∷ ps) e = ⊎_elim
-        (λ f. among_left u p (all_tables (ps ++ deeper)) f)
-        (λ f. among_right u p (all_tables (ps ++ deeper)) (front ps f))
-        (among_either u p (all_tables ps) e)
+-- the newer runs of level 0 have newer versions than the oldest
+pub newer_runs_order : (newer oldest deeper : List (List Table)) (t u : Table) (v w : Version) → IsVersionOrder (map versions_of ((newer ++ oldest) ++ deeper)) → IsAmong t (all_tables newer) → IsAmong u (all_tables oldest) → IsAmong v t.versions → IsAmong w u.versions → v.key ≡ w.key → w.number < v.number
+newer_runs_order newer oldest deeper t u v w order a b c d same =
+    in_runs newer (oldest ++ deeper) t u v w (subst (λ (rs : List (List Table)). IsVersionOrder (map versions_of rs)) (append_assoc newer oldest deeper) order) a
+    (subst (IsAmong u) (sym (tables_append oldest deeper)) (among_left u (all_tables oldest) (all_tables deeper) b)) c d same

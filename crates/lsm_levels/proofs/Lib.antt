@@ -2,6 +2,7 @@ pub mod Members
 pub mod KeyOrder
 pub mod Ranges
 pub mod HullLaws
+pub mod OldestRuns
 pub mod Replacing
 pub mod Runs
 pub mod TablesMet

@@ -1,17 +1,22 @@
 -- What a merge that has its tables may be given to replace.
-use Rattle.std.proofs.Common.{◌≡◌, ℕ, zero, suc, ◌-◌, ◌<◌, Bool, List, [], ◌∷◌, length, Option, Some, IfSome, sym, subst, arith}
-use Rattle.lsm_levels.specs.Tables.{Table, KeyRange, hull, meets, put_at, IsRun}
+use Rattle.std.proofs.Common.{◌≡◌, ℕ, suc, ◌<◌, Bool, true, List, [], ◌∷◌, length, Option, Some, IfSome, sym, subst, arith}
+use Rattle.lsm_levels.specs.Tables.{Table, KeyRange, at_most, hull, put_at, IsRun}
 use Rattle.lsm_levels.specs.Levels.{Levels, level}
 use Rattle.lsm_levels.specs.Pick.{Merge}
 use Rattle.lsm_levels.specs.Held.{AreRuns, HasItsTables, AreOutputs}
-use Rattle.lsm_levels.proofs.Runs.{all_or, run_at, run_filter, run_with, upper_is, upper_order}
+use Rattle.lsm_levels.proofs.Runs.{run_at, run_with, upper_order}
 
--- its upper tables are a run
-pub upper_run : (levels : Levels) (bottom : Bool) (i : ℕ) (upper lower : List Table) → AreRuns levels → HasItsTables levels bottom i upper lower → IsRun upper
-upper_run levels bottom zero upper lower runs h = subst IsRun h.uppers.1 (all_or IsRun levels.runs (length levels.runs - 1) [] runs.runs tt)
-upper_run levels bottom (suc i) upper lower runs h = subst IsRun (sym (upper_is levels i upper h.range h.hull_is h.uppers)) (run_filter (meets h.range) (level levels (suc i)) (run_at levels runs i))
+-- the hull of its upper tables is a range
+pub upper_hull : (levels : Levels) (bottom : Bool) (i : ℕ) (upper lower : List Table) → AreRuns levels → HasItsTables levels bottom i upper lower
+    → IfSome (hull upper) (λ range. at_most range.first range.last ≡ true)
+upper_hull levels bottom i upper lower runs h =
+    subst (λ (o : Option KeyRange). IfSome o (λ range. at_most range.first range.last ≡ true)) (sym h.hull_is) (upper_order levels bottom i upper lower runs h)
 
--- of one table at least
+-- the hull that is shown
+pub hull_in_order : (upper : List Table) (range : KeyRange) → Some range ≡ hull upper → IfSome (hull upper) (λ range. at_most range.first range.last ≡ true) → at_most range.first range.last ≡ true
+hull_in_order upper range is order = subst (λ (o : Option KeyRange). IfSome o (λ range. at_most range.first range.last ≡ true)) (sym is) order
+
+-- there is one at least
 pub upper_some : (upper : List Table) (range : KeyRange) → hull upper ≡ Some range → 0 < length upper
 upper_some [] range e = cc
 upper_some (t ∷ rest) range e = omega arith

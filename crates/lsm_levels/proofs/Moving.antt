@@ -1,18 +1,18 @@
 -- How many tables an install leaves: those that were there, without its inputs and with its outputs.
-use Rattle.std.proofs.Common.{◌≡◌, ⊎_elim, ℕ, zero, suc, ◌+◌, ◌-◌, ◌<◌, ◌≤◌, Bool, true, false, cond, List, [], ◌∷◌, ◌++◌, length, get_or, set, filter, Option, refl, sym, ap, ◌∙◌, subst, arith}
+use Rattle.std.proofs.Common.{◌≡◌, ⊎_elim, ℕ, zero, suc, ◌+◌, ◌<◌, ◌≤◌, Bool, true, false, cond, List, [], ◌∷◌, ◌++◌, length, get_or, set, filter, Option, refl, sym, ap, ◌∙◌, subst, arith}
 use Rattle.std.specs.List.{AllByRecursion}
-use Rattle.std.proofs.lemmas.List.{length-append, length-take, get_or-set_other}
+use Rattle.std.proofs.lemmas.List.{length-append, get_or-set_other}
 use Rattle.std.proofs.lemmas.List.Elements.{filter-append}
 use Rattle.lsm_levels.specs.Tables.{Table, KeyRange, at_most, is_below, hull, meets, meeting, put_at, IsRun}
-use Rattle.lsm_levels.specs.Levels.{Levels, all_tables, level, places, newer_runs, last_run, merged_at, replaced}
+use Rattle.lsm_levels.specs.Levels.{Levels, all_tables, level, places, newer_runs, merged_at, replaced}
 use Rattle.lsm_levels.specs.Pick.{Flush, Merge}
-use Rattle.lsm_levels.specs.Held.{AreRuns, HasItsTables}
+use Rattle.lsm_levels.specs.Held.{AreRuns, AreOldest, HasItsTables}
 use Rattle.lsm_levels.specs.Moving.{MovingLaw, LowerLaw}
 use Rattle.lsm_levels.proofs.KeyOrder.{below_not, below_at_most, below_then}
 use Rattle.lsm_levels.proofs.Members.{among_passed, passed_among}
 use Rattle.lsm_codec.proofs.Lists.{filter_step}
 use Rattle.lsm_levels.proofs.Ranges.{no, all_of, run_order, sides, meets_ends}
-use Rattle.lsm_levels.proofs.Replacing.{newer_cons, last_cons}
+use Rattle.lsm_levels.proofs.OldestRuns.{AreSome, newer_few, newer_oldest}
 use Rattle.lsm_levels.proofs.Runs.{run_at, run_filter, upper_is, upper_order}
 use Rattle.lsm_levels.proofs.TablesMet.{same_run}
 
@@ -66,12 +66,10 @@ module _ (p : Table → Bool) where
   count_set (x ∷ xs) zero run lt = omega (arith, count_run run xs, count_run x xs)
   count_set (x ∷ xs) (suc i) run lt = omega (arith, count_run x (set xs i run), count_run x xs, count_set xs i run (omega (arith, lt)))
 
-  -- without the oldest run
-  count_newer : (runs : List (List Table)) → count_all (newer_runs runs) + count (last_run runs) ≡ count_all runs
-  count_newer [] = refl
-  count_newer (x ∷ []) = omega (arith, count_run x [])
-  count_newer (x ∷ y ∷ rest) =
-      omega (arith, ap count_all (newer_cons x y rest), count_run x (newer_runs (y ∷ rest)), ap count (last_cons x y rest), count_newer (y ∷ rest), count_run x (y ∷ rest))
+  -- without the oldest runs
+  count_newer : (runs : List (List Table)) (tables : List Table) → AreSome runs → AreOldest runs tables → count_all (newer_runs (length tables) runs) + count tables ≡ count_all runs
+  count_newer runs tables some o =
+      omega (arith, ap count_all (newer_oldest runs tables some o), ap count o.all, ap count_all o.split, count_places o.newer o.oldest)
 
   module _ (r : KeyRange) (order : at_most r.first r.last ≡ true) where
     abbrev before : List Table → List Table
@@ -150,7 +148,7 @@ module _ (levels : Levels) (runs : AreRuns levels) (flag : Bool) (upper lower ne
     abbrev Moved : Levels → Type 0
     Moved after = length (filter p (all_tables (places after))) + length (filter p (upper ++ lower)) ≡ length (filter p (all_tables (places levels))) + length (filter p new)
 
-    moved : (i : ℕ) (h : HasItsTables levels flag i upper lower) → Moved (replaced i h.range new levels)
+    moved : (i : ℕ) (h : HasItsTables levels flag i upper lower) → Moved (replaced i h.range (length upper) new levels)
     moved zero h =
         let r = h.range in
         let below = get_or levels.deeper 0 [] in
@@ -158,10 +156,9 @@ module _ (levels : Levels) (runs : AreRuns levels) (flag : Bool) (upper lower ne
         let order = upper_order levels flag zero upper lower runs h in
         omega (
           arith,
-          count_places p (newer_runs levels.runs) (set levels.deeper 0 put),
+          count_places p (newer_runs (length upper) levels.runs) (set levels.deeper 0 put),
           count_places p levels.runs levels.deeper,
-          count_newer p levels.runs,
-          ap (λ (l : List Table). length (filter p l)) h.uppers.1,
+          count_newer p levels.runs upper runs.some h.uppers,
           count_set p levels.deeper 0 put (omega (arith, runs.four)),
           count_put p r order new below (each_own below (run_at levels runs 0)),
           ap (λ (l : List Table). length (filter p l)) (lower_met levels runs flag zero upper lower h),
@@ -193,8 +190,8 @@ module _ (levels : Levels) (runs : AreRuns levels) (flag : Bool) (upper lower ne
         )
 
   -- no run is added
-  kept_runs : (i : ℕ) (r : KeyRange) → length (replaced i r new levels).runs ≤ length levels.runs + 0
-  kept_runs zero r = omega (arith, length-take (length levels.runs - 1) levels.runs)
+  kept_runs : (i : ℕ) (r : KeyRange) → length (replaced i r (length upper) new levels).runs ≤ length levels.runs + 0
+  kept_runs zero r = omega (arith, newer_few (length upper) levels.runs)
   kept_runs (suc i) r = omega arith
 
 -- the tables in all
@@ -209,10 +206,10 @@ moving_law levels flag Flush new runs h = record {
   runs = omega arith;
 }
 moving_law levels flag (Merge i upper lower) new runs h =
-    let counted : (test : Table → Bool) → Moved levels runs flag upper lower new test (merged_at i (hull upper) new levels) =
-    λ test. subst (λ (o : Option KeyRange). Moved levels runs flag upper lower new test (merged_at i o new levels)) (sym h.hull_is) (moved levels runs flag upper lower new test i h) in
+    let counted : (test : Table → Bool) → Moved levels runs flag upper lower new test (merged_at i (hull upper) (length upper) new levels) =
+    λ test. subst (λ (o : Option KeyRange). Moved levels runs flag upper lower new test (merged_at i o (length upper) new levels)) (sym h.hull_is) (moved levels runs flag upper lower new test i h) in
     record {
       passed = counted;
-      number = omega (arith, counted (λ t. true), all_pass (all_tables (places (merged_at i (hull upper) new levels))), all_pass (upper ++ lower), all_pass (all_tables (places levels)), all_pass new);
-      runs = subst (λ (o : Option KeyRange). length (merged_at i o new levels).runs ≤ length levels.runs + 0) (sym h.hull_is) (kept_runs levels runs flag upper lower new i h.range);
+      number = omega (arith, counted (λ t. true), all_pass (all_tables (places (merged_at i (hull upper) (length upper) new levels))), all_pass (upper ++ lower), all_pass (all_tables (places levels)), all_pass new);
+      runs = subst (λ (o : Option KeyRange). length (merged_at i o (length upper) new levels).runs ≤ length levels.runs + 0) (sym h.hull_is) (kept_runs levels runs flag upper lower new i h.range);
     }

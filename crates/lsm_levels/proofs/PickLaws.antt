@@ -1,18 +1,17 @@
 -- A job that is picked has its tables, and no other job has them as input.
-use Rattle.std.proofs.Common.{◌≡◌, ◌≢◌, inl, inr, ⊎_elim, ℕ, zero, suc, ◌<◌, ◌≤◌, Bool, true, false, cond, not, ◌&&◌, ◌||◌, ◌==◌, leb, ltb, List, [], ◌∷◌, ◌++◌, length, get_or, filter, sum_by, Option, Some, None, option_map, refl, sym, ap, ◌∙◌, subst, arith}
+use Rattle.std.proofs.Common.{◌≡◌, ◌≢◌, inl, inr, ⊎_elim, ℕ, zero, suc, ◌<◌, ◌≤◌, Bool, true, false, cond, not, ◌&&◌, ◌==◌, leb, ltb, List, [], ◌∷◌, ◌++◌, length, get_or, filter, sum_by, Option, Some, None, option_map, refl, sym, ap, ◌∙◌, subst, arith}
 use Rattle.std.proofs.lemmas.Bool.{leb-true, eq-eqb}
-use Rattle.std.specs.List.{AllByRecursion, list_any, list_all}
-use Rattle.lsm_codec.specs.Keys.{Bytes}
+use Rattle.std.specs.List.{list_any, list_all}
 use Rattle.lsm_levels.specs.Among.{IsAmong}
 use Rattle.lsm_levels.proofs.Members.{among_left, among_right, among_either, among_passed, passed_among, any_of}
 use Rattle.lsm_levels.specs.Tables.{Table, KeyRange, range_of, spanned, hull, meets, meeting, IsRun}
-use Rattle.lsm_levels.specs.Levels.{Levels, level, last_run}
+use Rattle.lsm_levels.specs.Levels.{Levels, all_tables, level, oldest_runs}
 use Rattle.lsm_levels.specs.Pick.{Job, Flush, inputs, is_flush, is_merge, is_several, are_several, is_of_level_0, is_input, is_free, lower_of, can_merge, merge_of, least_numbered, lesser, flush_job, level_0_job, is_mostly_deletes, least_job, delete_job, level_job, limit_of, or_next, of_least_level, next_merge, pick, below_output, meets_none, is_bottom}
 use Rattle.lsm_levels.specs.Held.{AreRuns, IsUpper, HasItsTables, AreApart, MayTake, PickLaw}
 use Rattle.lsm_levels.proofs.Ranges.{no}
-use Rattle.lsm_levels.proofs.Replacing.{last_cons}
+use Rattle.lsm_levels.proofs.OldestRuns.{oldest_are, oldest_some}
 use Rattle.lsm_levels.proofs.Runs.{run_at, run_filter}
-use Rattle.lsm_levels.proofs.TablesMet.{one_met, met_own}
+use Rattle.lsm_levels.proofs.TablesMet.{one_met}
 
 pub in_both : (a b : Bool) → (a && b) ≡ true → (a ≡ true) × (b ≡ true)
 in_both true b h = (refl, h)
@@ -246,22 +245,18 @@ pub hull_there : (upper : List Table) → 0 < length upper → (range : KeyRange
 hull_there [] some = absurd (omega (arith, some))
 hull_there (t ∷ rest) some = (spanned t (hull rest), refl)
 
-pub last_in : (P : List Table → Type 0) (runs : List (List Table)) → 1 ≤ length runs → AllByRecursion P runs → P (last_run runs)
-last_in P [] le h = absurd (omega (arith, le))
-last_in P (x ∷ []) le h = h.0
-last_in P (x ∷ y ∷ rest) le h = subst P (sym (last_cons x y rest)) (last_in P (y ∷ rest) (omega arith) h.1)
-
 level_0_rule : (levels : Levels) (jobs : List Job) (job : Job) → AreRuns levels → list_any is_several jobs ≡ false → level_0_job levels.runs (level levels 1) jobs ≡ Some job → MayTake levels jobs job
 level_0_rule levels jobs job runs none e =
-    let oldest = last_run levels.runs in
+    let oldest = all_tables (oldest_runs 1 levels.runs) in
     let can : Bool = can_merge jobs oldest (level levels 1) in
     let test = taken (leb 4 (length levels.runs) && (not (list_any is_of_level_0 jobs) && can)) job (Some (merge_of 0 oldest (level levels 1))) e in
     let first = in_both (leb 4 (length levels.runs)) (not (list_any is_of_level_0 jobs) && can) test.0 in
     let then = in_both (not (list_any is_of_level_0 jobs)) can first.1 in
     let many = leb-true 4 (length levels.runs) first.0 in
-    let there = hull_there oldest (last_in (λ run. 0 < length run) levels.runs (omega (arith, many)) runs.some) in
+    let uppers = oldest_are 1 levels.runs (omega arith) (omega (arith, many)) in
+    let there = hull_there oldest (oldest_some levels.runs oldest runs.some uppers) in
     subst (MayTake levels jobs) (some_job (merge_of 0 oldest (level levels 1)) job test.1) (record {
-      held = held_merge levels runs 0 oldest there.0 (omega arith) there.1 (omega (arith, many), refl);
+      held = held_merge levels runs 0 oldest there.0 (omega arith) there.1 uppers;
       apart = merge_apart jobs 0 oldest (level levels 1) then.1 none (λ f. absurd (no (sym f)));
     })
 
@@ -333,8 +328,9 @@ flush_waits waiting levels jobs job e =
 
     level_0_merge : (j : Job) → level_0_job levels.runs (level levels 1) jobs ≡ Some j → is_flush j ≡ false
     level_0_merge j f =
-        let test = taken (leb 4 (length levels.runs) && (not (list_any is_of_level_0 jobs) && can_merge jobs (last_run levels.runs) (level levels 1))) j (Some (merge_of 0 (last_run levels.runs) (level levels 1))) f in
-        sym (ap is_flush (some_job (merge_of 0 (last_run levels.runs) (level levels 1)) j test.1))
+        let oldest = all_tables (oldest_runs 1 levels.runs) in
+        let test = taken (leb 4 (length levels.runs) && (not (list_any is_of_level_0 jobs) && can_merge jobs oldest (level levels 1))) j (Some (merge_of 0 oldest (level levels 1))) f in
+        sym (ap is_flush (some_job (merge_of 0 oldest (level levels 1)) j test.1))
 
     least_merge : (i : ℕ) (test : Table → Bool) (tables below : List Table) (j : Job) → least_job test tables below jobs i ≡ Some j → is_flush j ≡ false
     least_merge i test tables below j f =

@@ -1,12 +1,13 @@
 -- Which tables a level has after a merge.
-use Rattle.std.proofs.Common.{◌≡◌, ◌≢◌, ◌⊎◌, inl, inr, ⊎_elim, ℕ, zero, suc, ◌-◌, ◌<◌, ◌≤◌, Bool, true, false, eqb, List, [], ◌∷◌, ◌++◌, length, take, get_or, set, filter, refl, sym, ap, ◌∙◌, subst, arith}
+use Rattle.std.proofs.Common.{◌≡◌, ◌≢◌, ◌⊎◌, inl, inr, ⊎_elim, ℕ, zero, suc, ◌<◌, ◌≤◌, Bool, true, false, eqb, List, [], ◌∷◌, ◌++◌, length, get_or, set, filter, refl, sym, ap, ◌∙◌, subst, arith}
 use Rattle.std.proofs.lemmas.Bool.{eqb-true, eqb-false}
 use Rattle.std.proofs.lemmas.List.{get_or-set_same, get_or-set_other}
 use Rattle.lsm_levels.specs.Among.{IsAmong}
 use Rattle.lsm_levels.proofs.Members.{among_left, among_right, among_either, among_passed, passed_among}
 use Rattle.lsm_levels.specs.Tables.{Table, KeyRange, is_below, meets, put_at}
-use Rattle.lsm_levels.specs.Levels.{Levels, all_tables, level, newer_runs, last_run, replaced}
+use Rattle.lsm_levels.specs.Levels.{Levels, all_tables, level, newer_runs, replaced}
 use Rattle.lsm_levels.proofs.Ranges.{sides, apart_left, apart_right}
+use Rattle.lsm_levels.proofs.OldestRuns.{newer_among}
 
 -- ---- in the place of those that meet a range
 
@@ -33,39 +34,6 @@ put_stays r new xs t a apart = ⊎_elim
 
 pub put_new : (r : KeyRange) (new xs : List Table) (t : Table) → IsAmong t new → IsAmong t (put_at r new xs)
 put_new r new xs t a = among_right t (filter (λ u. is_below u.last r.first) xs) (new ++ filter (λ u. is_below r.last u.first) xs) (among_left t new (filter (λ u. is_below r.last u.first) xs) a)
-
--- ---- the runs of level 0
-
-one_less : (n : ℕ) → suc (suc n) - 1 ≡ suc (suc n - 1)
-one_less n = omega arith
-
-pub newer_cons : (x y : List Table) (rest : List (List Table)) → newer_runs (x ∷ y ∷ rest) ≡ x ∷ newer_runs (y ∷ rest)
-newer_cons x y rest = ap (λ n. take n (x ∷ y ∷ rest)) (one_less (length rest))
-
-pub last_cons : (x y : List Table) (rest : List (List Table)) → last_run (x ∷ y ∷ rest) ≡ last_run (y ∷ rest)
-last_cons x y rest = ap (λ n. get_or (x ∷ y ∷ rest) n []) (one_less (length rest))
-
-pub newer_among : (runs : List (List Table)) (t : Table) → IsAmong t (all_tables (newer_runs runs)) → IsAmong t (all_tables runs)
-newer_among [] t a = a
-newer_among (x ∷ []) t a = absurd a
-newer_among (x ∷ y ∷ rest) t a = ⊎_elim
-    (λ b. among_left t x (all_tables (y ∷ rest)) b)
-    (λ b. among_right t x (all_tables (y ∷ rest)) (newer_among (y ∷ rest) t b))
-    (among_either t x (all_tables (newer_runs (y ∷ rest))) (subst (λ (rs : List (List Table)). IsAmong t (all_tables rs)) (newer_cons x y rest) a))
-
-pub newer_or_last : (runs : List (List Table)) (t : Table) → IsAmong t (all_tables runs) → IsAmong t (all_tables (newer_runs runs)) ⊎ IsAmong t (last_run runs)
-newer_or_last [] t a = absurd a
-newer_or_last (x ∷ []) t a = inr (⊎_elim (λ b. b) (λ b. absurd b) (among_either t x [] a))
-newer_or_last (x ∷ y ∷ rest) t a = ⊎_elim
-    (λ b. inl (back (among_left t x (all_tables (newer_runs (y ∷ rest))) b)))
-    (λ b. ⊎_elim
-    (λ c. inl (back (among_right t x (all_tables (newer_runs (y ∷ rest))) c)))
-    (λ c. inr (subst (λ (run : List Table). IsAmong t run) (sym (last_cons x y rest)) c))
-    (newer_or_last (y ∷ rest) t b))
-    (among_either t x (all_tables (y ∷ rest)) a)
-  where
-    back : IsAmong t (all_tables (x ∷ newer_runs (y ∷ rest))) → IsAmong t (all_tables (newer_runs (x ∷ y ∷ rest)))
-    back b = subst (λ (rs : List (List Table)). IsAmong t (all_tables rs)) (sym (newer_cons x y rest)) b
 
 -- ---- two levels that follow one another
 
@@ -103,7 +71,7 @@ same_or_not m n = by (eqb m n) refl
 
 -- ---- all levels
 
-module _ (r : KeyRange) (new : List Table) (levels : Levels) (four : length levels.deeper ≡ 4) where
+module _ (r : KeyRange) (n : ℕ) (new : List Table) (levels : Levels) (four : length levels.deeper ≡ 4) where
   length_set : (i : ℕ) (y : List Table) → length (set levels.deeper i y) ≡ length levels.deeper
   length_set i y = go levels.deeper i
     where
@@ -113,9 +81,9 @@ module _ (r : KeyRange) (new : List Table) (levels : Levels) (four : length leve
       go (x ∷ xs) (suc j) = ap suc (go xs j)
 
   -- a table of a level was there, and stays; or it is an output
-  pub after_cases : (j : ℕ) → j ≤ 3 → (k : ℕ) (t : Table) → IsAmong t (level (replaced j r new levels) k)
+  pub after_cases : (j : ℕ) → j ≤ 3 → (k : ℕ) (t : Table) → IsAmong t (level (replaced j r n new levels) k)
       → IsAmong t (level levels k) ⊎ ((k ≡ suc j) × IsAmong t new)
-  after_cases zero small zero t a = inl (newer_among levels.runs t a)
+  after_cases zero small zero t a = inl (newer_among n levels.runs t a)
   after_cases zero small (suc zero) t a =
       ⊎_elim (λ old. inl old.0) (λ n. inr (refl, n))
       (put_cases r new (get_or levels.deeper 0 []) t (subst (IsAmong t) (get_or-set_same levels.deeper 0 (put_at r new (get_or levels.deeper 0 [])) [] (omega (arith, four))) a))
@@ -136,14 +104,14 @@ module _ (r : KeyRange) (new : List Table) (levels : Levels) (four : length leve
       (same_or_not m i)
 
   -- one that isn't taken stays
-  pub stays_after : (j : ℕ) → j ≤ 3 → (k : ℕ) (t : Table) → IsAmong t (level levels k) → (k ≡ suc j → meets r t ≡ false) → (k ≡ j → 1 ≤ j → meets r t ≡ false) → (k ≡ 0 → j ≡ 0 → IsAmong t (last_run levels.runs) → ⊥)
-      → IsAmong t (level (replaced j r new levels) k)
-  stays_after zero small zero t a low up old = ⊎_elim (λ b. b) (λ b. absurd (old refl refl b)) (newer_or_last levels.runs t a)
-  stays_after zero small (suc zero) t a low up old =
+  pub stays_after : (j : ℕ) → j ≤ 3 → (k : ℕ) (t : Table) → IsAmong t (level levels k) → (k ≡ suc j → meets r t ≡ false) → (k ≡ j → 1 ≤ j → meets r t ≡ false) → (k ≡ 0 → j ≡ 0 → IsAmong t (all_tables (newer_runs n levels.runs)))
+      → IsAmong t (level (replaced j r n new levels) k)
+  stays_after zero small zero t a low up newer = newer refl refl
+  stays_after zero small (suc zero) t a low up newer =
       subst (IsAmong t) (sym (get_or-set_same levels.deeper 0 (put_at r new (get_or levels.deeper 0 [])) [] (omega (arith, four)))) (put_stays r new (get_or levels.deeper 0 []) t a (low refl))
-  stays_after zero small (suc (suc m)) t a low up old = subst (IsAmong t) (sym (get_or-set_other levels.deeper 0 (suc m) (put_at r new (get_or levels.deeper 0 [])) [] (λ e. omega (arith, e)))) a
-  stays_after (suc i) small zero t a low up old = a
-  stays_after (suc i) small (suc m) t a low up old = ⊎_elim
+  stays_after zero small (suc (suc m)) t a low up newer = subst (IsAmong t) (sym (get_or-set_other levels.deeper 0 (suc m) (put_at r new (get_or levels.deeper 0 [])) [] (λ e. omega (arith, e)))) a
+  stays_after (suc i) small zero t a low up newer = a
+  stays_after (suc i) small (suc m) t a low up newer = ⊎_elim
       (λ (e : m ≡ i).
       subst (λ n. IsAmong t (get_or (deeper_after r new levels.deeper i) n [])) (sym e)
       (subst (IsAmong t) (sym (at_upper r new levels.deeper i (omega (arith, four, small)) (omega (arith, four, small, length_set (suc i) (put_at r new (get_or levels.deeper (suc i) []))))))

@@ -1,6 +1,10 @@
 -- The hull of a run.
-use Rattle.std.proofs.Common.{◌≡◌, ℕ, zero, suc, ◌+◌, ◌<◌, true, cond, List, [], ◌∷◌, length, get_or, Some, None, refl, ap, sym, ◌∙◌, arith}
-use Rattle.lsm_levels.specs.Tables.{Table, KeyRange, at_most, greatest, IsRun, hull, spanned}
+use Rattle.std.proofs.Common.{◌≡◌, ℕ, zero, suc, ◌+◌, ◌<◌, Bool, true, false, cond, List, [], ◌∷◌, ◌++◌, length, get_or, Option, Some, None, refl, ap, sym, ◌∙◌, arith, append-nil}
+use Rattle.lsm_codec.specs.Keys.{Bytes}
+use Rattle.lsm_levels.specs.Tables.{Table, KeyRange, at_most, least, greatest, IsRun, hull, spanned}
+use Rattle.lsm_levels.specs.Hulls.{hull_onto}
+use Rattle.lsm_levels.specs.Levels.{all_tables}
+use Rattle.lsm_levels.proofs.OldestRuns.{tables_append}
 use Rattle.lsm_levels.proofs.KeyOrder.{at_most_trans, below_at_most}
 
 abbrev pub final : Table → List Table → Table
@@ -30,16 +34,69 @@ hull_by_ends [] a b i r e f h = absurd (omega arith)
 hull_by_ends (t ∷ rest) a b i r e f h =
     sym (hull_run t rest r ∙ ap (λ u. Some (record { first = u.first; last = (final t rest).last })) (sym f) ∙ ap (λ u. Some (record { first = a.first; last = u.last })) (sym (h ∙ final_get t rest i b e)))
 
--- a run's hull begins at its end or before it
-pub run_hull_order : (run : List Table) (range : KeyRange) → IsRun run → Some range ≡ hull run → at_most range.first range.last ≡ true
-run_hull_order [] range r e = absurd cc
-run_hull_order (t ∷ rest) range r e =
-    let same : range ≡ record { first = t.first; last = (final t rest).last } = by range _ (e ∙ hull_run t rest r) in
-    ap (λ h. at_most h.first h.last) same ∙ final_after t rest r
-  where
-    by : (a b : KeyRange) → Some a ≡ Some b → a ≡ b
-    by a b e = cc
-
+-- a run with tables has a hull
 pub run_hull_some : (run : List Table) → None ≡ hull run → 0 < length run → ⊥
 run_hull_some [] e h = omega arith
 run_hull_some (t ∷ rest) e h = cc
+
+-- ---- with a range behind it
+
+least_over : (a b c : Bytes) → at_most a b ≡ true → least a (least b c) ≡ least a c
+least_over a b c le = by (at_most b c) refl
+  where
+    by : (x : Bool) → at_most b c ≡ x → least a (cond x b c) ≡ least a c
+    by true e = ap (λ x. cond x a b) le ∙ sym (ap (λ x. cond x a c) (at_most_trans a b c le e))
+    by false e = refl
+
+greatest_over : (a b c : Bytes) → at_most a b ≡ true → greatest a (greatest b c) ≡ greatest b c
+greatest_over a b c le = by (at_most b c) refl
+  where
+    by : (x : Bool) → at_most b c ≡ x → greatest a (cond x c b) ≡ cond x c b
+    by true e = ap (λ x. cond x c a) (at_most_trans a b c le e)
+    by false e = ap (λ x. cond x b a) le
+
+run_onto : (t : Table) (rest : List Table) (w : KeyRange) → IsRun (t ∷ rest) → hull_onto (t ∷ rest) (Some w) ≡ Some (record { first = least t.first w.first; last = greatest (final t rest).last w.last })
+run_onto t [] w r = refl
+run_onto t (u ∷ rest) w r =
+    let over : at_most t.last (final u rest).last ≡ true = at_most_trans t.last u.first (final u rest).last (below_at_most t.last u.first r.1.0) (final_after u rest r.2) in
+    ap (λ h. Some (spanned t h)) (run_onto u rest w r.2)
+    ∙ ap (λ (a : Bytes). Some (record { first = a; last = greatest t.last (greatest (final u rest).last w.last) }))
+    (least_over t.first u.first w.first (at_most_trans t.first t.last u.first r.0 (below_at_most t.last u.first r.1.0)))
+    ∙ ap (λ (a : Bytes). Some (record { first = least t.first w.first; last = a })) (greatest_over t.last (final u rest).last w.last over)
+
+-- the hull of a run and a range, by the run's hull
+pub onto_by_ends : (run : List Table) (r w : KeyRange) → IsRun run → Some r ≡ hull run → Some (record { first = least r.first w.first; last = greatest r.last w.last }) ≡ hull_onto run (Some w)
+onto_by_ends [] r w is e = absurd (no r e)
+  where
+    no : (a : KeyRange) → Some a ≡ None → ⊥
+    no a f = cc
+onto_by_ends (t ∷ rest) r w is e =
+    let same : r ≡ record { first = t.first; last = (final t rest).last } = by r _ (e ∙ hull_run t rest is) in
+    ap (λ (h : KeyRange). Some (record { first = least h.first w.first; last = greatest h.last w.last })) same ∙ sym (run_onto t rest w is)
+  where
+    by : (a b : KeyRange) → Some a ≡ Some b → a ≡ b
+    by a b f = cc
+
+pub onto_none : (tables : List Table) → hull_onto tables None ≡ hull tables
+onto_none [] = refl
+onto_none (t ∷ rest) = ap (λ (o : Option KeyRange). Some (spanned t o)) (onto_none rest)
+
+pub onto_empty : (run : List Table) (rest : Option KeyRange) → None ≡ hull run → rest ≡ hull_onto run rest
+onto_empty [] rest e = refl
+onto_empty (t ∷ run) rest e = absurd (no _ e)
+  where
+    no : (a : KeyRange) → None ≡ Some a → ⊥
+    no a f = cc
+
+onto_append : (xs ys : List Table) (rest : Option KeyRange) → hull_onto (xs ++ ys) rest ≡ hull_onto xs (hull_onto ys rest)
+onto_append [] ys rest = refl
+onto_append (t ∷ xs) ys rest = ap (λ (o : Option KeyRange). Some (spanned t o)) (onto_append xs ys rest)
+
+-- a step towards the first run
+pub onto_runs_step : (left more : List (List Table)) (run : List Table) (rest next : Option KeyRange) → next ≡ hull_onto run rest → more ≡ left ++ run ∷ []
+    → hull_onto (all_tables left) next ≡ hull_onto (all_tables more) rest
+onto_runs_step left more run rest next is parts =
+    ap (hull_onto (all_tables left)) is ∙ sym (onto_append (all_tables left) run rest)
+    ∙ ap (λ (ts : List Table). hull_onto (all_tables left ++ ts) rest) (sym (append-nil run))
+    ∙ ap (λ (ts : List Table). hull_onto ts rest) (sym (tables_append left (run ∷ [])))
+    ∙ ap (λ (rs : List (List Table)). hull_onto (all_tables rs) rest) (sym parts)

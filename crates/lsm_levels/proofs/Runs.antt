@@ -1,15 +1,16 @@
 -- The levels stay runs.
-use Rattle.std.proofs.Common.{◌≡◌, inl, inr, ⊎_elim, ℕ, zero, suc, ◌-◌, ◌<◌, Bool, true, false, cond, List, [], ◌∷◌, ◌++◌, length, take, get_or, set, filter, Option, Some, None, refl, sym, ap, ◌∙◌, subst}
+use Rattle.std.proofs.Common.{◌≡◌, inl, inr, ⊎_elim, ℕ, zero, suc, ◌<◌, Bool, true, false, cond, List, [], ◌∷◌, ◌++◌, length, take, get_or, set, filter, Option, Some, None, refl, sym, ap, ◌∙◌, subst}
 use Rattle.std.specs.List.{AllByRecursion}
 use Rattle.lsm_levels.specs.Among.{IsAmong}
 use Rattle.lsm_levels.proofs.Members.{passed_among, among_either}
 use Rattle.lsm_levels.specs.Tables.{Table, KeyRange, range_of, at_most, is_below, hull, meets, meeting, put_at, IsRun}
-use Rattle.lsm_levels.specs.Levels.{Levels, level, last_run, merged_at, replaced}
+use Rattle.lsm_levels.specs.Levels.{Levels, all_tables, level, merged_at, replaced}
 use Rattle.lsm_levels.specs.Pick.{Flush, Merge}
 use Rattle.lsm_levels.specs.Held.{AreRuns, IsUpper, HasItsTables, IsWithin, RunsLaw}
 use Rattle.lsm_levels.proofs.KeyOrder.{below_then, below_at_most, at_most_trans}
 use Rattle.lsm_levels.proofs.Ranges.{all_of, of_all, run_order, other_apart, within_left, within_right, apart_left, apart_right}
 use Rattle.lsm_levels.proofs.HullLaws.{hull_order, all_right, all_left}
+use Rattle.lsm_levels.proofs.OldestRuns.{all_newer, oldest_among}
 
 module _ {X : Type 0} (P : X → Type 0) where
   pub all_or : (xs : List X) (i : ℕ) (d : X) → AllByRecursion P xs → P d → P (get_or xs i d)
@@ -110,14 +111,23 @@ upper_among levels i upper u x a = in_meeting (hull upper) (level levels (suc i)
 pub upper_is : (levels : Levels) (i : ℕ) (upper : List Table) (r : KeyRange) → hull upper ≡ Some r → IsUpper levels (suc i) upper → upper ≡ filter (meets r) (level levels (suc i))
 upper_is levels i upper r is u = u ∙ ap (λ (o : Option KeyRange). meeting o (level levels (suc i))) is
 
--- the upper tables' ranges are not empty
+-- the upper tables stand in their level
+pub upper_there : (levels : Levels) (i : ℕ) (upper : List Table) → IsUpper levels i upper → (x : Table) → IsAmong x upper → IsAmong x (level levels i)
+upper_there levels zero upper u x a = oldest_among levels.runs upper u x a
+upper_there levels (suc i) upper u x a = upper_among levels i upper u x a
+
+-- a table's range is not empty
+pub table_order : (levels : Levels) → AreRuns levels → (k : ℕ) (x : Table) → IsAmong x (level levels k) → at_most x.first x.last ≡ true
+table_order levels runs zero x a = by levels.runs runs.runs a
+  where
+    by : (rs : List (List Table)) → AllByRecursion IsRun rs → IsAmong x (all_tables rs) → at_most x.first x.last ≡ true
+    by [] h b = absurd b
+    by (run ∷ rest) h b = ⊎_elim (λ c. run_order run h.0 x c) (λ c. by rest h.1 c) (among_either x run (all_tables rest) b)
+table_order levels runs (suc i) x a = run_order (level levels (suc i)) (run_at levels runs i) x a
+
+-- nor is the hull of upper tables
 pub upper_order : (levels : Levels) (bottom : Bool) (i : ℕ) (upper lower : List Table) → AreRuns levels → (h : HasItsTables levels bottom i upper lower) → at_most h.range.first h.range.last ≡ true
-upper_order levels bottom zero upper lower runs h =
-    hull_order upper h.range h.hull_is
-    (λ x a. run_order (last_run levels.runs) (all_or IsRun levels.runs (length levels.runs - 1) [] runs.runs tt) x (subst (λ (run : List Table). IsAmong x run) (sym h.uppers.1) a))
-upper_order levels bottom (suc i) upper lower runs h =
-    hull_order upper h.range h.hull_is
-    (λ x a. run_order (level levels (suc i)) (run_at levels runs i) x (upper_among levels i upper h.uppers x a))
+upper_order levels bottom i upper lower runs h = hull_order upper h.range h.hull_is (λ x a. table_order levels runs i x (upper_there levels i upper h.uppers x a))
 
 length_set : {X : Type 0} (xs : List X) (i : ℕ) (y : X) → length (set xs i y) ≡ length xs
 length_set [] i y = refl
@@ -125,13 +135,13 @@ length_set (x ∷ xs) zero y = refl
 length_set (x ∷ xs) (suc i) y = ap suc (length_set xs i y)
 
 module _ (levels : Levels) (bottom : Bool) (upper lower new : List Table) (runs : AreRuns levels) (made : IsRun new) (within : AllByRecursion (IsWithin (upper ++ lower)) new) where
-  pub replaced_runs : (i : ℕ) (h : HasItsTables levels bottom i upper lower) → AreRuns (replaced i h.range new levels)
+  pub replaced_runs : (i : ℕ) (h : HasItsTables levels bottom i upper lower) → AreRuns (replaced i h.range (length upper) new levels)
   replaced_runs zero h = record {
     four = length_set levels.deeper 0 (put_at h.range new (get_or levels.deeper 0 [])) ∙ runs.four;
-    runs = all_take IsRun (length levels.runs - 1) levels.runs runs.runs;
+    runs = all_newer IsRun (length upper) levels.runs runs.runs;
     deeper = all_set IsRun levels.deeper 0 (put_at h.range new (get_or levels.deeper 0 [])) runs.deeper
         (run_with h.range (upper_order levels bottom zero upper lower runs h) (level levels 1) (run_at levels runs 0) upper lower new h.hull_is h.meet h.lowers made within);
-    some = all_take (λ run. 0 < length run) (length levels.runs - 1) levels.runs runs.some;
+    some = all_newer (λ run. 0 < length run) (length upper) levels.runs runs.some;
   }
   replaced_runs (suc i) h =
       let r = h.range in
@@ -150,4 +160,4 @@ module _ (levels : Levels) (bottom : Bool) (upper lower new : List Table) (runs 
 pub runs_law : RunsLaw
 runs_law levels flag Flush new runs held outputs = record { four = runs.four; runs = (outputs.0, runs.runs); deeper = runs.deeper; some = (outputs.1, runs.some) }
 runs_law levels flag (Merge i upper lower) new runs held outputs =
-    subst (λ (o : Option KeyRange). AreRuns (merged_at i o new levels)) (sym held.hull_is) (replaced_runs levels flag upper lower new runs outputs.0 outputs.1 i held)
+    subst (λ (o : Option KeyRange). AreRuns (merged_at i o (length upper) new levels)) (sym held.hull_is) (replaced_runs levels flag upper lower new runs outputs.0 outputs.1 i held)

@@ -1,17 +1,18 @@
 -- A job keeps its tables while others install.
-use Rattle.std.proofs.Common.{◌≡◌, ◌⊎◌, inl, inr, ⊎_elim, ℕ, zero, suc, ◌-◌, ◌<◌, ◌≤◌, Bool, true, false, ◌&&◌, ltb, List, [], ◌∷◌, ◌++◌, length, Option, Some, None, refl, sym, ap, ◌∙◌, subst, arith}
+use Rattle.std.proofs.Common.{◌≡◌, ◌⊎◌, inl, inr, ⊎_elim, ℕ, zero, suc, ◌<◌, ◌≤◌, Bool, true, false, ◌&&◌, ltb, List, [], ◌∷◌, ◌++◌, length, Option, Some, None, refl, sym, ap, ◌∙◌, subst, arith}
 use Rattle.std.specs.List.{AllByRecursion}
 use Rattle.std.proofs.lemmas.Bool.{cases_lt, lt-ltb}
 use Rattle.lsm_levels.specs.Among.{IsAmong}
 use Rattle.lsm_levels.proofs.Members.{among_left, among_right, among_either}
 use Rattle.lsm_levels.specs.Tables.{Table, KeyRange, range_of, at_most, is_below, hull, meets, meeting, IsRun}
-use Rattle.lsm_levels.specs.Levels.{Levels, level, last_run, flushed, merged_at, replaced}
+use Rattle.lsm_levels.specs.Levels.{Levels, level, flushed, merged_at, replaced}
 use Rattle.lsm_levels.specs.Pick.{Flush, Merge, are_several}
-use Rattle.lsm_levels.specs.Held.{AreRuns, IsUpper, HasItsTables, AreApart, IsWithin, SurvivalLaw}
+use Rattle.lsm_levels.specs.Held.{AreOldest, AreRuns, IsUpper, HasItsTables, AreApart, IsWithin, SurvivalLaw}
 use Rattle.lsm_levels.proofs.Ranges.{no, of_all, sides, run_order, other_apart}
 use Rattle.lsm_levels.proofs.HullLaws.{hull_order, beside_output, beside_hull}
-use Rattle.lsm_levels.proofs.Replacing.{last_cons, after_cases, stays_after}
-use Rattle.lsm_levels.proofs.Runs.{all_or, run_at, upper_among, replaced_runs}
+use Rattle.lsm_levels.proofs.OldestRuns.{oldest_among, oldest_share}
+use Rattle.lsm_levels.proofs.Replacing.{after_cases, stays_after}
+use Rattle.lsm_levels.proofs.Runs.{run_at, table_order, upper_among, replaced_runs}
 use Rattle.lsm_levels.proofs.TablesMet.{one_met}
 
 some_same : (a b : KeyRange) → Some a ≡ Some b → a ≡ b
@@ -29,9 +30,9 @@ not_met false h = refl
 single_range : (t : Table) (upper : List Table) (r : KeyRange) → upper ≡ t ∷ [] → hull upper ≡ Some r → r ≡ range_of t
 single_range t upper r single is = sym (some_same (range_of t) r (sym (ap hull single) ∙ is))
 
--- of a merge that takes no several tables: they are the oldest run of level 0, or one table of another level
+-- of a merge that takes no several tables: they are the oldest runs of level 0, or one table of another level
 abbrev IsSingle : Levels → ℕ → List Table → Type 0
-IsSingle levels zero upper = (1 ≤ length levels.runs) × (last_run levels.runs ≡ upper)
+IsSingle levels zero upper = AreOldest levels.runs upper
 IsSingle levels (suc i) upper = (t : Table) × (upper ≡ t ∷ []) × IsAmong t (level levels (suc i))
 
 to_single : (levels : Levels) (i : ℕ) (upper : List Table) (r : KeyRange) → hull upper ≡ Some r → are_several i upper ≡ false → IsUpper levels i upper → IsSingle levels i upper
@@ -72,21 +73,13 @@ module _ (levels : Levels) (runs : AreRuns levels) (bottom flag : Bool) (i j : �
 
   -- not both are of level 0
   not_both : i ≡ 0 → j ≡ 0 → ⊥
-  not_both e f = by upper refl
+  not_both e f =
+      let t = oldest_share levels.runs upper other_upper runs.some (oldest i e upper mine_at) (oldest j f other_upper theirs_at) in
+      shared t.0 (among_left t.0 upper lower t.1) (among_left t.0 other_upper other_lower t.2)
     where
-      mine : (n : ℕ) → n ≡ 0 → IsSingle levels n upper → last_run levels.runs ≡ upper
-      mine zero e u = u.1
-      mine (suc n) e u = absurd (omega (arith, e))
-
-      others : (n : ℕ) → n ≡ 0 → IsSingle levels n other_upper → last_run levels.runs ≡ other_upper
-      others zero e u = u.1
-      others (suc n) e u = absurd (omega (arith, e))
-
-      by : (us : List Table) → upper ≡ us → ⊥
-      by [] is = none_some h.range (sym (ap hull is) ∙ h.hull_is)
-      by (t ∷ rest) is =
-          let a : IsAmong t upper = subst (λ (l : List Table). IsAmong t l) (sym is) (inl refl) in
-          shared t (among_left t upper lower a) (among_left t other_upper other_lower (subst (IsAmong t) (sym (mine i e mine_at) ∙ others j f theirs_at) a))
+      oldest : (n : ℕ) → n ≡ 0 → (tables : List Table) → IsSingle levels n tables → AreOldest levels.runs tables
+      oldest zero e tables u = u
+      oldest (suc n) e tables u = absurd (omega (arith, e))
 
   -- the one table of a level that a merge takes
   abbrev IsOne : ℕ → Table → List Table → Type 0
@@ -130,26 +123,25 @@ module _ (levels : Levels) (runs : AreRuns levels) (bottom flag : Bool) (i j : �
 
   -- ---- what survives
 
-  stays : (k : ℕ) (t : Table) → Mine t → IsAmong t (level levels k) → (new : List Table) → (k ≡ 0 → j ≡ 0 → ⊥) → IsAmong t (level (replaced j c.range new levels) k)
+  stays : (k : ℕ) (t : Table) → Mine t → IsAmong t (level levels k) → (new : List Table) → (k ≡ 0 → j ≡ 0 → ⊥) → IsAmong t (level (replaced j c.range (length other_upper) new levels) k)
   stays k t a at new fine =
-      stays_after c.range new levels runs.four j c.known k t at
+      stays_after c.range (length other_upper) new levels runs.four j c.known k t at
       (λ e. not_taken t a (subst (λ n. IsAmong t (level levels n)) e at))
       (λ e deep. beside_it deep t a (subst (λ n. IsAmong t (level levels n)) e at))
-      (λ e f last. fine e f)
+      (λ e f. absurd (fine e f))
 
   module _ (new : List Table) (made : IsRun new) (within : AllByRecursion (IsWithin (other_upper ++ other_lower)) new) where
     abbrev after : Levels
-    after = replaced j c.range new levels
+    after = replaced j c.range (length other_upper) new levels
 
-    runs_same : (n : ℕ) → 1 ≤ n → (r : KeyRange) → (replaced n r new levels).runs ≡ levels.runs
+    runs_same : (n : ℕ) → 1 ≤ n → (r : KeyRange) → (replaced n r (length other_upper) new levels).runs ≡ levels.runs
     runs_same zero le r = absurd (omega (arith, le))
     runs_same (suc n) le r = refl
 
     uppers_after : (n : ℕ) → n ≡ i → IsSingle levels n upper → IsSingle after n upper
     uppers_after zero e u = ⊎_elim
         (λ (none : j ≡ 0). absurd (not_both (sym e) none))
-        (λ (deep : 1 ≤ j). let same = runs_same j deep c.range in
-        (subst (λ (rs : List (List Table)). 1 ≤ length rs) (sym same) u.0, ap last_run same ∙ u.1))
+        (λ (deep : 1 ≤ j). subst (λ (rs : List (List Table)). AreOldest rs upper) (sym (runs_same j deep c.range)) u)
         (zero_or_more j)
       where
         zero_or_more : (n : ℕ) → (n ≡ 0) ⊎ (1 ≤ n)
@@ -225,7 +217,7 @@ module _ (levels : Levels) (runs : AreRuns levels) (bottom flag : Bool) (i j : �
         either x a = among_either x upper lower a
 
         of_upper : (n : ℕ) → IsSingle levels n upper → (x : Table) → IsAmong x upper → at_most x.first x.last ≡ true
-        of_upper zero u x a = run_order (last_run levels.runs) (all_or IsRun levels.runs (length levels.runs - 1) [] runs.runs tt) x (subst (λ (l : List Table). IsAmong x l) (sym u.1) a)
+        of_upper zero u x a = table_order levels runs 0 x (oldest_among levels.runs upper u x a)
         of_upper (suc n) u x a =
             ⊎_elim (λ e. subst (λ (y : Table). at_most y.first y.last ≡ true) (sym e) (run_order (level levels (suc n)) (run_at levels runs n) u.0 u.2)) (λ none. absurd none) (subst (IsAmong x) u.1 a)
 
@@ -241,11 +233,11 @@ module _ (levels : Levels) (runs : AreRuns levels) (bottom flag : Bool) (i j : �
       all = λ t a met. ⊎_elim
           (λ old. h.all t old met)
           (λ made. absurd (no (sym met ∙ beside_mine (let e : i ≡ j = omega (arith, made.0) in e) t made.1)))
-          (after_cases c.range new levels runs.four j c.known (suc i) t a);
+          (after_cases c.range (length other_upper) new levels runs.four j c.known (suc i) t a);
       lowest = λ lowest k t whole deeper a is. ⊎_elim
           (λ old. h.lowest lowest k t whole deeper old is)
           (λ made. below_mine lowest (omega (arith, deeper, made.0)) whole is (whole_order whole is) t made.1)
-          (after_cases c.range new levels runs.four j c.known k t a);
+          (after_cases c.range (length other_upper) new levels runs.four j c.known k t a);
     }
 
 -- a flush is taken from no level
@@ -262,12 +254,8 @@ flush_survives levels bottom i upper lower new h = record {
   lowest = λ lowest k t whole deeper a is. below k t whole deeper a lowest is;
 }
   where
-    more_runs : (runs : List (List Table)) → (1 ≤ length runs) × (last_run runs ≡ upper) → (1 ≤ length (new ∷ runs)) × (last_run (new ∷ runs) ≡ upper)
-    more_runs [] u = absurd (omega (arith, u.0))
-    more_runs (x ∷ rest) u = (omega arith, last_cons new x rest ∙ u.1)
-
     by : (n : ℕ) → IsUpper levels n upper → IsUpper (flushed new levels) n upper
-    by zero u = more_runs levels.runs u
+    by zero u = record { newer = new ∷ u.newer; oldest = u.oldest; split = ap (λ (rs : List (List Table)). new ∷ rs) u.split; one = u.one; all = u.all }
     by (suc n) u = u
 
     below : (k : ℕ) (t : Table) (whole : KeyRange) → suc i < k → IsAmong t (level (flushed new levels) k) → bottom ≡ true → hull (upper ++ lower) ≡ Some whole → meets whole t ≡ false
@@ -278,5 +266,5 @@ pub survival_law : SurvivalLaw
 survival_law levels bottom flag Flush other new runs held other_held apart outputs = held
 survival_law levels bottom flag (Merge i upper lower) Flush new runs held other_held apart outputs = flush_survives levels bottom i upper lower new held
 survival_law levels bottom flag (Merge i upper lower) (Merge j other_upper other_lower) new runs held other_held apart outputs =
-    subst (λ (o : Option KeyRange). HasItsTables (merged_at j o new levels) bottom i upper lower) (sym other_held.hull_is)
+    subst (λ (o : Option KeyRange). HasItsTables (merged_at j o (length other_upper) new levels) bottom i upper lower) (sym other_held.hull_is)
     (merge_survives levels runs bottom flag i j upper lower other_upper other_lower held other_held apart new outputs.0 outputs.1)

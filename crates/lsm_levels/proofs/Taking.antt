@@ -1,5 +1,5 @@
 -- Which versions the levels have after a merge.
-use Rattle.std.proofs.Common.{◌≡◌, ◌≢◌, ◌⊎◌, inl, inr, ⊎_elim, ℕ, zero, suc, ◌-◌, ◌<◌, ◌≤◌, Bool, true, false, List, [], ◌∷◌, ◌++◌, length, take, map, get_or, set, Option, Some, refl, sym, ap, ◌∙◌, subst, arith}
+use Rattle.std.proofs.Common.{◌≡◌, ◌≢◌, ◌⊎◌, inl, inr, ⊎_elim, ℕ, zero, suc, ◌<◌, ◌≤◌, Bool, true, false, List, [], ◌∷◌, ◌++◌, length, map, get_or, set, Option, Some, refl, sym, ap, ◌∙◌, subst, arith}
 use Rattle.std.specs.List.{AllByRecursion}
 use Rattle.std.proofs.lemmas.Bool.{cases_lt}
 use Rattle.std.proofs.lemmas.List.{get_or-set_same, get_or-set_other}
@@ -7,42 +7,43 @@ use Rattle.lsm_codec.specs.Versions.{Version}
 use Rattle.lsm_levels.specs.Among.{IsAmong}
 use Rattle.lsm_levels.proofs.Members.{among_left, among_right, among_either, among_passed}
 use Rattle.lsm_levels.specs.Tables.{Table, KeyRange, range_of, at_most, spanned, hull, meets, put_at, versions_of}
-use Rattle.lsm_levels.specs.Levels.{Levels, all_tables, level, places, newer_runs, last_run, flushed, replaced, merged_at}
+use Rattle.lsm_levels.specs.Levels.{Levels, all_tables, level, places, newer_runs, flushed, replaced, merged_at}
 use Rattle.lsm_levels.specs.Orders.{IsNewerPlace, IsVersionOrder}
-use Rattle.lsm_levels.specs.Held.{AreRuns, IsUpper, HasItsTables, IsRanged, HasVersion, AreOrdered, MergesVersions, MergingLaw, OrderLaw, FlushLaw}
+use Rattle.lsm_levels.specs.Held.{AreOldest, AreRuns, IsUpper, HasItsTables, IsRanged, HasVersion, AreOrdered, MergesVersions, MergingLaw, OrderLaw, FlushLaw}
 use Rattle.lsm_levels.proofs.KeyOrder.{at_most_trans}
 use Rattle.lsm_levels.proofs.Ranges.{no, all_of, in_run, apart_left, apart_right}
 use Rattle.lsm_levels.proofs.HullLaws.{hull_covers}
-use Rattle.lsm_levels.proofs.Replacing.{put_cases, put_new, newer_among, newer_or_last, deeper_after, at_upper, at_lower, at_other, same_or_not, stays_after}
-use Rattle.lsm_levels.proofs.Runs.{run_at, upper_among, upper_is}
-use Rattle.lsm_levels.proofs.LevelVersions.{deep_in, older_level, newer_runs_order}
+use Rattle.lsm_levels.proofs.OldestRuns.{newer_among, newer_oldest, newer_or_oldest}
+use Rattle.lsm_levels.proofs.Replacing.{put_cases, put_new, deeper_after, at_upper, at_lower, at_other, same_or_not, stays_after}
+use Rattle.lsm_levels.proofs.Runs.{run_at, upper_there, upper_is}
+use Rattle.lsm_levels.proofs.LevelVersions.{older_level, newer_runs_order}
 pub use Rattle.lsm_levels.proofs.LevelVersions.{in_tables, of_table, level_of_place, place_of_level, covers_meets, newer_than}
 
 -- ---- a merge
 
 module _ (levels : Levels) (runs : AreRuns levels) (flag : Bool) (i : ℕ) (upper lower new : List Table) (h : HasItsTables levels flag i upper lower) where
   abbrev after : Levels
-  after = replaced i h.range new levels
+  after = replaced i h.range (length upper) new levels
 
   -- a table is an input, or stays
   taken_or_stays : (k : ℕ) (t : Table) → IsAmong t (level levels k) → IsAmong t (upper ++ lower) ⊎ IsAmong t (level after k)
   taken_or_stays k t a = ⊎_elim
       (λ (e : k ≡ suc i). low e (meets h.range t) refl)
-      (λ (other : k ≢ suc i). ⊎_elim (λ (e : k ≡ i). up i refl e h.uppers) (λ (also : k ≢ i). inr (stay (λ e. absurd (other e)) (λ e f. absurd (also e)) (λ e f g. also (e ∙ sym f)))) (same_or_not k i))
+      (λ (other : k ≢ suc i). ⊎_elim (λ (e : k ≡ i). up i refl e h.uppers) (λ (also : k ≢ i). inr (stay (λ e. absurd (other e)) (λ e f. absurd (also e)) (λ e f. absurd (also (e ∙ sym f))))) (same_or_not k i))
       (same_or_not k (suc i))
     where
-      stay : (k ≡ suc i → meets h.range t ≡ false) → (k ≡ i → 1 ≤ i → meets h.range t ≡ false) → (k ≡ 0 → i ≡ 0 → IsAmong t (last_run levels.runs) → ⊥) → IsAmong t (level after k)
-      stay x y z = stays_after h.range new levels runs.four i h.known k t a x y z
+      stay : (k ≡ suc i → meets h.range t ≡ false) → (k ≡ i → 1 ≤ i → meets h.range t ≡ false) → (k ≡ 0 → i ≡ 0 → IsAmong t (all_tables (newer_runs (length upper) levels.runs))) → IsAmong t (level after k)
+      stay x y z = stays_after h.range (length upper) new levels runs.four i h.known k t a x y z
 
       low : k ≡ suc i → (b : Bool) → meets h.range t ≡ b → IsAmong t (upper ++ lower) ⊎ IsAmong t (level after k)
       low e true met = inl (among_right t upper lower (h.all t (subst (λ n. IsAmong t (level levels n)) e a) met))
-      low e false apart = inr (stay (λ f. apart) (λ f g. apart) (λ f g l. absurd (omega (arith, e, f, g))))
+      low e false apart = inr (stay (λ f. apart) (λ f g. apart) (λ f g. absurd (omega (arith, e, f, g))))
 
       up : (n : ℕ) → n ≡ i → k ≡ i → IsUpper levels n upper → IsAmong t (upper ++ lower) ⊎ IsAmong t (level after k)
       up zero e f u = ⊎_elim
-          (λ newer. inr (subst (λ n. IsAmong t (level after n)) (sym f) (subst (λ n. IsAmong t (level (replaced n h.range new levels) n)) e newer)))
-          (λ last. inl (among_left t upper lower (subst (IsAmong t) u.1 last)))
-          (newer_or_last levels.runs t (subst (λ n. IsAmong t (level levels n)) (f ∙ sym e) a))
+          (λ newer. inr (subst (λ n. IsAmong t (level after n)) (sym f) (subst (λ n. IsAmong t (level (replaced n h.range (length upper) new levels) n)) e newer)))
+          (λ oldest. inl (among_left t upper lower oldest))
+          (newer_or_oldest levels.runs upper runs.some u t (subst (λ n. IsAmong t (level levels n)) (f ∙ sym e) a))
       up (suc m) e f u = by (meets h.range t) refl
         where
           at : IsAmong t (level levels (suc m))
@@ -50,7 +51,7 @@ module _ (levels : Levels) (runs : AreRuns levels) (flag : Bool) (i : ℕ) (uppe
 
           by : (b : Bool) → meets h.range t ≡ b → IsAmong t (upper ++ lower) ⊎ IsAmong t (level after k)
           by true met = inl (among_left t upper lower (subst (IsAmong t) (sym (upper_is levels m upper h.range h.hull_is u)) (among_passed (meets h.range) t (level levels (suc m)) at met)))
-          by false apart = inr (stay (λ g. absurd (omega (arith, f, g))) (λ g deep. apart) (λ g z last. absurd (omega (arith, e, z))))
+          by false apart = inr (stay (λ g. absurd (omega (arith, f, g))) (λ g deep. apart) (λ g z. absurd (omega (arith, e, z))))
 
   -- an output stands in the output level
   new_stands : (t : Table) → IsAmong t new → IsAmong t (level after (suc i))
@@ -60,9 +61,9 @@ module _ (levels : Levels) (runs : AreRuns levels) (flag : Bool) (i : ℕ) (uppe
       four = runs.four
 
       by : (n : ℕ) → n ≤ 3 → n ≡ i → IsAmong t (level after (suc i))
-      by zero le e = subst (λ n. IsAmong t (level (replaced n h.range new levels) (suc n))) e
+      by zero le e = subst (λ n. IsAmong t (level (replaced n h.range (length upper) new levels) (suc n))) e
           (subst (IsAmong t) (sym (get_or-set_same levels.deeper 0 (put_at h.range new (get_or levels.deeper 0 [])) [] (omega (arith, four)))) (put_new h.range new (get_or levels.deeper 0 []) t a))
-      by (suc m) le e = subst (λ n. IsAmong t (level (replaced n h.range new levels) (suc n))) e
+      by (suc m) le e = subst (λ n. IsAmong t (level (replaced n h.range (length upper) new levels) (suc n))) e
           (subst (IsAmong t) (sym (at_lower h.range new levels.deeper m (omega (arith, four, le)))) (put_new h.range new (get_or levels.deeper (suc m) []) t a))
 
   -- a table that stands in the upper or the output level doesn't meet the hull of the upper ones, or is an output
@@ -70,7 +71,7 @@ module _ (levels : Levels) (runs : AreRuns levels) (flag : Bool) (i : ℕ) (uppe
     pub old : IsAmong t (level levels k)
     pub lower_apart : k ≡ suc i → meets h.range t ≡ false
     pub upper_apart : k ≡ i → 1 ≤ i → meets h.range t ≡ false
-    pub newer : k ≡ 0 → i ≡ 0 → IsAmong t (all_tables (newer_runs levels.runs))
+    pub newer : k ≡ 0 → i ≡ 0 → IsAmong t (all_tables (newer_runs (length upper) levels.runs))
 
   stood : (k : ℕ) (t : Table) → IsAmong t (level after k) → Stood k t ⊎ ((k ≡ suc i) × IsAmong t new)
   stood k t a = by i refl h.known k refl
@@ -78,16 +79,16 @@ module _ (levels : Levels) (runs : AreRuns levels) (flag : Bool) (i : ℕ) (uppe
       four : length levels.deeper ≡ 4
       four = runs.four
 
-      here : (n : ℕ) → n ≡ i → (m : ℕ) → m ≡ k → IsAmong t (level (replaced n h.range new levels) m)
-      here n e m f = subst (λ x. IsAmong t (level (replaced x h.range new levels) m)) (sym e) (subst (λ x. IsAmong t (level after x)) (sym f) a)
+      here : (n : ℕ) → n ≡ i → (m : ℕ) → m ≡ k → IsAmong t (level (replaced n h.range (length upper) new levels) m)
+      here n e m f = subst (λ x. IsAmong t (level (replaced x h.range (length upper) new levels) m)) (sym e) (subst (λ x. IsAmong t (level after x)) (sym f) a)
 
-      made : (m : ℕ) → m ≡ k → IsAmong t (level levels m) → (k ≡ suc i → meets h.range t ≡ false) → (k ≡ i → 1 ≤ i → meets h.range t ≡ false) → (k ≡ 0 → i ≡ 0 → IsAmong t (all_tables (newer_runs levels.runs))) → Stood k t ⊎ ((k ≡ suc i) × IsAmong t new)
+      made : (m : ℕ) → m ≡ k → IsAmong t (level levels m) → (k ≡ suc i → meets h.range t ≡ false) → (k ≡ i → 1 ≤ i → meets h.range t ≡ false) → (k ≡ 0 → i ≡ 0 → IsAmong t (all_tables (newer_runs (length upper) levels.runs))) → Stood k t ⊎ ((k ≡ suc i) × IsAmong t new)
       made m f old x y z = inl (record { old = subst (λ n. IsAmong t (level levels n)) f old; lower_apart = x; upper_apart = y; newer = z })
 
       by : (n : ℕ) → n ≡ i → n ≤ 3 → (m : ℕ) → m ≡ k → Stood k t ⊎ ((k ≡ suc i) × IsAmong t new)
       by zero e le zero f =
           let b = here zero e zero f in
-          made zero f (newer_among levels.runs t b) (λ g. absurd (omega (arith, f, g))) (λ g deep. absurd (omega (arith, e, deep))) (λ g z. b)
+          made zero f (newer_among (length upper) levels.runs t b) (λ g. absurd (omega (arith, f, g))) (λ g deep. absurd (omega (arith, e, deep))) (λ g z. b)
       by zero e le (suc zero) f = ⊎_elim
           (λ old. made (suc zero) f old.0 (λ g. old.1) (λ g deep. absurd (omega (arith, e, deep))) (λ g z. absurd (omega (arith, f, g))))
           (λ n. inr (let g : k ≡ suc i = omega (arith, e, f) in g, n))
@@ -125,6 +126,15 @@ module _ (levels : Levels) (runs : AreRuns levels) (flag : Bool) (i : ℕ) (uppe
 
   -- ---- its versions
 
+  -- what stays of level 0 is newer than the upper tables there
+  before_oldest : AreOldest levels.runs upper → (t u : Table) (v w : Version) → IsVersionOrder (map versions_of (places levels)) → IsAmong t (all_tables (newer_runs (length upper) levels.runs)) → IsAmong u upper
+      → IsAmong v t.versions → IsAmong w u.versions → v.key ≡ w.key → w.number < v.number
+  before_oldest o t u v w order a b c d same =
+      newer_runs_order o.newer o.oldest levels.deeper t u v w
+      (subst (λ (rs : List (List Table)). IsVersionOrder (map versions_of (rs ++ levels.deeper))) o.split order)
+      (subst (λ (rs : List (List Table)). IsAmong t (all_tables rs)) (newer_oldest levels.runs upper runs.some o) a)
+      (subst (IsAmong u) o.all b) c d same
+
   pub version_stays : (v : Version) → HasVersion levels v → IsAmong v (versions_of (upper ++ lower)) ⊎ HasVersion after v
   version_stays v a = ⊎_elim
       (λ b. inl (of_table v a.table (upper ++ lower) b a.has))
@@ -142,11 +152,7 @@ module _ (levels : Levels) (runs : AreRuns levels) (flag : Bool) (i : ℕ) (uppe
 
   -- the input tables stand in the upper level and the next
   pub input_there : (t : Table) → IsAmong t (upper ++ lower) → (k : ℕ) × IsAmong t (level levels k)
-  input_there t a = ⊎_elim (λ b. up i h.uppers b) (λ b. (suc i, h.lowers t b)) (among_either t upper lower a)
-    where
-      up : (n : ℕ) → IsUpper levels n upper → IsAmong t upper → (k : ℕ) × IsAmong t (level levels k)
-      up zero u b = (0, deep_in levels.runs (length levels.runs - 1) t (subst (λ (run : List Table). IsAmong t run) (sym u.1) b))
-      up (suc n) u b = (suc n, upper_among levels n upper u t b)
+  input_there t a = ⊎_elim (λ b. (i, upper_there levels i upper h.uppers t b)) (λ b. (suc i, h.lowers t b)) (among_either t upper lower a)
 
   module _ (order : IsVersionOrder (map versions_of (places levels))) (ranged : (k : ℕ) (t : Table) → IsAmong t (level levels k) → IsRanged t) (bottom : flag ≡ true) (whole : KeyRange) (whole_is : hull (upper ++ lower) ≡ Some whole)
       (t u : Table) (v w : Version) (v_in : IsAmong v t.versions) (w_in : IsAmong w u.versions) (same : w.key ≡ v.key) (older : w.number < v.number) (k : ℕ) (at : Stood k u) where
@@ -169,17 +175,16 @@ module _ (levels : Levels) (runs : AreRuns levels) (flag : Bool) (i : ℕ) (uppe
     -- beside an upper table
     upper_case : (n : ℕ) → n ≡ i → IsUpper levels n upper → IsAmong t upper → ⊥
     upper_case zero e q a =
-        let last : IsAmong t (last_run levels.runs) = subst (λ (run : List Table). IsAmong t run) (sym q.1) a in
-        let there : IsAmong t (level levels 0) = deep_in levels.runs (length levels.runs - 1) t last in
+        let there : IsAmong t (level levels 0) = upper_there levels 0 upper q t a in
         let c = hull_covers upper h.range h.hull_is t a in
-        by k refl there last c
+        by k refl there c
       where
-        by : (m : ℕ) → m ≡ k → IsAmong t (level levels 0) → IsAmong t (last_run levels.runs) → (at_most h.range.first t.first ≡ true) × (at_most t.last h.range.last ≡ true) → ⊥
-        by zero f there last c = not_older (newer_runs_order levels.runs levels.deeper u t w v order (at.newer (sym f) (sym e)) last w_in v_in same)
-        by (suc zero) f there last c = no (sym (meets_by h.range c.0 c.1 (ranged 0 t there)) ∙ at.lower_apart (let g : k ≡ suc i = omega (arith, e, f) in g))
-        by (suc (suc m)) f there last c = below_all (omega (arith, e, f)) (among_left t upper lower a) (ranged 0 t there)
+        by : (m : ℕ) → m ≡ k → IsAmong t (level levels 0) → (at_most h.range.first t.first ≡ true) × (at_most t.last h.range.last ≡ true) → ⊥
+        by zero f there c = not_older (before_oldest q u t w v order (at.newer (sym f) (sym e)) a w_in v_in same)
+        by (suc zero) f there c = no (sym (meets_by h.range c.0 c.1 (ranged 0 t there)) ∙ at.lower_apart (let g : k ≡ suc i = omega (arith, e, f) in g))
+        by (suc (suc m)) f there c = below_all (omega (arith, e, f)) (among_left t upper lower a) (ranged 0 t there)
     upper_case (suc n) e q a =
-        let there : IsAmong t (level levels (suc n)) = upper_among levels n upper q t a in
+        let there : IsAmong t (level levels (suc n)) = upper_there levels (suc n) upper q t a in
         let c = hull_covers upper h.range h.hull_is t a in
         by there c (cases_lt k (suc n)) (cases_lt (suc (suc n)) k)
       where
@@ -255,16 +260,6 @@ order_front (x ∷ xs) ys h = (front xs h.0, order_front xs ys h.1)
     front [] k = tt
     front (p ∷ ps) k = (k.0, front ps k.1)
 
-order_take : (n : ℕ) (xs : List (List Table)) → IsVersionOrder (map versions_of xs) → IsVersionOrder (map versions_of (take n xs))
-order_take zero xs h = tt
-order_take (suc n) [] h = tt
-order_take (suc n) (x ∷ xs) h = (front n xs h.0, order_take n xs h.1)
-  where
-    front : (m : ℕ) (ps : List (List Table)) → AllByRecursion (IsNewerPlace (versions_of x)) (map versions_of ps) → AllByRecursion (IsNewerPlace (versions_of x)) (map versions_of (take m ps))
-    front zero ps k = tt
-    front (suc m) [] k = tt
-    front (suc m) (p ∷ ps) k = (k.0, front m ps k.1)
-
 order_join : (xs ys : List (List Table)) → IsVersionOrder (map versions_of xs) → IsVersionOrder (map versions_of ys) → ((l : ℕ) → AreNewer (all_tables xs) (get_or ys l [])) → IsVersionOrder (map versions_of (xs ++ ys))
 order_join [] ys h k f = k
 order_join (x ∷ xs) ys h k f = (join xs h.0, order_join xs ys h.1 k (λ l t u v w a. f l t u v w (among_right t x (all_tables xs) a)))
@@ -280,7 +275,7 @@ order_join (x ∷ xs) ys h k f = (join xs h.0, order_join xs ys h.1 k (λ l t u 
 module _ (levels : Levels) (runs : AreRuns levels) (flag : Bool) (i : ℕ) (upper lower new : List Table) (h : HasItsTables levels flag i upper lower)
     (order : IsVersionOrder (map versions_of (places levels))) (ranged : (k : ℕ) (t : Table) → IsAmong t (level levels k) → IsRanged t) (from_inputs : (v : Version) → IsAmong v (versions_of new) → IsAmong v (versions_of (upper ++ lower))) where
   abbrev merged_levels : Levels
-  merged_levels = replaced i h.range new levels
+  merged_levels = replaced i h.range (length upper) new levels
 
   -- an output's version stood in an upper table or a lower one
   record From (v : Version) : Type 0 where
@@ -294,13 +289,9 @@ module _ (levels : Levels) (runs : AreRuns levels) (flag : Bool) (i : ℕ) (uppe
   from t v a b =
       let s = in_tables v (upper ++ lower) (from_inputs v (of_table v t new a b)) in
       ⊎_elim
-      (λ c. record { source = s.0; has = s.2; place = i; there = up i h.uppers s.0 c; upper_or_lower = inl (refl, c) })
+      (λ c. record { source = s.0; has = s.2; place = i; there = upper_there levels i upper h.uppers s.0 c; upper_or_lower = inl (refl, c) })
       (λ c. record { source = s.0; has = s.2; place = suc i; there = h.lowers s.0 c; upper_or_lower = inr (refl, c) })
       (among_either s.0 upper lower s.1)
-    where
-      up : (n : ℕ) → IsUpper levels n upper → (x : Table) → IsAmong x upper → IsAmong x (level levels n)
-      up zero u x c = deep_in levels.runs (length levels.runs - 1) x (subst (λ (run : List Table). IsAmong x run) (sym u.1) c)
-      up (suc n) u x c = upper_among levels n upper u x c
 
   -- what stood above the output level, or in the upper one, is newer than the outputs
   newer_than_output : (k : ℕ) (t u : Table) (v w : Version) → Stood levels runs flag i upper lower new h k t → k < suc i → IsAmong u new → IsAmong v t.versions → IsAmong w u.versions → v.key ≡ w.key → w.number < v.number
@@ -311,7 +302,7 @@ module _ (levels : Levels) (runs : AreRuns levels) (flag : Bool) (i : ℕ) (uppe
         where
           upper_at : (n : ℕ) → n ≡ i → IsUpper levels n upper → w.number < v.number
           upper_at zero g q =
-              newer_runs_order levels.runs levels.deeper t f.source v w order (s.newer (let z : k ≡ 0 = omega (arith, e, g) in z) (sym g)) (subst (λ (run : List Table). IsAmong f.source run) (sym q.1) a) c f.has same
+              before_oldest levels runs flag i upper lower new h q t f.source v w order (s.newer (let z : k ≡ 0 = omega (arith, e, g) in z) (sym g)) a c f.has same
           upper_at (suc n) g q =
               let cover = hull_covers upper h.range h.hull_is f.source a in
               let theirs = (ranged f.place f.source f.there).within w f.has in
@@ -348,13 +339,15 @@ module _ (levels : Levels) (runs : AreRuns levels) (flag : Bool) (i : ℕ) (uppe
       (stood levels runs flag i upper lower new h l u b))
       (stood levels runs flag i upper lower new h k t a)
 
-  runs_order : (n : ℕ) → n ≡ i → IsVersionOrder (map versions_of (replaced n h.range new levels).runs)
-  runs_order zero e = order_take (length levels.runs - 1) levels.runs (order_front levels.runs levels.deeper order)
-  runs_order (suc n) e = order_front levels.runs levels.deeper order
+  runs_order : (n : ℕ) → IsUpper levels n upper → IsVersionOrder (map versions_of (replaced n h.range (length upper) new levels).runs)
+  runs_order zero u =
+      subst (λ (rs : List (List Table)). IsVersionOrder (map versions_of rs)) (sym (newer_oldest levels.runs upper runs.some u))
+      (order_front u.newer u.oldest (subst (λ (rs : List (List Table)). IsVersionOrder (map versions_of rs)) u.split (order_front levels.runs levels.deeper order)))
+  runs_order (suc n) u = order_front levels.runs levels.deeper order
 
   pub merged_order : IsVersionOrder (map versions_of (places merged_levels))
   merged_order =
-      order_join merged_levels.runs merged_levels.deeper (runs_order i refl)
+      order_join merged_levels.runs merged_levels.deeper (runs_order i h.uppers)
       (order_from merged_levels.deeper (λ k l lt. newer_level (suc k) (suc l) (omega (arith, lt))))
       (λ l. newer_level 0 (suc l) (omega arith))
 
@@ -369,7 +362,7 @@ hull_some (x ∷ rest) t a = (spanned x (hull rest), refl)
 
 pub order_law : OrderLaw
 order_law levels flag i upper lower new runs h ordered from_inputs made =
-    subst (λ (o : Option KeyRange). AreOrdered (merged_at i o new levels)) (sym h.hull_is) (record {
+    subst (λ (o : Option KeyRange). AreOrdered (merged_at i o (length upper) new levels)) (sym h.hull_is) (record {
       order = merged_order levels runs flag i upper lower new h ordered.order ordered.ranges from_inputs;
       ranges = merged_ranges levels runs flag i upper lower new h ordered.order ordered.ranges from_inputs made;
     })
@@ -383,7 +376,7 @@ flush_law levels new ordered newer made = record { order = (newer, ordered.order
 
 pub merging_law : MergingLaw
 merging_law levels flag i upper lower new runs h =
-    subst (λ (o : Option KeyRange). MergesVersions levels (merged_at i o new levels) flag (upper ++ lower) new) (sym h.hull_is) (record {
+    subst (λ (o : Option KeyRange). MergesVersions levels (merged_at i o (length upper) new levels) flag (upper ++ lower) new) (sym h.hull_is) (record {
       stays = version_stays levels runs flag i upper lower new h;
       made = version_new levels runs flag i upper lower new h;
       nothing_else = version_else levels runs flag i upper lower new h;

@@ -1,5 +1,5 @@
 -- What the steps of a look-up say.
-use Rattle.std.proofs.Common.{◌≡◌, ℕ, List, [], ◌∷◌, ◌++◌, Option, Some, None, Result, Ok, Err, refl, ap, sym}
+use Rattle.std.proofs.Common.{◌≡◌, ℕ, List, [], ◌∷◌, ◌++◌, Some, None, Result, Ok, Err, refl, ap, sym}
 use Rattle.lsm_device.specs.declared.refusal.Refusal.{Refusal}
 use Rattle.lsm_codec.specs.Keys.{Bytes}
 use Rattle.lsm_codec.specs.Versions.{Version}

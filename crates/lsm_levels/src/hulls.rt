@@ -2,7 +2,7 @@
 
 ghost use Rattle.std.specs.Prelude.{◌≡◌, Option, option_map};
 ghost use Rattle.std.specs.List.{list_any};
-ghost use Rattle.lsm_levels.specs.Tables.{IsRun, least, greatest, spanned, meets};
+ghost use Rattle.lsm_levels.specs.Tables.{IsRun, least, greatest, spanned, hull, meets};
 ghost use Rattle.lsm_levels.specs.Levels.{all_tables};
 ghost use Rattle.lsm_levels.specs.Hulls.{range_shown, hull_onto};
 
@@ -61,6 +61,13 @@ pub(crate) fn hull_onto<'a, A: Allocator>(
         hull = Some(spanned(table, hull));
     }
     hull
+}
+
+/// The hull of tables.
+pub(crate) fn hull_of<A: Allocator>(tables: &[PlacedTable<A>]) -> Option<KeyRange<'_>>
+    ensures { option_map range_shown result ≡ hull tables.now }
+{
+    hull_onto(tables, None)
 }
 
 /// The hull of the tables of a run and of a range, by the run's ends.

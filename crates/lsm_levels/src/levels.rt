@@ -1,6 +1,6 @@
 //! The levels of tables.
 
-ghost use Rattle.std.specs.Prelude.{◌≡◌, ◌≤◌, ◌<◌, ◌-◌, [], take, slice_set, suc, Bool, List, length, is_ok, if◌then◌else◌, IfOk, IfErr, IfSome, OnOk, OnErr, option_map};
+ghost use Rattle.std.specs.Prelude.{◌≡◌, ◌≤◌, ◌<◌, ◌-◌, [], take, true, slice_set, suc, Bool, List, length, is_ok, if◌then◌else◌, IfOk, IfErr, IfSome, OnOk, OnErr, option_map};
 ghost use Rattle.lsm_levels.specs.Tables.{IsRun, at_most, hull, put_at};
 ghost use Rattle.lsm_levels.specs.Levels.{level as level_of, newer_runs, no_tables, flushed, merged};
 ghost use Rattle.lsm_levels.specs.Pick.{Merge, below_output, is_bottom, meets_none, of_least_level, next_merge, pick};
@@ -11,7 +11,7 @@ ghost use Rattle.lsm_levels.specs.Held.{AreRuns, HasItsTables, AreOutputs};
 ghost use Rattle.lsm_levels.specs.declared.choosing.Choice.TheVariants.{OldestRuns, Tables};
 
 use crate::choosing::{Choice, run_job, tables_job};
-use crate::hulls::{KeyRange, hull_of_runs, hull_onto, is_met, spanned};
+use crate::hulls::{KeyRange, hull_of, hull_of_runs, hull_onto, is_met, spanned};
 use crate::picking::{HeldJobs, Pick, Rule, level_0_job, rule_job};
 use crate::run::Run;
 use crate::table::PlacedTable;
@@ -130,7 +130,7 @@ impl<A: Allocator> Levels<A> {
         ensures replaced { self.new ≡ (if is_ok result then merged level upper.now outputs.old.items self.old else self.old) }
         ensures moved { outputs.new.items ≡ (if is_ok result then [] else outputs.old.items) }
     {
-        let Some(hull) = hull_onto(upper, None) else {
+        let Some(hull) = hull_of(upper) else {
             return Ok(());
         };
         self.deeper[level].replace(hull.first, hull.last, outputs)?;

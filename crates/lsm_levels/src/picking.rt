@@ -99,7 +99,10 @@ pub(crate) fn lower_of<'a, A: Allocator>(
 }
 
 /// The tables of a run that meet the hull of these runs.
-pub(crate) fn lower_of_runs<'a, A: Allocator>(runs: &[Run<A>], below: &'a Run<A>) -> &'a [PlacedTable<A>]
+pub(crate) fn lower_of_runs<'a, A: Allocator>(
+    runs: &[Run<A>],
+    below: &'a Run<A>,
+) -> &'a [PlacedTable<A>]
     ensures { result.now ≡ lower_of (all_tables runs.now) below.now }
 {
     match hull_of_runs(runs, None) {

@@ -1,5 +1,9 @@
-use Rattle.std.proofs.Common.{ℕ, ◌-◌, take, ap, ◌∙◌}
+use Rattle.std.proofs.Common.{◌≡◌, List, take, ◌∙◌, subst}
+use Rattle.lsm_levels.specs.Tables.{Table}
+use Rattle.lsm_levels.specs.Levels.{newer_runs}
 use Rattle.lsm_levels.proofs.levels.drop_oldest.Goals as goal
 
 pub returns : goal.returns
-returns g c = c.truncate.ensures.items ∙ ap (λ (n : ℕ). take n c.args.runs.now.items) (c.saturating_sub-kept.ensures ∙ ap (λ (n : ℕ). n - 1) (c.len.ensures ∙ c.args.runs.now.ok.0))
+returns g c =
+    c.truncate.ensures.items
+    ∙ subst (λ (rs : List (List Table)). take c.count_newer-kept.result rs ≡ newer_runs c.args.tables rs) c.deref.ensures.value c.count_newer-kept.ensures

@@ -1,4 +1,4 @@
-use Rattle.std.proofs.Common.{Err, Ok, Some, None, sym, ◌∙◌}
+use Rattle.std.proofs.Common.{Err, Ok, Some, None}
 use Rattle.std.specs.List.{AllByRecursion}
 use Rattle.std.proofs.lemmas.Result.{err_from_is_err_and}
 use Rattle.lsm_codec.proofs.Lists.{all_right}

@@ -1,14 +1,15 @@
 use Rattle.std.proofs.Common.{[], ◌∷◌, Some, option_map, ap, sym, ◌∙◌}
 use Rattle.lsm_levels.specs.Hulls.{range_shown}
+use Rattle.lsm_levels.specs.Levels.{all_tables}
 use Rattle.lsm_levels.specs.Pick.{is_bottom}
 use Rattle.lsm_levels.specs.Picks.{job_of}
 use Rattle.lsm_levels.proofs.BottomLaws.{flag_is}
 use Rattle.lsm_levels.proofs.levels.Levels.is_bottom.Goals as goal
 
-pub returns-in-OldestRun : goal.returns-in-OldestRun
-returns-in-OldestRun g c =
-    flag_is c.args.self.now 0 c.in-OldestRun.upper.now c.in-OldestRun.lower.now (option_map range_shown c.hull_onto.result) (option_map range_shown c.hull_onto-in-OldestRun.result) c.meets_none_below.result c.hull_onto.ensures c.hull_onto-in-OldestRun.ensures c.meets_none_below.ensures
-    ∙ sym (ap (λ job. is_bottom c.args.self.now (job_of job)) c.in-OldestRun.is)
+pub returns-in-OldestRuns : goal.returns-in-OldestRuns
+returns-in-OldestRuns g c =
+    flag_is c.args.self.now 0 (all_tables c.in-OldestRuns.runs.now) c.in-OldestRuns.lower.now (option_map range_shown c.hull_onto.result) (option_map range_shown c.hull_of_runs.result) c.meets_none_below.result c.hull_onto.ensures c.hull_of_runs.ensures c.meets_none_below.ensures
+    ∙ sym (ap (λ job. is_bottom c.args.self.now (job_of job)) c.in-OldestRuns.is)
 
 pub returns-in-OneTable : goal.returns-in-OneTable
 returns-in-OneTable g c =

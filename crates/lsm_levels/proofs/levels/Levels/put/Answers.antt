@@ -1,26 +1,29 @@
-use Rattle.std.proofs.Common.{◌<◌, ◌-◌, length, sym, ◌∙◌, subst}
+use Rattle.std.proofs.Common.{◌<◌, length, sym, ◌∙◌, subst}
 use Rattle.std.proofs.lemmas.List.{length-set}
 use Rattle.std.specs.List.{AllByRecursion}
 use Rattle.lsm_levels.specs.Tables.{IsRun}
-use Rattle.lsm_levels.proofs.RunHulls.{run_hull_order, run_hull_some}
-use Rattle.lsm_levels.proofs.Runs.{all_set, all_take}
+use Rattle.lsm_levels.specs.Hulls.{range_shown}
+use Rattle.lsm_levels.proofs.Merging.{hull_in_order}
+use Rattle.lsm_levels.proofs.OldestRuns.{all_newer}
+use Rattle.lsm_levels.proofs.RunHulls.{run_hull_some}
+use Rattle.lsm_levels.proofs.Runs.{all_set}
 use Rattle.lsm_levels.proofs.levels.Levels.put.Goals as goal
 
 pub returns-in_default-clause-moved : goal.returns-in_default-clause-moved
 returns-in_default-clause-moved g c = absurd (run_hull_some c.args.upper.now c.in_default.ensures c.requires.some)
 
 pub replace-requires-clause-range : goal.replace-requires-clause-range
-replace-requires-clause-range g c = run_hull_order c.args.upper.now (record { first = c.in-Some.first.now; last = c.in-Some.last.now }) c.requires.run c.in-Some.ensures
+replace-requires-clause-range g c = hull_in_order c.args.upper.now (range_shown c.in-Some.hull) c.in-Some.ensures c.requires.range
 
 pub remove-requires : goal.remove-requires
-remove-requires g c = run_hull_order c.args.upper.now (record { first = c.in-Some.first.now; last = c.in-Some.last.now }) c.requires.run c.in-Some.ensures
+remove-requires g c = hull_in_order c.args.upper.now (range_shown c.in-Some.hull) c.in-Some.ensures c.requires.range
 
 pub invariant_of-self-then-level-eq0 : goal.invariant_of-self-then-level-eq0
 invariant_of-self-then-level-eq0 g c = record {
   four = length-set c.self.inside.deeper.items c.args.level c.replace.new.self ∙ c.self.invariant.four;
-  runs = subst (AllByRecursion IsRun) (sym c.drop_oldest.ensures) (all_take IsRun (length c.self.inside.runs.items - 1) c.self.inside.runs.items c.self.invariant.runs);
+  runs = subst (AllByRecursion IsRun) (sym c.drop_oldest.ensures) (all_newer IsRun (length c.args.upper.now) c.self.inside.runs.items c.self.invariant.runs);
   deeper = all_set IsRun c.self.inside.deeper.items c.args.level c.replace.new.self c.self.invariant.deeper c.in_ok-replace.ensures.stays;
-  some = subst (AllByRecursion (λ run. 0 < length run)) (sym c.drop_oldest.ensures) (all_take (λ run. 0 < length run) (length c.self.inside.runs.items - 1) c.self.inside.runs.items c.self.invariant.some);
+  some = subst (AllByRecursion (λ run. 0 < length run)) (sym c.drop_oldest.ensures) (all_newer (λ run. 0 < length run) (length c.args.upper.now) c.self.inside.runs.items c.self.invariant.some);
 }
 
 pub invariant_of-self-else-level-eq0 : goal.invariant_of-self-else-level-eq0

@@ -1,11 +1,11 @@
-use Rattle.lsm_levels.proofs.Merging.{upper_run, upper_some, outputs_fit}
+use Rattle.lsm_levels.proofs.Merging.{upper_hull, upper_some, outputs_fit}
 use Rattle.lsm_levels.proofs.levels.Levels.replace.Goals as goal
 
 pub put-put-requires-clause-level : goal.put-put-requires-clause-level
 put-put-requires-clause-level g c = c.requires.merge.2.known
 
-pub put-put-requires-clause-run : goal.put-put-requires-clause-run
-put-put-requires-clause-run g c = upper_run c.args.self.now c.requires.merge.0 c.args.level c.args.upper.now c.requires.merge.1 c.runs-runs.ensures.runs c.requires.merge.2
+pub put-put-requires-clause-range : goal.put-put-requires-clause-range
+put-put-requires-clause-range g c = upper_hull c.args.self.now c.requires.merge.0 c.args.level c.args.upper.now c.requires.merge.1 c.runs-runs.ensures.runs c.requires.merge.2
 
 pub put-put-requires-clause-some : goal.put-put-requires-clause-some
 put-put-requires-clause-some g c = upper_some c.args.upper.now c.requires.merge.2.range c.requires.merge.2.hull_is

@@ -1,4 +1,3 @@
-use Rattle.std.proofs.Common.{Some, Ok}
 use Rattle.lsm_codec.specs.References.{shown}
 use Rattle.lsm_levels.specs.Levels.{places}
 use Rattle.lsm_levels.specs.Asking.{Source}

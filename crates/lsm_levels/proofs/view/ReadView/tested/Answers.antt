@@ -1,4 +1,4 @@
-use Rattle.std.proofs.Common.{Some, Ok, sym, ap, subst, ◌∙◌}
+use Rattle.std.proofs.Common.{Ok, ap}
 use Rattle.lsm_codec.specs.References.{shown}
 use Rattle.lsm_levels.specs.Levels.{places}
 use Rattle.lsm_levels.specs.Asking.{Source}
