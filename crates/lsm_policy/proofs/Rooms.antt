@@ -1,10 +1,11 @@
 -- What is left of a number, part by part.
-use Rattle.std.proofs.Common.{◌≡◌, ℕ, ◌+◌, ◌-◌, ◌<◌, ◌≤◌, Bool, true, false, cond, leb, List, [], ◌∷◌, ◌++◌, length, Option, Some, None, is_some, refl, sym, ap, ◌∙◌, append_assoc, arith}
+use Rattle.std.proofs.Common.{◌≡◌, ℕ, ◌+◌, ◌-◌, ◌<◌, ◌≤◌, Bool, true, false, cond, leb, List, ◌++◌, length, Option, Some, None, is_some, refl, sym, ap, ◌∙◌, arith}
 use Rattle.std.proofs.lemmas.Bool.{le-leb, leb-true, leb-false, lt-leb}
 use Rattle.std.proofs.lemmas.List.{length-append}
 use Rattle.std.proofs.lemmas.List.Sums.{sum_by-append}
 use Rattle.lsm_levels.specs.Tables.{Table}
 use Rattle.lsm_levels.specs.Levels.{Levels, all_tables, places}
+use Rattle.lsm_levels.proofs.OldestRuns.{tables_append}
 use Rattle.lsm_policy.specs.Room.{blocks_of, left_of}
 
 left_yes : (limit n : ℕ) → n ≤ limit → left_of limit n ≡ Some (limit - n)
@@ -55,10 +56,6 @@ parts_fit limit a b first first_is left rest some rest_is =
 pub parts_too_much : (limit a b : ℕ) (first : Option ℕ) → first ≡ left_of limit a → first ≡ None → false ≡ leb (a + b) limit
 parts_too_much limit a b first first_is none =
     let beyond = too_much limit a (sym first_is ∙ none) in sym (lt-leb (a + b) limit (omega (arith, beyond)))
-
-tables_append : (xs ys : List (List Table)) → all_tables (xs ++ ys) ≡ all_tables xs ++ all_tables ys
-tables_append [] ys = refl
-tables_append (x ∷ xs) ys = ap (λ (ts : List Table). x ++ ts) (tables_append xs ys) ∙ sym (append_assoc x (all_tables xs) (all_tables ys))
 
 -- of a measure of tables that adds up, first the runs of level 0, and then the others
 module _ (measure : List Table → ℕ) (adds : (xs ys : List Table) → measure (xs ++ ys) ≡ measure xs + measure ys) (limit : ℕ) (levels : Levels) (runs deeper : List (List Table)) (runs_are : runs ≡ levels.runs) (deeper_are : deeper ≡ levels.deeper) (first : Option ℕ) (first_is : first ≡ left_of limit (measure (all_tables runs))) where

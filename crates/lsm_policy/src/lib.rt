@@ -1,9 +1,10 @@
 //! Which merge to choose next, so that few blocks are written and no store dies of small tables.
 //!
-//! A store merges what its caller chooses. [`Policy::next_choice`] says what to take next: the oldest run of level 0, or of a
-//! level that is over its limit the neighbours that go down for the fewest blocks of the next level a block of their own. If room is
-//! scarce the oldest table goes, with as many neighbours as find room, so that deletes come to what they delete. A choice takes in no
-//! more blocks than are free, so that its outputs find room. It keeps nothing, so it goes on where it was after each opening.
+//! A store merges what its caller chooses. [`Policy::next_choice`] says what to take next: the runs of level 0, as many of the
+//! oldest as find room; or of a level that is over its limit the neighbours that go down for the fewest blocks of the next level a
+//! block of their own. If room is scarce the oldest table goes, with as many neighbours as find room, so that deletes come to what they
+//! delete. A choice takes in no more blocks than are free, so that its outputs find room. It keeps nothing, so it goes on where it was
+//! after each opening.
 //!
 //! ```
 //! let policy = Policy::new();

@@ -42,6 +42,15 @@ pub(crate) struct Bounds {
 }
 
 impl Bounds {
+    /// The blocks that so many runs may take in.
+    pub fn room_of(self, runs: usize) -> u64 {
+        if runs > 1 {
+            self.room.min(self.most_blocks)
+        } else {
+            self.room
+        }
+    }
+
     /// Whether so many tables that take in so many blocks are within.
     fn allow(self, count: usize, blocks: u64) -> bool {
         blocks <= self.room && (count <= 1 || (self.joins && blocks <= self.most_blocks))

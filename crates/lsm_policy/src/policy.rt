@@ -19,11 +19,11 @@ const LEAST_LIMIT: u64 = 16;
 /// The numbers by which merges are chosen. [`Policy::new`] has good ones.
 #[derive(Clone, Copy, Debug)]
 pub struct Policy {
-    /// From so many runs on the oldest run of level 0 goes down.
+    /// From so many runs on the runs of level 0 go down, as many at once as find room.
     pub runs: usize,
     /// The limits of levels 1 to 3, in blocks. In a small data area a level's limit is an eighth of the blocks instead.
     pub limits: [u64; 3],
-    /// Several neighbours take in so many blocks at most.
+    /// Several neighbours, or several runs, take in so many blocks at most.
     pub most_blocks: u64,
     /// Room is scarce with more tables than so many, and with less than half of the blocks free.
     pub most_tables: usize,
@@ -71,7 +71,8 @@ impl Policy {
     /// The merge to choose next where so many blocks are free, and slots are held by these jobs: the first of these that there is,
     /// that may be taken, and that takes in no more blocks than are free.
     ///
-    /// 1. The oldest run of level 0, from [`runs`](Policy::runs) on.
+    /// 1. From [`runs`](Policy::runs) on all runs of level 0; or the most of the oldest ones that take in no more blocks than are
+    ///    free, nor, if they are several, than [`most_blocks`](Policy::most_blocks).
     /// 2. Of the least level from 1 to 3 that is over its limit: the neighbours that go down for the fewest blocks of the next level
     ///    a block of their own. If room is scarce those with the oldest table. Of equal ones the widest. Several tables go only where
     ///    no other merge is held.
@@ -105,8 +106,8 @@ impl Policy {
         bounds: Bounds,
         held: &H,
     ) -> Option<Choice> {
-        if levels.runs().len() >= self.runs && run_finds_room(levels, bounds.room, held) {
-            return Some(Choice::OldestRun);
+        if let Some(choice) = runs_of(levels, self.runs, bounds, held) {
+            return Some(choice);
         }
         let [level_1, level_2, level_3, level_4] = levels.deeper() else {
             return None;
@@ -135,9 +136,34 @@ fn area_of<A: Allocator>(levels: &Levels<A>, room: u64) -> u64 {
     blocks
 }
 
-/// Whether the oldest run of level 0 may go down, and finds room.
-fn run_finds_room<H: HeldJobs, A: Allocator>(levels: &Levels<A>, room: u64, held: &H) -> bool {
-    match levels.choose(Choice::OldestRun, held) {
+/// The most of the oldest runs of level 0 that may go down and find room, where there are so many runs at least.
+fn runs_of<H: HeldJobs, A: Allocator>(
+    levels: &Levels<A>,
+    least: usize,
+    bounds: Bounds,
+    held: &H,
+) -> Option<Choice> {
+    let all = levels.runs().len();
+    if all < least {
+        return None;
+    }
+    for newer in 0..all {
+        let choice = Choice::OldestRuns { count: all - newer };
+        if finds_room(levels, choice, bounds.room_of(all - newer), held) {
+            return Some(choice);
+        }
+    }
+    None
+}
+
+/// Whether a choice may be taken, and takes in so many blocks at most.
+fn finds_room<H: HeldJobs, A: Allocator>(
+    levels: &Levels<A>,
+    choice: Choice,
+    room: u64,
+    held: &H,
+) -> bool {
+    match levels.choose(choice, held) {
         Some(job) => takes_in_at_most(&job, room),
         None => false,
     }

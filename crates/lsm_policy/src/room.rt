@@ -78,9 +78,18 @@ pub fn takes_in_at_most<A: Allocator>(job: &Pick<'_, A>, blocks: u64) -> bool
 {
     match job {
         Pick::Flush => true,
-        Pick::OldestRun { upper, lower } => have_at_most(upper, lower, blocks),
+        Pick::OldestRuns { runs, lower } => runs_have_at_most(runs, lower, blocks),
         Pick::Neighbours { upper, lower, .. } => have_at_most(upper, lower, blocks),
         Pick::OneTable { upper, lower, .. } => has_at_most_with(upper, lower, blocks),
+    }
+}
+
+fn runs_have_at_most<A: Allocator>(runs: &[Run<A>], lower: &[PlacedTable<A>], blocks: u64) -> bool
+    ensures { result ≡ nat_le (blocks_of (all_tables runs.now ++ lower.now)) blocks }
+{
+    match without_runs(blocks, runs) {
+        Some(left) => without_tables(left, lower).is_some(),
+        None => false,
     }
 }
 
