@@ -7,8 +7,12 @@ use Rattle.lsm_merge.specs.Inputs.{AreRuns, items_of, joined}
 use Rattle.lsm_merge.proofs.Sameness.{items_at}
 use Rattle.lsm_levels.specs.Tables.{Table, versions_of}
 use Rattle.lsm_levels.specs.Levels.{all_tables}
-use Rattle.lsm_jobs.specs.Gathering.{data_blocks, ends_run, with_first, ascending_runs, run_length, items_between, runs_ahead, fronts, GoesOn, IsLonger, RunsGoOn}
-use Rattle.lsm_jobs.proofs.GoingOn.{Item, taken_back}
+use Rattle.lsm_levels.specs.Pick.{Merge, inputs}
+use Rattle.lsm_jobs.specs.Numbers.{Inputs, merge_of}
+use Rattle.lsm_jobs.specs.Slots.{Slot, Reading}
+use Rattle.lsm_jobs.specs.Taking.{slot_with}
+use Rattle.lsm_jobs.specs.Gathering.{Gathered, none_gathered, input_ahead, blocks_left, data_blocks, ends_run, with_first, ascending_runs, run_length, items_between, runs_ahead, fronts, GoesOn, IsLonger, RunsGoOn}
+use Rattle.lsm_jobs.proofs.GoingOn.{Item, first_ordered, taken_back}
 
 -- ---- the runs of tables
 
@@ -103,6 +107,25 @@ none_ahead (run ∷ runs) =
     let none : 0 - data_blocks run ≡ 0 = omega arith in
     ap (λ (n : ℕ). versions_of run ∷ runs_ahead n runs (map blank runs)) none ∙ ap (λ (l : List (List Version)). versions_of run ∷ l) (none_ahead runs)
 
+-- so is a merge taken
+pub merge_taken : (number level : ℕ) (upper lower tables : List Table) (cuts : List ℕ) (bottom : Bool) (m : Inputs) (g : Gathered) → m ≡ record { level = level; upper = upper; lower = lower } → tables ≡ inputs (merge_of m) → g ≡ none_gathered tables cuts bottom
+    → record { number = number; job = merge_of m; input = input_ahead (inputs (merge_of m)) g; stage = Reading (blocks_left (inputs (merge_of m)) g) } ≡ slot_with number [] cuts bottom (Merge level upper lower)
+merge_taken number level upper lower tables cuts bottom m g is all none =
+    let ts = upper ++ lower in
+    let these : tables ≡ ts = all ∙ ap (λ (i : Inputs). inputs (merge_of i)) is in
+    let nothing : g ≡ none_gathered ts cuts bottom = none ∙ ap (λ (l : List Table). none_gathered l cuts bottom) these in
+    let count : data_blocks ts - 0 ≡ data_blocks ts = omega arith in
+    let slot : Inputs → Gathered → Slot = λ i h. record { number = number; job = merge_of i; input = input_ahead (inputs (merge_of i)) h; stage = Reading (blocks_left (inputs (merge_of i)) h) } in
+    let with_runs : List (List Version) → ℕ → Slot = λ runs n. record { number = number; job = Merge level upper lower; input = record { runs = runs; cuts = cuts; bottom = bottom }; stage = Reading n } in
+    ap (λ (i : Inputs). slot i g) is
+    ∙ ap (slot (record { level = level; upper = upper; lower = lower })) nothing
+    ∙ ap (λ (runs : List (List Version)). with_runs runs (data_blocks ts - 0)) (none_ahead (ascending_runs ts))
+    ∙ ap (with_runs (map versions_of (ascending_runs ts))) count
+
+pub none_ordered : (runs : List (List Table)) → AreRuns (map blank runs)
+none_ordered [] = tt
+none_ordered (run ∷ runs) = (tt, none_ordered runs)
+
 -- ---- one run after the other
 
 module _ (sectors : List (List ℕ)) (area from0 to0 : ℕ) (runs0 : List (List Table)) (old : List (List Version)) where
@@ -180,11 +203,11 @@ still_there old now i run within e at =
     let inside : i < length old = omega (arith, within, length-drop i now, length-drop i old, ap (λ (l : List (List Version)). length l) e) in
     let here : i + 0 ≡ i = omega arith in
     let same : run ≡ get_or old i run =
-        at
-        ∙ sym (get_or-drop i now 0 run ∙ ap (λ (n : ℕ). get_or now n run) here)
-        ∙ ap (λ (l : List (List Version)). get_or l 0 run) e
-        ∙ get_or-drop i old 0 run
-        ∙ ap (λ (n : ℕ). get_or old n run) here in
+    at
+    ∙ sym (get_or-drop i now 0 run ∙ ap (λ (n : ℕ). get_or now n run) here)
+    ∙ ap (λ (l : List (List Version)). get_or l 0 run) e
+    ∙ get_or-drop i old 0 run
+    ∙ ap (λ (n : ℕ). get_or old n run) here in
     (same, inside, drop_more old i run inside ∙ ap (λ (l : List Version). l ∷ drop (i + 1) old) (sym same))
 
 -- ---- lists in vectors
@@ -232,3 +255,13 @@ pub all_cut : (lengths : List ℕ) (old now : List (List Version)) (i : ℕ) →
 all_cut lengths old now i past count so_far =
     let none : fronts (drop i lengths) (drop i old) ≡ [] = ap (λ (ns : List ℕ). fronts ns (drop i old)) (drop_all i lengths past) in
     sym (ap (λ (l : List (List Version)). take i now ++ l) none ∙ append-nil (take i now) ∙ take_all i now (omega (arith, past, count))) ∙ so_far.same
+
+pub fronts_ordered : (lengths : List ℕ) (runs : List (List Version)) → AreRuns runs → AreRuns (fronts lengths runs)
+fronts_ordered [] runs all = tt
+fronts_ordered (n ∷ lengths) [] all = tt
+fronts_ordered (n ∷ lengths) (run ∷ runs) all = (first_ordered n run all.0, fronts_ordered lengths runs all.1)
+
+-- a vector's list, written back whole
+pub written_back : {X : Type 0} (new old : List X) (n : ℕ) → n ≡ length old → length new ≡ length old → take n (new ++ drop (length new) old) ≡ new
+written_back new old n all count =
+    ap (λ l. take n (new ++ l)) (drop_all (length new) old (omega (arith, count))) ∙ ap (take n) (append-nil new) ∙ take_all n new (omega (arith, all, count))

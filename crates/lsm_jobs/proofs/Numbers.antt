@@ -62,9 +62,8 @@ one_more old new tables i t keys others inside at h = record {
     last false true = refl
     last false false = refl
 
--- the numbers of two lists, added one after the other
-pub both_added : (empty first new : BTreeSet ℕ) (upper lower a b : List Table) → empty.keys ≡ [] → a ≡ upper → b ≡ lower → ((others : List Table) → AreNumbersOf empty others → AreNumbersOf first (others ++ a))
-    → ((others : List Table) → AreNumbersOf first others → AreNumbersOf new (others ++ b)) → AreNumbersOf new (upper ++ lower)
-both_added empty first new upper lower a b none is_upper is_lower f g =
+-- the numbers of a list, added to none
+pub all_added : (empty new : BTreeSet ℕ) (tables lent : List Table) → empty.keys ≡ [] → lent ≡ tables → ((others : List Table) → AreNumbersOf empty others → AreNumbersOf new (others ++ lent)) → AreNumbersOf new tables
+all_added empty new tables lent none is added =
     let start : AreNumbersOf empty [] = record { same = λ n. ap (list_any (is_at (nat_cmp n))) none } in
-    subst (λ (ts : List Table). AreNumbersOf new (upper ++ ts)) is_lower (g upper (subst (AreNumbersOf first) is_upper (f [] start)))
+    subst (AreNumbersOf new) is (added [] start)

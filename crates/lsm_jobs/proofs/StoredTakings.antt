@@ -36,25 +36,27 @@ module _ (sectors : List (List ℕ)) (area : ℕ) where
           let ends = (stored_ranged sectors area t s).within v there in
           at_most_trans t.first v.key t.last ends.0 ends.1
 
+  -- a table before the first of a run, which it ends before
+  before_run : (t : Table) (rest : List Table) → at_most t.first t.last ≡ true → ends_run t rest ≡ false → AllByRecursion IsRun (ascending_runs rest) → AllByRecursion IsRun (with_first false t (ascending_runs rest))
+  before_run t [] own e runs = absurd cc
+  before_run t (u ∷ rest) own e runs =
+      let p = led_by u rest in
+      let each : AllByRecursion IsRun ((u ∷ p.0) ∷ p.1) = subst (AllByRecursion IsRun) p.2 runs in
+      let next = and_from (is_below t.last u.first) (is_run (u ∷ p.0)) (not_ended (is_below t.last u.first) e) (tested_run (u ∷ p.0) each.0) in
+      let tested : is_run (t ∷ u ∷ p.0) ≡ true = and_from (at_most t.first t.last) (is_below t.last u.first && is_run (u ∷ p.0)) own next in
+      subst (λ (rs : List (List Table)). AllByRecursion IsRun (with_first false t rs)) (sym p.2) (run_tested (t ∷ u ∷ p.0) tested, each.1)
+
   -- the runs of tables that stand are runs
   are_runs : (tables : List Table) → AllByRecursion (IsStored sectors area) tables → AllByRecursion IsRun (ascending_runs tables)
   are_runs [] all = tt
   are_runs (t ∷ rest) all = by (ends_run t rest) refl (are_runs rest all.1)
     where
       own : at_most t.first t.last ≡ true
-      own = stored_range sectors area t all.0
+      own = stored_range t all.0
 
       by : (b : Bool) → ends_run t rest ≡ b → AllByRecursion IsRun (ascending_runs rest) → AllByRecursion IsRun (with_first b t (ascending_runs rest))
       by true e runs = ((own, tt, tt), runs)
-      by false e runs = before rest e runs
-        where
-          before : (ts : List Table) → ends_run t ts ≡ false → AllByRecursion IsRun (ascending_runs ts) → AllByRecursion IsRun (with_first false t (ascending_runs ts))
-          before [] e runs = absurd cc
-          before (u ∷ ts) e runs =
-              let p = led_by u ts in
-              let each : AllByRecursion IsRun ((u ∷ p.0) ∷ p.1) = subst (AllByRecursion IsRun) p.2 runs in
-              let tested : is_run (t ∷ u ∷ p.0) ≡ true = and_from (at_most t.first t.last) (is_below t.last u.first && is_run (u ∷ p.0)) own (and_from (is_below t.last u.first) (is_run (u ∷ p.0)) (not_ended (is_below t.last u.first) e) (tested_run (u ∷ p.0) each.0)) in
-              subst (λ (rs : List (List Table)). AllByRecursion IsRun (with_first false t rs)) (sym p.2) (run_tested (t ∷ u ∷ p.0) tested, each.1)
+      by false e runs = before_run t rest own e runs
 
   runs_ordered : (runs : List (List Table)) → AllByRecursion IsRun runs → AllByRecursion (IsStored sectors area) (all_tables runs) → AreRuns (map versions_of runs)
   runs_ordered [] are stand = tt

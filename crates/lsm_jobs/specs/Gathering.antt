@@ -142,6 +142,7 @@ fronts (n ∷ counts) (run ∷ runs) = take n run ∷ fronts counts runs
 
 -- With some entries more in each run, or none.
 pub record IsGrown (old new : Gathered) : Type 0 where
+  pub same_count : length new.runs ≡ length old.runs
   pub runs : fronts (map length old.runs) new.runs ≡ old.runs
   pub same_cuts : new.cuts ≡ old.cuts
   pub same_bottom : new.bottom ≡ old.bottom

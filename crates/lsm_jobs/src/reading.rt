@@ -84,8 +84,7 @@ impl<A: Allocator + Clone> HeldJob<A> {
         } = self;
         match work {
             Work::Reading(gathering) => {
-                let (work, left) =
-                    gathering.step(alloc, inputs(&tables), area, device);
+                let (work, left) = gathering.step(alloc, inputs(&tables), area, device);
                 let held = HeldJob {
                     number,
                     tables,

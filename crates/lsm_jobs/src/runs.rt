@@ -72,7 +72,8 @@ pub(crate) fn lengths<A: Allocator>(
 /// Keeps so many entries of each run.
 pub(crate) fn cut_back<A: Allocator>(runs: &mut [Vec<Entry<A>, A>], lengths: &[usize])
     requires { length lengths.now ≡ length runs.old }
-    ensures { items_of runs.new ≡ fronts lengths.now (items_of runs.old) }
+    ensures cut { items_of runs.new ≡ fronts lengths.now (items_of runs.old) }
+    ensures same_count { length runs.new ≡ length runs.old }
 {
     for i in 0..lengths.len() {
         runs[i].truncate(lengths[i]);

@@ -5,6 +5,7 @@ ghost use Rattle.std.specs.List.{AllByRecursion};
 ghost use Rattle.lsm_codec.specs.Versions.{IsEntry};
 ghost use Rattle.lsm_merge.specs.Inputs.{IsCuts};
 ghost use Rattle.lsm_levels.specs.Pick.{Flush, Merge, is_flush};
+ghost use Rattle.lsm_levels.specs.Levels.{all_tables};
 ghost use Rattle.lsm_levels.specs.Picks.{job_of};
 ghost use Rattle.lsm_device.specs.declared.refusal.Refusal.TheVariants.{NoMemory, Exhausted};
 ghost use Rattle.lsm_jobs.specs.Taking.{asked_job, given_job, level_of, told_of, slot_with, slot_for, with_taken};
@@ -14,10 +15,10 @@ ghost use Rattle.lsm_jobs.specs.Holding.{free_from};
 
 use crate::gathering::Gathering;
 use crate::held::{HeldJob, Work};
-use crate::merge::MergeTables;
+use crate::merge::{MergeTables, add_handles};
 use crate::slots::{Slots, free_place};
 use lsm_device::Refusal;
-use lsm_levels::{Choice, Levels, Pick, PlacedTable, share_all};
+use lsm_levels::{Choice, Levels, Pick, PlacedTable, Run, share_all};
 use lsm_mem::Sealed;
 use lsm_merge::Input;
 use std::alloc::{AllocError, Allocator};
@@ -36,7 +37,7 @@ fn level_of<A: Allocator>(job: &Pick<'_, A>) -> Option<usize>
 {
     match job {
         Pick::Flush => None,
-        Pick::OldestRun { upper: _, lower: _ } => Some(0),
+        Pick::OldestRuns { runs: _, lower: _ } => Some(0),
         Pick::OneTable {
             level,
             upper: _,
@@ -84,6 +85,20 @@ fn one_handle<A: Allocator>(
     Ok(handles)
 }
 
+/// Handles of the tables of runs, one run after the other.
+fn run_handles<A: Allocator>(
+    alloc: A,
+    runs: &[Run<A>],
+) -> Result<Vec<PlacedTable<A>, A>, AllocError>
+    ensures { IfOk result (λ handles. handles.items ≡ all_tables runs.now) }
+{
+    let mut handles = Vec::new(alloc);
+    for run in runs {
+        add_handles(&mut handles, run.tables())?;
+    }
+    Ok(handles)
+}
+
 /// A merge of these tables of a level with those of the next one, whose data blocks have to be read.
 fn merge_of<A: Allocator + Clone>(
     alloc: &A,
@@ -126,8 +141,8 @@ fn job_for<A: Allocator + Clone>(
             let sealed = sealed.unwrap();
             flush_of(alloc, number, sealed, cuts)
         }
-        Pick::OldestRun { upper, lower } => {
-            let upper = share_all(alloc.clone()?, upper)?;
+        Pick::OldestRuns { runs, lower } => {
+            let upper = run_handles(alloc.clone()?, runs)?;
             merge_of(alloc, number, 0, upper, lower, cuts, bottom)
         }
         Pick::OneTable {

@@ -68,8 +68,8 @@ returns-in_err-read_tables-clause-bad g c = λ t is new h.
     let tells : IsTrue ((D.medium c.loop-i.device).lasting.tells) = subst (λ (l : Lasting). IsTrue l.tells) (sym k.device.only_reads.same_lasting) t in
     let same : c.read_tables.result ≡ Err BadTable = c.in_err-read_tables.was ∙ ap (λ (e : Refusal). Err e) (sym p.2) ∙ sym p.1 ∙ is in
     let none : (v : List Version) → GoesOn run.items (items_between S area from to own) v → ⊥ =
-        subst (λ (hs : List Disk). (v : List Version) → GoesOn run.items (items_between (seen (present hs)) area from to own) v → ⊥) (k.device.only_reads.unchanged t)
-        (subst (λ (n : ℕ). (v : List Version) → GoesOn run.items (items_in (take n (drop from (blocks_in (seen (disk (D.medium c.loop-i.device))) area own)))) v → ⊥) c.saturating_sub.ensures (c.read_tables.ensures.bad tells same)) in
+    subst (λ (hs : List Disk). (v : List Version) → GoesOn run.items (items_between (seen (present hs)) area from to own) v → ⊥) (k.device.only_reads.unchanged t)
+    (subst (λ (n : ℕ). (v : List Version) → GoesOn run.items (items_in (take n (drop from (blocks_in (seen (disk (D.medium c.loop-i.device))) area own)))) v → ⊥) c.saturating_sub.ensures (c.read_tables.ensures.bad tells same)) in
     run_refused S area c.args.from c.args.to (ascending_runs c.args.tables.now) old i from to (ascending_runs c.loop-i.behind.now) (ascending_runs others) own (items_of runs) run.items first here.2 (k.so_far t) none new h
 
 pub returns-in_err-read_tables-clause-longer : goal.returns-in_err-read_tables-clause-longer
@@ -154,8 +154,8 @@ loop-i-preserved g c =
       so_far = λ t.
           let tells : IsTrue mid.lasting.tells = subst (λ (l : Lasting). IsTrue l.tells) (sym k.device.only_reads.same_lasting) t in
           let goes : GoesOn run.items (items_between S area from to own) after.items =
-              subst (λ (hs : List Disk). GoesOn run.items (items_between (seen (present hs)) area from to own) after.items) (k.device.only_reads.unchanged t)
-              (subst (λ (m : ℕ). GoesOn run.items (items_in (take m (drop from (blocks_in (seen (disk mid)) area own)))) after.items) c.saturating_sub.ensures (c.in_ok-read_tables.ensures.goes_on tells)) in
+          subst (λ (hs : List Disk). GoesOn run.items (items_between (seen (present hs)) area from to own) after.items) (k.device.only_reads.unchanged t)
+          (subst (λ (m : ℕ). GoesOn run.items (items_in (take m (drop from (blocks_in (seen (disk mid)) area own)))) after.items) c.saturating_sub.ensures (c.in_ok-read_tables.ensures.goes_on tells)) in
           let added = run_added S area c.args.from c.args.to (ascending_runs c.args.tables.now) old i from to (ascending_runs behind) (ascending_runs others) own (items_of runs) run.items first here.2 (k.so_far t) after.items inside goes in
           let less : from - data_blocks own ≡ c.saturating_sub-from.result = omega (arith, c.saturating_sub-from.ensures, c.data_blocks-blocks.ensures.count) in
           let lower : to - data_blocks own ≡ c.saturating_sub-to.result = omega (arith, c.saturating_sub-to.ensures, c.data_blocks-blocks.ensures.count) in

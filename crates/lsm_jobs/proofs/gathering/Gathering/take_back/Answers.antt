@@ -1,12 +1,14 @@
-use Rattle.std.proofs.Common.{List, sym, subst}
-use Rattle.lsm_codec.specs.Versions.{Version, AreOrdered}
-use Rattle.lsm_jobs.proofs.GoingOn.{first_ordered}
+use Rattle.std.proofs.Common.{◌≡◌, ◌∙◌, List, length, sym, ap, arith}
+use Rattle.std.specs.declared.vec.Vec.{Vec}
+use Rattle.lsm_codec.specs.Versions.{Version}
+use Rattle.lsm_merge.specs.Inputs.{AreRuns, items_of}
+use Rattle.lsm_jobs.proofs.GatheredRuns.{fronts_ordered, written_back}
 use Rattle.lsm_jobs.proofs.gathering.Gathering.take_back.Goals as goal
 
 pub invariant_of-self : goal.invariant_of-self
 invariant_of-self g c =
-    let s = c.self.inside in (
-      subst (λ (l : List Version). AreOrdered l) (sym c.truncate.ensures.items) (first_ordered c.args.upper s.upper.items c.self.invariant.0),
-      subst (λ (l : List Version). AreOrdered l) (sym c.truncate-2.ensures.items) (first_ordered c.args.lower s.lower.items c.self.invariant.1),
-      c.self.invariant.2,
-    )
+    let runs = c.self.inside.runs in
+    let lent : c.deref_mut.result.now ≡ runs.items = c.deref_mut.ensures.value in
+    let all : runs.len ≡ length runs.items = omega (arith, runs.ok.0) in
+    let count : length c.cut_back.new.runs ≡ length runs.items = c.cut_back.ensures.same_count ∙ ap (λ l. length l) lent in
+    (rw (written_back c.cut_back.new.runs runs.items runs.len all count) (rw c.cut_back.ensures.cut (fronts_ordered c.args.lengths.now (items_of c.deref_mut.result.now) (rw lent c.self.invariant.0))), c.self.invariant.1)
