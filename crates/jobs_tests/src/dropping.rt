@@ -40,6 +40,6 @@ fn a_job_that_is_dropped_gives_its_blocks_back(rt: HostRuntime) -> Result<(), Fa
     let mut extents = Extents::new(alloc, 40);
     let _levels = extents.take(22)?;
     assert!(rt; free_blocks(alloc, &mut subject.slots, &made, &mut extents)? == [12, 18]);
-    assert!(rt; are_free(&subject.slots) && subject.take()? == Some(merge(2)));
+    assert!(rt; are_free(&subject.slots) && subject.take(None)? == Some(merge(2)));
     Ok(())
 }

@@ -16,6 +16,8 @@ mod read_growth;
 #[cfg(test)]
 mod reading;
 #[cfg(test)]
+mod several_runs;
+#[cfg(test)]
 mod subject;
 #[cfg(test)]
 mod taking;

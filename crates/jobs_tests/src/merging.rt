@@ -5,7 +5,7 @@ use lsm_codec::Entry;
 use lsm_device::{Device, MemDevice, Refusal};
 use lsm_extent::Extents;
 use lsm_jobs::{Slots, TakenJob};
-use lsm_levels::{Levels, PlacedTable, Run, is_run};
+use lsm_levels::{Choice, Levels, PlacedTable, Run, is_run};
 use lsm_merge::Built;
 use lsm_table::Image;
 use std::alloc::{Allocator, Global};
@@ -25,13 +25,14 @@ pub(crate) struct Subject<A: Allocator = Global> {
     tables: u32,
 }
 
-/// Entries of batch 1 with values of 2,048 bytes, so that each fills a block: so many keys of one byte, from one on.
+/// Entries of batch 1 with values of 2,048 bytes, so that each fills a block: so many keys of one byte, from one on, which all bytes
+/// of the values are.
 pub(crate) fn entries<A: Allocator + Clone>(
     alloc: &A,
     first: u8,
     count: u8,
 ) -> Result<Vec<Entry<A>, A>, Refusal> {
-    let value = [7; 2_048];
+    let value = [first; 2_048];
     let mut made = Vec::new(alloc.clone()?);
     for i in 0..count {
         let key = [first.wrapping_add(i)];
@@ -138,13 +139,13 @@ impl<A: Allocator + Clone> Subject<A> {
         Ok(())
     }
 
-    /// Takes the merge that comes next.
-    pub(crate) fn take(&mut self) -> Result<Option<TakenJob>, Refusal> {
+    /// Takes the merge that is chosen, or where none the one that comes next.
+    pub(crate) fn take(&mut self, asked: Option<Choice>) -> Result<Option<TakenJob>, Refusal> {
         let cuts = one_cut(self.alloc.clone()?)?;
         // Nothing waits sealed: the first of none.
         let sealed = Vec::new(self.alloc.clone()?);
         self.slots
-            .take(&self.alloc, &self.levels, None, sealed.first(), cuts)
+            .take(&self.alloc, &self.levels, asked, sealed.first(), cuts)
     }
 
     /// Reads the next blocks of a job.
@@ -182,7 +183,7 @@ pub(crate) fn one_merge<A: Allocator + Clone>(alloc: A, blocks: u8) -> Result<Su
         subject.add_run(0x40, 1)?;
     }
     subject.set_level_1(0x12, 1)?;
-    match subject.take()? {
+    match subject.take(None)? {
         Some(job) if job == merge(1) => Ok(subject),
         _ => Err(Refusal::NoSuchJob),
     }

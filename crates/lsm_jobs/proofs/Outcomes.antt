@@ -1,5 +1,5 @@
 -- The tables that are made of an input.
-use Rattle.std.proofs.Common.{◌≡◌, ◌≢◌, ◌⊎◌, inl, inr, ⊎_elim, ℕ, zero, suc, ◌<◌, Bool, true, false, List, [], ◌∷◌, ◌++◌, length, get_or, refl, sym, ap, subst, ◌∙◌, append-nil, arith}
+use Rattle.std.proofs.Common.{◌≡◌, ◌≢◌, inl, inr, ⊎_elim, ℕ, zero, suc, ◌<◌, Bool, true, false, List, [], ◌∷◌, ◌++◌, length, get_or, refl, sym, ap, subst, ◌∙◌, append-nil, arith}
 use Rattle.std.specs.Prelude.{Contains}
 use Rattle.std.specs.List.{AllByRecursion, flat_map}
 use Rattle.std.specs.declared.cmp.Ordering.{Ordering}
@@ -21,7 +21,7 @@ use Rattle.lsm_merge.specs.Laws.{IsKeptAt, KeepsMaps}
 use Rattle.lsm_merge.proofs.MapLaws.{keep_law}
 use Rattle.lsm_levels.specs.Among.{IsAmong}
 use Rattle.lsm_levels.specs.Tables.{Table, IsRun, at_most, is_below, versions_of}
-use Rattle.lsm_levels.specs.Pick.{Flush, Merge}
+use Rattle.lsm_levels.specs.Pick.{Flush}
 use Rattle.lsm_levels.specs.Held.{IsRanged, AreRanged, IsWithin, AreOutputs, AreVersionsOf}
 use Rattle.lsm_levels.proofs.KeyOrder.{at_most_trans, at_most_itself}
 use Rattle.lsm_levels.proofs.Members.{among_left, among_right, among_either}

@@ -6,7 +6,7 @@ use Rattle.lsm_codec.proofs.Limits.{at_most-Decides, each-Decides}
 use Rattle.std.specs.Prelude.{IsTrue, Result, Ok, Err, is_ok, OnOk, OnErr}
 use Rattle.std.proofs.Common.{inl, inr}
 use Rattle.std.proofs.lemmas.Bool.{ltb-true, ltb-false, cases_lt}
-use Rattle.std.proofs.lemmas.List.{append-nil, drop-drop, take_all, length-append, length-drop}
+use Rattle.std.proofs.lemmas.List.{append-nil, take_all, length-append, length-drop}
 use Rattle.lsm_device.specs.Calls.{faults_after}
 use Rattle.lsm_device.specs.Medium.{Medium, disk}
 use Rattle.lsm_merge.specs.Inputs.{MergeInput}

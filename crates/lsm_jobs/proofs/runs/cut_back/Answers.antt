@@ -1,7 +1,6 @@
 use Rattle.std.specs.Prelude.{◌+◌, ◌<◌, length, slice_index_or}
-use Rattle.std.proofs.Common.{◌≡◌, List, sym, ap, subst, take, ◌∙◌, arith}
+use Rattle.std.proofs.Common.{List, sym, ap, subst, take, ◌∙◌, arith}
 use Rattle.std.proofs.lemmas.List.{get_or_default, length-set}
-use Rattle.std.specs.declared.vec.Vec.{Vec}
 use Rattle.lsm_codec.specs.Versions.{Version}
 use Rattle.lsm_merge.specs.Inputs.{items_of}
 use Rattle.lsm_jobs.proofs.GatheredRuns.{CutTo, one_cut, set_items, vector_at, count_items}

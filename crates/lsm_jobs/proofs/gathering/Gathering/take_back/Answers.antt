@@ -1,7 +1,5 @@
-use Rattle.std.proofs.Common.{◌≡◌, ◌∙◌, List, length, sym, ap, arith}
-use Rattle.std.specs.declared.vec.Vec.{Vec}
-use Rattle.lsm_codec.specs.Versions.{Version}
-use Rattle.lsm_merge.specs.Inputs.{AreRuns, items_of}
+use Rattle.std.proofs.Common.{◌≡◌, ◌∙◌, length, ap, arith}
+use Rattle.lsm_merge.specs.Inputs.{items_of}
 use Rattle.lsm_jobs.proofs.GatheredRuns.{fronts_ordered, written_back}
 use Rattle.lsm_jobs.proofs.gathering.Gathering.take_back.Goals as goal
 
