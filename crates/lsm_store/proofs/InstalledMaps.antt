@@ -29,8 +29,8 @@ use Rattle.lsm_store.specs.WorkEffects.{with_installed}
 use Rattle.lsm_store.specs.WorkMaps.{AreVersions, IsAsked, IsJobOf, MayBePutIn, InstallLaw, RotationLaw, CommitLaw}
 use Rattle.lsm_store.specs.Machine.{Machine}
 use Rattle.lsm_store.proofs.Replaced.{IsReplacing, replaced_maps}
+use Rattle.lsm_jobs.proofs.GatheredRuns.{joined_runs}
 use Rattle.lsm_jobs.proofs.Outcomes.{kept_among}
-use Rattle.lsm_store.proofs.InputRuns.{input_versions}
 
 -- ---- the versions of runs of tables
 
@@ -59,6 +59,12 @@ has_in levels v a =
 
 pub in_has : (levels : Levels) (v : Version) → HasVersion levels v → IsAmong v (table_versions (places levels))
 in_has levels v h = of_places v h.table (places levels) (place_of_level levels h.place h.table h.there) h.has
+
+-- ---- the versions of a merge's input
+
+-- they are those of its tables
+pub merge_versions : (sealed : List Version) (input : MergeInput) (i : ℕ) (upper lower : List Table) → input.runs ≡ runs_of sealed (Merge i upper lower) → joined input.runs ≡ versions_of (upper ++ lower)
+merge_versions sealed input i upper lower runs = ap joined runs ∙ joined_runs (upper ++ lower)
 
 -- ---- an install
 
@@ -130,10 +136,10 @@ module _ (w : WorkView) (good : AreVersions w) where
     law = merging_law w.levels input.bottom i upper lower new good.runs held
 
     of_runs : (v : Version) → IsAmong v (joined input.runs) → IsAmong v (versions_of (upper ++ lower))
-    of_runs v a = subst (IsAmong v) (input_versions w.sealed input i upper lower runs) a
+    of_runs v a = subst (IsAmong v) (merge_versions w.sealed input i upper lower runs) a
 
     to_runs : (v : Version) → IsAmong v (versions_of (upper ++ lower)) → IsAmong v (joined input.runs)
-    to_runs v a = subst (IsAmong v) (sym (input_versions w.sealed input i upper lower runs)) a
+    to_runs v a = subst (IsAmong v) (sym (merge_versions w.sealed input i upper lower runs)) a
 
     input_in : (v : Version) → IsAmong v (joined input.runs) → HasVersion w.levels v
     input_in v a =

@@ -65,7 +65,6 @@ pub mod StoredLevels
 pub mod NumberedApart
 pub mod VersionPoints
 pub mod UpperRuns
-pub mod InputRuns
 pub mod InstalledRecords
 pub mod MergedRecords
 pub mod WrittenOutputs

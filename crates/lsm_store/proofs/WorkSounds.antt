@@ -19,6 +19,7 @@ use Rattle.lsm_jobs.specs.Placing.{all_handed_out}
 use Rattle.lsm_jobs.specs.Reading.{stage_with}
 use Rattle.lsm_jobs.specs.Taking.{runs_of, first_stage, slot_for, with_taken}
 use Rattle.lsm_jobs.proofs.Found.{found_there, found_number}
+use Rattle.lsm_jobs.proofs.GatheredRuns.{joined_runs}
 use Rattle.lsm_jobs.proofs.KeptJobs.{taken_cases, held_cases, given_may, given_waits, may_taken, going_on_law, freeing_law}
 use Rattle.lsm_store.specs.RecoveryPoints.{batch_count}
 use Rattle.lsm_store.specs.State.{State, LiveSnapshot, are_waiting}
@@ -30,7 +31,6 @@ use Rattle.lsm_store.specs.WorkMaps.{AreVersions, IsJobOf, MayBePutIn}
 use Rattle.lsm_store.specs.WorkSound.{IsSound, IsServed}
 use Rattle.lsm_store.specs.Machine.{Machine}
 use Rattle.lsm_store.proofs.Cuts.{present_cut, snapshot_cut}
-use Rattle.lsm_store.proofs.InputRuns.{joined_runs}
 use Rattle.lsm_store.proofs.StateMaps.{count_is, synced_is}
 
 some_slot : (a b : Slot) → Some a ≡ Some b → a ≡ b

@@ -36,8 +36,7 @@ use Rattle.lsm_open.specs.Switching.{Parts, with_inputs, with_outputs, KeepsNewe
 use Rattle.lsm_open.specs.Tables.{first_data, table_versions, IsTableAt, AscendInRun}
 use Rattle.lsm_open.specs.ToldTables.{records_of}
 use Rattle.lsm_open.specs.Writing.{PlacedTable}
-use Rattle.lsm_store.proofs.InputRuns.{input_versions}
-use Rattle.lsm_store.proofs.InstalledMaps.{in_has}
+use Rattle.lsm_store.proofs.InstalledMaps.{merge_versions, in_has}
 use Rattle.lsm_store.proofs.MergedRecords.{merge_order, merge_inputs, after_parts}
 use Rattle.lsm_store.proofs.MergeInputs.{same_newest, uppers_at, IsBeside, upper_in, in_upper, lower_in, in_lower, beside_upper, beside_inputs, beside_bottom}
 use Rattle.lsm_open.proofs.StoredRecords.{versions_run, run_order, records_ascend}
@@ -104,7 +103,7 @@ module _ (m : Machine) (p : Placement) (xs ys : List PlacedTable) (d : Disk) (jo
   is_lower = lower_is n (seen d) levels tables r (length upper) i
 
   of_runs : (v : Version) → IsAmong v (joined slot.input.runs) → IsAmong v (versions_of (upper ++ lower))
-  of_runs v a = subst (IsAmong v) (input_versions m.work.sealed slot.input i upper lower its_job.runs) a
+  of_runs v a = subst (IsAmong v) (merge_versions m.work.sealed slot.input i upper lower its_job.runs) a
 
   to_disk : (v : Version) → IsAmong v (joined slot.input.runs) → IsAmong v (table_versions p.logs.log_sectors (seen d) (parts_at m.work.levels i has.range (length upper)).upper ++ table_versions p.logs.log_sectors (seen d) (parts_at m.work.levels i has.range (length upper)).lower)
   to_disk v a =
@@ -132,7 +131,7 @@ module _ (m : Machine) (p : Placement) (xs ys : List PlacedTable) (d : Disk) (jo
   from_disk : (v : Version) → IsAmong v (table_versions p.logs.log_sectors (seen d) (parts_at m.work.levels i has.range (length upper)).upper ++ table_versions p.logs.log_sectors (seen d) (parts_at m.work.levels i has.range (length upper)).lower) → IsAmong v (joined slot.input.runs)
   from_disk v a =
       let t = from_inputs v a in
-      subst (IsAmong v) (sym (input_versions m.work.sealed slot.input i upper lower its_job.runs)) (of_table v t.0 (upper ++ lower) t.1 t.3)
+      subst (IsAmong v) (sym (merge_versions m.work.sealed slot.input i upper lower its_job.runs)) (of_table v t.0 (upper ++ lower) t.1 t.3)
 
   in_work : (v : Version) → IsAmong v (joined slot.input.runs) → IsAmong v (versions_in m.work)
   in_work v a =
