@@ -12,7 +12,7 @@ use Rattle.lsm_levels.specs.Pick.{Job, Flush, Merge, is_flush, is_bottom}
 use Rattle.lsm_levels.specs.Held.{IsHeld}
 use Rattle.lsm_levels.proofs.Members.{among_either}
 use Rattle.lsm_levels.proofs.Taking.{in_tables, merging_law}
-use Rattle.lsm_jobs.specs.Slots.{Stage, Slot, JobSlots, Reading, Frozen, Writing, slot_of, held_jobs, with_slot, with_held, is_writing, left_at, less_left, outputs_at}
+use Rattle.lsm_jobs.specs.Slots.{Stage, Slot, JobSlots, Reading, Frozen, Writing, slot_of, with_slot, with_held, is_writing, left_at, less_left, outputs_at}
 use Rattle.lsm_jobs.specs.Keeping.{AreKept}
 use Rattle.lsm_jobs.specs.Outputs.{placed_blocks}
 use Rattle.lsm_jobs.specs.Placing.{all_handed_out}
