@@ -5,6 +5,7 @@ use lsm_codec::{Batch, Op};
 use lsm_device::Refusal;
 use lsm_lives::{Call, Explored, Step, Work, explore};
 use lsm_progress::{Milestone, Progress, Silent};
+use lsm_store::Choice;
 use std::alloc::Global;
 use std::test::Fail;
 use std::thread::Threads;
@@ -22,6 +23,11 @@ fn explored<R: Threads + Sync>(
 // The pieces of work of a job.
 fn do_job(steps: &mut Vec<Step>, job: u64, is_merge: bool) -> Result<(), Refusal> {
     steps.push(Step::Work(Work::Take))?;
+    do_taken(steps, job, is_merge)
+}
+
+// Those of a job that is taken.
+fn do_taken(steps: &mut Vec<Step>, job: u64, is_merge: bool) -> Result<(), Refusal> {
     if is_merge {
         steps.push(Step::Work(Work::Read(job)))?;
     }
@@ -128,6 +134,29 @@ fn flushes_and_merges_are_explored(rt: HostRuntime) -> Result<(), Fail> {
     let steps = merges(rt.alloc())?;
     let once = explored(&rt, rt.alloc(), &steps, false)?;
     assert!(rt; once.first > 40_000 && once.second == 0 && once.skipped > 0 && once.wrong == 0);
+    Ok(())
+}
+
+// Three flushes, of a put, of its delete and of another put, and a merge of all three runs.
+fn three_runs(alloc: Global) -> Result<Vec<Step>, Refusal> {
+    let mut steps = Vec::new(alloc);
+    steps.push(put(alloc, b"\x61", b"\x31")?)?;
+    flush(&mut steps, 1)?;
+    steps.push(delete(alloc, b"\x61")?)?;
+    flush(&mut steps, 2)?;
+    steps.push(put(alloc, b"\x62", b"\x31")?)?;
+    flush(&mut steps, 3)?;
+    let runs = Choice::OldestRuns { count: 3 };
+    steps.push(Step::Work(Work::TakeOf(runs)))?;
+    do_taken(&mut steps, 4, true)?;
+    Ok(steps)
+}
+
+#[test]
+fn a_merge_of_three_runs_is_explored(rt: HostRuntime) -> Result<(), Fail> {
+    let steps = three_runs(rt.alloc())?;
+    let once = explored(&rt, rt.alloc(), &steps, false)?;
+    assert!(rt; once.first > 20_000 && once.second == 0 && once.skipped > 0 && once.wrong == 0);
     Ok(())
 }
 

@@ -34,9 +34,6 @@ versions_of-append : (xs ys : Tables) → versions_of (xs ++ ys) ≡ versions_of
 versions_of-append [] ys = refl
 versions_of-append (x ∷ xs) ys = ap (λ (vs : List Version). x.versions ++ vs) (versions_of-append xs ys) ∙ sym (append_assoc x.versions (versions_of xs) (versions_of ys))
 
-pub all_tables-append : (xs ys : List Tables) → all_tables (xs ++ ys) ≡ all_tables xs ++ all_tables ys
-all_tables-append [] ys = refl
-all_tables-append (x ∷ xs) ys = ap (λ (ts : Tables). x ++ ts) (all_tables-append xs ys) ∙ sym (append_assoc x (all_tables xs) (all_tables ys))
 
 -- ---- a table at a place of a run, behind others and before others
 
@@ -59,14 +56,14 @@ runs_up_to done runs i run lt is =
     ∙ ap (λ (l : Tables). done ++ l) (one ∙ ap all_tables (ap (λ (x : Tables). take i runs ++ x ∷ []) is ∙ sym (take_more runs i run lt)))
   where
     one : all_tables (take i runs) ++ run ≡ all_tables (take i runs ++ run ∷ [])
-    one = sym (all_tables-append (take i runs) (run ∷ []) ∙ ap (λ (l : Tables). all_tables (take i runs) ++ l) (append-nil run))
+    one = sym (tables_append (take i runs) (run ∷ []) ∙ ap (λ (l : Tables). all_tables (take i runs) ++ l) (append-nil run))
 
 pub runs_parted : (done : Tables) (runs : List Tables) (rest : Tables) (i : ℕ) (run : Tables) → i < length runs → run ≡ get_or runs i run
     → (done ++ all_tables runs) ++ rest ≡ ((done ++ all_tables (take i runs)) ++ run) ++ (all_tables (drop (i + 1) runs) ++ rest)
 runs_parted done runs rest i run lt is =
     let behind : drop i runs ≡ run ∷ drop (i + 1) runs = drop_more runs i run lt ∙ ap (λ (x : Tables). x ∷ drop (i + 1) runs) (sym is) in
     let whole : runs ≡ take i runs ++ run ∷ drop (i + 1) runs = sym (take-append-drop i runs) ∙ ap (λ (l : List Tables). take i runs ++ l) behind in
-    ap (λ (r : Tables). (done ++ r) ++ rest) (ap all_tables whole ∙ all_tables-append (take i runs) (run ∷ drop (i + 1) runs)) ∙ regrouped done (all_tables (take i runs)) run (all_tables (drop (i + 1) runs)) rest
+    ap (λ (r : Tables). (done ++ r) ++ rest) (ap all_tables whole ∙ tables_append (take i runs) (run ∷ drop (i + 1) runs)) ∙ regrouped done (all_tables (take i runs)) run (all_tables (drop (i + 1) runs)) rest
   where
     regrouped : (a b c d e : Tables) → (a ++ (b ++ (c ++ d))) ++ e ≡ ((a ++ b) ++ c) ++ (d ++ e)
     regrouped a b c d e = simp append_assoc
@@ -89,7 +86,7 @@ all_in_runs P runs i run lt is all =
 module _ (levels : Levels) (runs deeper : List Tables) (are_runs : runs ≡ levels.runs) (are_deeper : deeper ≡ levels.deeper) where
   pub places_parted : all_tables (places levels) ≡ all_tables runs ++ all_tables deeper
   places_parted =
-      all_tables-append levels.runs levels.deeper
+      tables_append levels.runs levels.deeper
       ∙ ap (λ (rs : List Tables). all_tables rs ++ all_tables levels.deeper) (sym are_runs)
       ∙ ap (λ (rs : List Tables). all_tables runs ++ all_tables rs) (sym are_deeper)
 

@@ -115,9 +115,9 @@ impl<A: Allocator + Clone, B: SessionName> Client<A, B> {
         shared.hold(rt).piece(&shared.counters, self)
     }
 
-    /// Takes the job of a choice, in one hold of the lock: neighbouring tables of a level from 1 to 3, or the oldest
-    /// run of level 0, with the tables of the next level that meet their hull. What the store refuses is a reply too. Turns of whatever clients do
-    /// the rest of the job.
+    /// Takes the job of a choice, in one hold of the lock: neighbouring tables of a level from 1 to 3, or so many of the oldest
+    /// runs of level 0, with the tables of the next level that meet their hull. What the store refuses is a reply too. Turns of
+    /// whatever clients do the rest of the job.
     ///
     /// It is refused with `TrailFull` where the trail has no place for another entry, and with `NoMemory`.
     pub fn take<D: Device, R: Wait>(

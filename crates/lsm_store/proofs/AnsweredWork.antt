@@ -15,7 +15,7 @@ use Rattle.lsm_merge.specs.Results.{MergeResult}
 use Rattle.lsm_levels.specs.Tables.{Table}
 use Rattle.lsm_jobs.specs.Slots.{Stage, Slot, Reading, Frozen, Writing, JobSlots, with_held, left_at, left_to_write, less_left, is_reading, is_frozen, is_writing, is_written, is_not_at}
 use Rattle.lsm_jobs.specs.Reading.{JobReadsOn, stage_with, input_with}
-use Rattle.lsm_jobs.specs.Gathering.{uppers, lowers}
+use Rattle.lsm_levels.specs.Pick.{inputs}
 use Rattle.lsm_jobs.specs.Outputs.{placed_blocks}
 use Rattle.lsm_jobs.specs.Refusing.{HasInput, HasOtherInput, RefusesInput, RefusesResult, RefusesWrite}
 use Rattle.lsm_jobs.specs.Placing.{ArePlaced, FindNoRoom}
@@ -195,7 +195,7 @@ read_answers m job = record {
         → h.now ≡ record h.slot { stage = stage_with (left_at h.slot.stage - 8) }
     now_is area left medium jobs h stays =
         let made = h.reads.becomes in
-        let kept : input_with left (uppers h.slot.job) (lowers h.slot.job) h.reads.after ≡ h.slot.input = sym (ap (λ (s : Slot). s.input) made) ∙ stays in
+        let kept : input_with left (inputs h.slot.job) h.reads.after ≡ h.slot.input = sym (ap (λ (s : Slot). s.input) made) ∙ stays in
         made
         ∙ ap (λ (i : MergeInput). let s : Slot = record h.slot { input = i; stage = stage_with left } in s) kept
         ∙ ap (λ (n : ℕ). let s : Slot = record h.slot { stage = stage_with n } in s) (sym (left_is area left medium jobs h))

@@ -1,8 +1,7 @@
 -- Jobs in slots have their tables, whatever the device holds, and can be read; and where these stand they are read as they are.
-use Rattle.std.proofs.Common.{◌≡◌, ℕ, zero, suc, ◌+◌, ◌++◌, ◌≤◌, ◌==◌, Bool, true, false, cond, List, [], ◌∷◌, length, Option, Some, None, refl, sym, ◌∙◌, ap, subst, arith}
+use Rattle.std.proofs.Common.{◌≡◌, ℕ, zero, suc, ◌++◌, ◌≤◌, ◌==◌, Bool, true, false, cond, List, [], ◌∷◌, length, Option, Some, None, refl, sym, ◌∙◌, ap, subst, arith}
 use Rattle.std.specs.List.{AllByRecursion}
 use Rattle.std.proofs.lemmas.Bool.{false≢true}
-use Rattle.std.proofs.lemmas.List.{length-append}
 use Rattle.lsm_codec.specs.Versions.{Version}
 use Rattle.lsm_device.specs.Medium.{Medium}
 use Rattle.lsm_merge.specs.Inputs.{MergeInput, AreRuns as AreEntryRuns}
@@ -14,8 +13,7 @@ use Rattle.lsm_levels.specs.Levels.{Levels, all_tables, places}
 use Rattle.lsm_levels.specs.Pick.{Job, Flush, Merge, inputs, is_flush}
 use Rattle.lsm_levels.specs.Stored.{LiesWithin, AreWithin, AreStored, IsStored}
 use Rattle.lsm_levels.specs.Tables.{Table}
-use Rattle.lsm_levels.proofs.Merging.{upper_run}
-use Rattle.lsm_jobs.specs.Gathering.{Gathered, uppers, lowers}
+use Rattle.lsm_jobs.specs.Gathering.{Gathered}
 use Rattle.lsm_jobs.specs.Keeping.{AreKept}
 use Rattle.lsm_jobs.specs.Reading.{CanBeRead, JobCanBeRead, JobReadsOn, SlotReadsOn, input_with}
 use Rattle.lsm_jobs.specs.Outputs.{placed_blocks}
@@ -136,20 +134,15 @@ placed_tables w job slot tables each have is frozen =
 pub job_can_be_read : (size area job : ℕ) (w : WorkView) (js : JobSlots) → AreRuns w.levels → AreKept w.levels js.next js.slots → AreWithin size area (places w.levels) → length (live_tables w) ≤ 1024 → JobCanBeRead size area job js.slots
 job_can_be_read size area job w js runs kept within few = record { is = by }
   where
-    counted : (j : Job) → length (uppers j) + length (lowers j) ≡ length (inputs j)
-    counted Flush = refl
-    counted (Merge i upper lower) = sym (length-append upper lower)
-
     by : (slot : Slot) → slot_of job js.slots ≡ Some slot → CanBeRead size area slot.job
     by slot is =
         let held = kept.held slot (found_there job js.slots slot is) in
-        let both = jobs_have (LiesWithin size area) w.levels slot.input.bottom slot.job within held in
         let taken_in = (install_counts w job slot runs held).taken_in in
-        record { few = omega (arith, taken_in, few, counted slot.job); upper = both.0; lower = both.1 }
+        record { few = omega (arith, taken_in, few); within = jobs_have (LiesWithin size area) w.levels slot.input.bottom slot.job within held }
 
-same_flag : (left : ℕ) (upper lower : List Table) (g : Gathered) → (input_with left upper lower g).bottom ≡ g.bottom
-same_flag zero upper lower g = refl
-same_flag (suc left) upper lower g = refl
+same_flag : (left : ℕ) (tables : List Table) (g : Gathered) → (input_with left tables g).bottom ≡ g.bottom
+same_flag zero tables g = refl
+same_flag (suc left) tables g = refl
 
 module _ (w : WorkView) (area job left : ℕ) (m : Medium) (after : JobSlots) (have : HaveTables w.levels w.jobs w.area) (read : JobReadsOn area m job left w.jobs after) where
   reads : SlotReadsOn area m left read.slot read.now
@@ -164,7 +157,7 @@ module _ (w : WorkView) (area job left : ℕ) (m : Medium) (after : JobSlots) (h
   same_bottom : read.now.input.bottom ≡ read.slot.input.bottom
   same_bottom =
       ap (λ (s : Slot). s.input.bottom) reads.becomes
-      ∙ same_flag left (uppers read.slot.job) (lowers read.slot.job) reads.after
+      ∙ same_flag left (inputs read.slot.job) reads.after
       ∙ reads.next.same_bottom
       ∙ sym (ap (λ (i : MergeInput). i.bottom) reads.shows.input)
 
@@ -199,14 +192,13 @@ module _ (w : WorkView) (area job left : ℕ) (m : Medium) (after : JobSlots) (h
 
 -- ---- where tables stand
 
-ordered_by : (sectors : List (List ℕ)) (area : ℕ) (levels : Levels) (bottom : Bool) (sealed : List Version) (job : Job) → AreRuns levels → AreStored sectors area (places levels) → IsHeld levels bottom job → is_flush job ≡ false → AreEntryRuns (runs_of sealed job)
-ordered_by sectors area levels bottom sealed Flush runs stored held merges = absurd (false≢true (sym merges))
-ordered_by sectors area levels bottom sealed (Merge i upper lower) runs stored held merges =
-    let both = jobs_have (IsStored sectors area) levels bottom (Merge i upper lower) stored held in
-    (stored_taking_law sectors area 0 i sealed [] bottom upper lower (upper_run levels bottom i upper lower runs held) held.lower_run both.0 both.1).ordered
+ordered_by : (sectors : List (List ℕ)) (area : ℕ) (levels : Levels) (bottom : Bool) (sealed : List Version) (job : Job) → AreStored sectors area (places levels) → IsHeld levels bottom job → is_flush job ≡ false → AreEntryRuns (runs_of sealed job)
+ordered_by sectors area levels bottom sealed Flush stored held merges = absurd (false≢true (sym merges))
+ordered_by sectors area levels bottom sealed (Merge i upper lower) stored held merges =
+    (stored_taking_law sectors area 0 i sealed [] bottom upper lower (jobs_have (IsStored sectors area) levels bottom (Merge i upper lower) stored held)).ordered
 
 -- the tables of a job that is being read stand, and what its merge is to be given is in the order of entries
-pub reading_stored : (sectors : List (List ℕ)) (area : ℕ) (levels : Levels) (sealed : List Version) (slot : Slot) → AreRuns levels → AreStored sectors area (places levels) → IsHeld levels slot.input.bottom slot.job
+pub reading_stored : (sectors : List (List ℕ)) (area : ℕ) (levels : Levels) (sealed : List Version) (slot : Slot) → AreStored sectors area (places levels) → IsHeld levels slot.input.bottom slot.job
     → slot.input.runs ≡ runs_of sealed slot.job → is_flush slot.job ≡ false → HasStored sectors area slot
-reading_stored sectors area levels sealed slot runs stored held is merges =
-    jobs_stored sectors area levels slot stored held (subst AreEntryRuns (sym is) (ordered_by sectors area levels slot.input.bottom sealed slot.job runs stored held merges))
+reading_stored sectors area levels sealed slot stored held is merges =
+    jobs_stored sectors area levels slot stored held (subst AreEntryRuns (sym is) (ordered_by sectors area levels slot.input.bottom sealed slot.job stored held merges))

@@ -12,7 +12,7 @@ use Rattle.lsm_open.specs.CrashState.{last_number}
 use Rattle.lsm_store.specs.Work.{Install}
 use Rattle.lsm_store.specs.WorkRefusals.{held, of_slot, has_too_many_runs, has_too_many_tables, running_refusal}
 use Rattle.lsm_store.specs.Machine.{Machine}
-use Rattle.lsm_store.proofs.OpenedAccounts.{tables_joined}
+use Rattle.lsm_levels.proofs.OldestRuns.{tables_append}
 use Rattle.lsm_store.proofs.Unrefused.{passes_by, is_taken}
 
 -- a stage with no block left to write
@@ -71,4 +71,4 @@ module _ (m : Machine) (job : ℕ) where
 
 -- the tables of levels, counted in two parts
 pub places_counted : (levels : Levels) → length (all_tables (places levels)) ≡ length (all_tables levels.runs) + length (all_tables levels.deeper)
-places_counted levels = ap length (tables_joined levels.runs levels.deeper) ∙ length-append (all_tables levels.runs) (all_tables levels.deeper)
+places_counted levels = ap length (tables_append levels.runs levels.deeper) ∙ length-append (all_tables levels.runs) (all_tables levels.deeper)

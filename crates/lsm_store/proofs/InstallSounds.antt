@@ -31,7 +31,7 @@ use Rattle.lsm_store.specs.WorkEffects.{with_installed, installed, work_after, s
 use Rattle.lsm_store.specs.WorkMaps.{AreVersions, IsAsked, IsJobOf, MayBePutIn}
 use Rattle.lsm_store.specs.WorkSound.{IsSound, IsServed, SoundLaw}
 use Rattle.lsm_store.specs.Machine.{Machine}
-use Rattle.lsm_store.proofs.InstalledMaps.{table_versions, has_in, in_has, runs_tables, front_newer, installed_replacing, install_law}
+use Rattle.lsm_store.proofs.InstalledMaps.{merge_versions, table_versions, has_in, in_has, front_newer, installed_replacing, install_law}
 use Rattle.lsm_jobs.proofs.Outcomes.{kept_among}
 use Rattle.lsm_store.proofs.Unrefused.{none_taken}
 use Rattle.lsm_store.proofs.Remembering.{all_synced-points_of}
@@ -93,7 +93,7 @@ module _ (m : Machine) (sound : IsSound m) where
     sealed_input runs v a = ⊎_elim (λ b. b) (λ none. absurd none) (among_either v m.work.sealed [] (subst (λ (rs : List (List Version)). IsAmong v (joined rs)) runs a))
 
     tables_input : (i : ℕ) (upper lower : List Table) → input.runs ≡ runs_of m.work.sealed (Merge i upper lower) → (v : Version) → IsAmong v (versions_of new) → IsAmong v (versions_of (upper ++ lower))
-    tables_input i upper lower runs v a = runs_tables v upper lower (subst (λ (rs : List (List Version)). IsAmong v (joined rs)) runs (from_input v a))
+    tables_input i upper lower runs v a = subst (IsAmong v) (merge_versions m.work.sealed input i upper lower runs) (from_input v a)
 
     order_after : (job : Job) → IsHeld m.work.levels input.bottom job → input.runs ≡ runs_of m.work.sealed job → IsVersionOrder (places_after job)
     order_after Flush held runs = (

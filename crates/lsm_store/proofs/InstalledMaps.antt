@@ -19,7 +19,6 @@ use Rattle.lsm_levels.specs.Held.{IsHeld, HasVersion, MergesVersions}
 use Rattle.lsm_levels.proofs.Members.{among_left, among_right, among_either}
 use Rattle.lsm_levels.proofs.Ranges.{all_of}
 use Rattle.lsm_levels.proofs.Taking.{in_tables, of_table, level_of_place, place_of_level, newer_than, merging_law}
-use Rattle.lsm_jobs.specs.Gathering.{run_if_some}
 use Rattle.lsm_jobs.specs.Slots.{Slot, outputs_at}
 use Rattle.lsm_jobs.specs.Taking.{runs_of}
 use Rattle.lsm_open.proofs.NewestFound.{newer_found, newest-append, map_of_batches}
@@ -30,7 +29,8 @@ use Rattle.lsm_store.specs.WorkEffects.{with_installed}
 use Rattle.lsm_store.specs.WorkMaps.{AreVersions, IsAsked, IsJobOf, MayBePutIn, InstallLaw, RotationLaw, CommitLaw}
 use Rattle.lsm_store.specs.Machine.{Machine}
 use Rattle.lsm_store.proofs.Replaced.{IsReplacing, replaced_maps}
-use Rattle.lsm_jobs.proofs.Outcomes.{kept_among, joined_lower}
+use Rattle.lsm_jobs.proofs.GatheredRuns.{joined_runs}
+use Rattle.lsm_jobs.proofs.Outcomes.{kept_among}
 
 -- ---- the versions of runs of tables
 
@@ -60,25 +60,11 @@ has_in levels v a =
 pub in_has : (levels : Levels) (v : Version) → HasVersion levels v → IsAmong v (table_versions (places levels))
 in_has levels v h = of_places v h.table (places levels) (place_of_level levels h.place h.table h.there) h.has
 
--- ---- the versions of a job's input
+-- ---- the versions of a merge's input
 
-of_run : (v : Version) (tables : List Table) → IsAmong v (versions_of tables) → IsAmong v (joined (run_if_some tables (versions_of tables)))
-of_run v [] a = absurd a
-of_run v (t ∷ rest) a = among_left v (versions_of (t ∷ rest)) [] a
-
-pub runs_tables : (v : Version) (upper lower : List Table) → IsAmong v (joined (versions_of upper ∷ run_if_some lower (versions_of lower))) → IsAmong v (versions_of (upper ++ lower))
-runs_tables v upper lower a = ⊎_elim
-    (λ b. let t = in_tables v upper b in of_table v t.0 (upper ++ lower) (among_left t.0 upper lower t.1) t.2)
-    (λ b. let t = in_tables v lower (joined_lower v lower b) in of_table v t.0 (upper ++ lower) (among_right t.0 upper lower t.1) t.2)
-    (among_either v (versions_of upper) (joined (run_if_some lower (versions_of lower))) a)
-
-tables_runs : (v : Version) (upper lower : List Table) → IsAmong v (versions_of (upper ++ lower)) → IsAmong v (joined (versions_of upper ∷ run_if_some lower (versions_of lower)))
-tables_runs v upper lower a =
-    let t = in_tables v (upper ++ lower) a in
-    ⊎_elim
-    (λ b. among_left v (versions_of upper) (joined (run_if_some lower (versions_of lower))) (of_table v t.0 upper b t.2))
-    (λ b. among_right v (versions_of upper) (joined (run_if_some lower (versions_of lower))) (of_run v lower (of_table v t.0 lower b t.2)))
-    (among_either t.0 upper lower t.1)
+-- they are those of its tables
+pub merge_versions : (sealed : List Version) (input : MergeInput) (i : ℕ) (upper lower : List Table) → input.runs ≡ runs_of sealed (Merge i upper lower) → joined input.runs ≡ versions_of (upper ++ lower)
+merge_versions sealed input i upper lower runs = ap joined runs ∙ joined_runs (upper ++ lower)
 
 -- ---- an install
 
@@ -150,10 +136,10 @@ module _ (w : WorkView) (good : AreVersions w) where
     law = merging_law w.levels input.bottom i upper lower new good.runs held
 
     of_runs : (v : Version) → IsAmong v (joined input.runs) → IsAmong v (versions_of (upper ++ lower))
-    of_runs v a = runs_tables v upper lower (subst (λ (rs : List (List Version)). IsAmong v (joined rs)) runs a)
+    of_runs v a = subst (IsAmong v) (merge_versions w.sealed input i upper lower runs) a
 
     to_runs : (v : Version) → IsAmong v (versions_of (upper ++ lower)) → IsAmong v (joined input.runs)
-    to_runs v a = subst (λ (rs : List (List Version)). IsAmong v (joined rs)) (sym runs) (tables_runs v upper lower a)
+    to_runs v a = subst (IsAmong v) (sym (merge_versions w.sealed input i upper lower runs)) a
 
     input_in : (v : Version) → IsAmong v (joined input.runs) → HasVersion w.levels v
     input_in v a =

@@ -1,20 +1,20 @@
 -- The records of tables after an install.
-use Rattle.std.proofs.Common.{◌≡◌, ⊎_elim, ℕ, suc, ◌+◌, ◌-◌, ◌≤◌, Bool, true, false, not, cond, List, [], ◌∷◌, ◌++◌, length, map, refl, sym, ap, ◌∙◌, append_assoc, arith}
+use Rattle.std.proofs.Common.{◌≡◌, ⊎_elim, ℕ, suc, ◌+◌, Bool, true, false, not, cond, List, [], ◌∷◌, ◌++◌, length, map, refl, sym, ap, ◌∙◌, append_assoc, arith}
 use Rattle.std.specs.List.{AllByRecursion}
 use Rattle.std.proofs.lemmas.Bool.{eq-eqb, ne_eqb}
-use Rattle.std.proofs.lemmas.List.{append-nil, map-append, length-take-le}
+use Rattle.std.proofs.lemmas.List.{map-append}
 use Rattle.lsm_codec.specs.Keys.{Bytes}
 use Rattle.lsm_codec.specs.declared.table_record.TableRecord.{TableRecord}
-use Rattle.lsm_levels.specs.Levels.{Levels, level, newer_runs, last_run}
+use Rattle.lsm_levels.specs.Levels.{Levels, newer_runs}
 use Rattle.lsm_levels.specs.Pick.{Flush, installed_levels}
 use Rattle.lsm_levels.specs.Tables.{Table, KeyRange, record_of, at_most, is_below, meets, put_at, IsRun}
 use Rattle.lsm_levels.proofs.KeyOrder.{at_most_trans, below_at_most, below_then, below_is}
 use Rattle.lsm_codec.proofs.Lists.{filter_step, filter_none, filter_all, all_map}
 use Rattle.lsm_levels.proofs.Ranges.{sides, apart_left, apart_right, meets_ends}
-use Rattle.lsm_levels.proofs.Replacing.{newer_cons, last_cons}
 use Rattle.lsm_open.specs.Switching.{pushed}
 use Rattle.lsm_open.specs.ToldTables.{records_of_runs, records_of_levels, records_of}
-use Rattle.lsm_store.specs.InstalledJobs.{output_records, ending_before, that_meet, beginning_behind}
+use Rattle.lsm_store.specs.InstalledJobs.{output_records, ending_before, that_meet, beginning_behind, runs_holding}
+use Rattle.lsm_store.proofs.UpperRuns.{runs_split}
 
 abbrev Records : Type 0
 Records = List TableRecord
@@ -144,22 +144,15 @@ flushed_records levels new =
     ∙ ap (λ (l : Records). l ++ map pushed (records_of_levels 1 levels.deeper)) (runs_pushed 0 levels.runs)
     ∙ ap (λ (l : Records). records_of_runs 1 levels.runs ++ l) (levels_pushed 0 levels.deeper)))
 
--- ---- a merge of the oldest run of level 0
+-- ---- a merge of the oldest runs of level 0
 
-pub runs_split : (runs : List (List Table)) → 1 ≤ length runs → runs ≡ newer_runs runs ++ last_run runs ∷ []
-runs_split [] some = absurd (omega (arith, some))
-runs_split (x ∷ []) some = refl
-runs_split (x ∷ y ∷ rest) some =
-    ap (λ (l : List (List Table)). x ∷ l) (runs_split (y ∷ rest) (omega arith))
-    ∙ sym (ap (λ (l : List (List Table)). l ++ last_run (x ∷ y ∷ rest) ∷ []) (newer_cons x y rest) ∙ ap (λ (l : List Table). (x ∷ newer_runs (y ∷ rest)) ++ l ∷ []) (last_cons x y rest))
-
-pub last_records : (runs : List (List Table)) → 1 ≤ length runs → records_of_runs 0 runs ≡ records_of_runs 0 (newer_runs runs) ++ map (record_of 0 (length runs - 1)) (last_run runs)
-last_records runs some =
-    let count : 0 + length (newer_runs runs) ≡ length runs - 1 = omega (arith, length-take-le (length runs - 1) runs (omega arith)) in
-    ap (records_of_runs 0) (runs_split runs some)
-    ∙ runs_append 0 (newer_runs runs) (last_run runs ∷ [])
-    ∙ ap (λ (l : Records). records_of_runs 0 (newer_runs runs) ++ l) (append-nil (map (record_of 0 (0 + length (newer_runs runs))) (last_run runs)))
-    ∙ ap (λ (k : ℕ). records_of_runs 0 (newer_runs runs) ++ map (record_of 0 k) (last_run runs)) count
+pub upper_records : (tables : ℕ) (runs : List (List Table))
+    → records_of_runs 0 runs ≡ records_of_runs 0 (newer_runs tables runs) ++ records_of_runs (length (newer_runs tables runs)) (runs_holding tables runs)
+upper_records tables runs =
+    let count : 0 + length (newer_runs tables runs) ≡ length (newer_runs tables runs) = omega arith in
+    ap (records_of_runs 0) (runs_split tables runs)
+    ∙ runs_append 0 (newer_runs tables runs) (runs_holding tables runs)
+    ∙ ap (λ (k : ℕ). records_of_runs 0 (newer_runs tables runs) ++ records_of_runs k (runs_holding tables runs)) count
 
 -- a list of records in its parts
 pub four_parts : (a b c d : Records) → (a ++ (b ++ c)) ++ d ≡ a ++ (b ++ (c ++ d))

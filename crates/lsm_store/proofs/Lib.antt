@@ -64,6 +64,7 @@ pub mod Installs
 pub mod StoredLevels
 pub mod NumberedApart
 pub mod VersionPoints
+pub mod UpperRuns
 pub mod InstalledRecords
 pub mod MergedRecords
 pub mod WrittenOutputs

@@ -1,21 +1,20 @@
 -- The tables around a merge: its inputs, what lies between and behind them, and the newest versions of its inputs.
-use Rattle.std.proofs.Common.{◌≡◌, ◌⊎◌, inl, ⊎_elim, ℕ, zero, suc, ◌≤◌, ◌<◌, Bool, true, false, List, [], ◌∷◌, ◌++◌, drop, get_or, Option, Some, None, refl, sym, ap, subst, ◌∙◌, arith}
+use Rattle.std.proofs.Common.{◌≡◌, ⊎_elim, ℕ, zero, suc, ◌≤◌, ◌<◌, Bool, true, false, List, [], ◌∷◌, ◌++◌, length, drop, get_or, Option, Some, None, refl, sym, ap, subst, ◌∙◌, arith}
 use Rattle.lsm_codec.specs.Keys.{Bytes}
 use Rattle.lsm_codec.specs.Versions.{Version, newest}
-use Rattle.lsm_jobs.specs.Gathering.{run_if_some}
 use Rattle.lsm_levels.proofs.HullLaws.{hull_covers}
-use Rattle.lsm_levels.proofs.KeyOrder.{at_most_trans, at_most_itself}
-use Rattle.lsm_levels.proofs.Members.{among_left, among_right, among_either, among_passed, passed_among}
-use Rattle.lsm_levels.proofs.Ranges.{no, in_run, run_order, other_apart, apart_left, apart_right}
+use Rattle.lsm_levels.proofs.KeyOrder.{at_most_trans}
+use Rattle.lsm_levels.proofs.Members.{among_either, among_passed, passed_among}
+use Rattle.lsm_levels.proofs.Ranges.{no, other_apart}
 use Rattle.lsm_levels.proofs.Runs.{run_at, upper_is}
-use Rattle.lsm_levels.proofs.Taking.{in_tables, of_table, covers_meets}
+use Rattle.lsm_levels.proofs.Taking.{covers_meets}
 use Rattle.lsm_levels.specs.Among.{IsAmong}
 use Rattle.lsm_levels.specs.Held.{AreRuns, IsUpper, HasItsTables}
-use Rattle.lsm_levels.specs.Levels.{Levels, all_tables, level, last_run}
-use Rattle.lsm_levels.specs.Tables.{Table, KeyRange, range_of, at_most, is_below, spanned, hull, meets, versions_of}
-use Rattle.lsm_merge.specs.Inputs.{joined}
+use Rattle.lsm_levels.specs.Levels.{Levels, all_tables, level}
+use Rattle.lsm_levels.specs.Tables.{Table, KeyRange, range_of, at_most, spanned, hull, meets}
 use Rattle.lsm_store.proofs.NewestAmong.{key_of, newest_is, none_is}
-use Rattle.lsm_store.specs.InstalledJobs.{that_meet}
+use Rattle.lsm_store.proofs.UpperRuns.{holding_tables}
+use Rattle.lsm_store.specs.InstalledJobs.{that_meet, runs_holding}
 use Rattle.lsm_store.specs.WorkMaps.{IsUnique}
 
 -- ---- lists with the same versions
@@ -37,26 +36,12 @@ module _ (all xs ys : List Version) (unique : IsUnique all) (there : (v : Versio
           let number : v.number ≡ w.number = omega (arith, up, down) in
           ap (λ (x : Version). Some x) (unique v w (there v one.among) (there w (back w two.among)) (sym (key_of key n v one.of) ∙ key_of key n w two.of) number)
 
--- ---- versions of a merge's tables
-
-pub tables_of_runs : (v : Version) (upper lower : List Table) → IsAmong v (versions_of (upper ++ lower)) → IsAmong v (joined (versions_of upper ∷ run_if_some lower (versions_of lower)))
-tables_of_runs v upper lower a =
-    let t = in_tables v (upper ++ lower) a in
-    ⊎_elim
-    (λ b. among_left v (versions_of upper) (joined (run_if_some lower (versions_of lower))) (of_table v t.0 upper b t.2))
-    (λ b. among_right v (versions_of upper) (joined (run_if_some lower (versions_of lower))) (below lower (of_table v t.0 lower b t.2)))
-    (among_either t.0 upper lower t.1)
-  where
-    below : (ts : List Table) → IsAmong v (versions_of ts) → IsAmong v (joined (run_if_some ts (versions_of ts)))
-    below [] b = absurd b
-    below (u ∷ rest) b = among_left v (versions_of (u ∷ rest)) [] b
-
 -- ---- the tables of a merge, where they stand
 
 -- the upper inputs in the list of a manifest
-abbrev pub uppers_at : Levels → ℕ → KeyRange → List Table
-uppers_at levels zero r = last_run levels.runs
-uppers_at levels (suc i) r = that_meet r (level levels (suc i))
+abbrev pub uppers_at : Levels → ℕ → KeyRange → ℕ → List Table
+uppers_at levels zero r tables = all_tables (runs_holding tables levels.runs)
+uppers_at levels (suc i) r tables = that_meet r (level levels (suc i))
 
 -- a table whose range has a key in common with none of these
 abbrev pub IsBeside : List Table → Table → Type 0
@@ -67,19 +52,15 @@ module _ (levels : Levels) (bottom : Bool) (i : ℕ) (upper lower : List Table) 
   r = held.range
 
   -- the upper tables are those
-  upper_only : (j : ℕ) → IsUpper levels j upper → (t : Table) → IsAmong t (uppers_at levels j held.range) → IsAmong t upper
-  upper_only zero is t a = subst (λ (ts : List Table). IsAmong t ts) is.1 a
-  upper_only (suc j) is t a = subst (λ (ts : List Table). IsAmong t ts) (sym (upper_is levels j upper r held.hull_is is)) a
+  uppers_are : (j : ℕ) → IsUpper levels j upper → uppers_at levels j held.range (length upper) ≡ upper
+  uppers_are zero is = holding_tables levels.runs upper runs.some is
+  uppers_are (suc j) is = sym (upper_is levels j upper r held.hull_is is)
 
-  upper_all : (j : ℕ) → IsUpper levels j upper → (t : Table) → IsAmong t upper → IsAmong t (uppers_at levels j held.range)
-  upper_all zero is t a = subst (λ (ts : List Table). IsAmong t ts) (sym is.1) a
-  upper_all (suc j) is t a = subst (λ (ts : List Table). IsAmong t ts) (upper_is levels j upper r held.hull_is is) a
+  pub upper_in : (t : Table) → IsAmong t (uppers_at levels i held.range (length upper)) → IsAmong t upper
+  upper_in t a = subst (λ (ts : List Table). IsAmong t ts) (uppers_are i held.uppers) a
 
-  pub upper_in : (t : Table) → IsAmong t (uppers_at levels i held.range) → IsAmong t upper
-  upper_in t a = upper_only i held.uppers t a
-
-  pub in_upper : (t : Table) → IsAmong t upper → IsAmong t (uppers_at levels i held.range)
-  in_upper t a = upper_all i held.uppers t a
+  pub in_upper : (t : Table) → IsAmong t upper → IsAmong t (uppers_at levels i held.range (length upper))
+  in_upper t a = subst (λ (ts : List Table). IsAmong t ts) (sym (uppers_are i held.uppers)) a
 
   -- and the lower ones those that meet the range
   pub lower_in : (t : Table) → IsAmong t (that_meet held.range (level levels (suc i))) → IsAmong t lower

@@ -1,18 +1,18 @@
 -- The records of tables around a merge, and after it.
-use Rattle.std.proofs.Common.{◌≡◌, ℕ, zero, suc, ◌+◌, ◌-◌, ◌<◌, ◌≤◌, Bool, true, List, [], ◌∷◌, ◌++◌, length, map, take, drop, get_or, set, Option, refl, sym, ap, subst, ◌∙◌, append_assoc, arith}
+use Rattle.std.proofs.Common.{◌≡◌, ℕ, zero, suc, ◌+◌, ◌<◌, ◌≤◌, Bool, true, List, [], ◌∷◌, ◌++◌, length, map, take, drop, get_or, set, Option, refl, sym, ap, subst, ◌∙◌, append_assoc, arith}
 use Rattle.std.proofs.lemmas.List.{length-take-le, get_or-set_other}
 use Rattle.lsm_codec.specs.declared.table_record.TableRecord.{TableRecord}
 use Rattle.lsm_device.specs.Disk.{Disk}
-use Rattle.lsm_levels.specs.Held.{AreRuns, IsUpper, HasItsTables, IsHeld}
-use Rattle.lsm_levels.specs.Levels.{Levels, level, newer_runs, last_run, replaced, merged_at}
+use Rattle.lsm_levels.specs.Held.{AreRuns, HasItsTables, IsHeld}
+use Rattle.lsm_levels.specs.Levels.{Levels, level, newer_runs, replaced, merged_at}
 use Rattle.lsm_levels.specs.Pick.{Job, Flush, Merge, installed_levels}
 use Rattle.lsm_levels.specs.Tables.{Table, KeyRange, record_of, at_most, put_at}
 use Rattle.lsm_levels.proofs.Runs.{run_at, upper_order}
 use Rattle.lsm_open.specs.Placements.{Placement}
 use Rattle.lsm_open.specs.Switching.{pushed, with_inputs, with_outputs}
 use Rattle.lsm_open.specs.ToldTables.{records_of_runs, records_of_levels, records_of}
-use Rattle.lsm_store.specs.InstalledJobs.{output_records, ending_before, that_meet, beginning_behind, parts_at, parts_if, parts_of, installed_in}
-use Rattle.lsm_store.proofs.InstalledRecords.{flushed_records, levels_append, last_records, four_parts, split_records, put_records}
+use Rattle.lsm_store.specs.InstalledJobs.{output_records, ending_before, that_meet, beginning_behind, runs_holding, parts_at, parts_if, parts_of, installed_in}
+use Rattle.lsm_store.proofs.InstalledRecords.{flushed_records, levels_append, upper_records, four_parts, split_records, put_records}
 
 abbrev Records : Type 0
 Records = List TableRecord
@@ -86,15 +86,16 @@ module _ (levels : Levels) (runs : AreRuns levels) (r : KeyRange) (order : at_mo
       ap (records_of_levels 1) (two_there i levels.deeper [] (omega (arith, le, runs.four)))
       ∙ two_levels i (take i levels.deeper) (level levels (suc i)) (level levels (suc (suc i))) (drop (suc (suc i)) levels.deeper) (length-take-le i levels.deeper (omega (arith, le, runs.four)))
 
-  pub in_parts : (i : ℕ) → i ≤ 3 → (i ≡ 0 → 1 ≤ length levels.runs) → records_of levels ≡ with_inputs (parts_at levels i r)
-  in_parts zero le some =
-      let above = last_records levels.runs (some refl) in
+  pub in_parts : (tables i : ℕ) → i ≤ 3 → records_of levels ≡ with_inputs (parts_at levels i r tables)
+  in_parts tables zero le =
+      let newer = records_of_runs 0 (newer_runs tables levels.runs) in
+      let taken = records_of_runs (length (newer_runs tables levels.runs)) (runs_holding tables levels.runs) in
       let rest = records_of_levels 2 (drop 1 levels.deeper) in
-      ap (λ (l : Records). l ++ records_of_levels 1 levels.deeper) above
-      ∙ ap (λ (l : Records). (records_of_runs 0 (newer_runs levels.runs) ++ map (record_of 0 (length levels.runs - 1)) (last_run levels.runs)) ++ l) (first_level ∙ ap (λ (l : Records). l ++ rest) (cut 0))
-      ∙ inputs_above (records_of_runs 0 (newer_runs levels.runs)) (map (record_of 0 (length levels.runs - 1)) (last_run levels.runs))
+      ap (λ (l : Records). l ++ records_of_levels 1 levels.deeper) (upper_records tables levels.runs)
+      ∙ ap (λ (l : Records). (newer ++ taken) ++ l) (first_level ∙ ap (λ (l : Records). l ++ rest) (cut 0))
+      ∙ inputs_above newer taken
       (map (record_of 1 0) (ending_before r (level levels 1))) (map (record_of 1 0) (that_meet r (level levels 1))) (map (record_of 1 0) (beginning_behind r (level levels 1))) rest
-  in_parts (suc i) le some =
+  in_parts tables (suc i) le =
       let above = records_of_runs 0 levels.runs in
       let front = records_of_levels 1 (take i levels.deeper) in
       let rest = records_of_levels (suc (suc (suc i))) (drop (suc (suc i)) levels.deeper) in
@@ -106,10 +107,10 @@ module _ (levels : Levels) (runs : AreRuns levels) (r : KeyRange) (order : at_mo
       (map (record_of (suc i) 0) (ending_before r (level levels (suc i)))) (map (record_of (suc i) 0) (that_meet r (level levels (suc i)))) (map (record_of (suc i) 0) (beginning_behind r (level levels (suc i))))
       (map (record_of (suc (suc i)) 0) (ending_before r (level levels (suc (suc i))))) (map (record_of (suc (suc i)) 0) (that_meet r (level levels (suc (suc i))))) (map (record_of (suc (suc i)) 0) (beginning_behind r (level levels (suc (suc i))))) rest
 
-  module _ (new : List Table) where
-    pub after_parts : (i : ℕ) → i ≤ 3 → records_of (replaced i r new levels) ≡ with_outputs (parts_at levels i r) (map (record_of (suc i) 0) new)
+  module _ (tables : ℕ) (new : List Table) where
+    pub after_parts : (i : ℕ) → i ≤ 3 → records_of (replaced i r tables new levels) ≡ with_outputs (parts_at levels i r tables) (map (record_of (suc i) 0) new)
     after_parts zero le =
-        let above = records_of_runs 0 (newer_runs levels.runs) in
+        let above = records_of_runs 0 (newer_runs tables levels.runs) in
         let rest = records_of_levels 2 (drop 1 levels.deeper) in
         ap (λ (l : List (List Table)). above ++ records_of_levels 1 l) (set_first levels.deeper (put_at r new (level levels 1)) (omega (arith, runs.four)))
         ∙ ap (λ (l : Records). above ++ (l ++ rest)) (put_records 1 r new (level levels 1))
@@ -138,15 +139,11 @@ module _ (levels : Levels) (bottom : Bool) (i : ℕ) (upper lower : List Table) 
   pub merge_order : at_most held.range.first held.range.last ≡ true
   merge_order = upper_order levels bottom i upper lower runs held
 
-  some_runs : (j : ℕ) → IsUpper levels j upper → j ≡ 0 → 1 ≤ length levels.runs
-  some_runs zero is e = is.0
-  some_runs (suc j) is e = absurd (omega (arith, e))
-
   pub merge_inputs : records_of levels ≡ with_inputs (parts_of levels i upper)
-  merge_inputs = subst (λ (o : Option KeyRange). records_of levels ≡ with_inputs (parts_if levels i o)) (sym held.hull_is) (in_parts levels runs held.range merge_order i held.known (some_runs i held.uppers))
+  merge_inputs = subst (λ (o : Option KeyRange). records_of levels ≡ with_inputs (parts_if levels i o (length upper))) (sym held.hull_is) (in_parts levels runs held.range merge_order (length upper) i held.known)
 
   pub merge_outputs : (new : List Table) → records_of (installed_levels levels (Merge i upper lower) new) ≡ with_outputs (parts_of levels i upper) (output_records (Merge i upper lower) new)
-  merge_outputs new = subst (λ (o : Option KeyRange). records_of (merged_at i o new levels) ≡ with_outputs (parts_if levels i o) (map (record_of (suc i) 0) new)) (sym held.hull_is) (after_parts levels runs held.range merge_order new i held.known)
+  merge_outputs new = subst (λ (o : Option KeyRange). records_of (merged_at i o (length upper) new levels) ≡ with_outputs (parts_if levels i o (length upper)) (map (record_of (suc i) 0) new)) (sym held.hull_is) (after_parts levels runs held.range merge_order (length upper) new i held.known)
 
 -- ---- of any job
 

@@ -1,5 +1,5 @@
 -- After an opening just the extents of the tables in levels are handed out.
-use Rattle.std.proofs.Common.{◌≡◌, ◌≢◌, inl, inr, ⊎_elim, ℕ, suc, ◌+◌, Bool, ◌||◌, List, [], ◌∷◌, ◌++◌, append_assoc, length, map, Contains, refl, sym, ap, ◌∙◌, subst, arith, All}
+use Rattle.std.proofs.Common.{◌≡◌, ◌≢◌, inl, inr, ⊎_elim, ℕ, suc, ◌+◌, Bool, ◌||◌, List, [], ◌∷◌, ◌++◌, length, map, Contains, refl, sym, ap, ◌∙◌, subst, arith, All}
 use Rattle.std.specs.Prelude.{Option}
 use Rattle.std.specs.List.{AllByRecursion, list_any}
 use Rattle.std.proofs.lemmas.List.{append-nil, map-append}
@@ -13,6 +13,7 @@ use Rattle.lsm_codec.proofs.Lists.{all_left, all_right}
 use Rattle.lsm_extent.specs.declared.extent.Extent.{Extent}
 use Rattle.lsm_extent.specs.Area.{Area, IsPartition, covers}
 use Rattle.lsm_levels.specs.Among.{IsAmong}
+use Rattle.lsm_levels.proofs.OldestRuns.{tables_append}
 use Rattle.lsm_levels.specs.Levels.{Levels, all_tables, places}
 use Rattle.lsm_levels.specs.Tables.{Table, record_of}
 use Rattle.lsm_jobs.specs.Placing.{extent_of}
@@ -24,10 +25,6 @@ use Rattle.lsm_store.specs.OpenedWork.{opened_work}
 use Rattle.lsm_store.proofs.ExtentCounts.{BeginApart, among_contains, same_counts, tables_extents}
 
 -- ---- the extents of records
-
-pub tables_joined : (xs ys : List (List Table)) → all_tables (xs ++ ys) ≡ all_tables xs ++ all_tables ys
-tables_joined [] ys = refl
-tables_joined (x ∷ xs) ys = ap (λ (l : List Table). x ++ l) (tables_joined xs ys) ∙ sym (append_assoc x (all_tables xs) (all_tables ys))
 
 run_extents : (lev run : ℕ) (ts : List Table) → AllByRecursion IsOutlined ts → map record_extent (map (record_of lev run) ts) ≡ map extent_of ts
 run_extents lev run [] all = refl
@@ -58,7 +55,7 @@ named_extents levels all =
     ∙ ap (λ (l : List Extent). l ++ map record_extent (records_of_levels 1 levels.deeper)) (runs_extents 0 levels.runs (all_left _ levels.runs levels.deeper all))
     ∙ ap (λ (l : List Extent). map extent_of (all_tables levels.runs) ++ l) (levels_extents 1 levels.deeper (all_right _ levels.runs levels.deeper all))
     ∙ sym (map-append extent_of (all_tables levels.runs) (all_tables levels.deeper))
-    ∙ ap (map extent_of) (sym (tables_joined levels.runs levels.deeper))
+    ∙ ap (map extent_of) (sym (tables_append levels.runs levels.deeper))
 
 -- ---- what a manifest's records say of them
 

@@ -18,7 +18,7 @@ use Rattle.lsm_open.specs.Writing.{PlacedTable, IsClear, ArePlacedApart}
 use Rattle.lsm_store.specs.Accounts.{outputs_in, LieApart, AllLieApart}
 use Rattle.lsm_store.specs.Backing.{HasNoneOf}
 use Rattle.lsm_store.specs.InstalledJobs.{output_level, placed_outputs, placed_for, placed_by}
-use Rattle.lsm_store.proofs.OpenedAccounts.{tables_joined}
+use Rattle.lsm_levels.proofs.OldestRuns.{tables_append}
 use Rattle.lsm_store.proofs.WrittenOutputs.{has_placed}
 
 -- ---- a job without outputs
@@ -116,7 +116,7 @@ module _ (P : TableRecord → Type 0) (Q : Table → Type 0) (goes : (level run 
   -- what holds of the tables of levels holds of their records
   pub in_records : (levels : Levels) → AllByRecursion Q (all_tables (places levels)) → All P (records_of levels)
   in_records levels all =
-      let each = subst (AllByRecursion Q) (tables_joined levels.runs levels.deeper) all in
+      let each = subst (AllByRecursion Q) (tables_append levels.runs levels.deeper) all in
       All-append P (records_of_runs 0 levels.runs) (records_of_levels 1 levels.deeper) (in_runs 0 levels.runs (all_left Q (all_tables levels.runs) (all_tables levels.deeper) each)) (in_levels 1 levels.deeper (all_right Q (all_tables levels.runs) (all_tables levels.deeper) each))
 
   -- and what holds of outputs of what is placed

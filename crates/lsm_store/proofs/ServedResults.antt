@@ -26,6 +26,7 @@ use Rattle.lsm_jobs.specs.Outcomes.{SeesSome}
 use Rattle.lsm_jobs.specs.Outputs.{AreMadeOf}
 use Rattle.lsm_jobs.specs.Slots.{Slot}
 use Rattle.lsm_jobs.specs.Taking.{runs_of}
+use Rattle.lsm_store.proofs.InstalledMaps.{merge_versions}
 use Rattle.lsm_jobs.proofs.Found.{found_there}
 use Rattle.lsm_jobs.proofs.Installs.{install_law}
 use Rattle.lsm_jobs.proofs.Outcomes.{outputs_law}
@@ -121,7 +122,7 @@ module _ (v : StoreView) (runs : IsRunOn v) (job : ℕ) (slot : Slot) (is : held
         sees v.work.sealed refl (some_sealed (ap is_flush same)) from,
         subst (λ (vs : List Version). AllByRecursion (IsNewerPlace vs) (map versions_of (places v.work.levels))) (sym (append-nil v.work.sealed) ∙ sym (ap (λ (rs : List (List Version)). joined rs) from)) runs.sound.tied.versions.order.1.0,
       )
-  input_of (Merge i upper lower) same = taken.runs ∙ ap (runs_of v.work.sealed) same
+  input_of (Merge i upper lower) same = merge_versions v.work.sealed slot.input i upper lower (taken.runs ∙ ap (runs_of v.work.sealed) same)
 
   pub served : (outputs : List Table) → AreMadeOf slot.input outputs → MayBePutIn slot.job slot.input outputs
   served outputs made =

@@ -2,7 +2,7 @@
 use Rattle.std.proofs.Common.{◌≡◌, ℕ, ◌-◌, Some, ap, sym, ◌∙◌}
 use Rattle.std.specs.Prelude.{IsNone}
 use Rattle.lsm_jobs.specs.Reading.{stage_with, input_with}
-use Rattle.lsm_jobs.specs.Gathering.{uppers, lowers}
+use Rattle.lsm_levels.specs.Pick.{inputs}
 use Rattle.lsm_jobs.specs.Slots.{Slot, JobSlots, Stage, left_at, with_held}
 use Rattle.lsm_store.specs.Backing.{StoreView, IsBacked, machine_of}
 use Rattle.lsm_store.specs.Calls.{Call, Reply}
@@ -18,7 +18,7 @@ module _ (old : StoreView) (w : WorkView) where
       let on = h.reads.reads in
       let slot = h.reads.slot in
       let less : left ≡ left_at slot.stage - 8 = on.eight_less ∙ ap (λ (stage : Stage). left_at stage - 8) (sym on.shows.stage) in
-      let input = input_with left (uppers slot.job) (lowers slot.job) on.after in
+      let input = input_with left (inputs slot.job) on.after in
       let now : h.reads.now ≡ record slot { input = input; stage = stage_with (left_at slot.stage - 8) } = on.becomes ∙ ap (λ (n : ℕ). record slot { input = input; stage = stage_with n }) less in
       record {
         slot = slot;

@@ -1,5 +1,5 @@
 -- The tables in levels stay on the device.
-use Rattle.std.proofs.Common.{◌≡◌, ℕ, zero, suc, ◌+◌, ◌-◌, ◌*◌, ◌≤◌, Bool, List, [], ◌∷◌, length, get_or, map, take, Option, Some, None, sym, ◌∙◌, ap, subst, arith, All}
+use Rattle.std.proofs.Common.{◌≡◌, ℕ, zero, suc, ◌+◌, ◌*◌, ◌≤◌, Bool, List, [], ◌∷◌, length, get_or, map, take, Option, Some, None, sym, ◌∙◌, ap, subst, arith, All}
 use Rattle.std.specs.List.{AllByRecursion}
 use Rattle.std.proofs.lemmas.List.Elements.{All-head, All-tail}
 use Rattle.lsm_codec.specs.TableRecords.{extent_blocks}
@@ -9,21 +9,22 @@ use Rattle.lsm_device.specs.Disk.{Disk, seen}
 use Rattle.lsm_levels.specs.Among.{IsAmong}
 use Rattle.lsm_levels.specs.Asking.{sector_of}
 use Rattle.lsm_levels.specs.Held.{IsHeld, IsUpper}
-use Rattle.lsm_levels.specs.Levels.{Levels, all_tables, level, places, with_level, replaced, merged_at}
+use Rattle.lsm_levels.specs.Levels.{Levels, all_tables, level, places, newer_runs, with_level, replaced, merged_at}
 use Rattle.lsm_levels.specs.NamedBlocks.{HasSameBlocks}
-use Rattle.lsm_levels.specs.Pick.{Job, Flush, Merge, installed_levels}
+use Rattle.lsm_levels.specs.Pick.{Job, Flush, Merge, inputs, installed_levels}
 use Rattle.lsm_levels.specs.Stored.{blocks_from, IsStored, AreStored}
 use Rattle.lsm_levels.specs.Tables.{Table, KeyRange, hull, is_below, put_at, record_of}
+use Rattle.lsm_levels.proofs.OldestRuns.{all_newer, oldest_all}
 use Rattle.lsm_levels.proofs.Ranges.{all_of, of_all}
-use Rattle.lsm_levels.proofs.Runs.{all_or, all_set, all_take, upper_among}
+use Rattle.lsm_levels.proofs.Runs.{all_or, all_set, upper_among}
 use Rattle.lsm_merge.specs.Inputs.{AreRuns}
-use Rattle.lsm_jobs.specs.Gathering.{uppers, lowers}
 use Rattle.lsm_jobs.specs.Slots.{Slot}
 use Rattle.lsm_jobs.specs.StoredJobs.{HasStored}
 use Rattle.lsm_open.specs.Placements.{Placement}
 use Rattle.lsm_open.specs.Tables.{first_data, extent_start, extent_at}
 use Rattle.lsm_open.specs.ToldTables.{records_of_runs, records_of_levels, records_of}
 use Rattle.lsm_open.proofs.BlockReads.{extent_is, some_blocks}
+use Rattle.lsm_store.proofs.UpperRuns.{all_in_runs}
 use Rattle.lsm_store.specs.StoredTables.{KeepsExtents}
 use Rattle.lsm_table.specs.Stored.{table_of}
 
@@ -130,7 +131,7 @@ module _ (P : Table → Type 0) (levels : Levels) (all : AllByRecursion (AllByRe
 
   -- holds of what a merge takes in
   pub uppers_have : (i : ℕ) (upper : List Table) → IsUpper levels i upper → AllByRecursion P upper
-  uppers_have zero upper is = subst (AllByRecursion P) is.1 (all_or (AllByRecursion P) levels.runs (length levels.runs - 1) [] newer tt)
+  uppers_have zero upper is = subst (AllByRecursion P) (sym is.all) (all_in_runs P is.oldest (oldest_all (AllByRecursion P) levels.runs upper is newer).1)
   uppers_have (suc i) upper is = all_of P upper (λ t a. of_all P (level levels (suc i)) (all_or (AllByRecursion P) levels.deeper i [] deeper tt) t (upper_among levels i upper is t a))
 
   pub lowers_have : (i : ℕ) (lower : List Table) → ((t : Table) → IsAmong t lower → IsAmong t (level levels (suc i))) → AllByRecursion P lower
@@ -151,29 +152,28 @@ module _ (P : Table → Type 0) (new : List Table) (made : AllByRecursion P new)
       all_append (AllByRecursion P) levels.runs _ (newer P levels all)
       (all_set (AllByRecursion P) levels.deeper i (put_at r put (get_or levels.deeper i [])) below (put_have r put (get_or levels.deeper i []) those (all_or (AllByRecursion P) levels.deeper i [] below tt)))
 
-  replaced_have : (i : ℕ) (r : KeyRange) (levels : Levels) → Have levels → Have (replaced i r new levels)
-  replaced_have zero r levels all =
-      level_have 1 r new (record levels { runs = take (length levels.runs - 1) levels.runs }) made
-      (all_append (AllByRecursion P) _ levels.deeper (all_take (AllByRecursion P) (length levels.runs - 1) levels.runs (newer P levels all)) (deeper P levels all))
-  replaced_have (suc i) r levels all = level_have (suc i) r [] (with_level (suc (suc i)) r new levels) tt (level_have (suc (suc i)) r new levels made all)
+  replaced_have : (i : ℕ) (r : KeyRange) (tables : ℕ) (levels : Levels) → Have levels → Have (replaced i r tables new levels)
+  replaced_have zero r tables levels all =
+      level_have 1 r new (record levels { runs = newer_runs tables levels.runs }) made
+      (all_append (AllByRecursion P) _ levels.deeper (all_newer (AllByRecursion P) tables levels.runs (newer P levels all)) (deeper P levels all))
+  replaced_have (suc i) r tables levels all = level_have (suc i) r [] (with_level (suc (suc i)) r new levels) tt (level_have (suc (suc i)) r new levels made all)
 
-  merged_have : (i : ℕ) (o : Option KeyRange) (levels : Levels) → Have levels → Have (merged_at i o new levels)
-  merged_have i (Some r) levels all = replaced_have i r levels all
-  merged_have i None levels all = all
+  merged_have : (i : ℕ) (o : Option KeyRange) (tables : ℕ) (levels : Levels) → Have levels → Have (merged_at i o tables new levels)
+  merged_have i (Some r) tables levels all = replaced_have i r tables levels all
+  merged_have i None tables levels all = all
 
   -- holds of each after an install, where it holds of the outputs
   pub installed_have : (levels : Levels) (job : Job) → Have levels → Have (installed_levels levels job new)
   installed_have levels Flush all = (made, all)
-  installed_have levels (Merge i upper lower) all = merged_have i (hull upper) levels all
+  installed_have levels (Merge i upper lower) all = merged_have i (hull upper) (length upper) levels all
 
 pub levels_installed : (sectors : Sectors) (area : ℕ) (levels : Levels) (job : Job) (new : List Table) → AreStored sectors area (places levels) → AllByRecursion (IsStored sectors area) new → AreStored sectors area (places (installed_levels levels job new))
 levels_installed sectors area levels job new stored made = installed_have (IsStored sectors area) new made levels job stored
 
-pub jobs_have : (P : Table → Type 0) (levels : Levels) (bottom : Bool) (job : Job) → AllByRecursion (AllByRecursion P) (places levels) → IsHeld levels bottom job → AllByRecursion P (uppers job) × AllByRecursion P (lowers job)
-jobs_have P levels bottom Flush all held = (tt, tt)
-jobs_have P levels bottom (Merge i upper lower) all held = (uppers_have P levels all i upper held.uppers, lowers_have P levels all i lower held.lowers)
+pub jobs_have : (P : Table → Type 0) (levels : Levels) (bottom : Bool) (job : Job) → AllByRecursion (AllByRecursion P) (places levels) → IsHeld levels bottom job → AllByRecursion P (inputs job)
+jobs_have P levels bottom Flush all held = tt
+jobs_have P levels bottom (Merge i upper lower) all held = all_append P upper lower (uppers_have P levels all i upper held.uppers) (lowers_have P levels all i lower held.lowers)
 
 pub jobs_stored : (sectors : Sectors) (area : ℕ) (levels : Levels) (slot : Slot) → AreStored sectors area (places levels) → IsHeld levels slot.input.bottom slot.job → AreRuns slot.input.runs → HasStored sectors area slot
 jobs_stored sectors area levels slot stored held ordered =
-    let both = jobs_have (IsStored sectors area) levels slot.input.bottom slot.job stored held in
-    record { upper = both.0; lower = both.1; ordered = ordered }
+    record { tables = jobs_have (IsStored sectors area) levels slot.input.bottom slot.job stored held; ordered = ordered }

@@ -23,7 +23,7 @@ use Rattle.lsm_store.specs.WorkEffects.{staged, with_placed, with_installed, wor
 use Rattle.lsm_store.specs.WorkRefusals.{held, of_slot, placing, has_too_many_runs, has_too_many_tables, work_refusals, running_refusal}
 use Rattle.lsm_store.specs.Machine.{Machine}
 use Rattle.lsm_store.proofs.Accounts.{tests_behind, first_not, behind_not}
-use Rattle.lsm_store.proofs.OpenedAccounts.{tables_joined}
+use Rattle.lsm_levels.proofs.OldestRuns.{tables_append}
 use Rattle.lsm_open.proofs.NamedRecords.{counted_levels}
 
 -- ---- an install
@@ -73,7 +73,7 @@ records_counted levels =
       runs_counted 0 levels.runs,
       counted_levels 1 levels.deeper,
       length-append (all_tables levels.runs) (all_tables levels.deeper),
-      ap length (tables_joined levels.runs levels.deeper),
+      ap length (tables_append levels.runs levels.deeper),
     )
 
 opened_few : (size count : ℕ) (p : Placement) (sealed : Option (List Version)) (levels : Levels) (extents : Area) → AreWithinLimits size p count sealed levels extents → p.runs ≡ length levels.runs → AreFew levels

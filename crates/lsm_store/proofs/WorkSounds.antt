@@ -12,13 +12,14 @@ use Rattle.lsm_levels.specs.Pick.{Job, Flush, Merge, is_flush, is_bottom}
 use Rattle.lsm_levels.specs.Held.{IsHeld}
 use Rattle.lsm_levels.proofs.Members.{among_either}
 use Rattle.lsm_levels.proofs.Taking.{in_tables, merging_law}
-use Rattle.lsm_jobs.specs.Slots.{Stage, Slot, JobSlots, Reading, Frozen, Writing, slot_of, held_jobs, with_slot, with_held, is_writing, left_at, less_left, outputs_at}
+use Rattle.lsm_jobs.specs.Slots.{Stage, Slot, JobSlots, Reading, Frozen, Writing, slot_of, with_slot, with_held, is_writing, left_at, less_left, outputs_at}
 use Rattle.lsm_jobs.specs.Keeping.{AreKept}
 use Rattle.lsm_jobs.specs.Outputs.{placed_blocks}
 use Rattle.lsm_jobs.specs.Placing.{all_handed_out}
 use Rattle.lsm_jobs.specs.Reading.{stage_with}
 use Rattle.lsm_jobs.specs.Taking.{runs_of, first_stage, slot_for, with_taken}
 use Rattle.lsm_jobs.proofs.Found.{found_there, found_number}
+use Rattle.lsm_jobs.proofs.GatheredRuns.{joined_runs}
 use Rattle.lsm_jobs.proofs.KeptJobs.{taken_cases, held_cases, given_may, given_waits, may_taken, going_on_law, freeing_law}
 use Rattle.lsm_store.specs.RecoveryPoints.{batch_count}
 use Rattle.lsm_store.specs.State.{State, LiveSnapshot, are_waiting}
@@ -30,7 +31,6 @@ use Rattle.lsm_store.specs.WorkMaps.{AreVersions, IsJobOf, MayBePutIn}
 use Rattle.lsm_store.specs.WorkSound.{IsSound, IsServed}
 use Rattle.lsm_store.specs.Machine.{Machine}
 use Rattle.lsm_store.proofs.Cuts.{present_cut, snapshot_cut}
-use Rattle.lsm_store.proofs.InstalledMaps.{runs_tables}
 use Rattle.lsm_store.proofs.StateMaps.{count_is, synced_is}
 
 some_slot : (a b : Slot) → Some a ≡ Some b → a ≡ b
@@ -184,7 +184,7 @@ module _ (m : Machine) (sound : IsSound m) where
   input_settled : (job : Job) → IsHeld m.work.levels (is_bottom m.work.levels job) job → (v : Version) → IsAmong v (joined (runs_of m.work.sealed job)) → v.number ≤ d.synced
   input_settled Flush held v a = ⊎_elim (λ b. sound.tied.settled v b) (λ none. absurd none) (among_either v m.work.sealed [] a)
   input_settled (Merge i upper lower) held v a =
-      let t = in_tables v (upper ++ lower) (runs_tables v upper lower a) in
+      let t = in_tables v (upper ++ lower) (subst (IsAmong v) (joined_runs (upper ++ lower)) a) in
       let k = (merging_law m.work.levels (is_bottom m.work.levels (Merge i upper lower)) i upper lower [] good.runs held).inputs_there t.0 t.1 in
       sound.tied.tabled v (record { place = k.0; table = t.0; there = k.1; has = t.2 })
 

@@ -185,7 +185,7 @@ module _ (v : StoreView) (job : ℕ) (new : Medium) (running : IsNone v.state.st
     stored being backed =
         let runs = backed.runs running in
         let there = found_there job v.work.jobs.slots being.slot being.is in
-        reading_stored (seen (disk v.device)) (data_start v) v.work.levels v.work.sealed being.slot runs.sound.tied.versions.runs runs.tables
+        reading_stored (seen (disk v.device)) (data_start v) v.work.levels v.work.sealed being.slot runs.tables
         (runs.sound.ready.kept.held being.slot there) (runs.sound.ready.jobs being.slot there).runs (merges being.slot being.is being.reading)
 
     -- ---- blocks were read

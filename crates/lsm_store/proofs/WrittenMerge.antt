@@ -1,5 +1,5 @@
 -- A merge whose outputs are all written may be installed.
-use Rattle.std.proofs.Common.{◌≡◌, inl, inr, ⊎_elim, ℕ, suc, ◌≤◌, ◌^◌, Bool, true, false, List, ◌++◌, map, All, Option, Some, refl, sym, ap, subst, ◌∙◌, option_and_then}
+use Rattle.std.proofs.Common.{◌≡◌, inl, inr, ⊎_elim, ℕ, suc, ◌≤◌, ◌^◌, Bool, true, false, List, ◌++◌, length, map, All, Option, Some, refl, sym, ap, subst, ◌∙◌, option_and_then}
 use Rattle.std.specs.List.{AllByRecursion}
 use Rattle.lsm_codec.specs.Keys.{Bytes}
 use Rattle.lsm_codec.specs.Pairs.{Pairwise}
@@ -36,9 +36,9 @@ use Rattle.lsm_open.specs.Switching.{Parts, with_inputs, with_outputs, KeepsNewe
 use Rattle.lsm_open.specs.Tables.{first_data, table_versions, IsTableAt, AscendInRun}
 use Rattle.lsm_open.specs.ToldTables.{records_of}
 use Rattle.lsm_open.specs.Writing.{PlacedTable}
-use Rattle.lsm_store.proofs.InstalledMaps.{in_has, runs_tables}
+use Rattle.lsm_store.proofs.InstalledMaps.{merge_versions, in_has}
 use Rattle.lsm_store.proofs.MergedRecords.{merge_order, merge_inputs, after_parts}
-use Rattle.lsm_store.proofs.MergeInputs.{same_newest, tables_of_runs, uppers_at, IsBeside, upper_in, in_upper, lower_in, in_lower, beside_upper, beside_inputs, beside_bottom}
+use Rattle.lsm_store.proofs.MergeInputs.{same_newest, uppers_at, IsBeside, upper_in, in_upper, lower_in, in_lower, beside_upper, beside_inputs, beside_bottom}
 use Rattle.lsm_open.proofs.StoredRecords.{versions_run, run_order, records_ascend}
 use Rattle.lsm_store.proofs.WorkSounds.{there}
 use Rattle.lsm_store.proofs.WrittenOutputs.{outputs_stored, outputs_named}
@@ -83,10 +83,10 @@ module _ (m : Machine) (p : Placement) (xs ys : List PlacedTable) (d : Disk) (jo
   order = merge_order m.work.levels slot.input.bottom i upper lower runs has
 
   abbrev x : Parts
-  x = parts_at m.work.levels i has.range
+  x = parts_at m.work.levels i has.range (length upper)
 
-  was : p.tables ≡ with_inputs (parts_at m.work.levels i has.range)
-  was = sym named ∙ merge_inputs m.work.levels slot.input.bottom i upper lower runs has ∙ ap (λ (o : Option KeyRange). with_inputs (parts_if m.work.levels i o)) has.hull_is
+  was : p.tables ≡ with_inputs (parts_at m.work.levels i has.range (length upper))
+  was = sym named ∙ merge_inputs m.work.levels slot.input.bottom i upper lower runs has ∙ ap (λ (o : Option KeyRange). with_inputs (parts_if m.work.levels i o (length upper))) has.hull_is
 
   -- ---- the inputs
 
@@ -96,42 +96,42 @@ module _ (m : Machine) (p : Placement) (xs ys : List PlacedTable) (d : Disk) (jo
   abbrev there_versions : List Version
   there_versions = table_versions p.logs.log_sectors (seen d) x.upper ++ table_versions p.logs.log_sectors (seen d) x.lower
 
-  is_upper : table_versions p.logs.log_sectors (seen d) (parts_at m.work.levels i has.range).upper ≡ versions_of (uppers_at m.work.levels i has.range)
-  is_upper = upper_is n (seen d) levels tables r i
+  is_upper : table_versions p.logs.log_sectors (seen d) (parts_at m.work.levels i has.range (length upper)).upper ≡ versions_of (uppers_at m.work.levels i has.range (length upper))
+  is_upper = upper_is n (seen d) levels tables r (length upper) i
 
-  is_lower : table_versions p.logs.log_sectors (seen d) (parts_at m.work.levels i has.range).lower ≡ versions_of (that_meet has.range (level m.work.levels (suc i)))
-  is_lower = lower_is n (seen d) levels tables r i
+  is_lower : table_versions p.logs.log_sectors (seen d) (parts_at m.work.levels i has.range (length upper)).lower ≡ versions_of (that_meet has.range (level m.work.levels (suc i)))
+  is_lower = lower_is n (seen d) levels tables r (length upper) i
 
   of_runs : (v : Version) → IsAmong v (joined slot.input.runs) → IsAmong v (versions_of (upper ++ lower))
-  of_runs v a = runs_tables v upper lower (subst (λ (rs : List (List Version)). IsAmong v (joined rs)) its_job.runs a)
+  of_runs v a = subst (IsAmong v) (merge_versions m.work.sealed slot.input i upper lower its_job.runs) a
 
-  to_disk : (v : Version) → IsAmong v (joined slot.input.runs) → IsAmong v (table_versions p.logs.log_sectors (seen d) (parts_at m.work.levels i has.range).upper ++ table_versions p.logs.log_sectors (seen d) (parts_at m.work.levels i has.range).lower)
+  to_disk : (v : Version) → IsAmong v (joined slot.input.runs) → IsAmong v (table_versions p.logs.log_sectors (seen d) (parts_at m.work.levels i has.range (length upper)).upper ++ table_versions p.logs.log_sectors (seen d) (parts_at m.work.levels i has.range (length upper)).lower)
   to_disk v a =
       let t = in_tables v (upper ++ lower) (of_runs v a) in
       ⊎_elim
-      (λ b. among_left v (table_versions n (seen d) x.upper) (table_versions n (seen d) x.lower) (subst (IsAmong v) (sym is_upper) (of_table v t.0 (uppers_at levels i r) (in_upper levels slot.input.bottom i upper lower runs has t.0 b) t.2)))
+      (λ b. among_left v (table_versions n (seen d) x.upper) (table_versions n (seen d) x.lower) (subst (IsAmong v) (sym is_upper) (of_table v t.0 (uppers_at levels i r (length upper)) (in_upper levels slot.input.bottom i upper lower runs has t.0 b) t.2)))
       (λ b. among_right v (table_versions n (seen d) x.upper) (table_versions n (seen d) x.lower) (subst (IsAmong v) (sym is_lower) (of_table v t.0 (that_meet r (level levels (suc i))) (in_lower levels slot.input.bottom i upper lower runs has t.0 b) t.2)))
       (among_either t.0 upper lower t.1)
 
   -- each version of an input on the device is one of a table that the job took
-  from_inputs : (v : Version) → IsAmong v (table_versions p.logs.log_sectors (seen d) (parts_at m.work.levels i has.range).upper ++ table_versions p.logs.log_sectors (seen d) (parts_at m.work.levels i has.range).lower)
+  from_inputs : (v : Version) → IsAmong v (table_versions p.logs.log_sectors (seen d) (parts_at m.work.levels i has.range (length upper)).upper ++ table_versions p.logs.log_sectors (seen d) (parts_at m.work.levels i has.range (length upper)).lower)
       → (a : Table) × IsAmong a (upper ++ lower) × IsStored (seen d) (first_data p.logs.log_sectors) a × IsAmong v a.versions
   from_inputs v a = ⊎_elim
-      (λ b. let t = in_tables v (uppers_at levels i r) (subst (IsAmong v) is_upper b) in
-      (t.0, among_left t.0 upper lower (upper_in levels slot.input.bottom i upper lower runs has t.0 t.1), of_all (IsStored (seen d) (first_data n)) (uppers_at levels i r) (upper_stored n (seen d) levels tables r i) t.0 t.1, t.2))
+      (λ b. let t = in_tables v (uppers_at levels i r (length upper)) (subst (IsAmong v) is_upper b) in
+      (t.0, among_left t.0 upper lower (upper_in levels slot.input.bottom i upper lower runs has t.0 t.1), of_all (IsStored (seen d) (first_data n)) (uppers_at levels i r (length upper)) (upper_stored n (seen d) levels tables r (length upper) i) t.0 t.1, t.2))
       (λ b. let t = in_tables v (that_meet r (level levels (suc i))) (subst (IsAmong v) is_lower b) in
-      (t.0, among_right t.0 upper lower (lower_in levels slot.input.bottom i upper lower runs has t.0 t.1), of_all (IsStored (seen d) (first_data n)) (that_meet r (level levels (suc i))) (lower_stored n (seen d) levels tables r i) t.0 t.1, t.2))
+      (t.0, among_right t.0 upper lower (lower_in levels slot.input.bottom i upper lower runs has t.0 t.1), of_all (IsStored (seen d) (first_data n)) (that_meet r (level levels (suc i))) (lower_stored n (seen d) levels tables r (length upper) i) t.0 t.1, t.2))
       (among_either v (table_versions n (seen d) x.upper) (table_versions n (seen d) x.lower) a)
 
-  from_upper : (v : Version) → IsAmong v (table_versions p.logs.log_sectors (seen d) (parts_at m.work.levels i has.range).upper) → (a : Table) × IsAmong a upper × IsStored (seen d) (first_data p.logs.log_sectors) a × IsAmong v a.versions
+  from_upper : (v : Version) → IsAmong v (table_versions p.logs.log_sectors (seen d) (parts_at m.work.levels i has.range (length upper)).upper) → (a : Table) × IsAmong a upper × IsStored (seen d) (first_data p.logs.log_sectors) a × IsAmong v a.versions
   from_upper v b =
-      let t = in_tables v (uppers_at levels i r) (subst (IsAmong v) is_upper b) in
-      (t.0, upper_in levels slot.input.bottom i upper lower runs has t.0 t.1, of_all (IsStored (seen d) (first_data n)) (uppers_at levels i r) (upper_stored n (seen d) levels tables r i) t.0 t.1, t.2)
+      let t = in_tables v (uppers_at levels i r (length upper)) (subst (IsAmong v) is_upper b) in
+      (t.0, upper_in levels slot.input.bottom i upper lower runs has t.0 t.1, of_all (IsStored (seen d) (first_data n)) (uppers_at levels i r (length upper)) (upper_stored n (seen d) levels tables r (length upper) i) t.0 t.1, t.2)
 
-  from_disk : (v : Version) → IsAmong v (table_versions p.logs.log_sectors (seen d) (parts_at m.work.levels i has.range).upper ++ table_versions p.logs.log_sectors (seen d) (parts_at m.work.levels i has.range).lower) → IsAmong v (joined slot.input.runs)
+  from_disk : (v : Version) → IsAmong v (table_versions p.logs.log_sectors (seen d) (parts_at m.work.levels i has.range (length upper)).upper ++ table_versions p.logs.log_sectors (seen d) (parts_at m.work.levels i has.range (length upper)).lower) → IsAmong v (joined slot.input.runs)
   from_disk v a =
       let t = from_inputs v a in
-      subst (λ (rs : List (List Version)). IsAmong v (joined rs)) (sym its_job.runs) (tables_of_runs v upper lower (of_table v t.0 (upper ++ lower) t.1 t.3))
+      subst (IsAmong v) (sym (merge_versions m.work.sealed slot.input i upper lower its_job.runs)) (of_table v t.0 (upper ++ lower) t.1 t.3)
 
   in_work : (v : Version) → IsAmong v (joined slot.input.runs) → IsAmong v (versions_in m.work)
   in_work v a =
@@ -140,11 +140,11 @@ module _ (m : Machine) (p : Placement) (xs ys : List PlacedTable) (d : Disk) (jo
       let tabled = in_has levels v (record { place = k.0; table = t.0; there = k.1; has = t.2 }) in
       among_right v m.work.memory (m.work.sealed ++ joined (map versions_of (places levels))) (among_right v m.work.sealed (joined (map versions_of (places levels))) tabled)
 
-  same_inputs : (key : Bytes) (k : ℕ) → newest key k (joined slot.input.runs) ≡ newest key k (table_versions p.logs.log_sectors (seen d) (parts_at m.work.levels i has.range).upper ++ table_versions p.logs.log_sectors (seen d) (parts_at m.work.levels i has.range).lower)
+  same_inputs : (key : Bytes) (k : ℕ) → newest key k (joined slot.input.runs) ≡ newest key k (table_versions p.logs.log_sectors (seen d) (parts_at m.work.levels i has.range (length upper)).upper ++ table_versions p.logs.log_sectors (seen d) (parts_at m.work.levels i has.range (length upper)).lower)
   same_inputs key k = same_newest (versions_in m.work) input_versions there_versions sound.tied.versions.unique in_work to_disk from_disk key k
 
   -- none is above the base
-  each_was : All (IsTableAt p.logs.log_sectors p.logs.base (seen d)) (with_inputs (parts_at m.work.levels i has.range))
+  each_was : All (IsTableAt p.logs.log_sectors p.logs.base (seen d)) (with_inputs (parts_at m.work.levels i has.range (length upper)))
   each_was = subst (All (IsTableAt n base (seen d))) was (held_synced p d stored.stored.carried.held).tables.each
 
   inputs_numbered : NumberedAtMost p.logs.base (joined slot.input.runs)
@@ -177,28 +177,28 @@ module _ (m : Machine) (p : Placement) (xs ys : List PlacedTable) (d : Disk) (jo
   low : NumberedAtMost p.logs.base (versions_of outputs)
   low = subst (NumberedAtMost base) (sym kept) (all_of (λ (v : Version). v.number ≤ base) (kept_of slot.input) (λ v a. of_all (λ (u : Version). u.number ≤ base) input_versions inputs_numbered v (kept_among slot.input v a)))
 
-  among : AreAmong (table_versions p.logs.log_sectors (seen d) (map (record_of (suc i) 0) outputs)) (table_versions p.logs.log_sectors (seen d) (parts_at m.work.levels i has.range).upper ++ table_versions p.logs.log_sectors (seen d) (parts_at m.work.levels i has.range).lower)
+  among : AreAmong (table_versions p.logs.log_sectors (seen d) (map (record_of (suc i) 0) outputs)) (table_versions p.logs.log_sectors (seen d) (parts_at m.work.levels i has.range (length upper)).upper ++ table_versions p.logs.log_sectors (seen d) (parts_at m.work.levels i has.range (length upper)).lower)
   among = all_of (λ (v : Version). IsAmong v there_versions) (table_versions n (seen d) (map (record_of (suc i) 0) outputs)) (λ v a. to_disk v (kept_among slot.input v (subst (IsAmong v) on_disk a)))
 
-  apart : ShareNoKey (table_versions p.logs.log_sectors (seen d) (parts_at m.work.levels i has.range).between) (table_versions p.logs.log_sectors (seen d) (parts_at m.work.levels i has.range).upper)
+  apart : ShareNoKey (table_versions p.logs.log_sectors (seen d) (parts_at m.work.levels i has.range (length upper)).between) (table_versions p.logs.log_sectors (seen d) (parts_at m.work.levels i has.range (length upper)).upper)
   apart =
       share_none_back (table_versions n (seen d) x.upper) (table_versions n (seen d) x.between)
       (share_none n (seen d) upper (table_versions n (seen d) x.upper) x.between from_upper
-      (from_weaker n (seen d) (λ t. meets r t ≡ false) (IsBeside upper) x.between (λ t no. beside_upper levels slot.input.bottom i upper lower runs has t no) (between_apart n (seen d) levels tables r i)))
+      (from_weaker n (seen d) (λ t. meets r t ≡ false) (IsBeside upper) x.between (λ t no. beside_upper levels slot.input.bottom i upper lower runs has t no) (between_apart n (seen d) levels tables r (length upper) i)))
 
   -- at the bottom no key of an input is behind
-  none_behind : slot.input.bottom ≡ true → ShareNoKey (table_versions p.logs.log_sectors (seen d) (parts_at m.work.levels i has.range).upper ++ table_versions p.logs.log_sectors (seen d) (parts_at m.work.levels i has.range).lower)
-      (table_versions p.logs.log_sectors (seen d) (parts_at m.work.levels i has.range).behind)
+  none_behind : slot.input.bottom ≡ true → ShareNoKey (table_versions p.logs.log_sectors (seen d) (parts_at m.work.levels i has.range (length upper)).upper ++ table_versions p.logs.log_sectors (seen d) (parts_at m.work.levels i has.range (length upper)).lower)
+      (table_versions p.logs.log_sectors (seen d) (parts_at m.work.levels i has.range (length upper)).behind)
   none_behind flag =
       share_none n (seen d) (upper ++ lower) there_versions x.behind from_inputs
-      (from_weaker n (seen d) (IsBehind n (seen d) levels tables r i) (IsBeside (upper ++ lower)) x.behind
-      (λ t. ⊎_elim (λ here. beside_inputs levels slot.input.bottom i upper lower runs has t here.0 here.1) (λ below. beside_bottom levels slot.input.bottom i upper lower runs has flag below.0 t below.1 below.2)) (behind_from n (seen d) levels tables r i))
+      (from_weaker n (seen d) (IsBehind n (seen d) levels tables r (length upper) i) (IsBeside (upper ++ lower)) x.behind
+      (λ t. ⊎_elim (λ here. beside_inputs levels slot.input.bottom i upper lower runs has t here.0 here.1) (λ below. beside_bottom levels slot.input.bottom i upper lower runs has flag below.0 t below.1 below.2)) (behind_from n (seen d) levels tables r (length upper) i))
 
   abbrev new_versions : List Version
   new_versions = table_versions p.logs.log_sectors (seen d) (map (record_of (suc i) 0) outputs)
 
   kept_newest : slot.input.bottom ≡ false → (key : Bytes) → newest key p.logs.base (table_versions p.logs.log_sectors (seen d) (map (record_of (suc i) 0) outputs))
-      ≡ newest key p.logs.base (table_versions p.logs.log_sectors (seen d) (parts_at m.work.levels i has.range).upper ++ table_versions p.logs.log_sectors (seen d) (parts_at m.work.levels i has.range).lower)
+      ≡ newest key p.logs.base (table_versions p.logs.log_sectors (seen d) (parts_at m.work.levels i has.range (length upper)).upper ++ table_versions p.logs.log_sectors (seen d) (parts_at m.work.levels i has.range (length upper)).lower)
   kept_newest flag key =
       ap (newest key base) on_disk
       ∙ ap (λ (b : Bool). newest key base (keep slot.input.cuts b input_versions)) flag
@@ -206,14 +206,14 @@ module _ (m : Machine) (p : Placement) (xs ys : List PlacedTable) (d : Disk) (jo
       ∙ same_inputs key base
 
   kept_values : (key : Bytes) → value_at (table_versions p.logs.log_sectors (seen d) (map (record_of (suc i) 0) outputs)) p.logs.base key
-      ≡ value_at (table_versions p.logs.log_sectors (seen d) (parts_at m.work.levels i has.range).upper ++ table_versions p.logs.log_sectors (seen d) (parts_at m.work.levels i has.range).lower) p.logs.base key
+      ≡ value_at (table_versions p.logs.log_sectors (seen d) (parts_at m.work.levels i has.range (length upper)).upper ++ table_versions p.logs.log_sectors (seen d) (parts_at m.work.levels i has.range (length upper)).lower) p.logs.base key
   kept_values key =
       ap (λ (vs : Versions). value_at vs base key) on_disk
       ∙ ((keep_law slot.input.cuts input_versions).same_map slot.input.bottom base kept_at_base).values key
       ∙ ap (option_and_then (λ (v : Version). v.value)) (same_inputs key base)
 
-  is_kept : KeepsNewestOrMap p.logs.base (table_versions p.logs.log_sectors (seen d) (parts_at m.work.levels i has.range).upper ++ table_versions p.logs.log_sectors (seen d) (parts_at m.work.levels i has.range).lower)
-      (table_versions p.logs.log_sectors (seen d) (parts_at m.work.levels i has.range).behind) (table_versions p.logs.log_sectors (seen d) (map (record_of (suc i) 0) outputs))
+  is_kept : KeepsNewestOrMap p.logs.base (table_versions p.logs.log_sectors (seen d) (parts_at m.work.levels i has.range (length upper)).upper ++ table_versions p.logs.log_sectors (seen d) (parts_at m.work.levels i has.range (length upper)).lower)
+      (table_versions p.logs.log_sectors (seen d) (parts_at m.work.levels i has.range (length upper)).behind) (table_versions p.logs.log_sectors (seen d) (map (record_of (suc i) 0) outputs))
   is_kept = by slot.input.bottom refl
     where
       by : (b : Bool) → slot.input.bottom ≡ b → KeepsNewestOrMap base there_versions (table_versions n (seen d) x.behind) new_versions
@@ -222,17 +222,17 @@ module _ (m : Machine) (p : Placement) (xs ys : List PlacedTable) (d : Disk) (jo
 
   -- ---- the runs after it
 
-  runs_after : AreRuns (replaced i has.range outputs m.work.levels)
+  runs_after : AreRuns (replaced i has.range (length upper) outputs m.work.levels)
   runs_after =
       let writes : is_writing slot.stage ≡ true = ap is_writing stage in
       let fit : AreOutputs (Merge i upper lower) outputs = subst (λ (j : Job). AreOutputs j outputs) merge (subst (AreOutputs slot.job) (ap outputs_at stage) (sound.ready.outputs slot (there m sound job slot found) writes).fit) in
-      subst (λ (o : Option KeyRange). AreRuns (merged_at i o outputs levels)) has.hull_is (runs_law levels slot.input.bottom (Merge i upper lower) outputs runs has fit)
+      subst (λ (o : Option KeyRange). AreRuns (merged_at i o (length upper) outputs levels)) has.hull_is (runs_law levels slot.input.bottom (Merge i upper lower) outputs runs has fit)
 
-  ascend : Pairwise (AscendInRun p.logs.log_sectors (seen d)) (with_outputs (parts_at m.work.levels i has.range) (map (record_of (suc i) 0) outputs))
-  ascend = subst (Pairwise (AscendInRun n (seen d))) (after_parts levels runs r order outputs i has.known) (records_ascend n (seen d) (replaced i r outputs levels) runs_after (replaced_stored n (seen d) levels tables r outputs they_stand i))
+  ascend : Pairwise (AscendInRun p.logs.log_sectors (seen d)) (with_outputs (parts_at m.work.levels i has.range (length upper)) (map (record_of (suc i) 0) outputs))
+  ascend = subst (Pairwise (AscendInRun n (seen d))) (after_parts levels runs r order (length upper) outputs i has.known) (records_ascend n (seen d) (replaced i r (length upper) outputs levels) runs_after (replaced_stored n (seen d) levels tables r (length upper) outputs they_stand i))
 
   pub merge_written : AreMerged p (seen d) (parts_of m.work.levels i upper) (output_records (Merge i upper lower) outputs)
-  merge_written = subst (λ (o : Option KeyRange). AreMerged p (seen d) (parts_if levels i o) (map (record_of (suc i) 0) outputs)) (sym has.hull_is) (record {
+  merge_written = subst (λ (o : Option KeyRange). AreMerged p (seen d) (parts_if levels i o (length upper)) (map (record_of (suc i) 0) outputs)) (sym has.hull_is) (record {
     was = was;
     each = subst (λ (j : Job). All (IsTableAt n base (seen d)) (output_records j outputs)) merge (outputs_named p xs ys m.state d slot outputs stored stage made numbers base low);
     order = run_order n (seen d) (suc i) 0 outputs (made_run slot.input outputs made) they_stand;

@@ -3,7 +3,7 @@ use Rattle.std.specs.Prelude.{◌≡◌, ℕ, zero, suc, ◌+◌, ◌-◌, min, 
 use Rattle.lsm_codec.specs.Versions.{Version}
 use Rattle.lsm_codec.specs.declared.table_record.TableRecord.{TableRecord}
 use Rattle.lsm_device.specs.Disk.{Disk, seen}
-use Rattle.lsm_levels.specs.Levels.{Levels, level, newer_runs, last_run}
+use Rattle.lsm_levels.specs.Levels.{Levels, level, newer_runs}
 use Rattle.lsm_levels.specs.Pick.{Job, Flush, Merge, is_flush, installed_levels}
 use Rattle.lsm_levels.specs.Tables.{Table, KeyRange, record_of, hull, is_below, meets}
 use Rattle.lsm_jobs.specs.Pieces.{sectors_of, sector_count, written_of}
@@ -71,17 +71,21 @@ that_meet range tables = filter (meets range) tables
 abbrev pub beginning_behind : KeyRange → List Table → List Table
 beginning_behind range tables = filter (λ t. is_below range.last t.first) tables
 
--- The records of tables around a merge of tables of a level with this hull: in level 0 the oldest run, in others those that
--- meet it; and below those that meet it.
-abbrev pub parts_at : Levels → ℕ → KeyRange → Parts
-parts_at levels zero range = record {
-  before = records_of_runs 0 (newer_runs levels.runs);
-  upper = map (record_of 0 (length levels.runs - 1)) (last_run levels.runs);
+-- the oldest runs of these that hold so many tables
+abbrev pub runs_holding : ℕ → List (List Table) → List (List Table)
+runs_holding tables runs = drop (length (newer_runs tables runs)) runs
+
+-- The records of tables around a merge of so many tables of a level with this hull: in level 0 the oldest runs that hold so
+-- many, in others those that meet it; and below those that meet it.
+abbrev pub parts_at : Levels → ℕ → KeyRange → ℕ → Parts
+parts_at levels zero range tables = record {
+  before = records_of_runs 0 (newer_runs tables levels.runs);
+  upper = records_of_runs (length (newer_runs tables levels.runs)) (runs_holding tables levels.runs);
   between = map (record_of 1 0) (ending_before range (level levels 1));
   lower = map (record_of 1 0) (that_meet range (level levels 1));
   behind = map (record_of 1 0) (beginning_behind range (level levels 1)) ++ records_of_levels 2 (drop 1 levels.deeper);
 }
-parts_at levels (suc i) range = record {
+parts_at levels (suc i) range tables = record {
   before = records_of_runs 0 levels.runs ++ (records_of_levels 1 (take i levels.deeper) ++ map (record_of (suc i) 0) (ending_before range (level levels (suc i))));
   upper = map (record_of (suc i) 0) (that_meet range (level levels (suc i)));
   between = map (record_of (suc i) 0) (beginning_behind range (level levels (suc i))) ++ map (record_of (suc (suc i)) 0) (ending_before range (level levels (suc (suc i))));
@@ -89,13 +93,13 @@ parts_at levels (suc i) range = record {
   behind = map (record_of (suc (suc i)) 0) (beginning_behind range (level levels (suc (suc i)))) ++ records_of_levels (suc (suc (suc i))) (drop (suc (suc i)) levels.deeper);
 }
 
-abbrev pub parts_if : Levels → ℕ → Option KeyRange → Parts
-parts_if levels i (Some range) = parts_at levels i range
-parts_if levels i None = record { before = []; upper = []; between = []; lower = []; behind = [] }
+abbrev pub parts_if : Levels → ℕ → Option KeyRange → ℕ → Parts
+parts_if levels i (Some range) tables = parts_at levels i range tables
+parts_if levels i None tables = record { before = []; upper = []; between = []; lower = []; behind = [] }
 
 -- The parts around a merge of these tables of a level.
 abbrev pub parts_of : Levels → ℕ → List Table → Parts
-parts_of levels i upper = parts_if levels i (hull upper)
+parts_of levels i upper = parts_if levels i (hull upper) (length upper)
 
 -- ---- the placement after an install
 

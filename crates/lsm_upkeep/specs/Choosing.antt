@@ -7,7 +7,7 @@ use Rattle.lsm_levels.specs.Pick.{Job, inputs}
 use Rattle.lsm_levels.specs.Choices.{chosen}
 use Rattle.lsm_levels.specs.declared.choosing.Choice.{Choice}
 use Rattle.lsm_policy.specs.Room.{blocks_of}
-use Rattle.lsm_levels.specs.declared.choosing.Choice.TheVariants.{OldestRun, Tables}
+use Rattle.lsm_levels.specs.declared.choosing.Choice.TheVariants.{OldestRuns, Tables}
 
 -- whether there is such a job, and it takes in so many blocks at most
 abbrev pub takes_at_most : ℕ → Option Job → Bool
@@ -24,7 +24,7 @@ NoneFits levels jobs most tables = AllByRecursion (λ t. fits levels jobs most (
 
 -- Nothing can go down where so many blocks are free: not the oldest run of level 0, and no table of levels 1 to 3.
 pub record NothingGoesDown (levels : Levels) (jobs : List Job) (free : ℕ) : Type 0 where
-  pub run : fits levels jobs free OldestRun ≡ false
+  pub run : fits levels jobs free (OldestRuns 1) ≡ false
   pub level_1 : NoneFits levels jobs free (level levels 1)
   pub level_2 : NoneFits levels jobs free (level levels 2)
   pub level_3 : NoneFits levels jobs free (level levels 3)

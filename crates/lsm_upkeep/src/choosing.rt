@@ -20,8 +20,9 @@ pub(crate) fn choice_down<H: HeldJobs, A: Allocator>(
     ensures { MatchOption result (NothingGoesDown levels.now (H.jobs held.now) free_blocks) (λ choice. fits levels.now (H.jobs held.now) free_blocks choice ≡ true) }
 {
     let room = u64::from(free_blocks);
-    if fits(levels, Choice::OldestRun, room, held) {
-        return Some(Choice::OldestRun);
+    let run = Choice::OldestRuns { count: 1 };
+    if fits(levels, run, room, held) {
+        return Some(run);
     }
     let [level_1, level_2, level_3, _] = levels.deeper() else {
         return None;

@@ -48,7 +48,7 @@ fn least_over(run: &Run, limit: u32) -> Option<Choice> {
 /// What is over its limit, of the least level.
 fn over_limit<D: Device>(store: &Store<D>) -> Option<Choice> {
     if store.levels().runs().len() >= RUNS {
-        return Some(Choice::OldestRun);
+        return Some(Choice::OldestRuns { count: 1 });
     }
     for (level, limit) in LIMITS.iter().enumerate() {
         let run = store.levels().deeper().get(level)?;

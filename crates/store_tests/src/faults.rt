@@ -54,6 +54,16 @@ const FOUR_RUNS: [Line; 4] = [
     (Piece::Run(0x64, 4), Answer::Done),
 ];
 
+/// The merge of the oldest three of them.
+const MERGE_OF_THREE: [Line; 6] = [
+    (Piece::TakeRuns(3), Answer::Taken(5, Some(0))),
+    (Piece::Read(5), Answer::Left(0)),
+    (Piece::Build(5), Answer::Built(1)),
+    (Piece::Accept(5), Answer::Done),
+    (Piece::Write(5), Answer::Left(0)),
+    (Piece::Install(5), Answer::Done),
+];
+
 /// The merge of the oldest of them.
 const MERGE: [Line; 6] = [
     (Piece::Take, Answer::Taken(5, Some(0))),
@@ -190,6 +200,15 @@ fn each_change_of_a_flush_fails_in_turn(rt: HostRuntime) {
 #[test]
 fn each_change_of_a_merge_fails_in_turn(rt: HostRuntime) {
     let (changes, refused) = changes_of(&rt, rt.alloc(), (&FOUR_RUNS, &MERGE));
+    assert!(rt;
+        changes == BLOCK_WRITES + 4 && refused > 30,
+        "{changes} {refused}"
+    );
+}
+
+#[test]
+fn each_change_of_a_merge_of_three_runs_fails_in_turn(rt: HostRuntime) {
+    let (changes, refused) = changes_of(&rt, rt.alloc(), (&FOUR_RUNS, &MERGE_OF_THREE));
     assert!(rt;
         changes == BLOCK_WRITES + 4 && refused > 30,
         "{changes} {refused}"

@@ -109,11 +109,11 @@ fn with_four_levels<R: Threads + Sync + Abort>(rt: &R, alloc: Global) -> Working
 fn compaction_does_what_the_policy_advises(rt: HostRuntime) {
     let mut store = with_four_levels(&rt, rt.alloc());
     assert!(rt; store.shape() == [1, 1, 1, 1, 0] && store.has_just(&rt, 5));
-    // The flush comes first; of three runs one goes, and the two that are left stay.
+    // The flush comes first; then all three runs go, and become one table.
     store.play(&rt, &[(Take, Taken(11, None)), (Finish(11), Done)]);
     store.play(&rt, &[(Put(0x66, 0x36), Number(6)), (Rotate, Done)]);
     store.compact(&rt, &Policy::new());
-    assert!(rt; store.shape() == [2, 2, 1, 1, 0] && store.has_just(&rt, 6));
+    assert!(rt; store.shape() == [0, 2, 1, 1, 0] && store.has_just(&rt, 6));
 }
 
 #[test]
@@ -180,8 +180,9 @@ fn runs_left<R: Threads + Sync + Abort>(
 #[test]
 fn a_store_is_compacted_where_room_is_scarce(rt: HostRuntime) {
     // Two small tables have four blocks each. Of long values a block holds one, and two tables beside have a filter, an index and a
-    // footer each: so all take 119 blocks or 120, and as many are free, or one fewer. Three tables are at most three.
-    for (count, most_tables, wanted) in [(105, 768, 3), (106, 768, 2), (1, 3, 3), (1, 2, 2)] {
+    // footer each: so all take 119 blocks or 120, and as many are free, or one fewer. Then the two small ones go, as all three find
+    // no room. Three tables are at most three; of more than so many all go.
+    for (count, most_tables, wanted) in [(105, 768, 3), (106, 768, 1), (1, 3, 3), (1, 2, 0)] {
         let runs = runs_left(&rt, rt.alloc(), count, most_tables);
         assert!(rt; runs == wanted, "{count} {most_tables}: {runs}");
     }
@@ -231,5 +232,5 @@ const ADVISED: [Line; 10] = [
 fn what_is_advised_is_given(rt: HostRuntime) {
     let mut store = begun(&rt, rt.alloc());
     store.play(&rt, &ADVISED);
-    assert!(rt; store.shape() == [2, 1, 0, 0, 0] && store.has_just(&rt, 3));
+    assert!(rt; store.shape() == [0, 1, 0, 0, 0] && store.has_just(&rt, 3));
 }

@@ -40,8 +40,8 @@ pub(crate) enum Piece {
     Take,
     /// Takes what the policy advises.
     TakeAdvised,
-    /// Takes the oldest run of level 0.
-    TakeRun,
+    /// Takes so many of the oldest runs of level 0.
+    TakeRuns(usize),
     /// Takes the tables of a level from 1 to 3 from the first to the last, if it has several.
     TakeSeveral(usize),
     Read(u64),
@@ -247,6 +247,12 @@ impl<A: Allocator + Clone> Working<A> {
         }
     }
 
+    fn take_runs(&mut self, count: usize) -> Result<Answer, Refusal> {
+        Ok(told_job(
+            self.store.job_take_of(Choice::OldestRuns { count })?,
+        ))
+    }
+
     fn take_several(&mut self, level: usize) -> Result<Answer, Refusal> {
         let Some(run) = self.store.levels().deeper().get(level.wrapping_sub(1)) else {
             return Ok(Answer::NoJob);
@@ -343,7 +349,7 @@ impl<A: Allocator + Clone + Send + Sync> Working<A> {
             Piece::Next(place) => Ok(Answer::Waits(self.store.piece_at(place))),
             Piece::Take => Ok(told_job(self.store.job_take()?)),
             Piece::TakeAdvised => self.take_advised(),
-            Piece::TakeRun => Ok(told_job(self.store.job_take_of(Choice::OldestRun)?)),
+            Piece::TakeRuns(count) => self.take_runs(count),
             Piece::TakeSeveral(level) => self.take_several(level),
             Piece::Read(job) => Ok(Answer::Left(self.store.job_read(job)?)),
             Piece::Build(job) => self.build(rt, job),
