@@ -6,6 +6,7 @@ use Rattle.lsm_codec.specs.Versions.{Version}
 use Rattle.lsm_codec.proofs.Lists.{all_map, all_append, all_left, all_right}
 use Rattle.lsm_device.specs.Disk.{seen}
 use Rattle.lsm_levels.specs.Levels.{Levels, all_tables, places}
+use Rattle.lsm_levels.proofs.OldestRuns.{tables_append}
 use Rattle.lsm_levels.specs.Orders.{IsNewerPlace, IsVersionOrder}
 use Rattle.lsm_levels.specs.Tables.{Table, versions_of}
 use Rattle.lsm_merge.specs.Inputs.{joined}
@@ -33,7 +34,6 @@ joined_versions (t ∷ rest) = ap (λ (vs : List Version). t.versions ++ vs) (jo
 versions_of-append : (xs ys : Tables) → versions_of (xs ++ ys) ≡ versions_of xs ++ versions_of ys
 versions_of-append [] ys = refl
 versions_of-append (x ∷ xs) ys = ap (λ (vs : List Version). x.versions ++ vs) (versions_of-append xs ys) ∙ sym (append_assoc x.versions (versions_of xs) (versions_of ys))
-
 
 -- ---- a table at a place of a run, behind others and before others
 
