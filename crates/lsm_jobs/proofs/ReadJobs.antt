@@ -7,6 +7,7 @@ use Rattle.lsm_device.specs.declared.refusal.Refusal.{Refusal}
 use Rattle.lsm_device.specs.Disk.{seen}
 use Rattle.lsm_device.specs.Medium.{Medium, disk}
 use Rattle.lsm_codec.proofs.Limits.{each-Decides}
+use Rattle.lsm_merge.specs.Inputs.{AreRuns}
 use Rattle.lsm_levels.specs.Stored.{LiesWithin, is_within}
 use Rattle.lsm_levels.specs.Tables.{Table}
 use Rattle.lsm_levels.specs.Pick.{Job, inputs}
@@ -55,10 +56,11 @@ job_stays job place old lifted new slot held now (Err e) at there out back same 
 
 -- where what is gathered doesn't go on, neither does the slot that shows it
 pub slot_bad : (area : ℕ) (m : Medium) (number : ℕ) (job : Job) (g : Gathered) (tables : List Table) (slot : Slot) → tables ≡ inputs job → length g.runs ≡ length (ascending_runs (inputs job))
-    → record { number = number; job = job; input = input_ahead (inputs job) g; stage = Reading (blocks_left (inputs job) g) } ≡ slot → ((after : Gathered) → AllGoOn (seen (disk m)) area tables g after → ⊥) → IsBadNext area m slot
-slot_bad area m number job g tables slot same count view none = subst (λ (s : Slot). IsBadNext area m s) view (record {
+    → record { number = number; job = job; input = input_ahead (inputs job) g; stage = Reading (blocks_left (inputs job) g) } ≡ slot → AreRuns g.runs → ((after : Gathered) → AllGoOn (seen (disk m)) area tables g after → ⊥) → IsBadNext area m slot
+slot_bad area m number job g tables slot same count view ordered none = subst (λ (s : Slot). IsBadNext area m s) view (record {
   before = g;
   shows = record { count = count; input = refl; stage = refl };
+  ordered = ordered;
   none = λ after h. none after (subst (λ (t : List Table). AllGoOn (seen (disk m)) area t g after) (sym same) h);
 })
 

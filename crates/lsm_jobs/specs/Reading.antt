@@ -4,7 +4,7 @@ use Rattle.std.specs.List.{AllByRecursion}
 use Rattle.std.specs.Arc.{arc_value}
 use Rattle.lsm_device.specs.Disk.{seen}
 use Rattle.lsm_device.specs.Medium.{Medium, disk}
-use Rattle.lsm_merge.specs.Inputs.{MergeInput}
+use Rattle.lsm_merge.specs.Inputs.{MergeInput, AreRuns}
 use Rattle.lsm_levels.specs.Tables.{Table}
 use Rattle.lsm_levels.specs.Pick.{Job, inputs}
 use Rattle.lsm_levels.specs.Stored.{LiesWithin}
@@ -70,10 +70,12 @@ pub record SlotReadsOn (area : ℕ) (m : Medium) (left : ℕ) (old new : Slot) :
   pub goes_on : IsTrue m.lasting.tells → AllGoOn (seen (disk m)) area (inputs old.job) before after
   pub becomes : new ≡ slot_with_gathered old left after
 
--- A slot doesn't go on: what the next eight data blocks spell is no entries that come after those of their run that were read.
+-- A slot doesn't go on: what the next eight data blocks spell is no entries that come after those of their run that were read,
+-- which are in order.
 pub record IsBadNext (area : ℕ) (m : Medium) (slot : Slot) : Type 0 where
   pub before : Gathered
   pub shows : Shows slot before
+  pub ordered : AreRuns before.runs
   pub none : (after : Gathered) → AllGoOn (seen (disk m)) area (inputs slot.job) before after → ⊥
 
 -- the same of the job of a number

@@ -7,7 +7,7 @@ ghost use Rattle.lsm_device.specs.declared.refusal.Refusal.TheVariants.{NoMemory
 ghost use Rattle.lsm_device.specs.Disk.{seen};
 ghost use Rattle.lsm_device.specs.Medium.{disk};
 ghost use Rattle.lsm_device.specs.Refusals.{faultless};
-ghost use Rattle.lsm_merge.specs.Inputs.{IsCuts};
+ghost use Rattle.lsm_merge.specs.Inputs.{AreRuns, IsCuts};
 ghost use Rattle.lsm_levels.specs.Stored.{LiesWithin};
 ghost use Rattle.lsm_jobs.specs.Gathering.{Gathered, ReadsBlocks, ascending_runs, fronts, none_gathered, whole_input, blocks_left, IsNext, AllGoOn, IsGrown};
 ghost use Rattle.lsm_jobs.specs.Reading.{ReadsOn};
@@ -102,9 +102,11 @@ impl<A: Allocator + Clone> Gathering<A> {
 impl<A: Allocator + Clone> Gathering<A> {
     /// What a step takes before it reads: an allocator for the input, and how many entries each run has.
     fn room(&self, alloc: &A) -> Result<(A, Vec<usize, A>), AllocError>
-        ensures { IfOk result (λ room. room.1.items ≡ map length self.now.runs) }
+        ensures lengths { IfOk result (λ room. room.1.items ≡ map length self.now.runs) }
+        ensures ordered { AreRuns self.now.runs }
     {
-        Ok((alloc.clone()?, lengths(alloc.clone()?, &self.runs)?))
+        let runs = &self.runs;
+        Ok((alloc.clone()?, lengths(alloc.clone()?, runs)?))
     }
 }
 
@@ -160,6 +162,7 @@ impl<A: Allocator + Clone> Gathering<A> {
         ensures reads { IfOk result.1 (λ left. ReadsOn area (D.medium device.old) tables.now left self result.0) }
         ensures bad { IsTrue (D.medium device.old).lasting.tells → result.1 ≡ Err BadTable → (new : Gathered)
             → AllGoOn (seen (disk (D.medium device.old))) area tables.now self new → ⊥ }
+        ensures ordered { AreRuns self.runs }
         ensures unchanged { OnErr result.1 (result.0 ≡ Reading self) }
         ensures refused { IfErr result.1 (λ refusal. (refusal ≡ Io) ⊎ ((refusal ≡ BadTable) ⊎ (refusal ≡ NoMemory))) }
         ensures device { ReadsBlocks (min 8 (blocks_left tables.now self)) (faultless result.1) (D.medium device.old) (D.medium device.new) }
