@@ -1,20 +1,32 @@
 -- A merge whose outputs are upper tables of it.
-use Rattle.std.proofs.Common.{◌≡◌, inl, inr, ℕ, zero, suc, Bool, false, List, [], ◌∷◌, ◌++◌, take, Some, sym, subst}
+use Rattle.std.proofs.Common.{◌≡◌, inl, inr, ℕ, zero, suc, ◌<◌, Bool, false, List, [], ◌∷◌, ◌++◌, length, take, refl, sym, subst}
 use Rattle.lsm_levels.specs.Among.{IsAmong}
 use Rattle.lsm_levels.specs.Tables.{Table, IsRun}
-use Rattle.lsm_levels.specs.Levels.{Levels}
-use Rattle.lsm_levels.specs.Pick.{Merge, pick, is_bottom}
-use Rattle.lsm_levels.specs.Held.{HasItsTables, IsWithin, AreOutputs, AreRuns, PickLaw}
+use Rattle.lsm_levels.specs.Levels.{Levels, flushed}
+use Rattle.lsm_levels.specs.Pick.{Flush, Merge, is_bottom}
+use Rattle.lsm_levels.specs.Held.{HasItsTables, IsWithin, AreApart, AreOutputs, AreRuns, MayTake, SurvivalLaw}
 use Rattle.lsm_levels.proofs.KeyOrder.{at_most_itself}
 use Rattle.lsm_levels.proofs.Members.{among_left}
-use Rattle.lsm_levels.proofs.Ranges.{all_of, run_order}
+use Rattle.lsm_levels.proofs.Ranges.{no, all_of, run_order}
 
--- the next job has its tables, which handles show
-pub next_has : PickLaw → (levels : Levels) (i : ℕ) (upper lower handles : List Table) → AreRuns levels → pick false levels [] ≡ Some (Merge i upper lower) → handles ≡ upper
-    → (bottom : Bool) × (lower : List Table) × HasItsTables levels bottom i handles lower
-next_has law levels i upper lower handles runs said is =
-    let job = Merge i upper lower in
-    (is_bottom levels job, lower, subst (λ (tables : List Table). HasItsTables levels (is_bottom levels job) i tables lower) (sym is) (law false levels [] job runs said).held)
+-- a job that may be taken has its tables, which handles show
+pub taken_has : (levels : Levels) (i : ℕ) (upper lower handles : List Table) → MayTake levels [] (Merge i upper lower) → handles ≡ upper → (bottom : Bool) × (lower : List Table) × HasItsTables levels bottom i handles lower
+taken_has levels i upper lower handles may is =
+    let bottom = is_bottom levels (Merge i upper lower) in
+    (bottom, lower, subst (λ (tables : List Table). HasItsTables levels bottom i tables lower) (sym is) may.held)
+
+-- and after a flush it has them still
+pub flush_leaves : SurvivalLaw → (levels : Levels) (i : ℕ) (upper run : List Table) → AreRuns levels → (bottom : Bool) × (lower : List Table) × HasItsTables levels bottom i upper lower → IsRun run → 0 < length run
+    → (bottom : Bool) × (lower : List Table) × HasItsTables (flushed run levels) bottom i upper lower
+flush_leaves law levels i upper run runs held is some = (held.0, held.1, law levels held.0 false (Merge i upper held.1) Flush run runs held.2 refl apart (is, some))
+  where
+    apart : AreApart (Merge i upper held.1) Flush
+    apart = record {
+      tables = λ t u a b. absurd b;
+      one_flush = λ e f. absurd (no (sym e));
+      alone = λ e. refl;
+      others_alone = λ e. absurd (no (sym e));
+    }
 
 taken_among : (n : ℕ) (xs : List Table) (t : Table) → IsAmong t (take n xs) → IsAmong t xs
 taken_among zero xs t a = absurd a

@@ -1,14 +1,21 @@
 //! Merges that are installed.
 
-ghost use Rattle.std.specs.Prelude.{◌≡◌, Bool, List};
+ghost use Rattle.std.specs.Prelude.{◌≡◌, ◌++◌, ◌<◌, Bool, List, length};
 ghost use Rattle.lsm_levels.specs.Tables.{Table, IsRun};
 ghost use Rattle.lsm_levels.specs.Held.{HasItsTables};
+ghost use Rattle.lsm_levels.specs.Levels.{all_tables};
 
 use crate::heaps::take;
 use crate::jobs::Slots;
-use crate::tables::{Put, copy, is_level, levels_of, with_level_1};
+use crate::tables::{
+    BELOW_FIVE, FIVE_RUNS, Put, copy, is_level, levels_of, run_of_puts, runs_have_numbers,
+    with_level_1,
+};
 use linked_list_allocator::LocalHeap;
-use lsm_levels::{Levels, Pick, PlacedTable, is_run, picked_jobs_have_free_tables};
+use lsm_levels::{
+    Choice, Levels, Pick, PlacedTable, Run, chosen_jobs_have_free_tables, is_run,
+    jobs_keep_their_tables, picked_jobs_have_free_tables,
+};
 use std::alloc::{Allocator, Global};
 use std::process::Abort;
 use std::slice;
@@ -31,6 +38,35 @@ fn shared<A: Allocator + Clone, R: Abort>(
     handles
 }
 
+/// Pushes handles of tables.
+fn push_handles<A: Allocator, R: Abort>(
+    rt: &R,
+    handles: &mut Vec<PlacedTable<A>, A>,
+    tables: &[PlacedTable<A>],
+)
+    ensures { handles.new.items ≡ handles.old.items ++ tables.now }
+{
+    for table in tables {
+        let handle = table.share().expect(rt, "a handle");
+        handles.push(handle).expect(rt, "memory");
+    }
+}
+
+/// Handles of the tables of runs.
+fn shared_of_runs<A: Allocator + Clone, R: Abort>(
+    rt: &R,
+    alloc: &A,
+    runs: &[Run<A>],
+) -> Vec<PlacedTable<A>, A>
+    ensures { result.items ≡ all_tables runs.now }
+{
+    let mut handles = Vec::new(copy(rt, alloc));
+    for run in runs {
+        push_handles(rt, &mut handles, run.tables());
+    }
+    handles
+}
+
 /// The level of the next job, which is a merge, and handles of its upper tables.
 fn next_merge<A: Allocator + Clone, R: Abort>(
     rt: &R,
@@ -42,7 +78,7 @@ fn next_merge<A: Allocator + Clone, R: Abort>(
     picked_jobs_have_free_tables();
     let _runs = levels.runs();
     match levels.pick(false, &Slots::Free) {
-        Some(Pick::OldestRun { upper, lower: _ }) => (0, shared(rt, alloc, upper)),
+        Some(Pick::OldestRuns { runs, lower: _ }) => (0, shared_of_runs(rt, alloc, runs)),
         Some(
             Pick::OneTable {
                 level,
@@ -104,6 +140,63 @@ fn an_output_of_level_1_comes_into_level_2(rt: HostRuntime) {
     assert!(rt; is_installed(&rt, (rt.alloc(), &rt.alloc()), &mut levels, 1, 0));
     let level_1 = levels.deeper().first().expect(&rt, "a level");
     assert!(rt; level_1.tables().len() == 64 && is_level(&levels, 2, &[200, 36, 202]));
+}
+
+/// Handles of the tables of so many of the oldest runs, which are chosen.
+fn oldest_tables<R: Abort>(
+    rt: &R,
+    alloc: &Global,
+    levels: &Levels,
+    count: usize,
+) -> Vec<PlacedTable>
+    ensures { (bottom : Bool) × (lower : List Table) × HasItsTables levels.now bottom 0 result.items lower }
+{
+    chosen_jobs_have_free_tables();
+    let _runs = levels.runs();
+    match levels.choose(Choice::OldestRuns { count }, &Slots::Free) {
+        Some(Pick::OldestRuns { runs, lower: _ }) => shared_of_runs(rt, alloc, runs),
+        _ => rt.panic("they are not chosen"),
+    }
+}
+
+/// Adds the run of a flush, which leaves a merge its tables.
+fn flush<R: Abort>(rt: &R, levels: &mut Levels, run: Run, upper: &[PlacedTable])
+    requires { (bottom : Bool) × (lower : List Table) × HasItsTables levels.old bottom 0 upper.now lower }
+    ensures { (bottom : Bool) × (lower : List Table) × HasItsTables levels.new bottom 0 upper.now lower }
+{
+    jobs_keep_their_tables();
+    let _runs = levels.runs();
+    assert!(rt; !run.tables().is_empty());
+    match levels.add_run(run) {
+        Ok(()) => {}
+        Err(_refused) => rt.panic("no memory"),
+    }
+}
+
+/// Installs a merge of the oldest runs with the first of their tables as its output.
+fn is_replaced<R: Abort>(rt: &R, alloc: &Global, levels: &mut Levels, upper: &[PlacedTable]) -> bool
+    requires { (bottom : Bool) × (lower : List Table) × HasItsTables levels.old bottom 0 upper.now lower }
+{
+    assert!(rt; !upper.is_empty());
+    let mut outputs = shared(rt, alloc, &upper[..1]);
+    levels.replace(0, upper, &mut outputs).is_ok()
+}
+
+#[test]
+fn three_oldest_of_five_runs_go_and_a_flush_stays(rt: HostRuntime) {
+    let alloc = rt.alloc();
+    let mut levels = levels_of(&rt, &alloc, &FIVE_RUNS, &[BELOW_FIVE]);
+    let upper = oldest_tables(&rt, &alloc, &levels, 3);
+    flush(
+        &rt,
+        &mut levels,
+        run_of_puts(&rt, &alloc, &[(30, 0x61)]),
+        &upper,
+    );
+    assert!(rt; is_replaced(&rt, &alloc, &mut levels, &upper));
+    assert!(rt;
+        runs_have_numbers(levels.runs(), &[30, 11, 9]) && is_level(&levels, 1, &[20, 6, 24])
+    );
 }
 
 /// Installs a merge without memory, which changes nothing, and then with memory.

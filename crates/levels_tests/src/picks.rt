@@ -1,7 +1,9 @@
 //! Which job comes next.
 
 use crate::jobs::Slots;
-use crate::tables::{Put, have_numbers, levels_of, with_level_1};
+use crate::tables::{
+    BELOW_FIVE, FIVE_RUNS, Put, have_numbers, levels_of, runs_have_numbers, with_level_1,
+};
 use lsm_levels::{Choice, Levels, Pick};
 use std::alloc::Global;
 use std::process::Abort;
@@ -18,8 +20,8 @@ enum Wanted<'a> {
 fn is_wanted(job: &Pick<'_>, wanted: Wanted<'_>) -> bool {
     match (job, wanted) {
         (Pick::Flush, Wanted::Flush) => true,
-        (Pick::OldestRun { upper, lower }, Wanted::Merge(0, above, below)) => {
-            have_numbers(upper, above) && have_numbers(lower, below)
+        (Pick::OldestRuns { runs, lower }, Wanted::Merge(0, above, below)) => {
+            runs_have_numbers(runs, above) && have_numbers(lower, below)
         }
         (
             Pick::OneTable {
@@ -122,6 +124,11 @@ fn tables(first: u64, last: u64) -> Choice {
     Choice::Tables { first, last }
 }
 
+/// The choice of so many of the oldest runs.
+fn oldest(count: usize) -> Choice {
+    Choice::OldestRuns { count }
+}
+
 /// The choice of one table.
 fn one(number: u64) -> Choice {
     tables(number, number)
@@ -150,7 +157,7 @@ fn what_is_free_may_be_chosen(rt: HostRuntime) {
     let levels = chosen_from(&rt, &rt.alloc());
     for (choice, held, wanted) in [
         // One run, and levels far below their limits.
-        (Choice::OldestRun, Slots::Free, Wanted::Merge(0, &[2], &[5])),
+        (oldest(1), Slots::Free, Wanted::Merge(0, &[2], &[5])),
         (one(7), Slots::Free, Wanted::Merge(1, &[7], &[8])),
         (one(5), Slots::Free, Wanted::Merge(1, &[5], &[])),
         (one(8), Slots::Free, Wanted::Merge(2, &[8], &[])),
@@ -164,17 +171,59 @@ fn what_is_free_may_be_chosen(rt: HostRuntime) {
         // Others have what it would take in, or a job of level 0 goes on.
         (one(7), Slots::Merge { level: 2, table: 8 }, Wanted::Nothing),
         (
-            Choice::OldestRun,
+            oldest(1),
             Slots::Merge { level: 1, table: 5 },
             Wanted::Nothing,
         ),
         (
-            Choice::OldestRun,
+            oldest(1),
             Slots::Merge { level: 0, table: 9 },
             Wanted::Nothing,
         ),
     ] {
         assert!(rt; is_chosen(&levels, choice, held, wanted));
+    }
+}
+
+#[test]
+fn the_oldest_runs_go_together(rt: HostRuntime) {
+    let levels = levels_of(&rt, &rt.alloc(), &FIVE_RUNS, &[BELOW_FIVE]);
+    for (count, held, upper, lower) in [
+        // The newer runs stand before the older, and what meets the hull of all of them goes with them.
+        (1, Slots::Free, &[2, 3][..], &[22][..]),
+        (2, Slots::Free, &[4, 2, 3], &[21, 22]),
+        (3, Slots::Flush, &[6, 4, 2, 3], &[21, 22, 23]),
+        (5, Slots::Free, &[11, 9, 6, 4, 2, 3], &[20, 21, 22, 23, 24]),
+        (
+            2,
+            Slots::Merge {
+                level: 1,
+                table: 23,
+            },
+            &[4, 2, 3],
+            &[21, 22],
+        ),
+        (1, Slots::Merge { level: 1, table: 4 }, &[2, 3], &[22]),
+    ] {
+        assert!(rt; is_chosen(&levels, oldest(count), held, Wanted::Merge(0, upper, lower)));
+    }
+    for (count, held) in [
+        // None, and more than there are.
+        (0, Slots::Free),
+        (6, Slots::Free),
+        // A table of the runs or below them is another's, or one of both is a job of level 0 already.
+        (
+            3,
+            Slots::Merge {
+                level: 1,
+                table: 23,
+            },
+        ),
+        (2, Slots::Merge { level: 1, table: 4 }),
+        (2, Slots::Merge { level: 0, table: 9 }),
+        (2, Slots::Several),
+    ] {
+        assert!(rt; is_chosen(&levels, oldest(count), held, Wanted::Nothing));
     }
 }
 
@@ -194,10 +243,10 @@ fn several_stand_beside_no_other_merge(rt: HostRuntime) {
     for (choice, held, wanted) in [
         (tables(5, 4), other, Wanted::Nothing),
         (one(5), other, Wanted::Merge(1, &[5], &[])),
-        (Choice::OldestRun, other, Wanted::Merge(0, &[2], &[5])),
+        (oldest(1), other, Wanted::Merge(0, &[2], &[5])),
         (tables(5, 4), Slots::Several, Wanted::Nothing),
         (one(5), Slots::Several, Wanted::Nothing),
-        (Choice::OldestRun, Slots::Several, Wanted::Nothing),
+        (oldest(1), Slots::Several, Wanted::Nothing),
     ] {
         assert!(rt; is_chosen(&levels, choice, held, wanted));
     }

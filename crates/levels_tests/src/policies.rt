@@ -21,12 +21,21 @@ fn tables(first: u64, last: u64) -> Option<Choice> {
     Some(Choice::Tables { first, last })
 }
 
+/// The choice of so many of the oldest runs.
+fn oldest(count: usize) -> Option<Choice> {
+    Some(Choice::OldestRuns { count })
+}
+
 #[test]
-fn the_oldest_of_three_runs_goes_where_it_finds_room(rt: HostRuntime) {
+fn three_runs_go_as_many_as_find_room(rt: HostRuntime) {
+    // Each table has four blocks.
     for (runs, free_blocks, held, wanted) in [
-        (3, 100, Slots::Free, Some(Choice::OldestRun)),
-        (3, 100, Slots::Flush, Some(Choice::OldestRun)),
+        (3, 100, Slots::Free, oldest(3)),
+        (3, 100, Slots::Flush, oldest(3)),
         (2, 100, Slots::Free, None),
+        (3, 12, Slots::Free, oldest(3)),
+        (3, 11, Slots::Free, oldest(2)),
+        (3, 7, Slots::Free, oldest(1)),
         (3, 3, Slots::Free, None),
         (3, 100, Slots::Merge { level: 0, table: 9 }, None),
         (3, 100, Slots::Several, None),

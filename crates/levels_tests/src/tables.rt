@@ -9,6 +9,18 @@ use table_tests::input::images_of_puts;
 /// The number of a table, and the one byte of its key.
 pub type Put = (u32, u8);
 
+/// Five runs, the oldest first. Each of the first three has keys beside those of the others.
+pub const FIVE_RUNS: [&[Put]; 5] = [
+    &[(2, 0x62), (3, 0x63)],
+    &[(4, 0x61)],
+    &[(6, 0x64)],
+    &[(9, 0x60)],
+    &[(11, 0x66)],
+];
+
+/// And a level below them.
+pub const BELOW_FIVE: &[Put] = &[(20, 0x60), (21, 0x61), (22, 0x62), (23, 0x64), (24, 0x65)];
+
 /// A copy of an allocator.
 pub fn copy<A: Allocator + Clone, R: Abort>(rt: &R, alloc: &A) -> A {
     alloc.clone().expect(rt, "an allocator")
@@ -110,6 +122,23 @@ pub fn have_numbers<A: Allocator>(tables: &[PlacedTable<A>], numbers: &[u64]) ->
         all = all && table.number() == *number;
     }
     all
+}
+
+/// Whether the tables of runs have these numbers.
+pub fn runs_have_numbers<A: Allocator>(runs: &[Run<A>], numbers: &[u64]) -> bool {
+    let mut left = numbers;
+    for run in runs {
+        let tables = run.tables();
+        if left.len() < tables.len() {
+            return false;
+        }
+        let (mine, rest) = left.split_at(tables.len());
+        if !have_numbers(tables, mine) {
+            return false;
+        }
+        left = rest;
+    }
+    left.is_empty()
 }
 
 /// Whether a level from 1 to 4 has tables with these numbers.

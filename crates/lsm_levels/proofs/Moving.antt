@@ -12,7 +12,7 @@ use Rattle.lsm_levels.proofs.KeyOrder.{below_not, below_at_most, below_then}
 use Rattle.lsm_levels.proofs.Members.{among_passed, passed_among}
 use Rattle.lsm_codec.proofs.Lists.{filter_step}
 use Rattle.lsm_levels.proofs.Ranges.{no, all_of, run_order, sides, meets_ends}
-use Rattle.lsm_levels.proofs.OldestRuns.{AreSome, newer_few, newer_oldest}
+use Rattle.lsm_levels.proofs.OldestRuns.{HaveTables, newer_few, newer_oldest}
 use Rattle.lsm_levels.proofs.Runs.{run_at, run_filter, upper_is, upper_order}
 use Rattle.lsm_levels.proofs.TablesMet.{same_run}
 
@@ -67,7 +67,7 @@ module _ (p : Table → Bool) where
   count_set (x ∷ xs) (suc i) run lt = omega (arith, count_run x (set xs i run), count_run x xs, count_set xs i run (omega (arith, lt)))
 
   -- without the oldest runs
-  count_newer : (runs : List (List Table)) (tables : List Table) → AreSome runs → AreOldest runs tables → count_all (newer_runs (length tables) runs) + count tables ≡ count_all runs
+  count_newer : (runs : List (List Table)) (tables : List Table) → HaveTables runs → AreOldest runs tables → count_all (newer_runs (length tables) runs) + count tables ≡ count_all runs
   count_newer runs tables some o =
       omega (arith, ap count_all (newer_oldest runs tables some o), ap count o.all, ap count_all o.split, count_places o.newer o.oldest)
 

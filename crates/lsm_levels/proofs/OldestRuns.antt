@@ -10,8 +10,8 @@ use Rattle.lsm_levels.specs.Held.{AreOldest}
 use Rattle.lsm_levels.proofs.Members.{among_left, among_right, among_either}
 
 -- runs have a table at least
-abbrev pub AreSome : List (List Table) → Type 0
-AreSome runs = AllByRecursion (λ run. 0 < length run) runs
+abbrev pub HaveTables : List (List Table) → Type 0
+HaveTables runs = AllByRecursion (λ run. 0 < length run) runs
 
 pub tables_append : (xs ys : List (List Table)) → all_tables (xs ++ ys) ≡ all_tables xs ++ all_tables ys
 tables_append [] ys = refl
@@ -57,7 +57,7 @@ none_kept (run ∷ rest) =
     ap (λ b. cond b [] (run ∷ newer_runs n rest)) (le-leb n n (omega arith))
 
 -- those before the oldest ones, by the number of these tables
-pub newer_are : (newer oldest : List (List Table)) → AreSome newer → newer_runs (length (all_tables oldest)) (newer ++ oldest) ≡ newer
+pub newer_are : (newer oldest : List (List Table)) → HaveTables newer → newer_runs (length (all_tables oldest)) (newer ++ oldest) ≡ newer
 newer_are [] oldest h = none_kept oldest
 newer_are (run ∷ newer) oldest h =
     let n = length (all_tables oldest) in
@@ -135,7 +135,7 @@ module _ (left more runs : List (List Table)) (run : List Table) (kept tables wa
 pub oldest_all : (P : List Table → Type 0) (runs : List (List Table)) (tables : List Table) (o : AreOldest runs tables) → AllByRecursion P runs → AllByRecursion P o.newer × AllByRecursion P o.oldest
 oldest_all P runs tables o h = all_parts P o.newer o.oldest (subst (AllByRecursion P) o.split h)
 
-pub newer_oldest : (runs : List (List Table)) (tables : List Table) → AreSome runs → (o : AreOldest runs tables) → newer_runs (length tables) runs ≡ o.newer
+pub newer_oldest : (runs : List (List Table)) (tables : List Table) → HaveTables runs → (o : AreOldest runs tables) → newer_runs (length tables) runs ≡ o.newer
 newer_oldest runs tables some o =
     ap (λ (ts : List Table). newer_runs (length ts) runs) o.all
     ∙ ap (newer_runs (length (all_tables o.oldest))) o.split
@@ -148,7 +148,7 @@ oldest_among runs tables o t a =
     (among_right t (all_tables o.newer) (all_tables o.oldest) (subst (IsAmong t) o.all a))
 
 -- a table is of the newer runs, or of the oldest
-pub newer_or_oldest : (runs : List (List Table)) (tables : List Table) → AreSome runs → AreOldest runs tables → (t : Table) → IsAmong t (all_tables runs)
+pub newer_or_oldest : (runs : List (List Table)) (tables : List Table) → HaveTables runs → AreOldest runs tables → (t : Table) → IsAmong t (all_tables runs)
     → IsAmong t (all_tables (newer_runs (length tables) runs)) ⊎ IsAmong t tables
 newer_or_oldest runs tables some o t a = ⊎_elim
     (λ b. inl (subst (λ (rs : List (List Table)). IsAmong t (all_tables rs)) (sym (newer_oldest runs tables some o)) b))
@@ -171,13 +171,13 @@ oldest_are count runs some there = record {
     parts (suc n) (run ∷ rest) = ap (λ (xs : List (List Table)). run ∷ xs) (parts n rest)
 
 -- runs have a table
-a_table : (runs : List (List Table)) → 1 ≤ length runs → AreSome runs → (t : Table) × IsAmong t (all_tables runs)
+a_table : (runs : List (List Table)) → 1 ≤ length runs → HaveTables runs → (t : Table) × IsAmong t (all_tables runs)
 a_table [] one some = absurd (omega (arith, one))
 a_table ([] ∷ rest) one some = absurd (omega (arith, some.0))
 a_table ((t ∷ run) ∷ rest) one some = (t, inl refl)
 
 -- the oldest runs have one
-pub oldest_some : (runs : List (List Table)) (tables : List Table) → AreSome runs → AreOldest runs tables → 0 < length tables
+pub oldest_some : (runs : List (List Table)) (tables : List Table) → HaveTables runs → AreOldest runs tables → 0 < length tables
 oldest_some runs tables some o =
     let t = a_table o.oldest o.one (oldest_all (λ run. 0 < length run) runs tables o some).1 in
     by tables t.0 (subst (IsAmong t.0) (sym o.all) t.1)
@@ -187,7 +187,7 @@ oldest_some runs tables some o =
     by (u ∷ rest) t a = omega arith
 
 -- two ways to take the oldest runs share a table
-ends_share : (xs ys zs ws : List (List Table)) → xs ++ ys ≡ zs ++ ws → 1 ≤ length ys → 1 ≤ length ws → AreSome ys → AreSome ws
+ends_share : (xs ys zs ws : List (List Table)) → xs ++ ys ≡ zs ++ ws → 1 ≤ length ys → 1 ≤ length ws → HaveTables ys → HaveTables ws
     → (t : Table) × IsAmong t (all_tables ys) × IsAmong t (all_tables ws)
 ends_share [] ys zs ws same one two some others =
     let t = a_table ws two others in
@@ -200,7 +200,7 @@ ends_share (x ∷ xs) ys (z ∷ zs) ws same one two some others = ends_share xs 
     behind : (a b : List Table) (xs ys : List (List Table)) → a ∷ xs ≡ b ∷ ys → xs ≡ ys
     behind a b xs ys e = cc
 
-pub oldest_share : (runs : List (List Table)) (xs ys : List Table) → AreSome runs → AreOldest runs xs → AreOldest runs ys → (t : Table) × IsAmong t xs × IsAmong t ys
+pub oldest_share : (runs : List (List Table)) (xs ys : List Table) → HaveTables runs → AreOldest runs xs → AreOldest runs ys → (t : Table) × IsAmong t xs × IsAmong t ys
 oldest_share runs xs ys some o p =
     let Some = λ (run : List Table). 0 < length run in
     let t = ends_share o.newer o.oldest p.newer p.oldest (sym o.split ∙ p.split) o.one p.one (oldest_all Some runs xs o some).1 (oldest_all Some runs ys p some).1 in

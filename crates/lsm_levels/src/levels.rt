@@ -144,8 +144,7 @@ impl<A: Allocator> Levels<A> {
 
     /// Replaces the inputs of a merge by its outputs: the upper tables of the level, from 0 to 3, and those of the next level
     /// that they meet go, and the outputs come into the next level in their place. Of level 0 the upper tables are those of the
-    /// oldest runs, and these runs go. Where memory is refused, levels and
-    /// outputs are as they were.
+    /// oldest runs, and these runs go. Where memory is refused, levels and outputs are as they were.
     pub fn replace(
         &mut self,
         level: usize,
@@ -247,8 +246,8 @@ impl<A: Allocator> Levels<A> {
 
     /// The job of a caller's choice, where slots are held by these jobs: the tables that are chosen, with those of the next
     /// level that meet their hull. None where there are no such tables or no runs are asked for, where one of all these is not
-    /// free, where a job of level 0 holds a slot and runs of it are chosen, or where it or a job that holds a slot is a merge of several tables of a level
-    /// from 1 to 3, and the other a merge. Whether a level is over its limit doesn't matter.
+    /// free, where a job of level 0 holds a slot and runs of it are chosen, or where it or a job that holds a slot is a merge of
+    /// several tables of a level from 1 to 3, and the other a merge. Whether a level is over its limit doesn't matter.
     ///
     /// It takes no memory.
     pub fn choose<H: HeldJobs>(&self, choice: Choice, held: &H) -> Option<Pick<'_, A>>

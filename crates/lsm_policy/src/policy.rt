@@ -19,7 +19,8 @@ const LEAST_LIMIT: u64 = 16;
 /// The numbers by which merges are chosen. [`Policy::new`] has good ones.
 #[derive(Clone, Copy, Debug)]
 pub struct Policy {
-    /// From so many runs on the runs of level 0 go down, as many at once as find room.
+    /// From so many runs on the runs of level 0 go down, as many at once as find room. More of them write less. But from four runs on
+    /// the job that comes next is the oldest alone, so for a caller that takes it too they are to be fewer.
     pub runs: usize,
     /// The limits of levels 1 to 3, in blocks. In a small data area a level's limit is an eighth of the blocks instead.
     pub limits: [u64; 3],
