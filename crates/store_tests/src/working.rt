@@ -248,9 +248,7 @@ impl<A: Allocator + Clone> Working<A> {
     }
 
     fn take_runs(&mut self, count: usize) -> Result<Answer, Refusal> {
-        Ok(told_job(
-            self.store.job_take_of(Choice::OldestRuns { count })?,
-        ))
+        Ok(told_job(self.store.job_take_of(Choice::OldestRuns { count })?))
     }
 
     fn take_several(&mut self, level: usize) -> Result<Answer, Refusal> {
