@@ -156,7 +156,7 @@ fn three_runs(alloc: Global) -> Result<Vec<Step>, Refusal> {
 fn a_merge_of_three_runs_is_explored(rt: HostRuntime) -> Result<(), Fail> {
     let steps = three_runs(rt.alloc())?;
     let once = explored(&rt, rt.alloc(), &steps, false)?;
-    assert!(rt; once.first > 20_000 && once.second == 0 && once.skipped > 0 && once.wrong == 0);
+    assert!(rt; once.first > 10_000 && once.second == 0 && once.skipped > 0 && once.wrong == 0);
     Ok(())
 }
 
