@@ -7,6 +7,7 @@ use Rattle.lsm_codec.proofs.Lists.{all_map, all_append, all_left, all_right}
 use Rattle.lsm_device.specs.Disk.{seen}
 use Rattle.lsm_levels.specs.Levels.{Levels, all_tables, places}
 use Rattle.lsm_levels.proofs.OldestRuns.{tables_append}
+use Rattle.lsm_levels.proofs.LevelVersions.{versions_append}
 use Rattle.lsm_levels.specs.Orders.{IsNewerPlace, IsVersionOrder}
 use Rattle.lsm_levels.specs.Tables.{Table, versions_of}
 use Rattle.lsm_merge.specs.Inputs.{joined}
@@ -30,10 +31,6 @@ places_of tables = map (λ t. t.versions) tables
 joined_versions : (tables : Tables) → joined (places_of tables) ≡ versions_of tables
 joined_versions [] = refl
 joined_versions (t ∷ rest) = ap (λ (vs : List Version). t.versions ++ vs) (joined_versions rest)
-
-versions_of-append : (xs ys : Tables) → versions_of (xs ++ ys) ≡ versions_of xs ++ versions_of ys
-versions_of-append [] ys = refl
-versions_of-append (x ∷ xs) ys = ap (λ (vs : List Version). x.versions ++ vs) (versions_of-append xs ys) ∙ sym (append_assoc x.versions (versions_of xs) (versions_of ys))
 
 -- ---- a table at a place of a run, behind others and before others
 
@@ -114,7 +111,7 @@ module _ (sectors : Sectors) (area base : ℕ) where
     pub seen_more : (old new : SeenView) → AreSeen sectors area base xs old → IsSeen (versions_of xs ++ t.versions) new → AreSeen sectors area base (xs ++ t ∷ []) new
     seen_more old new so_far seen = record {
       sound = sound_more so_far.sound;
-      seen = subst (λ (vs : List Version). IsSeen vs new) (sym (versions_of-append xs (t ∷ []) ∙ ap (λ (vs : List Version). versions_of xs ++ vs) (append-nil t.versions))) seen;
+      seen = subst (λ (vs : List Version). IsSeen vs new) (sym (versions_append xs (t ∷ []) ∙ ap (λ (vs : List Version). versions_of xs ++ vs) (append-nil t.versions))) seen;
     }
 
   -- the same, where it was told of the sectors as a device reads them later

@@ -8,6 +8,7 @@ use Rattle.lsm_merge.proofs.Sameness.{items_at}
 use Rattle.lsm_levels.specs.Tables.{Table, versions_of}
 use Rattle.lsm_levels.specs.Levels.{all_tables}
 use Rattle.lsm_levels.specs.Pick.{Merge, inputs}
+use Rattle.lsm_levels.proofs.LevelVersions.{all_versions}
 use Rattle.lsm_jobs.specs.Numbers.{Inputs, merge_of}
 use Rattle.lsm_jobs.specs.Slots.{Slot, Reading}
 use Rattle.lsm_jobs.specs.Taking.{slot_with}
@@ -68,17 +69,9 @@ tables_of_runs (t ∷ rest) = by (ends_run t rest) (ascending_runs rest) ∙ ap 
     by false [] = refl
     by false (run ∷ runs) = refl
 
-versions_append : (xs ys : List Table) → versions_of (xs ++ ys) ≡ versions_of xs ++ versions_of ys
-versions_append [] ys = refl
-versions_append (x ∷ xs) ys = ap (λ (l : List Version). x.versions ++ l) (versions_append xs ys) ∙ sym (append_assoc x.versions (versions_of xs) (versions_of ys))
-
-versions_of_runs : (runs : List (List Table)) → joined (map versions_of runs) ≡ versions_of (all_tables runs)
-versions_of_runs [] = refl
-versions_of_runs (run ∷ runs) = ap (λ (l : List Version). versions_of run ++ l) (versions_of_runs runs) ∙ sym (versions_append run (all_tables runs))
-
 -- and their versions are those of the tables
 pub joined_runs : (tables : List Table) → joined (map versions_of (ascending_runs tables)) ≡ versions_of tables
-joined_runs tables = versions_of_runs (ascending_runs tables) ∙ ap versions_of (tables_of_runs tables)
+joined_runs tables = sym (all_versions (ascending_runs tables)) ∙ ap versions_of (tables_of_runs tables)
 
 -- ---- their number, counted from the first table on
 

@@ -3,6 +3,7 @@ use Rattle.std.proofs.Common.{◌≡◌, ◌⊎◌, inl, inr, ⊎_elim, ℕ, zer
 use Rattle.std.specs.List.{AllByRecursion}
 use Rattle.lsm_codec.specs.Keys.{Bytes}
 use Rattle.lsm_codec.specs.Versions.{Version}
+use Rattle.lsm_merge.specs.Inputs.{joined}
 use Rattle.lsm_levels.specs.Among.{IsAmong}
 use Rattle.lsm_levels.proofs.Members.{among_left, among_right, among_either}
 use Rattle.lsm_levels.specs.Tables.{Table, KeyRange, at_most, meets, versions_of}
@@ -13,6 +14,15 @@ use Rattle.lsm_levels.proofs.Ranges.{of_all}
 use Rattle.lsm_levels.proofs.OldestRuns.{tables_append}
 
 -- ---- versions of tables
+
+pub versions_append : (xs ys : List Table) → versions_of (xs ++ ys) ≡ versions_of xs ++ versions_of ys
+versions_append [] ys = refl
+versions_append (x ∷ xs) ys = ap (λ (l : List Version). x.versions ++ l) (versions_append xs ys) ∙ sym (append_assoc x.versions (versions_of xs) (versions_of ys))
+
+-- those of runs, one place after the other
+pub all_versions : (runs : List (List Table)) → versions_of (all_tables runs) ≡ joined (map versions_of runs)
+all_versions [] = refl
+all_versions (run ∷ rest) = versions_append run (all_tables rest) ∙ ap (λ (l : List Version). versions_of run ++ l) (all_versions rest)
 
 pub in_tables : (v : Version) (tables : List Table) → IsAmong v (versions_of tables) → (t : Table) × IsAmong t tables × IsAmong v t.versions
 in_tables v [] a = absurd a

@@ -1,5 +1,5 @@
 -- Tables that stand, stand in the levels that were read.
-use Rattle.std.proofs.Common.{◌≡◌, ℕ, suc, ◌+◌, Bool, true, false, IsTrue, List, [], ◌∷◌, ◌++◌, length, map, All, Option, Some, None, refl, sym, ap, subst, ◌∙◌, append_assoc, arith}
+use Rattle.std.proofs.Common.{◌≡◌, ℕ, suc, ◌+◌, Bool, true, false, IsTrue, List, [], ◌∷◌, ◌++◌, length, map, All, Option, Some, None, refl, sym, ap, subst, ◌∙◌, arith}
 use Rattle.std.specs.Prelude.{if◌then◌else◌}
 use Rattle.std.specs.List.{AllByRecursion}
 use Rattle.std.proofs.lemmas.List.{append-nil, length-append, map-append}
@@ -14,6 +14,7 @@ use Rattle.lsm_levels.specs.Levels.{Levels, all_tables, places}
 use Rattle.lsm_levels.specs.Orders.{IsNewerPlace, IsVersionOrder}
 use Rattle.lsm_levels.specs.Stored.{IsStored, AreStored}
 use Rattle.lsm_levels.specs.Tables.{Table, is_run, versions_of}
+use Rattle.lsm_levels.proofs.LevelVersions.{all_versions}
 use Rattle.lsm_mem.specs.Versions.{NumberedAtMost}
 use Rattle.lsm_merge.specs.Inputs.{joined}
 use Rattle.lsm_open.specs.Tables.{first_data, versions_at, table_versions, IsTableAt, AreTables}
@@ -35,15 +36,6 @@ told_as_run (Some ts) us told = by (is_run ts) told
     by : (b : Bool) → (if b then Some ts else None) ≡ Some us → Some ts ≡ Some us
     by true h = h
     by false h = absurd cc
-
--- the versions of runs, one place after the other
-versions_joined : (ts us : List Table) → versions_of (ts ++ us) ≡ versions_of ts ++ versions_of us
-versions_joined [] us = refl
-versions_joined (t ∷ ts) us = ap (λ (l : Versions). t.versions ++ l) (versions_joined ts us) ∙ sym (append_assoc t.versions (versions_of ts) (versions_of us))
-
-pub all_versions : (runs : List (List Table)) → versions_of (all_tables runs) ≡ joined (map versions_of runs)
-all_versions [] = refl
-all_versions (r ∷ rest) = versions_joined r (all_tables rest) ∙ ap (λ (l : Versions). versions_of r ++ l) (all_versions rest)
 
 -- one place before the others
 order_first : (place : Versions) (others : List Versions) → IsNewerPlace place (joined others) → IsVersionOrder others → IsVersionOrder (place ∷ others)

@@ -18,7 +18,7 @@ use Rattle.lsm_levels.specs.Tables.{Table, KeyRange, record_of, at_most, is_belo
 use Rattle.lsm_open.proofs.Flushing.{table_versions-append}
 use Rattle.lsm_open.specs.Tables.{first_data, table_versions}
 use Rattle.lsm_merge.specs.Inputs.{joined}
-use Rattle.lsm_open.proofs.StandingLevels.{all_versions}
+use Rattle.lsm_levels.proofs.LevelVersions.{all_versions}
 use Rattle.lsm_open.specs.ToldTables.{records_of_runs, records_of_levels}
 use Rattle.lsm_store.proofs.MergeInputs.{uppers_at, IsBeside, in_dropped}
 use Rattle.lsm_open.proofs.StoredRecords.{versions_run}

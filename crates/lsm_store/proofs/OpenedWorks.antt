@@ -34,7 +34,7 @@ use Rattle.lsm_open.specs.Recovering.{IsRecovered, AreWithinLimits}
 use Rattle.lsm_open.specs.Tables.{first_data}
 use Rattle.lsm_open.specs.ToldTables.{records_of, Held}
 use Rattle.lsm_open.specs.declared.regions.OpenRegion.{OpenRegion}
-use Rattle.lsm_open.proofs.StandingLevels.{all_versions}
+use Rattle.lsm_levels.proofs.LevelVersions.{all_versions}
 use Rattle.lsm_store.specs.Crash.{reopened}
 use Rattle.lsm_store.specs.State.{OpenLog, are_waiting}
 use Rattle.lsm_store.specs.Stored.{open_log_of}
