@@ -33,7 +33,7 @@ pub struct Policy {
 }
 
 impl Policy {
-    /// Three runs; limits of 224, 1,400 and 8,192 blocks; 512 blocks; 768 tables; two blocks for each that is free.
+    /// Three runs; limits of 224, 1,400 and 8,192 blocks; 1,024 blocks; 768 tables; two blocks for each that is free.
     ///
     /// Runs and limits are below those by which jobs come next: so where all that is chosen is done, no merge comes next but of a
     /// table that is mostly deletes.
@@ -44,7 +44,7 @@ impl Policy {
         Policy {
             runs: 3,
             limits: [224, 1_400, 8_192],
-            most_blocks: 512,
+            most_blocks: 1_024,
             most_tables: 768,
             taken_for_each_free: 2,
         }
