@@ -1,6 +1,7 @@
 //! The run of fixed size, which only checks the answers.
 
 use crate::kept::{KEPT, ROUNDS};
+use crate::looks::LOOKS;
 use crate::measuring::{Measured, measure};
 use crate::sizes::SMALL;
 use crate::subject::Subject;
@@ -52,7 +53,8 @@ fn measured<R: Clock + Threads + Wait + Sync>(
     let usual = measure_each(rt, alloc, &mut subject, &WORKLOADS, text)?;
     let kept = measure_each(rt, alloc, &mut subject, &KEPT, text)?;
     let rounds = measure_each(rt, alloc, &mut subject, &ROUNDS, text)?;
-    Ok(usual && kept && rounds)
+    let looks = measure_each(rt, alloc, &mut subject, &LOOKS, text)?;
+    Ok(usual && kept && rounds && looks)
 }
 
 /// Does each workload, prints how many of its answers were right, and tells whether all were.

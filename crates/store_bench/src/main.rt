@@ -3,6 +3,7 @@
 //!
 //! - `FILE RUNS`: all workloads on the file of a path, so many times;
 //! - `upkeep FILE KEYS RUNS`: loads of so many keys, with all rotations and jobs, by the job that comes next and by the policy;
+//! - `gets FILE KEYS RUNS`: gets and pages of a store of so many keys, from the device and from the cache;
 //! - `rounds FILE RUNS`: changes of rounds, of sessions whose trails are full;
 //! - `memory`, `merges`, or `openings BATCHES TIMES`: a layer.
 //!
@@ -19,6 +20,7 @@ mod full;
 mod jobs;
 mod kept;
 mod keys;
+mod looks;
 mod measuring;
 mod memtable;
 mod merging;
@@ -37,6 +39,7 @@ mod workloads;
 use crate::fixed::check;
 use crate::full::{Suite, compare};
 use crate::kept::{KEPT, ROUNDS};
+use crate::looks::LOOKS;
 use crate::memtable::time_memory;
 use crate::merging::time_merges;
 use crate::reopening::time_openings;
@@ -99,6 +102,10 @@ fn measure<R: Files<File = File> + Clock + Threads + Wait + Print + Eprint + All
         "answers" => return check(rt),
         "upkeep" => {
             let suite = Suite::of(sizes_of(number(second, KEYS)?), &KEPT);
+            return compare(rt, &path(first)?, suite, number(third, RUNS)?);
+        }
+        "gets" => {
+            let suite = Suite::of(sizes_of(number(second, KEYS)?), &LOOKS);
             return compare(rt, &path(first)?, suite, number(third, RUNS)?);
         }
         "rounds" => {

@@ -6,7 +6,7 @@ use crate::commits::{Puts, commit_all, load, load_and_thin};
 use crate::jobs::{Written, settle};
 use crate::reads::{count_hits, count_misses, count_thinned, scan_often};
 use crate::rules::{Rule, Upkeep};
-use crate::sizes::Sizes;
+use crate::sizes::{CACHE, Sizes};
 use crate::subject::Subject;
 use crate::workloads::{Way, Work, Workload};
 use lsm_device::{Device, Refusal};
@@ -191,6 +191,20 @@ fn reads<R: Clock, D: Device + Drop>(
     Ok(measured)
 }
 
+/// Gets of all keys by a store whose cache keeps one block.
+fn cold_reads<R: Clock, D: Device + Drop>(
+    rt: &R,
+    alloc: Global,
+    subject: &mut Subject<D>,
+    sizes: Sizes,
+    round: u8,
+) -> Result<Measured, Refusal> {
+    subject.set_cache(alloc, 1)?;
+    let measured = reads(rt, subject, sizes, Work::GetHit, round)?;
+    subject.set_cache(alloc, CACHE)?;
+    Ok(measured)
+}
+
 /// Fills the log, and opens the store with it. It answers the nanoseconds, and how many values were found.
 fn reopen<R: Clock + Threads + Sync, D: Device + Drop>(
     rt: &R,
@@ -333,6 +347,7 @@ pub(crate) fn measure<R: Clock + Threads + Wait + Sync, D: Device + Drop + Send>
         Work::GetHit | Work::GetMiss | Work::Scan => {
             reads(rt, subject, sizes, workload.work, round)
         }
+        Work::GetCold => cold_reads(rt, alloc, subject, sizes, round),
         Work::Reopen(way) => {
             let mut puts = puts_of(sizes, way, round, USUAL);
             puts.count = sizes.logged;

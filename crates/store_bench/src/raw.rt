@@ -209,7 +209,9 @@ fn calls_of(alloc: Global, sizes: Sizes, work: Work, measured: Measured) -> Resu
             Ok(Calls::Write(writes_of(alloc, measured.operations, way)?))
         }
         Work::Load(_) | Work::Thin { .. } => Ok(load_of(measured)),
-        Work::GetHit | Work::GetMiss => Ok(Calls::Read(gets_of(measured.operations))),
+        Work::GetHit | Work::GetCold | Work::GetMiss => Ok(Calls::Read(gets_of(
+            measured.operations,
+        ))),
         Work::Scan => Ok(Calls::Read(scan_of(measured.wanted))),
         Work::Reopen(_) => Ok(Calls::Open {
             times: measured.operations,

@@ -59,8 +59,9 @@ fn formatted<D: Device + Drop>(alloc: Global, device: D) -> Result<D, Refusal> {
     }
 }
 
-fn opened<D: Device + Drop>(alloc: Global, device: D) -> Result<Store<D>, Refusal> {
-    match Store::open(alloc, device, CACHE) {
+/// Opens the store on a device, with a cache of so many blocks.
+fn opened<D: Device + Drop>(alloc: Global, device: D, cache: u32) -> Result<Store<D>, Refusal> {
+    match Store::open(alloc, device, cache) {
         Ok(store) => Ok(store),
         Err((refusal, _)) => Err(refusal),
     }
@@ -73,7 +74,7 @@ fn open_timed<R: Clock, D: Device + Drop>(
     device: D,
 ) -> Result<Timed<D>, Refusal> {
     let start = now(rt)?;
-    let store = opened(alloc, device)?;
+    let store = opened(alloc, device, CACHE)?;
     let nanos = since(rt, start)?;
     let times = Times {
         nanos,
@@ -94,7 +95,7 @@ fn sectors_of_root(tables: usize) -> u32 {
 /// An empty store on a device.
 fn fresh<D: Device + Drop>(alloc: Global, device: D) -> Result<Store<D>, Refusal> {
     let device = formatted(alloc, device)?;
-    opened(alloc, device)
+    opened(alloc, device, CACHE)
 }
 
 impl<D: Device + Drop> Subject<D> {
@@ -126,6 +127,14 @@ impl<D: Device + Drop> Subject<D> {
         let nanos = timed.times.nanos;
         self.store = Some(timed.into_store());
         Ok(nanos)
+    }
+
+    /// Closes the store, and opens it again with an empty cache of so many blocks.
+    pub(crate) fn set_cache(&mut self, alloc: Global, blocks: u32) -> Result<(), Refusal> {
+        let store = self.taken()?;
+        let store = opened(alloc, store.into_device(), blocks)?;
+        self.store = Some(store);
+        Ok(())
     }
 
     pub(crate) fn batch_count(&self) -> u64 {

@@ -36,6 +36,8 @@ pub(crate) enum Work {
     Keep { way: Way, rule: Rule, fresh: bool },
     /// Gets each key.
     GetHit,
+    /// Gets each key, from a store that was just opened with a cache of one block. The opening is not measured.
+    GetCold,
     /// Gets as many keys that have no value.
     GetMiss,
     /// Scans the whole map, page by page.
