@@ -10,6 +10,10 @@ class Refused(Exception):
         self.number, self.name, self.place = number, name, place
 
 
+class Ended(Exception):
+    """lsmctl has ended, with these words on standard error: the file can't be opened, say, or the last sync failed."""
+
+
 def _word(data):
     return data.hex() or "empty"
 
@@ -56,23 +60,34 @@ class Store(_Map):
     """A store in a file that `lsmctl format` has made. `program` is the path of lsmctl, else LSMCTL says it."""
     def __init__(self, path, program=None):
         words = [program or os.environ.get("LSMCTL", "lsmctl"), "serve", path]
-        self.process = subprocess.Popen(words, stdin=subprocess.PIPE, stdout=subprocess.PIPE)
+        self.process = subprocess.Popen(words, stdin=subprocess.PIPE, stdout=subprocess.PIPE, stderr=subprocess.PIPE)
         self._at = []
 
     def __enter__(self):
         return self
 
     def __exit__(self, kind, *_):
-        self.process.communicate()
+        ended = self._ended()
         if kind is None and self.process.returncode != 0:
-            raise OSError("lsmctl could not sync the store")
+            raise ended
+
+    def _ended(self):
+        """Closes the input, waits for the end, and gives what lsmctl said of it."""
+        said = self.process.communicate()[1].decode().strip()
+        return Ended(said or f"lsmctl ended with {self.process.returncode}")
 
     def _ask(self, *words):
-        self.process.stdin.write((" ".join(words) + "\n").encode())
-        self.process.stdin.flush()
-        reply = self.process.stdout.readline().decode().split()
-        if not reply or reply[0] == "usage":
-            raise ValueError(" ".join(reply) or "lsmctl has ended")
+        try:
+            self.process.stdin.write((" ".join(words) + "\n").encode())
+            self.process.stdin.flush()
+            line = self.process.stdout.readline().decode()
+        except (BrokenPipeError, ValueError):
+            line = ""
+        if not line.endswith("\n"):
+            raise self._ended()
+        reply = line.split()
+        if reply[0] == "usage":
+            raise ValueError(line.strip())
         if reply[0] == "refused":
             raise Refused(int(reply[1]), reply[2], *map(int, reply[3:]))
         return reply
