@@ -271,7 +271,7 @@ fn recover_parts<A: Allocator + Clone, D: Device>(
 /// 1,048,576; with `NotAStore`, `BadSuper`, `BadGeometry` or `BadManifest` as the root says; with `BadTable` where the manifest
 /// names a table that can't be counted or doesn't open, or the tables of a run are out of order; with `BadManifest` where a region's first batch is
 /// not the next one; with `Exhausted` in the last generation; with `NoMemory`; and with `Io` where a device call failed, which
-/// was its last. Where several hold, the first of them in this order is answered.
+/// was its last. `NoMemory` and `Io` end it where it meets them; of the others the first in this order is answered.
 pub fn recover<A: Allocator + Clone, D: Device>(
     alloc: A,
     device: D,

@@ -3,8 +3,8 @@
 //! A batch is committed whole or not at all, and is durable from the next sync on. Reads ask the present map or that of a snapshot.
 //! Nothing is flushed or compacted by itself: [`Store::rotate`] closes the log, and `job_take`, `job_read`, `job_input`,
 //! `job_accept`, `job_write` and `job_install` move what waits into tables, piece by piece. After a failed write or sync every call
-//! but [`Store::into_device`] answers `Stopped`. Each call's contract says its errors in their order, what it replies, and what a
-//! crash at any moment within it leaves (`Serves`, `Works`).
+//! that can be refused answers `Stopped`, until [`Store::into_device`] and an opening. Each call's contract says its errors in their
+//! order, what it replies, and what a crash at any moment within it leaves (`Serves`, `Works`).
 //!
 //! ```
 //! let mut store = match Store::open(alloc, device, 256) {
