@@ -85,13 +85,19 @@ fn levels_within_their_limits_stay(rt: HostRuntime) {
 fn room_is_counted(rt: HostRuntime) {
     // Five tables have twenty blocks.
     let levels = levels_of(&rt, &rt.alloc(), &[], &[FIVE]);
-    let policy = Policy::new();
-    for (free_blocks, is_scarce, has_room) in [
-        (9, true, false),
-        (10, true, true),
-        (19, true, true),
-        (20, false, true),
+    for (most_tables, free_blocks, is_scarce, has_room) in [
+        (768, 9, true, false),
+        (768, 10, true, true),
+        (768, 19, true, true),
+        (768, 20, false, true),
+        // Five tables are at most five, and more than four, however many blocks are free.
+        (5, 20, false, true),
+        (4, 5_000, true, false),
     ] {
+        let policy = Policy {
+            most_tables,
+            ..Policy::new()
+        };
         assert!(rt; policy.is_scarce(&levels, free_blocks) == is_scarce);
         assert!(rt; policy.has_room(&levels, free_blocks) == has_room);
     }

@@ -14,8 +14,8 @@
 //! }
 //! ```
 //!
-//! Flushes come first, by `job_take`. Contracts say that what is advised may be taken, and count exactly; how little is written is
-//! measured.
+//! Flushes come first, by `job_take`. Contracts say that what is advised may be taken and takes in no more blocks than are free,
+//! and count exactly; how little is written is measured.
 #![tactic(auto)]
 
 mod neighbours;
@@ -23,4 +23,4 @@ mod policy;
 mod room;
 
 pub use policy::Policy;
-pub use room::takes_in_at_most;
+pub use room::fits;

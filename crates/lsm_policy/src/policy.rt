@@ -1,12 +1,11 @@
 //! What to merge next.
 
-ghost use Rattle.std.specs.Prelude.{◌≡◌, ◌*◌, ◌||◌, ltb, nat_le, is_some, true, IfSome};
-ghost use Rattle.lsm_levels.specs.Choices.{chosen};
+ghost use Rattle.std.specs.Prelude.{◌≡◌, ◌*◌, ◌||◌, ◌&&◌, ltb, nat_le, true, IfSome};
 ghost use Rattle.lsm_levels.specs.Moving.{table_count};
-ghost use Rattle.lsm_policy.specs.Room.{taken_blocks};
+ghost use Rattle.lsm_policy.specs.Room.{fits, taken_blocks};
 
 use crate::neighbours::{Bounds, best, blocks_of};
-use crate::room::{has_at_most, takes_at_most, takes_in_at_most};
+use crate::room::{fits, has_at_most, takes_at_most};
 use lsm_levels::{Choice, HeldJobs, Levels, Run};
 use std::alloc::Allocator;
 
@@ -26,7 +25,8 @@ pub struct Policy {
     pub limits: [u64; 3],
     /// Several neighbours, or several runs, take in so many blocks at most.
     pub most_blocks: u64,
-    /// Room is scarce with more tables than so many, and with less than half of the blocks free.
+    /// Room is scarce with more tables than so many, and with less than half of the blocks free. With more of them there is no room
+    /// for more entries either.
     pub most_tables: usize,
     /// There is room for more while tables take at most so many blocks for each that is free.
     pub taken_for_each_free: u32,
@@ -58,15 +58,14 @@ impl Policy {
     }
 
     /// Whether there is room for more entries where so many blocks are free: with two blocks taken for each that is free, at least a
-    /// third of all. Deletes want room before they make some, since each wants a table first: that is what a store has left which puts no
-    /// more where there is none. No clause says that it is enough.
+    /// third of all; and there are no more tables than [`most_tables`](Policy::most_tables). Deletes want room before they make some,
+    /// since each wants a table first: that is what a store has left which puts no more where there is none. No clause says that it is
+    /// enough.
     pub fn has_room<A: Allocator>(&self, levels: &Levels<A>, free_blocks: u32) -> bool
-        ensures { result ≡ nat_le (taken_blocks levels.now) (self.now.taken_for_each_free * free_blocks) }
+        ensures { result ≡ (nat_le (taken_blocks levels.now) (self.now.taken_for_each_free * free_blocks) && nat_le (table_count levels.now) self.now.most_tables) }
     {
-        takes_at_most(
-            levels,
-            u64::from(self.taken_for_each_free) * u64::from(free_blocks),
-        )
+        let most_blocks = u64::from(self.taken_for_each_free) * u64::from(free_blocks);
+        takes_at_most(levels, most_blocks) && has_at_most(levels, self.most_tables)
     }
 
     /// The merge to choose next where so many blocks are free, and slots are held by these jobs: the first of these that there is,
@@ -85,7 +84,7 @@ impl Policy {
         free_blocks: u32,
         held: &H,
     ) -> Option<Choice>
-        ensures { IfSome result (λ choice. is_some (chosen levels.now (H.jobs held.now) choice) ≡ true) }
+        ensures { IfSome result (λ choice. fits levels.now (H.jobs held.now) free_blocks choice ≡ true) }
     {
         let bounds = Bounds {
             joins: !held.has_merge(),
@@ -94,7 +93,7 @@ impl Policy {
             room: u64::from(free_blocks),
         };
         let choice = self.first_of(levels, bounds, held)?;
-        if levels.choose(choice, held).is_none() {
+        if !fits(levels, choice, u64::from(free_blocks), held) {
             return None;
         }
         Some(choice)
@@ -150,24 +149,11 @@ fn runs_of<H: HeldJobs, A: Allocator>(
     }
     for newer in 0..all {
         let choice = Choice::OldestRuns { count: all - newer };
-        if finds_room(levels, choice, bounds.room_of(all - newer), held) {
+        if fits(levels, choice, bounds.room_of(all - newer), held) {
             return Some(choice);
         }
     }
     None
-}
-
-/// Whether a choice may be taken, and takes in so many blocks at most.
-fn finds_room<H: HeldJobs, A: Allocator>(
-    levels: &Levels<A>,
-    choice: Choice,
-    room: u64,
-    held: &H,
-) -> bool {
-    match levels.choose(choice, held) {
-        Some(job) => takes_in_at_most(&job, room),
-        None => false,
-    }
 }
 
 /// The best neighbours of a level that is over its limit.

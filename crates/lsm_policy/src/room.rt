@@ -5,9 +5,9 @@ ghost use Rattle.lsm_levels.specs.Levels.{all_tables};
 ghost use Rattle.lsm_levels.specs.Moving.{table_count};
 ghost use Rattle.lsm_levels.specs.Pick.{inputs};
 ghost use Rattle.lsm_levels.specs.Picks.{job_of};
-ghost use Rattle.lsm_policy.specs.Room.{blocks_of, taken_blocks, left_of};
+ghost use Rattle.lsm_policy.specs.Room.{blocks_of, fits, taken_blocks, left_of};
 
-use lsm_levels::{Levels, Pick, PlacedTable, Run};
+use lsm_levels::{Choice, HeldJobs, Levels, Pick, PlacedTable, Run};
 use std::alloc::Allocator;
 
 /// What is left of so many blocks without those of tables; none where these have more.
@@ -72,8 +72,23 @@ pub(crate) fn has_at_most<A: Allocator>(levels: &Levels<A>, limit: usize) -> boo
     }
 }
 
+/// Whether a choice may be taken, and takes in so many blocks at most.
+pub fn fits<H: HeldJobs, A: Allocator>(
+    levels: &Levels<A>,
+    choice: Choice,
+    most: u64,
+    held: &H,
+) -> bool
+    ensures { result ≡ fits levels.now (H.jobs held.now) most choice }
+{
+    match levels.choose(choice, held) {
+        Some(job) => takes_in_at_most(&job, most),
+        None => false,
+    }
+}
+
 /// Whether the tables that a job takes in have so many blocks at most, so that its outputs find room in as many.
-pub fn takes_in_at_most<A: Allocator>(job: &Pick<'_, A>, blocks: u64) -> bool
+fn takes_in_at_most<A: Allocator>(job: &Pick<'_, A>, blocks: u64) -> bool
     ensures { result ≡ nat_le (blocks_of (inputs (job_of job.now))) blocks }
 {
     match job {

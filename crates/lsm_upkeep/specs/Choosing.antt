@@ -1,22 +1,11 @@
 -- What can go down, and where all tables are.
-use Rattle.std.specs.Prelude.{◌≡◌, ℕ, ◌==◌, ◌&&◌, Bool, false, nat_le, List, length, Option, Some, None}
+use Rattle.std.specs.Prelude.{◌≡◌, ℕ, ◌==◌, ◌&&◌, Bool, false, List, length}
 use Rattle.std.specs.List.{AllByRecursion}
 use Rattle.lsm_levels.specs.Tables.{Table}
 use Rattle.lsm_levels.specs.Levels.{Levels, level}
-use Rattle.lsm_levels.specs.Pick.{Job, inputs}
-use Rattle.lsm_levels.specs.Choices.{chosen}
-use Rattle.lsm_levels.specs.declared.choosing.Choice.{Choice}
-use Rattle.lsm_policy.specs.Room.{blocks_of}
+use Rattle.lsm_levels.specs.Pick.{Job}
+use Rattle.lsm_policy.specs.Room.{fits}
 use Rattle.lsm_levels.specs.declared.choosing.Choice.TheVariants.{OldestRuns, Tables}
-
--- whether there is such a job, and it takes in so many blocks at most
-abbrev pub takes_at_most : ℕ → Option Job → Bool
-takes_at_most most None = false
-takes_at_most most (Some job) = nat_le (blocks_of (inputs job)) most
-
--- whether a choice may be taken, and takes in so many blocks at most
-abbrev pub fits : Levels → List Job → ℕ → Choice → Bool
-fits levels jobs most choice = takes_at_most most (chosen levels jobs choice)
 
 -- none of these tables fits
 abbrev pub NoneFits : Levels → List Job → ℕ → List Table → Type 0

@@ -1,10 +1,9 @@
 -- How a store is kept up: jobs are taken and finished, one after another, and a log with room is opened.
 use Rattle.std.specs.Prelude.{◌≡◌, ◌<◌, ◌⊎◌, ◌*◌, ◌-◌, ◌&&◌, ◌||◌, not, ℕ, zero, suc, Bool, true, false, is_some, nat_le, ltb, Option, Some, None}
 use Rattle.lsm_jobs.specs.Slots.{held_jobs}
-use Rattle.lsm_levels.specs.Choices.{chosen}
 use Rattle.lsm_levels.specs.Moving.{table_count}
 use Rattle.lsm_levels.specs.declared.choosing.Choice.{Choice}
-use Rattle.lsm_policy.specs.Room.{taken_blocks}
+use Rattle.lsm_policy.specs.Room.{fits, taken_blocks}
 use Rattle.lsm_store.specs.Backing.{StoreView}
 use Rattle.lsm_store.specs.Machine.{Machine}
 use Rattle.lsm_store.specs.Calls.{Reply, Rotate, LogRoom, Number}
@@ -45,10 +44,10 @@ AsksNext s asked = asked ≡ None
 abbrev pub NeverNone : StoreView → Type 0
 NeverNone s = ⊥
 
--- a flush where one waits, and else a merge that may be taken
+-- a flush where one waits, and else a merge that may be taken and takes in no more blocks than are free
 abbrev pub AsksChosen : StoreView → Option Choice → Type 0
 AsksChosen s None = are_waiting s.state ≡ true
-AsksChosen s (Some choice) = (are_waiting s.state ≡ false) × (is_some (chosen s.work.levels (held_jobs s.work.jobs.slots) choice) ≡ true)
+AsksChosen s (Some choice) = (are_waiting s.state ≡ false) × (fits s.work.levels (held_jobs s.work.jobs.slots) (blocks_in_no_table s.work) choice ≡ true)
 
 -- nothing is asked for only where no flush waits, or the store is stopped
 abbrev pub IsIdle : StoreView → Type 0
@@ -93,9 +92,11 @@ is_compacted m = not (is_some m.state.stopped) && (not (are_waiting m.state) && 
 abbrev pub is_scarce : ℕ → StoreView → Bool
 is_scarce most_tables s = ltb (blocks_in_no_table s.work) (taken_blocks s.work.levels) || ltb most_tables (table_count s.work.levels)
 
--- whether there is room for puts: so many blocks are taken at most for each that is free, beside some that are to be filled
-abbrev pub has_room : ℕ → ℕ → StoreView → Bool
-has_room for_each beside s = nat_le (taken_blocks s.work.levels) (for_each * (blocks_in_no_table s.work - beside))
+-- whether there is room for puts: so many blocks are taken at most for each that is free, beside some that are to be filled, and
+-- there are no more tables than so many
+abbrev pub has_room : ℕ → ℕ → ℕ → StoreView → Bool
+has_room most_tables for_each beside s =
+    nat_le (taken_blocks s.work.levels) (for_each * (blocks_in_no_table s.work - beside)) && nat_le (table_count s.work.levels) most_tables
 
 -- It was compacted where room was scarce.
 abbrev pub CompactsIf : Bool → StoreView → StoreView → Type 0

@@ -2,10 +2,11 @@
 
 ghost use Rattle.std.specs.Prelude.{◌≡◌, ◌&&◌, true, MatchOption};
 ghost use Rattle.lsm_levels.specs.declared.choosing.Choice.TheVariants.{Tables};
-ghost use Rattle.lsm_upkeep.specs.Choosing.{fits, NoneFits, NothingGoesDown};
+ghost use Rattle.lsm_policy.specs.Room.{fits};
+ghost use Rattle.lsm_upkeep.specs.Choosing.{NoneFits, NothingGoesDown};
 
 use lsm_levels::{Choice, HeldJobs, Levels, PlacedTable, Run};
-use lsm_policy::takes_in_at_most;
+use lsm_policy::fits;
 use std::alloc::Allocator;
 
 /// A merge of several tables takes in so many blocks at most.
@@ -122,14 +123,4 @@ fn fits_together<H: HeldJobs, A: Allocator>(
     ensures { result ≡ (fits levels.now (H.jobs held.now) room choice && fits levels.now (H.jobs held.now) 512 choice) }
 {
     fits(levels, choice, room, held) && fits(levels, choice, MOST_BLOCKS, held)
-}
-
-/// Whether a choice may be taken, and takes in so many blocks at most.
-fn fits<H: HeldJobs, A: Allocator>(levels: &Levels<A>, choice: Choice, most: u64, held: &H) -> bool
-    ensures { result ≡ fits levels.now (H.jobs held.now) most choice }
-{
-    match levels.choose(choice, held) {
-        Some(job) => takes_in_at_most(&job, most),
-        None => false,
-    }
 }

@@ -50,9 +50,10 @@ fn is_scarce<D: Device>(policy: &Policy, store: &Store<D>) -> bool
 }
 
 /// Whether there is room for puts in a store, by the policy: a third of its blocks is free, beside so many that are to be
-/// filled. A stopped store tells that there is, since it refuses a put itself.
+/// filled, and it has no more tables than those from which on room is scarce. A stopped store tells that there is, since it refuses
+/// a put itself.
 pub fn has_room<D: Device>(store: &Store<D>, policy: &Policy, beside: u32) -> bool
-    ensures { result ≡ (is_some store.now.state.stopped || has_room policy.now.taken_for_each_free beside store.now) }
+    ensures { result ≡ (is_some store.now.state.stopped || has_room policy.now.most_tables policy.now.taken_for_each_free beside store.now) }
 {
     match store.stat() {
         Ok(stat) => policy.has_room(store.levels(), stat.free_blocks.saturating_sub(beside)),

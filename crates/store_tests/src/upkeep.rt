@@ -192,19 +192,25 @@ fn a_store_is_compacted_where_room_is_scarce(rt: HostRuntime) {
 fn room_is_told_up_to_its_border(rt: HostRuntime) {
     let mut store = begun(&rt, rt.alloc());
     store.play(&rt, &[(Run(0x61, 1), Done), (Run(0x62, 2), Done)]);
-    // Eight blocks are taken, and 951 are free.
-    for (taken_for_each_free, beside, wanted) in [
-        (2, 947, true),
-        (2, 948, false),
-        (1, 943, true),
-        (1, 944, false),
-        (2, 5_000, false),
+    // Two tables have eight blocks, and 951 are free.
+    for (most_tables, taken_for_each_free, beside, wanted) in [
+        (768, 2, 947, true),
+        (768, 2, 948, false),
+        (768, 1, 943, true),
+        (768, 1, 944, false),
+        (768, 2, 5_000, false),
+        (2, 2, 0, true),
+        (1, 2, 0, false),
     ] {
         let policy = Policy {
+            most_tables,
             taken_for_each_free,
             ..Policy::new()
         };
-        assert!(rt; store.has_room(&policy, beside) == wanted, "{beside}");
+        assert!(rt;
+            store.has_room(&policy, beside) == wanted,
+            "{most_tables} {beside}"
+        );
     }
     // A stopped store refuses puts itself.
     store.play(

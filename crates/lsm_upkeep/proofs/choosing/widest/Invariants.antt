@@ -1,6 +1,6 @@
 use Rattle.std.proofs.Common.{◌≡◌, true}
 use Rattle.lsm_levels.specs.declared.choosing.Choice.TheVariants.{Tables}
-use Rattle.lsm_upkeep.specs.Choosing.{fits}
+use Rattle.lsm_policy.specs.Room.{fits}
 use Rattle.lsm_upkeep.proofs.choosing.widest.Given as goal
 
 abbrev pub invariant-loop-table : goal.invariant-loop-table
