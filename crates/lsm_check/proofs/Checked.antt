@@ -8,7 +8,7 @@ use Rattle.lsm_codec.specs.Geometry.{data_blocks_of}
 use Rattle.lsm_codec.specs.Manifests.{Contents, IsManifest}
 use Rattle.lsm_codec.specs.Versions.{Version}
 use Rattle.lsm_codec.specs.declared.table_record.TableRecord.{TableRecord}
-use Rattle.lsm_extent.specs.Area.{Area, covers, count_below}
+use Rattle.lsm_extent.specs.Area.{Area, covers}
 use Rattle.lsm_levels.specs.Levels.{Levels, all_tables, places}
 use Rattle.lsm_levels.specs.Tables.{versions_of}
 use Rattle.lsm_open.specs.Counting.{with_tables, IsCountedRoot}

@@ -11,4 +11,5 @@ pub mod SoundRuns
 pub mod ToldTables
 pub mod StandSoundly
 pub mod Readings
+pub mod FirstFound
 pub mod Checked

@@ -1,5 +1,5 @@
 -- What a check has read, as an opening would.
-use Rattle.std.proofs.Common.{◌≡◌, ◌⊎◌, inl, inr, ℕ, ◌+◌, ◌<◌, Bool, true, false, not, List, [], Some, None, refl, sym, ◌∙◌, ap, subst, arith}
+use Rattle.std.proofs.Common.{◌≡◌, ◌⊎◌, inl, inr, ℕ, ◌+◌, ◌<◌, Bool, true, false, not, List, [], refl, sym, ◌∙◌, ap, subst, arith}
 use Rattle.std.specs.Prelude.{ltb, ◌&&◌}
 use Rattle.std.specs.List.{list_any}
 use Rattle.std.proofs.lemmas.Bool.{false≢true, lt-ltb}

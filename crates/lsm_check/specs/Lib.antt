@@ -1,4 +1,5 @@
 pub mod Counted
+pub mod Found
 pub mod Images
 pub mod Named
 pub mod Seen

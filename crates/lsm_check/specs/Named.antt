@@ -1,9 +1,11 @@
 -- What a check has read before it goes over the tables, as an opening would.
-use Rattle.std.specs.Prelude.{◌≡◌, ℕ, ◌+◌, ◌*◌, true, List, Some}
+use Rattle.std.specs.Prelude.{◌≡◌, ◌⊎◌, ℕ, ◌+◌, ◌*◌, true, false, List, Some}
 use Rattle.lsm_codec.specs.Geometry.{data_blocks_of}
 use Rattle.lsm_codec.specs.Manifests.{Contents, IsManifestOf}
 use Rattle.lsm_codec.specs.declared.superblock.FormatVersion.TheVariants.{Two}
 use Rattle.lsm_device.specs.Areas.{area}
+use Rattle.lsm_device.specs.declared.refusal.Refusal.{Refusal}
+use Rattle.lsm_device.specs.declared.refusal.Refusal.TheVariants.{NoMemory, Io, BadManifest}
 use Rattle.lsm_extent.specs.Area.{Area}
 use Rattle.lsm_levels.specs.Held.{AreRuns}
 use Rattle.lsm_levels.specs.Levels.{Levels, places}
@@ -31,6 +33,11 @@ pub record HasBatches (log_sectors : ℕ) (sectors : List (List ℕ)) (m : Conte
   pub follows : follow_on log_sectors sectors (m.base + 1) m.logs ≡ true
   pub fresh : HasNoneAbove m.generation (area first_region (3 * log_sectors) sectors)
   pub counted : batches ≡ count_in log_sectors sectors m
+
+-- Its regions are refused so: they don't follow on, or else a log sector is of a later epoch.
+abbrev pub IsRegionsRefusal : ℕ → List (List ℕ) → Contents → Refusal → Type 0
+IsRegionsRefusal log_sectors sectors m e = (((e ≡ BadManifest) × (follow_on log_sectors sectors (m.base + 1) m.logs ≡ false)) ⊎ ((e ≡ NoMemory) ⊎ (e ≡ Io)))
+    ⊎ ((e ≡ BadManifest) × (follow_on log_sectors sectors (m.base + 1) m.logs ≡ true) × ¬ HasNoneAbove m.generation (area first_region (3 * log_sectors) sectors))
 
 -- What it says of the sectors that it was read from: the manifest is the one that stands there, with each table counted, levels
 -- are those that its tables tell, and so are its batches.

@@ -15,8 +15,9 @@ ghost use Rattle.lsm_open.specs.ToldTables.{Held};
 ghost use Rattle.lsm_root.specs.Layout.{IsDeviceSize};
 ghost use Rattle.lsm_root.specs.Roots.{root_of};
 ghost use Rattle.lsm_check.specs.Counted.{ReadsBetween, IsReadFor};
+ghost use Rattle.lsm_check.specs.Found.{FindsRefusal, FindsLaterSector, IsReadRefusal};
 ghost use Rattle.lsm_check.specs.Images.{blocks_in_none, IsImage, IsNoVerdict, IsNoMemoryOrIo, IsCheckRefusal, IsCheckFinding, is_faultless};
-ghost use Rattle.lsm_check.specs.Named.{AreNamed, AreToldBy, HasBatches};
+ghost use Rattle.lsm_check.specs.Named.{AreNamed, AreToldBy, HasBatches, IsRegionsRefusal};
 
 use crate::epochs::has_none_above;
 use crate::finding::Finding;
@@ -50,6 +51,8 @@ fn count_batches<A: Allocator + Clone, D: Device>(
         (HasBatches loaded.now.log_sectors (seen (disk (D.medium device.old))) loaded.now.manifest) }
     ensures fair { (batches : ℕ) → IsTrue (D.medium device.old).lasting.tells
         → HasBatches loaded.now.log_sectors (seen (disk (D.medium device.old))) loaded.now.manifest batches → IfErr result IsNoMemoryOrIo }
+    ensures refusal { IsTrue (D.medium device.old).lasting.tells → IfErr result
+        (IsRegionsRefusal loaded.now.log_sectors (seen (disk (D.medium device.old))) loaded.now.manifest) }
     ensures refused { IfErr result IsCheckRefusal }
     ensures device { ReadsAtMost (6 * loaded.now.log_sectors) (faultless result) (D.medium device.old) (D.medium device.new) }
     ensures whole { OnOk result (ReadsBetween (3 * loaded.now.log_sectors) (6 * loaded.now.log_sectors) (D.medium device.old).calls (D.medium device.new).calls) }
@@ -73,6 +76,7 @@ fn read_named<A: Allocator + Clone, D: Device>(
         AreToldBy n.loaded.log_sectors (seen (disk (D.medium device.old))) n.loaded.manifest n.tables.levels n.batches) }
     ensures fair { (log_sectors : ℕ) (left : CrashState) → IsTrue (D.medium device.old).lasting.tells → StandFor log_sectors left (seen (disk (D.medium device.old)))
         → IfErr result IsNoMemoryOrIo }
+    ensures refusal { IsTrue (D.medium device.old).lasting.tells → IfErr result (IsReadRefusal (seen (disk (D.medium device.old)))) }
     ensures refused { IfErr result IsCheckRefusal }
     ensures reads { IsTrue (D.medium device.old).lasting.tells → AtMost (69698 + 8 * uncounted_by (root_of (seen (disk (D.medium device.old))))) 0 0 (D.medium device.old).calls (D.medium device.new).calls }
     ensures device { ReadsAtMost 593986 (faultless result) (D.medium device.old) (D.medium device.new) }
@@ -112,6 +116,8 @@ fn check_all<A: Allocator + Clone, D: Device>(alloc: &A, device: &mut D) -> Resu
     ensures yes { IsTrue (D.medium device.old).lasting.tells → IfOk result (IsImage (D.medium device.old).size (seen (disk (D.medium device.old)))) }
     ensures image { (log_sectors : ℕ) (left : CrashState) → IsTrue (D.medium device.old).lasting.tells → StandFor log_sectors left (seen (disk (D.medium device.old)))
         → IfErr result IsNoVerdict }
+    ensures first { IsTrue (D.medium device.old).lasting.tells → FindsRefusal (seen (disk (D.medium device.old))) result }
+    ensures later { IsTrue (D.medium device.old).lasting.tells → FindsLaterSector (seen (disk (D.medium device.old))) result }
     ensures refused { IfErr result IsCheckFinding }
     ensures reads { IsTrue (D.medium device.old).lasting.tells → AtMost (593986 + 8 * uncounted_by (root_of (seen (disk (D.medium device.old))))) 0 0 (D.medium device.old).calls (D.medium device.new).calls }
     ensures device { ReadsAtMost 1118274 (is_faultless result) (D.medium device.old) (D.medium device.new) }
@@ -144,6 +150,13 @@ pub fn check<A: Allocator + Clone, D: Device>(alloc: A, device: &mut D) -> Resul
     ensures image { (log_sectors : ℕ) (left : CrashState) → IsTrue (D.medium device.old).lasting.tells → StandFor log_sectors left (seen (disk (D.medium device.old)))
         → IfErr result IsNoVerdict }
     ensures size { (IsDeviceSize (D.medium device.old).size → ⊥) → (result ≡ Err (Finding.Refused Refusal.BadGeometry)) × (device.new ≡ device.old) }
+
+    // What an opening is refused with for what the device holds, but for the last generation, is found first, if there is a verdict;
+    // and then a log sector of a later generation.
+    ensures first { IsTrue (D.medium device.old).lasting.tells → IsDeviceSize (D.medium device.old).size
+        → FindsRefusal (seen (disk (D.medium device.old))) result }
+    ensures later { IsTrue (D.medium device.old).lasting.tells → IsDeviceSize (D.medium device.old).size
+        → FindsLaterSector (seen (disk (D.medium device.old))) result }
 
     // Of any device, whether it tells what it holds or not, a refusal is one of these.
     ensures refused { IfErr result IsCheckFinding }

@@ -34,3 +34,19 @@ pub returns-in_err-report-clause-refused : goal.returns-in_err-report-clause-ref
 returns-in_err-report-clause-refused g c =
     let p = err_from_is_err_and c.from_residual.result c.from_residual.ensures.1 in
     rw (p.1, p.2) c.in_err-report.ensures.refused
+
+pub returns-then-not-is_device_size-clause-first : goal.returns-then-not-is_device_size-clause-first
+returns-then-not-is_device_size-clause-first g c = λ t fair. absurd (false≢true (sym c.if-not-is_device_size.true ∙ c.is_device_size.ensures.1 (subst IsDeviceSize (sym c.sectors.ensures) fair)))
+
+pub returns-then-not-is_device_size-clause-later : goal.returns-then-not-is_device_size-clause-later
+returns-then-not-is_device_size-clause-later g c = λ t fair. absurd (false≢true (sym c.if-not-is_device_size.true ∙ c.is_device_size.ensures.1 (subst IsDeviceSize (sym c.sectors.ensures) fair)))
+
+pub returns-in_err-report-clause-first : goal.returns-in_err-report-clause-first
+returns-in_err-report-clause-first g c = λ t fair refusal says not_last.
+    let p = err_from_is_err_and c.from_residual.result c.from_residual.ensures.1 in
+    rw (p.1, p.2) (c.in_err-report.ensures.first t refusal says not_last)
+
+pub returns-in_err-report-clause-later : goal.returns-in_err-report-clause-later
+returns-in_err-report-clause-later g c = λ t fair opens has.
+    let p = err_from_is_err_and c.from_residual.result c.from_residual.ensures.1 in
+    rw (p.1, p.2) (c.in_err-report.ensures.later t opens has)

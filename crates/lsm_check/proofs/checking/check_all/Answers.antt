@@ -16,6 +16,7 @@ use Rattle.lsm_root.specs.Roots.{root_of}
 use Rattle.lsm_check.specs.Images.{finds_no_fault}
 use Rattle.lsm_check.specs.Sound.{IsTold, AreSound}
 use Rattle.lsm_check.proofs.Checked.{few_tables, levels_told, sound_image, image_sound}
+use Rattle.lsm_check.proofs.FirstFound.{read_not_refused, read_none_later, one_or_other, first_refused, later_refused}
 use Rattle.lsm_check.specs.Counted.{data_blocks_in}
 use Rattle.lsm_check.proofs.ReadCounts.{between_zero, between_joined, all_named, read_for_finding}
 use Rattle.lsm_check.proofs.checking.check_all.Goals as goal
@@ -155,3 +156,45 @@ returns-clause-whole g c =
       reads = between_joined (3 * n) 593986 (8 * blocks) 524288 (3 * n + 8 * all_data m.tables) 1118274 old.calls (D.medium c.read_named.new.device).calls (D.medium c.check_levels.new.device).calls
           (omega (arith, all_named m x.levels named.named)) (omega arith) c.in_ok-named.ensures.whole c.in_ok-entries.ensures.whole;
     }
+
+-- ---- what is found first
+
+pub returns-in_err-named-clause-first : goal.returns-in_err-named-clause-first
+returns-in_err-named-clause-first g c = λ t refusal says not_last.
+    let D = g.D.Device in
+    let p = err_from_is_err_and c.from_residual.result c.from_residual.ensures.1 in
+    rw (p.1, p.2) (first_refused (seen (disk (D.medium c.args.device.now))) c.in_err-named.field-0.0 refusal (c.in_err-named.ensures.refusal t) says not_last)
+
+pub returns-in_err-entries-clause-first : goal.returns-in_err-entries-clause-first
+returns-in_err-entries-clause-first g c = λ t refusal says not_last.
+    let D = g.D.Device in
+    let S = seen (disk (D.medium c.args.device.now)) in
+    let named = c.in_ok-named.named in
+    let opens = read_not_refused named.loaded.log_sectors S named.loaded.manifest named.tables.levels named.batches (c.in_ok-named.ensures.told t) in
+    absurd (one_or_other S refusal opens says not_last)
+
+pub returns-clause-first : goal.returns-clause-first
+returns-clause-first g c = λ t refusal says not_last.
+    let D = g.D.Device in
+    let S = seen (disk (D.medium c.args.device.now)) in
+    let named = c.in_ok-named.named in
+    let opens = read_not_refused named.loaded.log_sectors S named.loaded.manifest named.tables.levels named.batches (c.in_ok-named.ensures.told t) in
+    absurd (one_or_other S refusal opens says not_last)
+
+pub returns-in_err-named-clause-later : goal.returns-in_err-named-clause-later
+returns-in_err-named-clause-later g c = λ t opens has.
+    let D = g.D.Device in
+    let p = err_from_is_err_and c.from_residual.result c.from_residual.ensures.1 in
+    rw (p.1, p.2) (later_refused (seen (disk (D.medium c.args.device.now))) c.in_err-named.field-0.0 opens c.in_err-named.ensures.refused (c.in_err-named.ensures.refusal t))
+
+pub returns-in_err-entries-clause-later : goal.returns-in_err-entries-clause-later
+returns-in_err-entries-clause-later g c = λ t opens has.
+    let D = g.D.Device in
+    let named = c.in_ok-named.named in
+    absurd (read_none_later named.loaded.log_sectors (seen (disk (D.medium c.args.device.now))) named.loaded.manifest named.tables.levels named.batches (c.in_ok-named.ensures.told t) has)
+
+pub returns-clause-later : goal.returns-clause-later
+returns-clause-later g c = λ t opens has.
+    let D = g.D.Device in
+    let named = c.in_ok-named.named in
+    absurd (read_none_later named.loaded.log_sectors (seen (disk (D.medium c.args.device.now))) named.loaded.manifest named.tables.levels named.batches (c.in_ok-named.ensures.told t) has)

@@ -1,4 +1,4 @@
-use Rattle.std.proofs.Common.{inr, ◌*◌, ℕ, Bool, true, IsTrue, List, subst, sym, arith}
+use Rattle.std.proofs.Common.{inl, inr, ◌*◌, ℕ, Bool, true, IsTrue, List, refl, subst, sym, arith}
 use Rattle.std.proofs.lemmas.Result.{err_from_is_err_and}
 use Rattle.std.specs.Prelude.{MatchBool}
 use Rattle.lsm_device.specs.Areas.{area}
@@ -112,3 +112,29 @@ pub returns-in_err-fresh-clause-refused : goal.returns-in_err-fresh-clause-refus
 returns-in_err-fresh-clause-refused g c =
     let p = err_from_is_err_and c.from_residual-in_err-fresh.result c.from_residual-in_err-fresh.ensures.1 in
     rw (p.1, p.2) (memory_refused c.in_err-fresh.field-0.0 (inr c.in_err-fresh.ensures.refused))
+
+-- ---- why it is refused
+
+pub returns-in_err-replayed-clause-refusal : goal.returns-in_err-replayed-clause-refusal
+returns-in_err-replayed-clause-refusal g c = λ t.
+    let p = err_from_is_err_and c.from_residual.result c.from_residual.ensures.1 in
+    rw (p.1, p.2) (inl (with_told _ _ _ _ t c.in_err-replayed.ensures.refused))
+
+pub returns-in_err-fresh-clause-refusal : goal.returns-in_err-fresh-clause-refusal
+returns-in_err-fresh-clause-refusal g c = λ t.
+    let p = err_from_is_err_and c.from_residual-in_err-fresh.result c.from_residual-in_err-fresh.ensures.1 in
+    rw (p.1, p.2) (inl (inr (inr c.in_err-fresh.ensures.refused)))
+
+pub returns-then-not-fresh-clause-refusal : goal.returns-then-not-fresh-clause-refusal
+returns-then-not-fresh-clause-refusal g c = λ t.
+    let D = g.D.Device in
+    let S = seen (disk (D.medium c.args.device.now)) in
+    let n = c.args.loaded.now.log_sectors in
+    let m = c.args.loaded.now.manifest in
+    let t1 : IsTrue (D.medium c.replay_regions.new.device).lasting.tells = rw c.replay_regions.ensures.same_lasting t in
+    let had = batches_had n S m c.in_ok-replayed.replayed (c.in_ok-replayed.ensures.replayed t) in
+    let k = c.generation.result in
+    let none : MatchBool c.in_ok-fresh.fresh (HasNoneAbove k (area first_region (3 * n) S)) (¬ HasNoneAbove k (area first_region (3 * n) S)) =
+    subst (λ (h : List Disk). MatchBool c.in_ok-fresh.fresh (HasNoneAbove k (area first_region (3 * n) (seen (present h)))) (¬ HasNoneAbove k (area first_region (3 * n) (seen (present h))))) (c.replay_regions.ensures.unchanged t) (c.in_ok-fresh.ensures.told t1) in
+    let later : ¬ HasNoneAbove k (area first_region (3 * n) S) = subst (λ (b : Bool). MatchBool b (HasNoneAbove k (area first_region (3 * n) S)) (¬ HasNoneAbove k (area first_region (3 * n) S))) c.if-not-fresh.true none in
+    inr (refl, had.0, subst (λ (j : ℕ). ¬ HasNoneAbove j (area first_region (3 * n) S)) c.generation.ensures later)

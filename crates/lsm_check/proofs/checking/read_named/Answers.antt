@@ -11,12 +11,13 @@ use Rattle.lsm_levels.specs.Stored.{AreWithin}
 use Rattle.lsm_open.specs.Counting.{uncounted_by}
 use Rattle.lsm_open.specs.Image.{count_in}
 use Rattle.lsm_open.specs.Tables.{first_data, AreTables}
-use Rattle.lsm_open.specs.ToldTables.{told_levels, Held}
+use Rattle.lsm_open.specs.ToldTables.{told_levels, Held, IsRefusedFor}
 use Rattle.lsm_open.proofs.OpenedStores.{named_here}
 use Rattle.lsm_open.proofs.OpeningAnswers.{reads_ok, reads_err, reads_joined, reads_wider}
 use Rattle.lsm_root.specs.Roots.{root_of}
-use Rattle.lsm_check.specs.Named.{HasBatches}
+use Rattle.lsm_check.specs.Named.{HasBatches, IsRegionsRefusal}
 use Rattle.lsm_check.proofs.Readings.{short_memory, batches_named}
+use Rattle.lsm_check.proofs.FirstFound.{as_read, tables_read, regions_read}
 use Rattle.lsm_check.proofs.ReadCounts.{between_zero, between_joined}
 use Rattle.lsm_check.proofs.Refusing.{loaded_refused, tables_refused}
 use Rattle.lsm_check.proofs.checking.read_named.Goals as goal
@@ -188,3 +189,39 @@ pub returns-in_err-batches-clause-refused : goal.returns-in_err-batches-clause-r
 returns-in_err-batches-clause-refused g c =
     let p = err_from_is_err_and c.from_residual-in_err-batches.result c.from_residual-in_err-batches.ensures.1 in
     rw (p.1, p.2) c.in_err-batches.ensures.refused
+
+-- ---- why it is refused
+
+pub returns-in_err-loaded-clause-refusal : goal.returns-in_err-loaded-clause-refusal
+returns-in_err-loaded-clause-refusal g c = λ t.
+    let D = g.D.Device in
+    let p = err_from_is_err_and c.from_residual.result c.from_residual.ensures.1 in
+    rw (p.1, p.2) (as_read (seen (disk (D.medium c.args.device.now))) c.in_err-loaded.field-0.0 (c.in_err-loaded.ensures.refusal t))
+
+pub returns-in_err-tables-clause-refusal : goal.returns-in_err-tables-clause-refusal
+returns-in_err-tables-clause-refusal g c = λ t.
+    let D = g.D.Device in
+    let S = seen (disk (D.medium c.args.device.now)) in
+    let read = c.load_counted.ensures.device in
+    let m = c.in_ok-loaded.loaded.manifest in
+    let n = c.in_ok-loaded.loaded.log_sectors in
+    let e = c.in_err-tables.field-0.0 in
+    let p = err_from_is_err_and c.from_residual-in_err-tables.result c.from_residual-in_err-tables.ensures.1 in
+    let refused : IsRefusedFor (told_levels n S m) e = subst (λ (h : List Disk). IsRefusedFor (told_levels n (seen (present h)) m) e) (read.unchanged t) (c.in_err-tables.ensures.told (rw read.same_lasting t)) in
+    rw (p.1, p.2) (tables_read n S m (c.in_ok-loaded.ensures.loaded t) e refused)
+
+pub returns-in_err-batches-clause-refusal : goal.returns-in_err-batches-clause-refusal
+returns-in_err-batches-clause-refusal g c = λ t.
+    let D = g.D.Device in
+    let S = seen (disk (D.medium c.args.device.now)) in
+    let read = c.load_counted.ensures.device in
+    let m = c.in_ok-loaded.loaded.manifest in
+    let n = c.in_ok-loaded.loaded.log_sectors in
+    let x = c.in_ok-tables.tables in
+    let e = c.in_err-batches.field-0.0 in
+    let p = err_from_is_err_and c.from_residual-in_err-batches.result c.from_residual-in_err-batches.ensures.1 in
+    let t1 : IsTrue (D.medium c.load_counted.new.device).lasting.tells = rw read.same_lasting t in
+    let t2 : IsTrue (D.medium c.read_tables.new.device).lasting.tells = rw (c.read_tables.ensures.same_lasting ∙ read.same_lasting) t in
+    let told : told_levels n S m ≡ Some x.levels = subst (λ (h : List Disk). told_levels n (seen (present h)) m ≡ Some x.levels) (read.unchanged t) (c.in_ok-tables.ensures.told t1) in
+    let refused : IsRegionsRefusal n S m e = subst (λ (h : List Disk). IsRegionsRefusal n (seen (present h)) m e) (c.read_tables.ensures.unchanged t1 ∙ read.unchanged t) (c.in_err-batches.ensures.refusal t2) in
+    rw (p.1, p.2) (regions_read n S m (c.in_ok-loaded.ensures.loaded t) x.levels told e refused)
