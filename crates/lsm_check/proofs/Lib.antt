@@ -12,4 +12,5 @@ pub mod ToldTables
 pub mod StandSoundly
 pub mod Readings
 pub mod FirstFound
+pub mod FoundTables
 pub mod Checked

@@ -6,6 +6,7 @@ use Rattle.lsm_device.specs.declared.refusal.Refusal.TheVariants.{NoMemory, Io, 
 use Rattle.lsm_open.specs.ToldTables.{IsTableRefusal}
 use Rattle.lsm_root.specs.Loaded.{refusal_of}
 use Rattle.lsm_root.specs.Roots.{Root, Missing, Damaged, OtherSize, Unreadable, Stands}
+use Rattle.lsm_check.specs.Found.{IsBlockRefusal}
 use Rattle.lsm_check.specs.Images.{IsNoMemoryOrIo, IsCheckRefusal}
 
 -- of bytes in memory
@@ -28,14 +29,14 @@ pub memory_refused : (e : Refusal) → (e ≡ NoMemory) ⊎ (e ≡ Io) → IsChe
 memory_refused e (inl is) = subst IsCheckRefusal (sym is) tt
 memory_refused e (inr is) = subst IsCheckRefusal (sym is) tt
 
-short_refused : (e : Refusal) → IsNoMemoryOrIo e → IsCheckRefusal e
+short_refused : (e : Refusal) → IsNoMemoryOrIo e → IsBlockRefusal e
 short_refused NoMemory short = tt
 short_refused Io short = tt
 short_refused other short = absurd short
 
-pub block_refused : (e : Refusal) (P : Type 0) → IsNoMemoryOrIo e ⊎ ((e ≡ BadTable) × P) → IsCheckRefusal e
+pub block_refused : (e : Refusal) (P : Type 0) → IsNoMemoryOrIo e ⊎ ((e ≡ BadTable) × P) → IsBlockRefusal e
 block_refused e P (inl short) = short_refused e short
-block_refused e P (inr bad) = subst IsCheckRefusal (sym bad.0) tt
+block_refused e P (inr bad) = subst IsBlockRefusal (sym bad.0) tt
 
 same : (d e : Refusal) → Some d ≡ Some e → d ≡ e
 same d e is = cc

@@ -1,16 +1,18 @@
 -- What a check of sectors finds, and what it finds first.
-use Rattle.std.specs.Prelude.{◌≡◌, ◌⊎◌, ℕ, ◌*◌, List, Some, None, Result, Ok, Err}
+use Rattle.std.specs.Prelude.{◌≡◌, ◌⊎◌, ℕ, ◌*◌, List, map, Contains, Some, None, Result, Ok, Err}
 use Rattle.lsm_codec.specs.Manifests.{Contents}
+use Rattle.lsm_codec.specs.declared.table_record.TableRecord.{TableRecord}
 use Rattle.lsm_device.specs.Areas.{area}
 use Rattle.lsm_device.specs.declared.refusal.Refusal.{Refusal}
-use Rattle.lsm_device.specs.declared.refusal.Refusal.TheVariants.{Exhausted, BadManifest}
+use Rattle.lsm_device.specs.declared.refusal.Refusal.TheVariants.{NoMemory, Io, Exhausted, BadManifest, BadTable}
+use Rattle.lsm_levels.specs.Tables.{Table}
 use Rattle.lsm_log.specs.Opened.{HasNoneAbove}
 use Rattle.lsm_open.specs.LogRegions.{first_region}
 use Rattle.lsm_open.specs.RefusedOpenings.{opening_refusal}
 use Rattle.lsm_root.specs.Roots.{Stands, root_of}
 use Rattle.lsm_check.specs.Images.{IsNoMemoryOrIo, IsNoVerdict}
 use Rattle.lsm_check.specs.declared.finding.Finding.{Finding}
-use Rattle.lsm_check.specs.declared.finding.Finding.TheVariants.{Refused}
+use Rattle.lsm_check.specs.declared.finding.Finding.TheVariants.{Refused, Entries, Order, Filter, Versions}
 use Rattle.lsm_check.specs.declared.report.Report.{Report}
 
 -- just this is found, if there is a verdict
@@ -41,3 +43,49 @@ FindsLaterSector sectors result = IsNotRefused sectors → HasLaterSector sector
 -- what is read before the tables are gone over is refused so
 abbrev pub IsReadRefusal : List (List ℕ) → Refusal → Type 0
 IsReadRefusal sectors e = (opening_refusal sectors ≡ Some e) ⊎ (IsNoMemoryOrIo e ⊎ ((e ≡ BadManifest) × IsNotRefused sectors × HasLaterSector sectors))
+
+-- ---- findings of tables
+
+-- a reading of a table's data blocks is refused so
+abbrev pub IsBlockRefusal : Refusal → Type 0
+IsBlockRefusal NoMemory = Unit {0}
+IsBlockRefusal Io = Unit {0}
+IsBlockRefusal BadTable = Unit {0}
+IsBlockRefusal other = ⊥
+
+-- this is found of the table of a number
+abbrev pub IsOfTable : ℕ → Finding → Type 0
+IsOfTable number (Refused refusal) = IsBlockRefusal refusal
+IsOfTable number (Entries told) = told ≡ number
+IsOfTable number (Order told) = told ≡ number
+IsOfTable number (Filter told) = told ≡ number
+IsOfTable number (Versions told) = told ≡ number
+
+-- and of one of the tables of these numbers
+abbrev pub IsOfTables : List ℕ → Finding → Type 0
+IsOfTables numbers (Refused refusal) = IsBlockRefusal refusal
+IsOfTables numbers (Entries told) = Contains numbers told
+IsOfTables numbers (Order told) = Contains numbers told
+IsOfTables numbers (Filter told) = Contains numbers told
+IsOfTables numbers (Versions told) = Contains numbers told
+
+-- the numbers of tables, and of those of records
+abbrev pub numbers_in : List Table → List ℕ
+numbers_in tables = map (λ t. t.number) tables
+
+abbrev pub numbers_of : List TableRecord → List ℕ
+numbers_of tables = map (λ t. t.number) tables
+
+-- This is found of a table that the manifest names: a manifest stands, an opening isn't refused, and no log sector is of a later
+-- generation.
+pub record IsTableFinding (sectors : List (List ℕ)) (finding : Finding) : Type 0 where
+  pub log_sectors : ℕ
+  pub manifest : Contents
+  pub root : root_of sectors ≡ Stands log_sectors manifest
+  pub opens : IsNotRefused sectors
+  pub none_later : ¬ HasLaterSector sectors
+  pub named : IsOfTables (numbers_of manifest.tables) finding
+
+-- what may be found of sectors: a refusal of what is read before the tables are gone over, or what is found of one of them
+abbrev pub IsFoundIn : List (List ℕ) → Finding → Type 0
+IsFoundIn sectors finding = ((refusal : Refusal) × (finding ≡ Refused refusal) × IsReadRefusal sectors refusal) ⊎ IsTableFinding sectors finding

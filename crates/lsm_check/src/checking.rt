@@ -15,7 +15,7 @@ ghost use Rattle.lsm_open.specs.ToldTables.{Held};
 ghost use Rattle.lsm_root.specs.Layout.{IsDeviceSize};
 ghost use Rattle.lsm_root.specs.Roots.{root_of};
 ghost use Rattle.lsm_check.specs.Counted.{ReadsBetween, IsReadFor};
-ghost use Rattle.lsm_check.specs.Found.{FindsRefusal, FindsLaterSector, IsReadRefusal};
+ghost use Rattle.lsm_check.specs.Found.{FindsRefusal, FindsLaterSector, IsReadRefusal, IsFoundIn};
 ghost use Rattle.lsm_check.specs.Images.{blocks_in_none, IsImage, IsNoVerdict, IsNoMemoryOrIo, IsCheckRefusal, IsCheckFinding, is_faultless};
 ghost use Rattle.lsm_check.specs.Named.{AreNamed, AreToldBy, HasBatches, IsRegionsRefusal};
 
@@ -118,6 +118,7 @@ fn check_all<A: Allocator + Clone, D: Device>(alloc: &A, device: &mut D) -> Resu
         → IfErr result IsNoVerdict }
     ensures first { IsTrue (D.medium device.old).lasting.tells → FindsRefusal (seen (disk (D.medium device.old))) result }
     ensures later { IsTrue (D.medium device.old).lasting.tells → FindsLaterSector (seen (disk (D.medium device.old))) result }
+    ensures found { IsTrue (D.medium device.old).lasting.tells → IfErr result (IsFoundIn (seen (disk (D.medium device.old)))) }
     ensures refused { IfErr result IsCheckFinding }
     ensures reads { IsTrue (D.medium device.old).lasting.tells → AtMost (593986 + 8 * uncounted_by (root_of (seen (disk (D.medium device.old))))) 0 0 (D.medium device.old).calls (D.medium device.new).calls }
     ensures device { ReadsAtMost 1118274 (is_faultless result) (D.medium device.old) (D.medium device.new) }
@@ -157,6 +158,11 @@ pub fn check<A: Allocator + Clone, D: Device>(alloc: A, device: &mut D) -> Resul
         → FindsRefusal (seen (disk (D.medium device.old))) result }
     ensures later { IsTrue (D.medium device.old).lasting.tells → IsDeviceSize (D.medium device.old).size
         → FindsLaterSector (seen (disk (D.medium device.old))) result }
+
+    // A refusal is that of an opening, or of a log sector of a later generation. All else is found only behind both, of a table that
+    // the manifest names: its number is told, or BadTable.
+    ensures found { IsTrue (D.medium device.old).lasting.tells → IsDeviceSize (D.medium device.old).size
+        → IfErr result (IsFoundIn (seen (disk (D.medium device.old)))) }
 
     // Of any device, whether it tells what it holds or not, a refusal is one of these.
     ensures refused { IfErr result IsCheckFinding }

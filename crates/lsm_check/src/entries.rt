@@ -8,7 +8,8 @@ ghost use Rattle.lsm_device.specs.Refusals.{faultless};
 ghost use Rattle.lsm_levels.specs.Stored.{LiesWithin, IsStored};
 ghost use Rattle.lsm_open.specs.ReadParts.{ReadsAtMost};
 ghost use Rattle.lsm_check.specs.Counted.{ReadsBetween};
-ghost use Rattle.lsm_check.specs.Images.{IsNoVerdict, IsNoMemoryOrIo, IsCheckRefusal, IsCheckFinding, is_faultless};
+ghost use Rattle.lsm_check.specs.Found.{IsBlockRefusal, IsOfTable};
+ghost use Rattle.lsm_check.specs.Images.{IsNoVerdict, IsNoMemoryOrIo, is_faultless};
 ghost use Rattle.lsm_check.specs.Sound.{AreRead, ends_with};
 
 use crate::finding::Finding;
@@ -80,7 +81,7 @@ fn add_block<D: Device, A: Allocator + Clone>(
     ensures stored { IsTrue (D.medium device.old).lasting.tells → IsStored (seen (disk (D.medium device.old))) area table.now → before ≡ true
         → IfOk result (λ ends. ends ≡ true) }
     ensures fair { IsTrue (D.medium device.old).lasting.tells → IsStored (seen (disk (D.medium device.old))) area table.now → IfErr result IsNoMemoryOrIo }
-    ensures refused { IfErr result IsCheckRefusal }
+    ensures refused { IfErr result IsBlockRefusal }
     ensures device { ReadsAtMost 8 (faultless result) (D.medium device.old) (D.medium device.new) }
     ensures whole { OnOk result (ReadsBetween 8 8 (D.medium device.old).calls (D.medium device.new).calls) }
 {
@@ -104,7 +105,7 @@ pub(crate) fn entries_of<D: Device, A: Allocator + Clone>(
     ensures read { IsTrue (D.medium device.old).lasting.tells → IfOk result (λ entries.
         AreRead (seen (disk (D.medium device.old))) area (length table.now.outline.edges) table.now entries.items) }
     ensures fair { IsTrue (D.medium device.old).lasting.tells → IsStored (seen (disk (D.medium device.old))) area table.now → IfErr result IsNoVerdict }
-    ensures refused { IfErr result IsCheckFinding }
+    ensures refused { IfErr result (IsOfTable table.now.number) }
     ensures device { ReadsAtMost 512 (is_faultless result) (D.medium device.old) (D.medium device.new) }
     ensures whole { OnOk result (ReadsBetween (8 * length table.now.outline.edges) 512 (D.medium device.old).calls (D.medium device.new).calls) }
 {

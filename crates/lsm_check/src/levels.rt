@@ -8,7 +8,8 @@ ghost use Rattle.lsm_levels.specs.Stored.{LiesWithin, AreWithin};
 ghost use Rattle.lsm_levels.specs.Tables.{Table, versions_of};
 ghost use Rattle.lsm_open.specs.ReadParts.{ReadsAtMost};
 ghost use Rattle.lsm_check.specs.Counted.{ReadsBetween, data_blocks_in};
-ghost use Rattle.lsm_check.specs.Images.{IsNoVerdict, IsCheckFinding, is_faultless};
+ghost use Rattle.lsm_check.specs.Found.{IsOfTables, numbers_in};
+ghost use Rattle.lsm_check.specs.Images.{IsNoVerdict, is_faultless};
 ghost use Rattle.lsm_check.specs.Sound.{IsTold, AreSound, AreSeen};
 
 use crate::finding::Finding;
@@ -35,7 +36,7 @@ fn check_run<D: Device, A: Allocator + Clone>(
     ensures fair { (done rest : List Table) → IsTrue (D.medium device.old).lasting.tells → AreSeen (seen (disk (D.medium device.old))) area base done so_far.old
         → AreSound (seen (disk (D.medium device.old))) area base ((done ++ run.now) ++ rest) → IfErr result IsNoVerdict }
     ensures few { OnOk result (so_far.new.entries ≤ so_far.old.entries + 3200 * length run.now) }
-    ensures refused { IfErr result IsCheckFinding }
+    ensures refused { IfErr result (IsOfTables (numbers_in run.now)) }
     ensures device { ReadsAtMost (512 * length run.now) (is_faultless result) (D.medium device.old) (D.medium device.new) }
     ensures whole { OnOk result (ReadsBetween (8 * data_blocks_in run.now) (512 * length run.now) (D.medium device.old).calls (D.medium device.new).calls) }
 {
@@ -62,7 +63,7 @@ fn check_runs<D: Device, A: Allocator + Clone>(
     ensures fair { (done rest : List Table) → IsTrue (D.medium device.old).lasting.tells → AreSeen (seen (disk (D.medium device.old))) area base done so_far.old
         → AreSound (seen (disk (D.medium device.old))) area base ((done ++ all_tables runs.now) ++ rest) → IfErr result IsNoVerdict }
     ensures few { OnOk result (so_far.new.entries ≤ so_far.old.entries + 3200 * length (all_tables runs.now)) }
-    ensures refused { IfErr result IsCheckFinding }
+    ensures refused { IfErr result (IsOfTables (numbers_in (all_tables runs.now))) }
     ensures device { ReadsAtMost (512 * length (all_tables runs.now)) (is_faultless result) (D.medium device.old) (D.medium device.new) }
     ensures whole { OnOk result (ReadsBetween (8 * data_blocks_in (all_tables runs.now)) (512 * length (all_tables runs.now)) (D.medium device.old).calls (D.medium device.new).calls) }
 {
@@ -86,7 +87,7 @@ pub(crate) fn check_levels<D: Device, A: Allocator + Clone>(
     ensures sound { IsTrue (D.medium device.old).lasting.tells → AllByRecursion (IsTold (seen (disk (D.medium device.old))) area) (all_tables (places levels.now)) → IfOk result (λ entries.
         AreSound (seen (disk (D.medium device.old))) area base (all_tables (places levels.now)) × (entries ≡ length (versions_of (all_tables (places levels.now))))) }
     ensures fair { IsTrue (D.medium device.old).lasting.tells → AreSound (seen (disk (D.medium device.old))) area base (all_tables (places levels.now)) → IfErr result IsNoVerdict }
-    ensures refused { IfErr result IsCheckFinding }
+    ensures refused { IfErr result (IsOfTables (numbers_in (all_tables (places levels.now)))) }
     ensures device { ReadsAtMost 524288 (is_faultless result) (D.medium device.old) (D.medium device.new) }
     ensures whole { OnOk result (ReadsBetween (8 * data_blocks_in (all_tables (places levels.now))) 524288 (D.medium device.old).calls (D.medium device.new).calls) }
 {

@@ -10,7 +10,8 @@ ghost use Rattle.lsm_levels.specs.Orders.{IsNewerPlace};
 ghost use Rattle.lsm_levels.specs.Stored.{LiesWithin};
 ghost use Rattle.lsm_open.specs.ReadParts.{ReadsAtMost};
 ghost use Rattle.lsm_check.specs.Counted.{ReadsBetween};
-ghost use Rattle.lsm_check.specs.Images.{IsNoVerdict, IsCheckFinding, is_faultless};
+ghost use Rattle.lsm_check.specs.Found.{IsOfTable};
+ghost use Rattle.lsm_check.specs.Images.{IsNoVerdict, is_faultless};
 ghost use Rattle.lsm_check.specs.Seen.{IsSeen};
 ghost use Rattle.lsm_check.specs.Sound.{tells_entries, Fits, IsTold, IsSound};
 
@@ -111,7 +112,7 @@ fn test<A: Allocator>(
         (λ _. Fits table.now base versions entries.now)
         (λ _. ¬ Fits table.now base versions entries.now) }
     ensures few { OnOk result (length entries.now ≤ 3200) }
-    ensures refused { IfErr result IsCheckFinding }
+    ensures refused { IfErr result (IsOfTable table.now.number) }
     ensures no_fault { is_faultless result ≡ true }
 {
     let number = table.number();
@@ -148,7 +149,7 @@ pub(crate) fn check_table<D: Device, A: Allocator + Clone>(
     ensures fair { (versions : List Version) → IsSeen versions so_far.old → IsTrue (D.medium device.old).lasting.tells
         → IsSound (seen (disk (D.medium device.old))) area base table.now → IsNewerPlace versions table.now.versions → IfErr result IsNoVerdict }
     ensures few { OnOk result (so_far.new.entries ≤ so_far.old.entries + 3200) }
-    ensures refused { IfErr result IsCheckFinding }
+    ensures refused { IfErr result (IsOfTable table.now.number) }
     ensures device { ReadsAtMost 512 (is_faultless result) (D.medium device.old) (D.medium device.new) }
     ensures whole { OnOk result (ReadsBetween (8 * length table.now.outline.edges) 512 (D.medium device.old).calls (D.medium device.new).calls) }
 {

@@ -50,3 +50,11 @@ pub returns-in_err-report-clause-later : goal.returns-in_err-report-clause-later
 returns-in_err-report-clause-later g c = λ t fair opens has.
     let p = err_from_is_err_and c.from_residual.result c.from_residual.ensures.1 in
     rw (p.1, p.2) (c.in_err-report.ensures.later t opens has)
+
+pub returns-then-not-is_device_size-clause-found : goal.returns-then-not-is_device_size-clause-found
+returns-then-not-is_device_size-clause-found g c = λ t fair. absurd (false≢true (sym c.if-not-is_device_size.true ∙ c.is_device_size.ensures.1 (subst IsDeviceSize (sym c.sectors.ensures) fair)))
+
+pub returns-in_err-report-clause-found : goal.returns-in_err-report-clause-found
+returns-in_err-report-clause-found g c = λ t fair.
+    let p = err_from_is_err_and c.from_residual.result c.from_residual.ensures.1 in
+    rw (p.1, p.2) (c.in_err-report.ensures.found t)

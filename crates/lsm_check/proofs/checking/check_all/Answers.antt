@@ -1,4 +1,4 @@
-use Rattle.std.proofs.Common.{◌≡◌, ◌∙◌, ◌+◌, ◌*◌, ℕ, true, IsTrue, List, length, subst, sym, arith}
+use Rattle.std.proofs.Common.{inl, inr, refl, ◌≡◌, ◌∙◌, ◌+◌, ◌*◌, ℕ, true, IsTrue, List, length, subst, sym, arith}
 use Rattle.std.specs.List.{AllByRecursion}
 use Rattle.std.proofs.lemmas.Result.{err_from_is_err_and}
 use Rattle.lsm_device.specs.Disk.{Disk, seen}
@@ -17,6 +17,8 @@ use Rattle.lsm_check.specs.Images.{finds_no_fault}
 use Rattle.lsm_check.specs.Sound.{IsTold, AreSound}
 use Rattle.lsm_check.proofs.Checked.{few_tables, levels_told, sound_image, image_sound}
 use Rattle.lsm_check.proofs.FirstFound.{read_not_refused, read_none_later, one_or_other, first_refused, later_refused}
+use Rattle.lsm_check.proofs.FoundTables.{check_finding, table_finding}
+use Rattle.lsm_check.specs.Found.{numbers_in}
 use Rattle.lsm_check.specs.Counted.{data_blocks_in}
 use Rattle.lsm_check.proofs.ReadCounts.{between_zero, between_joined, all_named, read_for_finding}
 use Rattle.lsm_check.proofs.checking.check_all.Goals as goal
@@ -198,3 +200,22 @@ returns-clause-later g c = λ t opens has.
     let D = g.D.Device in
     let named = c.in_ok-named.named in
     absurd (read_none_later named.loaded.log_sectors (seen (disk (D.medium c.args.device.now))) named.loaded.manifest named.tables.levels named.batches (c.in_ok-named.ensures.told t) has)
+
+-- ---- what is found at all
+
+pub returns-in_err-named-clause-found : goal.returns-in_err-named-clause-found
+returns-in_err-named-clause-found g c = λ t.
+    let p = err_from_is_err_and c.from_residual.result c.from_residual.ensures.1 in
+    rw (p.1, p.2) (inl (c.in_err-named.field-0.0, refl, c.in_err-named.ensures.refusal t))
+
+pub returns-in_err-entries-clause-found : goal.returns-in_err-entries-clause-found
+returns-in_err-entries-clause-found g c = λ t.
+    let D = g.D.Device in
+    let named = c.in_ok-named.named in
+    let p = err_from_is_err_and c.from_residual-in_err-entries.result c.from_residual-in_err-entries.ensures.1 in
+    rw (p.1, p.2) (inr (table_finding named.loaded.log_sectors (seen (disk (D.medium c.args.device.now))) named.loaded.manifest named.tables.levels named.batches c.in_ok-named.ensures.named.named (c.in_ok-named.ensures.told t) c.in_err-entries.field-0.0 c.in_err-entries.ensures.refused))
+
+pub returns-in_err-entries-clause-refused : goal.returns-in_err-entries-clause-refused
+returns-in_err-entries-clause-refused g c =
+    let p = err_from_is_err_and c.from_residual-in_err-entries.result c.from_residual-in_err-entries.ensures.1 in
+    rw (p.1, p.2) (check_finding (numbers_in (all_tables (places c.in_ok-named.named.tables.levels))) c.in_err-entries.field-0.0 c.in_err-entries.ensures.refused)

@@ -103,3 +103,6 @@ pub returns-in_err-ends-clause-refused : goal.returns-in_err-ends-clause-refused
 returns-in_err-ends-clause-refused g c =
     let p = err_from_is_err_and c.from_residual-in_err-ends.result c.from_residual-in_err-ends.ensures.1 in
     rw (p.1, p.2) c.in_err-ends.ensures.refused
+
+pub returns-then-not-ends-clause-refused : goal.returns-then-not-ends-clause-refused
+returns-then-not-ends-clause-refused g c = c.number.ensures

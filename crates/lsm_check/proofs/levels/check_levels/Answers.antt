@@ -12,6 +12,7 @@ use Rattle.lsm_open.proofs.OpeningAnswers.{reads_joined, reads_wider}
 use Rattle.lsm_check.specs.Images.{finds_no_fault}
 use Rattle.lsm_check.specs.Sound.{IsTold, AreSound, AreSeen}
 use Rattle.lsm_check.proofs.DeviceReads.{still_tells, still_seen}
+use Rattle.lsm_check.proofs.FoundTables.{of_left, of_right}
 use Rattle.lsm_check.proofs.SoundRuns.{seen_none, told_if_sound, places_parted, count_places}
 use Rattle.lsm_check.proofs.ReadCounts.{between_joined, blocks_parted}
 use Rattle.lsm_check.specs.Counted.{data_blocks_in}
@@ -124,3 +125,17 @@ returns-clause-whole g c =
     let whole = places_parted levels c.runs.result.now c.deeper.result.now c.runs.ensures.same c.deeper.ensures.same in
     between_joined (8 * data_blocks_in newer) (512 * length newer) (8 * data_blocks_in older) (512 * length older) (8 * data_blocks_in (all_tables (places levels))) 524288 (D.medium c.args.device.now).calls (D.medium c.check_runs.new.device).calls (D.medium c.check_runs-2.new.device).calls
     (omega (arith, blocks_parted (all_tables (places levels)) newer older whole)) (omega (arith, count, c.requires.few)) c.in_ok-check_runs.ensures.whole c.in_ok-check_runs-2.ensures.whole
+
+pub returns-in_err-check_runs-clause-refused : goal.returns-in_err-check_runs-clause-refused
+returns-in_err-check_runs-clause-refused g c =
+    let levels = c.args.levels.now in
+    let whole = places_parted levels c.runs.result.now levels.deeper c.runs.ensures.same refl in
+    let p = err_from_is_err_and c.from_residual-in_err-check_runs.result c.from_residual-in_err-check_runs.ensures.1 in
+    rw (p.1, p.2) (of_left (all_tables (places levels)) (all_tables c.runs.result.now) (all_tables levels.deeper) whole c.in_err-check_runs.field-0.0 c.in_err-check_runs.ensures.refused)
+
+pub returns-in_err-check_runs-2-clause-refused : goal.returns-in_err-check_runs-2-clause-refused
+returns-in_err-check_runs-2-clause-refused g c =
+    let levels = c.args.levels.now in
+    let whole = places_parted levels c.runs.result.now c.deeper.result.now c.runs.ensures.same c.deeper.ensures.same in
+    let p = err_from_is_err_and c.from_residual-in_err-check_runs-2.result c.from_residual-in_err-check_runs-2.ensures.1 in
+    rw (p.1, p.2) (of_right (all_tables (places levels)) (all_tables c.runs.result.now) (all_tables c.deeper.result.now) whole c.in_err-check_runs-2.field-0.0 c.in_err-check_runs-2.ensures.refused)

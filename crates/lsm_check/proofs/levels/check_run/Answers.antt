@@ -8,6 +8,7 @@ use Rattle.lsm_open.proofs.OpeningAnswers.{reads_joined}
 use Rattle.lsm_check.specs.Images.{finds_no_fault}
 use Rattle.lsm_check.specs.Sound.{IsTold, IsSound, AreSound, AreSeen}
 use Rattle.lsm_check.proofs.DeviceReads.{still_tells, still_seen}
+use Rattle.lsm_check.proofs.FoundTables.{of_table}
 use Rattle.lsm_check.proofs.SoundRuns.{seen_later, sound_at, older_at, told_if_sound, parted}
 use Rattle.lsm_check.proofs.ReadCounts.{between_joined, blocks_up_to}
 use Rattle.lsm_check.specs.Counted.{data_blocks_in, ReadsBetween}
@@ -77,3 +78,8 @@ returns-clause-whole g c =
     let all = take_all i run (omega (arith, c.loop-table-test.false)) in
     let count = subst (λ (l : List Table). ReadsBetween (8 * data_blocks_in l) (512 * i) (D.medium c.args.device.now).calls (D.medium c.loop-table.device).calls) all c.loop-table.invariant.whole in
     record { count = count.count; low = count.low; high = omega (arith, count.high, c.loop-table.auto.table-index-end); made = count.made }
+
+pub returns-in_err-check_table-clause-refused : goal.returns-in_err-check_table-clause-refused
+returns-in_err-check_table-clause-refused g c =
+    let p = err_from_is_err_and c.from_residual.result c.from_residual.ensures.1 in
+    rw (p.1, p.2) (of_table c.args.run.now c.loop-table.table-index c.table-item.result c.loop-table-test.true c.table-item.is c.in_err-check_table.field-0.0 c.in_err-check_table.ensures.refused)

@@ -12,6 +12,7 @@ use Rattle.lsm_open.proofs.OpeningAnswers.{reads_joined}
 use Rattle.lsm_check.specs.Images.{finds_no_fault}
 use Rattle.lsm_check.specs.Sound.{IsTold, AreSound, AreSeen}
 use Rattle.lsm_check.proofs.DeviceReads.{still_tells, still_seen}
+use Rattle.lsm_check.proofs.FoundTables.{of_run}
 use Rattle.lsm_check.proofs.SoundRuns.{told_if_sound, runs_parted, runs_up_to, count_up_to, count_all, all_in_runs}
 use Rattle.lsm_check.proofs.ReadCounts.{between_joined, blocks_parted}
 use Rattle.lsm_check.specs.Counted.{data_blocks_in, ReadsBetween}
@@ -108,3 +109,12 @@ returns-clause-whole g c =
     let D = g.D.Device in
     subst (λ (rs : List (List Table)). ReadsBetween (8 * data_blocks_in (all_tables rs)) (512 * length (all_tables rs)) (D.medium c.args.device.now).calls (D.medium c.loop-run.device).calls)
     (take_all c.loop-run.run-index c.args.runs.now (omega (arith, c.loop-run-test.false))) c.loop-run.invariant.whole
+
+pub returns-in_err-check_run-clause-refused : goal.returns-in_err-check_run-clause-refused
+returns-in_err-check_run-clause-refused g c =
+    let runs = c.args.runs.now in
+    let i = c.loop-run.run-index in
+    let run : List Table = c.tables.result.now in
+    let is : run ≡ get_or runs i run = c.tables.ensures.same ∙ c.run-item.is ∙ get_or_default runs i c.run-item.result run c.loop-run-test.true in
+    let p = err_from_is_err_and c.from_residual.result c.from_residual.ensures.1 in
+    rw (p.1, p.2) (of_run runs i run c.loop-run-test.true is c.in_err-check_run.field-0.0 c.in_err-check_run.ensures.refused)
