@@ -25,6 +25,10 @@ abbrev pub passes : Option ℕ → ℕ → Bool
 passes None passed = true
 passes (Some fuse) passed = nat_lt passed fuse
 
+-- whether the next write or sync of a device does
+abbrev pub goes_well : Medium → Bool
+goes_well m = passes m.lasting.fuse_set m.calls.passed
+
 abbrev pub medium_in : {A : Type 0} → ImageDevice A → Medium
 medium_in d = record { size = length d.base.now; lasting = lasting_with d.fuse; calls = d.calls; history = history_of (image_of d.base.now d.laid.items) (map made_of d.made.items) }
 

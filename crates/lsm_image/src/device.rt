@@ -29,7 +29,7 @@ pub struct ImageDevice<'a, A: Allocator = Global> {
 }
 
 impl<'a, A: Allocator> ImageDevice<'a, A> {
-    ghost use Rattle.lsm_image.specs.Media.{medium_in, passes};
+    ghost use Rattle.lsm_image.specs.Media.{medium_in, goes_well};
 
     /// How many writes pend.
     pub fn pending(&self) -> usize
@@ -62,7 +62,7 @@ impl<'a, A: Allocator> ImageDevice<'a, A> {
 
     // Whether the next write or sync answers Ok.
     fn goes_well(&self) -> bool
-        ensures { result ≡ passes self.now.fuse self.now.calls.passed }
+        ensures { result ≡ goes_well (medium_in self.now) }
     {
         match self.fuse {
             Some(fuse) => self.calls.passed < fuse,
@@ -114,7 +114,12 @@ fn answer(ok: bool) -> Result<(), Fault>
 }
 
 impl<'a, A: Allocator> Device for ImageDevice<'a, A> {
-    ghost use Rattle.lsm_image.specs.Media.{medium_in, history_sound, fuses_kept, size_small};
+    ghost use Rattle.std.specs.Prelude.{◌≡◌, ◌<◌, ◌⊎◌, true, IsTrue, OnOk, OnErr, is_ok, slice_get, Some};
+    ghost use Rattle.lsm_device.specs.Calls.{after_read, after_write, after_sync};
+    ghost use Rattle.lsm_device.specs.Disk.{seen, appended, synced};
+    ghost use Rattle.lsm_device.specs.History.{Becomes};
+    ghost use Rattle.lsm_device.specs.Medium.{disk};
+    ghost use Rattle.lsm_image.specs.Media.{medium_in, goes_well, history_sound, fuses_kept, size_small};
 
     ghost medium = { medium_in };
 
@@ -128,7 +133,17 @@ impl<'a, A: Allocator> Device for ImageDevice<'a, A> {
         self.base.len() as u32
     }
 
-    fn read(&mut self, at: u32, out: &mut [u8; 512]) -> Result<(), Fault> {
+    fn read(&mut self, at: u32, out: &mut [u8; 512]) -> Result<(), Fault>
+        requires { at < (medium_in self.old).size }
+        ensures bytes { OnOk result (slice_get (seen (disk (medium_in self.old))) at ≡ Some out.new) }
+        ensures unchanged { (medium_in self.new).history ≡ (medium_in self.old).history }
+        ensures counted { (medium_in self.new).calls ≡ after_read (is_ok result) (medium_in self.old).calls }
+        ensures same_size { (medium_in self.new).size ≡ (medium_in self.old).size }
+        ensures same_lasting { (medium_in self.new).lasting ≡ (medium_in self.old).lasting }
+
+        // It answers Ok always.
+        ensures answers { is_ok result ≡ true }
+    {
         *out = self.base[at as usize];
         lay_over(out, &self.laid, at);
         lay_over(out, &self.made, at);
@@ -136,7 +151,21 @@ impl<'a, A: Allocator> Device for ImageDevice<'a, A> {
         Ok(())
     }
 
-    fn write(&mut self, at: u32, bytes: &[u8; 512]) -> Result<(), Fault> {
+    fn write(&mut self, at: u32, bytes: &[u8; 512]) -> Result<(), Fault>
+        requires { at < (medium_in self.old).size }
+        ensures pends { OnOk result (Becomes (appended (record { at = at; bytes = bytes.now }) (disk (medium_in self.old)))
+            (medium_in self.old).history (medium_in self.new).history) }
+        ensures may_pend { OnErr result (((medium_in self.new).history ≡ (medium_in self.old).history)
+            ⊎ Becomes (appended (record { at = at; bytes = bytes.now }) (disk (medium_in self.old)))
+            (medium_in self.old).history (medium_in self.new).history) }
+        ensures counted { (medium_in self.new).calls ≡ after_write (is_ok result) (medium_in self.old).calls }
+        ensures same_size { (medium_in self.new).size ≡ (medium_in self.old).size }
+        ensures same_lasting { (medium_in self.new).lasting ≡ (medium_in self.old).lasting }
+
+        // It answers Ok as the fuse says, unless memory for the write is refused: then nothing pends.
+        ensures goes_well { OnOk result (IsTrue (goes_well (medium_in self.old))) }
+        ensures no_memory { IsTrue (goes_well (medium_in self.old)) → OnErr result ((medium_in self.new).history ≡ (medium_in self.old).history) }
+    {
         let goes_well = self.goes_well();
         let appended = self.append(at, bytes);
         let ok = goes_well && appended;
@@ -144,7 +173,16 @@ impl<'a, A: Allocator> Device for ImageDevice<'a, A> {
         answer(ok)
     }
 
-    fn sync(&mut self) -> Result<(), Fault> {
+    fn sync(&mut self) -> Result<(), Fault>
+        ensures stands { OnOk result (Becomes (synced (disk (medium_in self.old))) (medium_in self.old).history (medium_in self.new).history) }
+        ensures unchanged { OnErr result ((medium_in self.new).history ≡ (medium_in self.old).history) }
+        ensures counted { (medium_in self.new).calls ≡ after_sync (is_ok result) (medium_in self.old).calls }
+        ensures same_size { (medium_in self.new).size ≡ (medium_in self.old).size }
+        ensures same_lasting { (medium_in self.new).lasting ≡ (medium_in self.old).lasting }
+
+        // It answers as the fuse says.
+        ensures answers { is_ok result ≡ goes_well (medium_in self.old) }
+    {
         let ok = self.goes_well();
         if ok {
             self.settle();

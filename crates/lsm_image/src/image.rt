@@ -1,7 +1,9 @@
 // The sectors that a crash left.
-ghost use Rattle.std.specs.Prelude.{◌≡◌, ◌<◌, ◌≤◌, ◌^◌, IfOk, IsTrue, All, length};
+ghost use Rattle.std.specs.Prelude.{◌≡◌, ◌⊎◌, ◌<◌, ◌≤◌, ◌^◌, IfOk, IfErr, OnOk, IsTrue, All, length};
+ghost use Rattle.lsm_device.specs.Calls.{AtMost, after_reads, faults_after};
 ghost use Rattle.lsm_device.specs.Disk.{IsSector, seen};
 ghost use Rattle.lsm_device.specs.Medium.{disk};
+ghost use Rattle.lsm_device.specs.Refusals.{faultless};
 ghost use Rattle.lsm_image.specs.Media.{begun, medium_in};
 
 use crate::device::ImageDevice;
@@ -10,13 +12,22 @@ use lsm_device::{Calls, Device, Refusal};
 use std::alloc::{AllocError, Allocator, Global};
 use std::marker::Model;
 
-/// The sectors of a device as they read, one after another.
+/// The sectors of a device as they read, one after another, by one read of each. It is refused with `NoMemory`, and with `Io` where
+/// a read failed, which was its last.
 pub fn sectors_of<A: Allocator, D: Device>(
     alloc: A,
     device: &mut D,
 ) -> Result<Vec<[u8; 512], A>, Refusal>
     requires { IsTrue (D.medium device.old).lasting.tells }
-    ensures { IfOk result (λ sectors. sectors.items ≡ seen (disk (D.medium device.old))) }
+    ensures sectors { IfOk result (λ sectors. sectors.items ≡ seen (disk (D.medium device.old))) }
+    ensures unchanged { (D.medium device.new).history ≡ (D.medium device.old).history }
+    ensures refused { IfErr result (λ refusal. (refusal ≡ Refusal.NoMemory) ⊎ (refusal ≡ Refusal.Io)) }
+    ensures counted { OnOk result ((D.medium device.new).calls ≡ after_reads (D.medium device.old).size (D.medium device.old).calls) }
+    ensures counts { AtMost (D.medium device.old).size 0 0 (D.medium device.old).calls (D.medium device.new).calls }
+    ensures faults { (D.medium device.new).calls.faults ≡ faults_after (faultless result) (D.medium device.old).calls.faults }
+    ensures stops { IfErr result (λ refusal. refusal ≡ Refusal.Io → IsTrue (D.medium device.new).calls.last_faulted) }
+    ensures same_size { (D.medium device.new).size ≡ (D.medium device.old).size }
+    ensures same_lasting { (D.medium device.new).lasting ≡ (D.medium device.old).lasting }
 {
     let count = device.sectors();
     let mut sectors = Vec::with_capacity(alloc, count as usize)?;

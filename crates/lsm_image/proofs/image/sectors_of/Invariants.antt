@@ -1,4 +1,5 @@
-use Rattle.std.proofs.Common.{◌≡◌, take}
+use Rattle.std.proofs.Common.{◌≡◌, ◌≤◌, take}
+use Rattle.lsm_device.specs.Calls.{after_reads}
 use Rattle.lsm_device.specs.Disk.{seen}
 use Rattle.lsm_device.specs.Medium.{disk}
 use Rattle.lsm_image.proofs.image.sectors_of.Given as goal
@@ -9,6 +10,8 @@ invariant-loop-at g l =
     record {
       same_size : (D.medium l.device).size ≡ (D.medium l.fn.device).size;
       same_lasting : (D.medium l.device).lasting ≡ (D.medium l.fn.device).lasting;
+      within : l.at ≤ (D.medium l.fn.device).size;
+      counted : (D.medium l.device).calls ≡ after_reads l.at (D.medium l.fn.device).calls;
       same_history : (D.medium l.device).history ≡ (D.medium l.fn.device).history;
       so_far : l.sectors.items ≡ take l.at (seen (disk (D.medium l.fn.device)));
     }

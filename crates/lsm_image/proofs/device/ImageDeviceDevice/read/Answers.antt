@@ -7,7 +7,7 @@ use Rattle.lsm_image.proofs.Begun.{read_is}
 use Rattle.lsm_image.proofs.device.ImageDeviceDevice.read.Goals as goal
 
 pub returns-clause-bytes : goal.returns-clause-bytes
-returns-clause-bytes g c = λ tells.
+returns-clause-bytes g c =
     let s = c.args.self.now in
     let first = get_or s.base.now c.args.at [] in
     read_is s.base.now s.laid.items s.made.items s.standing s.is_image s.go_together c.args.at first c.lay_over.new.out c.lay_over-2.new.out (slice_get-get_or s.base.now c.args.at [] c.requires)
