@@ -1,12 +1,13 @@
 -- What the parts of an exploration add to the counts, one after another.
-use Rattle.std.proofs.Common.{◌≡◌, ℕ, ◌+◌, Bool, true, false, if◌then◌else◌, List, [], ◌∷◌, ◌++◌, length, map, take, drop, get_or, ◌<◌, ◌-◌, None, Some, refl, ap, sym, subst, ◌∙◌, arith}
+use Rattle.std.proofs.Common.{◌≡◌, ℕ, ◌+◌, Bool, true, false, if◌then◌else◌, List, [], ◌∷◌, ◌++◌, length, map, take, drop, get_or, ◌<◌, ◌-◌, ◌||◌, None, refl, ap, sym, subst, ◌∙◌, arith}
 use Rattle.std.proofs.lemmas.Simd.{map-map}
 use Rattle.std.proofs.lemmas.List.{append-nil, length-append, length-map, append_assoc, take_more, take_rest, drop-map, map_push}
+use Rattle.std.specs.List.{list_any}
 use Rattle.lsm_device.specs.Disk.{image}
 use Rattle.lsm_device.specs.Medium.{Medium, disk}
 use Rattle.lsm_image.specs.Media.{begun}
 use Rattle.lsm_lives.specs.Asked.{Asked, Told}
-use Rattle.lsm_lives.specs.Exploring.{Sectors, is_wanting, IsEnd, AreEndsFrom, IsWhole, left_of, left_of_each, skips, skipped_in, AreReopened, left_again, skipped_again, IsExploredFrom, AddsOpening, AddsOpenings, AddsCrashes, AddsLife}
+use Rattle.lsm_lives.specs.Exploring.{Sectors, tells_no_memory, is_wanting, IsEnd, AreEndsFrom, IsWhole, left_of, left_of_each, skips, skipped_in, AreReopened, left_again, skipped_again, IsExploredFrom, AddsOpening, AddsOpenings, AddsCrashes, AddsLife}
 use Rattle.lsm_lives.specs.Leading.{IsLed}
 use Rattle.lsm_lives.specs.Masks.{masks_for}
 use Rattle.lsm_lives.specs.Calls.{told_of}
@@ -15,11 +16,11 @@ use Rattle.lsm_lives.specs.declared.exploring.Explored.{Explored}
 
 -- ---- lists of ends
 
-one_end_more : (sectors : Sectors) (asked : List Asked) (end : Medium) (fuse : ℕ) (ends : List Medium) → AreEndsFrom sectors asked fuse ends → IsEnd sectors asked (Some (fuse + length ends)) end
+one_end_more : (sectors : Sectors) (asked : List Asked) (end : Medium) (fuse : ℕ) (ends : List Medium) → AreEndsFrom sectors asked fuse ends → IsEnd sectors asked (fuse + length ends) end
     → AreEndsFrom sectors asked fuse (ends ++ end ∷ [])
-one_end_more sectors asked end fuse [] are is = (subst (λ (n : ℕ). IsEnd sectors asked (Some n) end) (omega arith) is, tt)
+one_end_more sectors asked end fuse [] are is = (subst (λ (n : ℕ). IsEnd sectors asked n end) (omega arith) is, tt)
 one_end_more sectors asked end fuse (first ∷ ends) are is =
-    (are.0, one_end_more sectors asked end (fuse + 1) ends are.1 (subst (λ (n : ℕ). IsEnd sectors asked (Some n) end) (omega arith) is))
+    (are.0, one_end_more sectors asked end (fuse + 1) ends are.1 (subst (λ (n : ℕ). IsEnd sectors asked n end) (omega arith) is))
 
 left_more : (ends : List Medium) (end : Medium) → left_of_each (ends ++ end ∷ []) ≡ left_of_each ends ++ left_of end
 left_more [] end = append-nil (left_of end)
@@ -46,11 +47,17 @@ skipped_both : (again rest : List (List Medium)) → skipped_again (again ++ res
 skipped_both [] rest = omega arith
 skipped_both (ends ∷ again) rest = omega (arith, skipped_both again rest)
 
+-- ---- what is told of want of memory
+
+pub wanting_told : {A : Type 0} (replies : List (GivenReply A)) → is_wanting (map told_of replies) ≡ list_any (λ reply. tells_no_memory (told_of reply)) replies
+wanting_told [] = refl
+wanting_told (reply ∷ replies) = ap (λ (b : Bool). tells_no_memory (told_of reply) || b) (wanting_told replies)
+
 -- ---- a life without a fuse
 
 pub whole_life : (sectors : Sectors) (asked : List Asked) (told : List Told) (whole : Medium) (count : ℕ) → IsLed (begun sectors None) asked told whole → is_wanting told ≡ false → whole.calls.faults ≡ 0
     → count ≡ whole.calls.passed + 1 → (end : Medium) × IsWhole sectors asked end × (count ≡ end.calls.passed + 1)
-whole_life sectors asked told whole count led opened no_fault counts = (whole, record { told = told; led = led; opened = opened; no_fault = no_fault }, counts)
+whole_life sectors asked told whole count led memory no_fault counts = (whole, record { told = told; led = led; memory = memory; no_fault = no_fault }, counts)
 
 -- ---- openings
 
@@ -70,7 +77,7 @@ no_openings sectors old = record { ends = []; each = tt; count = refl; first = r
 pub openings_more : (sectors : Sectors) (fuses : ℕ) (old mid new : Explored) → OpeningsSoFar sectors fuses old mid → AddsOpening sectors fuses mid new → OpeningsSoFar sectors (fuses + 1) old new
 openings_more sectors fuses old mid new before adds = record {
   ends = before.ends ++ adds.end ∷ [];
-  each = one_end_more sectors [] adds.end 0 before.ends before.each (subst (λ (n : ℕ). IsEnd sectors [] (Some n) adds.end) (omega (arith, before.count)) adds.is_end);
+  each = one_end_more sectors [] adds.end 0 before.ends before.each (subst (λ (n : ℕ). IsEnd sectors [] n adds.end) (omega (arith, before.count)) adds.is_end);
   count = omega (arith, length-append before.ends (adds.end ∷ []), before.count);
   first = adds.first ∙ before.first;
   second = omega (arith, adds.second, before.second, length-left_more before.ends adds.end);
@@ -158,11 +165,11 @@ left_by_masks places masks pending end are is =
     sym (map-map (λ mask. image mask (disk end)) places masks) ∙ ap (map (λ mask. image mask (disk end))) (are ∙ ap masks_for is)
 
 -- a life with one fuse, of which crashes by each mask were explored
-pub life_explored : (sectors : Sectors) (asked : List Asked) (told : List Told) (fuse : ℕ) (twice : Bool) (end : Medium) (old mid new : Explored) → IsLed (begun sectors (Some fuse)) asked told end
+pub life_explored : (sectors : Sectors) (asked : List Asked) (fuse : ℕ) (twice : Bool) (end : Medium) (old mid new : Explored) → IsEnd sectors asked fuse end
     → (mid.first ≡ old.first) × (mid.second ≡ old.second) × (mid.wrong ≡ old.wrong) → mid.skipped ≡ old.skipped + skips end → AddsCrashes (left_of end) twice mid new → AddsLife sectors asked fuse twice old new
-life_explored sectors asked told fuse twice end old mid new led same more adds = record {
+life_explored sectors asked fuse twice end old mid new is_end same more adds = record {
   end = end;
-  is_end = record { told = told; led = led };
+  is_end = is_end;
   again = adds.again;
   are_reopened = adds.are_reopened;
   first = omega (arith, adds.first, same.0);
@@ -172,12 +179,12 @@ life_explored sectors asked told fuse twice end old mid new led same more adds =
 }
 
 -- an opening with one fuse, of which as many crashes were judged as there are masks
-pub opening_explored : (sectors : Sectors) (told : List Told) (fuse : ℕ) (end : Medium) (old mid new : Explored) → IsLed (begun sectors (Some fuse)) [] told end
+pub opening_explored : (sectors : Sectors) (fuse : ℕ) (end : Medium) (old mid new : Explored) → IsEnd sectors [] fuse end
     → (mid.first ≡ old.first) × (mid.second ≡ old.second) × (mid.wrong ≡ old.wrong) → mid.skipped ≡ old.skipped + skips end
     → new.second ≡ mid.second + length (masks_for (length (disk end).pending)) → (new.first ≡ mid.first) × (new.skipped ≡ mid.skipped) × (new.wrong ≡ mid.wrong) → AddsOpening sectors fuse old new
-opening_explored sectors told fuse end old mid new led same more second others = record {
+opening_explored sectors fuse end old mid new is_end same more second others = record {
   end = end;
-  is_end = record { told = told; led = led };
+  is_end = is_end;
   first = others.0 ∙ same.0;
   second = omega (arith, second, same.1, length-map (masks_for (length (disk end).pending)) (λ mask. image mask (disk end)));
   skipped = others.1 ∙ more;
@@ -211,7 +218,7 @@ pub lives_more : (sectors : Sectors) (asked : List Asked) (fuses : ℕ) (twice :
     → LivesSoFar sectors asked (fuses + 1) twice new
 lives_more sectors asked fuses twice mid new before adds = record {
   ends = before.ends ++ adds.end ∷ [];
-  each = one_end_more sectors asked adds.end 0 before.ends before.each (subst (λ (n : ℕ). IsEnd sectors asked (Some n) adds.end) (omega (arith, before.count)) adds.is_end);
+  each = one_end_more sectors asked adds.end 0 before.ends before.each (subst (λ (n : ℕ). IsEnd sectors asked n adds.end) (omega (arith, before.count)) adds.is_end);
   count = omega (arith, length-append before.ends (adds.end ∷ []), before.count);
   again = before.again ++ adds.again;
   are_reopened = both_reopened twice before.ends adds.end before.again adds.again before.are_reopened adds.are_reopened;

@@ -1,5 +1,6 @@
 -- What an exploration counts.
-use Rattle.std.specs.Prelude.{◌≡◌, ℕ, ◌+◌, Bool, true, false, List, [], ◌∷◌, ◌++◌, length, map, Option, Some, None, if◌then◌else◌}
+use Rattle.std.specs.Prelude.{◌≡◌, ℕ, ◌+◌, Bool, true, false, List, [], ◌∷◌, ◌++◌, length, map, Some, None, if◌then◌else◌}
+use Rattle.std.specs.List.{list_any}
 use Rattle.lsm_device.specs.Disk.{image}
 use Rattle.lsm_device.specs.Medium.{Medium, disk}
 use Rattle.lsm_image.specs.Media.{begun}
@@ -16,26 +17,33 @@ use Rattle.lsm_lives.specs.declared.exploring.Explored.{Explored}
 abbrev pub Sectors : Type 0
 Sectors = List (List ℕ)
 
--- A device at the end of a life of these steps that began on these sectors, with a fuse where one is given.
-pub record IsEnd (sectors : Sectors) (asked : List Asked) (fuse : Option ℕ) (end : Medium) : Type 0 where
+-- whether this tells of want of memory
+abbrev pub tells_no_memory : Told → Bool
+tells_no_memory (Replied (Refused NoMemory)) = true
+tells_no_memory told = false
+
+-- whether an opening or a step was refused for want of memory
+abbrev pub is_wanting : List Told → Bool
+is_wanting told = list_any tells_no_memory told
+
+-- A device at the end of a life of these steps that began on these sectors with this fuse. Nothing in it was refused for want of
+-- memory, and just as many of its writes and syncs answered Ok as the fuse says.
+pub record IsEnd (sectors : Sectors) (asked : List Asked) (fuse : ℕ) (end : Medium) : Type 0 where
   pub told : List Told
-  pub led : IsLed (begun sectors fuse) asked told end
+  pub led : IsLed (begun sectors (Some fuse)) asked told end
+  pub memory : is_wanting told ≡ false
+  pub passed : end.calls.passed ≡ fuse
 
 -- one for each fuse from this one on, in order
 abbrev pub AreEndsFrom : Sectors → List Asked → ℕ → List Medium → Type 0
 AreEndsFrom sectors asked fuse [] = Unit {0}
-AreEndsFrom sectors asked fuse (end ∷ ends) = IsEnd sectors asked (Some fuse) end × AreEndsFrom sectors asked (fuse + 1) ends
+AreEndsFrom sectors asked fuse (end ∷ ends) = IsEnd sectors asked fuse end × AreEndsFrom sectors asked (fuse + 1) ends
 
--- whether an opening was refused for want of memory
-abbrev pub is_wanting : List Told → Bool
-is_wanting (Replied (Refused NoMemory) ∷ told) = true
-is_wanting told = false
-
--- The end of such a life without a fuse, in which no call faulted, and for whose opening there was memory.
+-- The end of such a life without a fuse, in which no call faulted, and nothing was refused for want of memory.
 pub record IsWhole (sectors : Sectors) (asked : List Asked) (whole : Medium) : Type 0 where
   pub told : List Told
   pub led : IsLed (begun sectors None) asked told whole
-  pub opened : is_wanting told ≡ false
+  pub memory : is_wanting told ≡ false
   pub no_fault : whole.calls.faults ≡ 0
 
 -- One for each fuse from 0 to the number of writes and syncs of such a life without a fuse.
@@ -99,7 +107,7 @@ pub record IsExplored (size log_sectors : ℕ) (asked : List Asked) (twice : Boo
 -- an opening with one fuse on what may be left: its crashes
 pub record AddsOpening (sectors : Sectors) (fuse : ℕ) (old new : Explored) : Type 0 where
   pub end : Medium
-  pub is_end : IsEnd sectors [] (Some fuse) end
+  pub is_end : IsEnd sectors [] fuse end
   pub first : new.first ≡ old.first
   pub second : new.second ≡ old.second + length (left_of end)
   pub skipped : new.skipped ≡ old.skipped + skips end
@@ -126,7 +134,7 @@ pub record AddsCrashes (left : List Sectors) (twice : Bool) (old new : Explored)
 -- a life with one fuse
 pub record AddsLife (sectors : Sectors) (asked : List Asked) (fuse : ℕ) (twice : Bool) (old new : Explored) : Type 0 where
   pub end : Medium
-  pub is_end : IsEnd sectors asked (Some fuse) end
+  pub is_end : IsEnd sectors asked fuse end
   pub again : List (List Medium)
   pub are_reopened : AreReopened (if twice then left_of end else []) again
   pub first : new.first ≡ old.first + length (left_of end)

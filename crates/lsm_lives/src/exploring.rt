@@ -1,5 +1,6 @@
 // Every crash of a life, and every crash of the opening after it.
-ghost use Rattle.std.specs.Prelude.{◌≡◌, ◌⊎◌, ◌≤◌, ◌<◌, ◌+◌, ◌∷◌, ◌^◌, ℕ, List, [], None, Some, IfOk, IfErr, OnOk, All, Err, ◌↔◌, drop, map, length, if◌then◌else◌};
+ghost use Rattle.std.specs.Prelude.{◌≡◌, ◌⊎◌, ◌≤◌, ◌<◌, ◌+◌, ◌∷◌, ◌^◌, ℕ, List, [], None, Some, false, IfOk, IfErr, OnOk, All, Err, ◌↔◌, drop, map, length, if◌then◌else◌};
+ghost use Rattle.std.specs.List.{list_any};
 ghost use Rattle.lsm_codec.specs.Map.{Operation};
 ghost use Rattle.lsm_device.specs.declared.refusal.Refusal.TheVariants.{NoMemory, BadGeometry};
 ghost use Rattle.lsm_device.specs.Disk.{IsSector, image};
@@ -11,7 +12,7 @@ ghost use Rattle.lsm_open.specs.Image.{StandFor};
 ghost use Rattle.lsm_root.specs.Layout.{IsGeometry};
 ghost use Rattle.lsm_lives.specs.Calls.{asked_of, told_of};
 ghost use Rattle.lsm_lives.specs.Expected.{AreExpected, MayBeLeft, batches_in, least_in};
-ghost use Rattle.lsm_lives.specs.Exploring.{AddsCrashes, AddsLife, AddsOpening, AddsOpenings, IsExplored, IsExploredFrom, IsWhole, is_wanting};
+ghost use Rattle.lsm_lives.specs.Exploring.{AddsCrashes, AddsLife, AddsOpening, AddsOpenings, IsExplored, IsExploredFrom, IsWhole, is_wanting, tells_no_memory};
 ghost use Rattle.lsm_lives.specs.Leading.{IsLed};
 ghost use Rattle.lsm_lives.specs.Masks.{is_skipped, masks_for};
 
@@ -104,6 +105,31 @@ fn lead<'i, R: Threads + Sync, A: Allocator + Clone + Send + Sync>(
     Ok(Led { replies, device })
 }
 
+// Leads a life with a fuse on an image until its crash. It is refused where memory was wanting in it: that was told, or not just as
+// many writes and syncs answered Ok as the fuse says.
+fn lead_fused<'i, R: Threads + Sync, A: Allocator + Clone + Send + Sync>(
+    rt: &R,
+    alloc: &A,
+    image: &Image<'i, A>,
+    steps: &[Step<A>],
+    fuse: u64,
+) -> Result<Led<'i, A>, Refusal>
+    ensures led { IfOk result (λ led. IsLed (begun image.now (Some fuse)) (map asked_of steps.now) (map told_of led.replies.items) (medium_in led.device)) }
+    ensures memory { IfOk result (λ led. is_wanting (map told_of led.replies.items) ≡ false) }
+    ensures passed { IfOk result (λ led. (medium_in led.device).calls.passed ≡ fuse) }
+    ensures refused { IfErr result (λ e. e ≡ NoMemory) }
+{
+    let led = lead(rt, alloc, image, steps, Some(fuse))?;
+    if is_wanting(&led.replies) {
+        return Err(Refusal::NoMemory);
+    }
+    let counts = led.device.calls();
+    if counts.passed != fuse {
+        return Err(Refusal::NoMemory);
+    }
+    Ok(led)
+}
+
 // Leads a life that makes no step on an image, with a fuse.
 fn lead_opening<'i, R: Threads + Sync, A: Allocator + Clone + Send + Sync>(
     rt: &R,
@@ -112,18 +138,34 @@ fn lead_opening<'i, R: Threads + Sync, A: Allocator + Clone + Send + Sync>(
     fuse: u64,
 ) -> Result<Led<'i, A>, Refusal>
     ensures led { IfOk result (λ led. IsLed (begun image.now (Some fuse)) [] (map told_of led.replies.items) (medium_in led.device)) }
+    ensures memory { IfOk result (λ led. is_wanting (map told_of led.replies.items) ≡ false) }
+    ensures passed { IfOk result (λ led. (medium_in led.device).calls.passed ≡ fuse) }
     ensures refused { IfErr result (λ e. e ≡ NoMemory) }
 {
     let steps: Vec<Step<A>, A> = Vec::new(alloc.clone()?);
-    let led = lead(rt, alloc, image, &steps, Some(fuse))?;
+    let led = lead_fused(rt, alloc, image, &steps, fuse)?;
     Ok(led)
 }
 
-// Whether an opening was refused for want of memory.
+// Whether a reply tells of want of memory.
+fn tells_no_memory<A: Allocator>(reply: &Reply<A>) -> bool
+    ensures { result ≡ tells_no_memory (told_of reply.now) }
+{
+    matches!(reply, Reply::Refused(Refusal::NoMemory))
+}
+
+// Whether one of the replies does.
+fn one_tells_no_memory<A: Allocator>(replies: &[Reply<A>]) -> bool
+    ensures { result ≡ list_any (λ reply. tells_no_memory (told_of reply)) replies.now }
+{
+    replies.iter().any(|reply| tells_no_memory(reply))
+}
+
+// Whether an opening or a step was refused for want of memory.
 fn is_wanting<A: Allocator>(replies: &[Reply<A>]) -> bool
     ensures { result ≡ is_wanting (map told_of replies.now) }
 {
-    matches!(replies.first(), Some(Reply::Refused(Refusal::NoMemory)))
+    one_tells_no_memory(replies)
 }
 
 // How many fuses there are to try on a life: one for each number of writes and syncs that may be answered Ok before the others
@@ -321,7 +363,7 @@ fn explore_one<R: Threads + Sync, A: Allocator + Clone + Send + Sync>(
     ensures adds { OnOk result (AddsLife start.now (map asked_of steps.now) fuse twice explored.old explored.new) }
     ensures refused { IfErr result (λ e. e ≡ NoMemory) }
 {
-    let led = lead(rt, alloc, start, steps, Some(fuse))?;
+    let led = lead_fused(rt, alloc, start, steps, fuse)?;
     let expected = expected_behind(alloc, steps, &led.replies)?;
     let waiting = led.device.pending();
     count_skipped(waiting, explored)?;
@@ -370,7 +412,7 @@ fn explore_from<R: Threads + Sync, A: Allocator + Clone + Send + Sync, P: Progre
 /// `progress` of each fuse before it tries it.
 ///
 /// It is refused with `BadGeometry` where the device wouldn't have 8,192 to 1,048,576 sectors, or a log region 128 to 2,048,
-/// and with `NoMemory`.
+/// and with `NoMemory`, also where memory was wanting in one of the lives that it leads.
 pub fn explore<R: Threads + Sync, A: Allocator + Clone + Send + Sync, P: Progress>(
     rt: &R,
     alloc: A,

@@ -47,6 +47,7 @@ returns-clause-adds g c =
     let end = medium_in c.in_ok-led.led.device in
     let old = c.args.explored.now in
     let left = ap (map (λ mask. image mask.items (disk end))) c.deref-2.ensures.value ∙ left_by_masks (λ mask. mask.items) c.in_ok-masks.masks.items c.pending-waiting.result end c.in_ok-masks.ensures c.pending-waiting.ensures in
-    life_explored c.args.start.now asked told c.args.fuse c.args.twice end old c.count_skipped.new.explored c.crash_each.new.explored c.in_ok-led.ensures.led c.in_ok-count_skipped.ensures.same
+    life_explored c.args.start.now asked c.args.fuse c.args.twice end old c.count_skipped.new.explored c.crash_each.new.explored
+    (record { told = told; led = c.in_ok-led.ensures.led; memory = c.in_ok-led.ensures.memory; passed = c.in_ok-led.ensures.passed }) c.in_ok-count_skipped.ensures.same
     (c.in_ok-count_skipped.ensures.skipped ∙ ap (λ (n : ℕ). old.skipped + (if is_skipped n then 1 else 0)) c.pending-waiting.ensures)
     (subst (λ (l : List Sectors). AddsCrashes l c.args.twice c.count_skipped.new.explored c.crash_each.new.explored) left c.in_ok-crash_each.ensures.adds)

@@ -23,8 +23,8 @@ pub returns-clause-adds : goal.returns-clause-adds
 returns-clause-adds g c =
     let end = medium_in c.in_ok-led.led.device in
     let old = c.args.explored.now in
-    opening_explored c.args.left.now (map told_of c.in_ok-led.led.replies.items) c.args.fuse end old c.count_skipped.new.explored c.judge_each.new.explored
-    c.in_ok-led.ensures.led c.in_ok-count_skipped.ensures.same
+    opening_explored c.args.left.now c.args.fuse end old c.count_skipped.new.explored c.judge_each.new.explored
+    (record { told = map told_of c.in_ok-led.led.replies.items; led = c.in_ok-led.ensures.led; memory = c.in_ok-led.ensures.memory; passed = c.in_ok-led.ensures.passed }) c.in_ok-count_skipped.ensures.same
     (c.in_ok-count_skipped.ensures.skipped ∙ ap (λ (n : ℕ). old.skipped + (if is_skipped n then 1 else 0)) c.pending-waiting.ensures)
     (omega (arith, c.in_ok-judge_each.ensures.second, ap length c.deref.ensures.value, length-map c.in_ok-masks.masks.items (λ mask. mask.items), ap length c.in_ok-masks.ensures, ap (λ (n : ℕ). length (masks_for n)) c.pending-waiting.ensures))
     c.in_ok-judge_each.ensures.same
