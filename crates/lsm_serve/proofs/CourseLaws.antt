@@ -1,5 +1,5 @@
 -- Answers to lines are a run.
-use Rattle.std.proofs.Common.{◌≡◌, ◌∙◌, ◌⊎◌, ℕ, Bool, List, [], ◌∷◌, ◌++◌, inl, inr, refl, sym, ap, subst}
+use Rattle.std.proofs.Common.{◌≡◌, ◌∙◌, ◌⊎◌, ℕ, Bool, false, List, [], ◌∷◌, ◌++◌, inl, inr, refl, sym, ap, subst}
 use Rattle.lsm_device.specs.declared.refusal.Refusal.TheVariants.{NoSpace}
 use Rattle.lsm_lives.specs.Replaying.{GoOn, Replays}
 use Rattle.lsm_replies.specs.Replies.{counted_by}
@@ -7,10 +7,11 @@ use Rattle.lsm_store.specs.Backing.{StoreView}
 use Rattle.lsm_store.specs.Calls.{Call, Reply, Commit, CommitIf, Sync, SyncTo, Get, Scan, Snapshot, Release, Rotate, LogRoom, Refused}
 use Rattle.lsm_store.specs.Machine.{Step, Called}
 use Rattle.lsm_serve.specs.Asking.{Meaning, asks_call, asks_no_batch, asks_numbers, asks_nothing, meaning_of}
-use Rattle.lsm_serve.specs.Committing.{Commits, CommitsIn, LacksRoom, MakesCall, Passes, ServesTold, puts_in}
+use Rattle.lsm_serve.specs.Committing.{Commits, CommitsAgain, IsTried, MakesCall, ServesTold, is_log_full, puts_in}
 use Rattle.lsm_serve.specs.Answering.{Answered, Answers, AnswersLine, AnswersLines, tells}
 use Rattle.lsm_serve.specs.Course.{AreFor, AreForLine, AreForLines, IsCourse}
-use Rattle.lsm_serve.proofs.Passing.{replays-append, stays, then}
+use Rattle.lsm_serve.proofs.CommittingLaws.{eases_passes}
+use Rattle.lsm_serve.proofs.Passing.{Passes, full, makes_room, replays-append, stays, then}
 
 -- the steps of one line
 record IsLine (Of : List Step → List Reply → Type 0) (before after : StoreView) : Type 0 where
@@ -46,15 +47,21 @@ module _ (call : Call) (told : Reply) (answered : Answered) (tell : answered ≡
     replays = subst (λ (s : StoreView). Replays before p.steps p.replies s) (sym same) p.replays;
   }
 
+  tried : (puts : Bool) (before kept after : StoreView) → Passes call before kept → IsTried puts call kept told after → IsLine (AreFor (asks_call call) answered) before after
+  tried puts before kept after p (inl (room, s)) = served_behind before kept after p s
+  tried puts before kept after p (inr (lacks, so, same)) = refused_behind before kept after p so same
+
   committed : (puts : Bool) (before after : StoreView) → Commits puts call before told after → IsLine (AreFor (asks_call call) answered) before after
   committed puts before after c = by c.ends
     where
-      passed : Passes call before c.kept
-      passed = then call before c.begun c.kept c.passes c.goes_on
+      eased : Passes call before c.kept
+      eased = eases_passes puts call before c.kept c.eases
 
-      by : CommitsIn puts call c.begun c.kept told after ⊎ LacksRoom puts c.begun c.kept told after → IsLine (AreFor (asks_call call) answered) before after
-      by (inl i) = served_behind before c.kept after passed i.serves
-      by (inr l) = refused_behind before c.kept after passed l.told_so l.same
+      by : ((is_log_full told ≡ false) × IsTried puts call c.kept told after) ⊎ CommitsAgain puts call c.kept told after → IsLine (AreFor (asks_call call) answered) before after
+      by (inl (other, t)) = tried puts before c.kept after eased t
+      by (inr a) =
+          let refused : Passes call before a.full = then call before c.kept a.full eased (full call c.kept a.full a.serves) in
+          tried puts before a.behind.kept after (then call before a.full a.behind.kept refused (makes_room call a.full a.behind.kept a.behind.makes)) a.behind.tried
 
   served : (before after : StoreView) → ServesTold call before told after → IsLine (AreFor (asks_call call) answered) before after
   served before after s = served_behind before before after (stays call before before refl) s

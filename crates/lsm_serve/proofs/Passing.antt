@@ -13,7 +13,14 @@ use Rattle.lsm_upkeep.specs.Finishing.{HasLeft, IsFinished, IsGivenUp, DoesNotGo
 use Rattle.lsm_upkeep.specs.Keeping.{IsSameMap, KeepsMap}
 use Rattle.lsm_upkeep.specs.Upkeep.{AreDone, AsksChosen, Compacts, IsIdle, IsNoMore}
 use Rattle.lsm_upkeep.proofs.KeptMaps.{onward, rotate_keeps, stays as stays_same, works_keep}
-use Rattle.lsm_serve.specs.Committing.{AreUpkeep, IsUpkeep, MakesRoom, Passes}
+use Rattle.lsm_serve.specs.Committing.{AreUpkeep, IsUpkeep, MakesRoom}
+
+-- Steps that are none of a line, one after another.
+pub record Passes (call : Call) (old new : StoreView) : Type 0 where
+  pub steps : List Step
+  pub replies : List Reply
+  pub upkeep : AreUpkeep call steps replies
+  pub replays : Replays old steps replies new
 
 pub replays-append : (steps : List Step) (replies : List Reply) (old mid new : StoreView) (more : List Step) (rest : List Reply)
     → Replays old steps replies mid → Replays mid more rest new → Replays old (steps ++ more) (replies ++ rest) new

@@ -1,9 +1,9 @@
 -- How serving goes on.
-use Rattle.std.proofs.Common.{◌≡◌, ◌∙◌, ◌+◌, ℕ, Bool, true, false, true≢false, List, [], ◌∷◌, ◌++◌, length, Option, Some, None, Result, Ok, Err, refl, sym, ap, subst, arith, inl, inr, append_assoc, append-nil, length-append}
+use Rattle.std.proofs.Common.{◌≡◌, ◌∙◌, ◌+◌, ℕ, suc, Bool, true, false, true≢false, List, [], ◌∷◌, ◌++◌, length, Option, Some, None, Result, Ok, Err, refl, sym, ap, subst, arith, inl, inr, append_assoc, append-nil, length-append}
 use Rattle.std.specs.Prelude.{IfSome, MatchResult}
 use Rattle.std.specs.Io.KnownBytes.{Appends}
 use Rattle.lsm_device.specs.declared.refusal.Refusal.{Refusal}
-use Rattle.lsm_device.specs.declared.refusal.Refusal.TheVariants.{Stopped}
+use Rattle.lsm_device.specs.declared.refusal.Refusal.TheVariants.{Exhausted, Stopped}
 use Rattle.lsm_language.specs.declared.fault.Fault.{Fault}
 use Rattle.lsm_language.specs.Faults.{Reason, mistake, refusal, unopened, unread, unwritten, reason_of}
 use Rattle.lsm_language.specs.Rows.{lines_of}
@@ -12,7 +12,7 @@ use Rattle.lsm_store.specs.Calls.{Done, Refused, Sync, reply_of}
 use Rattle.lsm_store.specs.Serving.{Serves}
 use Rattle.lsm_serve.specs.Answering.{Answered, AnswersLine, AnswersLines, answer_text, answers_text}
 use Rattle.lsm_serve.specs.Reading.{IsInputFault, TakesLine}
-use Rattle.lsm_serve.specs.Serving.{AreAll, AreFirst, AreServed, IsServed, IsSynced, IsUnsynced, ToldBefore, ToldMost, Untold}
+use Rattle.lsm_serve.specs.Serving.{AreAll, AreFirst, AreServed, EndsEarly, IsServed, IsSynced, IsUnsynced, ToldBefore, ToldMost, Untold, most_lines}
 use Rattle.lsm_serve.proofs.AnsweringLaws.{answers-more, answers_kept, text-more}
 
 -- these lines are the first of an input, and this is left of it
@@ -96,10 +96,20 @@ module _ (input left after : Option (List ℕ)) (number : ℕ) (before now new :
     serves = answers-more s.lines s.answers before now new line answered s.serves (answers_kept now new line kept answered cut answers);
     come = left-first input after (s.lines ++ line ∷ []) (left-more input left after s.lines line s.come come);
     told = by (reason_of fault) untold;
+    may = why (reason_of fault) untold;
   }
     where
+      why : (reason : Reason) → Untold reason output_now output_new → EndsEarly reason (s.lines ++ line ∷ [])
+      why (refusal r) (none, same) = inl none
+      why unwritten t =
+          let size : length (s.lines ++ line ∷ []) ≡ length s.lines + 1 = length-append s.lines (line ∷ []) in
+          omega (arith, size)
+      why mistake none = absurd none
+      why (unopened cause) none = absurd none
+      why unread none = absurd none
+
       by : (reason : Reason) → Untold reason output_now output_new → ToldBefore reason (s.answers ++ answered ∷ []) output output_new
-      by (refusal r) same = record {
+      by (refusal r) (none, same) = record {
         told = s.answers;
         untold = answered ∷ [];
         all = refl;
@@ -122,20 +132,22 @@ serving-ends input left after number before now output output_now kept false non
   serves = s.serves;
   come = left-all input left s.lines s.come takes;
   told = s.told;
+  may = tt;
 }
 
--- a fault of the input, or no number for a line
-told_all : (reason : Reason) (answers : List Answered) (output output_now : Option (List ℕ)) → Appends output output_now (answers_text 1 answers) → IsInputFault reason
-    → ToldBefore reason answers output output_now
-told_all reason answers output output_now appends is = by is
-  where
-    most : ToldMost answers output output_now
-    most = record { told = answers; untold = []; all = sym (append-nil answers); few = omega arith; appends = appends }
+-- all answers were told
+told-all : (answers : List Answered) (output output_now : Option (List ℕ)) → Appends output output_now (answers_text 1 answers) → ToldMost answers output output_now
+told-all answers output output_now appends = record { told = answers; untold = []; all = sym (append-nil answers); few = omega arith; appends = appends }
 
-    by : IsInputFault reason → ToldBefore reason answers output output_now
-    by (inl e) = subst (λ (r : Reason). ToldBefore r answers output output_now) (sym e) appends
-    by (inr (inl e)) = subst (λ (r : Reason). ToldBefore r answers output output_now) (sym e) most
-    by (inr (inr e)) = subst (λ (r : Reason). ToldBefore r answers output output_now) (sym e) most
+-- a fault of the input
+told_before : (reason : Reason) (answers : List Answered) (output output_now : Option (List ℕ)) → Appends output output_now (answers_text 1 answers) → IsInputFault reason
+    → ToldBefore reason answers output output_now
+told_before reason answers output output_now appends (inl e) = subst (λ (r : Reason). ToldBefore r answers output output_now) (sym e) appends
+told_before reason answers output output_now appends (inr e) = subst (λ (r : Reason). ToldBefore r answers output output_now) (sym e) (told-all answers output output_now appends)
+
+ends_early : (reason : Reason) (lines : List (List ℕ)) → IsInputFault reason → EndsEarly reason lines
+ends_early reason lines (inl e) = subst (λ (r : Reason). EndsEarly r lines) (sym e) tt
+ends_early reason lines (inr e) = subst (λ (r : Reason). EndsEarly r lines) (sym e) (inl refl)
 
 pub serving-fails : (input left : Option (List ℕ)) (number : ℕ) (before now : StoreView) (output output_now : Option (List ℕ)) (fault : Fault)
     → IsServing input left number before now output output_now → IsInputFault (reason_of fault) → AreServed input (Err fault) before now output output_now
@@ -144,7 +156,29 @@ serving-fails input left number before now output output_now fault s is = record
   answers = s.answers;
   serves = s.serves;
   come = left-first input left s.lines s.come;
-  told = told_all (reason_of fault) s.answers output output_now s.told is;
+  told = told_before (reason_of fault) s.answers output output_now s.told is;
+  may = ends_early (reason_of fault) s.lines is;
+}
+
+-- there is no number for one more line
+as_many : (lines : List (List ℕ)) (answers : List Answered) (before after : StoreView) → AnswersLines before lines answers after → length lines ≡ length answers
+as_many [] [] before after same = refl
+as_many (line ∷ lines) (answered ∷ answers) before after (mid, first, rest) = ap suc (as_many lines answers mid after rest)
+as_many [] (answered ∷ answers) before after none = absurd none
+as_many (line ∷ lines) [] before after none = absurd none
+
+pub serving-exhausts : (input left : Option (List ℕ)) (number : ℕ) (before now : StoreView) (output output_now : Option (List ℕ)) (fault : Fault)
+    → IsServing input left number before now output output_now → reason_of fault ≡ refusal Exhausted → number ≡ 18446744073709551615
+    → AreServed input (Err fault) before now output output_now
+serving-exhausts input left number before now output output_now fault s is last = record {
+  lines = s.lines;
+  answers = s.answers;
+  serves = s.serves;
+  come = left-first input left s.lines s.come;
+  told = subst (λ (r : Reason). ToldBefore r s.answers output output_now) (sym is) (told-all s.answers output output_now s.told);
+  may =
+      let most : length s.lines ≡ most_lines = omega (arith, as_many s.lines s.answers before now s.serves, s.next, last) in
+      subst (λ (r : Reason). EndsEarly r s.lines) (sym is) (inr (refl, most));
 }
 
 -- ---- a store that was served
@@ -152,7 +186,7 @@ serving-fails input left number before now output output_now fault s is = record
 pub served-fails : (input : Option (List ℕ)) (fault : Fault) (before after : StoreView) (output output_now : Option (List ℕ))
     → AreServed input (Err fault) before after output output_now → IsServed input (Err fault) before after output output_now
 served-fails input fault before after output output_now s =
-    record { lines = s.lines; answers = s.answers; last = after; serves = s.serves; come = s.come; told = s.told; ends = inl refl }
+    record { lines = s.lines; answers = s.answers; last = after; serves = s.serves; come = s.come; told = s.told; ends = inl (refl, s.may) }
 
 pub served-synced : (input : Option (List ℕ)) (before last after : StoreView) (output output_now : Option (List ℕ))
     → AreServed input (Ok tt) before last output output_now → IsSynced last after → IsServed input (Ok tt) before after output output_now
@@ -171,9 +205,8 @@ served-unsynced input fault before last after output output_now s unsynced = rec
   last = last;
   serves = s.serves;
   come = first_of_all input s.lines s.come;
-  told = subst (λ (r : Reason). ToldBefore r s.answers output output_now) (sym unsynced.reason)
-      (record { told = s.answers; untold = []; all = sym (append-nil s.answers); few = omega arith; appends = s.told });
-  ends = inr (s.come, unsynced);
+  told = subst (λ (r : Reason). ToldBefore r s.answers output output_now) (sym unsynced.reason) (told-all s.answers output output_now s.told);
+  ends = inr (record { all = s.come; told = s.told; unsynced = unsynced });
 }
 
 pub served-when : (input : Option (List ℕ)) (answered ended : Result (Unit {0}) Fault) (before last after : StoreView) (output output_now : Option (List ℕ)) → answered ≡ Ok tt

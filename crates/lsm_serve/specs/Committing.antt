@@ -3,14 +3,13 @@ use Rattle.std.specs.Prelude.{◌≡◌, ◌⊎◌, ◌&&◌, ◌||◌, not, Boo
 use Rattle.std.specs.List.{list_any}
 use Rattle.lsm_codec.specs.Map.{Operation}
 use Rattle.lsm_device.specs.declared.refusal.Refusal.TheVariants.{LogFull, NoSpace}
-use Rattle.lsm_lives.specs.Replaying.{Replays}
 use Rattle.lsm_store.specs.Backing.{StoreView}
 use Rattle.lsm_store.specs.Calls.{Call, Reply, Commit, CommitIf, Rotate, Refused, as_told}
 use Rattle.lsm_store.specs.Machine.{Step, Called, Worked}
 use Rattle.lsm_store.specs.Serving.{Serves}
 use Rattle.lsm_store.specs.Work.{Work}
 use Rattle.lsm_upkeep.specs.Keeping.{KeepsMap}
-use Rattle.lsm_upkeep.specs.Upkeep.{Compacts, has_room}
+use Rattle.lsm_upkeep.specs.Upkeep.{Compacts, CompactsIf, has_room}
 
 -- a store served a call, and this is told of its reply
 pub record ServesTold (call : Call) (before : StoreView) (told : Reply) (after : StoreView) : Type 0 where
@@ -32,10 +31,6 @@ takes_puts s = is_some s.state.stopped || has_room 2 0 s
 abbrev pub lacks_room : Bool → StoreView → Bool
 lacks_room puts s = puts && not (takes_puts s)
 
-abbrev pub CompactsIf : Bool → StoreView → StoreView → Type 0
-CompactsIf true old new = Compacts old new
-CompactsIf false old new = new ≡ old
-
 -- it was compacted where there are
 abbrev pub Eases : Bool → StoreView → StoreView → Type 0
 Eases puts old new = CompactsIf (lacks_room puts old) old new
@@ -49,7 +44,7 @@ pub record MakesRoom (old new : StoreView) : Type 0 where
   pub rotates : Serves flushed Rotate reply rotated
   pub behind : Compacts rotated new
 
--- ---- what is done before a call
+-- ---- what is done before a call, as steps
 
 -- A step that is none of a line: work on a job, a rotation, or the call itself where the log had no room for it.
 abbrev pub IsUpkeep : Call → Step → Reply → Type 0
@@ -61,13 +56,6 @@ AreUpkeep call (step ∷ steps) (reply ∷ replies) = IsUpkeep call step reply �
 AreUpkeep call [] (reply ∷ replies) = ⊥
 AreUpkeep call (step ∷ steps) [] = ⊥
 
--- Such steps, one after another.
-pub record Passes (call : Call) (old new : StoreView) : Type 0 where
-  pub steps : List Step
-  pub replies : List Reply
-  pub upkeep : AreUpkeep call steps replies
-  pub replays : Replays old steps replies new
-
 -- ---- a commit
 
 -- whether it is told that the log has no room
@@ -75,33 +63,31 @@ abbrev pub is_log_full : Reply → Bool
 is_log_full (Refused LogFull) = true
 is_log_full other = false
 
--- A call was served where puts have room; that the log had none is told only behind another log.
-pub record CommitsIn (puts : Bool) (call : Call) (begun kept : StoreView) (told : Reply) (after : StoreView) : Type 0 where
-  pub room : lacks_room puts kept ≡ false
-  pub serves : ServesTold call kept told after
-  pub full : is_log_full told ≡ true → MakesRoom begun kept
+-- A call was served where puts have room; or they have none, and that is told.
+abbrev pub IsTried : Bool → Call → StoreView → Reply → StoreView → Type 0
+IsTried puts call kept told after = ((lacks_room puts kept ≡ false) × ServesTold call kept told after) ⊎ ((lacks_room puts kept ≡ true) × (told ≡ Refused NoSpace) × (after ≡ kept))
 
--- Puts had no room though the store was compacted.
-pub record LacksRoom (puts : Bool) (begun kept : StoreView) (told : Reply) (after : StoreView) : Type 0 where
-  pub compacts : Compacts begun kept
-  pub none : lacks_room puts kept ≡ true
-  pub told_so : told ≡ Refused NoSpace
-  pub same : after ≡ kept
-
--- A call that commits was made, where there is room for it. What was done before keeps the map.
-pub record Commits (puts : Bool) (call : Call) (before : StoreView) (told : Reply) (after : StoreView) : Type 0 where
-  pub begun : StoreView
-  pub kept : StoreView
-  pub passes : Passes call before begun
-  pub goes_on : Passes call begun kept
-  pub keeps : KeepsMap before kept
-  pub ends : CommitsIn puts call begun kept told after ⊎ LacksRoom puts begun kept told after
-
--- where the log had no room for it
+-- It was so behind another log. What was done for that keeps the map.
 pub record CommitsBehind (puts : Bool) (call : Call) (before : StoreView) (told : Reply) (after : StoreView) : Type 0 where
   pub kept : StoreView
   pub makes : MakesRoom before kept
-  pub ends : ((lacks_room puts kept ≡ false) × ServesTold call kept told after) ⊎ ((lacks_room puts kept ≡ true) × (told ≡ Refused NoSpace) × (after ≡ kept))
+  pub keeps : KeepsMap before kept
+  pub tried : IsTried puts call kept told after
+
+-- The log had no room for a call, and it was made behind another one.
+pub record CommitsAgain (puts : Bool) (call : Call) (kept : StoreView) (told : Reply) (after : StoreView) : Type 0 where
+  pub full : StoreView
+  pub room : lacks_room puts kept ≡ false
+  pub serves : Serves kept call (Refused LogFull) full
+  pub behind : CommitsBehind puts call full told after
+
+-- A call that commits was made, where puts have room: the store was compacted before if they had none, which keeps the map. Where the
+-- log had no room for it, it was made behind another one; only then it is told that the log has none.
+pub record Commits (puts : Bool) (call : Call) (before : StoreView) (told : Reply) (after : StoreView) : Type 0 where
+  pub kept : StoreView
+  pub eases : Eases puts before kept
+  pub keeps : KeepsMap before kept
+  pub ends : ((is_log_full told ≡ false) × IsTried puts call kept told after) ⊎ CommitsAgain puts call kept told after
 
 -- ---- any call
 

@@ -1,7 +1,7 @@
 -- Lines of an input, as they come.
 use Rattle.std.specs.Prelude.{◌≡◌, ◌⊎◌, ℕ, Bool, true, false, List, [], ◌∷◌, take, Option, Some, IfSome}
 use Rattle.std.specs.Io.KnownBytes.{Consumes, Keeps}
-use Rattle.lsm_device.specs.declared.refusal.Refusal.TheVariants.{NoMemory, Exhausted}
+use Rattle.lsm_device.specs.declared.refusal.Refusal.TheVariants.{NoMemory}
 use Rattle.lsm_language.specs.Faults.{Reason, refusal, unread}
 use Rattle.lsm_language.specs.Rows.{lines_of}
 use Rattle.lsm_serve.specs.declared.reading.Taken.{Taken}
@@ -26,6 +26,6 @@ TakesLine before true kept after = (line : List ℕ) × (kept ≡ take most_kept
     × IfSome before (λ text. (rest : List ℕ) × (after ≡ Some rest) × (lines_of text ≡ line ∷ lines_of rest))
 TakesLine before false kept after = IfSome before (λ text. lines_of text ≡ [])
 
--- a fault of a reading
+-- a fault of a reading: it failed, or there was no memory for what it read
 abbrev pub IsInputFault : Reason → Type 0
-IsInputFault reason = (reason ≡ unread) ⊎ ((reason ≡ refusal NoMemory) ⊎ (reason ≡ refusal Exhausted))
+IsInputFault reason = (reason ≡ unread) ⊎ (reason ≡ refusal NoMemory)

@@ -1,8 +1,8 @@
 -- How a store is served, line by line.
-use Rattle.std.specs.Prelude.{◌≡◌, ◌⊎◌, ◌≤◌, ℕ, List, ◌++◌, length, Option, Result, Ok, Err, IfSome}
+use Rattle.std.specs.Prelude.{◌≡◌, ◌≢◌, ◌⊎◌, ◌≤◌, ℕ, List, ◌++◌, length, Option, Result, Ok, Err, IfSome}
 use Rattle.std.specs.Io.KnownBytes.{Appends}
 use Rattle.lsm_device.specs.declared.refusal.Refusal.{Refusal}
-use Rattle.lsm_device.specs.declared.refusal.Refusal.TheVariants.{Stopped}
+use Rattle.lsm_device.specs.declared.refusal.Refusal.TheVariants.{Exhausted, NoMemory, Stopped}
 use Rattle.lsm_language.specs.declared.fault.Fault.{Fault}
 use Rattle.lsm_language.specs.Faults.{Reason, refusal, unread, unwritten, reason_of}
 use Rattle.lsm_language.specs.Rows.{lines_of}
@@ -21,7 +21,7 @@ AreFirst input lines = IfSome input (λ all. (rest : List (List ℕ)) × (lines_
 -- Why an answer was not told, and what the output is then: memory for its text was refused, and the output is as it was; or the
 -- output failed, and nothing is known of it.
 abbrev pub Untold : Reason → Option (List ℕ) → Option (List ℕ) → Type 0
-Untold (refusal r) output output_after = output_after ≡ output
+Untold (refusal r) output output_after = (r ≡ NoMemory) × (output_after ≡ output)
 Untold unwritten output output_after = Unit {0}
 Untold other output output_after = ⊥
 
@@ -48,6 +48,24 @@ abbrev pub HaveCome : Result (Unit {0}) Fault → Option (List ℕ) → List (Li
 HaveCome (Ok done) input lines = AreAll input lines
 HaveCome (Err fault) input lines = AreFirst input lines
 
+-- ---- why lines are answered no longer
+
+-- the most lines that are answered: each has a number from 1 on, below 2^64 - 1
+abbrev pub most_lines : ℕ
+most_lines = 18446744073709551614
+
+-- Why only so many lines were answered: the next one can't be read; the answer to the last can't be written; memory for the next one or
+-- for the text of the last answer was refused; or they are the most.
+abbrev pub EndsEarly : Reason → List (List ℕ) → Type 0
+EndsEarly unread lines = Unit {0}
+EndsEarly unwritten lines = 1 ≤ length lines
+EndsEarly (refusal r) lines = (r ≡ NoMemory) ⊎ ((r ≡ Exhausted) × (length lines ≡ most_lines))
+EndsEarly other lines = ⊥
+
+abbrev pub MayEnd : Result (Unit {0}) Fault → List (List ℕ) → Type 0
+MayEnd (Ok done) lines = Unit {0}
+MayEnd (Err fault) lines = EndsEarly (reason_of fault) lines
+
 -- The lines of an input were answered one after another, all of them, or the first up to a fault. The answers were printed.
 pub record AreServed (input : Option (List ℕ)) (result : Result (Unit {0}) Fault) (before after : StoreView) (output output_after : Option (List ℕ)) : Type 0 where
   pub lines : List (List ℕ)
@@ -55,6 +73,7 @@ pub record AreServed (input : Option (List ℕ)) (result : Result (Unit {0}) Fau
   pub serves : AnswersLines before lines answers after
   pub come : HaveCome result input lines
   pub told : Told result answers output output_after
+  pub may : MayEnd result lines
 
 -- ---- the end
 
@@ -64,15 +83,23 @@ pub record IsSynced (before after : StoreView) : Type 0 where
   pub serves : Serves before Sync reply after
   pub synced : (reply ≡ Done) ⊎ (reply ≡ Refused Stopped)
 
--- that was refused
+-- that was refused to a store that is not stopped
 pub record IsUnsynced (fault : Fault) (before after : StoreView) : Type 0 where
   pub r : Refusal
   pub reason : reason_of fault ≡ refusal r
+  pub running : r ≢ Stopped
   pub serves : Serves before Sync (Refused r) after
 
-abbrev pub Ends : Result (Unit {0}) Fault → Option (List ℕ) → List (List ℕ) → StoreView → StoreView → Type 0
-Ends (Ok done) input lines last after = IsSynced last after
-Ends (Err fault) input lines last after = (after ≡ last) ⊎ (AreAll input lines × IsUnsynced fault last after)
+-- all lines were answered, and all answers printed, but the store was not synced
+pub record EndsUnsynced (input : Option (List ℕ)) (fault : Fault) (lines : List (List ℕ)) (answers : List Answered) (last after : StoreView) (output output_after : Option (List ℕ)) : Type 0 where
+  pub all : AreAll input lines
+  pub told : Appends output output_after (answers_text 1 answers)
+  pub unsynced : IsUnsynced fault last after
+
+-- the store was synced; or it is as the last answer left it, since lines are answered no longer; or the sync was refused
+abbrev pub Ends : Result (Unit {0}) Fault → Option (List ℕ) → List (List ℕ) → List Answered → StoreView → StoreView → Option (List ℕ) → Option (List ℕ) → Type 0
+Ends (Ok done) input lines answers last after output output_after = IsSynced last after
+Ends (Err fault) input lines answers last after output output_after = ((after ≡ last) × EndsEarly (reason_of fault) lines) ⊎ EndsUnsynced input fault lines answers last after output output_after
 
 -- The lines of an input were answered so, and at its end the store was synced.
 pub record IsServed (input : Option (List ℕ)) (result : Result (Unit {0}) Fault) (before after : StoreView) (output output_after : Option (List ℕ)) : Type 0 where
@@ -82,4 +109,4 @@ pub record IsServed (input : Option (List ℕ)) (result : Result (Unit {0}) Faul
   pub serves : AnswersLines before lines answers last
   pub come : HaveCome result input lines
   pub told : Told result answers output output_after
-  pub ends : Ends result input lines last after
+  pub ends : Ends result input lines answers last after output output_after

@@ -3,7 +3,7 @@
 ghost use Rattle.std.specs.Prelude.{◌≡◌};
 ghost use Rattle.lsm_lives.specs.Asked.{Replied};
 ghost use Rattle.lsm_lives.specs.Calls.{call_of, reply_of, told_of};
-ghost use Rattle.lsm_serve.specs.Committing.{Commits, CommitsBehind, CommitsIn, Eases, MakesCall, MakesRoom, ServesTold, is_log_full, lacks_room, puts_in};
+ghost use Rattle.lsm_serve.specs.Committing.{Commits, CommitsBehind, Eases, MakesCall, MakesRoom, ServesTold, is_log_full, lacks_room, puts_in};
 
 use lsm_codec::{Batch, Operations};
 use lsm_device::{Device, Refusal};

@@ -4,7 +4,6 @@ ghost use Rattle.std.specs.Prelude.{◌≡◌, ◌≤◌, ◌∷◌, ◌++◌, [
 ghost use Rattle.lsm_language.specs.Faults.{reason_of, unread};
 ghost use Rattle.lsm_serve.specs.Reading.{Takes, TakesLine, IsInputFault, most_kept};
 
-use lsm_device::Refusal;
 use lsm_language::Fault;
 use std::alloc::{AllocError, Global};
 use std::io::{ErrorKind, Read};
@@ -25,7 +24,7 @@ pub enum Taken {
 
 /// Reads the next line of an input in the place of the one before it, without its newline, which may be missing after the
 /// last. Of a line that is too long one byte more than the most is kept, and the rest is passed over. It tells whether there
-/// is a line.
+/// is a line. An input of which 2^64 - 1 reads don't end a line can't be read.
 pub(crate) fn next_line<I: Read>(input: &mut I, line: &mut Vec<u8>) -> Result<bool, Fault>
     ensures line { IfOk result (λ found. TakesLine (I.remaining input.old) found line.new.items (I.remaining input.new)) }
     ensures fails { IfErr result (λ e. IsInputFault (reason_of e)) }
@@ -39,7 +38,7 @@ pub(crate) fn next_line<I: Read>(input: &mut I, line: &mut Vec<u8>) -> Result<bo
             Taken::Nothing => {}
         }
     }
-    Err(Fault::Refused(Refusal::Exhausted))
+    Err(Fault::Input(ErrorKind::Interrupted.into()))
 }
 
 fn next_byte<I: Read>(input: &mut I) -> Result<Taken, Fault>

@@ -21,7 +21,8 @@ use std::thread::Threads;
 /// Answers the lines of an input, each before the next one is read, and syncs the store at the end of the input, unless it is stopped.
 /// What is refused is an answer, and so is what is wrong with a line.
 ///
-/// It ends before where the input can't be read, an answer can't be written, or there is no memory for one.
+/// It ends before where the input can't be read, an answer can't be written, there is no memory for a line or for the text of an answer,
+/// or the lines are more than have a number below 2^64 - 1.
 pub fn serve<R: Threads + Sync, D: Device, I: Read, O: Write>(
     rt: &R,
     alloc: Global,

@@ -8,12 +8,14 @@ returns-then-lacks_room-clause-makes g c = commits-lacking c.args.puts (call_of 
 
 pub returns-then-is_log_full-clause-makes : goal.returns-then-is_log_full-clause-makes
 returns-then-is_log_full-clause-makes g c =
-    commits-behind c.args.puts (call_of c.args.call.now) (reply_of c.serve-reply.result) (reply_of c.commit_behind.result) c.args.store.now c.ease.new.store c.serve-reply.new.store c.commit_behind.new.store c.ease.ensures
+    commits-behind c.args.puts (call_of c.args.call.now) c.args.store.now c.ease.new.store c.ease.ensures (sym c.lacks_room.ensures ∙ c.if-lacks_room.false)
+    (reply_of c.serve-reply.result) (reply_of c.commit_behind.result) c.serve-reply.new.store c.commit_behind.new.store
     (serves_told c.serve-reply.result (call_of c.args.call.now) c.ease.new.store c.serve-reply.new.store c.serve-reply.ensures.told c.serve-reply.ensures.serves)
     (sym c.is_log_full.ensures ∙ c.if-is_log_full.true) c.commit_behind.ensures.makes
 
 pub returns-clause-makes : goal.returns-clause-makes
 returns-clause-makes g c =
-    commits-plainly c.args.puts (call_of c.args.call.now) (reply_of c.serve-reply.result) c.args.store.now c.ease.new.store c.serve-reply.new.store c.ease.ensures (sym c.lacks_room.ensures ∙ c.if-lacks_room.false)
+    commits-plainly c.args.puts (call_of c.args.call.now) c.args.store.now c.ease.new.store c.ease.ensures (sym c.lacks_room.ensures ∙ c.if-lacks_room.false)
+    (reply_of c.serve-reply.result) c.serve-reply.new.store
     (serves_told c.serve-reply.result (call_of c.args.call.now) c.ease.new.store c.serve-reply.new.store c.serve-reply.ensures.told c.serve-reply.ensures.serves)
     (sym c.is_log_full.ensures ∙ c.if-is_log_full.false)

@@ -8,5 +8,5 @@ returns-then-lacks_room-clause-makes g c = behind-lacks c.args.puts (call_of c.a
 
 pub returns-clause-makes : goal.returns-clause-makes
 returns-clause-makes g c =
-    behind-serves c.args.puts (call_of c.args.call.now) (reply_of c.serve.result) c.args.store.now c.make_room.new.store c.serve.new.store c.make_room.ensures (sym c.lacks_room.ensures ∙ c.if-lacks_room.false)
+    behind-serves c.args.puts (call_of c.args.call.now) c.args.store.now c.make_room.new.store c.make_room.ensures (reply_of c.serve.result) c.serve.new.store (sym c.lacks_room.ensures ∙ c.if-lacks_room.false)
     (serves_told c.serve.result (call_of c.args.call.now) c.make_room.new.store c.serve.new.store c.serve.ensures.told c.serve.ensures.serves)

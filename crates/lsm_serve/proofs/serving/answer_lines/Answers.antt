@@ -1,7 +1,7 @@
-use Rattle.std.proofs.Common.{inr, refl}
+use Rattle.std.proofs.Common.{arith, refl}
 use Rattle.std.proofs.lemmas.Result.{err_from_is_err_and}
 use Rattle.lsm_serve.proofs.AnsweringLaws.{answers_read}
-use Rattle.lsm_serve.proofs.ServingLaws.{serving-begins, serving-ends, serving-fails, serving-more, serving-untold}
+use Rattle.lsm_serve.proofs.ServingLaws.{serving-begins, serving-ends, serving-exhausts, serving-fails, serving-more, serving-untold}
 use Rattle.lsm_serve.proofs.serving.answer_lines.Goals as goal
 
 pub loop-number-init : goal.loop-number-init
@@ -25,4 +25,4 @@ loop-number-preserved g c =
     serving-more _ _ _ _ _ _ _ _ _ _ _ _ _ _ refl c.if-not-branch.false c.loop-number.invariant c.in_ok-next_line.ensures.line (answers_read _ _ _ _ _ c.deref.ensures.value c.answer_line-answer.ensures.answers) c.in_ok-tell.ensures
 
 pub returns : goal.returns
-returns g c = serving-fails _ _ _ _ _ _ _ _ c.loop-number.invariant (inr (inr refl))
+returns g c = serving-exhausts _ _ _ _ _ _ _ _ c.loop-number.invariant refl (omega (arith, c.loop-number-test.false, c.loop-number.auto.number-end))
