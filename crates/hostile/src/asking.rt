@@ -1,10 +1,10 @@
 //! Steps as values of a session or a replay, and what these reply.
 
-use crate::step::{Answer, Change, Step};
 use crate::subject::{batch_of, told_page, value_of};
 use lsm_device::Refusal;
 use lsm_lives::{Call, Reply, Work};
 use lsm_store::At;
+use plain_machine::{Answer, Change, Step};
 use std::alloc::Allocator;
 
 fn commit_of<A: Allocator + Clone>(alloc: &A, change: Change) -> Result<Call<A>, Refusal> {

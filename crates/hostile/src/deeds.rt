@@ -3,8 +3,8 @@
 use crate::lists::Line;
 use crate::scripts::{BATCHES, FOUR_RUNS};
 use crate::session::Sizes;
-use crate::step::{Change, Step};
 use lsm_store::At;
+use plain_machine::{Change, Step};
 
 /// What a client does.
 #[derive(Clone, Copy)]

@@ -1,10 +1,10 @@
 //! The entries that a session's trail is to have.
 
 use crate::asking::told_step;
-use crate::step::{Answer, Step};
 use lsm_device::Refusal;
 use lsm_lives::{Call, Step as Made, Work};
 use lsm_trail::{Entry, Trail};
+use plain_machine::{Answer, Step};
 use std::alloc::{Allocator, Global};
 
 /// An entry: who made the step, and what the trail is to tell of its reply.

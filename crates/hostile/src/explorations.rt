@@ -2,15 +2,14 @@
 
 use crate::disk::SECTORS;
 use crate::lists::{Line, steps_of};
-use crate::machine::LOG_SECTORS;
 use crate::replays::asked_all;
-use crate::step::Step;
 use crate::sweeps::Extent;
 use crate::trouble::{Tally, Trouble};
 use lsm_device::Refusal;
 use lsm_lives::{Explored, Step as Asked, explore};
 use lsm_progress::Silent;
 use merge_tests::budget::Budget;
+use plain_machine::{LOG_SECTORS, Step};
 use std::alloc::{Allocator, Global};
 use std::thread::Threads;
 

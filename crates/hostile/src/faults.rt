@@ -2,13 +2,12 @@
 
 use crate::disk::{MASKS, Mask};
 use crate::lists::List;
-use crate::machine::Machine;
 use crate::playing::{Attacked, crash, is_unchanged, opened, play, prepare};
-use crate::step::{Answer, Step};
 use crate::subject::Subject;
 use crate::sweeps::Extent;
 use crate::trouble::{Tally, Trouble, agree, unrefused};
 use lsm_device::Refusal;
+use plain_machine::{Answer, Machine, Step};
 use std::alloc::Global;
 use std::thread::Threads;
 

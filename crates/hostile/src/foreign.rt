@@ -9,12 +9,12 @@ use crate::lists::{Line, steps_of};
 use crate::playing::begun;
 use crate::scripts::{CALLS, MANY_TABLES, ONE_KEY, WORK};
 use crate::spots::{Spot, byte_at, drawn_lie, drawn_spots, has_sector, set};
-use crate::step::{Answer, Step};
 use crate::subject::{Subject, open};
 use crate::trouble::{Tally, Trouble};
 use linked_list_allocator::LocalHeap;
 use lsm_check::Finding;
 use lsm_device::Refusal;
+use plain_machine::{Answer, Step};
 use std::alloc::{Allocator, Global};
 use std::thread::Threads;
 

@@ -2,14 +2,13 @@
 
 use crate::disk::MASKS;
 use crate::lists::{List, drawn};
-use crate::machine::Machine;
 use crate::playing::{Attacked, begun, crash, is_unchanged, opened, play, prepare};
-use crate::step::{Answer, Step};
 use crate::subject::Subject;
 use crate::sweeps::Extent;
 use crate::trouble::{Tally, Trouble, agree, unrefused};
 use lsm_device::Refusal;
 use merge_tests::budget::Budget;
+use plain_machine::{Answer, Machine, Step};
 use std::alloc::Global;
 use std::thread::Threads;
 

@@ -1,14 +1,12 @@
 //! What the clients of a session are to be told, by a plain machine beside it.
 
 use crate::entries::{Entries, is_entered};
-use crate::machine::Machine;
 use crate::session::{Brought, Turned};
-use crate::step::{Answer, Step};
 use crate::trouble::{Trouble, agree, unrefused};
-use crate::turns::PARTS;
 use lsm_device::Refusal;
 use lsm_trail::{Numbers, Trail};
 use merge_tests::budget::Budget;
+use plain_machine::{Answer, Machine, PARTS, Step};
 use std::alloc::{Allocator, Global};
 
 /// The number of the snapshot that a session pins, the first behind an opening.

@@ -1,9 +1,9 @@
 //! Lists of steps.
 
 use crate::draws::Draws;
-use crate::step::{Change, Step};
 use lsm_device::Refusal;
 use lsm_store::At;
+use plain_machine::{Change, Step};
 use std::alloc::Global;
 
 /// One or more steps.

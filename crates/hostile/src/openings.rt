@@ -3,13 +3,13 @@
 use crate::checks;
 use crate::disk::{Disk, MASKS, Mask};
 use crate::lists::List;
-use crate::machine::Machine;
 use crate::playing::{Beginning, begin, find, has_map};
 use crate::subject::{Subject, open};
 use crate::sweeps::Extent;
 use crate::trouble::{Tally, Trouble};
 use lsm_device::Refusal;
 use merge_tests::budget::Budget;
+use plain_machine::Machine;
 use std::alloc::{Allocator, Global};
 use std::thread::Threads;
 

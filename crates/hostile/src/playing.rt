@@ -4,11 +4,10 @@ use crate::disk::{Disk, Mask, formatted};
 use crate::image::Image;
 use crate::layout::spread;
 use crate::lists::{After, Line, List, steps_of};
-use crate::machine::{LOG_SECTORS, Machine};
-use crate::step::{Answer, Change, Step};
 use crate::subject::{Subject, open};
 use crate::trouble::{Trouble, agree};
 use lsm_store::At;
+use plain_machine::{Answer, Change, LOG_SECTORS, Machine, Step};
 use std::alloc::{Allocator, Global};
 use std::thread::Threads;
 
@@ -159,7 +158,7 @@ pub(crate) fn has_map<A: Allocator + Clone, B: Allocator>(
     if !machine.may_leave(count) {
         return Err(Trouble::Count(count));
     }
-    let wanted = machine.rows_after(count)?;
+    let wanted = machine.rows_after(count);
     match subject.answer_alone(Step::Scan(At::Now, 0, 64)) {
         Answer::Rows(found) if found == wanted => Ok(()),
         _ => Err(Trouble::Map(count)),

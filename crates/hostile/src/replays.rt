@@ -3,15 +3,14 @@
 use crate::asking::{call_of, told_step, work_of};
 use crate::disk::{MASKS, Mask};
 use crate::lists::List;
-use crate::machine::Machine;
 use crate::playing::{Attacked, crash, is_unchanged, opened, play, prepare};
-use crate::step::{Answer, Step};
 use crate::subject::Subject;
 use crate::sweeps::Extent;
 use crate::trouble::{Tally, Trouble, agree, unrefused};
 use lsm_device::Refusal;
 use lsm_lives::{Reply, Step as Asked};
 use merge_tests::budget::Budget;
+use plain_machine::{Answer, Machine, Step};
 use std::alloc::{Allocator, Global};
 use std::thread::Threads;
 

@@ -1,8 +1,8 @@
 //! The lists of steps that are attacked, and those that make images.
 
 use crate::lists::{After, Line, List};
-use crate::step::{Change, Step};
 use lsm_store::At;
+use plain_machine::{Change, Step};
 
 /// Four runs of level 0, of which the merge of the oldest comes next.
 pub(crate) const FOUR_RUNS: [Line; 4] = [

@@ -5,14 +5,13 @@ ghost use Rattle.std.specs.Arc.{arc_value};
 ghost use Rattle.lsm_shared.specs.Turns.{WasLent};
 
 use crate::asking::{call_of, told_call, told_work};
-use crate::step::{Answer, Step};
 use crate::subject::Subject;
-use crate::turns::PARTS;
 use lsm_device::{MemDevice, Refusal};
 use lsm_lives::Reply;
 use lsm_merge::{Input, build};
 use lsm_shared::{Client, Shared, Turn, prepare};
 use lsm_trail::{Numbers, Opened, SessionName, Trail};
+use plain_machine::{Answer, PARTS, Step};
 use std::alloc::Allocator;
 use std::sync::{Arc, Wait};
 use std::thread::Threads;

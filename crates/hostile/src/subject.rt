@@ -1,12 +1,12 @@
 //! A store on a device in memory, whose calls tell the prover nothing.
 
 use crate::disk::Disk;
-use crate::step::{Answer, Change, Operation, RowsTold, Step, Value, told};
 use lsm_codec::{Batch, Op};
 use lsm_device::{MemDevice, Refusal};
 use lsm_lives::{Reply, Step as Asked, replay};
 use lsm_merge::{Built, Input, build};
 use lsm_store::{At, Page, Store};
+use plain_machine::{Answer, Change, Operation, RowsTold, Step, Value, told};
 use std::alloc::{AllocError, Allocator, Global};
 use std::sync::Arc;
 use std::thread::Threads;

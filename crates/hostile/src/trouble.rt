@@ -1,7 +1,7 @@
 //! How a store differs from what it should do, and how much was tried.
 
-use crate::step::{Answer, Step};
 use lsm_device::Refusal;
+use plain_machine::{Answer, Step};
 use std::alloc::{AllocError, AllocFailed};
 
 /// How a store differs.

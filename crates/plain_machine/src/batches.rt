@@ -3,7 +3,9 @@
 use crate::step::{Change, Operation, RowsTold, Value};
 use lsm_device::Refusal;
 use std::alloc::Global;
-use std::collections::BTreeMap;
+
+/// The value of each key, if it has one.
+pub(crate) type Map = [Option<Value>; 256];
 
 /// A snapshot: how many batches its map has.
 #[derive(Clone, Copy)]
@@ -14,7 +16,7 @@ struct Mark {
 
 /// Batches in their order, how many are synced, and the snapshots that live.
 #[derive(Drop)]
-pub(crate) struct Ladder {
+pub(crate) struct Batches {
     changes: Vec<Change>,
     pub(crate) synced: u64,
     marks: Vec<Mark>,
@@ -45,43 +47,53 @@ pub(crate) fn sectors_of(change: Change) -> u32 {
 }
 
 /// Makes the operations of a batch, one after another.
-fn apply(map: &mut BTreeMap<u8, Value>, change: Change) -> Result<(), Refusal> {
+fn apply(map: &mut Map, change: Change) {
     for place in 0..=u8::MAX {
         let Some(operation) = change.operation(place) else {
-            return Ok(());
+            return;
         };
-        match operation.value {
-            Some(value) => {
-                map.insert(operation.key, value)?;
-            }
-            None => {
-                map.remove(&operation.key);
-            }
+        if let Some(value) = map.get_mut(usize::from(operation.key)) {
+            *value = operation.value;
         }
     }
-    Ok(())
+}
+
+/// The value of a key.
+pub(crate) fn value_in(map: &Map, key: u8) -> Option<Value> {
+    match map.get(usize::from(key)) {
+        Some(value) => *value,
+        None => None,
+    }
 }
 
 /// The first so many pairs of a map from a key on, and the key of the next.
-pub(crate) fn rows_of(map: &BTreeMap<u8, Value>, from: u8, limit: u64) -> RowsTold {
+pub(crate) fn rows_of(map: &Map, from: u8, limit: u64) -> RowsTold {
     let mut rows = RowsTold::NONE;
-    for (key, value) in map.iter() {
-        if *key < from {
+    for key in from..=u8::MAX {
+        let Some(value) = value_in(map, key) else {
             continue;
-        }
+        };
         if rows.count as u64 == limit {
-            rows.next = Some(*key);
+            rows.next = Some(key);
             return rows;
         }
-        rows = rows.and(*key, *value);
+        rows = rows.and(key, value);
     }
     rows
 }
 
-impl Ladder {
+/// Adds a count behind others, the last of which it may be.
+fn add_cut(cuts: &mut Vec<u64>, count: u64) -> Result<(), Refusal> {
+    match cuts.last() {
+        Some(last) if *last == count => Ok(()),
+        _ => Ok(cuts.push(count)?),
+    }
+}
+
+impl Batches {
     /// No batch, and no snapshot.
-    pub(crate) fn new(alloc: Global) -> Ladder {
-        Ladder {
+    pub(crate) fn new(alloc: Global) -> Batches {
+        Batches {
             changes: Vec::new(alloc),
             synced: 0,
             marks: Vec::new(alloc),
@@ -89,8 +101,8 @@ impl Ladder {
         }
     }
 
-    pub(crate) fn copy(&self, alloc: Global) -> Result<Ladder, Refusal> {
-        Ok(Ladder {
+    pub(crate) fn copy(&self, alloc: Global) -> Result<Batches, Refusal> {
+        Ok(Batches {
             changes: Vec::from_slice(alloc, &self.changes)?,
             synced: self.synced,
             marks: Vec::from_slice(alloc, &self.marks)?,
@@ -128,12 +140,12 @@ impl Ladder {
     }
 
     /// The map after so many batches.
-    pub(crate) fn map(&self, alloc: Global, count: u64) -> Result<BTreeMap<u8, Value>, Refusal> {
-        let mut map = BTreeMap::new(alloc);
+    pub(crate) fn map(&self, count: u64) -> Map {
+        let mut map = [None; 256];
         for change in self.changes.iter().take(count as usize) {
-            apply(&mut map, *change)?;
+            apply(&mut map, *change);
         }
-        Ok(map)
+        map
     }
 
     /// Takes a snapshot, and answers its number.
@@ -181,14 +193,9 @@ impl Ladder {
     pub(crate) fn cuts(&self, alloc: Global) -> Result<Vec<u64>, Refusal> {
         let mut cuts = Vec::new(alloc);
         for mark in self.marks.iter() {
-            if cuts.last() != Some(&mark.count) {
-                cuts.push(mark.count)?;
-            }
+            add_cut(&mut cuts, mark.count)?;
         }
-        let count = self.count();
-        if cuts.last() != Some(&count) {
-            cuts.push(count)?;
-        }
+        add_cut(&mut cuts, self.count())?;
         Ok(cuts)
     }
 }

@@ -5,21 +5,21 @@ use lsm_store::{At, Stat};
 
 /// A value: so many equal bytes.
 #[derive(Clone, Copy, Debug, PartialEq, Eq)]
-pub(crate) struct Value {
-    pub(crate) byte: u8,
-    pub(crate) length: u16,
+pub struct Value {
+    pub byte: u8,
+    pub length: u16,
 }
 
 /// A key, and the value that it gets, or none where it is deleted.
 #[derive(Clone, Copy)]
-pub(crate) struct Operation {
-    pub(crate) key: u8,
-    pub(crate) value: Option<Value>,
+pub struct Operation {
+    pub key: u8,
+    pub value: Option<Value>,
 }
 
 /// What a batch does.
 #[derive(Clone, Copy, Debug)]
-pub(crate) enum Change {
+pub enum Change {
     /// Gives a key a value of so many equal bytes.
     Put(u8, u8, u16),
     Delete(u8),
@@ -63,7 +63,7 @@ fn of_filling(place: u8) -> Option<Operation> {
 
 impl Change {
     /// The operation at a place, counted from 0.
-    pub(crate) fn operation(self, place: u8) -> Option<Operation> {
+    pub fn operation(self, place: u8) -> Option<Operation> {
         match self {
             Change::Put(key, byte, length) if place == 0 => put(key, byte, length),
             Change::Delete(key) if place == 0 => Some(Operation { key, value: None }),
@@ -76,7 +76,7 @@ impl Change {
 
 /// A call of a store, or a piece of work on a job of it.
 #[derive(Clone, Copy, Debug)]
-pub(crate) enum Step {
+pub enum Step {
     Commit(Change),
     Sync,
     SyncTo(u64),
@@ -101,22 +101,22 @@ pub(crate) enum Step {
 
 impl Step {
     /// Whether it reads the device, and makes no other call of it.
-    pub(crate) fn is_read(self) -> bool {
+    pub fn is_read(self) -> bool {
         matches!(self, Step::Get(_, _) | Step::Scan(_, _, _) | Step::Read(_))
     }
 }
 
 /// The rows of a page, as two pages that differ tell apart: their number, and one number of all their bytes.
 #[derive(Clone, Copy, Debug, PartialEq, Eq)]
-pub(crate) struct RowsTold {
-    pub(crate) count: usize,
-    pub(crate) mixed: u64,
-    pub(crate) next: Option<u8>,
+pub struct RowsTold {
+    pub count: usize,
+    pub mixed: u64,
+    pub next: Option<u8>,
 }
 
 /// What is answered to a step.
 #[derive(Clone, Copy, Debug, PartialEq, Eq)]
-pub(crate) enum Answer {
+pub enum Answer {
     Done,
     /// Of a batch, a snapshot, or sectors.
     Number(u64),
@@ -141,14 +141,14 @@ fn mix(number: u64, next: u64) -> u64 {
 
 impl RowsTold {
     /// No row.
-    pub(crate) const NONE: RowsTold = RowsTold {
+    pub const NONE: RowsTold = RowsTold {
         count: 0,
         mixed: 0xcbf2_9ce4_8422_2325,
         next: None,
     };
 
     /// With one row more.
-    pub(crate) fn and(self, key: u8, value: Value) -> RowsTold {
+    pub fn and(self, key: u8, value: Value) -> RowsTold {
         let mixed = mix(self.mixed, u64::from(key));
         let mixed = mix(mixed, u64::from(value.byte));
         RowsTold {
@@ -159,8 +159,8 @@ impl RowsTold {
     }
 }
 
-/// The answer of a call that answers nothing.
-pub(crate) fn told(answer: Result<Answer, Refusal>) -> Answer {
+/// What a call answered, or its refusal.
+pub fn told(answer: Result<Answer, Refusal>) -> Answer {
     match answer {
         Ok(answer) => answer,
         Err(refusal) => Answer::Refused(refusal),

@@ -4,7 +4,7 @@ use crate::step::Step;
 use crate::working::{Job, Stage, Working};
 
 /// In how many parts a session's results are built.
-pub(crate) const PARTS: u8 = 2;
+pub const PARTS: u8 = 2;
 
 /// What a job waits for.
 fn piece_of(job: Job) -> Step {

@@ -1,7 +1,7 @@
 //! Tables and jobs of a plain machine.
 
+use crate::batches::Batches;
 use crate::keeping::{Input, Version, versions_of};
-use crate::ladder::Ladder;
 use crate::step::Answer;
 use crate::table::{Hull, Table};
 use lsm_device::Refusal;
@@ -351,8 +351,8 @@ impl Working {
         })
     }
 
-    fn flush(&mut self, alloc: Global, ladder: &Ladder) -> Result<Job, Refusal> {
-        let versions = versions_of(alloc, ladder, self.base, self.sealed_to)?;
+    fn flush(&mut self, alloc: Global, batches: &Batches) -> Result<Job, Refusal> {
+        let versions = versions_of(alloc, batches, self.base, self.sealed_to)?;
         add_all(&mut self.inputs, self.next_job, &versions)?;
         Ok(Job {
             number: self.next_job,
@@ -364,8 +364,8 @@ impl Working {
         })
     }
 
-    fn add_cuts(&mut self, alloc: Global, ladder: &Ladder) -> Result<(), Refusal> {
-        let cuts = ladder.cuts(alloc)?;
+    fn add_cuts(&mut self, alloc: Global, batches: &Batches) -> Result<(), Refusal> {
+        let cuts = batches.cuts(alloc)?;
         for cut in cuts.iter() {
             self.cuts.push(Share {
                 job: self.next_job,
@@ -376,15 +376,15 @@ impl Working {
     }
 
     /// Takes the job that comes next, if one does.
-    pub(crate) fn take(&mut self, alloc: Global, ladder: &Ladder) -> Result<Answer, Refusal> {
+    pub(crate) fn take(&mut self, alloc: Global, batches: &Batches) -> Result<Answer, Refusal> {
         let Some(next) = self.next() else {
             return Ok(Answer::Taken(None));
         };
         let job = match next {
-            Next::Flush => self.flush(alloc, ladder)?,
+            Next::Flush => self.flush(alloc, batches)?,
             Next::Merge(upper) => self.merge(alloc, upper)?,
         };
-        self.add_cuts(alloc, ladder)?;
+        self.add_cuts(alloc, batches)?;
         self.jobs.push(job)?;
         self.next_job = self.next_job.wrapping_add(1);
         Ok(Answer::Taken(Some((job.number, job.level))))

@@ -1,6 +1,6 @@
 //! What a merge of a plain machine keeps.
 
-use crate::ladder::Ladder;
+use crate::batches::Batches;
 use crate::step::Value;
 use lsm_device::Refusal;
 use std::alloc::Global;
@@ -118,8 +118,8 @@ fn insert(versions: &mut Vec<Version>, version: Version) -> Result<(), Refusal> 
 }
 
 /// Adds the versions that one batch made: of each key its last operation.
-fn add_batch(versions: &mut Vec<Version>, ladder: &Ladder, number: u64) -> Result<(), Refusal> {
-    let Some(change) = ladder.batch(number) else {
+fn add_batch(versions: &mut Vec<Version>, batches: &Batches, number: u64) -> Result<(), Refusal> {
+    let Some(change) = batches.batch(number) else {
         return Ok(());
     };
     for place in 0..=u8::MAX {
@@ -139,13 +139,13 @@ fn add_batch(versions: &mut Vec<Version>, ladder: &Ladder, number: u64) -> Resul
 /// The versions that the batches above one number and up to another made.
 pub(crate) fn versions_of(
     alloc: Global,
-    ladder: &Ladder,
+    batches: &Batches,
     above: u64,
     to: u64,
 ) -> Result<Vec<Version>, Refusal> {
     let mut versions = Vec::new(alloc);
     for number in above..to {
-        add_batch(&mut versions, ladder, number.wrapping_add(1))?;
+        add_batch(&mut versions, batches, number.wrapping_add(1))?;
     }
     Ok(versions)
 }

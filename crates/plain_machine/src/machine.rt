@@ -1,16 +1,15 @@
-//! A plain machine, which answers as a store should: an ordered map with copied snapshots, a log, tables and jobs.
+//! The machine: what it answers, and what a crash may leave of it.
 
-use crate::ladder::{Ladder, rows_of, sectors_of};
-use crate::step::{Answer, Change, RowsTold, Step, Value, told};
+use crate::batches::{Batches, Map, rows_of, sectors_of, value_in};
+use crate::step::{Answer, Change, RowsTold, Step, told};
 use crate::turns::piece_in;
 use crate::working::{MOST_JOBS, Working};
 use lsm_device::Refusal;
 use lsm_store::{At, Stat};
 use std::alloc::Global;
-use std::collections::BTreeMap;
 
 /// The sectors of a log region.
-pub(crate) const LOG_SECTORS: u16 = 128;
+pub const LOG_SECTORS: u16 = 128;
 
 /// The blocks of the data area of a device of 8,192 sectors.
 const BLOCKS: u64 = 959;
@@ -26,9 +25,9 @@ struct Log {
 }
 
 /// A store as it is told of.
-pub(crate) struct Machine {
+pub struct Machine {
     alloc: Global,
-    ladder: Ladder,
+    batches: Batches,
     working: Working,
     log: Option<Log>,
     /// How many closed regions hold batches that are in no table.
@@ -41,7 +40,7 @@ impl Drop for Machine {
     fn drop(self) {
         let Machine {
             alloc: _,
-            ladder: _,
+            batches: _,
             working: _,
             log: _,
             closed: _,
@@ -53,10 +52,10 @@ impl Drop for Machine {
 
 impl Machine {
     /// The store that the first opening finds on a formatted device.
-    pub(crate) fn new(alloc: Global) -> Machine {
+    pub fn new(alloc: Global) -> Machine {
         Machine {
             alloc,
-            ladder: Ladder::new(alloc),
+            batches: Batches::new(alloc),
             working: Working::new(alloc),
             log: Some(Log { first: 1, used: 0 }),
             closed: 0,
@@ -74,10 +73,10 @@ impl Machine {
     }
 
     /// The store that an opening finds where nothing was lost.
-    pub(crate) fn reopened(&self) -> Result<Machine, Refusal> {
-        let count = self.ladder.count();
-        let mut ladder = self.ladder.copy(self.alloc)?;
-        ladder.keep(count);
+    pub fn reopened(&self) -> Result<Machine, Refusal> {
+        let count = self.batches.count();
+        let mut batches = self.batches.copy(self.alloc)?;
+        batches.keep(count);
         let closed = self.closed_after(count);
         let first = count.wrapping_add(1);
         let log = if closed < REGIONS {
@@ -87,7 +86,7 @@ impl Machine {
         };
         Ok(Machine {
             alloc: self.alloc,
-            ladder,
+            batches,
             working: self.working.reopened(self.alloc, count)?,
             log,
             closed,
@@ -97,13 +96,13 @@ impl Machine {
     }
 
     /// The tables of level 0 are spread over all levels.
-    pub(crate) fn spread(&mut self) {
+    pub fn spread(&mut self) {
         self.working.spread();
     }
 
     /// How many batches there are, and how many of them are synced.
-    pub(crate) fn counts(&self) -> (u64, u64) {
-        (self.ladder.count(), self.ladder.synced)
+    pub fn counts(&self) -> (u64, u64) {
+        (self.batches.count(), self.batches.synced)
     }
 
     fn commit(&mut self, change: Change) -> Result<Answer, Refusal> {
@@ -116,31 +115,31 @@ impl Machine {
         }
         let first = log.first;
         self.log = Some(Log { first, used });
-        Ok(Answer::Number(self.ladder.add(change)?))
+        Ok(Answer::Number(self.batches.add(change)?))
     }
 
     fn sync_to(&mut self, number: u64) -> Result<Answer, Refusal> {
-        if number > self.ladder.count() {
+        if number > self.batches.count() {
             return Err(Refusal::NoSuchBatch);
         }
-        if number > self.ladder.synced {
-            self.ladder.sync();
+        if number > self.batches.synced {
+            self.batches.sync();
         }
         Ok(Answer::Done)
     }
 
     /// The map that is asked.
-    fn map(&self, at: At) -> Result<BTreeMap<u8, Value>, Refusal> {
+    fn map(&self, at: At) -> Result<Map, Refusal> {
         let count = match at {
-            At::Now => self.ladder.count(),
-            At::Snap(number) => self.ladder.count_at(number)?,
+            At::Now => self.batches.count(),
+            At::Snap(number) => self.batches.count_at(number)?,
         };
-        self.ladder.map(self.alloc, count)
+        Ok(self.batches.map(count))
     }
 
     fn get(&self, at: At, key: u8) -> Result<Answer, Refusal> {
         let map = self.map(at)?;
-        Ok(Answer::Found(map.get(&key).copied()))
+        Ok(Answer::Found(value_in(&map, key)))
     }
 
     fn scan(&self, at: At, from: u8, limit: u64) -> Result<Answer, Refusal> {
@@ -152,14 +151,14 @@ impl Machine {
     }
 
     fn release(&mut self, number: u64) -> Result<Answer, Refusal> {
-        self.ladder.release(number)?;
+        self.batches.release(number)?;
         Ok(Answer::Done)
     }
 
     /// A new root stands.
     fn advance(&mut self) {
         self.generation = self.generation.wrapping_add(1);
-        self.ladder.sync();
+        self.batches.sync();
     }
 
     fn rotate(&mut self) -> Result<Answer, Refusal> {
@@ -172,7 +171,7 @@ impl Machine {
             }
             self.closed = 1;
         }
-        let count = self.ladder.count();
+        let count = self.batches.count();
         self.working.sealed_to = count;
         let first = count.wrapping_add(1);
         self.log = Some(Log { first, used: 0 });
@@ -191,7 +190,7 @@ impl Machine {
         let free = BLOCKS.saturating_sub(self.working.blocks());
         Stat {
             generation: self.generation,
-            batches: self.ladder.count(),
+            batches: self.batches.count(),
             room: self.room(),
             waiting: self.closed > 0,
             runs: self.working.runs(),
@@ -212,13 +211,13 @@ impl Machine {
         match step {
             Step::Commit(change) => self.commit(change),
             Step::Sync => {
-                self.ladder.sync();
+                self.batches.sync();
                 Ok(Answer::Done)
             }
             Step::SyncTo(number) => self.sync_to(number),
             Step::Get(at, key) => self.get(at, key),
             Step::Scan(at, from, limit) => self.scan(at, from, limit),
-            Step::Snapshot => Ok(Answer::Number(self.ladder.mark()?)),
+            Step::Snapshot => Ok(Answer::Number(self.batches.mark()?)),
             Step::Release(number) => self.release(number),
             Step::Rotate => self.rotate(),
             Step::Room => Ok(Answer::Number(self.room().into())),
@@ -229,7 +228,7 @@ impl Machine {
 
     fn work(&mut self, step: Step) -> Result<Answer, Refusal> {
         match step {
-            Step::Take => self.working.take(self.alloc, &self.ladder),
+            Step::Take => self.working.take(self.alloc, &self.batches),
             Step::Read(job) => self.working.read(job),
             Step::Build(job, _) => self.working.build(self.alloc, job),
             Step::Accept(job) => self.working.accept(self.alloc, job),
@@ -241,7 +240,7 @@ impl Machine {
     }
 
     /// Makes a step, and answers it.
-    pub(crate) fn answer(&mut self, step: Step) -> Answer {
+    pub fn answer(&mut self, step: Step) -> Answer {
         if matches!(step, Step::Accept(_)) && !self.working.has_result() {
             return Answer::NoResult;
         }
@@ -253,16 +252,16 @@ impl Machine {
 
     /// A write or a sync of a step met a fault: nothing more is known to be synced, and a commit's batch may stand or not. It
     /// answers what the step answers without the fault.
-    pub(crate) fn stop(&mut self, step: Step) -> Answer {
-        let synced = self.ladder.synced;
+    pub fn stop(&mut self, step: Step) -> Answer {
+        let synced = self.batches.synced;
         let answer = self.answer(step);
-        self.ladder.synced = synced;
+        self.batches.synced = synced;
         self.stopped = true;
         answer
     }
 
     /// What is answered to an accept for a job of a result that was not built.
-    pub(crate) fn foreign(&self, job: u64) -> Answer {
+    pub fn foreign(&self, job: u64) -> Answer {
         if self.stopped {
             return Answer::Refused(Refusal::Stopped);
         }
@@ -270,12 +269,12 @@ impl Machine {
     }
 
     /// Whether a write or a sync met a fault.
-    pub(crate) fn is_stopped(&self) -> bool {
+    pub fn is_stopped(&self) -> bool {
         self.stopped
     }
 
     /// The piece of work that comes next for a client, which asks the four slots in turn, from that of its number on.
-    pub(crate) fn turn_of(&self, client: u32) -> Option<Step> {
+    pub fn turn_of(&self, client: u32) -> Option<Step> {
         if self.stopped {
             return None;
         }
@@ -290,13 +289,12 @@ impl Machine {
     }
 
     /// Whether a crash may leave so many batches: all that are synced, and no more than there are.
-    pub(crate) fn may_leave(&self, count: u64) -> bool {
-        self.ladder.synced <= count && count <= self.ladder.count()
+    pub fn may_leave(&self, count: u64) -> bool {
+        self.batches.synced <= count && count <= self.batches.count()
     }
 
     /// All rows of the map after so many batches.
-    pub(crate) fn rows_after(&self, count: u64) -> Result<RowsTold, Refusal> {
-        let map = self.ladder.map(self.alloc, count)?;
-        Ok(rows_of(&map, 0, 64))
+    pub fn rows_after(&self, count: u64) -> RowsTold {
+        rows_of(&self.batches.map(count), 0, 64)
     }
 }
