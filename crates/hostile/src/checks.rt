@@ -1,10 +1,11 @@
 //! Checks of which one call fails, or a growth is refused, each in turn.
 
-use crate::disk::Disk;
 use crate::openings::MOST;
-use crate::playing::Beginning;
 use crate::sweeps::Extent;
-use crate::trouble::{Tally, Trouble};
+use crate::tally::Tally;
+use compared_steps::beginnings::Beginning;
+use compared_steps::disk::Disk;
+use compared_steps::trouble::Trouble;
 use lsm_check::{Finding, Report, check};
 use lsm_device::Refusal;
 use merge_tests::budget::Budget;

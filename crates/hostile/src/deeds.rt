@@ -1,8 +1,8 @@
 //! Lists of what the clients of a session do.
 
-use crate::lists::Line;
 use crate::scripts::{BATCHES, FOUR_RUNS};
 use crate::session::Sizes;
+use compared_steps::lists::Line;
 use lsm_store::At;
 use plain_machine::{Change, Step};
 

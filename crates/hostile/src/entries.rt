@@ -1,6 +1,6 @@
 //! The entries that a session's trail is to have.
 
-use crate::asking::told_step;
+use compared_steps::asking::told_step;
 use lsm_device::Refusal;
 use lsm_lives::{Call, Step as Made, Work};
 use lsm_trail::{Entry, Trail};

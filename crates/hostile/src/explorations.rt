@@ -1,10 +1,11 @@
 //! Explorations of which a growth is refused, each in turn.
 
-use crate::disk::SECTORS;
-use crate::lists::{Line, steps_of};
-use crate::replays::asked_all;
 use crate::sweeps::Extent;
-use crate::trouble::{Tally, Trouble};
+use crate::tally::Tally;
+use compared_steps::asking::asked_all;
+use compared_steps::disk::SECTORS;
+use compared_steps::lists::{Line, steps_of};
+use compared_steps::trouble::Trouble;
 use lsm_device::Refusal;
 use lsm_lives::{Explored, Step as Asked, explore};
 use lsm_progress::Silent;

@@ -1,11 +1,12 @@
 //! Of the calls of a device one fails, each in turn.
 
-use crate::disk::{MASKS, Mask};
-use crate::lists::List;
-use crate::playing::{Attacked, crash, is_unchanged, opened, play, prepare};
-use crate::subject::Subject;
+use crate::attacked::{Attacked, List, prepare};
 use crate::sweeps::Extent;
-use crate::trouble::{Tally, Trouble, agree, unrefused};
+use crate::tally::Tally;
+use compared_steps::disk::{MASKS, Mask};
+use compared_steps::playing::{crash, is_unchanged};
+use compared_steps::subject::Subject;
+use compared_steps::trouble::{Trouble, agree, unrefused};
 use lsm_device::Refusal;
 use plain_machine::{Answer, Machine, Step};
 use std::alloc::Global;
@@ -133,9 +134,7 @@ fn attack<R: Threads + Sync>(
     attacked: &Attacked,
     fault: Fault,
 ) -> Result<bool, Trouble> {
-    let mut machine = attacked.beginning.machine.reopened()?;
-    let mut subject = opened(&alloc, attacked.beginning.image.disk(alloc)?)?;
-    play(rt, &mut subject, &mut machine, &attacked.before)?;
+    let (mut subject, mut machine) = attacked.start(rt, &alloc)?;
     let met = make_all(rt, &mut subject, &mut machine, fault, &attacked.steps)?;
     crash(&alloc, subject, &machine, fault.mask)?;
     Ok(met)

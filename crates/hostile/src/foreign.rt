@@ -1,16 +1,17 @@
 //! Images that no store wrote: bytes of sound ones are changed.
 
 use crate::checks::checked;
-use crate::disk::Disk;
-use crate::draws::Draws;
-use crate::image::{Image, Sector};
-use crate::layout::manifest_of;
-use crate::lists::{Line, steps_of};
-use crate::playing::begun;
 use crate::scripts::{CALLS, MANY_TABLES, ONE_KEY, WORK};
 use crate::spots::{Spot, byte_at, drawn_lie, drawn_spots, has_sector, set};
-use crate::subject::{Subject, open};
-use crate::trouble::{Tally, Trouble};
+use crate::tally::Tally;
+use compared_steps::beginnings::begun;
+use compared_steps::disk::Disk;
+use compared_steps::draws::Draws;
+use compared_steps::image::{Image, Sector};
+use compared_steps::layout::manifest_of;
+use compared_steps::lists::{Line, steps_of};
+use compared_steps::subject::{Subject, open};
+use compared_steps::trouble::Trouble;
 use linked_list_allocator::LocalHeap;
 use lsm_check::Finding;
 use lsm_device::Refusal;

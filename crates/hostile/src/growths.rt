@@ -1,11 +1,14 @@
 //! Of the growths of memory one is refused, each in turn.
 
-use crate::disk::MASKS;
-use crate::lists::{List, drawn};
-use crate::playing::{Attacked, begun, crash, is_unchanged, opened, play, prepare};
-use crate::subject::Subject;
+use crate::attacked::{Attacked, List, prepare};
 use crate::sweeps::Extent;
-use crate::trouble::{Tally, Trouble, agree, unrefused};
+use crate::tally::Tally;
+use compared_steps::beginnings::begun;
+use compared_steps::disk::mask_of;
+use compared_steps::lists::drawn;
+use compared_steps::playing::{crash, is_unchanged};
+use compared_steps::subject::Subject;
+use compared_steps::trouble::{Trouble, agree, unrefused};
 use lsm_device::Refusal;
 use merge_tests::budget::Budget;
 use plain_machine::{Answer, Machine, Step};
@@ -91,9 +94,7 @@ fn attack_in<R: Threads + Sync>(
     attacked: &Attacked,
     growth: Growth,
 ) -> Result<bool, Trouble> {
-    let mut machine = attacked.beginning.machine.reopened()?;
-    let mut subject = opened(&heap, attacked.beginning.image.disk(heap)?)?;
-    play(rt, &mut subject, &mut machine, &attacked.before)?;
+    let (mut subject, mut machine) = attacked.start(rt, &heap)?;
     heap.refuse_after(growth.n);
     make_all(
         rt,
@@ -104,14 +105,7 @@ fn attack_in<R: Threads + Sync>(
     )?;
     let met = heap.has_refused();
     heap.allow(u64::MAX);
-    let [even, odd, every, none] = MASKS;
-    let mask = match growth.n % 4 {
-        0 => even,
-        1 => odd,
-        2 => every,
-        _ => none,
-    };
-    crash(&heap, subject, &machine, mask)?;
+    crash(&heap, subject, &machine, mask_of(growth.n))?;
     Ok(met)
 }
 

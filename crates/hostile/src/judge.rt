@@ -2,7 +2,7 @@
 
 use crate::entries::{Entries, is_entered};
 use crate::session::{Brought, Turned};
-use crate::trouble::{Trouble, agree, unrefused};
+use compared_steps::trouble::{Trouble, agree, unrefused};
 use lsm_device::Refusal;
 use lsm_trail::{Numbers, Trail};
 use merge_tests::budget::Budget;

@@ -2,34 +2,27 @@
 //! wrote. Its answers agree with those of a plain machine.
 #![tactic(auto)]
 
-mod asking;
+mod attacked;
 mod checks;
 mod deeds;
-mod disk;
-mod draws;
 mod entries;
 mod explorations;
 mod faults;
 mod foreign;
 mod growths;
-mod image;
 mod judge;
-mod layout;
-mod lists;
 mod openings;
-mod playing;
 mod replays;
 mod scripts;
 mod session;
 mod sessions;
 mod sitting;
 mod spots;
-mod subject;
 mod sweeps;
-mod trouble;
+mod tally;
 
 use crate::sweeps::{Extent, Found};
-use crate::trouble::Tally;
+use crate::tally::Tally;
 use anyhow::Result;
 use std::env;
 use std::process::ExitCode;

@@ -1,12 +1,14 @@
 //! Openings of which one call fails, or a growth is refused, each in turn.
 
+use crate::attacked::List;
 use crate::checks;
-use crate::disk::{Disk, MASKS, Mask};
-use crate::lists::List;
-use crate::playing::{Beginning, begin, find, has_map};
-use crate::subject::{Subject, open};
 use crate::sweeps::Extent;
-use crate::trouble::{Tally, Trouble};
+use crate::tally::Tally;
+use compared_steps::beginnings::{Beginning, begin};
+use compared_steps::disk::{Disk, MASKS, Mask};
+use compared_steps::playing::{find, has_map};
+use compared_steps::subject::{Subject, open};
+use compared_steps::trouble::Trouble;
 use lsm_device::Refusal;
 use merge_tests::budget::Budget;
 use plain_machine::Machine;
@@ -175,7 +177,7 @@ pub(crate) fn sweep<R: Threads + Sync>(
     extent: Extent,
     tally: &mut Tally,
 ) -> Result<(), Trouble> {
-    let beginning = begin(rt, alloc, list)?;
+    let beginning = begin(rt, alloc, list.past, list.after)?;
     fail_each(alloc, &beginning, extent, tally)?;
     refuse_each(alloc, &beginning, extent, tally)?;
     checks::sweep(alloc, &beginning, extent, tally)

@@ -1,12 +1,13 @@
 //! Replays of which a growth is refused, each in turn.
 
-use crate::asking::{call_of, told_step, work_of};
-use crate::disk::{MASKS, Mask};
-use crate::lists::List;
-use crate::playing::{Attacked, crash, is_unchanged, opened, play, prepare};
-use crate::subject::Subject;
+use crate::attacked::{Attacked, List, prepare};
 use crate::sweeps::Extent;
-use crate::trouble::{Tally, Trouble, agree, unrefused};
+use crate::tally::Tally;
+use compared_steps::asking::{asked_all, told_step};
+use compared_steps::disk::mask_of;
+use compared_steps::playing::{crash, is_left, is_unchanged};
+use compared_steps::subject::Subject;
+use compared_steps::trouble::{Trouble, agree, unrefused};
 use lsm_device::Refusal;
 use lsm_lives::{Reply, Step as Asked};
 use merge_tests::budget::Budget;
@@ -16,32 +17,6 @@ use std::thread::Threads;
 
 /// More growths than any replay has.
 const MOST: u64 = 100_000;
-
-/// A step as a value. An accept takes the result of a number.
-fn asked_of<A: Allocator + Clone>(alloc: &A, step: Step, number: u64) -> Result<Asked<A>, Refusal> {
-    match work_of(step, number) {
-        Some(work) => Ok(Asked::Work(work)),
-        None => Ok(Asked::Call(call_of(alloc, step)?)),
-    }
-}
-
-/// The steps of a replay: all but those that ask for the numbers of a store. An accept takes the result of the build before it.
-pub(crate) fn asked_all<A: Allocator + Clone>(
-    alloc: &A,
-    steps: &[Step],
-) -> Result<Vec<Asked<A>, A>, Refusal> {
-    let mut asked = Vec::new(alloc.clone()?);
-    let mut builds = 0_u64;
-    for step in steps {
-        if is_build(*step) {
-            builds = builds.wrapping_add(1);
-        }
-        if !matches!(*step, Step::Stat) {
-            asked.push(asked_of(alloc, *step, builds)?)?;
-        }
-    }
-    Ok(asked)
-}
 
 fn is_build(step: Step) -> bool {
     matches!(step, Step::Build(_, _))
@@ -167,28 +142,6 @@ fn replay<'h, R: Threads + Sync>(
     }
 }
 
-/// The crash behind the growth of a number.
-pub(crate) fn mask_of(n: u64) -> Mask {
-    let [none, all, even, odd] = MASKS;
-    match n % 4 {
-        0 => none,
-        1 => all,
-        2 => even,
-        _ => odd,
-    }
-}
-
-/// Whether a store is in the state of the machine, unless it is stopped.
-pub(crate) fn is_left<A: Allocator + Clone, B: Allocator>(
-    subject: &mut Subject<A, B>,
-    machine: &mut Machine,
-) -> Result<(), Trouble> {
-    if machine.is_stopped() {
-        return Ok(());
-    }
-    is_unchanged(subject, machine)
-}
-
 /// Replays a list of which a growth is refused, on a store of a heap, and lets a crash come. It tells whether the growth was asked
 /// for.
 fn attack_in<R: Threads + Sync>(
@@ -197,9 +150,7 @@ fn attack_in<R: Threads + Sync>(
     attacked: &Attacked,
     n: u64,
 ) -> Result<bool, Trouble> {
-    let mut machine = attacked.beginning.machine.reopened()?;
-    let mut subject = opened(&heap, attacked.beginning.image.disk(heap)?)?;
-    play(rt, &mut subject, &mut machine, &attacked.before)?;
+    let (mut subject, mut machine) = attacked.start(rt, &heap)?;
     let steps = attacked.steps.as_slice();
     let asked = asked_all(&heap, steps)?;
     heap.refuse_after(n);

@@ -1,6 +1,8 @@
 //! The lists of steps that are attacked, and those that make images.
 
-use crate::lists::{After, Line, List};
+use crate::attacked::List;
+use compared_steps::beginnings::After;
+use compared_steps::lists::Line;
 use lsm_store::At;
 use plain_machine::{Change, Step};
 

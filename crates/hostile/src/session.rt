@@ -4,8 +4,8 @@ ghost use Rattle.std.specs.Prelude.{◌≡◌};
 ghost use Rattle.std.specs.Arc.{arc_value};
 ghost use Rattle.lsm_shared.specs.Turns.{WasLent};
 
-use crate::asking::{call_of, told_call, told_work};
-use crate::subject::Subject;
+use compared_steps::asking::{call_of, told_call, told_work};
+use compared_steps::subject::Subject;
 use lsm_device::{MemDevice, Refusal};
 use lsm_lives::Reply;
 use lsm_merge::{Input, build};

@@ -1,13 +1,14 @@
 //! Sessions of which a call of the device fails, or a growth is refused, each in turn.
 
 use crate::deeds::Sitting;
-use crate::disk::{MASKS, Mask};
 use crate::judge::{Harm, Judge, Then};
-use crate::playing::{Beginning, begun, crash, opened};
-use crate::replays::{is_left, mask_of};
 use crate::sitting::lead;
 use crate::sweeps::Extent;
-use crate::trouble::{Tally, Trouble};
+use crate::tally::Tally;
+use compared_steps::beginnings::{Beginning, begun};
+use compared_steps::disk::{MASKS, Mask, mask_of};
+use compared_steps::playing::{crash, is_left, opened};
+use compared_steps::trouble::Trouble;
 use lsm_device::Refusal;
 use merge_tests::budget::Budget;
 use std::alloc::Global;

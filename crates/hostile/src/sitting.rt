@@ -4,11 +4,11 @@ ghost use Rattle.std.specs.Prelude.{◌≡◌};
 
 use crate::deeds::{Deed, Sitting};
 use crate::judge::{Heard, Judge, Then};
-use crate::lists::step_of;
-use crate::playing::is_unchanged;
 use crate::session::{Session, Sizes, prepared};
-use crate::subject::Subject;
-use crate::trouble::Trouble;
+use compared_steps::lists::step_of;
+use compared_steps::playing::is_unchanged;
+use compared_steps::subject::Subject;
+use compared_steps::trouble::Trouble;
 use lsm_device::{MemDevice, Refusal};
 use lsm_trail::{Opened, SessionName};
 use std::alloc::Allocator;

@@ -1,8 +1,8 @@
 //! Bytes that are changed of an image.
 
-use crate::draws::Draws;
-use crate::image::Image;
-use crate::layout::{Record, record_in};
+use compared_steps::draws::Draws;
+use compared_steps::image::Image;
+use compared_steps::layout::{Record, record_in};
 use lsm_device::Refusal;
 use std::alloc::Global;
 

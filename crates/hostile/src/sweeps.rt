@@ -1,11 +1,12 @@
 //! The sweeps, and what they find.
 
+use crate::attacked::List;
 use crate::deeds::SITTINGS;
 use crate::explorations::TOURS;
-use crate::lists::List;
 use crate::scripts::LISTS;
-use crate::trouble::{Tally, Trouble};
+use crate::tally::Tally;
 use crate::{explorations, faults, foreign, growths, openings, replays, sessions};
+use compared_steps::trouble::Trouble;
 use lsm_device::Refusal;
 use std::alloc::Global;
 use std::sync::Wait;

@@ -2,13 +2,13 @@
 
 /// A generator of numbers.
 #[derive(Clone, Copy)]
-pub(crate) struct Draws {
+pub struct Draws {
     state: u64,
 }
 
 impl Draws {
     /// A generator at its beginning, for each seed another one.
-    pub(crate) fn new(seed: u64) -> Draws {
+    pub fn new(seed: u64) -> Draws {
         Draws {
             state: 0x9e37_79b9_7f4a_7c15 ^ seed.wrapping_mul(0x2545_f491_4f6c_dd1d),
         }
@@ -26,13 +26,13 @@ impl Draws {
     }
 
     /// The next byte.
-    pub(crate) fn byte(&mut self) -> u8 {
+    pub fn byte(&mut self) -> u8 {
         let [byte, _, _, _] = self.number().to_be_bytes();
         byte
     }
 
     /// A number below a bound, 0 where the bound is 0.
-    pub(crate) fn below(&mut self, bound: u32) -> u32 {
+    pub fn below(&mut self, bound: u32) -> u32 {
         if bound == 0 {
             return 0;
         }
@@ -40,7 +40,7 @@ impl Draws {
     }
 
     /// A place among so many, 0 where there is none.
-    pub(crate) fn place(&mut self, count: usize) -> usize {
+    pub fn place(&mut self, count: usize) -> usize {
         if count == 0 {
             return 0;
         }
@@ -48,7 +48,7 @@ impl Draws {
     }
 
     /// The last two bytes of a number below a bound.
-    pub(crate) fn pair(&mut self, bound: u32) -> [u8; 2] {
+    pub fn pair(&mut self, bound: u32) -> [u8; 2] {
         let [_, _, a, b] = self.below(bound).to_be_bytes();
         [a, b]
     }

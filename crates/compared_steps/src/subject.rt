@@ -15,7 +15,7 @@ use std::thread::Threads;
 const CACHE: u32 = 256;
 
 /// A store, and the result that was built last of a job of it.
-pub(crate) struct Subject<A: Allocator, B: Allocator = Global> {
+pub struct Subject<A: Allocator, B: Allocator = Global> {
     alloc: A,
     store: Store<MemDevice<B>, A>,
     result: Option<Built<A>>,
@@ -118,7 +118,7 @@ pub(crate) fn batch_of<A: Allocator + Clone>(
 }
 
 /// Opens the store on a device.
-pub(crate) fn open<A: Allocator + Clone, B: Allocator>(
+pub fn open<A: Allocator + Clone, B: Allocator>(
     alloc: A,
     own: A,
     disk: Disk<B>,
@@ -244,28 +244,28 @@ impl<A: Allocator + Clone, B: Allocator> Subject<A, B> {
     }
 
     /// What a step answers. No result is built.
-    pub(crate) fn answer_alone(&mut self, step: Step) -> Answer {
+    pub fn answer_alone(&mut self, step: Step) -> Answer {
         told(self.made(step))
     }
 
     /// How many batches there are, and how many of them are synced, also of a stopped store.
-    pub(crate) fn counts(&self) -> (u64, u64) {
+    pub fn counts(&self) -> (u64, u64) {
         (self.store.batch_count(), self.store.synced_count())
     }
 
     /// How many calls the device has had.
-    pub(crate) fn calls(&self) -> u64 {
+    pub fn calls(&self) -> u64 {
         let changes = self.store.writes().wrapping_add(self.store.syncs());
         self.store.reads().wrapping_add(changes)
     }
 
     /// Lets the call of the device with this number fail, counted from 0.
-    pub(crate) fn fail(&mut self, n: u64, kept: bool) {
+    pub fn fail(&mut self, n: u64, kept: bool) {
         self.store.fail(n, kept);
     }
 
     /// A store without a result.
-    pub(crate) fn of(alloc: A, store: Store<MemDevice<B>, A>) -> Subject<A, B> {
+    pub fn of(alloc: A, store: Store<MemDevice<B>, A>) -> Subject<A, B> {
         Subject {
             alloc,
             store,
@@ -274,7 +274,7 @@ impl<A: Allocator + Clone, B: Allocator> Subject<A, B> {
     }
 
     /// The store.
-    pub(crate) fn into_parts(self) -> (A, Store<MemDevice<B>, A>) {
+    pub fn into_parts(self) -> (A, Store<MemDevice<B>, A>) {
         let Subject {
             alloc,
             store,
@@ -283,7 +283,8 @@ impl<A: Allocator + Clone, B: Allocator> Subject<A, B> {
         (alloc, store)
     }
 
-    pub(crate) fn into_disk(self) -> Disk<B> {
+    /// The device.
+    pub fn into_disk(self) -> Disk<B> {
         let Subject {
             alloc: _,
             store,
@@ -325,7 +326,7 @@ impl<A: Allocator + Clone + Send + Sync, B: Allocator> Subject<A, B> {
     }
 
     /// What a replay of these steps replies.
-    pub(crate) fn replay<R: Threads + Sync>(
+    pub fn replay<R: Threads + Sync>(
         &mut self,
         rt: &R,
         steps: &[Asked<A>],
@@ -336,7 +337,7 @@ impl<A: Allocator + Clone + Send + Sync, B: Allocator> Subject<A, B> {
     }
 
     /// What a step answers.
-    pub(crate) fn answer<R: Threads + Sync>(&mut self, rt: &R, step: Step) -> Answer {
+    pub fn answer<R: Threads + Sync>(&mut self, rt: &R, step: Step) -> Answer {
         match step {
             Step::Build(job, parts) => told(self.build(rt, job, parts)),
             _ => self.answer_alone(step),

@@ -44,14 +44,14 @@ const DATA: u32 = 514;
 /// Where a table lies: the sector of the manifest, and the places of its number, its entries and its deletes in that; and the
 /// first sectors of its data blocks, its index and its footer.
 #[derive(Clone, Copy)]
-pub(crate) struct Record {
-    pub(crate) manifest: u32,
-    pub(crate) number: usize,
-    pub(crate) entries: usize,
-    pub(crate) deletes: usize,
-    pub(crate) data: u32,
-    pub(crate) index: u32,
-    pub(crate) footer: u32,
+pub struct Record {
+    pub manifest: u32,
+    pub number: usize,
+    pub entries: usize,
+    pub deletes: usize,
+    pub data: u32,
+    pub index: u32,
+    pub footer: u32,
 }
 
 /// A byte of a sector, 0 behind its end.
@@ -70,7 +70,7 @@ fn generation_in(image: &Image, at: u32) -> u8 {
 }
 
 /// The sector in which the manifest begins that counts.
-pub(crate) fn manifest_of(image: &Image) -> u32 {
+pub fn manifest_of(image: &Image) -> u32 {
     let [even, odd] = MANIFESTS;
     if generation_in(image, 0) > generation_in(image, 1) {
         return even;
@@ -137,7 +137,7 @@ fn record_of(manifest: u32, bytes: &[u8; 512], record: usize) -> Record {
 }
 
 /// Where the table of a place lies, as the manifest says, which has one sector.
-pub(crate) fn record_in(image: &Image, place: usize) -> Option<Record> {
+pub fn record_in(image: &Image, place: usize) -> Option<Record> {
     let manifest = manifest_of(image);
     for sector in image.sectors.iter() {
         if sector.at == manifest && place < usize::from(byte_of(&sector.bytes, TABLES)) {

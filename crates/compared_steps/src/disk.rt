@@ -5,20 +5,31 @@ use lsm_open::format;
 use std::alloc::{Allocator, Global};
 
 /// The sectors of a device.
-pub(crate) const SECTORS: u32 = 8_192;
+pub const SECTORS: u32 = 8_192;
 
 /// The most writes that pend.
 const PENDING: usize = 1_024;
 
 /// Of the pending writes the first, the third and so on, and the others.
-pub(crate) type Mask = [bool; 2];
+pub type Mask = [bool; 2];
 
 /// The crashes that are tried.
-pub(crate) const MASKS: [Mask; 4] = [[false, false], [true, true], [true, false], [false, true]];
+pub const MASKS: [Mask; 4] = [[false, false], [true, true], [true, false], [false, true]];
+
+/// The crash of a number: each of the four in turn.
+pub fn mask_of(n: u64) -> Mask {
+    let [none, all, even, odd] = MASKS;
+    match n % 4 {
+        0 => none,
+        1 => all,
+        2 => even,
+        _ => odd,
+    }
+}
 
 /// A device in memory.
-pub(crate) struct Disk<B: Allocator = Global> {
-    pub(crate) device: MemDevice<B>,
+pub struct Disk<B: Allocator = Global> {
+    pub device: MemDevice<B>,
 }
 
 // One call at each exit, in the place of all that a device is made of.
@@ -47,7 +58,7 @@ impl<B: Allocator> Disk<B> {
     }
 
     /// Reads a sector, where there is one.
-    pub(crate) fn read(&mut self, at: u32, out: &mut [u8; 512]) -> bool {
+    pub fn read(&mut self, at: u32, out: &mut [u8; 512]) -> bool {
         if at >= self.device.sectors() {
             return false;
         }
@@ -55,38 +66,40 @@ impl<B: Allocator> Disk<B> {
     }
 
     /// Writes a sector, where there is one.
-    pub(crate) fn write(&mut self, at: u32, bytes: &[u8; 512]) -> bool {
+    pub fn write(&mut self, at: u32, bytes: &[u8; 512]) -> bool {
         if at >= self.device.sectors() {
             return false;
         }
         self.device.write(at, bytes).is_ok()
     }
 
-    pub(crate) fn sync(&mut self) -> bool {
+    /// Syncs it, and tells whether it did.
+    pub fn sync(&mut self) -> bool {
         self.device.sync().is_ok()
     }
 
-    pub(crate) fn writes(&self) -> u64 {
+    /// How many writes it has had.
+    pub fn writes(&self) -> u64 {
         self.device.writes()
     }
 
     /// How many writes and syncs it has had.
-    pub(crate) fn changes(&self) -> u64 {
+    pub fn changes(&self) -> u64 {
         self.device.writes().wrapping_add(self.device.syncs())
     }
 
     /// How many calls it has had.
-    pub(crate) fn calls(&self) -> u64 {
+    pub fn calls(&self) -> u64 {
         self.device.reads().wrapping_add(self.changes())
     }
 
     /// Lets the call with this number fail, counted from 0.
-    pub(crate) fn fail(&mut self, n: u64, kept: bool) {
+    pub fn fail(&mut self, n: u64, kept: bool) {
         self.device.fail(n, kept);
     }
 
     /// The device after a crash.
-    pub(crate) fn crashed(self, mask: Mask) -> Disk<B> {
+    pub fn crashed(self, mask: Mask) -> Disk<B> {
         let [even, odd] = mask;
         let mut keep = [even; PENDING];
         for half in 0..512_usize {

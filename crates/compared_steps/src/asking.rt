@@ -2,7 +2,7 @@
 
 use crate::subject::{batch_of, told_page, value_of};
 use lsm_device::Refusal;
-use lsm_lives::{Call, Reply, Work};
+use lsm_lives::{Call, Reply, Step as Asked, Work};
 use lsm_store::At;
 use plain_machine::{Answer, Change, Step};
 use std::alloc::Allocator;
@@ -32,7 +32,7 @@ fn scan_of<A: Allocator + Clone>(
 }
 
 /// The call of a step. A step that is no call has none.
-pub(crate) fn call_of<A: Allocator + Clone>(alloc: &A, step: Step) -> Result<Call<A>, Refusal> {
+pub fn call_of<A: Allocator + Clone>(alloc: &A, step: Step) -> Result<Call<A>, Refusal> {
     match step {
         Step::Commit(change) => commit_of(alloc, change),
         Step::Sync => Ok(Call::Sync),
@@ -48,7 +48,7 @@ pub(crate) fn call_of<A: Allocator + Clone>(alloc: &A, step: Step) -> Result<Cal
 }
 
 /// The piece of work of a step, where it is one. An accept takes the result of a number.
-pub(crate) fn work_of(step: Step, number: u64) -> Option<Work> {
+fn work_of(step: Step, number: u64) -> Option<Work> {
     match step {
         Step::Take => Some(Work::Take),
         Step::Read(job) => Some(Work::Read(job)),
@@ -67,8 +67,34 @@ pub(crate) fn work_of(step: Step, number: u64) -> Option<Work> {
     }
 }
 
+/// A step as a value. An accept takes the result of a number.
+fn asked_of<A: Allocator + Clone>(alloc: &A, step: Step, number: u64) -> Result<Asked<A>, Refusal> {
+    match work_of(step, number) {
+        Some(work) => Ok(Asked::Work(work)),
+        None => Ok(Asked::Call(call_of(alloc, step)?)),
+    }
+}
+
+/// The steps of a replay: all but those that ask for the numbers of a store. An accept takes the result of the build before it.
+pub fn asked_all<A: Allocator + Clone>(
+    alloc: &A,
+    steps: &[Step],
+) -> Result<Vec<Asked<A>, A>, Refusal> {
+    let mut asked = Vec::new(alloc.clone()?);
+    let mut builds = 0_u64;
+    for step in steps {
+        if matches!(*step, Step::Build(_, _)) {
+            builds = builds.wrapping_add(1);
+        }
+        if !matches!(*step, Step::Stat) {
+            asked.push(asked_of(alloc, *step, builds)?)?;
+        }
+    }
+    Ok(asked)
+}
+
 /// What a reply to a call says.
-pub(crate) fn told_call<A: Allocator>(reply: &Reply<A>) -> Answer {
+pub fn told_call<A: Allocator>(reply: &Reply<A>) -> Answer {
     match reply {
         Reply::Number(number) => Answer::Number(*number),
         Reply::Done => Answer::Done,
@@ -83,7 +109,7 @@ pub(crate) fn told_call<A: Allocator>(reply: &Reply<A>) -> Answer {
 }
 
 /// What a reply to a piece of work says: a number is one of blocks.
-pub(crate) fn told_work<A: Allocator>(reply: &Reply<A>) -> Answer {
+pub fn told_work<A: Allocator>(reply: &Reply<A>) -> Answer {
     match reply {
         Reply::Number(number) => Answer::Left(*number),
         _ => told_call(reply),
@@ -91,7 +117,7 @@ pub(crate) fn told_work<A: Allocator>(reply: &Reply<A>) -> Answer {
 }
 
 /// What a reply to a step says.
-pub(crate) fn told_step<A: Allocator>(reply: &Reply<A>, step: Step) -> Answer {
+pub fn told_step<A: Allocator>(reply: &Reply<A>, step: Step) -> Answer {
     if matches!(step, Step::Read(_) | Step::Write(_)) {
         return told_work(reply);
     }

@@ -1,4 +1,4 @@
-//! How a store differs from what it should do, and how much was tried.
+//! How a store differs from what it should do.
 
 use lsm_device::Refusal;
 use plain_machine::{Answer, Step};
@@ -6,7 +6,7 @@ use std::alloc::{AllocError, AllocFailed};
 
 /// How a store differs.
 #[derive(Clone, Copy, Debug)]
-pub(crate) enum Trouble {
+pub enum Trouble {
     /// By an answer.
     Answer {
         step: Step,
@@ -62,7 +62,7 @@ impl<T: Drop> From<AllocFailed<T>> for Trouble {
 }
 
 /// Whether two answers agree.
-pub(crate) fn agree(step: Step, found: Answer, wanted: Answer) -> Result<(), Trouble> {
+pub fn agree(step: Step, found: Answer, wanted: Answer) -> Result<(), Trouble> {
     if found == wanted {
         return Ok(());
     }
@@ -74,44 +74,9 @@ pub(crate) fn agree(step: Step, found: Answer, wanted: Answer) -> Result<(), Tro
 }
 
 /// Whether an answer is no refusal: a step that is refused asks neither memory nor device.
-pub(crate) fn unrefused(step: Step, wanted: Answer) -> Result<(), Trouble> {
+pub fn unrefused(step: Step, wanted: Answer) -> Result<(), Trouble> {
     match wanted {
         Answer::Refused(_) => Err(Trouble::Unasked { step }),
         _ => Ok(()),
-    }
-}
-
-/// How much was tried.
-#[derive(Clone, Copy)]
-pub(crate) struct Tally {
-    pub(crate) cases: u64,
-    /// How many calls of the device failed, and how many growths were refused.
-    pub(crate) failed: u64,
-    pub(crate) refused: u64,
-    pub(crate) openings: u64,
-}
-
-impl Tally {
-    pub(crate) const NONE: Tally = Tally {
-        cases: 0,
-        failed: 0,
-        refused: 0,
-        openings: 0,
-    };
-
-    pub(crate) fn count_case(&mut self) {
-        self.cases = self.cases.wrapping_add(1);
-    }
-
-    pub(crate) fn count_failed(&mut self, met: bool) {
-        self.failed = self.failed.wrapping_add(met.into());
-    }
-
-    pub(crate) fn count_refused(&mut self, met: bool) {
-        self.refused = self.refused.wrapping_add(met.into());
-    }
-
-    pub(crate) fn count_opening(&mut self) {
-        self.openings = self.openings.wrapping_add(1);
     }
 }

@@ -6,15 +6,15 @@ use std::alloc::{Allocator, Global};
 
 /// A sector that is not zero.
 #[derive(Clone, Copy)]
-pub(crate) struct Sector {
-    pub(crate) at: u32,
-    pub(crate) bytes: [u8; 512],
+pub struct Sector {
+    pub at: u32,
+    pub bytes: [u8; 512],
 }
 
 /// What stands on a device.
 #[derive(Drop)]
-pub(crate) struct Image {
-    pub(crate) sectors: Vec<Sector>,
+pub struct Image {
+    pub sectors: Vec<Sector>,
 }
 
 impl Image {
@@ -43,7 +43,7 @@ impl Image {
     }
 
     /// A device on which it stands.
-    pub(crate) fn disk<B: Allocator + Clone>(&self, alloc: B) -> Result<Disk<B>, Refusal> {
+    pub fn disk<B: Allocator + Clone>(&self, alloc: B) -> Result<Disk<B>, Refusal> {
         let mut disk = Disk::new(alloc)?;
         if self.put_on(&mut disk) {
             return Ok(disk);

@@ -6,9 +6,9 @@ use lsm_store::At;
 use plain_machine::{Change, Step};
 use std::alloc::Global;
 
-/// One or more steps.
+/// One or more steps, in a word.
 #[derive(Clone, Copy)]
-pub(crate) enum Line {
+pub enum Line {
     /// Puts a value of one byte, the key's.
     Put(u8),
     /// Puts a value of so many bytes.
@@ -22,28 +22,6 @@ pub(crate) enum Line {
     Job(u64),
     /// Puts a value of one byte under a key, and flushes it as the job of a number.
     Flush(u8, u64),
-}
-
-/// What becomes of an image before it is opened.
-#[derive(Clone, Copy)]
-pub(crate) enum After {
-    Nothing,
-    /// A crash keeps the first sector of one batch more, of two sectors.
-    Torn,
-    /// Of the tables of five runs the newest stays in level 0, the next is of level 1, and so on.
-    Spread,
-}
-
-/// A list of steps: those that make the image, those before the store is attacked, and those under attack.
-#[derive(Clone, Copy)]
-pub(crate) struct List {
-    pub(crate) name: &'static str,
-    pub(crate) past: &'static [Line],
-    pub(crate) after: After,
-    /// Whether the opening of the image is attacked too.
-    pub(crate) is_opened: bool,
-    pub(crate) before: &'static [Line],
-    pub(crate) steps: &'static [Line],
 }
 
 /// All pieces of work on the job that comes next, in two parts.
@@ -61,7 +39,7 @@ fn push_job(steps: &mut Vec<Step>, job: u64) -> Result<(), Refusal> {
 }
 
 /// The step of a line that is one step.
-pub(crate) fn step_of(line: Line) -> Option<Step> {
+pub fn step_of(line: Line) -> Option<Step> {
     match line {
         Line::Put(key) => Some(Step::Commit(Change::Put(key, key, 1))),
         Line::Long(key, length) => Some(Step::Commit(Change::Put(key, key, length))),
@@ -89,7 +67,7 @@ fn push(steps: &mut Vec<Step>, line: Line) -> Result<(), Refusal> {
 }
 
 /// The steps of some lines.
-pub(crate) fn steps_of(alloc: Global, lines: &[Line]) -> Result<Vec<Step>, Refusal> {
+pub fn steps_of(alloc: Global, lines: &[Line]) -> Result<Vec<Step>, Refusal> {
     let mut steps = Vec::new(alloc);
     for line in lines {
         push(&mut steps, *line)?;
@@ -148,7 +126,7 @@ fn piece(draws: &mut Draws) -> Step {
 }
 
 /// A random list: calls and pieces as drawn, with two whole jobs among them.
-pub(crate) fn drawn(alloc: Global, seed: u64) -> Result<Vec<Step>, Refusal> {
+pub fn drawn(alloc: Global, seed: u64) -> Result<Vec<Step>, Refusal> {
     let mut draws = Draws::new(seed);
     let mut steps = Vec::new(alloc);
     for place in 0..STEPS {

@@ -1,0 +1,22 @@
+//! Steps that a store makes on a device in memory, each answer compared with that of a plain machine that makes them beside it. The
+//! calls of a device and of a store that stand here tell the prover nothing, so that a caller is proved without their contracts.
+//!
+//! | module | what is in it |
+//! |---|---|
+//! | `lists` | lists of steps, written in a few words, or drawn |
+//! | `disk`, `image`, `layout` | devices, what stands on them, and where the fields of that lie |
+//! | `subject`, `asking` | a store that answers steps, and steps as values that it replies to |
+//! | `trouble` | how a store differs from the machine |
+//! | `playing`, `beginnings` | steps that both make, crashes behind them, and the images that they leave |
+#![tactic(auto)]
+
+pub mod asking;
+pub mod beginnings;
+pub mod disk;
+pub mod draws;
+pub mod image;
+pub mod layout;
+pub mod lists;
+pub mod playing;
+pub mod subject;
+pub mod trouble;

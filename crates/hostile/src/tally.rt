@@ -1,0 +1,36 @@
+//! How much was tried.
+
+/// How much was tried.
+#[derive(Clone, Copy)]
+pub(crate) struct Tally {
+    pub(crate) cases: u64,
+    /// How many calls of the device failed, and how many growths were refused.
+    pub(crate) failed: u64,
+    pub(crate) refused: u64,
+    pub(crate) openings: u64,
+}
+
+impl Tally {
+    pub(crate) const NONE: Tally = Tally {
+        cases: 0,
+        failed: 0,
+        refused: 0,
+        openings: 0,
+    };
+
+    pub(crate) fn count_case(&mut self) {
+        self.cases = self.cases.wrapping_add(1);
+    }
+
+    pub(crate) fn count_failed(&mut self, met: bool) {
+        self.failed = self.failed.wrapping_add(met.into());
+    }
+
+    pub(crate) fn count_refused(&mut self, met: bool) {
+        self.refused = self.refused.wrapping_add(met.into());
+    }
+
+    pub(crate) fn count_opening(&mut self) {
+        self.openings = self.openings.wrapping_add(1);
+    }
+}
