@@ -1,28 +1,10 @@
 //! Lists of what the clients of a session do.
 
 use crate::scripts::{BATCHES, FOUR_RUNS};
-use crate::session::Sizes;
+use compared_sessions::deeds::{Deed, Sitting, Sizes};
 use compared_steps::lists::Line;
 use lsm_store::At;
 use plain_machine::{Change, Step};
-
-/// What a client does.
-#[derive(Clone, Copy)]
-pub(crate) enum Deed {
-    /// It makes a call.
-    Call(u32, Line),
-    /// It takes a turn. What that hands out is built and brought.
-    Turn(u32),
-}
-
-/// What is done by the clients of a session, over the image that some lines make.
-#[derive(Clone, Copy)]
-pub(crate) struct Sitting {
-    pub(crate) name: &'static str,
-    pub(crate) past: &'static [Line],
-    pub(crate) sizes: Sizes,
-    pub(crate) deeds: &'static [Deed],
-}
 
 /// One client, with a flush between its calls.
 const FLUSHED: [Deed; 24] = [

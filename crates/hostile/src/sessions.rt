@@ -1,10 +1,10 @@
 //! Sessions of which a call of the device fails, or a growth is refused, each in turn.
 
-use crate::deeds::Sitting;
-use crate::judge::{Harm, Judge, Then};
-use crate::sitting::lead;
 use crate::sweeps::Extent;
 use crate::tally::Tally;
+use compared_sessions::deeds::Sitting;
+use compared_sessions::judge::{Harm, Judge, Then};
+use compared_sessions::sitting::lead;
 use compared_steps::beginnings::{Beginning, begun};
 use compared_steps::disk::{MASKS, Mask, mask_of};
 use compared_steps::playing::{crash, is_left, opened};

@@ -1,4 +1,4 @@
-use Rattle.hostile.proofs.sitting.try_to_lead.Given as goal
+use Rattle.compared_sessions.proofs.sitting.try_to_lead.Given as goal
 
 -- the session that was just prepared
 abbrev pub ghosts-begin : goal.ghosts-begin

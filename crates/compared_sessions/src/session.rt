@@ -4,6 +4,7 @@ ghost use Rattle.std.specs.Prelude.{◌≡◌};
 ghost use Rattle.std.specs.Arc.{arc_value};
 ghost use Rattle.lsm_shared.specs.Turns.{WasLent};
 
+use crate::deeds::Sizes;
 use compared_steps::asking::{call_of, told_call, told_work};
 use compared_steps::subject::Subject;
 use lsm_device::{MemDevice, Refusal};
@@ -15,13 +16,6 @@ use plain_machine::{Answer, PARTS, Step};
 use std::alloc::Allocator;
 use std::sync::{Arc, Wait};
 use std::thread::Threads;
-
-/// How many clients a session has, and how many places its trail.
-#[derive(Clone, Copy)]
-pub(crate) struct Sizes {
-    pub(crate) clients: u32,
-    pub(crate) places: u32,
-}
 
 /// The numbers of a job and of a result of it, and what was answered to the build and to the bringing of that.
 #[derive(Clone, Copy)]

@@ -2,9 +2,9 @@
 
 ghost use Rattle.std.specs.Prelude.{◌≡◌};
 
-use crate::deeds::{Deed, Sitting};
+use crate::deeds::{Deed, Sitting, Sizes};
 use crate::judge::{Heard, Judge, Then};
-use crate::session::{Session, Sizes, prepared};
+use crate::session::{Session, prepared};
 use compared_steps::lists::step_of;
 use compared_steps::playing::is_unchanged;
 use compared_steps::subject::Subject;
@@ -208,7 +208,7 @@ fn try_to_lead<R: Threads + Wait + Sync, A: Allocator + Copy + Send + Sync, B: A
 
 /// Leads a session over a store. Where it is not prepared or doesn't begin for want of memory, nothing has changed, and it is led
 /// then. It gives back the store.
-pub(crate) fn lead<R: Threads + Wait + Sync, A: Allocator + Copy + Send + Sync, B: Allocator>(
+pub fn lead<R: Threads + Wait + Sync, A: Allocator + Copy + Send + Sync, B: Allocator>(
     rt: &R,
     alloc: A,
     subject: Subject<A, B>,

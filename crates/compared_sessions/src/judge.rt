@@ -10,11 +10,11 @@ use plain_machine::{Answer, Machine, PARTS, Step};
 use std::alloc::{Allocator, Global};
 
 /// The number of the snapshot that a session pins, the first behind an opening.
-pub(crate) const BASE: u64 = 1;
+const BASE: u64 = 1;
 
 /// What is done behind the step that a harm meets and that may be made again.
 #[derive(Clone, Copy, PartialEq, Eq)]
-pub(crate) enum Then {
+pub enum Then {
     /// It is made again.
     Again,
     /// The next one is made.
@@ -25,9 +25,9 @@ pub(crate) enum Then {
 
 /// What harms a session: of this heap a growth is refused, or else a call of its device fails.
 #[derive(Clone, Copy)]
-pub(crate) struct Harm<'h> {
-    pub(crate) heap: Option<&'h Budget<Global>>,
-    pub(crate) then: Then,
+pub struct Harm<'h> {
+    pub heap: Option<&'h Budget<Global>>,
+    pub then: Then,
 }
 
 /// How a client is answered.
@@ -44,14 +44,14 @@ pub(crate) enum Heard {
 }
 
 /// The machine, the entries that the trail is to have, and the harm.
-pub(crate) struct Judge<'h> {
-    pub(crate) machine: Machine,
+pub struct Judge<'h> {
+    pub machine: Machine,
     entries: Entries,
     pub(crate) harm: Harm<'h>,
     /// Whether the growth was refused before the deed that is done now.
     is_before: bool,
     /// Whether a client was told of the harm.
-    pub(crate) is_met: bool,
+    pub is_met: bool,
 }
 
 impl<'h> Drop for Judge<'h> {
@@ -76,7 +76,7 @@ fn built_of(step: Option<Step>) -> Option<u64> {
 
 impl<'h> Judge<'h> {
     /// A judge of a session with so many places in its trail.
-    pub(crate) fn new(alloc: Global, machine: Machine, places: u32, harm: Harm<'h>) -> Judge<'h> {
+    pub fn new(alloc: Global, machine: Machine, places: u32, harm: Harm<'h>) -> Judge<'h> {
         Judge {
             machine,
             entries: Entries::new(alloc, places),

@@ -1,0 +1,28 @@
+//! What the clients of a session do.
+
+use compared_steps::lists::Line;
+
+/// How many clients a session has, and how many places its trail.
+#[derive(Clone, Copy)]
+pub struct Sizes {
+    pub clients: u32,
+    pub places: u32,
+}
+
+/// What a client does.
+#[derive(Clone, Copy)]
+pub enum Deed {
+    /// It makes a call.
+    Call(u32, Line),
+    /// It takes a turn. What that hands out is built and brought.
+    Turn(u32),
+}
+
+/// What is done by the clients of a session, over the image that some lines make.
+#[derive(Clone, Copy)]
+pub struct Sitting {
+    pub name: &'static str,
+    pub past: &'static [Line],
+    pub sizes: Sizes,
+    pub deeds: &'static [Deed],
+}
