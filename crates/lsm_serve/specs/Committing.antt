@@ -23,9 +23,10 @@ pub record ServesTold (call : Call) (before : StoreView) (told : Reply) (after :
 abbrev pub puts_in : List Operation → Bool
 puts_in batch = list_any (λ operation. is_some operation.value) batch
 
--- whether a store takes puts: where it is stopped, since it refuses them itself then, or a third of its blocks is free
+-- whether a store takes puts: where it is stopped, since it refuses them itself then, or a third of its blocks is free and there are 768 tables
+-- at most
 abbrev pub takes_puts : StoreView → Bool
-takes_puts s = is_some s.state.stopped || has_room 2 0 s
+takes_puts s = is_some s.state.stopped || has_room 768 2 0 s
 
 -- whether there are puts for which a store has no room
 abbrev pub lacks_room : Bool → StoreView → Bool

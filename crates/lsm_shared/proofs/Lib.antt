@@ -11,3 +11,4 @@ pub mod Turning
 pub mod OwnWork
 pub mod Endings
 pub mod Faults
+mod Advising
