@@ -1,21 +1,21 @@
 -- What a run of the program does.
-use Rattle.std.specs.Prelude.{◌≡◌, ◌≢◌, ◌⊎◌, ℕ, Bool, true, false, List, [], Option, Some, None, is_some, Result, Err, IfSome, IsTrue, MatchResult}
+use Rattle.std.specs.Prelude.{◌≡◌, ◌⊎◌, ℕ, Bool, false, List, [], Option, Some, None, is_some, Result, Err, IfSome, IsTrue, MatchResult}
+use Rattle.std.specs.Borrow.{Bor}
 use Rattle.std.specs.List.{list_any}
 use Rattle.std.specs.Io.KnownBytes.{Appends, Keeps}
 use Rattle.clap.specs.Words.{Row, Text, fault_of, subcommand_of}
-use Rattle.lsm_device.specs.declared.refusal.Refusal.{Refusal}
 use Rattle.lsm_device.specs.declared.refusal.Refusal.TheVariants.{NoMemory, Io}
 use Rattle.lsm_language.specs.declared.asked.Asked.{Asked}
 use Rattle.lsm_language.specs.declared.request.Request.{Request}
+use Rattle.lsm_language.specs.declared.request.Request.TheVariants as request
 use Rattle.lsm_requests.specs.declared.answer.Answer.{Answer}
 use Rattle.lsm_language.specs.declared.fault.Fault.{Fault}
-use Rattle.lsm_language.specs.Faults.{Reason, mistake, refusal, unopened, unread, unwritten, IsUnopened, reason_of}
+use Rattle.lsm_language.specs.Faults.{Reason, mistake, refusal, unread, IsUnopened, reason_of}
 use Rattle.lsm_language.specs.Words.{after}
 use Rattle.lsm_cli.specs.Program.{program, Asks}
-use Rattle.lsm_language.specs.Requests.{Says, prints_rows, reason_for, wants_input, wants_rows, wants_script}
-use Rattle.lsm_language.specs.Rows.{are_rows, lines_of as lines_in}
+use Rattle.lsm_language.specs.Requests.{Says, reason_for, wants_script}
 use Rattle.lsm_requests.specs.Answers.{Comes, LoadsTo, lines_of}
-use Rattle.lsm_requests.specs.Refusing.{MayRefuse}
+use Rattle.lsm_requests.specs.Refusing.{FaultsWith}
 use Rattle.lsm_requests.specs.Endings.{Concludes, Written}
 
 -- ---- what is asked for
@@ -72,59 +72,42 @@ pub record IsWrong (words : List Text) (input : Option (List ℕ)) (reason : Rea
   pub read : IsRead words input asked text
   pub first : reason_for asked text ≡ Some reason
 
--- nothing is wrong with them, and something was done
-pub record IsDone (words : List Text) (input : Option (List ℕ)) : Type 0 where
-  pub request : Request
-  pub requested : IsRequested words input request
-
--- nothing is wrong with them, and what they ask for was refused so, as such a request may be
-pub record IsRequestRefused (words : List Text) (input : Option (List ℕ)) (r : Refusal) : Type 0 where
-  pub request : Request
-  pub requested : IsRequested words input request
-  pub refused : MayRefuse request r
-
--- an input was asked for, which could not be read
+-- the script was asked for, and could not be read
 pub record IsUnread (words : List Text) : Type 0 where
   pub asked : Asked
   pub words_ask : IsAsked words asked
-  pub wants : IsTrue (wants_input asked)
+  pub wants : IsTrue (wants_script asked)
 
--- rows were asked for, and a line of the input is none
-pub record HasNoRow (words : List Text) (input : Option (List ℕ)) : Type 0 where
-  pub asked : Asked
-  pub words_ask : IsAsked words asked
-  pub wants : IsTrue (wants_rows asked)
-  pub none : IfSome input (λ all. are_rows (lines_in all) ≡ false)
-
--- a reason that is no part of words and script that were read
-abbrev pub IsOtherReason : List Text → Option (List ℕ) → Reason → Type 0
-IsOtherReason words input mistake = AskNothing words ⊎ HasNoRow words input
-IsOtherReason words input (refusal r) = (r ≡ NoMemory) ⊎ IsRequestRefused words input r
-IsOtherReason words input (unopened cause) = IsRequestRefused words input Io
-IsOtherReason words input unread = IsUnread words
-IsOtherReason words input unwritten = IsDone words input
-
--- Why there is no answer. A mistake is one of the words or of the script, and nothing was done, or a line that is no row.
-abbrev pub Fails : List Text → Option (List ℕ) → Reason → Type 0
-Fails words input reason = IsWrong words input reason ⊎ IsOtherReason words input reason
+-- Why nothing was done: a mistake of the words or of the script, or no memory for these, or a script that could not be read.
+abbrev pub IsUntried : List Text → Option (List ℕ) → Reason → Type 0
+IsUntried words input reason = IsWrong words input reason
+    ⊎ (((reason ≡ mistake) × AskNothing words) ⊎ ((reason ≡ refusal NoMemory) ⊎ ((reason ≡ unread) × IsUnread words)))
 
 -- a reason is told as it is, or as a file that can't be opened
 abbrev pub IsToldAs : Reason → Reason → Type 0
 IsToldAs reason told = (told ≡ reason) ⊎ ((reason ≡ refusal Io) × IsUnopened told)
 
--- What is printed of a run that fails: nothing; of rows that were dumped before a refusal some lines; and of rows that were
--- loaded before a fault the number of those that were put, and are synced.
-pub data Shows (words : List Text) (input : Option (List ℕ)) (reason : Reason) (output output_after : Option (List ℕ)) : Type 0 where
-  shows_nothing : Keeps output output_after → Shows words input reason output output_after
-  shows_rows : (asked : Asked) → IsAsked words asked → IsTrue (prints_rows asked) → reason ≢ mistake → Shows words input reason output output_after
-  shows_loaded : (asked : Asked) → IsAsked words asked → IsTrue (wants_rows asked) → (why : Reason) → IsToldAs why reason → LoadsTo input output output_after why
-      → Shows words input reason output output_after
-  shows_failure : reason ≡ unwritten → Shows words input reason output output_after
+-- What the words and the input ask for was tried, and has no answer; why it has none is told so, and what was printed.
+pub record IsTried (words : List Text) (input : Option (List ℕ)) (told : Reason) (output output_after : Option (List ℕ)) : Type 0 where
+  pub request : Request
+  pub requested : IsRequested words input request
+  pub why : Reason
+  pub faults : FaultsWith request input why output output_after
+  pub is : IsToldAs why told
 
--- of one that found a mistake
-abbrev pub IsTold : List Text → Option (List ℕ) → Option (List ℕ) → Option (List ℕ) → Type 0
-IsTold words input output output_after = Keeps output output_after
-    ⊎ ((asked : Asked) × IsAsked words asked × IsTrue (wants_rows asked) × LoadsTo input output output_after mistake)
+-- Why there is no answer, and what was printed all the same: nothing was done, and nothing printed; or it was tried.
+abbrev pub Fails : List Text → Option (List ℕ) → Reason → Option (List ℕ) → Option (List ℕ) → Type 0
+Fails words input reason output output_after = (IsUntried words input reason × Keeps output output_after) ⊎ IsTried words input reason output output_after
+
+-- rows were to be loaded, and were up to a line that is none
+pub record LoadsToNoRow (words : List Text) (input output output_after : Option (List ℕ)) : Type 0 where
+  pub file : Bor (List ℕ)
+  pub requested : IsRequested words input (request.Load file)
+  pub loads : LoadsTo input output output_after mistake
+
+-- A mistake was found, of the words or of the script, and nothing was printed; or one among rows, and how many were loaded before was.
+abbrev pub FindsMistake : List Text → Option (List ℕ) → Option (List ℕ) → Option (List ℕ) → Type 0
+FindsMistake words input output output_after = ((AskNothing words ⊎ IsWrong words input mistake) × Keeps output output_after) ⊎ LoadsToNoRow words input output output_after
 
 -- ---- how a run ends
 
@@ -133,7 +116,7 @@ pub record IsRun (words : List Text) (input : Option (List ℕ)) (bytes : Writte
   pub answered : Result Answer Fault
   pub between : Option (List ℕ)
   pub comes : MatchResult answered (IsServed words input bytes.output between)
-      (λ fault. Fails words input (reason_of fault) × Shows words input (reason_of fault) bytes.output between)
+      (λ fault. Fails words input (reason_of fault) bytes.output between)
   pub concludes : Concludes answered (record bytes { output = between }) ends
 
 -- no words could be taken: one is no text, or memory was refused; just that is told

@@ -203,7 +203,7 @@ fn with_changes<'a>(alloc: Global, command: Command<'a>) -> Result<Command<'a>, 
         alloc,
         command,
         "format",
-        "Make an empty store in a new file",
+        "Make an empty store in a file, and lose what it holds",
         &["FILE", "SECTORS", "LOG"],
     )?;
     let command = adding(

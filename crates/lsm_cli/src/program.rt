@@ -2,8 +2,8 @@
 
 ghost use Rattle.std.specs.Prelude.{◌≡◌, ◌≤◌, map, MatchResult};
 ghost use Rattle.std.specs.Io.KnownBytes.{Keeps};
-ghost use Rattle.lsm_language.specs.Faults.{mistake, reason_of};
-ghost use Rattle.lsm_cli.specs.Runs.{Fails, HasServed, IsRun, IsServed, IsTold, IsToldAs, Shows};
+ghost use Rattle.lsm_language.specs.Faults.{reason_of};
+ghost use Rattle.lsm_cli.specs.Runs.{Fails, FindsMistake, HasServed, IsRun, IsServed, IsToldAs};
 
 use crate::parser::asked_for;
 use crate::unopened::cause_of;
@@ -41,8 +41,7 @@ pub fn run<
     ensures no_fault { result ≡ 0 → Keeps (E.contents errors.old) (E.contents errors.new) }
 
     // One that ends with 2 found a mistake in the words or the input, and printed no answer, but how many rows it loaded before.
-    ensures mistake { result ≡ 2 → Fails (map S.text words.entry.now) (I.remaining input.old) mistake }
-    ensures no_answer { result ≡ 2 → IsTold (map S.text words.entry.now) (I.remaining input.old) (O.contents output.old) (O.contents output.new) }
+    ensures mistake { result ≡ 2 → FindsMistake (map S.text words.entry.now) (I.remaining input.old) (O.contents output.old) (O.contents output.new) }
 {
     let answered = answer(rt, words, input, output, progress);
     conclude(&answered, output, errors)
@@ -57,8 +56,7 @@ fn answer<
     P: Progress,
 >(rt: &R, words: &[S], input: &mut I, output: &mut O, progress: &mut P) -> Result<Answer, Fault>
     ensures { MatchResult result (IsServed (map S.text words.entry.now) (I.remaining input.old) (O.contents output.old) (O.contents output.new))
-        (λ fault. Fails (map S.text words.entry.now) (I.remaining input.old) (reason_of fault)
-        × Shows (map S.text words.entry.now) (I.remaining input.old) (reason_of fault) (O.contents output.old) (O.contents output.new)) }
+        (λ fault. Fails (map S.text words.entry.now) (I.remaining input.old) (reason_of fault) (O.contents output.old) (O.contents output.new)) }
 {
     let asked = asked_for(rt.alloc(), words)?;
     let text = script_text(rt.alloc(), &asked, input)?;

@@ -29,10 +29,6 @@ abbrev pub IsUnopened : Reason → Type 0
 IsUnopened (unopened cause) = Unit {0}
 IsUnopened other = ⊥
 
-abbrev pub IsRefusal : Reason → Type 0
-IsRefusal (refusal r) = Unit {0}
-IsRefusal other = ⊥
-
 -- the exit status
 abbrev pub status_of : Reason → ℕ
 status_of (refusal r) = 1

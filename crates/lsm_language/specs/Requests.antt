@@ -1,5 +1,5 @@
 -- What the words ask for, and what is wrong with them.
-use Rattle.std.specs.Prelude.{◌≡◌, ℕ, List, [], ◌∷◌, Option, Some, None, is_some, unwrap_or, option_map, map, nat_le, ◌&&◌, ◌||◌, Bool, true, false, codes, if◌then◌else◌}
+use Rattle.std.specs.Prelude.{◌≡◌, ℕ, List, [], ◌∷◌, Option, Some, None, is_some, unwrap_or, option_map, map, nat_le, ◌&&◌, Bool, true, false, codes, if◌then◌else◌}
 use Rattle.std.specs.Str.{bytes_eq}
 use Rattle.lsm_device.specs.declared.refusal.Refusal.{Refusal}
 use Rattle.lsm_device.specs.declared.refusal.Refusal.TheVariants.{BadGeometry, BadLimit}
@@ -61,21 +61,6 @@ wants_script (asked.Replay file) = true
 wants_script (asked.Lives sectors log) = is_some (number_said sectors.now) && is_some (number_said log.now)
 wants_script (asked.Explore sectors log) = is_some (number_said sectors.now) && is_some (number_said log.now)
 wants_script _ = false
-
--- whether the input is read for rows, and whether it is read at all
-abbrev pub wants_rows : Asked → Bool
-wants_rows (asked.Load file) = true
-wants_rows _ = false
-
-abbrev pub wants_input : Asked → Bool
-wants_input (asked.Serve file) = true
-wants_input asked = wants_script asked || wants_rows asked
-
--- whether rows, or answers to lines, are printed before the answer
-abbrev pub prints_rows : Asked → Bool
-prints_rows (asked.Dump file) = true
-prints_rows (asked.Serve file) = true
-prints_rows _ = false
 
 -- the first thing that is wrong: numbers and bytes from the left, then the script, then the limits, then guards, then the batch
 abbrev pub reason_for : Asked → List ℕ → Option Reason

@@ -1,6 +1,5 @@
 -- How a dump goes on.
 use Rattle.std.proofs.Common.{◌≡◌, ◌∙◌, ◌+◌, ◌⊎◌, ℕ, Bool, true, false, true≢false, List, [], ◌∷◌, ◌++◌, length, Option, Some, None, refl, sym, ap, subst, inl, inr, append_assoc, append-nil, length-append}
-use Rattle.std.specs.List.{flat_map}
 use Rattle.std.specs.Io.KnownBytes.{Appends}
 use Rattle.lsm_codec.specs.Keys.{Bytes}
 use Rattle.lsm_device.specs.declared.refusal.Refusal.{Refusal}
@@ -12,7 +11,7 @@ use Rattle.lsm_store.specs.Calls.{Refused, Rows, Scan}
 use Rattle.lsm_store.specs.Serving.{Serves}
 use Rattle.lsm_store.specs.declared.asked.At.{At}
 use Rattle.lsm_store.specs.declared.asked.At.TheVariants.{Now}
-use Rattle.lsm_walk.specs.Walking.{GoesOn, IsHeld, WalkView, WalksTo}
+use Rattle.lsm_walk.specs.Walking.{IsHeld, WalkView, WalksTo}
 use Rattle.lsm_requests.specs.Answers.{TellsDumped, WasOpened}
 use Rattle.lsm_requests.specs.Dumping.{Dumps, DumpsPage, IsUnprinted, RefusesPage, StopsAtPage, StopsDumping, pages_lines, rows_lines}
 use Rattle.lsm_serve.proofs.ServingLaws.{appends_none, appends_more}

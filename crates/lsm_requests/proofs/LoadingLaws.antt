@@ -1,11 +1,12 @@
 -- How a loading goes on.
-use Rattle.std.proofs.Common.{◌≡◌, ◌∙◌, ◌+◌, ℕ, Bool, true, false, List, [], ◌∷◌, ◌++◌, Option, Some, None, Result, Ok, Err, is_some, ◌&&◌, ◌==◌, ◌⊎◌, inl, inr, refl, sym, ap, subst, append_assoc, append-nil, length-append}
+use Rattle.std.proofs.Common.{◌≡◌, ◌∙◌, ◌+◌, ℕ, zero, suc, Bool, true, false, List, [], ◌∷◌, ◌++◌, length, Option, Some, None, Result, Ok, Err, is_some, ◌&&◌, ◌==◌, inl, inr, refl, sym, ap, subst, append_assoc, append-nil, length-append}
 use Rattle.std.specs.Prelude.{IfErr, IfOk, IfSome, if◌then◌else◌}
 use Rattle.std.specs.Io.Buffered.{reader_buffer, reader_capacity, reader_inner, reader_remaining}
-use Rattle.std.specs.Io.KnownBytes.{Appends, prepend_known}
+use Rattle.std.specs.Io.KnownBytes.{prepend_known}
 use Rattle.std.specs.declared.io.buffered.BufReader.{BufReader}
 use Rattle.lsm_codec.specs.Map.{Map, Operation, apply, changed}
 use Rattle.lsm_device.specs.declared.refusal.Refusal.{Refusal}
+use Rattle.lsm_device.specs.declared.refusal.Refusal.TheVariants.{NoSpace}
 use Rattle.std.specs.Io.BufRead.{drop_through}
 use Rattle.lsm_language.specs.declared.fault.Fault.{Fault}
 use Rattle.lsm_language.specs.declared.fault.Fault.TheVariants.{Input as InputFault, Output as OutputFault, Refused, Unopened, Usage}
@@ -20,12 +21,13 @@ use Rattle.lsm_store.specs.State.{State}
 use Rattle.lsm_upkeep.specs.Keeping.{KeepsMap}
 use Rattle.lsm_requests.specs.declared.loading.Loading.{Loading}
 use Rattle.lsm_requests.specs.declared.loading.Loaded.{Loaded}
-use Rattle.lsm_requests.specs.Answers.{LoadsTo, TellsLoaded, WasOpened}
-use Rattle.lsm_requests.specs.Commits.{Puts, map_in}
+use Rattle.lsm_requests.specs.Answers.{TellsLoaded, TellsNumber, WasOpened}
+use Rattle.lsm_requests.specs.Commits.{AddsNot, FillsWithLog, IsKeptUp, map_in, takes_puts}
 use Rattle.lsm_requests.specs.declared.answer.Output.{Output}
 use Rattle.lsm_requests.specs.declared.answer.Output.TheVariants.{Loaded as LoadedRows}
-use Rattle.lsm_requests.specs.Loading.{AreFirstRows, ArePut, AreRead, BeginsWith, CommitsWaiting, EndsFor, EndsWith, FitsIf, HasLoaded, HasRead, IsLoadRefusal, IsLoaded, IsLoading, IsOther, RefusesLastSync, RefusesToLoad, Takes, loaded_line, none_loaded, rows_waiting, waits_after}
-use Rattle.lsm_requests.proofs.RefusedLaws.{loading_behind, opened_refused, refuses}
+use Rattle.lsm_requests.specs.Loading.{AddsWaiting, AreFirstRows, ArePut, AreRead, AreRowsOf, BeginsWith, CommitsWaiting, EndsFor, EndsReading, EndsReadingFor, EndsWith, FitsIf, HasLoaded, HasRead, IsLoaded, IsLoading, IsReady, IsShort, KeepsAndLoads, PutsRows, RefusesLastSync, RefusesToLoad, StaysLoaded, StopsAt, StopsReading, Takes, TakesNoRows, TakesNot, WaitingRefused, none_loaded, none_waits, rows_waiting}
+use Rattle.lsm_requests.proofs.CommittingLaws.{adds-puts, adds_not-keeps}
+use Rattle.lsm_requests.proofs.RefusedLaws.{opened_refused, refuses}
 
 -- ---- maps
 
@@ -33,39 +35,56 @@ pub apply-append : (m : Map) (first second : List Operation) → apply (apply m 
 apply-append m [] second = refl
 apply-append m (operation ∷ first) second = apply-append (changed m operation.key operation.value) first second
 
+-- ---- batches
+
+-- rows that were put are in the map
+pub puts_rows-map : (batches : ℕ) (rows : List Operation) (old new : StoreView) → PutsRows batches rows old new → map_in new ≡ apply (map_in old) rows
+puts_rows-map zero rows old new (none, same) = ap map_in same ∙ ap (apply (map_in old)) (sym none)
+puts_rows-map (suc batches) rows old new (earlier, batch, between, is, puts, adds) =
+    adds-puts batch between new adds ∙ ap (λ (m : Map). apply m batch) (puts_rows-map batches earlier old between puts)
+    ∙ apply-append (map_in old) earlier batch ∙ ap (apply (map_in old)) (sym is)
+
 -- ---- those that wait are committed
 
-pub commits : (old : Loading) (before after : StoreView) → Puts (rows_waiting old.batch) before after → CommitsWaiting true old before (waits_after true old) after
-commits old before after puts = (
-  refl,
-  λ begun rows l. record {
-    put = rows;
-    all = sym (append-nil rows);
-    read = l.read;
-    loaded = l.read;
-    map = puts ∙ ap (λ (m : Map). apply m (rows_waiting old.batch)) l.map ∙ apply-append begun l.put (rows_waiting old.batch) ∙ ap (apply begun) (sym l.all);
-  },
-)
-
-pub waits_still : (old : Loading) (before after : StoreView) → KeepsMap before after → CommitsWaiting false old before old after
-waits_still old before after keeps = (refl, λ begun rows l. record { put = l.put; all = l.all; read = l.read; loaded = l.loaded; map = keeps.map ∙ l.map })
+pub commits : (old : Loading) (before after : StoreView) → AddsWaiting old.batch before after → CommitsWaiting old before (none_waits old) after
+commits old before after adds = (refl, λ begun rows l. by old.batch adds begun rows l.put l.batches l.all l.puts l.read)
+  where
+    by : (batch : Option (List Operation)) → AddsWaiting batch before after → (begun : StoreView) (rows put : List Operation) (batches : ℕ) → rows ≡ put ++ rows_waiting batch
+        → PutsRows batches put begun before → old.read ≡ length rows → IsLoading begun rows (none_waits old) after
+    by None same begun rows put batches all puts read = record {
+      put = rows;
+      all = sym (append-nil rows);
+      read = read;
+      loaded = read;
+      batches = batches;
+      puts = subst (λ (s : StoreView). PutsRows batches rows begun s) (sym same) (subst (λ (it : List Operation). PutsRows batches it begun before) (sym (all ∙ append-nil put)) puts);
+    }
+    by (Some batch) adds begun rows put batches all puts read = record {
+      put = rows;
+      all = sym (append-nil rows);
+      read = read;
+      loaded = read;
+      batches = suc batches;
+      puts = (put, batch, before, all, puts, adds);
+    }
 
 -- ---- a row
 
 -- it goes to those that wait
-pub taken_to : (row : Operation) (old new : Loading) (s : StoreView) → FitsIf true row old new → Takes row true old s (record new { read = new.read + 1 }) s
+pub taken_to : (row : Operation) (old new : Loading) (s : StoreView) → FitsIf true row old new → Takes row old s (record new { read = new.read + 1 }) s
 taken_to row old new s (batch, is, becomes) begun rows l = record {
   put = l.put;
   all = ap (λ (x : List Operation). x ++ row ∷ []) (l.all ∙ ap (λ (b : Option (List Operation)). l.put ++ rows_waiting b) is) ∙ append_assoc l.put batch (row ∷ [])
       ∙ ap (λ (x : Loading). l.put ++ rows_waiting x.batch) (sym becomes);
   read = ap (λ (x : Loading). x.read + 1) becomes ∙ ap (λ (n : ℕ). n + 1) l.read ∙ sym (length-append rows (row ∷ []));
   loaded = ap (λ (x : Loading). x.loaded) becomes ∙ l.loaded;
-  map = l.map;
+  batches = l.batches;
+  puts = l.puts;
 }
 
 -- it begins a batch, behind those that were committed
-pub taken_alone : (row : Operation) (old mid new : Loading) (before after : StoreView) → CommitsWaiting true old before mid after
-    → new ≡ record { batch = Some (row ∷ []); read = mid.read + 1; loaded = mid.loaded } → Takes row true old before new after
+pub taken_alone : (row : Operation) (old mid new : Loading) (before after : StoreView) → CommitsWaiting old before mid after
+    → new ≡ record { batch = Some (row ∷ []); read = mid.read + 1; loaded = mid.loaded } → Takes row old before new after
 taken_alone row old mid new before after done is begun rows l =
     let c = done.1 begun rows l in
     let none : c.put ++ rows_waiting mid.batch ≡ c.put = ap (λ (x : Loading). c.put ++ rows_waiting x.batch) done.0 ∙ append-nil c.put in
@@ -74,30 +93,27 @@ taken_alone row old mid new before after done is begun rows l =
       all = ap (λ (x : List Operation). x ++ row ∷ []) (c.all ∙ none) ∙ ap (λ (x : Loading). c.put ++ rows_waiting x.batch) (sym is);
       read = ap (λ (x : Loading). x.read) is ∙ ap (λ (n : ℕ). n + 1) c.read ∙ sym (length-append rows (row ∷ []));
       loaded = ap (λ (x : Loading). x.loaded) is ∙ c.loaded;
-      map = c.map;
+      batches = c.batches;
+      puts = c.puts;
     }
 
--- or it is refused, whether those that waited were committed or not
-pub not_taken : (done : Bool) (row : Operation) (old new : Loading) (before after : StoreView) → CommitsWaiting done old before new after → Takes row false old before new after
-not_taken done row old new before after waits begun rows l = waits.1 begun rows l
-
 -- or nothing is done
-pub not_fit : (row : Operation) (old new : Loading) (s : StoreView) → new ≡ old → Takes row false old s new s
-not_fit row old new s same begun rows l = subst (λ (x : Loading). IsLoading begun rows x s) (sym same) l
+pub not_fit : (old new : Loading) (s : StoreView) → new ≡ old → StaysLoaded old s new s
+not_fit old new s same begun rows l = subst (λ (x : Loading). IsLoading begun rows x s) (sym same) l
 
 -- ---- what was read
 
 -- so far
 pub record IsReading (input left : Option (List ℕ)) (loading : Loading) (before now : StoreView) : Type 0 where
   pub rows : List Operation
-  pub loads : IsLoading (map_in before) rows loading now
+  pub loads : IsLoading before rows loading now
   pub reads : HasRead input rows left
 
 -- nothing yet
 pub reading-begins : (input : Option (List ℕ)) (loading : Loading) (s : StoreView) → loading ≡ none_loaded → IsReading input input loading s s
 reading-begins input loading s is = record {
   rows = [];
-  loads = subst (λ (l : Loading). IsLoading (map_in s) [] l s) (sym is) (record { put = []; all = refl; read = refl; loaded = refl; map = refl });
+  loads = subst (λ (l : Loading). IsLoading s [] l s) (sym is) (record { put = []; all = refl; read = refl; loaded = refl; batches = 0; puts = (refl, refl) });
   reads = nothing input;
 }
   where
@@ -107,10 +123,10 @@ reading-begins input loading s is = record {
 
 -- a row more
 pub reading-more : (input left after : Option (List ℕ)) (line : List ℕ) (row : Operation) (old new : Loading) (before now next : StoreView) → IsReading input left old before now
-    → ReadsLine left true line after → row_said line ≡ Some row → Takes row true old now new next → IsReading input after new before next
+    → ReadsLine left true line after → row_said line ≡ Some row → Takes row old now new next → IsReading input after new before next
 reading-more input left after line row old new before now next r reads said takes = record {
   rows = r.rows ++ row ∷ [];
-  loads = takes (map_in before) r.rows r.loads;
+  loads = takes before r.rows r.loads;
   reads = one_more input left after line row r.rows reads said r.reads;
 }
   where
@@ -137,10 +153,15 @@ begins_rows : (input left : Option (List ℕ)) (rows : List Operation) → HasRe
 begins_rows None left rows has = tt
 begins_rows (Some all) left rows (text, is, rest, good) = (rows_of (lines_of text), rest)
 
+-- and so do all rows of it
+whole-begins : (input : Option (List ℕ)) (whole : Bool) (rows : List Operation) → AreRowsOf input whole rows → AreFirstRows input rows
+whole-begins None whole rows are = tt
+whole-begins (Some all) whole rows (is, good) = ([], sym is ∙ sym (append-nil rows))
+
 -- the end of the input
 pub reading-ends : (input left after : Option (List ℕ)) (line : List ℕ) (loading : Loading) (before now : StoreView) → IsReading input left loading before now
     → ReadsLine left false line after → AreRead input (Ok tt) loading before now
-reading-ends input left after line loading before now r reads = record { rows = r.rows; loads = r.loads; ends = at_end input left after line r.rows reads r.reads }
+reading-ends input left after line loading before now r reads = record { rows = r.rows; has = now; loads = r.loads; ends = (at_end input left after line r.rows reads r.reads, refl) }
   where
     at_end : (input left after : Option (List ℕ)) (line : List ℕ) (rows : List Operation) → ReadsLine left false line after → HasRead input rows left
         → IfSome input (λ all. (rows ≡ rows_of (lines_of all)) × (are_rows (lines_of all) ≡ true))
@@ -158,8 +179,9 @@ pub reading-stops : (input left after : Option (List ℕ)) (line : List ℕ) (fa
     → ReadsLine left true line after → row_said line ≡ None → reason_of fault ≡ mistake → AreRead input (Err fault) loading before now
 reading-stops input left after line fault loading before now r reads said is = record {
   rows = r.rows;
+  has = now;
   loads = r.loads;
-  ends = subst (λ (reason : Reason). EndsFor reason input r.rows (map_in now)) (sym is) (at_line input left after line r.rows reads said r.reads);
+  ends = subst (λ (reason : Reason). EndsReadingFor reason input r.rows loading now now) (sym is) (at_line input left after line r.rows reads said r.reads, refl);
 }
   where
     at_line : (input left after : Option (List ℕ)) (line : List ℕ) (rows : List Operation) → ReadsLine left true line after → row_said line ≡ None → HasRead input rows left
@@ -176,45 +198,55 @@ reading-stops input left after line fault loading before now r reads said is = r
           good ∙ ap are_rows first ∙ ap (λ (o : Option Operation). is_some o && are_rows (lines_of (drop_through 10 left))) said,
         )
 
--- a refusal, or an input that can't be read
-ends-other : (input : Option (List ℕ)) (reason : Reason) (rows : List Operation) (m : Map) → IsOther reason input m → AreFirstRows input rows → EndsFor reason input rows m
-ends-other input mistake rows m is first = absurd is
-ends-other input (refusal e) rows m is first = (is, first)
-ends-other input (unopened cause) rows m is first = absurd is
-ends-other input unread rows m is first = (is, first)
-ends-other input unwritten rows m is first = absurd is
+-- no memory, or too many rows
+pub reading-short : (input left : Option (List ℕ)) (fault : Fault) (e : Refusal) (loading : Loading) (before now : StoreView) → IsReading input left loading before now
+    → reason_of fault ≡ refusal e → IsShort input e → AreRead input (Err fault) loading before now
+reading-short input left fault e loading before now r is short = record {
+  rows = r.rows;
+  has = now;
+  loads = r.loads;
+  ends = subst (λ (reason : Reason). EndsReadingFor reason input r.rows loading now now) (sym is) (begins_rows input left r.rows r.reads, inr (short, refl));
+}
 
-pub reading-fails : (input left : Option (List ℕ)) (fault : Fault) (loading : Loading) (before now : StoreView) → IsReading input left loading before now
-    → IsOther (reason_of fault) input (map_in now) → AreRead input (Err fault) loading before now
-reading-fails input left fault loading before now r other =
-    record { rows = r.rows; loads = r.loads; ends = ends-other input (reason_of fault) r.rows (map_in now) other (begins_rows input left r.rows r.reads) }
+-- an input that can't be read
+pub reading-unreadable : (input left : Option (List ℕ)) (fault : Fault) (loading : Loading) (before now : StoreView) → IsReading input left loading before now
+    → reason_of fault ≡ unread → AreRead input (Err fault) loading before now
+reading-unreadable input left fault loading before now r is = record {
+  rows = r.rows;
+  has = now;
+  loads = r.loads;
+  ends = subst (λ (reason : Reason). EndsReadingFor reason input r.rows loading now now) (sym is) (begins_rows input left r.rows r.reads, refl);
+}
+
+-- a row that was not taken
+pub reading-not_taken : (input left : Option (List ℕ)) (fault : Fault) (e : Refusal) (old new : Loading) (before now next : StoreView) → IsReading input left old before now
+    → reason_of fault ≡ refusal e → TakesNot old now e new next → AreRead input (Err fault) new before next
+reading-not_taken input left fault e old new before now next r is (inl (short, stays)) =
+    reading-short input left fault e new before next (record { rows = r.rows; loads = stays before r.rows r.loads; reads = r.reads }) is (inl short)
+reading-not_taken input left fault e old new before now next r is (inr (same, refused)) = record {
+  rows = r.rows;
+  has = now;
+  loads = not_fit old new now same before r.rows r.loads;
+  ends = subst (λ (reason : Reason). EndsReadingFor reason input r.rows new now next) (sym is)
+      (begins_rows input left r.rows r.reads, inl (subst (λ (l : Loading). AddsNot (rows_waiting l.batch) now e next) (sym same) refused));
+}
 
 -- ---- the whole
 
--- an end that is no refusal says nothing of the map
-ends-still : (input : Option (List ℕ)) (ended : Result (Unit {0}) Fault) (rows : List Operation) (m after : Map) → ((e : Refusal) → ended ≡ Err (Refused e) → ⊥) → EndsWith ended input rows m
-    → EndsWith ended input rows after
-ends-still input (Ok done) rows m after other ends = ends
-ends-still input (Err (Usage usage)) rows m after other ends = ends
-ends-still input (Err (Refused e)) rows m after other ends = absurd (other e refl)
-ends-still input (Err (Unopened cause)) rows m after other ends = ends
-ends-still input (Err (InputFault error)) rows m after other ends = ends
-ends-still input (Err (OutputFault error)) rows m after other ends = ends
+-- the rows that were read begin those of the input
+ends-begin : (input : Option (List ℕ)) (ended : Result (Unit {0}) Fault) (rows : List Operation) (loading : Loading) (has after : StoreView)
+    → EndsReading ended input rows loading has after → AreFirstRows input rows
+ends-begin input (Ok done) rows loading has after (are, same) = whole-begins input true rows are
+ends-begin input (Err fault) rows loading has after ends = by (reason_of fault) ends
+  where
+    by : (reason : Reason) → EndsReadingFor reason input rows loading has after → AreFirstRows input rows
+    by mistake (are, same) = whole-begins input false rows are
+    by (refusal e) (begins, stops) = begins
+    by (unopened cause) none = absurd none
+    by unread (begins, same) = begins
+    by unwritten none = absurd none
 
--- those that were read were put, where the rest of them was committed
-pub put-read : (input : Option (List ℕ)) (ended : Result (Unit {0}) Fault) (loading new : Loading) (before now next : StoreView) → ((e : Refusal) → ended ≡ Err (Refused e) → ⊥)
-    → AreRead input ended loading before now → CommitsWaiting true loading now new next → ArePut input ended new before next
-put-read input ended loading new before now next other r commits =
-    let done = commits.1 (map_in before) r.rows r.loads in
-    let none : done.put ++ rows_waiting new.batch ≡ done.put = ap (λ (x : Loading). done.put ++ rows_waiting x.batch) commits.0 ∙ append-nil done.put in
-    record {
-      rows = r.rows;
-      number = ap (λ (x : Loading). x.loaded) commits.0 ∙ r.loads.read;
-      ends = ends-still input ended r.rows (map_in now) (map_in next) other r.ends;
-      map = done.map ∙ ap (apply (map_in before)) (sym (done.all ∙ none));
-    }
-
--- and where it was not, some of them
+-- some of them do
 put-some : (all rows put waiting : List Operation) → rows ≡ put ++ waiting → BeginsWith all rows → BeginsWith all put
 put-some all rows put waiting is (rest, begins) = (waiting ++ rest, begins ∙ ap (λ (l : List Operation). l ++ rest) is ∙ append_assoc put waiting rest)
 
@@ -222,42 +254,96 @@ ends-some : (input : Option (List ℕ)) (rows put waiting : List Operation) → 
 ends-some None rows put waiting is begins = tt
 ends-some (Some all) rows put waiting is begins = put-some (rows_of (lines_of all)) rows put waiting is begins
 
-ends-begin : (input : Option (List ℕ)) (ended : Result (Unit {0}) Fault) (rows : List Operation) (m : Map) → EndsWith ended input rows m → AreFirstRows input rows
-ends-begin None ended rows m ends = tt
-ends-begin (Some all) (Ok done) rows m (is, good) = ([], sym is ∙ sym (append-nil rows))
-ends-begin (Some all) (Err fault) rows m ends = by (reason_of fault) ends
+-- what is in a store that ended so
+ends-map : (ended : Result (Unit {0}) Fault) (input : Option (List ℕ)) (rows : List Operation) (has after : StoreView) → EndsWith ended input rows has after → map_in after ≡ map_in has
+ends-map (Ok done) input rows has after (are, same) = ap map_in same
+ends-map (Err fault) input rows has after ends = by (reason_of fault) ends
   where
-    by : (reason : Reason) → EndsFor reason (Some all) rows m → BeginsWith (rows_of (lines_of all)) rows
-    by mistake (is, bad) = ([], sym is ∙ sym (append-nil rows))
-    by (refusal e) (is, begins) = begins
-    by (unopened cause) (is, begins) = begins
-    by unread (is, begins) = begins
-    by unwritten (is, begins) = begins
+    by : (reason : Reason) → EndsFor reason input rows has after → map_in after ≡ map_in has
+    by mistake (are, same) = ap map_in same
+    by (refusal e) (begins, inl (batch, first, refused)) = let keeps = adds_not-keeps batch e has after refused in keeps.map
+    by (refusal e) (begins, inr (short, same)) = ap map_in same
+    by (unopened cause) none = absurd none
+    by unread (begins, same) = ap map_in same
+    by unwritten none = absurd none
 
-put-stopped : (input : Option (List ℕ)) (ended : Result (Unit {0}) Fault) (fault : Fault) (loading new : Loading) (before now next : StoreView) → AreRead input ended loading before now
-    → IsOther (reason_of fault) input (map_in next) → CommitsWaiting false loading now new next → ArePut input (Err fault) new before next
-put-stopped input ended fault loading new before now next r other waits =
-    let l = waits.1 (map_in before) r.rows r.loads in
-    record {
-      rows = l.put;
-      number = l.loaded;
-      ends = ends-other input (reason_of fault) l.put (map_in next) other (ends-some input r.rows l.put (rows_waiting new.batch) l.all (ends-begin input ended r.rows (map_in now) r.ends));
-      map = l.map;
-    }
+-- rows that were put, up to this end
+put : (input : Option (List ℕ)) (ended : Result (Unit {0}) Fault) (loading : Loading) (rows : List Operation) (batches : ℕ) (before has after : StoreView)
+    → PutsRows batches rows before has → loading.loaded ≡ length rows → EndsWith ended input rows has after → ArePut input ended loading before after
+put input ended loading rows batches before has after puts counted ends = record {
+  loads = record {
+    rows = rows;
+    batches = batches;
+    has = has;
+    puts = puts;
+    ends = ends;
+    map = ends-map ended input rows has after ends ∙ puts_rows-map batches rows before has puts;
+  };
+  number = counted;
+}
 
-pub put-refused : (input : Option (List ℕ)) (ended : Result (Unit {0}) Fault) (fault : Fault) (e : Refusal) (loading new : Loading) (before now next : StoreView) → AreRead input ended loading before now
-    → reason_of fault ≡ refusal e → IsLoadRefusal (map_in next) e → CommitsWaiting false loading now new next → ArePut input (Err fault) new before next
-put-refused input ended fault e loading new before now next r is refused waits =
-    put-stopped input ended fault loading new before now next r (subst (λ (reason : Reason). IsOther reason input (map_in next)) (sym is) (inr refused)) waits
+-- an end that is no refusal, where those that waited are put
+ends-put : (input : Option (List ℕ)) (ended : Result (Unit {0}) Fault) (rows : List Operation) (loading : Loading) (has after next : StoreView) → ((e : Refusal) → ended ≡ Err (Refused e) → ⊥)
+    → EndsReading ended input rows loading has after → EndsWith ended input rows next next
+ends-put input (Ok done) rows loading has after next other (are, same) = (are, refl)
+ends-put input (Err (Usage usage)) rows loading has after next other (are, same) = (are, refl)
+ends-put input (Err (Refused e)) rows loading has after next other ends = absurd (other e refl)
+ends-put input (Err (Unopened cause)) rows loading has after next other ends = absurd ends
+ends-put input (Err (InputFault error)) rows loading has after next other (begins, same) = (begins, refl)
+ends-put input (Err (OutputFault error)) rows loading has after next other ends = absurd ends
 
--- nothing more was done
-pub waits-as_it_is : (loading : Loading) (now : StoreView) → CommitsWaiting false loading now loading now
-waits-as_it_is loading now = (refl, λ begun rows l. l)
+-- the store has not changed behind the last of them
+ends-same : (input : Option (List ℕ)) (ended : Result (Unit {0}) Fault) (rows : List Operation) (loading : Loading) (has after : StoreView) → ((e : Refusal) → ended ≡ Err (Refused e) → ⊥)
+    → EndsReading ended input rows loading has after → after ≡ has
+ends-same input (Ok done) rows loading has after other (are, same) = same
+ends-same input (Err (Usage usage)) rows loading has after other (are, same) = same
+ends-same input (Err (Refused e)) rows loading has after other ends = absurd (other e refl)
+ends-same input (Err (Unopened cause)) rows loading has after other ends = absurd ends
+ends-same input (Err (InputFault error)) rows loading has after other (begins, same) = same
+ends-same input (Err (OutputFault error)) rows loading has after other ends = absurd ends
+
+-- how far it is then
+loads-then : (input : Option (List ℕ)) (ended : Result (Unit {0}) Fault) (loading : Loading) (before now : StoreView) → ((e : Refusal) → ended ≡ Err (Refused e) → ⊥)
+    → (r : AreRead input ended loading before now) → IsLoading before r.rows loading now
+loads-then input ended loading before now other r =
+    subst (λ (s : StoreView). IsLoading before r.rows loading s) (sym (ends-same input ended r.rows loading r.has now other r.ends)) r.loads
+
+-- those that were read were put, where the rest of them was committed
+pub put-read : (input : Option (List ℕ)) (ended : Result (Unit {0}) Fault) (loading new : Loading) (before now next : StoreView) → ((e : Refusal) → ended ≡ Err (Refused e) → ⊥)
+    → AreRead input ended loading before now → CommitsWaiting loading now new next → ArePut input ended new before next
+put-read input ended loading new before now next other r commits =
+    let done = commits.1 before r.rows (loads-then input ended loading before now other r) in
+    let none : done.put ++ rows_waiting new.batch ≡ done.put = ap (λ (x : Loading). done.put ++ rows_waiting x.batch) commits.0 ∙ append-nil done.put in
+    let all : done.put ≡ r.rows = sym (done.all ∙ none) in
+    put input ended new r.rows done.batches before next next (subst (λ (rows : List Operation). PutsRows done.batches rows before next) all done.puts)
+    (done.loaded ∙ ap (λ (rows : List Operation). length rows) all) (ends-put input ended r.rows loading r.has now next other r.ends)
+
+-- and where it was not, some of them
+pub put-refused : (input : Option (List ℕ)) (ended : Result (Unit {0}) Fault) (fault : Fault) (e : Refusal) (loading new : Loading) (before now next : StoreView)
+    → ((e : Refusal) → ended ≡ Err (Refused e) → ⊥) → AreRead input ended loading before now → reason_of fault ≡ refusal e → WaitingRefused loading now e new next
+    → ArePut input (Err fault) new before next
+put-refused input ended fault e loading new before now next other r is (same, refused) =
+    let l = loads-then input ended loading before now other r in
+    let first = ends-begin input ended r.rows loading r.has now r.ends in
+    put input (Err fault) new l.put l.batches before now next l.puts (ap (λ (x : Loading). x.loaded) same ∙ l.loaded)
+    (subst (λ (reason : Reason). EndsFor reason input l.put now next) (sym is) (
+      ends-some input r.rows l.put (rows_waiting loading.batch) l.all first,
+      inl (rows_waiting loading.batch, subst (AreFirstRows input) l.all first, refused),
+    ))
 
 -- what a reading that was refused has put
-pub put-as_read : (input : Option (List ℕ)) (e : Refusal) (loading : Loading) (before now : StoreView) → AreRead input (Err (Refused e)) loading before now
+put-as_read : (input : Option (List ℕ)) (e : Refusal) (loading : Loading) (before now : StoreView) → AreRead input (Err (Refused e)) loading before now
     → ArePut input (Err (Refused e)) loading before now
-put-as_read input e loading before now r = put-stopped input (Err (Refused e)) (Refused e) loading loading before now now r r.ends.0 (waits-as_it_is loading now)
+put-as_read input e loading before now r =
+    let l = r.loads in
+    put input (Err (Refused e)) loading l.put l.batches before r.has now l.puts l.loaded (
+      ends-some input r.rows l.put (rows_waiting loading.batch) l.all r.ends.0,
+      by r.ends.1,
+    )
+  where
+    by : StopsReading input loading r.has e now → StopsAt input r.loads.put r.has e now
+    by (inl refused) = inl (rows_waiting loading.batch, subst (AreFirstRows input) r.loads.all r.ends.0, refused)
+    by (inr short) = inr short
 
 pub put-if_refused : (input : Option (List ℕ)) (ended : Result (Unit {0}) Fault) (fault : Fault) (e : Refusal) (loading : Loading) (before now : StoreView) → ended ≡ Err fault
     → fault ≡ Refused e → AreRead input ended loading before now → ArePut input ended loading before now
@@ -268,92 +354,66 @@ put-if_refused input ended fault e loading before now is refused r =
 
 -- ---- the sync
 
--- it changes no map, and then all batches outlast a crash
 pub loaded-synced : (input : Option (List ℕ)) (loaded : Loaded) (loading : Loading) (before now after : StoreView) → ArePut input loaded.ended loading before now
     → loaded.rows ≡ loading.loaded → Serves now Sync Done after → IsLoaded input loaded before after
-loaded-synced input loaded loading before now after put is serves =
-    let same : map_in after ≡ map_in now = ap (λ (s : State). present_map s.points) serves.state in
-    record {
-      rows = put.rows;
-      number = is ∙ put.number;
-      ends = subst (EndsWith loaded.ended input put.rows) (sym same) put.ends;
-      map = same ∙ put.map;
-      synced = ap (λ (s : State). s.points.later) serves.state;
-    }
+loaded-synced input loaded loading before now after put is serves = record { between = now; loads = put.loads; number = is ∙ put.number; syncs = serves }
 
 -- or it is refused
 pub refuses_synced : (input : Option (List ℕ)) (ended : Result (Unit {0}) Fault) (loading : Loading) (before now after : StoreView) (e : Refusal) → ArePut input ended loading before now
     → Serves now Sync (RefusedSo e) after → RefusesLastSync input before e
-refuses_synced input ended loading before now after e put serves = record {
-  rows = put.rows;
-  between = now;
-  first = ends-begin input ended put.rows (map_in now) put.ends;
-  map = put.map;
-  refused = refuses Sync now after e serves;
-}
+refuses_synced input ended loading before now after e put serves =
+    record { ended = ended; between = now; loads = put.loads; refused = refuses Sync now after e serves }
 
 -- ---- the answer
 
--- behind what kept the map
-pub loaded-behind : (input : Option (List ℕ)) (loaded : Loaded) (before mid after : StoreView) → KeepsMap before mid → IsLoaded input loaded mid after → IsLoaded input loaded before after
-loaded-behind input loaded before mid after keeps l =
-    record { rows = l.rows; number = l.number; ends = l.ends; map = l.map ∙ ap (λ (m : Map). apply m l.rows) keeps.map; synced = l.synced }
+-- a store that was kept up, and had room
+pub is_ready : (before kept : StoreView) (beside : ℕ) → IsKeptUp before kept → FillsWithLog kept beside → takes_puts beside kept ≡ true → IsReady before kept
+is_ready before kept beside keeps fills room = record { keeps = keeps; room = record { beside = beside; fills = fills; room = room } }
 
-pub loads_behind : (input : Option (List ℕ)) (r : Result Loaded Refusal) (before mid after : StoreView) → KeepsMap before mid → IfOk r (λ loaded. IsLoaded input loaded mid after)
-    → IfOk r (λ loaded. IsLoaded input loaded before after)
-loads_behind input (Ok loaded) before mid after keeps loads = loaded-behind input loaded before mid after keeps loads
-loads_behind input (Err e) before mid after keeps loads = tt
+loaded_behind : (input : Option (List ℕ)) (loaded : Loaded) (before kept after : StoreView) → IsReady before kept → KeepsMap before kept → IsLoaded input loaded kept after
+    → KeepsAndLoads input loaded before after
+loaded_behind input loaded before kept after ready keeps l =
+    let synced : map_in after ≡ map_in l.between = ap (λ (s : State). present_map s.points) l.syncs.state in
+    record { kept = kept; ready = ready; loads = l; map = synced ∙ l.loads.map ∙ ap (λ (m : Map). apply m l.loads.rows) keeps.map }
 
--- a loading that was refused with no row put
-pub refuses_none : (input : Option (List ℕ)) (before mid : StoreView) (e : Refusal) → KeepsMap before mid → IsLoadRefusal (map_in mid) e → RefusesToLoad input before e
-refuses_none input before mid e keeps refused = inl (loading_behind before mid e keeps refused)
+pub loads_behind : (input : Option (List ℕ)) (r : Result Loaded Refusal) (before kept after : StoreView) → IsReady before kept → KeepsMap before kept
+    → IfOk r (λ loaded. IsLoaded input loaded kept after) → IfOk r (λ loaded. KeepsAndLoads input loaded before after)
+loads_behind input (Ok loaded) before kept after ready keeps loads = loaded_behind input loaded before kept after ready keeps loads
+loads_behind input (Err e) before kept after ready keeps loads = tt
 
--- or behind them
-pub refuses_behind : (input : Option (List ℕ)) (r : Result Loaded Refusal) (before mid : StoreView) → KeepsMap before mid → IfErr r (RefusesLastSync input mid) → IfErr r (RefusesToLoad input before)
-refuses_behind input (Ok loaded) before mid keeps refused = tt
-refuses_behind input (Err e) before mid keeps r =
-    inr record { rows = r.rows; between = r.between; first = r.first; map = r.map ∙ ap (λ (m : Map). apply m r.rows) keeps.map; refused = r.refused }
+-- or it was refused
+pub refuses_none : (input : Option (List ℕ)) (before kept : StoreView) (e : Refusal) → IsKeptUp before kept → TakesNoRows kept e → RefusesToLoad input before e
+refuses_none input before kept e keeps none = inl (kept, keeps, none)
+
+pub no_room : (kept : StoreView) (beside : ℕ) (e : Refusal) → FillsWithLog kept beside → e ≡ NoSpace → takes_puts beside kept ≡ false → TakesNoRows kept e
+no_room kept beside e fills is lacks = inr (is, record { beside = beside; fills = fills; room = lacks })
+
+-- or the sync behind them
+pub refuses_behind : (input : Option (List ℕ)) (r : Result Loaded Refusal) (before kept : StoreView) → IsReady before kept → IfErr r (RefusesLastSync input kept)
+    → IfErr r (RefusesToLoad input before)
+refuses_behind input (Ok loaded) before kept ready refused = tt
+refuses_behind input (Err e) before kept ready refused = inr (kept, ready, refused)
 
 -- all rows of the input
-pub has_loaded : (input : Option (List ℕ)) (loaded : Loaded) (before after : StoreView) (output : Output) → IsLoaded input loaded before after → loaded.ended ≡ Ok tt
+pub has_loaded : (input : Option (List ℕ)) (loaded : Loaded) (before after : StoreView) (output : Output) → KeepsAndLoads input loaded before after → loaded.ended ≡ Ok tt
     → output ≡ LoadedRows loaded.rows → HasLoaded input before after output
-has_loaded input loaded before after output l is told = record {
-  rows = l.rows;
-  ends = subst (λ (ended : Result (Unit {0}) Fault). EndsWith ended input l.rows (map_in after)) is l.ends;
-  map = l.map;
-  synced = l.synced;
-  told = told ∙ ap LoadedRows l.number;
-}
+has_loaded input loaded before after output l is told = record { loaded = loaded; loads = l; whole = is; told = told }
 
 -- or not all of them, up to a fault
 pub tells_loaded : (input lines output output_after : Option (List ℕ)) (loaded : Loaded) (fault : Fault) (told : Reason) (store after : StoreView) → WasOpened store → lines ≡ input
-    → IsLoaded lines loaded store after → loaded.ended ≡ Err fault → (told ≡ unwritten) ⊎ ((told ≡ reason_of fault) × Appends output output_after (loaded_line loaded.rows))
+    → KeepsAndLoads lines loaded store after → loaded.ended ≡ Err fault → TellsNumber loaded.rows (reason_of fault) told output output_after
     → TellsLoaded input told output output_after
-tells_loaded input lines output output_after loaded fault told store after opened same l is (inl unknown) = inr (inl unknown)
-tells_loaded input lines output output_after loaded fault told store after opened same l is (inr (as_it_is, appends)) =
-    let here = subst (λ (i : Option (List ℕ)). IsLoaded i loaded store after) same l in
-    inr (inr record {
+tells_loaded input lines output output_after loaded fault told store after opened same l is tells =
+    inr record {
       store = store;
       after = after;
       loaded = loaded;
       fault = fault;
       opened = opened;
-      loads = here;
+      loads = subst (λ (i : Option (List ℕ)). KeepsAndLoads i loaded store after) same l;
       ends = is;
-      same = sym as_it_is;
-      told = subst (λ (n : ℕ). Appends output output_after (loaded_line n)) here.number appends;
-    })
-
--- how it ended then
-pub told-ends : (input output output_after : Option (List ℕ)) (reason : Reason) → (l : LoadsTo input output output_after reason) → EndsFor reason input l.loads.rows (map_in l.after)
-told-ends input output output_after reason l =
-    subst (λ (r : Reason). EndsFor r input l.loads.rows (map_in l.after)) l.same
-    (subst (λ (ended : Result (Unit {0}) Fault). EndsWith ended input l.loads.rows (map_in l.after)) l.ends l.loads.ends)
-
--- a line is no row
-pub none-bad : (input : Option (List ℕ)) (rows : List Operation) (m : Map) → EndsFor mistake input rows m → IfSome input (λ all. are_rows (lines_of all) ≡ false)
-none-bad None rows m ends = tt
-none-bad (Some all) rows m ends = ends.1
+      tells = tells;
+    }
 
 -- or it was refused: no store was opened
 pub tells_unopened : (input output : Option (List ℕ)) (reason : Reason) (e : Refusal) → reason ≡ refusal e → IsOpeningRefusal e → TellsLoaded input reason output output

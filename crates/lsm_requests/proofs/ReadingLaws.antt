@@ -1,53 +1,35 @@
 -- How a reading of rows goes on where it counts them, and where one of them is refused.
 use Rattle.std.proofs.Common.{◌≡◌, ◌∙◌, ◌+◌, ◌⊎◌, ℕ, Bool, true, false, List, [], ◌∷◌, length, Option, Some, None, Err, refl, sym, ap, subst, length-append, inl, inr, Ok, true≢false, arith}
-use Rattle.lsm_codec.specs.Map.{Map, Operation}
+use Rattle.lsm_codec.specs.Map.{Operation}
 use Rattle.lsm_device.specs.declared.refusal.Refusal.{Refusal}
 use Rattle.lsm_device.specs.declared.refusal.Refusal.TheVariants.{Exhausted, NoMemory}
 use Rattle.lsm_language.specs.declared.fault.Fault.{Fault}
 use Rattle.lsm_language.specs.declared.fault.Fault.TheVariants.{Refused}
-use Rattle.lsm_language.specs.Faults.{Reason, mistake, refusal, unread, reason_of}
+use Rattle.lsm_language.specs.Faults.{mistake, refusal, unread, reason_of}
 use Rattle.lsm_language.specs.Rows.{ReadsLine, lines_of, row_said, rows_of}
 use Rattle.lsm_store.specs.Backing.{StoreView}
 use Rattle.lsm_requests.specs.declared.loading.Loading.{Loading}
-use Rattle.lsm_requests.specs.Commits.{map_in}
-use Rattle.lsm_requests.specs.Loading.{AreRead, CommitsWaiting, FitsIf, HasRead, HasTooMany, IsLoadRefusal, IsOther, Takes}
-use Rattle.lsm_requests.proofs.LoadingLaws.{IsReading, reading-ends, reading-fails, reading-more, reading-stops, taken_alone, taken_to}
+use Rattle.lsm_requests.specs.Loading.{AreRead, CommitsWaiting, FitsIf, HasRead, HasTooMany, StaysLoaded, Takes, WaitingRefused}
+use Rattle.lsm_requests.proofs.LoadingLaws.{IsReading, reading-ends, reading-more, reading-short, reading-stops, reading-unreadable, taken_alone, taken_to}
 
 -- a row more is one more
 pub reading-counted : (input left : Option (List ℕ)) (row : Operation) (old new : Loading) (before now next : StoreView) (count : ℕ) → IsReading input left old before now
-    → Takes row true old now new next → old.read ≡ count → new.read ≡ count + 1
+    → Takes row old now new next → old.read ≡ count → new.read ≡ count + 1
 reading-counted input left row old new before now next count r takes is =
-    let more = takes (map_in before) r.rows r.loads in
+    let more = takes before r.rows r.loads in
     more.read ∙ length-append r.rows (row ∷ []) ∙ ap (λ (n : ℕ). n + 1) (sym r.loads.read) ∙ ap (λ (n : ℕ). n + 1) is
 
--- a row that was refused leaves what was read
-reading-same : (input left : Option (List ℕ)) (row : Operation) (old new : Loading) (before now next : StoreView) → IsReading input left old before now
-    → Takes row false old now new next → IsReading input left new before next
-reading-same input left row old new before now next r takes = record { rows = r.rows; loads = takes (map_in before) r.rows r.loads; reads = r.reads }
-
-pub reading-refused : (input left : Option (List ℕ)) (fault : Fault) (e : Refusal) (row : Operation) (old new : Loading) (before now next : StoreView) → IsReading input left old before now
-    → Takes row false old now new next → reason_of fault ≡ refusal e → IsLoadRefusal (map_in next) e → AreRead input (Err fault) new before next
-reading-refused input left fault e row old new before now next r takes is refused =
-    reading-fails input left fault new before next (reading-same input left row old new before now next r takes) (subst (λ (reason : Reason). IsOther reason input (map_in next)) (sym is) (inr refused))
-
--- no memory
-no_memory : (reason : Reason) (input : Option (List ℕ)) (m : Map) → reason ≡ refusal NoMemory → IsOther reason input m
-no_memory reason input m is = subst (λ (r : Reason). IsOther r input m) (sym is) (inr (inl refl))
-
 -- an input that can't be read, or no memory for a line
-unread_other : (reason : Reason) (input : Option (List ℕ)) (m : Map) → (reason ≡ refusal NoMemory) ⊎ (reason ≡ unread) → IsOther reason input m
-unread_other reason input m (inl is) = no_memory reason input m is
-unread_other reason input m (inr is) = subst (λ (r : Reason). IsOther r input m) (sym is) tt
-
 pub reading-unread : (input left : Option (List ℕ)) (fault : Fault) (loading : Loading) (before now : StoreView) → IsReading input left loading before now
     → (reason_of fault ≡ refusal NoMemory) ⊎ (reason_of fault ≡ unread) → AreRead input (Err fault) loading before now
-reading-unread input left fault loading before now r is = reading-fails input left fault loading before now r (unread_other (reason_of fault) input (map_in now) is)
+reading-unread input left fault loading before now r (inl is) = reading-short input left fault NoMemory loading before now r is (inl refl)
+reading-unread input left fault loading before now r (inr is) = reading-unreadable input left fault loading before now r is
 
 -- a line that is no row, or no memory for one
 pub reading-no_row : (input left after : Option (List ℕ)) (line : List ℕ) (fault : Fault) (loading : Loading) (before now : StoreView) → IsReading input left loading before now
     → ReadsLine left true line after → ((reason_of fault ≡ mistake) × (row_said line ≡ None)) ⊎ (reason_of fault ≡ refusal NoMemory) → AreRead input (Err fault) loading before now
 reading-no_row input left after line fault loading before now r reads (inl (is, none)) = reading-stops input left after line fault loading before now r reads none is
-reading-no_row input left after line fault loading before now r reads (inr is) = reading-fails input left fault loading before now r (no_memory (reason_of fault) input (map_in now) is)
+reading-no_row input left after line fault loading before now r reads (inr is) = reading-short input left fault NoMemory loading before now r is (inl refl)
 
 -- the most rows that are read
 too_many : (input left : Option (List ℕ)) (rows : List Operation) → length rows ≡ 18446744073709551615 → HasRead input rows left → HasTooMany input
@@ -59,31 +41,40 @@ too_many (Some all) left rows is (text, same, rest, good) =
 pub reading-exhausted : (input left : Option (List ℕ)) (loading : Loading) (before now : StoreView) (count : ℕ) → count ≡ 18446744073709551615 → IsReading input left loading before now
     → loading.read ≡ count → AreRead input (Err (Refused Exhausted)) loading before now
 reading-exhausted input left loading before now count all r is =
-    reading-fails input left (Refused Exhausted) loading before now r (inl (refl, too_many input left r.rows (sym r.loads.read ∙ is ∙ all) r.reads))
+    reading-short input left (Refused Exhausted) Exhausted loading before now r refl (inr (refl, too_many input left r.rows (sym r.loads.read ∙ is ∙ all) r.reads))
 
 -- ---- a row
 
--- where it did not go to those that wait, nothing had changed
-pub unfit_takes : (taken : Bool) (row : Operation) (old mid new : Loading) (before after : StoreView) → mid ≡ old → Takes row taken mid before new after → Takes row taken old before new after
-unfit_takes taken row old mid new before after is takes = subst (λ (l : Loading). Takes row taken l before new after) is takes
-
 -- by what is told of it
-pub taken_when : (fits : Bool) (row : Operation) (old new : Loading) (s : StoreView) → fits ≡ true → FitsIf fits row old new → Takes row true old s (record new { read = new.read + 1 }) s
+pub taken_when : (fits : Bool) (row : Operation) (old new : Loading) (s : StoreView) → fits ≡ true → FitsIf fits row old new → Takes row old s (record new { read = new.read + 1 }) s
 taken_when true row old new s is fit = taken_to row old new s fit
 taken_when false row old new s is fit = absurd (true≢false (sym is))
 
-pub alone_when : (row : Operation) (batch : List Operation) (old mid new : Loading) (before after : StoreView) → CommitsWaiting true old before mid after → batch ≡ row ∷ []
-    → new ≡ record { batch = Some batch; read = mid.read + 1; loaded = mid.loaded } → Takes row true old before new after
+alone_when : (row : Operation) (batch : List Operation) (old mid new : Loading) (before after : StoreView) → CommitsWaiting old before mid after → batch ≡ row ∷ []
+    → new ≡ record { batch = Some batch; read = mid.read + 1; loaded = mid.loaded } → Takes row old before new after
 alone_when row batch old mid new before after done one is =
     taken_alone row old mid new before after done (is ∙ ap (λ (b : List Operation). made b mid) one)
   where
     made : List Operation → Loading → Loading
     made b mid = record { batch = Some b; read = mid.read + 1; loaded = mid.loaded }
 
-pub unfit_when : (fits taken : Bool) (row : Operation) (old mid new : Loading) (before after : StoreView) → fits ≡ false → FitsIf fits row old mid → Takes row taken mid before new after
-    → Takes row taken old before new after
-unfit_when true taken row old mid new before after is fit takes = absurd (true≢false is)
-unfit_when false taken row old mid new before after is fit takes = unfit_takes taken row old mid new before after fit takes
+-- where it did not go to those that wait, nothing had changed
+unfit : (fits : Bool) (row : Operation) (old mid : Loading) → fits ≡ false → FitsIf fits row old mid → mid ≡ old
+unfit true row old mid is fit = absurd (true≢false is)
+unfit false row old mid is fit = fit
+
+pub alone_unfit : (fits : Bool) (row : Operation) (batch : List Operation) (old mid done new : Loading) (before after : StoreView) → fits ≡ false → FitsIf fits row old mid
+    → CommitsWaiting mid before done after → batch ≡ row ∷ [] → new ≡ record { batch = Some batch; read = done.read + 1; loaded = done.loaded } → Takes row old before new after
+alone_unfit fits row batch old mid done new before after is fit commits one made =
+    subst (λ (l : Loading). Takes row l before new after) (unfit fits row old mid is fit) (alone_when row batch mid done new before after commits one made)
+
+pub stays_unfit : (fits : Bool) (row : Operation) (old mid done : Loading) (before after : StoreView) → fits ≡ false → FitsIf fits row old mid → CommitsWaiting mid before done after
+    → StaysLoaded old before done after
+stays_unfit fits row old mid done before after is fit commits = subst (λ (l : Loading). StaysLoaded l before done after) (unfit fits row old mid is fit) commits.1
+
+pub refused_unfit : (fits : Bool) (row : Operation) (old mid new : Loading) (before after : StoreView) (e : Refusal) → fits ≡ false → FitsIf fits row old mid
+    → WaitingRefused mid before e new after → WaitingRefused old before e new after
+refused_unfit fits row old mid new before after e is fit refused = subst (λ (l : Loading). WaitingRefused l before e new after) (unfit fits row old mid is fit) refused
 
 -- ---- a line, by what is told of it
 
@@ -93,7 +84,7 @@ ends_when true input left after line loading before now is r reads = absurd (tru
 ends_when false input left after line loading before now is r reads = reading-ends input left after line loading before now r reads
 
 pub more_when : (more : Bool) (input left after : Option (List ℕ)) (line seen : List ℕ) (row : Operation) (old new : Loading) (before now next : StoreView) → more ≡ true → IsReading input left old before now
-    → ReadsLine left more line after → seen ≡ line → row_said seen ≡ Some row → Takes row true old now new next → IsReading input after new before next
+    → ReadsLine left more line after → seen ≡ line → row_said seen ≡ Some row → Takes row old now new next → IsReading input after new before next
 more_when true input left after line seen row old new before now next is r reads same said takes =
     reading-more input left after line row old new before now next r reads (ap row_said (sym same) ∙ said) takes
 more_when false input left after line seen row old new before now next is r reads same said takes = absurd (true≢false (sym is))

@@ -1,21 +1,18 @@
 -- Calls of a store that were refused.
-use Rattle.std.proofs.Common.{◌≡◌, ◌⊎◌, ℕ, Bool, true, false, List, Result, Ok, Err, IfErr, refl, sym, ap, subst, inl, inr}
+use Rattle.std.proofs.Common.{◌≡◌, ◌⊎◌, ℕ, Bool, true, false, List, Ok, Err, refl, sym, ap, subst, inl, inr}
 use Rattle.std.specs.Prelude.{is_some, if◌then◌else◌}
 use Rattle.lsm_codec.specs.Guards.{Condition}
-use Rattle.lsm_codec.specs.Map.{Map, Operation}
+use Rattle.lsm_codec.specs.Map.{Operation}
 use Rattle.lsm_device.specs.declared.refusal.Refusal.{Refusal}
 use Rattle.lsm_device.specs.declared.refusal.Refusal.TheVariants.{NoMemory, Io, Stopped, NoSpace}
 use Rattle.lsm_open.specs.Recovering.{IsOpeningRefusal}
 use Rattle.lsm_store.specs.Backing.{StoreView, machine_of}
-use Rattle.lsm_store.specs.Calls.{Call, Reply, CommitIf, Sync, Number, Refused, Unread, as_told, reply_of}
+use Rattle.lsm_store.specs.Calls.{Call, CommitIf, Sync, Number, Refused, Unread, as_told}
 use Rattle.lsm_store.specs.Serving.{Serves, reply_in}
 use Rattle.lsm_store.specs.State.{State}
 use Rattle.lsm_store.specs.Stats.{stat_answer, stat_of}
-use Rattle.lsm_store.specs.declared.stat.Stat.{Stat}
-use Rattle.lsm_upkeep.specs.Keeping.{KeepsMap}
 use Rattle.lsm_requests.specs.Answers.{IsRefusedOpened, WasOpened}
-use Rattle.lsm_requests.specs.Commits.{IsKeptUp, Refuses, map_in, takes_puts}
-use Rattle.lsm_requests.specs.Loading.{FillsWithLog, IsLoadRefusal, IsLoadingCall}
+use Rattle.lsm_requests.specs.Commits.{IsKeptUp, Refuses, takes_puts}
 use Rattle.lsm_requests.specs.Refusing.{RefusesToCommit, RefusesToTell}
 
 -- what is told of a batch under guards that was refused, whether a read or a write faulted
@@ -58,34 +55,6 @@ sync_refused puts call before kept between after number e keeps commits refused 
   refused = inr (inr record { number = number; between = between; commits = commits; refused = refuses Sync between after e refused });
 }
 
--- ---- of a loading
-
--- a call of it was refused
-pub loading_refused : (call : Call) (before after : StoreView) (e : Refusal) → IsLoadingCall call → Serves before call (Refused e) after → IsLoadRefusal (map_in before) e
-loading_refused call before after e is serves = inr (inr record { call = call; store = before; map = refl; is = is; refuses = refuses call before after e serves })
-
--- or it was answered
-pub loading_called : {X : Type 0} (call : Call) (say : X → Reply) (result : Result X Refusal) (before after : StoreView) → IsLoadingCall call → Serves before call (reply_of say result) after
-    → IfErr result (IsLoadRefusal (map_in before))
-loading_called call say (Ok x) before after is serves = tt
-loading_called call say (Err e) before after is serves = loading_refused call before after e is serves
-
--- there was no room
-pub loading_room : (store : StoreView) (beside : ℕ) (e : Refusal) → FillsWithLog store beside → e ≡ NoSpace → takes_puts beside store ≡ false → IsLoadRefusal (map_in store) e
-loading_room store beside e fills is lacks = inr (inl record { store = store; beside = beside; map = refl; fills = fills; lacks = lacks; is = is })
-
--- which is so of each store that has the map
-pub loading_behind : (before after : StoreView) (e : Refusal) → KeepsMap before after → IsLoadRefusal (map_in after) e → IsLoadRefusal (map_in before) e
-loading_behind before after e keeps refused = subst (λ (m : Map). IsLoadRefusal m e) keeps.map refused
-
-pub loading_before : (before after : StoreView) (e : Refusal) → KeepsMap before after → IsLoadRefusal (map_in before) e → IsLoadRefusal (map_in after) e
-loading_before before after e keeps refused = subst (λ (m : Map). IsLoadRefusal m e) (sym keeps.map) refused
-
-pub loading_if_behind : {X : Type 0} (result : Result X Refusal) (before after : StoreView) → KeepsMap before after → IfErr result (IsLoadRefusal (map_in after))
-    → IfErr result (IsLoadRefusal (map_in before))
-loading_if_behind (Ok x) before after keeps refused = tt
-loading_if_behind (Err e) before after keeps refused = loading_behind before after e keeps refused
-
 -- ---- a store that was opened
 
 -- a store that was opened was refused so
@@ -109,16 +78,3 @@ numbers_unrefused store e opened = by (is_some store.state.stopped) (ap (λ (s :
 pub numbers_refused : (store : StoreView) (e : Refusal) → WasOpened store → (e ≡ NoMemory) ⊎ (stat_answer (machine_of store) ≡ Err e) → IsOpeningRefusal e
 numbers_refused store e opened (inl short) = memory_opening e short
 numbers_refused store e opened (inr is) = absurd (numbers_unrefused store e opened is)
-
--- one that may be stopped
-stopped_numbers : (b : Bool) (stat : Stat) (e : Refusal) → (if b then Err Stopped else Ok stat) ≡ Err e → e ≡ Stopped
-stopped_numbers true stat e h = cc
-stopped_numbers false stat e h = cc
-
-pub numbers_stopped : (store : StoreView) (e : Refusal) → (e ≡ NoMemory) ⊎ (stat_answer (machine_of store) ≡ Err e) → (e ≡ NoMemory) ⊎ (e ≡ Stopped)
-numbers_stopped store e (inl short) = inl short
-numbers_stopped store e (inr is) = inr (stopped_numbers (is_some store.state.stopped) (stat_of (machine_of store)) e is)
-
-pub compact_refused : (e : Refusal) → (e ≡ NoMemory) ⊎ (e ≡ Stopped) → IsOpeningRefusal e ⊎ (e ≡ Stopped)
-compact_refused e (inl short) = inl (memory_opening e short)
-compact_refused e (inr stopped) = inr stopped

@@ -1,5 +1,5 @@
 -- What the program prints.
-use Rattle.std.specs.Prelude.{◌≡◌, ◌⊎◌, ℕ, ◌+◌, ◌*◌, ◌==◌, List, [], ◌∷◌, ◌++◌, length, map, Option, Some, None, Result, Ok, Err, IfOk, IsTrue, false, true, codes, decimal, string_bytes}
+use Rattle.std.specs.Prelude.{◌≡◌, ◌⊎◌, ℕ, ◌+◌, ◌*◌, ◌==◌, List, [], ◌∷◌, ◌++◌, map, Option, Some, None, Result, Ok, Err, IfOk, IsTrue, false, true, codes, decimal, string_bytes}
 use Rattle.std.specs.Io.KnownBytes.{Appends}
 use Rattle.lsm_language.specs.Faults.{Reason, refusal, unwritten, reason_of}
 use Rattle.lsm_language.specs.declared.fault.Fault.{Fault}
@@ -18,12 +18,13 @@ use Rattle.lsm_open.specs.CrashState.{formatted as empty_store}
 use Rattle.lsm_open.specs.Image.{StandFor}
 use Rattle.lsm_open.specs.ReadParts.{ReadsAtMost}
 use Rattle.lsm_open.specs.Recovering.{IsOpeningRefusal}
+use Rattle.lsm_check.specs.Counted.{IsReadFor}
 use Rattle.lsm_check.specs.Images.{IsImage, is_faultless}
 use Rattle.lsm_check.specs.declared.finding.Finding.{Finding}
 use Rattle.lsm_check.specs.declared.finding.Finding.TheVariants as finding
 use Rattle.lsm_check.specs.declared.report.Report.{Report}
 use Rattle.lsm_store.specs.declared.asked.At.TheVariants.{Now}
-use Rattle.lsm_store.specs.Calls.{Call, Commit, CommitIf, Get, Scan, Sync, Done, Number, Rows, Value as Found}
+use Rattle.lsm_store.specs.Calls.{Commit, CommitIf, Get, Scan, Rows, Value as Found}
 use Rattle.lsm_store.specs.Backing.{StoreView, machine_of}
 use Rattle.lsm_store.specs.Serving.{Serves, ReopensTo}
 use Rattle.lsm_store.specs.Stats.{stat_answer}
@@ -39,7 +40,7 @@ use Rattle.lsm_requests.specs.Steps.{steps_after, told_after, lives_said, told_l
 use Rattle.lsm_upkeep.specs.Upkeep.{CompactsAll}
 use Rattle.lsm_requests.specs.Commits.{HasCommitted, IsKeptUp}
 use Rattle.lsm_requests.specs.Dumping.{HasDumped, StopsDumping}
-use Rattle.lsm_requests.specs.Loading.{HasLoaded, IsLoaded, RefusesToLoad, loaded_line}
+use Rattle.lsm_requests.specs.Loading.{HasLoaded, KeepsAndLoads, RefusesToLoad, loaded_line}
 use Rattle.lsm_replies.specs.Replies.{stat_line}
 use Rattle.lsm_requests.specs.Replies.{page_lines, report_line, table_line, counts_lines, replies_text, lives_text}
 use Rattle.lsm_requests.specs.declared.loading.Loaded.{Loaded as LoadedUpTo}
@@ -173,11 +174,13 @@ TellsCheck (Err (finding.Order number)) output = TellsFound (table_line (codes "
 TellsCheck (Err (finding.Filter number)) output = TellsFound (table_line (codes "Filter") number) output
 TellsCheck (Err (finding.Versions number)) output = TellsFound (table_line (codes "Versions") number) output
 
--- a device was checked, and only read, and what came of it is told
+-- A device was checked, and only read: whole for a yes, and each log region before anything was found wrong with a table. What came of it
+-- is told.
 pub record IsChecked (before after : Medium) (output : Output) : Type 0 where
   pub answered : Result Report Finding
   pub yes : IsTrue before.lasting.tells → IfOk answered (IsImage before.size (seen (disk before)))
   pub reads : ReadsAtMost 1118274 (is_faultless answered) before after
+  pub whole : IsReadFor before.size before.calls after.calls answered
   pub told : TellsCheck answered output
 
 -- a file was opened as a device, in which no call was made yet, and was checked; it is handed out as the reads left it
@@ -272,23 +275,25 @@ TellsDumped (refusal e) output output_after = (IsOpeningRefusal e × (output_aft
 TellsDumped unwritten output output_after = Unit {0}
 TellsDumped other output output_after = ⊥
 
--- A store was opened, rows of the input were put into it up to this fault, and are synced; their number was printed.
+-- a number of rows was printed behind why there are no more, which is told; or it could not be printed
+abbrev pub TellsNumber : ℕ → Reason → Reason → Option (List ℕ) → Option (List ℕ) → Type 0
+TellsNumber rows why reason output output_after = ((reason ≡ why) × Appends output output_after (loaded_line rows)) ⊎ (reason ≡ unwritten)
+
+-- A store was opened and kept up, rows of the input were put into it up to a fault, and are synced; their number was printed, or could not be.
 pub record LoadsTo (input output output_after : Option (List ℕ)) (reason : Reason) : Type 0 where
   pub store : StoreView
   pub after : StoreView
   pub loaded : LoadedUpTo
   pub fault : Fault
   pub opened : WasOpened store
-  pub loads : IsLoaded input loaded store after
+  pub loads : KeepsAndLoads input loaded store after
   pub ends : loaded.ended ≡ Err fault
-  pub same : reason_of fault ≡ reason
-  pub told : Appends output output_after (loaded_line (length loads.rows))
+  pub tells : TellsNumber loaded.rows (reason_of fault) reason output output_after
 
--- Why rows were not loaded, and what was printed: a refusal, and nothing; or the number could not be printed; or rows were put up to a
--- fault, and their number was.
+-- Why not all rows were loaded, and what was printed: a refusal, and nothing; or rows were put up to a fault.
 abbrev pub TellsLoaded : Option (List ℕ) → Reason → Option (List ℕ) → Option (List ℕ) → Type 0
 TellsLoaded input reason output output_after = ((e : Refusal) × (reason ≡ refusal e) × IsRefusedOpened (RefusesToLoad input) e × (output_after ≡ output))
-    ⊎ ((reason ≡ unwritten) ⊎ LoadsTo input output output_after reason)
+    ⊎ LoadsTo input output output_after reason
 
 -- Why a store was not served to the end of the input: it was not opened, or there was no memory for a reader, and nothing was printed; or
 -- lines were answered up to a fault.

@@ -1,37 +1,28 @@
 -- Rows that are loaded.
-use Rattle.std.specs.Prelude.{◌≡◌, ◌≤◌, ◌⊎◌, ℕ, ◌/◌, Bool, true, false, List, [], ◌∷◌, ◌++◌, length, Option, Some, None, Result, Ok, Err, IfSome, codes, decimal}
-use Rattle.lsm_codec.specs.Map.{Map, Operation, apply}
+use Rattle.std.specs.Prelude.{◌≡◌, ◌≤◌, ◌⊎◌, ℕ, zero, suc, Bool, true, false, List, [], ◌∷◌, ◌++◌, length, Option, Some, None, Result, Ok, Err, IfSome, codes, decimal}
+use Rattle.lsm_codec.specs.Map.{Operation, apply}
 use Rattle.lsm_device.specs.declared.refusal.Refusal.{Refusal}
 use Rattle.lsm_device.specs.declared.refusal.Refusal.TheVariants.{Exhausted, NoMemory, NoSpace}
 use Rattle.lsm_store.specs.Backing.{StoreView}
-use Rattle.lsm_store.specs.Calls.{Call, Commit, LogRoom, Number, Rotate, Sync}
+use Rattle.lsm_store.specs.Calls.{Done, LogRoom, Refused, Sync}
 use Rattle.lsm_store.specs.Serving.{Serves}
 use Rattle.lsm_language.specs.declared.fault.Fault.{Fault}
 use Rattle.lsm_language.specs.Faults.{Reason, mistake, refusal, unread, reason_of}
 use Rattle.lsm_language.specs.Rows.{are_rows, lines_of, rows_of}
-use Rattle.lsm_requests.specs.Commits.{Refuses, map_in, takes_puts}
+use Rattle.lsm_requests.specs.Commits.{Adds, AddsNot, HasRoomForLog, IsKeptUp, Refuses, map_in}
 use Rattle.lsm_requests.specs.declared.loading.Loading.{Loading}
 use Rattle.lsm_requests.specs.declared.loading.Loaded.{Loaded}
 use Rattle.lsm_requests.specs.declared.answer.Output.{Output}
 use Rattle.lsm_requests.specs.declared.answer.Output.TheVariants.{Loaded as LoadedRows}
 
--- the rows of a batch, if there is one
-abbrev pub rows_waiting : Option (List Operation) → List Operation
-rows_waiting None = []
-rows_waiting (Some batch) = batch
+-- ---- rows in a store
 
--- How far a loading is of these rows, of a store that began with this map: all but those that wait are in the store.
-pub record IsLoading (begun : Map) (rows : List Operation) (loading : Loading) (s : StoreView) : Type 0 where
-  pub put : List Operation
-  pub all : rows ≡ put ++ rows_waiting loading.batch
-  pub read : loading.read ≡ length rows
-  pub loaded : loading.loaded ≡ length put
-  pub map : map_in s ≡ apply begun put
+-- rows were put in so many batches, one after another
+abbrev pub PutsRows : ℕ → List Operation → StoreView → StoreView → Type 0
+PutsRows zero rows before after = (rows ≡ []) × (after ≡ before)
+PutsRows (suc batches) rows before after = (earlier batch : List Operation) × (between : StoreView) × (rows ≡ earlier ++ batch) × PutsRows batches earlier before between × Adds batch between after
 
--- these rows are the first of an input, and this is left of it
-abbrev pub HasRead : Option (List ℕ) → List Operation → Option (List ℕ) → Type 0
-HasRead input rows left = IfSome input (λ all. (text : List ℕ) × (left ≡ Some text) × (rows_of (lines_of all) ≡ rows ++ rows_of (lines_of text))
-    × (are_rows (lines_of all) ≡ are_rows (lines_of text)))
+-- ---- rows of an input
 
 -- a list begins with another
 abbrev pub BeginsWith : List Operation → List Operation → Type 0
@@ -41,90 +32,134 @@ BeginsWith all rows = (rest : List Operation) × (all ≡ rows ++ rest)
 abbrev pub AreFirstRows : Option (List ℕ) → List Operation → Type 0
 AreFirstRows input rows = IfSome input (λ all. BeginsWith (rows_of (lines_of all)) rows)
 
--- ---- refusals
-
--- the calls that a loading makes
-abbrev pub IsLoadingCall : Call → Type 0
-IsLoadingCall (Commit batch) = Unit {0}
-IsLoadingCall Rotate = Unit {0}
-IsLoadingCall LogRoom = Unit {0}
-IsLoadingCall Sync = Unit {0}
-IsLoadingCall other = ⊥
-
--- a store with just this map refused such a call so
-pub record RefusesLoading (m : Map) (e : Refusal) : Type 0 where
-  pub call : Call
-  pub store : StoreView
-  pub map : map_in store ≡ m
-  pub is : IsLoadingCall call
-  pub refuses : Refuses call store e
-
--- so many blocks tables fill of all entries for which the open log has room: an eighth of its free sectors
-pub record FillsWithLog (store : StoreView) (blocks : ℕ) : Type 0 where
-  pub room : ℕ
-  pub asked : Serves store LogRoom (Number room) store
-  pub is : blocks ≡ room / 8
-
--- a store with just this map had no room for puts, beside the blocks that a full log fills
-pub record LacksLoadRoom (m : Map) (e : Refusal) : Type 0 where
-  pub store : StoreView
-  pub beside : ℕ
-  pub map : map_in store ≡ m
-  pub fills : FillsWithLog store beside
-  pub lacks : takes_puts beside store ≡ false
-  pub is : e ≡ NoSpace
-
--- With what a loading may be refused that has come to this map: there was no memory, or a store with the map had no room, or refused a
--- call that a loading makes.
-abbrev pub IsLoadRefusal : Map → Refusal → Type 0
-IsLoadRefusal m e = (e ≡ NoMemory) ⊎ (LacksLoadRoom m e ⊎ RefusesLoading m e)
-
--- first rows of an input were put into the map of a store, and the sync behind the last of them was refused so
-pub record RefusesLastSync (input : Option (List ℕ)) (store : StoreView) (e : Refusal) : Type 0 where
-  pub rows : List Operation
-  pub between : StoreView
-  pub first : AreFirstRows input rows
-  pub map : map_in between ≡ apply (map_in store) rows
-  pub refused : Refuses Sync between e
-
--- A loading was refused so that tells no number: before any row was put, or by that sync.
-abbrev pub RefusesToLoad : Option (List ℕ) → StoreView → Refusal → Type 0
-RefusesToLoad input store e = IsLoadRefusal (map_in store) e ⊎ RefusesLastSync input store e
-
--- ---- how a loading ends
+-- these are all rows of an input up to a line that is none, if there is such a line
+abbrev pub AreRowsOf : Option (List ℕ) → Bool → List Operation → Type 0
+AreRowsOf input whole rows = IfSome input (λ all. (rows ≡ rows_of (lines_of all)) × (are_rows (lines_of all) ≡ whole))
 
 -- an input has 2^64 - 1 rows or more; no more are read
 abbrev pub HasTooMany : Option (List ℕ) → Type 0
 HasTooMany input = IfSome input (λ all. 18446744073709551615 ≤ length (rows_of (lines_of all)))
 
--- why a loading may end that has come to this map, beside a mistake: a refusal, or an input that can't be read
-abbrev pub IsOther : Reason → Option (List ℕ) → Map → Type 0
-IsOther (refusal e) input m = ((e ≡ Exhausted) × HasTooMany input) ⊎ IsLoadRefusal m e
-IsOther unread input m = Unit {0}
-IsOther other input m = ⊥
+-- a refusal that no store told: there was no memory, or there are too many rows
+abbrev pub IsShort : Option (List ℕ) → Refusal → Type 0
+IsShort input e = (e ≡ NoMemory) ⊎ ((e ≡ Exhausted) × HasTooMany input)
 
--- A loading that has come to this map ends with all rows of the input, with a line that is no row behind these, or with some of them.
-abbrev pub EndsFor : Reason → Option (List ℕ) → List Operation → Map → Type 0
-EndsFor mistake input rows m = IfSome input (λ all. (rows ≡ rows_of (lines_of all)) × (are_rows (lines_of all) ≡ false))
-EndsFor other input rows m = IsOther other input m × AreFirstRows input rows
+-- ---- how a loading ends
 
-abbrev pub EndsWith : Result (Unit {0}) Fault → Option (List ℕ) → List Operation → Map → Type 0
-EndsWith (Ok done) input rows m = IfSome input (λ all. (rows ≡ rows_of (lines_of all)) × (are_rows (lines_of all) ≡ true))
-EndsWith (Err fault) input rows m = EndsFor (reason_of fault) input rows m
+-- rows behind those that a store has were not added to it: the first ones that were to come, or no others were read
+abbrev pub StopsAt : Option (List ℕ) → List Operation → StoreView → Refusal → StoreView → Type 0
+StopsAt input rows has e after = ((batch : List Operation) × AreFirstRows input (rows ++ batch) × AddsNot batch has e after) ⊎ (IsShort input e × (after ≡ has))
+
+-- Rows of an input are in a store, and for this reason no more are: a line behind them is no row; they or a batch behind them could not be
+-- taken; or the input could not be read.
+abbrev pub EndsFor : Reason → Option (List ℕ) → List Operation → StoreView → StoreView → Type 0
+EndsFor mistake input rows has after = AreRowsOf input false rows × (after ≡ has)
+EndsFor (refusal e) input rows has after = AreFirstRows input rows × StopsAt input rows has e after
+EndsFor unread input rows has after = AreFirstRows input rows × (after ≡ has)
+EndsFor other input rows has after = ⊥
+
+-- or all of them are
+abbrev pub EndsWith : Result (Unit {0}) Fault → Option (List ℕ) → List Operation → StoreView → StoreView → Type 0
+EndsWith (Ok done) input rows has after = AreRowsOf input true rows × (after ≡ has)
+EndsWith (Err fault) input rows has after = EndsFor (reason_of fault) input rows has after
+
+-- The first rows of an input were put into a store, in their order, up to this end.
+pub record LoadsRows (input : Option (List ℕ)) (ended : Result (Unit {0}) Fault) (before after : StoreView) : Type 0 where
+  pub rows : List Operation
+  pub batches : ℕ
+  pub has : StoreView
+  pub puts : PutsRows batches rows before has
+  pub ends : EndsWith ended input rows has after
+  pub map : map_in after ≡ apply (map_in before) rows
+
+-- So many rows of the input were, and they are synced.
+pub record IsLoaded (input : Option (List ℕ)) (loaded : Loaded) (before after : StoreView) : Type 0 where
+  pub between : StoreView
+  pub loads : LoadsRows input loaded.ended before between
+  pub number : loaded.rows ≡ length loads.rows
+  pub syncs : Serves between Sync Done after
+
+-- They were, and the sync behind the last of them was refused so.
+pub record RefusesLastSync (input : Option (List ℕ)) (before : StoreView) (e : Refusal) : Type 0 where
+  pub ended : Result (Unit {0}) Fault
+  pub between : StoreView
+  pub loads : LoadsRows input ended before between
+  pub refused : Refuses Sync between e
+
+-- ---- of a store that is kept up before
+
+-- A store was kept up, and puts had room beside the blocks that its log fills.
+pub record IsReady (before kept : StoreView) : Type 0 where
+  pub keeps : IsKeptUp before kept
+  pub room : HasRoomForLog true kept
+
+-- Then rows were loaded.
+pub record KeepsAndLoads (input : Option (List ℕ)) (loaded : Loaded) (before after : StoreView) : Type 0 where
+  pub kept : StoreView
+  pub ready : IsReady before kept
+  pub loads : IsLoaded input loaded kept after
+  pub map : map_in after ≡ apply (map_in before) loads.loads.rows
+
+-- A store that was kept up didn't take rows: it was refused when it was asked for the room of its log, or puts had no room.
+abbrev pub TakesNoRows : StoreView → Refusal → Type 0
+TakesNoRows kept e = Serves kept LogRoom (Refused e) kept ⊎ ((e ≡ NoSpace) × HasRoomForLog false kept)
+
+-- A loading was refused that tells no number: before any row was put, or by the last sync.
+abbrev pub RefusesToLoad : Option (List ℕ) → StoreView → Refusal → Type 0
+RefusesToLoad input before e = ((kept : StoreView) × IsKeptUp before kept × TakesNoRows kept e)
+    ⊎ ((kept : StoreView) × IsReady before kept × RefusesLastSync input kept e)
+
+-- the line that tells how many
+abbrev pub loaded_line : ℕ → List ℕ
+loaded_line number = codes "loaded " ++ decimal number ++ 10 ∷ []
+
+-- all rows of the input are put, and their number is told
+pub record HasLoaded (input : Option (List ℕ)) (before after : StoreView) (output : Output) : Type 0 where
+  pub loaded : Loaded
+  pub loads : KeepsAndLoads input loaded before after
+  pub whole : loaded.ended ≡ Ok tt
+  pub told : output ≡ LoadedRows loaded.rows
 
 -- ---- steps of a loading
+
+-- the rows of a batch, if there is one
+abbrev pub rows_waiting : Option (List Operation) → List Operation
+rows_waiting None = []
+rows_waiting (Some batch) = batch
+
+-- How far a loading is of these rows, of a store that began as another: all but those that wait are in the store.
+pub record IsLoading (begun : StoreView) (rows : List Operation) (loading : Loading) (s : StoreView) : Type 0 where
+  pub put : List Operation
+  pub all : rows ≡ put ++ rows_waiting loading.batch
+  pub read : loading.read ≡ length rows
+  pub loaded : loading.loaded ≡ length put
+  pub batches : ℕ
+  pub puts : PutsRows batches put begun s
+
+-- these rows are the first of an input, and this is left of it
+abbrev pub HasRead : Option (List ℕ) → List Operation → Option (List ℕ) → Type 0
+HasRead input rows left = IfSome input (λ all. (text : List ℕ) × (left ≡ Some text) × (rows_of (lines_of all) ≡ rows ++ rows_of (lines_of text))
+    × (are_rows (lines_of all) ≡ are_rows (lines_of text)))
 
 -- no row yet
 abbrev pub none_loaded : Loading
 none_loaded = record { batch = None; read = 0; loaded = 0 }
 
--- Whatever was loaded so far, it is so afterwards: with a row more where it was taken, and as it was where not.
-abbrev pub with_taken : Bool → List Operation → Operation → List Operation
-with_taken true rows row = rows ++ row ∷ []
-with_taken false rows row = rows
+-- Whatever was loaded so far, a row more is.
+abbrev pub Takes : Operation → Loading → StoreView → Loading → StoreView → Type 0
+Takes row old before new after = (begun : StoreView) (rows : List Operation) → IsLoading begun rows old before → IsLoading begun (rows ++ row ∷ []) new after
 
-abbrev pub Takes : Operation → Bool → Loading → StoreView → Loading → StoreView → Type 0
-Takes row taken old before new after = (begun : Map) (rows : List Operation) → IsLoading begun rows old before → IsLoading begun (with_taken taken rows row) new after
+-- it is as it was
+abbrev pub StaysLoaded : Loading → StoreView → Loading → StoreView → Type 0
+StaysLoaded old before new after = (begun : StoreView) (rows : List Operation) → IsLoading begun rows old before → IsLoading begun rows new after
+
+-- Those that waited could not be added, and nothing else has changed.
+abbrev pub WaitingRefused : Loading → StoreView → Refusal → Loading → StoreView → Type 0
+WaitingRefused old before e new after = (new ≡ old) × AddsNot (rows_waiting old.batch) before e after
+
+-- A row was not taken: there was no memory for it, or those that waited could not be added before it.
+abbrev pub TakesNot : Loading → StoreView → Refusal → Loading → StoreView → Type 0
+TakesNot old before e new after = ((e ≡ NoMemory) × StaysLoaded old before new after) ⊎ WaitingRefused old before e new after
 
 -- the row is in the batch of those that wait, or nothing has changed
 abbrev pub FitsIf : Bool → Operation → Loading → Loading → Type 0
@@ -135,46 +170,40 @@ abbrev pub Fits : Operation → Result Bool Refusal → Loading → Loading → 
 Fits row (Ok taken) old new = FitsIf taken row old new
 Fits row (Err e) old new = new ≡ old
 
--- those that waited are put, or wait still
-abbrev pub waits_after : Bool → Loading → Loading
-waits_after true old = record { batch = None; read = old.read; loaded = old.read }
-waits_after false old = old
+-- a batch was added, if there is one
+abbrev pub AddsWaiting : Option (List Operation) → StoreView → StoreView → Type 0
+AddsWaiting None before after = after ≡ before
+AddsWaiting (Some batch) before after = Adds batch before after
 
-abbrev pub CommitsWaiting : Bool → Loading → StoreView → Loading → StoreView → Type 0
-CommitsWaiting done old before new after = (new ≡ waits_after done old)
-    × ((begun : Map) (rows : List Operation) → IsLoading begun rows old before → IsLoading begun rows new after)
+-- those that waited are put
+abbrev pub none_waits : Loading → Loading
+none_waits old = record { batch = None; read = old.read; loaded = old.read }
+
+abbrev pub CommitsWaiting : Loading → StoreView → Loading → StoreView → Type 0
+CommitsWaiting old before new after = (new ≡ none_waits old) × StaysLoaded old before new after
+
+-- why no more rows were read: those that were read are in the store, or wait
+abbrev pub StopsReading : Option (List ℕ) → Loading → StoreView → Refusal → StoreView → Type 0
+StopsReading input loading has e after = AddsNot (rows_waiting loading.batch) has e after ⊎ (IsShort input e × (after ≡ has))
+
+abbrev pub EndsReadingFor : Reason → Option (List ℕ) → List Operation → Loading → StoreView → StoreView → Type 0
+EndsReadingFor mistake input rows loading has after = AreRowsOf input false rows × (after ≡ has)
+EndsReadingFor (refusal e) input rows loading has after = AreFirstRows input rows × StopsReading input loading has e after
+EndsReadingFor unread input rows loading has after = AreFirstRows input rows × (after ≡ has)
+EndsReadingFor other input rows loading has after = ⊥
+
+abbrev pub EndsReading : Result (Unit {0}) Fault → Option (List ℕ) → List Operation → Loading → StoreView → StoreView → Type 0
+EndsReading (Ok done) input rows loading has after = AreRowsOf input true rows × (after ≡ has)
+EndsReading (Err fault) input rows loading has after = EndsReadingFor (reason_of fault) input rows loading has after
 
 -- rows were read, and all but those that wait were put
 pub record AreRead (input : Option (List ℕ)) (ended : Result (Unit {0}) Fault) (loading : Loading) (before after : StoreView) : Type 0 where
   pub rows : List Operation
-  pub loads : IsLoading (map_in before) rows loading after
-  pub ends : EndsWith ended input rows (map_in after)
-
--- ---- what comes of it
+  pub has : StoreView
+  pub loads : IsLoading before rows loading has
+  pub ends : EndsReading ended input rows loading has after
 
 -- rows were put, and counted
 pub record ArePut (input : Option (List ℕ)) (ended : Result (Unit {0}) Fault) (loading : Loading) (before after : StoreView) : Type 0 where
-  pub rows : List Operation
-  pub number : loading.loaded ≡ length rows
-  pub ends : EndsWith ended input rows (map_in after)
-  pub map : map_in after ≡ apply (map_in before) rows
-
--- So many rows of the input were put into the map of a store, in their order, and are synced.
-pub record IsLoaded (input : Option (List ℕ)) (loaded : Loaded) (before after : StoreView) : Type 0 where
-  pub rows : List Operation
-  pub number : loaded.rows ≡ length rows
-  pub ends : EndsWith loaded.ended input rows (map_in after)
-  pub map : map_in after ≡ apply (map_in before) rows
-  pub synced : after.state.points.later ≡ []
-
--- the line that tells how many
-abbrev pub loaded_line : ℕ → List ℕ
-loaded_line number = codes "loaded " ++ decimal number ++ 10 ∷ []
-
--- all rows of the input are put, and their number is told
-pub record HasLoaded (input : Option (List ℕ)) (before after : StoreView) (output : Output) : Type 0 where
-  pub rows : List Operation
-  pub ends : IfSome input (λ all. (rows ≡ rows_of (lines_of all)) × (are_rows (lines_of all) ≡ true))
-  pub map : map_in after ≡ apply (map_in before) rows
-  pub synced : after.state.points.later ≡ []
-  pub told : output ≡ LoadedRows (length rows)
+  pub loads : LoadsRows input ended before after
+  pub number : loading.loaded ≡ length loads.rows

@@ -1,16 +1,18 @@
 -- With what a request may be refused, on any file: whatever it holds, and whichever of its device calls fault.
-use Rattle.std.specs.Prelude.{◌≡◌, ◌⊎◌, ℕ, Bool, true, false, List, Option, None, IsTrue}
+use Rattle.std.specs.Prelude.{◌≡◌, ◌⊎◌, ℕ, Bool, true, false, List, Option, None, Err, IsTrue}
 use Rattle.lsm_check.specs.Images.{IsCheckRefusal}
 use Rattle.lsm_device.specs.declared.refusal.Refusal.{Refusal}
-use Rattle.lsm_device.specs.declared.refusal.Refusal.TheVariants.{NoMemory, Io, Stopped, NoSpace}
+use Rattle.lsm_device.specs.declared.refusal.Refusal.TheVariants.{NoMemory, Io, NoSpace}
 use Rattle.lsm_language.specs.Faults.{Reason, refusal}
 use Rattle.lsm_language.specs.declared.request.Request.{Request}
 use Rattle.lsm_language.specs.declared.request.Request.TheVariants as request
 use Rattle.lsm_open.specs.Recovering.{IsOpeningRefusal}
 use Rattle.lsm_store.specs.declared.asked.At.TheVariants.{Now}
-use Rattle.lsm_store.specs.Backing.{StoreView}
+use Rattle.lsm_store.specs.Backing.{StoreView, machine_of}
 use Rattle.lsm_store.specs.Calls.{Call, Commit, CommitIf, Get, Scan, Sync, Number}
 use Rattle.lsm_store.specs.Serving.{Serves}
+use Rattle.lsm_store.specs.Stats.{stat_answer}
+use Rattle.lsm_upkeep.specs.Upkeep.{CompactsAll}
 use Rattle.lsm_storm.specs.Storms.{IsSessionRefusal, IsStormRefusal}
 use Rattle.lsm_requests.specs.Answers.{IsRefusedOpened, TellsDumped, TellsLoaded, TellsServed}
 use Rattle.lsm_requests.specs.Commits.{IsKeptUp, Refuses, takes_puts}
@@ -36,7 +38,16 @@ pub record RefusesToCommit (puts : Bool) (call : Call) (before : StoreView) (e :
   pub keeps : IsKeptUp before kept
   pub refused : LacksRoom puts kept e ⊎ (Refuses call kept e ⊎ RefusesToSync call kept e)
 
--- with what a request may be refused
+-- The store was kept up, and its tables were taken down as far as they go. Then there was no memory for the line of its numbers, or it was
+-- stopped, and so does not tell them.
+pub record RefusesToCompact (before : StoreView) (e : Refusal) : Type 0 where
+  pub kept : StoreView
+  pub after : StoreView
+  pub keeps : IsKeptUp before kept
+  pub compacts : CompactsAll kept after
+  pub untold : (e ≡ NoMemory) ⊎ (stat_answer (machine_of after) ≡ Err e)
+
+-- With what a request may be refused that prints nothing before its answer.
 abbrev pub MayRefuse : Request → Refusal → Type 0
 MayRefuse (request.Format file geometry) e = (e ≡ NoMemory) ⊎ (e ≡ Io)
 MayRefuse (request.Put file batch) e = IsRefusedOpened (RefusesToCommit true (Commit batch)) e
@@ -46,10 +57,10 @@ MayRefuse (request.Get file key) e = IsRefusedOpened (RefusesToTell (Get Now key
 MayRefuse (request.Scan file from limit) e = IsRefusedOpened (RefusesToTell (Scan Now from.items None limit)) e
 MayRefuse (request.Stat file) e = IsOpeningRefusal e
 MayRefuse (request.Check file) e = IsCheckRefusal e
-MayRefuse (request.Compact file) e = IsOpeningRefusal e ⊎ (e ≡ Stopped)
-MayRefuse (request.Dump file) e = (output : Option (List ℕ)) × (output_after : Option (List ℕ)) × TellsDumped (refusal e) output output_after
-MayRefuse (request.Load file) e = (input : Option (List ℕ)) × (output : Option (List ℕ)) × (output_after : Option (List ℕ)) × TellsLoaded input (refusal e) output output_after
-MayRefuse (request.Serve file) e = (input : Option (List ℕ)) × (output : Option (List ℕ)) × (output_after : Option (List ℕ)) × TellsServed input (refusal e) output output_after
+MayRefuse (request.Compact file) e = IsRefusedOpened RefusesToCompact e
+MayRefuse (request.Dump file) e = ⊥
+MayRefuse (request.Load file) e = ⊥
+MayRefuse (request.Serve file) e = ⊥
 MayRefuse (request.Replay file script) e = IsOpeningRefusal e
 MayRefuse (request.Lives geometry script) e = e ≡ NoMemory
 MayRefuse (request.Explore geometry script) e = e ≡ NoMemory

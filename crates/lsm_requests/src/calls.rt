@@ -2,23 +2,22 @@
 
 ghost use Rattle.std.specs.Prelude.{◌≡◌, ◌⊎◌, [], ◌+◌, true, false, map, None, Err, IfErr, IfOk};
 ghost use Rattle.std.specs.Io.Buffered.{reader_remaining};
-ghost use Rattle.std.specs.Io.KnownBytes.{Appends};
 ghost use Rattle.lsm_check.specs.Images.{IsCheckRefusal};
-ghost use Rattle.lsm_device.specs.declared.refusal.Refusal.TheVariants.{NoMemory, Io, Stopped};
+ghost use Rattle.lsm_device.specs.declared.refusal.Refusal.TheVariants.{NoMemory, Io};
 ghost use Rattle.lsm_open.specs.Recovering.{IsOpeningRefusal};
 ghost use Rattle.lsm_store.specs.Backing.{machine_of};
 ghost use Rattle.lsm_store.specs.Calls.{Commit, CommitIf, Get, Scan};
 ghost use Rattle.lsm_store.specs.Stats.{stat_answer};
 ghost use Rattle.lsm_store.specs.declared.asked.At.TheVariants.{Now};
 ghost use Rattle.lsm_storm.specs.Storms.{IsStormRefusal};
-ghost use Rattle.lsm_language.specs.Faults.{reason_of, unwritten};
+ghost use Rattle.lsm_language.specs.Faults.{reason_of};
 ghost use Rattle.lsm_lives.specs.Calls.{asked_of};
 ghost use Rattle.lsm_requests.specs.Steps.{steps_after, lives_said, told_after, told_lives};
 ghost use Rattle.lsm_requests.specs.Replies.{table_line};
 ghost use Rattle.lsm_requests.specs.Commits.{HasCommitted};
-ghost use Rattle.lsm_requests.specs.Loading.{HasLoaded, IsLoaded, RefusesToLoad, loaded_line};
-ghost use Rattle.lsm_requests.specs.Answers.{Comes, HasCompacted, HasFormatted, HasCounted, IsRefusedOpened, OfDumped, TellsDumped, TellsLoaded, TellsServed, HasFound, HasServed, HasLives, HasNumbers, HasChecked, IsChecked, TellsFound, HasRows, HasReplies, OfOpened};
-ghost use Rattle.lsm_requests.specs.Refusing.{FaultsWith, RefusesToCommit, RefusesToTell};
+ghost use Rattle.lsm_requests.specs.Loading.{HasLoaded, KeepsAndLoads, RefusesToLoad};
+ghost use Rattle.lsm_requests.specs.Answers.{Comes, HasCompacted, HasFormatted, HasCounted, IsRefusedOpened, OfDumped, TellsDumped, TellsLoaded, TellsNumber, TellsServed, HasFound, HasServed, HasLives, HasNumbers, HasChecked, IsChecked, TellsFound, HasRows, HasReplies, OfOpened};
+ghost use Rattle.lsm_requests.specs.Refusing.{FaultsWith, RefusesToCommit, RefusesToCompact, RefusesToTell};
 
 use crate::answer::{Answer, Output};
 use crate::committing::{blocks_of_log, check_room, keep};
@@ -94,7 +93,7 @@ fn compact<R: Files<File = File> + AllocGlobal + Threads + Sync, P: Progress>(
     progress: &mut P,
 ) -> Result<Answer, Refusal>
     ensures gives { IfOk result (OfOpened HasCompacted) }
-    ensures refused { IfErr result (λ e. IsOpeningRefusal e ⊎ (e ≡ Stopped)) }
+    ensures refused { IfErr result (IsRefusedOpened RefusesToCompact) }
 {
     let mut store = open(rt, file)?;
     let output = keep_and_compact(rt, rt.alloc(), &mut store, progress)?;
@@ -109,7 +108,7 @@ fn keep_and_compact<R: Threads + Sync, D: Device, P: Progress>(
     progress: &mut P,
 ) -> Result<Output, Refusal>
     ensures gives { IfOk result (HasCompacted store.old store.new) }
-    ensures refused { IfErr result (λ e. (e ≡ NoMemory) ⊎ (e ≡ Stopped)) }
+    ensures refused { IfErr result (RefusesToCompact store.old) }
 {
     keep(rt, alloc, store);
     compact_all_showing(rt, alloc, store, progress);
@@ -173,7 +172,7 @@ fn keep_and_load<R: Threads + Sync, D: Device, I: BufRead, P: Progress>(
     lines: &mut I,
     progress: &mut P,
 ) -> Result<Loaded, Refusal>
-    ensures loads { IfOk result (λ loaded. IsLoaded (I.remaining lines.old) loaded store.old store.new) }
+    ensures loads { IfOk result (λ loaded. KeepsAndLoads (I.remaining lines.old) loaded store.old store.new) }
     ensures refused { IfErr result (RefusesToLoad (I.remaining lines.old) store.old) }
 {
     keep(rt, alloc, store);
@@ -194,7 +193,7 @@ fn buffered<I: Read>(alloc: Global, input: &mut I) -> Result<BufReader<&mut I>, 
 
 // Prints how many rows were loaded before the fault.
 fn told_first<O: Write>(rows: u64, fault: Fault, output: &mut O) -> Fault
-    ensures { (reason_of result ≡ unwritten) ⊎ ((reason_of result ≡ reason_of fault) × Appends (O.contents output.old) (O.contents output.new) (loaded_line rows)) }
+    ensures { TellsNumber rows (reason_of fault) (reason_of result) (O.contents output.old) (O.contents output.new) }
 {
     match writeln!(output, "loaded {rows}") {
         Ok(()) => fault,

@@ -1,11 +1,12 @@
 //! Batches are committed to a store that is kept up.
 
 ghost use Rattle.std.specs.Prelude.{◌≡◌, true, false, IfOk, IfErr, IsTrue, MatchResult};
-ghost use Rattle.lsm_device.specs.declared.refusal.Refusal.TheVariants.{NoSpace};
+ghost use Rattle.lsm_device.specs.declared.refusal.Refusal.TheVariants.{LogFull, NoSpace};
 ghost use Rattle.lsm_upkeep.specs.Keeping.{KeepsMap};
-ghost use Rattle.lsm_store.specs.Calls.{Commit, CommitIf};
-ghost use Rattle.lsm_requests.specs.Commits.{HasCommitted, IsKeptUp, Puts, map_in, takes_puts};
-ghost use Rattle.lsm_requests.specs.Loading.{FillsWithLog, IsLoadRefusal};
+ghost use Rattle.lsm_store.specs.Backing.{StoreView};
+ghost use Rattle.lsm_store.specs.Calls.{Commit, CommitIf, LogRoom, Refused};
+ghost use Rattle.lsm_store.specs.Serving.{Serves};
+ghost use Rattle.lsm_requests.specs.Commits.{Adds, AddsNot, FillsWithLog, HasCommitted, IsKeptUp, takes_puts};
 ghost use Rattle.lsm_requests.specs.Refusing.{RefusesToCommit};
 
 use crate::answer::Output;
@@ -17,8 +18,8 @@ use lsm_upkeep::{compact, has_room, keep_up};
 use std::alloc::Global;
 use std::thread::Threads;
 
-/// Commits a batch of puts, and syncs it. It is refused with `NoSpace` if less than a third of the blocks is free after the store
-/// was kept up.
+/// Commits a batch of puts, and syncs it. It is refused with `NoSpace` if less than a third of the blocks is free, or more than 768
+/// tables live, after the store was kept up.
 pub fn put<R: Threads + Sync, D: Device>(
     rt: &R,
     alloc: Global,
@@ -77,7 +78,8 @@ pub fn keep<R: Threads + Sync, D: Device>(rt: &R, alloc: Global, store: &mut Sto
     keep_up(rt, alloc, store, &Policy::new());
 }
 
-/// Refuses puts with `NoSpace` where less than a third of the blocks is free, beside so many that are to be filled.
+/// Refuses puts with `NoSpace` where less than a third of the blocks is free, beside so many that are to be filled, or more than 768
+/// tables live.
 pub fn check_room<D: Device>(store: &Store<D>, beside: u32) -> Result<(), Refusal>
     ensures { MatchResult result (λ _. takes_puts beside store.now ≡ true) (λ e. (e ≡ NoSpace) × (takes_puts beside store.now ≡ false)) }
 {
@@ -88,32 +90,32 @@ pub fn check_room<D: Device>(store: &Store<D>, beside: u32) -> Result<(), Refusa
 }
 
 /// Commits a batch of puts. Where the open log has no room for it, another one is opened, and the store is compacted; it is
-/// refused with `NoSpace` if less than a third of the blocks is free then, beside those that a full log fills. What is refused
-/// leaves the map as it was.
+/// refused with `NoSpace` if puts find no room then, beside the blocks that a full log fills. With `LogFull` it is
+/// refused only behind another log. What is refused leaves the map as it was.
 pub fn add<R: Threads + Sync, D: Device>(
     rt: &R,
     alloc: Global,
     store: &mut Store<D>,
     batch: &Batch,
 ) -> Result<u64, Refusal>
-    ensures puts { MatchResult result (λ _. Puts batch.now store.old store.new) (λ _. KeepsMap store.old store.new) }
-    ensures refused { IfErr result (IsLoadRefusal (map_in store.old)) }
+    ensures adds { MatchResult result (λ _. Adds batch.now store.old store.new) (λ e. AddsNot batch.now store.old e store.new) }
 {
     match store.commit(batch) {
+        Ok(number) => Ok(number),
         Err(Refusal::LogFull) => add_behind(rt, alloc, store, batch),
-        committed => committed,
+        Err(refusal) => Err(refusal),
     }
 }
 
-// Commits a batch to another log.
+// Commits a batch to another log, behind a commit that found no room in the open one.
 fn add_behind<R: Threads + Sync, D: Device>(
     rt: &R,
     alloc: Global,
     store: &mut Store<D>,
     batch: &Batch,
 ) -> Result<u64, Refusal>
-    ensures puts { MatchResult result (λ _. Puts batch.now store.old store.new) (λ _. KeepsMap store.old store.new) }
-    ensures refused { IfErr result (IsLoadRefusal (map_in store.old)) }
+    ensures adds { (before : StoreView) → Serves before (Commit batch.now) (Refused LogFull) store.old
+        → MatchResult result (λ _. Adds batch.now before store.new) (λ e. AddsNot batch.now before e store.new) }
 {
     store.rotate()?;
     compact(rt, alloc, store, &Policy::new());
@@ -124,7 +126,7 @@ fn add_behind<R: Threads + Sync, D: Device>(
 /// The blocks that tables of the entries fill for which the open log has room.
 pub fn blocks_of_log<D: Device>(store: &Store<D>) -> Result<u32, Refusal>
     ensures blocks { IfOk result (FillsWithLog store.now) }
-    ensures refused { IfErr result (IsLoadRefusal (map_in store.now)) }
+    ensures refused { IfErr result (λ e. Serves store.now LogRoom (Refused e) store.now) }
 {
     Ok(store.log_room()? / 8)
 }

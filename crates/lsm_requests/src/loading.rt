@@ -1,12 +1,11 @@
 //! Rows are loaded: read a line at a time, and committed in batches as large as a batch may be.
 
-ghost use Rattle.std.specs.Prelude.{◌≡◌, ◌⊎◌, ◌<◌, ◌∷◌, ◌++◌, [], Some, None, IfOk, IfErr, OnOk, OnErr, MatchResult, is_ok, if◌then◌else◌};
+ghost use Rattle.std.specs.Prelude.{◌≡◌, ◌⊎◌, ◌<◌, ◌∷◌, ◌++◌, [], Some, None, IfOk, IfErr, OnOk, OnErr, MatchResult, if◌then◌else◌};
 ghost use Rattle.lsm_device.specs.declared.refusal.Refusal.TheVariants.{BatchTooBig, NoMemory};
-ghost use Rattle.lsm_upkeep.specs.Keeping.{KeepsMap};
 ghost use Rattle.lsm_language.specs.Faults.{mistake, reason_of, refusal};
 ghost use Rattle.lsm_language.specs.Rows.{row_said};
-ghost use Rattle.lsm_requests.specs.Commits.{Puts, map_in};
-ghost use Rattle.lsm_requests.specs.Loading.{ArePut, AreRead, CommitsWaiting, Fits, IsLoadRefusal, IsLoaded, RefusesLastSync, Takes, none_loaded, rows_waiting};
+ghost use Rattle.lsm_requests.specs.Commits.{AddsNot};
+ghost use Rattle.lsm_requests.specs.Loading.{AddsWaiting, ArePut, AreRead, CommitsWaiting, Fits, IsLoaded, RefusesLastSync, Takes, TakesNot, WaitingRefused, none_loaded, rows_waiting};
 
 use crate::committing::add;
 use lsm_codec::{Batch, Op};
@@ -131,8 +130,7 @@ fn take<R: Threads + Sync, D: Device>(
     row: Op,
 ) -> Result<(), Refusal>
     requires { loading.old.read < 18446744073709551615 }
-    ensures takes { Takes row (is_ok result) loading.old store.old loading.new store.new }
-    ensures refused { IfErr result (IsLoadRefusal (map_in store.new)) }
+    ensures { MatchResult result (λ _. Takes row loading.old store.old loading.new store.new) (λ e. TakesNot loading.old store.old e loading.new store.new) }
 {
     if fits(loading, &row)? {
         loading.read += 1;
@@ -186,8 +184,7 @@ fn commit_waiting<R: Threads + Sync, D: Device>(
     store: &mut Store<D>,
     loading: &mut Loading,
 ) -> Result<(), Refusal>
-    ensures waits { CommitsWaiting (is_ok result) loading.old store.old loading.new store.new }
-    ensures refused { IfErr result (IsLoadRefusal (map_in store.new)) }
+    ensures { MatchResult result (λ _. CommitsWaiting loading.old store.old loading.new store.new) (λ e. WaitingRefused loading.old store.old e loading.new store.new) }
 {
     commit_batch(rt, alloc, store, &loading.batch)?;
     loading.batch = None;
@@ -201,8 +198,7 @@ fn commit_batch<R: Threads + Sync, D: Device>(
     store: &mut Store<D>,
     waiting: &Option<Batch>,
 ) -> Result<(), Refusal>
-    ensures puts { MatchResult result (λ _. Puts (rows_waiting waiting.now) store.old store.new) (λ _. KeepsMap store.old store.new) }
-    ensures refused { IfErr result (IsLoadRefusal (map_in store.old)) }
+    ensures { MatchResult result (λ _. AddsWaiting waiting.now store.old store.new) (λ e. AddsNot (rows_waiting waiting.now) store.old e store.new) }
 {
     match waiting {
         Some(batch) => {

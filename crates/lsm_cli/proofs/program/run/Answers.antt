@@ -19,7 +19,4 @@ pub returns-clause-no_fault : goal.returns-clause-no_fault
 returns-clause-no_fault g c ended = (done-of_run _ _ _ _ (returns-clause-runs g c) ended).1
 
 pub returns-clause-mistake : goal.returns-clause-mistake
-returns-clause-mistake g c ended = (mistake-of_run _ _ _ _ (returns-clause-runs g c) ended).0
-
-pub returns-clause-no_answer : goal.returns-clause-no_answer
-returns-clause-no_answer g c ended = (mistake-of_run _ _ _ _ (returns-clause-runs g c) ended).1
+returns-clause-mistake g c ended = mistake-of_run _ _ _ _ (returns-clause-runs g c) ended

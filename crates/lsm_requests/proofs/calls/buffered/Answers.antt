@@ -1,4 +1,3 @@
-use Rattle.std.proofs.Common.{rules}
 use Rattle.lsm_requests.proofs.LoadingLaws.{buffered-remaining}
 use Rattle.lsm_requests.proofs.calls.buffered.Goals as goal
 

@@ -1,6 +1,7 @@
 use Rattle.std.proofs.Common.{rules}
 use Rattle.std.proofs.lemmas.Result.{err_from_is_err_and}
-use Rattle.lsm_requests.proofs.RefusedLaws.{compact_refused}
+use Rattle.lsm_requests.specs.Refusing.{RefusesToCompact}
+use Rattle.lsm_requests.proofs.RefusedLaws.{opened_refused}
 use Rattle.lsm_requests.proofs.calls.compact.Goals as goal
 
 pub returns-clause-gives : goal.returns-clause-gives
@@ -14,4 +15,5 @@ returns-clause-gives g c = record {
 
 pub returns-in_err-output-clause-refused : goal.returns-in_err-output-clause-refused
 returns-in_err-output-clause-refused g c =
-    let p = err_from_is_err_and c.from_residual-in_err-output.result c.from_residual-in_err-output.ensures.1 in rw (p.1, p.2) (compact_refused _ c.in_err-output.ensures.refused)
+    let p = err_from_is_err_and c.from_residual-in_err-output.result c.from_residual-in_err-output.ensures.1 in
+    rw (p.1, p.2) (opened_refused RefusesToCompact c.in_ok-store.store _ c.in_ok-store.ensures.opened c.in_err-output.ensures.refused)

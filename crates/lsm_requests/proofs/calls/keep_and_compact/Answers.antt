@@ -1,6 +1,4 @@
-use Rattle.std.proofs.Common.{rules}
 use Rattle.std.proofs.lemmas.Result.{err_from_is_err_and}
-use Rattle.lsm_requests.proofs.RefusedLaws.{numbers_stopped}
 use Rattle.lsm_requests.proofs.calls.keep_and_compact.Goals as goal
 
 pub returns-clause-gives : goal.returns-clause-gives
@@ -13,4 +11,11 @@ returns-clause-gives g c = record {
 
 pub returns-in_err-numbers-clause-refused : goal.returns-in_err-numbers-clause-refused
 returns-in_err-numbers-clause-refused g c =
-    let p = err_from_is_err_and c.from_residual.result c.from_residual.ensures.1 in rw (p.1, p.2) (numbers_stopped c.compact_all_showing.new.store _ c.in_err-numbers.ensures.refused)
+    let p = err_from_is_err_and c.from_residual.result c.from_residual.ensures.1 in
+    rw (p.1, p.2) (record {
+      kept = c.keep.new.store;
+      after = c.compact_all_showing.new.store;
+      keeps = c.keep.ensures.keeps;
+      compacts = c.compact_all_showing.ensures.compacts;
+      untold = c.in_err-numbers.ensures.refused;
+    })

@@ -6,10 +6,10 @@ use Rattle.lsm_requests.proofs.loading.load_all.Goals as goal
 pub returns-in_err-commit_waiting : goal.returns-in_err-commit_waiting
 returns-in_err-commit_waiting g c =
     let p = err_from_is_err_and c.from_residual.result c.from_residual.ensures.1 in
-    rw p.1 (put-refused _ c.read_rows-read.result p.0 _ _ _ _ _ _ c.read_rows-read.ensures p.2 c.in_err-commit_waiting.ensures.refused c.in_err-commit_waiting.ensures.waits)
+    rw p.1 (put-refused _ c.read_rows-read.result p.0 _ _ _ _ _ _ (search rules) c.read_rows-read.ensures p.2 c.in_err-commit_waiting.ensures)
 
 pub returns : goal.returns
-returns g c = put-read _ c.read_rows-read.result _ _ _ _ _ (search rules) c.read_rows-read.ensures c.in_ok-commit_waiting.ensures.waits
+returns g c = put-read _ c.read_rows-read.result _ _ _ _ _ (search rules) c.read_rows-read.ensures c.in_ok-commit_waiting.ensures
 
 pub returns-in-Err-Refused : goal.returns-in-Err-Refused
 returns-in-Err-Refused g c = put-if_refused _ c.read_rows-read.result _ c.in-Err-Refused.field-0-0 _ _ _ c.in-Err-Refused.is (search rules) c.read_rows-read.ensures
