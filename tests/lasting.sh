@@ -1,5 +1,6 @@
 #!/usr/bin/env bash
-# Looks whether a store lasts that `lsmctl` feeds by single puts, that is filled and emptied, and that is moved to a larger file.
+# Looks whether a store lasts that `lsmctl` feeds by single puts, that is filled and emptied, that has as many tables as it may, and that is
+# moved to a larger file.
 #
 #     tests/lasting.sh PROGRAM [SECONDS [TIMES]]
 #
@@ -111,3 +112,25 @@ fill_and_empty() {
 }
 ask format full 8192 128
 for ((time = 0; time < times; time++)); do fill_and_empty; done
+
+# ---- as many tables as a store has room for
+
+# Short rows would make 1,024 tables before they fill the largest file. They are refused before, so that deletes and compactions go on.
+awk 'BEGIN { for (n = 0; n < 3000000; n++) printf "%08x empty\n", n }' >rows
+ask format many 1048576 2042
+status=0
+said=$("$program" load many <rows 2>err) || status=$?
+[ "$status" -eq 1 ] && [ "$(cat err)" = "refused 13 NoSpace" ] || fail "load of more rows than there are tables for ends with $status: $said $(cat err)"
+rows=${said#loaded }
+ask stat many
+tables=${said#* tables }
+[ "${tables%% *}" -le 896 ] || fail "after a load that found no room there are few tables left: $said"
+for ((key = 0; key < 20; key++)); do ask del many "$(printf %08x "$key")"; done
+ask compact many
+ask get many "$(printf %08x $((rows - 1)))"
+[ "$said" = "value empty" ] || fail "get of the last row that was loaded prints $said"
+ask get many 00000000
+[ "$said" = absent ] || fail "get of a row that was deleted prints $said"
+ask check many
+[[ $said == 'ok generation '* ]] || fail "check of a store with many tables prints $said"
+echo "lasting.sh: $rows short rows leave tables free, and are deleted and compacted"
