@@ -9,11 +9,11 @@ returns-clause-size c =
     let device = c.in_ok-device.device in
     let now = disk (medium_in device) in
     let long = length-written (medium_in device).size now.stands now.pending (history_sound device).now.size in
-    omega (arith, ap length c.in_ok-base.ensures, long, ap (λ (m : Medium). m.size) c.in_ok-device.ensures.zeros)
+    omega (arith, ap length c.in_ok-base.ensures.sectors, long, ap (λ (m : Medium). m.size) c.in_ok-device.ensures.zeros)
 
 pub returns-clause-whole : goal.returns-clause-whole
 returns-clause-whole c =
     let device = c.in_ok-device.device in
     let now = disk (medium_in device) in
     let on = (history_sound device).now in
-    subst (All IsSector) (sym c.in_ok-base.ensures) (written-whole (medium_in device).size now.stands now.pending on.sectors on.writes)
+    subst (All IsSector) (sym c.in_ok-base.ensures.sectors) (written-whole (medium_in device).size now.stands now.pending on.sectors on.writes)
