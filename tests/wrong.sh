@@ -126,7 +126,7 @@ merges() {
 refused lsm_jobs accept_gives_inputs_back
 # Of more than 4 writes not each subset is tried, so that it takes no minutes.
 cat >>"$folder/body" <<'EDIT'
-file: lsm_lives/src/masks.rt
+file: lsm_explore/src/masks.rt
 old: const MOST_WRITES: usize = 12;
 new: const MOST_WRITES: usize = 4;
 EDIT

@@ -3,7 +3,8 @@
 use crate::setup::{LOG_SECTORS, SECTORS, put};
 use lsm_codec::{Batch, Op};
 use lsm_device::Refusal;
-use lsm_lives::{Call, Explored, Step, Work, explore};
+use lsm_explore::{Explored, explore};
+use lsm_lives::{Call, Step, Work};
 use lsm_progress::{Milestone, Progress, Silent};
 use lsm_store::Choice;
 use std::alloc::Global;

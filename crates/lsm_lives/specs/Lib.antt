@@ -3,7 +3,3 @@ pub mod Calls
 pub mod Replaying
 pub mod Leading
 pub mod Living
-pub mod Masks
-pub mod Plain
-pub mod Expected
-pub mod Exploring

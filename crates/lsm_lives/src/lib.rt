@@ -15,22 +15,16 @@
 #![tactic(auto)]
 
 mod calls;
-mod expected;
-mod exploring;
-mod judging;
 mod law;
 mod living;
 mod making;
-mod masks;
-mod plain;
 mod replaying;
 mod serving;
 
 pub use calls::{Call, Reply, Step, Work};
-pub use exploring::{Explored, explore};
 pub use law::{
     devices_hold_what_was_left, led_lives_go_on, steps_go_on, what_is_asked_is_replayed,
 };
-pub use living::{CACHE_BLOCKS, Life, lives};
+pub use living::{CACHE_BLOCKS, Life, lives, open, open_and_make};
 pub use replaying::replay;
 pub use serving::serve;

@@ -180,8 +180,9 @@ fn crash<B: Allocator>(device: MemDevice<B>, mask: &[bool]) -> MemDevice<B>
     device.crash(mask)
 }
 
-// A life until its crash, on a device that tells what it holds.
-pub(crate) fn open_and_make<R: Threads + Sync, A: Allocator + Clone + Send + Sync, D: Device>(
+/// A life until its crash, on a device that tells what it holds: opens the store and makes the steps. The replies stand as
+/// [`lives`] gives them, in the places that there are; of the results of builds there are those that were built.
+pub fn open_and_make<R: Threads + Sync, A: Allocator + Clone + Send + Sync, D: Device>(
     rt: &R,
     alloc: &A,
     device: D,
@@ -211,8 +212,9 @@ pub(crate) fn open_and_make<R: Threads + Sync, A: Allocator + Clone + Send + Syn
     }
 }
 
-/// Opens the store of a device that tells what it holds.
-pub(crate) fn open<D: Device, A: Allocator + Clone>(
+/// Opens the store of a device that tells what it holds, with a cache of [`CACHE_BLOCKS`]. It is refused as that is, and with
+/// `NoMemory`; it hands the device back then.
+pub fn open<D: Device, A: Allocator + Clone>(
     alloc: &A,
     device: D,
 ) -> Result<Store<D, A>, (Refusal, D)>

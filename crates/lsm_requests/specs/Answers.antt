@@ -31,9 +31,9 @@ use Rattle.lsm_store.specs.Stats.{stat_answer}
 use Rattle.lsm_store.specs.declared.stat.Stat.{Stat}
 use Rattle.lsm_lives.specs.Asked.{Asked, Told as LivesTold}
 use Rattle.lsm_lives.specs.Calls.{asked_of}
-use Rattle.lsm_lives.specs.Exploring.{IsExplored}
+use Rattle.lsm_explore.specs.Exploring.{IsExplored}
 use Rattle.lsm_lives.specs.Replaying.{MakesEach}
-use Rattle.lsm_lives.specs.declared.exploring.Explored.{Explored}
+use Rattle.lsm_explore.specs.declared.exploring.Explored.{Explored}
 use Rattle.lsm_lives.specs.Leading.{AreLed, HasNewCache, LifeView}
 use Rattle.lsm_lives.specs.Living.{KeepPromise, asked_in}
 use Rattle.lsm_requests.specs.Steps.{steps_after, told_after, lives_said, told_lives}

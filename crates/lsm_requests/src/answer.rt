@@ -4,7 +4,7 @@ ghost use Rattle.std.specs.Prelude.{◌≡◌};
 ghost use Rattle.lsm_requests.specs.Answers.{Hands};
 
 use lsm_device::FileDevice;
-use lsm_lives::Explored;
+use lsm_explore::Explored;
 use lsm_store::Store;
 use std::fmt;
 

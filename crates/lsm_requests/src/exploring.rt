@@ -27,7 +27,7 @@ pub(crate) fn explore<R: Threads + Sync, P: Progress>(
     ensures refused { IfErr result (λ e. e ≡ NoMemory) }
 {
     let steps = steps_of(alloc, script)?;
-    let explored = lsm_lives::explore(
+    let explored = lsm_explore::explore(
         rt,
         alloc,
         geometry.sectors(),

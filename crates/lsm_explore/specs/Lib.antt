@@ -1,0 +1,4 @@
+pub mod Masks
+pub mod Plain
+pub mod Expected
+pub mod Exploring

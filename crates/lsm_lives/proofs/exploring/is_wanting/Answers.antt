@@ -1,6 +1,0 @@
-use Rattle.std.proofs.Common.{sym, ◌∙◌}
-use Rattle.lsm_lives.proofs.Explorations.{wanting_told}
-use Rattle.lsm_lives.proofs.exploring.is_wanting.Goals as goal
-
-pub returns : goal.returns
-returns g c = c.one_tells_no_memory.ensures ∙ sym (wanting_told c.args.replies.now)
