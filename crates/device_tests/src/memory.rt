@@ -198,7 +198,10 @@ fn refusals_have_numbers_and_names(rt: HostRuntime) {
         (Refusal::GuardFailed(2), 30, "GuardFailed"),
         (Refusal::TooManyGuards, 31, "TooManyGuards"),
     ] {
-        assert!(rt; refusal.number() == number && refusal.name() == name, "{name}");
+        assert!(rt;
+            refusal.number() == number && refusal.name() == name,
+            "{name}"
+        );
     }
     let placed = Refusal::GuardFailed(2).place() == Some(2);
     assert!(rt; placed && Refusal::TooManyGuards.place().is_none());

@@ -17,7 +17,11 @@ pub fn byte_of<D: Device>(device: &mut D, at: u32) -> Result<u8, Fault> {
         return Err(Fault);
     }
     device.read(at, &mut out)?;
-    if out[0] == out[511] { Ok(out[0]) } else { Err(Fault) }
+    if out[0] == out[511] {
+        Ok(out[0])
+    } else {
+        Err(Fault)
+    }
 }
 
 /// Whether the sectors from the first on are filled with these bytes, one for each.

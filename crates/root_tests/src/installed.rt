@@ -52,7 +52,12 @@ pub fn manifest<R: Abort>(
 }
 
 /// Whether the manifest is one for the device and is installed there.
-pub fn is_installed(alloc: Global, device: &mut Quiet, log_sectors: u16, manifest: &Manifest) -> bool {
+pub fn is_installed(
+    alloc: Global,
+    device: &mut Quiet,
+    log_sectors: u16,
+    manifest: &Manifest,
+) -> bool {
     let sectors = device.sectors();
     is_geometry(sectors, log_sectors)
         && manifest.is_within_limits()

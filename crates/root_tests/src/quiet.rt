@@ -29,7 +29,11 @@ impl Quiet {
 
     /// The reads, the writes and the syncs.
     pub fn calls(&self) -> (u64, u64, u64) {
-        (self.device.reads(), self.device.writes(), self.device.syncs())
+        (
+            self.device.reads(),
+            self.device.writes(),
+            self.device.syncs(),
+        )
     }
 
     /// A sector, of zeros where it can't be read.

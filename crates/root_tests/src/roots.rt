@@ -22,7 +22,12 @@ enum Place {
 }
 
 /// The sector of a superblock that names one manifest sector.
-fn superblock(version: FormatVersion, generation: u64, sectors: u32, log_sectors: u16) -> [u8; 512] {
+fn superblock(
+    version: FormatVersion,
+    generation: u64,
+    sectors: u32,
+    log_sectors: u16,
+) -> [u8; 512] {
     Superblock {
         version,
         generation,
@@ -73,25 +78,105 @@ fn superblocks_that_are_loaded_and_refused(rt: HostRuntime) {
         (Place::Blank, ONE, Ok(1), "a lone one"),
         (Place::Old(2), Place::Old(1), Ok(2), "version 1"),
         (TWO, Place::Old(1), Ok(2), "the first of version 2"),
-        (Place::Blank, Place::Old(1), Ok(1), "a lone one of version 1"),
-        (Place::Old(2), Place::Blank, Ok(2), "a lone one of version 1"),
+        (
+            Place::Blank,
+            Place::Old(1),
+            Ok(1),
+            "a lone one of version 1",
+        ),
+        (
+            Place::Old(2),
+            Place::Blank,
+            Ok(2),
+            "a lone one of version 1",
+        ),
         (Place::Blank, Place::Blank, Err(Refusal::NotAStore), "none"),
-        (Place::Ones, Place::Blank, Err(Refusal::BadSuper), "no superblock"),
-        (Place::Blank, Place::Ones, Err(Refusal::BadSuper), "no superblock"),
+        (
+            Place::Ones,
+            Place::Blank,
+            Err(Refusal::BadSuper),
+            "no superblock",
+        ),
+        (
+            Place::Blank,
+            Place::Ones,
+            Err(Refusal::BadSuper),
+            "no superblock",
+        ),
         (TWO, Place::Ones, Err(Refusal::BadSuper), "no superblock"),
-        (ONE, Place::Blank, Err(Refusal::BadSuper), "in the wrong sector"),
-        (Place::Blank, TWO, Err(Refusal::BadSuper), "in the wrong sector"),
+        (
+            ONE,
+            Place::Blank,
+            Err(Refusal::BadSuper),
+            "in the wrong sector",
+        ),
+        (
+            Place::Blank,
+            TWO,
+            Err(Refusal::BadSuper),
+            "in the wrong sector",
+        ),
         (ONE, TWO, Err(Refusal::BadSuper), "in the wrong sector"),
-        (TWO, Place::Of(5, SECTORS, LOG), Err(Refusal::BadSuper), "not one apart"),
-        (Place::Of(4, SECTORS, LOG), ONE, Err(Refusal::BadSuper), "not one apart"),
-        (TWO, Place::Of(1, SECTORS, 129), Err(Refusal::BadSuper), "of two sizes"),
-        (TWO, Place::Of(1, 8_193, LOG), Err(Refusal::BadSuper), "of two sizes"),
-        (Place::Old(2), ONE, Err(Refusal::BadSuper), "version 1 after version 2"),
-        (TWO, Place::Old(3), Err(Refusal::BadSuper), "version 1 after version 2"),
-        (Place::Of(2, 8_200, LOG), Place::Blank, Err(Refusal::BadGeometry), "another device's"),
-        (Place::Blank, Place::Of(1, 8_200, LOG), Err(Refusal::BadGeometry), "another device's"),
-        (Place::Of(4, SECTORS, LOG), Place::Blank, Err(Refusal::BadManifest), "another manifest"),
-        (Place::Blank, Place::Of(3, SECTORS, LOG), Err(Refusal::BadManifest), "another manifest"),
+        (
+            TWO,
+            Place::Of(5, SECTORS, LOG),
+            Err(Refusal::BadSuper),
+            "not one apart",
+        ),
+        (
+            Place::Of(4, SECTORS, LOG),
+            ONE,
+            Err(Refusal::BadSuper),
+            "not one apart",
+        ),
+        (
+            TWO,
+            Place::Of(1, SECTORS, 129),
+            Err(Refusal::BadSuper),
+            "of two sizes",
+        ),
+        (
+            TWO,
+            Place::Of(1, 8_193, LOG),
+            Err(Refusal::BadSuper),
+            "of two sizes",
+        ),
+        (
+            Place::Old(2),
+            ONE,
+            Err(Refusal::BadSuper),
+            "version 1 after version 2",
+        ),
+        (
+            TWO,
+            Place::Old(3),
+            Err(Refusal::BadSuper),
+            "version 1 after version 2",
+        ),
+        (
+            Place::Of(2, 8_200, LOG),
+            Place::Blank,
+            Err(Refusal::BadGeometry),
+            "another device's",
+        ),
+        (
+            Place::Blank,
+            Place::Of(1, 8_200, LOG),
+            Err(Refusal::BadGeometry),
+            "another device's",
+        ),
+        (
+            Place::Of(4, SECTORS, LOG),
+            Place::Blank,
+            Err(Refusal::BadManifest),
+            "another manifest",
+        ),
+        (
+            Place::Blank,
+            Place::Of(3, SECTORS, LOG),
+            Err(Refusal::BadManifest),
+            "another manifest",
+        ),
     ] {
         assert!(rt; loaded(&rt, rt.alloc(), even, odd) == answer, "{what}");
     }
@@ -133,6 +218,9 @@ fn small_devices_that_are_refused(rt: HostRuntime) {
         (2, Refusal::NotAStore),
         (8_191, Refusal::NotAStore),
     ] {
-        assert!(rt; refused_at(&rt, rt.alloc(), sectors) == Some(refusal), "{sectors}");
+        assert!(rt;
+            refused_at(&rt, rt.alloc(), sectors) == Some(refusal),
+            "{sectors}"
+        );
     }
 }

@@ -58,11 +58,17 @@ fn are_apart<R: Abort>(
 #[test]
 fn a_crash_leaves_the_old_root_or_the_new_one(rt: HostRuntime) {
     // Its text has 32 bytes, 17 for each log record, and 20 for each table.
-    let (old, new) = (manifest(&rt, rt.alloc(), 3, 0, 0), manifest(&rt, rt.alloc(), 4, 100, 3));
+    let (old, new) = (
+        manifest(&rt, rt.alloc(), 3, 0, 0),
+        manifest(&rt, rt.alloc(), 4, 100, 3),
+    );
     let masks: [&[bool]; 4] = [&[], &[true], &[false, true], &[true; 7]];
     for fuse in 0..9u64 {
         for mask in masks {
-            assert!(rt; are_apart(&rt, rt.alloc(), (&old, &new), fuse, mask), "{fuse}");
+            assert!(rt;
+                are_apart(&rt, rt.alloc(), (&old, &new), fuse, mask),
+                "{fuse}"
+            );
         }
     }
 }
@@ -73,7 +79,14 @@ type Place = (u32, u8, u8);
 /// What refuses to load a device of 8,192 sectors with a table in this place.
 fn refused<R: Abort>(rt: &R, alloc: Global, log_sectors: u16, place: Place) -> Option<Refusal> {
     let mut device = Quiet::new(rt, alloc, 8_192);
-    assert!(rt; is_installed(alloc, &mut device, log_sectors, &manifest(rt, alloc, 1, 1, 0)));
+    assert!(rt;
+        is_installed(
+            alloc,
+            &mut device,
+            log_sectors,
+            &manifest(rt, alloc, 1, 1, 0)
+        )
+    );
     // The table of generation 1, which has no log record.
     let mut sector = device.sector(66);
     sector[42..46].copy_from_slice(&place.0.to_be_bytes());
@@ -96,7 +109,10 @@ fn tables_in_the_data_area_and_behind_it(rt: HostRuntime) {
         (2_048, (235, 1, 1), None),
         (2_048, (236, 1, 1), Some(Refusal::BadManifest)),
     ] {
-        assert!(rt; refused(&rt, rt.alloc(), log_sectors, place) == refusal, "{log_sectors}");
+        assert!(rt;
+            refused(&rt, rt.alloc(), log_sectors, place) == refusal,
+            "{log_sectors}"
+        );
     }
 }
 
@@ -117,6 +133,9 @@ fn a_superblock_that_names_too_few_sectors_or_too_many(rt: HostRuntime) {
         (41, None),
         (42, Some(Refusal::BadManifest)),
     ] {
-        assert!(rt; refused_with_sectors(&rt, rt.alloc(), sectors) == refusal, "{sectors}");
+        assert!(rt;
+            refused_with_sectors(&rt, rt.alloc(), sectors) == refusal,
+            "{sectors}"
+        );
     }
 }
