@@ -92,6 +92,10 @@ single_runs() {
     # The superblock of generation 1, and its manifest (docs/formats.md).
     [ "$(bytes_of store 1 22)" = 4c534d53000200000000000000010000200000800001 ] || fail "another superblock"
     [ "$(bytes_of store 66 32)" = 4c534d4d00000000000000010000000000000000000000000000000100000000 ] || fail "another manifest"
+    # The sector of the first batch, with which the first log begins.
+    run 0 'format first 8192 128' 'formatted blocks 959\n'
+    run 0 'put first 61 31' 'batch 1\n'
+    [ "$(bytes_of first 130 42)" = 4c534d4c0000000000000002000000000000000100000001000800000000000000010101610001310000 ] || fail "another log sector"
     while IFS= read -r line; do
         case $line in '' | '#'*) continue ;; esac
         wanted=${line%% *}

@@ -50,6 +50,13 @@ for word in 'get FILE 61' 'put FILE 61 31' 'check FILE' 'serve FILE' 'dump FILE'
         opens_not "the length of the file is not a whole number of sectors" ${word/FILE/$folder/byte}
     }
 done
+# A sparse file of one sector more than have numbers, where the file system has such.
+if truncate -s $((512 << 32)) "$folder/large" 2>"$folder/truncated"; then
+    status=0
+    told=$("$program" get "$folder/large" 61 </dev/null 2>&1) || status=$?
+    [ "$status" = 1 ] && [ "$told" = 'refused 02 Io' ] || fail "a file of too many sectors ended with $status: $told"
+    rm "$folder/large"
+fi
 opens_not "the folder of the file is missing" format "$folder/none/F" 8192 128
 opens_not "the file is a folder" format "$folder" 8192 128
 [ ! -e "$folder/none" ] || fail "a file that is only read was made"

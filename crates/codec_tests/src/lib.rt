@@ -4,8 +4,6 @@
 #[cfg(test)]
 mod batches;
 #[cfg(test)]
-mod guards;
-#[cfg(test)]
 mod manifest_tables;
 #[cfg(test)]
 mod manifests;

@@ -110,15 +110,6 @@ fn superblocks_of_a_format_and_an_open(rt: HostRuntime) {
 }
 
 #[test]
-fn versions_0_and_3_are_none(rt: HostRuntime) {
-    for version in [0, 3, 255] {
-        let mut sector = bytes_of::<512>(FORMATTED).expect(&rt, "hex");
-        sector[5] = version;
-        assert!(rt; spells_nothing(&sector), "version {version}");
-    }
-}
-
-#[test]
 fn superblocks_at_their_limits(rt: HostRuntime) {
     let last = 1 << 63;
     for (generation, sectors, log_sectors, manifest_sectors, fits) in [
@@ -149,28 +140,42 @@ fn spells_nothing(sector: &[u8; 512]) -> bool {
     Superblock::decode(sector).is_none() && LogSector::decode(sector).is_none()
 }
 
-#[test]
-fn zeros_are_no_superblock_and_no_part(rt: HostRuntime) {
-    assert!(rt; spells_nothing(&[0; 512]));
+/// Whether no sector spells one that differs from this in the lowest bit of one byte, from one place up to another.
+fn is_each_byte_read(text: &str, from: usize, to: usize) -> bool {
+    let Some(sector) = bytes_of::<512>(text) else {
+        return false;
+    };
+    for at in from..to {
+        if !spells_nothing(&flipped(&sector, at)) {
+            return false;
+        }
+    }
+    true
 }
 
 #[test]
-fn each_byte_of_a_superblock_is_read(rt: HostRuntime) {
-    let superblock = bytes_of::<512>(FORMATTED).expect(&rt, "hex");
-    for at in (0..6).chain(22..512) {
-        assert!(rt; spells_nothing(&flipped(&superblock, at)), "byte {at}");
+fn each_byte_that_does_not_vary_is_read(rt: HostRuntime) {
+    for (text, from, to) in [
+        (FORMATTED, 0, 6),
+        (FORMATTED, 22, 512),
+        (FIRST_BATCH, 0, 4),
+        (FIRST_BATCH, 26, 32),
+        (FIRST_BATCH, 40, 512),
+    ] {
+        assert!(rt; is_each_byte_read(text, from, to), "{text} from {from}");
     }
 }
 
 #[test]
-fn each_byte_of_a_log_sector_is_read(rt: HostRuntime) {
-    let part = bytes_of::<512>(FIRST_BATCH).expect(&rt, "hex");
-    for at in (0..4).chain(26..32).chain(40..512) {
-        assert!(rt; spells_nothing(&flipped(&part, at)), "byte {at}");
+fn zeros_and_versions_that_are_none(rt: HostRuntime) {
+    for text in [
+        "",
+        "4c534d53000000000000000000010000200000800001",
+        "4c534d53000300000000000000010000200000800001",
+        "4c534d5300ff00000000000000010000200000800001",
+    ] {
+        let sector = bytes_of::<512>(text).expect(&rt, "hex");
+        assert!(rt; spells_nothing(&sector), "{text}");
     }
-}
-
-#[test]
-fn data_blocks_of_a_small_device(rt: HostRuntime) {
     assert!(rt; data_blocks(8_192, 128) == 959);
 }

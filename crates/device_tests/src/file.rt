@@ -1,109 +1,122 @@
 //! Tests of the device in a file. What a failed or short write, a sync and a create do to a real file is seen by the
-//! program's tests, `tests/files.sh`.
+//! program's tests, `tests/files.sh`; which files are refused, by `tests/runs.sh` and `tests/words.sh`.
 
-use crate::sectors::{ONES, TWOS, begin_with, first_byte, put};
+use crate::sectors::{are, byte_of, put};
 use lsm_device::{Device, Fault, FileDevice};
 use std::fs;
-use std::fs::OpenOptions;
+use std::fs::{File, Files, OpenOptions};
+use std::process::Abort;
 use std::test::Fail;
 
-#[test]
-fn a_file_is_made_written_and_opened_again(rt: HostRuntime) -> Result<(), Fail> {
-    let path = "a_file_is_made_written_and_opened_again.img";
-    let mut device = FileDevice::create(&rt, path, 3)?;
-    put(&mut device, 2, &ONES)?;
-    device.sync()?;
-    let made = device.sectors() == 3;
-    drop(device);
-    let mut device = FileDevice::open(&rt, path)?;
-    assert!(rt; made && device.sectors() == 3 && begin_with(&mut device, &[0, 0, 1]));
-    drop(device);
-    fs::remove_file(&rt, path)?;
-    Ok(())
+/// A new file of so many sectors.
+fn made<R: Abort + Files<File = File>>(rt: &R, path: &str, sectors: u32) -> FileDevice {
+    FileDevice::create(rt, path, sectors).expect(rt, "a new file")
 }
 
-#[test]
-fn a_file_that_is_there_is_replaced(rt: HostRuntime) -> Result<(), Fail> {
-    let path = "a_file_that_is_there_is_replaced.img";
-    let mut device = FileDevice::create(&rt, path, 4)?;
-    put(&mut device, 1, &TWOS)?;
-    device.sync()?;
-    drop(device);
-    let mut device = FileDevice::create(&rt, path, 2)?;
-    let zeros = begin_with(&mut device, &[0, 0]);
-    drop(device);
-    assert!(rt; zeros && fs::metadata(&rt, path)?.len() == 1024);
-    fs::remove_file(&rt, path)?;
-    Ok(())
-}
-
-#[test]
-fn a_file_that_is_missing_or_cut_is_a_fault(rt: HostRuntime) -> Result<(), Fail> {
-    let path = "a_file_that_is_missing_or_cut_is_a_fault.img";
-    let missing = FileDevice::open(&rt, path).is_err();
-    drop(FileDevice::create(&rt, path, 3)?);
-    let file = OpenOptions::new().write(true).open(&rt, path)?;
-    file.set_len(3 * 512 - 1)?;
-    let cut = FileDevice::open(&rt, path).is_err();
-    file.set_len(2 * 512)?;
-    let device = FileDevice::open(&rt, path)?;
-    assert!(rt; missing && cut && device.sectors() == 2);
-    drop(device);
-    fs::remove_file(&rt, path)?;
-    Ok(())
-}
-
-#[test]
-fn a_file_of_too_many_sectors_is_a_fault(rt: HostRuntime) -> Result<(), Fail> {
-    let path = "a_file_of_too_many_sectors_is_a_fault.img";
-    drop(FileDevice::create(&rt, path, 1)?);
-    let file = OpenOptions::new().write(true).open(&rt, path)?;
-    // A sparse file of one sector more than have numbers, where the file system has such.
-    if file.set_len(512 << 32).is_ok() {
-        assert!(rt; FileDevice::open(&rt, path).is_err());
+/// Whether the file is opened, and its sectors are filled with these bytes.
+fn holds<R: Files<File = File>>(rt: &R, path: &str, bytes: &[u8]) -> bool {
+    match FileDevice::open(rt, path) {
+        Ok(mut device) => device.sectors() as usize == bytes.len() && are(&mut device, bytes),
+        Err(Fault) => false,
     }
+}
+
+/// Writes three sectors of ones, twos and threes from sector 2 on, by one call.
+fn put_three(device: &mut FileDevice) -> Result<(), Fault> {
+    let mut bytes = [0; 1_536];
+    for (at, byte) in bytes.iter_mut().enumerate() {
+        *byte = (at / 512 % 3) as u8 + 1;
+    }
+    if device.sectors() < 5 {
+        return Err(Fault);
+    }
+    device.write_run(2, &bytes)
+}
+
+/// The first bytes of three sectors from one on, read by one call.
+fn three_from(device: &mut FileDevice, at: u32) -> Result<[u8; 3], Fault> {
+    let mut out = [9; 1_536];
+    if at as u64 + 3 > device.sectors() as u64 {
+        return Err(Fault);
+    }
+    device.read_run(at, &mut out)?;
+    Ok([out[0], out[512], out[1_024]])
+}
+
+/// How many of three sectors from one on are read ahead, and the first byte.
+fn some_from(device: &mut FileDevice, at: u32) -> Result<(u32, u8), Fault> {
+    let mut out = [9; 1_536];
+    if at as u64 + 3 > device.sectors() as u64 {
+        return Err(Fault);
+    }
+    let count = device.read_some(at, &mut out)?;
+    Ok((count, out[0]))
+}
+
+/// Whether the three are written, and read one by one and as parts of runs.
+fn keeps_three(device: &mut FileDevice) -> bool {
+    put_three(device).is_ok()
+        && device.sync().is_ok()
+        && are(device, &[0, 0, 1, 2, 3, 0])
+        && three_from(device, 1) == Ok([0, 1, 2])
+        && some_from(device, 3) == Ok((3, 2))
+}
+
+#[test]
+fn a_file_keeps_what_was_written_until_it_is_made_anew(rt: HostRuntime) -> Result<(), Fail> {
+    let path = "a_file_keeps_what_was_written_until_it_is_made_anew.img";
+    let kept = keeps_three(&mut made(&rt, path, 6));
+    assert!(rt; kept && holds(&rt, path, &[0, 0, 1, 2, 3, 0]));
+    drop(made(&rt, path, 4));
+    assert!(rt; holds(&rt, path, &[0; 4]));
     fs::remove_file(&rt, path)?;
     Ok(())
+}
+
+/// Cuts a file of six sectors down to four and a part, while a device has it.
+fn cut<R: Abort + Files<File = File>>(rt: &R, path: &str) {
+    let file = OpenOptions::new()
+        .write(true)
+        .open(rt, path)
+        .expect(rt, "the file");
+    file.set_len(4 * 512 + 100).expect(rt, "another length");
+}
+
+/// Whether the sectors that are left are read, and no others. What can be read of a run is read alone.
+fn reads_what_is_left(device: &mut FileDevice) -> bool {
+    byte_of(device, 4) == Err(Fault)
+        && byte_of(device, 3) == Ok(2)
+        && three_from(device, 2) == Err(Fault)
+        && some_from(device, 2) == Ok((1, 1))
 }
 
 #[test]
 fn a_file_that_was_cut_while_open_gives_faults(rt: HostRuntime) -> Result<(), Fail> {
     let path = "a_file_that_was_cut_while_open_gives_faults.img";
-    let mut device = FileDevice::create(&rt, path, 3)?;
-    let file = OpenOptions::new().write(true).open(&rt, path)?;
-    file.set_len(2 * 512 + 100)?;
-    assert!(rt; first_byte(&mut device, 2) == Err(Fault) && first_byte(&mut device, 1) == Ok(0));
+    let mut device = made(&rt, path, 6);
+    let written = put_three(&mut device).is_ok();
+    cut(&rt, path);
+    assert!(rt; written && reads_what_is_left(&mut device));
     drop(device);
     fs::remove_file(&rt, path)?;
     Ok(())
+}
+
+/// Whether no second device gets a file that one has, and it is told to be in use.
+fn keeps_others_out<R: Files<File = File>>(rt: &R, path: &str) -> bool {
+    FileDevice::open(rt, path).is_err()
+        && FileDevice::create(rt, path, 2).is_err()
+        && FileDevice::is_in_use(rt, path)
 }
 
 #[test]
 fn a_file_is_one_device_s_at_a_time(rt: HostRuntime) -> Result<(), Fail> {
     let path = "a_file_is_one_device_s_at_a_time.img";
-    let mut device = FileDevice::create(&rt, path, 3)?;
-    put(&mut device, 1, &ONES)?;
-    let kept_out = FileDevice::open(&rt, path).is_err()
-        && FileDevice::create(&rt, path, 2).is_err();
-    let told = FileDevice::is_in_use(&rt, path);
-    assert!(rt; kept_out && told && begin_with(&mut device, &[0, 1, 0]));
+    let mut device = made(&rt, path, 3);
+    let written = put(&mut device, 1, 1).is_ok();
+    assert!(rt; written && keeps_others_out(&rt, path) && are(&mut device, &[0, 1, 0]));
     drop(device);
-    let mut device = FileDevice::open(&rt, path)?;
-    let same = begin_with(&mut device, &[0, 1, 0]);
-    drop(device);
-    assert!(rt; same && !FileDevice::is_in_use(&rt, path));
+    assert!(rt; !FileDevice::is_in_use(&rt, path) && holds(&rt, path, &[0, 1, 0]));
     fs::remove_file(&rt, path)?;
-    Ok(())
-}
-
-#[test]
-fn a_file_in_a_folder_is_made_with_its_name(rt: HostRuntime) -> Result<(), Fail> {
-    let folder = "a_file_in_a_folder_is_made_with_its_name";
-    let path = "a_file_in_a_folder_is_made_with_its_name/store.img";
-    fs::create_dir(&rt, folder)?;
-    drop(FileDevice::create(&rt, path, 1)?);
-    assert!(rt; FileDevice::open(&rt, path).is_ok());
-    fs::remove_file(&rt, path)?;
-    fs::remove_dir(&rt, folder)?;
     Ok(())
 }

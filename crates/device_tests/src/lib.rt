@@ -1,11 +1,11 @@
-//! Tests of the devices.
+//! Tests of the devices, and of images.
 #![tactic(auto)]
 
 #[cfg(test)]
 mod file;
 #[cfg(test)]
-mod memory;
+mod images;
 #[cfg(test)]
-mod runs;
+mod memory;
 #[cfg(test)]
 mod sectors;

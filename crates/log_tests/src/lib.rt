@@ -1,11 +1,5 @@
-//! A log on a device in memory, as a store uses it.
+//! Tests of the log. What a store appends, and what a crash leaves of it, is told by scripts (`tests/runs.sh`).
 #![tactic(auto)]
 
-mod used;
-
-pub use used::{append, begin, open_again, settle};
-
 #[cfg(test)]
-mod subject;
-#[cfg(test)]
-mod tests;
+mod replays;

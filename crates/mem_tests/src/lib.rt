@@ -2,13 +2,7 @@
 #![tactic(auto)]
 
 #[cfg(test)]
-mod growth;
-#[cfg(test)]
-mod lines;
-#[cfg(test)]
 mod pages;
-#[cfg(test)]
-mod sealing;
 #[cfg(test)]
 mod tables;
 #[cfg(test)]

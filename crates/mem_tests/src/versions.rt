@@ -1,134 +1,107 @@
-//! Versions that a table keeps.
+//! Versions that a table keeps, as lines of text. Those that a `get` or a page finds at a snapshot are told by scripts
+//! (`tests/runs`).
 
-use crate::lines::{LINE, line_of_versions};
-use crate::tables::{Table, delete, is_version, lists, put};
-use lsm_codec::Batch;
-use lsm_device::Refusal;
-use lsm_mem::Mem;
-use std::alloc::{AllocError, Global};
-use std::test::Fail;
+use crate::tables::{Operation, Table};
+use lsm_codec::{Entry, VersionRef};
+use lsm_mem::{AllVersions, Mem};
+use std::alloc::Global;
+use std::process::Abort;
 
-/// A table with four versions of one key.
-fn four_versions(alloc: Global) -> Result<Table, Refusal> {
-    let mut table = Table::new(alloc)?;
-    for value in [b'1', b'2', b'3', b'4'] {
-        table.insert(&put(alloc, b"a", &[value])?)?;
+/// Adds the key, the number and the value of a version to a line.
+fn tell<R: Abort>(rt: &R, line: &mut Vec<u8>, version: VersionRef<'_>) {
+    line.extend_from_slice(version.key).expect(rt, "memory");
+    line.push(b'0' + (version.number % 10) as u8).expect(rt, "memory");
+    if let Some(value) = version.value {
+        line.push(b'=').expect(rt, "memory");
+        line.extend_from_slice(value).expect(rt, "memory");
     }
-    Ok(table)
+    line.push(b' ').expect(rt, "memory");
 }
 
-fn has_none(mem: &Mem, key: &[u8], at: u64) -> bool {
-    mem.get(key, at).is_none()
-}
-
-#[test]
-fn each_snapshot_keeps_its_version(rt: HostRuntime) -> Result<(), Fail> {
-    let table = four_versions(rt.alloc())?;
-    for (at, number, value) in [
-        (1, 1, b'1'),
-        (2, 2, b'2'),
-        (3, 3, b'3'),
-        (4, 4, b'4'),
-        (9, 4, b'4'),
-    ] {
-        assert!(rt;
-            is_version(table.mem(), b"a", at, number, Some(&[value])),
-            "{at}"
-        );
+/// Whether the newest versions at a number from a key on are these.
+fn has_range<R: Abort>(
+    rt: &R,
+    alloc: Global,
+    mem: &Mem,
+    (from, at): (&[u8], u64),
+    wanted: &[u8],
+) -> bool {
+    let mut line = Vec::new(alloc);
+    for version in mem.range(from, at).expect(rt, "memory") {
+        tell(rt, &mut line, version);
     }
-    assert!(rt; has_none(table.mem(), b"a", 0) && has_none(table.mem(), b"b", 9));
-    Ok(())
+    line.as_slice() == wanted
 }
 
-fn is_empty_until_an_insert(alloc: Global) -> Result<bool, Refusal> {
-    let mut table = Table::new(alloc)?;
-    let was_empty = table.mem().is_empty();
-    table.insert(&put(alloc, b"a", b"1")?)?;
-    Ok(was_empty && !table.mem().is_empty())
-}
-
-#[test]
-fn a_new_table_is_empty(rt: HostRuntime) -> Result<(), Fail> {
-    assert!(rt; is_empty_until_an_insert(rt.alloc())?);
-    Ok(())
-}
-
-fn put_and_delete(alloc: Global) -> Result<Batch, Refusal> {
-    let mut batch = put(alloc, b"a", b"1")?;
-    batch.delete(b"a")?;
-    Ok(batch)
-}
-
-fn delete_and_put(alloc: Global) -> Result<Batch, Refusal> {
-    let mut batch = delete(alloc, b"a")?;
-    batch.put(b"a", b"2")?;
-    Ok(batch)
-}
-
-/// A table with two batches, each of a put and a delete of one key.
-fn puts_and_deletes(alloc: Global) -> Result<Table, Refusal> {
-    let mut table = Table::new(alloc)?;
-    table.insert(&put_and_delete(alloc)?)?;
-    table.insert(&delete_and_put(alloc)?)?;
-    Ok(table)
-}
+/// Three batches over several keys.
+const SEVERAL: [&[Operation]; 3] = [
+    &[(b"c", Some(b"1")), (b"a", Some(b"1")), (b"b", Some(b"1"))],
+    &[(b"b", None)],
+    &[(b"ab", Some(b""))],
+];
 
 #[test]
-fn the_later_operation_of_a_batch_wins(rt: HostRuntime) -> Result<(), Fail> {
-    let table = puts_and_deletes(rt.alloc())?;
-    assert!(rt; is_version(table.mem(), b"a", 1, 1, None));
-    assert!(rt; is_version(table.mem(), b"a", 2, 2, Some(b"2")));
-    Ok(())
-}
-
-fn three_keys(alloc: Global) -> Result<Batch, Refusal> {
-    let mut batch = put(alloc, b"c", b"1")?;
-    batch.put(b"a", b"1")?;
-    batch.put(b"b", b"1")?;
-    Ok(batch)
-}
-
-/// A table with three batches over several keys.
-pub fn several_keys(alloc: Global) -> Result<Table, Refusal> {
-    let mut table = Table::new(alloc)?;
-    table.insert(&three_keys(alloc)?)?;
-    table.insert(&delete(alloc, b"b")?)?;
-    table.insert(&put(alloc, b"ab", b"")?)?;
-    Ok(table)
-}
-
-#[test]
-fn a_range_gives_the_newest_version_of_each_key(rt: HostRuntime) -> Result<(), Fail> {
-    let table = several_keys(rt.alloc())?;
+fn a_range_gives_the_newest_version_of_each_key(rt: HostRuntime) {
+    let table = Table::of(&rt, rt.alloc(), &SEVERAL);
     for (from, at, wanted) in [
         (b"".as_slice(), 0, b"".as_slice()),
-        (b"".as_slice(), 1, b"a1b1c1".as_slice()),
-        (b"".as_slice(), 2, b"a1bc1".as_slice()),
-        (b"".as_slice(), 3, b"a1abbc1".as_slice()),
-        (b"b".as_slice(), 1, b"b1c1".as_slice()),
-        (b"ba".as_slice(), 9, b"c1".as_slice()),
-        (b"d".as_slice(), 9, b"".as_slice()),
+        (b"", 1, b"a1=1 b1=1 c1=1 "),
+        (b"", 2, b"a1=1 b2 c1=1 "),
+        (b"", 3, b"a1=1 ab3= b2 c1=1 "),
+        (b"b", 1, b"b1=1 c1=1 "),
+        (b"ba", 9, b"c1=1 "),
+        (b"d", 9, b""),
     ] {
-        assert!(rt; lists(table.mem(), rt.alloc(), from, at, wanted)?, "{at}");
+        assert!(rt; has_range(&rt, rt.alloc(), table.mem(), (from, at), wanted), "{at}");
     }
-    Ok(())
 }
 
-/// Whether all versions of a table, in their order, are these in a line.
-fn has_versions(alloc: Global, table: &Table, line: &[u8]) -> Result<bool, AllocError> {
-    let found = line_of_versions(alloc, table.mem().versions())?;
-    Ok(found.as_slice() == line)
+/// Whether all versions, in their order, are these.
+fn are<R: Abort>(rt: &R, alloc: Global, versions: AllVersions<'_>, wanted: &[u8]) -> bool {
+    let mut line = Vec::new(alloc);
+    for version in versions {
+        tell(rt, &mut line, version);
+    }
+    line.as_slice() == wanted
+}
+
+/// Whether the entries, in their order, are these.
+fn are_entries<R: Abort>(rt: &R, alloc: Global, entries: &[Entry], wanted: &[u8]) -> bool {
+    let mut line = Vec::new(alloc);
+    for entry in entries {
+        let version = VersionRef {
+            key: entry.key(),
+            number: entry.number(),
+            value: entry.value(),
+        };
+        tell(rt, &mut line, version);
+    }
+    line.as_slice() == wanted
+}
+
+/// Whether a table of these batches lends these versions, and lends and copies them once it takes no more batches.
+fn keeps<R: Abort>(rt: &R, alloc: Global, batches: &[&[Operation]], wanted: &[u8]) -> bool {
+    let table = Table::of(rt, alloc, batches);
+    let is_lent = are(rt, alloc, table.mem().versions(), wanted);
+    let sealed = table.seal(rt);
+    let entries = sealed.entries(alloc).expect(rt, "memory");
+    is_lent && are(rt, alloc, sealed.versions(), wanted) && are_entries(rt, alloc, &entries, wanted)
 }
 
 #[test]
-fn all_versions_come_by_key_and_the_newest_first(rt: HostRuntime) -> Result<(), Fail> {
-    for (table, line) in [
-        (Table::new(rt.alloc())?, b"".as_slice()),
-        (four_versions(rt.alloc())?, b"a4=4 a3=3 a2=2 a1=1 "),
-        (puts_and_deletes(rt.alloc())?, b"a2=2 a1 "),
-        (several_keys(rt.alloc())?, LINE),
+fn all_versions_come_by_key_and_the_newest_first(rt: HostRuntime) {
+    let one: [&[Operation]; 2] = [&[(b"a", Some(b"1"))], &[(b"a", Some(b"2"))]];
+    // The later operation of a batch counts.
+    let twice: [&[Operation]; 2] = [
+        &[(b"a", Some(b"1")), (b"a", None)],
+        &[(b"a", None), (b"a", Some(b"2"))],
+    ];
+    for (batches, wanted) in [
+        ([].as_slice(), b"".as_slice()),
+        (&one, b"a2=2 a1=1 "),
+        (&twice, b"a2=2 a1 "),
+        (&SEVERAL, b"a1=1 ab3= b2 b1=1 c1=1 "),
     ] {
-        assert!(rt; has_versions(rt.alloc(), &table, line)?);
+        assert!(rt; keeps(&rt, rt.alloc(), batches, wanted));
     }
-    Ok(())
 }

@@ -2,65 +2,62 @@
 
 use crate::input::{entry, input_of};
 use lsm_codec::Entry;
-use lsm_device::Refusal;
-use lsm_merge::{Input, part};
+use lsm_merge::Input;
 use std::alloc::Allocator;
+use std::process::Abort;
 
 /// A version of a key of one byte: the key, the number, and the value's byte, or none.
 pub type Row = (u8, u64, Option<u8>);
 
-/// The run of these versions.
-fn run_of<A: Allocator + Clone>(alloc: A, rows: &[Row]) -> Result<Vec<Entry<A>, A>, Refusal> {
-    let mut run = Vec::new(alloc.clone()?);
-    for (key, number, value) in rows {
-        let made = match value {
-            Some(value) => entry(alloc.clone()?, &[*key], *number, Some(&[*value]))?,
-            None => entry(alloc.clone()?, &[*key], *number, None)?,
-        };
-        if let Some(entry) = made {
-            run.push(entry)?;
-        }
-    }
-    Ok(run)
+/// One version each of eight keys.
+pub const EIGHT: [Row; 8] = [
+    (0x61, 1, Some(1)),
+    (0x62, 1, Some(2)),
+    (0x63, 1, Some(3)),
+    (0x64, 1, Some(4)),
+    (0x65, 1, Some(5)),
+    (0x66, 1, Some(6)),
+    (0x67, 1, Some(7)),
+    (0x68, 1, Some(8)),
+];
+
+/// A delete of a key.
+pub const NEWER: [Row; 1] = [(0x61, 9, None)];
+
+/// An older put of it.
+pub const OLDER: [Row; 1] = [(0x61, 4, Some(0x31))];
+
+/// The entry of this version.
+fn entry_of<R: Abort, A: Allocator + Copy>(rt: &R, alloc: A, row: &Row) -> Entry<A> {
+    let (key, number, value) = row;
+    let made = match value {
+        Some(value) => entry(alloc, &[*key], *number, Some(&[*value])),
+        None => entry(alloc, &[*key], *number, None),
+    };
+    made.expect(rt, "memory").expect(rt, "an entry")
 }
 
-/// The input of these runs, the newer first. Refused with BadTable where it can't be one.
-pub fn input<A: Allocator + Clone>(
+/// The run of these versions.
+fn run_of<R: Abort, A: Allocator + Copy>(rt: &R, alloc: A, rows: &[Row]) -> Vec<Entry<A>, A> {
+    let mut run = Vec::new(alloc);
+    for row in rows {
+        run.push(entry_of(rt, alloc, row)).expect(rt, "memory");
+    }
+    run
+}
+
+/// The input of these runs, the newer first.
+pub fn input<R: Abort, A: Allocator + Copy>(
+    rt: &R,
     alloc: A,
     runs: &[&[Row]],
     cuts: &[u64],
     bottom: bool,
-) -> Result<Input<A>, Refusal> {
-    let mut all = Vec::new(alloc.clone()?);
+) -> Input<A> {
+    let mut all = Vec::new(alloc);
     for rows in runs {
-        all.push(run_of(alloc.clone()?, rows)?)?;
+        all.push(run_of(rt, alloc, rows)).expect(rt, "memory");
     }
-    input_of(all, Vec::from_slice(alloc, cuts)?, bottom).ok_or(Refusal::BadTable)
-}
-
-fn is_row<A: Allocator>(entry: &Entry<A>, row: &Row) -> bool {
-    let (key, number, value) = row;
-    let has_value = match (entry.value(), value) {
-        (Some(found), Some(value)) => found == [*value].as_slice(),
-        (None, None) => true,
-        _ => false,
-    };
-    entry.key() == [*key].as_slice() && entry.number() == *number && has_value
-}
-
-/// Whether the entries are just these versions.
-pub fn are_rows<A: Allocator>(entries: &[Entry<A>], rows: &[Row]) -> bool {
-    let mut wanted = rows.iter();
-    entries.len() == rows.len()
-        && entries.iter().all(|entry| wanted.next().is_some_and(|row| is_row(entry, row)))
-}
-
-/// Whether a merge keeps just these versions.
-pub fn keeps<A: Allocator + Clone>(
-    alloc: A,
-    input: &Input<A>,
-    rows: &[Row],
-) -> Result<bool, Refusal> {
-    let kept = part(alloc, input, None, None)?;
-    Ok(are_rows(&kept, rows))
+    let cuts = Vec::from_slice(alloc, cuts).expect(rt, "memory");
+    input_of(all, cuts, bottom).expect(rt, "an input")
 }

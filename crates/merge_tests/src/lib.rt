@@ -4,8 +4,6 @@
 pub mod budget;
 #[cfg(test)]
 mod cases;
-#[cfg(test)]
-mod growth;
 pub mod input;
 #[cfg(test)]
 mod merges;

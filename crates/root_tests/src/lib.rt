@@ -2,6 +2,8 @@
 #![tactic(auto)]
 
 #[cfg(test)]
+mod installed;
+#[cfg(test)]
 mod quiet;
 #[cfg(test)]
 mod roots;

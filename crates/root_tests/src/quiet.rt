@@ -1,32 +1,25 @@
 //! A device of tests.
-ghost use Rattle.std.specs.Prelude.{◌≡◌};
-ghost use Rattle.lsm_device.specs.Calls.{after_call, after_change};
 
-use lsm_device::{Calls, Device, Fault, MemDevice};
-use std::alloc::{AllocError, Global};
+use lsm_device::{Device, Fault, MemDevice};
+use std::alloc::Global;
+use std::process::Abort;
 
-/// A device that tells contracts nothing, and of which one sector can't be read.
+/// A device that tells contracts nothing.
 #[derive(Drop)]
-pub struct Quiet<D: Drop> {
-    device: D,
-    calls: Calls,
-    broken: Option<u32>,
+pub struct Quiet {
+    device: MemDevice,
 }
 
-impl Quiet<MemDevice> {
-    pub fn new(alloc: Global, sectors: u32) -> Result<Quiet<MemDevice>, AllocError> {
-        Ok(Quiet {
-            device: MemDevice::new(alloc, sectors)?,
-            calls: Calls::NONE,
-            broken: None,
-        })
+impl Quiet {
+    pub fn new<R: Abort>(rt: &R, alloc: Global, sectors: u32) -> Quiet {
+        Quiet {
+            device: MemDevice::new(alloc, sectors).expect(rt, "memory"),
+        }
     }
 
-    pub fn crash(self, keep: &[bool]) -> Quiet<MemDevice> {
+    pub fn crash(self, keep: &[bool]) -> Quiet {
         Quiet {
             device: self.device.crash(keep),
-            calls: Calls::NONE,
-            broken: None,
         }
     }
 
@@ -34,85 +27,57 @@ impl Quiet<MemDevice> {
         self.device.fuse(n);
     }
 
-    pub fn break_sector(&mut self, at: u32) {
-        self.broken = Some(at);
+    /// The reads, the writes and the syncs.
+    pub fn calls(&self) -> (u64, u64, u64) {
+        (
+            self.device.reads(),
+            self.device.writes(),
+            self.device.syncs(),
+        )
     }
 
-    pub fn reads(&self) -> u64 {
-        self.calls.reads
-    }
-
-    /// The writes and syncs.
-    pub fn changes(&self) -> (u64, u64) {
-        (self.calls.writes, self.calls.syncs)
-    }
-
-    pub fn read_into(&mut self, at: u32, out: &mut [u8; 512]) -> Result<(), Fault> {
-        if at >= self.device.sectors() {
-            return Err(Fault);
+    /// A sector, of zeros where it can't be read.
+    pub fn sector(&mut self, at: u32) -> [u8; 512] {
+        let mut sector = [0; 512];
+        if at >= self.device.sectors() || self.device.read(at, &mut sector).is_err() {
+            return [0; 512];
         }
-        self.read(at, out)
+        sector
+    }
+
+    /// Whether a sector is written.
+    pub fn put(&mut self, at: u32, sector: &[u8; 512]) -> bool {
+        at < self.device.sectors() && self.device.write(at, sector).is_ok()
     }
 }
 
-fn count(calls: &mut Calls, ok: bool)
-    ensures { calls.new ≡ after_call ok calls.old }
-{
-    if !ok {
-        calls.faults = calls.faults.wrapping_add(1);
-    }
-    calls.last_faulted = !ok;
-}
-
-// A write or a sync that answers Ok has passed.
-fn count_change(calls: &mut Calls, ok: bool)
-    ensures { calls.new ≡ after_change ok calls.old }
-{
-    if ok {
-        calls.passed = calls.passed.wrapping_add(1);
-    }
-    count(calls, ok);
-}
-
-impl<D: Device + Drop> Device for Quiet<D> {
+impl Device for Quiet {
     ghost use Rattle.std.specs.Prelude.{[]};
     ghost use Rattle.std.proofs.lemmas.Bool.{false≢true};
     ghost use Rattle.lsm_device.specs.Medium.{silent};
+    ghost use Rattle.lsm_device.specs.Memory.{medium_in};
 
-    ghost medium = { λ d. record { size = (D.medium d.device).size; lasting = silent; calls = d.calls; history = [] } };
+    ghost medium = { λ d. record { size = (medium_in d.device).size; lasting = silent; calls = (medium_in d.device).calls; history = [] } };
 
     ghost sound = { λ d t. absurd (false≢true t) };
 
     ghost keeps_fuses = { λ d t. absurd (false≢true t) };
 
-    ghost small = { λ d. D.small d.device };
+    ghost small = { λ d. ⟦<MemDevice as Device>⟧.small d.device };
 
     fn sectors(&self) -> u32 {
         self.device.sectors()
     }
 
     fn read(&mut self, at: u32, out: &mut [u8; 512]) -> Result<(), Fault> {
-        self.calls.reads = self.calls.reads.wrapping_add(1);
-        if self.broken == Some(at) {
-            count(&mut self.calls, false);
-            return Err(Fault);
-        }
-        let answer = self.device.read(at, out);
-        count(&mut self.calls, answer.is_ok());
-        answer
+        self.device.read(at, out)
     }
 
     fn write(&mut self, at: u32, bytes: &[u8; 512]) -> Result<(), Fault> {
-        self.calls.writes = self.calls.writes.wrapping_add(1);
-        let answer = self.device.write(at, bytes);
-        count_change(&mut self.calls, answer.is_ok());
-        answer
+        self.device.write(at, bytes)
     }
 
     fn sync(&mut self) -> Result<(), Fault> {
-        self.calls.syncs = self.calls.syncs.wrapping_add(1);
-        let answer = self.device.sync();
-        count_change(&mut self.calls, answer.is_ok());
-        answer
+        self.device.sync()
     }
 }

@@ -1,5 +1,0 @@
-//! Tests of images.
-#![tactic(auto)]
-
-#[cfg(test)]
-mod tests;
