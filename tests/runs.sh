@@ -250,6 +250,92 @@ full_level() {
     scripts <level
 }
 
+# So many flushes of one put each, of the keys from 0001 on, in 11 runs of level 0 at the end and before that at most 12. What would
+# be more goes down to level 1, each as a table of its own. The last job is left in `job`.
+many_tables() {
+    local number runs=0
+    job=0
+    for ((number = 1; number <= $1; number++)); do
+        job=$((job + 1)) runs=$((runs + 1))
+        printf 'commit +%04x=31 | batch %d\n' "$number" "$number"
+        flush "$job"
+        echo "install $job | ok"
+        if ((runs == 12)); then
+            job=$((job + 1)) runs=11
+            printf '%s\n' "take | job $job level 0" "read $job | left 0" "build $job 1 | built $job images 1"
+            printf '%s\n' "accept $job $job | ok" "write $job | left 0" "install $job | ok"
+        fi
+    done
+}
+
+# A store has 1,024 tables at most. With a table more than it may have a flush isn't installed, however often, and can be given up. As
+# many as may be are opened.
+as_many_tables_as_may_be() {
+    local key
+    {
+        # The data area has room for 1,025 tables of four blocks.
+        echo 'lives 33314 128 | open 0'
+        many_tables 1024
+        job=$((job + 1))
+        echo 'commit +0401=31 | batch 1025'
+        flush "$job"
+        printf '%s\n' "install $job | refused 15 TooManyTables" "install $job | refused 15 TooManyTables" "drop $job | ok"
+        printf '%s\n' "take | job $((job + 1)) flush" 'crash none | open 1025'
+        for key in 0001 000c 000d 03f5 03f6 0400 0401; do echo "get $key | value 31"; done
+        printf '%s\n' 'get 0402 | absent' 'take | job 1 flush'
+    } >tables
+    scripts <tables
+}
+
+# The lines of openings that are stopped twice, one pair after another, and of a third behind each pair that isn't: the fuses of the
+# first are below this number, and each fuse and mask of the second is given. An opening with so many writes and syncs is whole. So
+# many batches are found, and the page of all keys is this one.
+stopped_openings() {
+    local fuses=$1 whole=$2 batches=$3 rows=$4 masks=$5 fuse mask second
+    shift 5
+    for ((fuse = 0; fuse < fuses; fuse++)); do
+        for mask in $masks; do
+            for second; do
+                printf '%s\n' 'crash none |' "fuse $fuse | $(opened_behind "$fuse")" "crash $mask |"
+                printf '%s\n' "fuse ${second% *} | $(opened_behind "${second% *}")" "crash ${second#* } | open $batches"
+                echo "scan empty end 64 | $rows"
+            done
+        done
+    done
+}
+
+# What an opening answers whose fuse is this number.
+opened_behind() {
+    if (($1 < whole)); then echo 'refused 02 Io'; else echo "open $batches"; fi
+}
+
+# Openings of tables of two levels and a batch behind them, and of 28 tables, whose manifest takes two sectors. Each is stopped at each
+# of its writes and syncs, with each mask over what pends, and the next one so again.
+twice_stopped() {
+    local seconds=() fuse mask number rows=rows
+    for fuse in 0 1 2 3 4 5; do for mask in 0 1; do seconds+=("$fuse $mask"); done; done
+    {
+        echo 'lives 8192 128 | open 0'
+        for number in 1 2 3 4; do
+            echo "commit +61=0$number +6$number=3$number | batch $number"
+            flush $number
+            echo "install $number | ok"
+        done
+        printf '%s\n' 'take | job 5 level 0' 'read 5 | left 0' 'build 5 1 | built 5 images 1' 'accept 5 5 | ok' 'write 5 | left 0' 'install 5 | ok'
+        printf '%s\n' 'commit +65=35 | batch 5' 'sync | ok' 'commit +66=36 | batch 6'
+        stopped_openings 6 5 5 'rows 61=04 62=32 63=33 64=34 65=35 end' '0 1' "${seconds[@]}"
+    } >twice
+    scripts <twice
+    for ((number = 1; number <= 29; number++)); do printf -v rows '%s %04x=31' "$rows" "$number"; done
+    {
+        echo 'lives 8192 128 | open 0'
+        many_tables 28
+        printf '%s\n' 'commit +001d=31 | batch 29' 'sync | ok'
+        stopped_openings 7 6 29 "$rows end" '00 10 01 11' '2 01' '3 10' '5 10'
+    } >twice
+    scripts <twice
+}
+
 # Batches of 29 puts of 2,048 bytes, the first of them of this number, and so many of them. Their keys have two bytes, and rise
 # from 0000 on; each byte of their values is 09, or the one that is given. A text has 59,568 bytes, and an entry 2,062, so that
 # each has a data block of its own.
@@ -516,6 +602,8 @@ faulting_openings
 snapshots
 full_regions
 full_level
+as_many_tables_as_may_be
+twice_stopped
 deep_levels
 meeting_levels
 no_space

@@ -1,12 +1,10 @@
 //! Formats of devices in memory.
 
-use crate::devices::{
-    SECTORS, crash, format_of, made, put, put_each, sector, sector_of, sync, zeros,
-};
+use crate::devices::{crash, put, sector, sector_of, zeros};
 use linked_list_allocator::LocalHeap;
-use lsm_device::{MemDevice, Refusal};
-use lsm_root::load;
-use std::alloc::Global;
+use lsm_device::{Device, MemDevice, Refusal};
+use lsm_open::format;
+use std::alloc::{Allocator, Global};
 use std::process::Abort;
 
 const ONES: [u8; 512] = [0xff; 512];
@@ -16,78 +14,77 @@ const SUPERBLOCK: &str = "4c534d53000200000000000000010000200000800001";
 
 const MANIFEST: &str = "4c534d4d00000000000000010000000000000000000000000000000100000000";
 
+/// What a format answers. It tells the prover nothing.
+fn format_of<A: Allocator + Clone>(
+    alloc: A,
+    device: MemDevice,
+) -> Result<MemDevice, (Refusal, MemDevice)> {
+    match format(alloc, device, 128) {
+        Ok(device) => Ok(device),
+        Err(refused) => Err(refused),
+    }
+}
+
 /// A device with ones in each sector of superblocks, manifests and log regions, and in the first behind them. Two more writes
 /// of ones pend.
 fn worn<R: Abort>(rt: &R, alloc: Global) -> MemDevice {
-    let mut device = zeros(rt, alloc, SECTORS);
+    let mut device = zeros(rt, alloc);
     for at in 0..515u32 {
         put(rt, &mut device, at, &ONES);
     }
-    sync(rt, &mut device);
-    put_each(rt, &mut device, &[0, 300], &ONES);
+    device.sync().expect(rt, "a sync");
+    put(rt, &mut device, 0, &ONES);
+    put(rt, &mut device, 300, &ONES);
     device
 }
 
-/// Whether superblocks, manifests and log regions are those of an empty store, and the sector behind them is as it was.
-fn is_empty_store<R: Abort>(rt: &R, device: &mut MemDevice) -> bool {
+/// Whether a format makes such a device an empty store, which stands: superblocks, manifests and log regions are those of one, and
+/// the sector behind them is as it was.
+fn is_emptied<R: Abort>(rt: &R, alloc: Global, device: MemDevice) -> bool {
+    let Ok(made) = format_of(alloc, device) else {
+        return false;
+    };
+    let mut device = crash(made, &[]);
     for at in 0..514u32 {
         let text = match at {
             1 => SUPERBLOCK,
             66 => MANIFEST,
             _ => "",
         };
-        if sector(rt, device, at) != sector_of(rt, text) {
+        if sector(rt, &mut device, at) != sector_of(rt, text) {
             return false;
         }
     }
-    sector(rt, device, 514) == ONES
-}
-
-/// Whether the root that is loaded is that of an empty store.
-fn loads_empty<R: Abort>(rt: &R, alloc: Global, device: &mut MemDevice) -> bool {
-    let loaded = load(alloc, device).expect(rt, "a root");
-    let manifest = &loaded.manifest;
-    loaded.log_sectors == 128
-        && manifest.generation() == 1
-        && manifest.base() == 0
-        && manifest.next_table() == 1
-        && manifest.logs().is_empty()
+    sector(rt, &mut device, 514) == ONES
 }
 
 #[test]
-fn a_formatted_device(rt: HostRuntime) {
-    let worn = worn(&rt, rt.alloc());
-    let mut device = crash(made(&rt, rt.alloc(), worn), &[]);
-    assert!(rt; is_empty_store(&rt, &mut device));
-    assert!(rt; loads_empty(&rt, rt.alloc(), &mut device));
+fn a_worn_device(rt: HostRuntime) {
+    assert!(rt; is_emptied(&rt, rt.alloc(), worn(&rt, rt.alloc())));
 }
 
-/// The device that a format hands back with Io which fails after so many calls.
-fn refused_at<R: Abort>(rt: &R, alloc: Global, fuse: u64) -> MemDevice {
-    let mut device = zeros(rt, alloc, SECTORS);
+/// What a crash that keeps all leaves of a format that fails with Io behind so many writes and syncs.
+fn failed<R: Abort>(rt: &R, alloc: Global, fuse: u64) -> MemDevice {
+    let mut device = worn(rt, alloc);
     device.fuse(fuse);
-    match format_of(alloc, device, 128) {
-        Err((Refusal::Io, device)) => device,
+    match format_of(alloc, device) {
+        Err((Refusal::Io, device)) => crash(device, &[true; 600]),
         _ => rt.panic("Io"),
     }
-}
-
-/// Whether a format is refused with Io where the device fails after so many calls, and succeeds after a crash.
-fn is_formatted_again<R: Abort>(rt: &R, alloc: Global, fuse: u64) -> bool {
-    let device = crash(refused_at(rt, alloc, fuse), &[true; 600]);
-    loads_empty(rt, alloc, &mut made(rt, alloc, device))
 }
 
 #[test]
 fn device_calls_that_fail(rt: HostRuntime) {
     for fuse in [0, 1, 513, 514, 515, 516, 517, 518] {
-        assert!(rt; is_formatted_again(&rt, rt.alloc(), fuse), "{fuse}");
+        let device = failed(&rt, rt.alloc(), fuse);
+        assert!(rt; is_emptied(&rt, rt.alloc(), device), "{fuse}");
     }
 }
 
-/// Whether a format on a heap succeeds. Where it is refused no call of the device was made.
-fn is_formatted_in<R: Abort>(rt: &R, heap: &LocalHeap, device: MemDevice) -> bool {
-    match format_of(heap, device, 128) {
+/// Whether a format succeeds on a heap of this size. If it is refused no call of the device was made.
+fn is_formatted_on<R: Abort>(rt: &R, alloc: Global, size: usize) -> bool {
+    let heap = LocalHeap::new(alloc, size).expect(rt, "a heap");
+    match format_of(&heap, zeros(rt, alloc)) {
         Ok(_) => true,
         Err((refusal, device)) => {
             let is_untouched = device.writes() == 0 && device.syncs() == 0;
@@ -95,13 +92,6 @@ fn is_formatted_in<R: Abort>(rt: &R, heap: &LocalHeap, device: MemDevice) -> boo
             false
         }
     }
-}
-
-/// The same on a new heap of this size.
-fn is_formatted_on<R: Abort>(rt: &R, alloc: Global, size: usize) -> bool {
-    let device = zeros(rt, alloc, SECTORS);
-    let heap = LocalHeap::new(alloc, size).expect(rt, "a heap");
-    is_formatted_in(rt, &heap, device)
 }
 
 #[test]

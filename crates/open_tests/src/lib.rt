@@ -1,5 +1,5 @@
-//! Tests of formats and openings on devices in memory, without tables. Those of files are runs of the program
-//! (`tests/runs.sh`), and those of roots that name tables stand in `recovery_tests`.
+//! Tests of formats and openings on devices in memory, of images that are given by their bytes. What else openings find and refuse is
+//! shown by runs of the program (`tests/runs.sh`, `tests/checked.sh`).
 #![tactic(auto)]
 
 #[cfg(test)]
@@ -7,8 +7,6 @@ mod devices;
 #[cfg(test)]
 mod format;
 #[cfg(test)]
-mod refusals;
+mod old;
 #[cfg(test)]
-mod subject;
-#[cfg(test)]
-mod tests;
+mod openings;
