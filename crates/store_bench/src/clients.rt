@@ -4,7 +4,6 @@ ghost use Rattle.std.specs.Prelude.{◌≡◌};
 
 use crate::clock::{now, since};
 use crate::keys::{batch_of, key_of};
-use crate::subject::{Timed, Times};
 use lsm_device::{Device, Refusal};
 use lsm_lives::{Call, Reply};
 use lsm_shared::{Client, Shared, prepare};
@@ -32,45 +31,50 @@ pub(crate) struct Task {
     pub(crate) round: u8,
 }
 
-/// Commits the put of a number. It answers the number of the batch, where there is one.
-fn commit<D: Device, B: SessionName, R: Wait>(
+/// The nanoseconds of a session's work, those of its beginning and its end, and how many entries it had.
+#[derive(Clone, Copy)]
+pub(crate) struct Times {
+    pub(crate) nanos: u64,
+    pub(crate) change: u64,
+    pub(crate) entries: u32,
+}
+
+/// Makes a call. It answers the number that is the reply, or 0 for another; and none where the call is refused.
+fn ask<D: Device, B: SessionName, R: Wait>(
     rt: &R,
-    alloc: Global,
     shared: &Shared<D, Global, B>,
     me: &mut Client<Global, B>,
-    number: u32,
-    round: u8,
+    call: Call,
 ) -> Option<u64> {
-    let Ok(batch) = batch_of(alloc, number, 1, round) else {
-        return None;
-    };
-    match me.call(rt, shared, Call::Commit(batch)) {
+    match me.call(rt, shared, call) {
+        Ok(Reply::Refused(_)) | Err(_) => None,
         Ok(Reply::Number(number)) => Some(number),
-        _ => None,
+        Ok(_) => Some(0),
     }
 }
 
-/// Gets the value of a number's key so often. It tells whether each get was answered.
-fn get<D: Device, B: SessionName, R: Wait>(
+/// Gets the value of a number's key so often, commits its put, and syncs it or not.
+fn put<D: Device, B: SessionName, R: Wait>(
     rt: &R,
     alloc: Global,
     shared: &Shared<D, Global, B>,
     me: &mut Client<Global, B>,
     number: u32,
-    times: u32,
-) -> bool {
-    for _ in 0..times {
-        let Ok(key) = Vec::from_slice(alloc, &key_of(number)) else {
-            return false;
-        };
-        if me.call(rt, shared, Call::Get(At::Now, key)).is_err() {
-            return false;
-        }
+    task: Task,
+) -> Option<u64> {
+    for _ in 0..task.gets {
+        let key = Vec::from_slice(alloc, &key_of(number)).ok()?;
+        ask(rt, shared, me, Call::Get(At::Now, key))?;
     }
-    true
+    let batch = batch_of(alloc, number, 1, task.round).ok()?;
+    let committed = ask(rt, shared, me, Call::Commit(batch))?;
+    if task.synced {
+        return ask(rt, shared, me, Call::SyncTo(committed));
+    }
+    Some(committed)
 }
 
-/// What one client does, whatever comes of it.
+/// What one client does, until a call is refused.
 fn take_part<D: Device, B: SessionName, R: Wait>(
     rt: &R,
     alloc: Global,
@@ -80,43 +84,27 @@ fn take_part<D: Device, B: SessionName, R: Wait>(
 ) {
     let first = me.number().wrapping_mul(task.commits);
     for place in 0..task.commits {
-        let number = first.wrapping_add(place);
-        if !get(rt, alloc, shared, me, number, task.gets) {
+        if put(rt, alloc, shared, me, first.wrapping_add(place), task).is_none() {
             return;
-        }
-        let committed = commit(rt, alloc, shared, me, number, task.round);
-        if let (Some(batch), true) = (committed, task.synced) {
-            let _ = me.call(rt, shared, Call::SyncTo(batch));
         }
     }
 }
 
-/// All clients do their part at the same time.
-fn take_parts<D: Device + Send, B: SessionName + Send + Sync, R: Threads + Wait + Sync>(
-    rt: &R,
-    alloc: Global,
-    shared: &Shared<D, Global, B>,
-    clients: &mut [Client<Global, B>],
-    task: Task,
-) {
-    for_each_mut(
-        rt,
-        clients,
-        MOST_THREADS,
-        &|_, me| { take_part(rt, alloc, shared, me, task) },
-    );
-}
-
-/// The nanoseconds that they take.
+/// All clients do their part at the same time. It answers the nanoseconds.
 fn timed<D: Device + Send, B: SessionName + Send + Sync, R: Threads + Wait + Clock + Sync>(
     rt: &R,
     alloc: Global,
     shared: &Shared<D, Global, B>,
     clients: &mut [Client<Global, B>],
     task: Task,
-) -> Result<u64, Refusal> {
-    let start = now(rt)?;
-    take_parts(rt, alloc, shared, clients, task);
+) -> u64 {
+    let start = now(rt);
+    for_each_mut(
+        rt,
+        clients,
+        MOST_THREADS,
+        &|_, me| { take_part(rt, alloc, shared, me, task) },
+    );
     since(rt, start)
 }
 
@@ -140,40 +128,37 @@ fn run<D: Device + Drop + Send, B: SessionName + Send + Sync, R: Threads + Wait 
     alloc: Global,
     opened: Opened<D>,
     task: Task,
-    start: Instant,
-) -> Result<Timed<D>, Refusal>
+    start: Option<Instant>,
+) -> Result<(Store<D>, Times), Refusal>
     requires { opened ≡ B.id }
 {
     let (shared, mut clients) = match Shared::<D, Global, B>::begin(alloc, opened) {
         Ok(begun) => begun,
         Err((refusal, _)) => return Err(refusal),
     };
-    let begun = since(rt, start)?;
-    let nanos = timed(rt, alloc, &shared, &mut clients, task)?;
-    let end = now(rt)?;
+    let begin = since(rt, start);
+    let nanos = timed(rt, alloc, &shared, &mut clients, task);
+    let end = now(rt);
     let (store, entries) = ended(shared, clients)?;
-    let change = begun.wrapping_add(since(rt, end)?);
-    Ok(Timed {
-        store,
-        times: Times {
-            nanos,
-            change,
-            entries,
-        },
-    })
+    let change = begin.saturating_add(since(rt, end));
+    let times = Times {
+        nanos,
+        change,
+        entries,
+    };
+    Ok((store, times))
 }
 
-/// A store, after clients have shared it.
+/// A store, after clients have shared it, with what was measured.
 pub(crate) fn shared_by<D: Device + Drop + Send, R: Threads + Wait + Clock + Sync>(
     rt: &R,
     alloc: Global,
     store: Store<D>,
     task: Task,
-) -> Result<Timed<D>, Refusal> {
-    let start = now(rt)?;
-    let opened = match prepare(alloc, store, task.clients, task.places) {
-        Ok(opened) => opened,
-        Err((refusal, _)) => return Err(refusal),
-    };
-    run::<D, Brand, R>(rt, alloc, opened, task, start)
+) -> Result<(Store<D>, Times), Refusal> {
+    let start = now(rt);
+    match prepare(alloc, store, task.clients, task.places) {
+        Ok(opened) => run::<D, Brand, R>(rt, alloc, opened, task, start),
+        Err((refusal, _)) => Err(refusal),
+    }
 }

@@ -1,21 +1,20 @@
 //! Times.
 
-use lsm_device::Refusal;
 use std::rt::Clock;
 use std::time::Instant;
 
-/// The present moment. A clock that can't be read is told as a device that fails.
-pub(crate) fn now<R: Clock>(rt: &R) -> Result<Instant, Refusal> {
-    match Instant::now(rt) {
-        Ok(moment) => Ok(moment),
-        Err(_) => Err(Refusal::Io),
-    }
+/// The present moment, none where the clock can't be read.
+pub(crate) fn now<R: Clock>(rt: &R) -> Option<Instant> {
+    Instant::now(rt).ok()
 }
 
-/// The nanoseconds since a moment.
-pub(crate) fn since<R: Clock>(rt: &R, start: Instant) -> Result<u64, Refusal> {
+/// The nanoseconds since a moment. Where the clock can't be read they are the most that there are, so that rates are 0.
+pub(crate) fn since<R: Clock>(rt: &R, start: Option<Instant>) -> u64 {
+    let Some(start) = start else {
+        return u64::MAX;
+    };
     match start.elapsed(rt) {
-        Ok(time) => Ok(u64::try_from(time.as_nanos()).unwrap_or(u64::MAX)),
-        Err(_) => Err(Refusal::Io),
+        Ok(time) => u64::try_from(time.as_nanos()).unwrap_or(u64::MAX),
+        Err(_) => u64::MAX,
     }
 }

@@ -1,6 +1,5 @@
 //! Keys, values and batches.
 
-use crate::sizes::TEXT_BYTES;
 use lsm_codec::{Batch, Guard, Op};
 use lsm_device::Refusal;
 use std::alloc::Global;
@@ -21,46 +20,15 @@ pub(crate) fn value_of(key: &[u8; 16], round: u8) -> [u8; 100] {
     value
 }
 
-/// Whether a value is that of a key in a round.
-pub(crate) fn is_value(value: &[u8], key: &[u8], round: u8) -> bool {
-    value.len() == 100 && value.starts_with(key) && value.last() == Some(&round)
-}
-
-fn put(alloc: Global, number: u32, round: u8) -> Result<Op, Refusal> {
-    let key = key_of(number);
-    Op::put(alloc, &key, &value_of(&key, round))
-}
-
-fn add(batch: &mut Batch, number: u32, round: u8) -> Result<(), Refusal> {
-    let key = key_of(number);
-    batch.put(&key, &value_of(&key, round))
-}
-
-fn add_all(batch: &mut Batch, from: u32, count: u32, round: u8) -> Result<(), Refusal> {
-    for place in 0..count {
-        add(batch, from.wrapping_add(place), round)?;
-    }
-    Ok(())
-}
-
 /// A batch that puts the values of so many numbers, of one at least.
 pub(crate) fn batch_of(alloc: Global, first: u32, count: u32, round: u8) -> Result<Batch, Refusal> {
-    let mut batch = Batch::new(alloc, put(alloc, first, round)?)?;
-    add_all(
-        &mut batch,
-        first.wrapping_add(1),
-        count.saturating_sub(1),
-        round,
-    )?;
+    let key = key_of(first);
+    let mut batch = Batch::new(alloc, Op::put(alloc, &key, &value_of(&key, round))?)?;
+    for place in 1..count {
+        let key = key_of(first.wrapping_add(place));
+        batch.put(&key, &value_of(&key, round))?;
+    }
     Ok(batch)
-}
-
-/// A guard that the key of a number has the value of a round.
-pub(crate) fn guards_of(alloc: Global, number: u32, round: u8) -> Result<Vec<Guard>, Refusal> {
-    let key = key_of(number);
-    let mut guards = Vec::with_capacity(alloc, 1)?;
-    guards.push(Guard::holds(alloc, &key, &value_of(&key, round))?)?;
-    Ok(guards)
 }
 
 /// A batch that deletes every second one of so many numbers, beginning with the first.
@@ -72,18 +40,25 @@ pub(crate) fn thinning_of(alloc: Global, first: u32, count: u32) -> Result<Batch
     Ok(batch)
 }
 
-/// The log sectors of a batch.
-fn sectors_in(batch: &Batch) -> u32 {
-    let sectors = batch.text_len().div_ceil(TEXT_BYTES);
-    u32::try_from(sectors).unwrap_or(1)
+/// A guard that the key of a number has the value of a round.
+pub(crate) fn guards_of(alloc: Global, number: u32, round: u8) -> Result<Vec<Guard>, Refusal> {
+    let key = key_of(number);
+    let mut guards = Vec::with_capacity(alloc, 1)?;
+    guards.push(Guard::holds(alloc, &key, &value_of(&key, round))?)?;
+    Ok(guards)
 }
 
-/// The log sectors of a batch of so many puts.
-pub(crate) fn sectors_of(alloc: Global, count: u32) -> Result<u32, Refusal> {
-    Ok(sectors_in(&batch_of(alloc, 0, count, 0)?))
+/// A key of eight bytes. Other numbers have other keys, and the keys of numbers in order are in an order that looks random.
+pub(crate) fn short_key_of(number: u32) -> [u8; 8] {
+    let [a, b, c, d] = number.wrapping_mul(2_654_435_761).to_be_bytes();
+    [b'k', b'e', b'y', b':', a, b, c, d]
 }
 
-/// And of the one that deletes every second of them.
-pub(crate) fn thinning_sectors_of(alloc: Global, count: u32) -> Result<u32, Refusal> {
-    Ok(sectors_in(&thinning_of(alloc, 0, count)?))
+/// A batch of puts under such keys of so many numbers, of one at least.
+pub(crate) fn short_batch_of(alloc: Global, first: u32, count: u32) -> Result<Batch, Refusal> {
+    let mut batch = Batch::new(alloc, Op::put(alloc, &short_key_of(first), &[7; 100])?)?;
+    for place in 1..count {
+        batch.put(&short_key_of(first.wrapping_add(place)), &[7; 100])?;
+    }
+    Ok(batch)
 }

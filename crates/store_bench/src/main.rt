@@ -13,38 +13,27 @@
 
 mod clients;
 mod clock;
-mod commits;
-mod devices;
-mod fixed;
-mod full;
-mod jobs;
-mod kept;
 mod keys;
-mod looks;
 mod measuring;
 mod memtable;
 mod merging;
 mod openings;
-mod plot;
+mod puts;
 mod raw;
 mod reads;
-mod reopening;
 mod report;
-mod rules;
+mod runs;
+mod settling;
 mod sizes;
 mod subject;
-mod tables;
 mod workloads;
 
-use crate::fixed::check;
-use crate::full::{Suite, compare};
-use crate::kept::{KEPT, ROUNDS};
-use crate::looks::LOOKS;
 use crate::memtable::time_memory;
 use crate::merging::time_merges;
-use crate::reopening::time_openings;
-use crate::sizes::{FULL, sizes_of};
-use crate::workloads::WORKLOADS;
+use crate::openings::time_openings;
+use crate::runs::{check, compare};
+use crate::sizes::{FULL, Sizes};
+use crate::workloads::{KEPT, LOOKS, ROUNDS, WORKLOADS, Workload};
 use anyhow::{Error, Result};
 use lsm_device::Refusal;
 use std::env;
@@ -57,83 +46,79 @@ use std::thread::Threads;
 /// How many runs on a file are made, where no word says so.
 const RUNS: u32 = 5;
 
-/// How many keys are loaded, where no word says so.
-const KEYS: u32 = 20_000;
-
-/// How many batches are in the log of a device that is opened, where no word says so.
+/// How many batches are in the log of a store that is opened, and how often it is, where no word says so.
 const BATCHES: u32 = 200;
 
-/// How often a device is opened, where no word says so.
 const OPENINGS: u32 = 5;
-
-/// The number that a word spells, or another where there is no word.
-fn number(word: Option<String>, default: u32) -> Result<u32> {
-    match word {
-        Some(word) => Ok(word.parse::<u32>()?),
-        None => Ok(default),
-    }
-}
 
 /// What is told of a refusal.
 pub(crate) fn told(refusal: Refusal) -> Error {
     Error::msg(refusal.name())
 }
 
-/// The path that a word is.
-fn path(word: Option<String>) -> Result<String> {
-    match word {
-        Some(path) => Ok(path),
-        None => Err(Error::msg("the path of a file is missing")),
+/// The number that the word of a place spells, or another where there is no word.
+fn number(words: &[String], place: usize, default: u32) -> Result<u32> {
+    match words.get(place) {
+        Some(word) => Ok(word.parse::<u32>()?),
+        None => Ok(default),
     }
 }
 
-/// Measures what a word says, a layer or workloads on a file. It tells whether all answers were right.
+/// Measures workloads on the file of the word behind the first, of so many keys as the next one says if it does, in a store that
+/// they leave half empty.
+fn measure_named<R: Files<File = File> + Clock + Threads + Wait + Print + AllocGlobal + Sync>(
+    rt: &R,
+    words: &[String],
+    workloads: &[Workload],
+    has_keys: bool,
+) -> Result<bool> {
+    let Some(path) = words.get(1) else {
+        return Err(Error::msg("the path of a file is missing"));
+    };
+    let mut sizes = FULL;
+    let mut place = 2;
+    if has_keys {
+        sizes = Sizes {
+            sectors: 262_144,
+            keys: number(words, 2, FULL.keys)?,
+            ..FULL
+        };
+        place = 3;
+    }
+    compare(rt, path, sizes, workloads, number(words, place, RUNS)?)
+}
+
+/// Measures what the words say, a layer or workloads on a file, or all layers where there is no word. It tells whether all answers
+/// were right.
 fn measure<R: Files<File = File> + Clock + Threads + Wait + Print + Eprint + AllocGlobal + Sync>(
     rt: &R,
-    what: &str,
-    first: Option<String>,
-    second: Option<String>,
-    third: Option<String>,
+    words: &[String],
 ) -> Result<bool> {
-    match what {
+    let Some(what) = words.first() else {
+        time_memory(rt)?;
+        time_merges(rt)?;
+        time_openings(rt, BATCHES, OPENINGS)?;
+        return check(rt);
+    };
+    match what.as_str() {
         "memory" => time_memory(rt)?,
         "merges" => time_merges(rt)?,
-        "openings" => time_openings(rt, number(first, BATCHES)?, number(second, OPENINGS)?)?,
+        "openings" => time_openings(rt, number(words, 1, BATCHES)?, number(words, 2, OPENINGS)?)?,
         "answers" => return check(rt),
-        "upkeep" => {
-            let suite = Suite::of(sizes_of(number(second, KEYS)?), &KEPT);
-            return compare(rt, &path(first)?, suite, number(third, RUNS)?);
-        }
-        "gets" => {
-            let suite = Suite::of(sizes_of(number(second, KEYS)?), &LOOKS);
-            return compare(rt, &path(first)?, suite, number(third, RUNS)?);
-        }
-        "rounds" => {
-            let suite = Suite::of(FULL, &ROUNDS);
-            return compare(rt, &path(first)?, suite, number(second, RUNS)?);
-        }
-        file => return compare(rt, file, Suite::of(FULL, &WORKLOADS), number(first, RUNS)?),
+        "upkeep" => return measure_named(rt, words, &KEPT, true),
+        "gets" => return measure_named(rt, words, &LOOKS, true),
+        "rounds" => return measure_named(rt, words, &ROUNDS, false),
+        file => return compare(rt, file, FULL, &WORKLOADS, number(words, 1, RUNS)?),
     }
     Ok(true)
 }
 
-/// Measures all layers, and does the workloads in small. It tells whether all answers were right.
-fn check_all<R: Clock + Threads + Wait + Print + Eprint + AllocGlobal + Sync>(
-    rt: &R,
-) -> Result<bool> {
-    time_memory(rt)?;
-    time_merges(rt)?;
-    time_openings(rt, BATCHES, OPENINGS)?;
-    check(rt)
-}
-
 fn main(rt: HostRuntime) -> Result<ExitCode> {
-    let mut words = env::args(&rt)?.skip(1);
-    let right = match words.next() {
-        Some(what) => measure(&rt, &what, words.next(), words.next(), words.next())?,
-        None => check_all(&rt)?,
-    };
-    if right {
+    let mut words = Vec::new(rt.alloc());
+    for word in env::args(&rt)?.skip(1) {
+        words.push(word)?;
+    }
+    if measure(&rt, &words)? {
         return Ok(ExitCode::SUCCESS);
     }
     println!(rt; "wrong answers")?;

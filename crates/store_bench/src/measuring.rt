@@ -2,13 +2,12 @@
 
 use crate::clients::Task;
 use crate::clock::{now, since};
-use crate::commits::{Puts, commit_all, load, load_and_thin};
-use crate::jobs::{Written, settle};
-use crate::reads::{count_hits, count_misses, count_thinned, scan_often};
-use crate::rules::{Rule, Upkeep};
+use crate::puts::{Puts, put_all};
+use crate::reads::{Asked, count_right, scan};
+use crate::settling::{USUAL, Upkeep, Written};
 use crate::sizes::{CACHE, Sizes};
 use crate::subject::Subject;
-use crate::workloads::{Way, Work, Workload};
+use crate::workloads::{HUNDRED, SINGLE, Work, Workload};
 use lsm_device::{Device, Refusal};
 use std::alloc::Global;
 use std::rt::Clock;
@@ -22,7 +21,7 @@ pub(crate) struct Measured {
     pub(crate) nanos: u64,
     pub(crate) right: u32,
     pub(crate) wanted: u32,
-    /// What a load wrote.
+    /// What was written to logs, and by what else is measured.
     pub(crate) written: Written,
     /// How many blocks tables hold more than before a load when it is done.
     pub(crate) held: u32,
@@ -38,189 +37,99 @@ impl Measured {
             nanos: 0,
             right: 0,
             wanted: operations,
-            written: Written::nothing(),
+            written: Written::NOTHING,
             held: 0,
             wait: 0,
         }
     }
 }
 
-/// All answers are right, or none where the batches are too few or too many.
-fn right_of(right: u32, batches: u64, wanted: u64) -> u32 {
-    if batches == wanted { right } else { 0 }
-}
-
-/// How stores are settled where no workload says otherwise.
-const USUAL: Upkeep = Upkeep {
-    rule: Rule::Next,
-    parts: 4,
-};
-
-/// How many puts a way of committing makes.
-fn count_of(sizes: Sizes, way: Way) -> u32 {
-    if !way.synced {
-        sizes.keys
-    } else if way.puts == 1 {
-        sizes.synced_puts
-    } else {
-        sizes.synced_in_batches
+/// Of so many gets how many are answered as they should be. Where the batches are too few or too many none is.
+fn right_of<D: Device + Drop>(
+    subject: &mut Subject<D>,
+    batches: u64,
+    asked: Asked,
+    count: u32,
+    round: u8,
+) -> Result<u32, Refusal> {
+    if subject.stat()?.batches != batches {
+        return Ok(0);
+    }
+    match &mut subject.store {
+        Some(store) => count_right(store, asked, count, round),
+        None => Err(Refusal::Stopped),
     }
 }
 
-/// All puts of a way of committing.
-fn puts_of(sizes: Sizes, way: Way, round: u8, upkeep: Upkeep) -> Puts {
-    Puts {
-        way,
-        count: count_of(sizes, way),
-        round,
-        upkeep,
-    }
-}
-
-fn commits<R: Clock + Threads + Sync, D: Device + Drop>(
+/// Makes all puts. How many are found is not counted yet.
+fn puts_made<R: Clock + Threads + Sync, D: Device + Drop>(
     rt: &R,
     alloc: Global,
     subject: &mut Subject<D>,
     puts: Puts,
 ) -> Result<Measured, Refusal> {
-    let before = subject.batch_count();
-    let wanted = before.wrapping_add(u64::from(puts.batches()));
+    let Some(store) = &mut subject.store else {
+        return Err(Refusal::Stopped);
+    };
     let mut measured = Measured::of(puts.count);
-    measured.nanos = commit_all(rt, alloc, subject, puts)?;
-    let right = count_hits(subject, puts.count, puts.round)?;
-    measured.right = right_of(right, subject.batch_count(), wanted);
+    let free = store.stat()?.free_blocks;
+    put_all(rt, alloc, store, puts, &mut measured)?;
+    measured.held = free.saturating_sub(store.stat()?.free_blocks);
     Ok(measured)
 }
 
-fn timed_load<R: Clock + Threads + Sync, D: Device + Drop>(
+/// Makes all puts, and asks for what they put.
+pub(crate) fn put<R: Clock + Threads + Sync, D: Device + Drop>(
     rt: &R,
     alloc: Global,
     subject: &mut Subject<D>,
     puts: Puts,
 ) -> Result<Measured, Refusal> {
-    let start = now(rt)?;
-    let mut measured = Measured::of(puts.count);
-    let (written, wait) = load(rt, alloc, subject, puts)?;
-    measured.nanos = since(rt, start)?;
-    measured.written = written;
-    measured.wait = wait;
-    Ok(measured)
-}
-
-fn loads<R: Clock + Threads + Sync, D: Device + Drop>(
-    rt: &R,
-    alloc: Global,
-    subject: &mut Subject<D>,
-    puts: Puts,
-    fresh: bool,
-) -> Result<Measured, Refusal> {
-    if fresh {
+    if puts.fresh {
         subject.renew(alloc)?;
     }
-    let before = subject.batch_count();
-    let free = subject.free_blocks()?;
-    let mut measured = timed_load(rt, alloc, subject, puts)?;
-    measured.held = free.saturating_sub(subject.free_blocks()?);
-    let right = count_hits(subject, puts.count, puts.round)?;
-    let wanted = before.wrapping_add(u64::from(puts.batches()));
-    measured.right = right_of(right, subject.batch_count(), wanted);
+    let before = subject.stat()?.batches;
+    let mut measured = puts_made(rt, alloc, subject, puts)?;
+    let mut batches = u64::from(puts.batches());
+    let mut asked = Asked::Put;
+    if puts.thins {
+        measured.operations = puts.count.wrapping_add(puts.count / 2);
+        batches = batches.wrapping_mul(2);
+        asked = Asked::Thinned;
+    }
+    let batches = before.wrapping_add(batches);
+    measured.right = right_of(subject, batches, asked, puts.count, puts.round)?;
     Ok(measured)
 }
 
-fn timed_thinning<R: Clock + Threads + Sync, D: Device + Drop>(
+/// Gets of keys, or scans.
+fn read<R: Clock, D: Device + Drop>(
     rt: &R,
-    alloc: Global,
-    subject: &mut Subject<D>,
-    puts: Puts,
-) -> Result<Measured, Refusal> {
-    let start = now(rt)?;
-    let mut measured = Measured::of(puts.count);
-    measured.operations = puts.count.wrapping_add(puts.count / 2);
-    measured.written = load_and_thin(rt, alloc, subject, puts)?;
-    measured.nanos = since(rt, start)?;
-    Ok(measured)
-}
-
-fn thins<R: Clock + Threads + Sync, D: Device + Drop>(
-    rt: &R,
-    alloc: Global,
-    subject: &mut Subject<D>,
-    puts: Puts,
-) -> Result<Measured, Refusal> {
-    subject.renew(alloc)?;
-    let free = subject.free_blocks()?;
-    let mut measured = timed_thinning(rt, alloc, subject, puts)?;
-    measured.held = free.saturating_sub(subject.free_blocks()?);
-    let right = count_thinned(subject, puts.count, puts.round)?;
-    let wanted = u64::from(puts.batches()).wrapping_mul(2);
-    measured.right = right_of(right, subject.batch_count(), wanted);
-    Ok(measured)
-}
-
-/// Gets of all keys, or of as many that have no value, or scans. Their time is not measured yet.
-fn read<D: Device + Drop>(
     subject: &mut Subject<D>,
     sizes: Sizes,
-    work: Work,
+    asked: Option<Asked>,
     round: u8,
 ) -> Result<Measured, Refusal> {
+    let Some(store) = &mut subject.store else {
+        return Err(Refusal::Stopped);
+    };
     let mut measured = Measured::of(sizes.keys);
-    match work {
-        Work::GetHit => measured.right = count_hits(subject, sizes.keys, round)?,
-        Work::GetMiss => measured.right = count_misses(subject, sizes.keys, sizes.keys)?,
-        _ => {
-            let found = scan_often(subject, sizes.scans, round)?;
-            measured.operations = found.pages;
-            measured.right = found.rows;
+    let start = now(rt);
+    match asked {
+        Some(asked) => measured.right = count_right(store, asked, sizes.keys, round)?,
+        None => {
+            let (pages, rows) = scan(store, sizes.scans, round)?;
+            measured.operations = pages;
+            measured.right = rows;
             measured.wanted = sizes.keys.wrapping_mul(sizes.scans);
         }
     }
+    measured.nanos = since(rt, start);
     Ok(measured)
 }
 
-fn reads<R: Clock, D: Device + Drop>(
-    rt: &R,
-    subject: &mut Subject<D>,
-    sizes: Sizes,
-    work: Work,
-    round: u8,
-) -> Result<Measured, Refusal> {
-    let start = now(rt)?;
-    let mut measured = read(subject, sizes, work, round)?;
-    measured.nanos = since(rt, start)?;
-    Ok(measured)
-}
-
-/// Gets of all keys by a store whose cache keeps one block.
-fn cold_reads<R: Clock, D: Device + Drop>(
-    rt: &R,
-    alloc: Global,
-    subject: &mut Subject<D>,
-    sizes: Sizes,
-    round: u8,
-) -> Result<Measured, Refusal> {
-    subject.set_cache(alloc, 1)?;
-    let measured = reads(rt, subject, sizes, Work::GetHit, round)?;
-    subject.set_cache(alloc, CACHE)?;
-    Ok(measured)
-}
-
-/// Fills the log, and opens the store with it. It answers the nanoseconds, and how many values were found.
-fn reopen<R: Clock + Threads + Sync, D: Device + Drop>(
-    rt: &R,
-    alloc: Global,
-    subject: &mut Subject<D>,
-    puts: Puts,
-) -> Result<(u64, u32), Refusal> {
-    commit_all(rt, alloc, subject, puts)?;
-    subject.sync()?;
-    let before = subject.batch_count();
-    let nanos = subject.reopen(rt, alloc)?;
-    let right = count_hits(subject, puts.count, puts.round)?;
-    Ok((nanos, right_of(right, subject.batch_count(), before)))
-}
-
-fn reopenings<R: Clock + Threads + Sync, D: Device + Drop>(
+/// Makes all puts and opens the store, so many times.
+fn open<R: Clock + Threads + Sync, D: Device + Drop>(
     rt: &R,
     alloc: Global,
     subject: &mut Subject<D>,
@@ -230,30 +139,18 @@ fn reopenings<R: Clock + Threads + Sync, D: Device + Drop>(
     let mut measured = Measured::of(times);
     measured.wanted = puts.count.wrapping_mul(times);
     for _ in 0..times {
-        let (nanos, right) = reopen(rt, alloc, subject, puts)?;
-        measured.nanos = measured.nanos.wrapping_add(nanos);
+        put(rt, alloc, subject, puts)?;
+        let batches = subject.stat()?.batches;
+        let nanos = subject.reopen(rt, alloc, CACHE)?;
+        measured.nanos = measured.nanos.saturating_add(nanos);
+        let right = right_of(subject, batches, Asked::Put, puts.count, puts.round)?;
         measured.right = measured.right.wrapping_add(right);
     }
     Ok(measured)
 }
 
-/// Sessions one after another, each of which begins with an empty log. It answers the nanoseconds.
-fn sessions<R: Clock + Threads + Wait + Sync, D: Device + Drop + Send>(
-    rt: &R,
-    alloc: Global,
-    subject: &mut Subject<D>,
-    task: Task,
-    times: u32,
-) -> Result<u64, Refusal> {
-    let mut nanos = 0_u64;
-    for _ in 0..times {
-        settle(rt, alloc, subject, USUAL)?;
-        nanos = nanos.wrapping_add(subject.share(rt, alloc, task)?.nanos);
-    }
-    Ok(nanos)
-}
-
-fn shares<R: Clock + Threads + Wait + Sync, D: Device + Drop + Send>(
+/// Sessions one after another, each of which begins with an empty log.
+fn share<R: Clock + Threads + Wait + Sync, D: Device + Drop + Send>(
     rt: &R,
     alloc: Global,
     subject: &mut Subject<D>,
@@ -262,57 +159,74 @@ fn shares<R: Clock + Threads + Wait + Sync, D: Device + Drop + Send>(
 ) -> Result<Measured, Refusal> {
     let commits = task.commits.wrapping_mul(task.clients);
     let mut measured = Measured::of(commits.wrapping_mul(times));
-    let before = subject.batch_count();
-    let wanted = before.wrapping_add(u64::from(measured.operations));
-    measured.nanos = sessions(rt, alloc, subject, task, times)?;
-    let right = count_hits(subject, commits, task.round)?;
-    measured.right = right_of(right, subject.batch_count(), wanted);
+    let batches = u64::from(measured.operations).wrapping_add(subject.stat()?.batches);
+    for _ in 0..times {
+        let nanos = subject.share(rt, alloc, USUAL, task)?.nanos;
+        measured.nanos = measured.nanos.saturating_add(nanos);
+    }
     measured.wanted = commits;
+    measured.right = right_of(subject, batches, Asked::Put, commits, task.round)?;
     Ok(measured)
 }
 
-/// A session whose trail is filled, behind an empty log. Its wait is that of a change of rounds: the end of the session, and the
-/// beginning of one.
-fn rounds<R: Clock + Threads + Wait + Sync, D: Device + Drop + Send>(
+/// A session whose trail is filled. Its wait is that of a change of rounds: the end of the session, and the beginning of one.
+fn fill<R: Clock + Threads + Wait + Sync, D: Device + Drop + Send>(
     rt: &R,
     alloc: Global,
     subject: &mut Subject<D>,
     task: Task,
 ) -> Result<Measured, Refusal> {
-    settle(rt, alloc, subject, USUAL)?;
     let mut measured = Measured::of(task.places);
-    let shared = subject.share(rt, alloc, task)?;
-    measured.nanos = shared.nanos;
-    measured.wait = shared.change;
-    measured.right = shared.entries;
+    let times = subject.share(rt, alloc, USUAL, task)?;
+    measured.nanos = times.nanos;
+    measured.wait = times.change;
+    measured.right = times.entries;
     Ok(measured)
 }
 
-/// What so many clients do in one of how many sessions.
-fn task_of(sizes: Sizes, clients: u32, synced: bool, round: u8) -> (Task, u32) {
-    let (commits, times) = if synced {
-        (sizes.shared_synced, 1)
-    } else {
-        (sizes.shared, sizes.sessions)
+/// Puts of a workload.
+fn puts_of(sizes: Sizes, workload: Workload) -> Puts {
+    let mut puts = Puts {
+        way: SINGLE,
+        count: sizes.keys,
+        round: workload.round,
+        upkeep: USUAL,
+        fresh: false,
+        is_whole: false,
+        thins: false,
     };
-    let task = Task {
-        clients,
-        commits: commits / clients.max(1),
-        gets: 0,
-        places: 8_192,
-        synced,
-        round,
-    };
-    (task, times)
+    match workload.work {
+        Work::Commit(way) => {
+            puts.way = way;
+            if way.synced && way.puts == 1 {
+                puts.count = sizes.synced;
+            }
+        }
+        Work::Load { rule, thins } => {
+            puts.way = HUNDRED;
+            puts.upkeep.rule = rule;
+            puts.fresh = true;
+            puts.is_whole = true;
+            puts.thins = thins;
+        }
+        Work::Keep { way, rule, fresh } => {
+            puts.way = way;
+            puts.upkeep = Upkeep { rule, parts: 1 };
+            puts.fresh = fresh;
+            puts.is_whole = true;
+        }
+        _ => puts.count = sizes.logged,
+    }
+    puts
 }
 
-/// What clients do until the trail is full.
-fn filling_of(sizes: Sizes, clients: u32, round: u8) -> Task {
+/// What so many clients do in a session of a workload.
+fn task_of(sizes: Sizes, clients: u32, round: u8) -> Task {
     Task {
         clients,
-        commits: sizes.places,
-        gets: 39,
-        places: sizes.places,
+        commits: sizes.logged / clients.max(1),
+        gets: 0,
+        places: 8_192,
         synced: false,
         round,
     }
@@ -327,36 +241,34 @@ pub(crate) fn measure<R: Clock + Threads + Wait + Sync, D: Device + Drop + Send>
     workload: Workload,
 ) -> Result<Measured, Refusal> {
     let round = workload.round;
+    let puts = puts_of(sizes, workload);
     match workload.work {
-        Work::Commit(way) => commits(rt, alloc, subject, puts_of(sizes, way, round, USUAL)),
-        Work::Load(way) => loads(rt, alloc, subject, puts_of(sizes, way, round, USUAL), true),
-        Work::Thin { way, rule } => {
-            let upkeep = Upkeep { rule, parts: 4 };
-            thins(rt, alloc, subject, puts_of(sizes, way, round, upkeep))
+        Work::Commit(_) | Work::Load { .. } | Work::Keep { .. } => put(rt, alloc, subject, puts),
+        Work::Get(asked) => read(rt, subject, sizes, Some(asked), round),
+        Work::GetCold => {
+            subject.reopen(rt, alloc, 1)?;
+            let measured = read(rt, subject, sizes, Some(Asked::Put), round)?;
+            subject.reopen(rt, alloc, CACHE)?;
+            Ok(measured)
         }
-        Work::Keep { way, rule, fresh } => {
-            let upkeep = Upkeep { rule, parts: 1 };
-            loads(
-                rt,
-                alloc,
-                subject,
-                puts_of(sizes, way, round, upkeep),
-                fresh,
-            )
+        Work::Scan => read(rt, subject, sizes, None, round),
+        Work::Reopen => open(rt, alloc, subject, puts, sizes.openings),
+        Work::Share(clients) => {
+            let task = task_of(sizes, clients, round);
+            share(rt, alloc, subject, task, sizes.sessions)
         }
-        Work::GetHit | Work::GetMiss | Work::Scan => {
-            reads(rt, subject, sizes, workload.work, round)
+        Work::ShareSynced(clients) => {
+            let mut task = task_of(sizes, clients, round);
+            task.commits = sizes.synced / clients.max(1);
+            task.synced = true;
+            share(rt, alloc, subject, task, 1)
         }
-        Work::GetCold => cold_reads(rt, alloc, subject, sizes, round),
-        Work::Reopen(way) => {
-            let mut puts = puts_of(sizes, way, round, USUAL);
-            puts.count = sizes.logged;
-            reopenings(rt, alloc, subject, puts, sizes.openings)
+        Work::Fill(clients) => {
+            let mut task = task_of(sizes, clients, round);
+            task.commits = sizes.places;
+            task.places = sizes.places;
+            task.gets = 39;
+            fill(rt, alloc, subject, task)
         }
-        Work::Share { clients, synced } => {
-            let (task, times) = task_of(sizes, clients, synced, round);
-            shares(rt, alloc, subject, task, times)
-        }
-        Work::Round { clients } => rounds(rt, alloc, subject, filling_of(sizes, clients, round)),
     }
 }

@@ -15,17 +15,12 @@ use std::thread::Threads;
 /// How many entries a run has.
 const ENTRIES: u32 = 50_000;
 
-/// The key of a number.
-fn key_of(n: u32) -> [u8; 8] {
-    let [a, b, c, d] = n.to_be_bytes();
-    [b'k', b'e', b'y', b':', a, b, c, d]
-}
-
-/// A run of puts of 100 bytes: every second key, from the first or the second on.
+/// A run of puts of 100 bytes: every second key, from the first or the second on. The keys of greater numbers are greater.
 fn run_of(alloc: Global, number: u64, first: u32) -> Result<Vec<Entry>, Refusal> {
     let mut run = Vec::new(alloc);
     for n in 0..ENTRIES {
-        let key = key_of(n.wrapping_mul(2).wrapping_add(first));
+        let [a, b, c, d] = n.wrapping_mul(2).wrapping_add(first).to_be_bytes();
+        let key = [b'k', b'e', b'y', b':', a, b, c, d];
         if let Some(entry) = entry(alloc, &key, number, Some(&[7; 100]))? {
             run.push(entry)?;
         }
@@ -50,14 +45,9 @@ fn merged<R: Threads + Clock + Sync>(
     input: &Arc<Input, Global>,
     parts: u8,
 ) -> Result<(usize, u64), Refusal> {
-    let start = now(rt)?;
+    let start = now(rt);
     let built = build(rt, alloc, input.clone()?, parts)?;
-    Ok((built.images().len(), since(rt, start)?))
-}
-
-/// How many entries a second are merged where all of them take so many nanoseconds.
-fn rate(nanos: u64) -> u64 {
-    u64::from(ENTRIES).wrapping_mul(4_000_000_000) / nanos.max(1)
+    Ok((built.images().len(), since(rt, start)))
 }
 
 /// Merges in one part, in two and in four, and prints how fast.
@@ -67,7 +57,7 @@ pub(crate) fn time_merges<R: Threads + Clock + Print + Eprint + AllocGlobal + Sy
     let input = Arc::new(rt.alloc(), input(rt.alloc()).map_err(told)?)?;
     for parts in [1, 2, 4] {
         let (images, nanos) = merged(rt, rt.alloc(), &input, parts).map_err(told)?;
-        let rate = rate(nanos);
+        let rate = u64::from(ENTRIES).wrapping_mul(4_000_000_000) / nanos.max(1);
         eprintln!(rt; "parts {parts}: {rate} entries a second, {images} images")?;
     }
     println!(rt; "merges: ok")?;

@@ -1,10 +1,9 @@
 //! The raw calls of a file that stand beside each workload.
 
 use crate::clock::{now, since};
-use crate::keys::sectors_of;
 use crate::measuring::Measured;
-use crate::sizes::{BLOCK_BYTES, BLOCK_SECTORS, KEY_BYTES, SECTOR_BYTES, Sizes, VALUE_BYTES};
-use crate::workloads::{Way, Work};
+use crate::sizes::{BLOCK_BYTES, ROW_BYTES, SECTOR_BYTES, Sizes};
+use crate::workloads::Work;
 use lsm_device::{FileDevice, Refusal};
 use std::alloc::Global;
 use std::fs::{File, Files, OpenOptions};
@@ -29,42 +28,74 @@ impl Drop for Raw {
     }
 }
 
-/// So many sectors written so many times, one by one at growing offsets, and each time synced or not.
+/// What is called so many times.
 #[derive(Clone, Copy)]
-struct Writes {
-    count: u32,
-    sectors: u32,
-    synced: bool,
+enum Call {
+    Sync,
+    /// A read of a sector, of one after another.
+    ReadSector,
+    /// A read of a block, of one after another.
+    ReadBlock,
+    /// A read of a block, at offsets that look random.
+    ReadAnywhere,
+    /// Writes of so many sectors one by one, at growing offsets.
+    Write(u32),
+    /// And a sync behind them.
+    WriteSynced(u32),
 }
 
-/// So many reads of so many bytes each, at offsets in order or at such that look random.
+/// Some calls, each so many times, and all of them so many times.
 #[derive(Clone, Copy)]
-struct Reads {
-    count: u32,
-    bytes: u32,
-    in_order: bool,
+struct Calls {
+    calls: [(u32, Call); 3],
+    times: u32,
 }
 
-/// The calls beside a workload.
-#[derive(Clone, Copy)]
-enum Calls {
-    Write(Writes),
-    Read(Reads),
-    /// What a load must do that writes so many sectors and roots.
-    Load { sectors: u32, roots: u32 },
-    /// What so many openings of logs of so many sectors must do.
-    Open { times: u32, sectors: u32 },
-}
+/// No calls.
+const NONE: (u32, Call) = (0, Call::Sync);
 
-fn opened<R: Files<File = File>>(rt: &R, path: &str) -> Result<File, Refusal> {
-    match OpenOptions::new().read(true).write(true).open(rt, path) {
-        Ok(file) => Ok(file),
-        Err(_) => Err(Refusal::Io),
-    }
-}
-
-fn zeros(alloc: Global) -> Result<Vec<u8>, Refusal> {
-    Ok(vec![in alloc; 7; BLOCK_BYTES as usize]?)
+/// The calls beside a workload. Each root is a manifest and a superblock of one sector each, both synced.
+fn calls_of(sizes: Sizes, work: Work, measured: Measured) -> Calls {
+    let count = measured.operations;
+    let written = measured.written;
+    let rows = measured.wanted.wrapping_mul(ROW_BYTES);
+    let calls = match work {
+        Work::Commit(way) | Work::Keep { way, .. } => {
+            let batches = count / way.puts.max(1);
+            let sectors = written.logged / batches.max(1);
+            let write = if way.synced {
+                Call::WriteSynced(sectors)
+            } else {
+                Call::Write(sectors)
+            };
+            [(batches, write), NONE, NONE]
+        }
+        Work::Load { .. } => {
+            let sectors = written
+                .blocks
+                .wrapping_mul(BLOCK_BYTES / SECTOR_BYTES)
+                .wrapping_add(written.logged);
+            [
+                (1, Call::Write(sectors)),
+                (written.roots.wrapping_mul(2), Call::WriteSynced(1)),
+                NONE,
+            ]
+        }
+        Work::Get(_) | Work::GetCold => [(count, Call::ReadAnywhere), NONE, NONE],
+        Work::Scan => [(rows.div_ceil(BLOCK_BYTES), Call::ReadBlock), NONE, NONE],
+        Work::Reopen => [
+            (1, Call::Sync),
+            (sizes.logged, Call::ReadSector),
+            (2, Call::WriteSynced(1)),
+        ],
+        Work::Share(_) | Work::Fill(_) => [(count, Call::Write(1)), NONE, NONE],
+        Work::ShareSynced(_) => [(count, Call::WriteSynced(1)), NONE, NONE],
+    };
+    let times = match work {
+        Work::Reopen => count,
+        _ => 1,
+    };
+    Calls { calls, times }
 }
 
 impl Raw {
@@ -75,13 +106,16 @@ impl Raw {
         path: &str,
         sectors: u32,
     ) -> Result<Raw, Refusal> {
-        let buffer = zeros(alloc)?;
         FileDevice::create(rt, path, sectors)?;
-        Ok(Raw {
-            file: opened(rt, path)?,
-            bytes: u64::from(sectors).wrapping_mul(u64::from(SECTOR_BYTES)),
-            buffer,
-        })
+        let buffer = vec![in alloc; 7; BLOCK_BYTES as usize]?;
+        match OpenOptions::new().read(true).write(true).open(rt, path) {
+            Ok(file) => Ok(Raw {
+                file,
+                bytes: u64::from(sectors).wrapping_mul(u64::from(SECTOR_BYTES)),
+                buffer,
+            }),
+            Err(_) => Err(Refusal::Io),
+        }
     }
 
     /// The offset of a call of so many bytes at a place.
@@ -91,14 +125,17 @@ impl Raw {
         place.wrapping_mul(u64::from(bytes))
     }
 
-    /// Writes the sector of a place.
-    fn write(&self, place: u32) -> Result<(), Refusal> {
-        let offset = self.offset(place, SECTOR_BYTES);
+    /// Writes so many sectors from a place on.
+    fn write(&self, first: u32, sectors: u32) -> Result<(), Refusal> {
         let count = (SECTOR_BYTES as usize).min(self.buffer.len());
-        match self.file.write_at(&self.buffer[..count], offset) {
-            Ok(written) if written == count => Ok(()),
-            _ => Err(Refusal::Io),
+        for number in 0..sectors {
+            let offset = self.offset(first.wrapping_add(number), SECTOR_BYTES);
+            match self.file.write_at(&self.buffer[..count], offset) {
+                Ok(written) if written == count => {}
+                _ => return Err(Refusal::Io),
+            }
         }
+        Ok(())
     }
 
     fn sync(&self) -> Result<(), Refusal> {
@@ -117,154 +154,43 @@ impl Raw {
         }
     }
 
-    /// Writes so many sectors from a place on.
-    fn write_from(&self, first: u32, sectors: u32) -> Result<(), Refusal> {
-        for number in 0..sectors {
-            self.write(first.wrapping_add(number))?;
+    /// Makes the call of a place among so many.
+    fn make(&mut self, call: Call, place: u32) -> Result<(), Refusal> {
+        match call {
+            Call::Sync => self.sync(),
+            Call::ReadSector => self.read(place, SECTOR_BYTES),
+            Call::ReadBlock => self.read(place, BLOCK_BYTES),
+            Call::ReadAnywhere => self.read(place.wrapping_mul(2_654_435_761), BLOCK_BYTES),
+            Call::Write(sectors) => self.write(place.wrapping_mul(sectors), sectors),
+            Call::WriteSynced(sectors) => {
+                self.write(place.wrapping_mul(sectors), sectors)?;
+                self.sync()
+            }
         }
-        Ok(())
     }
 
-    fn write_all(&self, writes: Writes) -> Result<(), Refusal> {
-        for number in 0..writes.count {
-            self.write_from(number.wrapping_mul(writes.sectors), writes.sectors)?;
-            if writes.synced {
-                self.sync()?;
+    fn make_all(&mut self, calls: Calls) -> Result<(), Refusal> {
+        for _ in 0..calls.times {
+            for (count, call) in calls.calls {
+                for place in 0..count {
+                    self.make(call, place)?;
+                }
             }
         }
         Ok(())
-    }
-
-    /// Roots: for each a manifest and a superblock of one sector, each synced.
-    fn write_roots(&self, roots: u32) -> Result<(), Refusal> {
-        self.write_all(Writes {
-            count: roots.wrapping_mul(2),
-            sectors: 1,
-            synced: true,
-        })
-    }
-
-    fn read_all(&mut self, reads: Reads) -> Result<(), Refusal> {
-        for number in 0..reads.count {
-            let place = if reads.in_order {
-                number
-            } else {
-                number.wrapping_mul(2_654_435_761)
-            };
-            self.read(place, reads.bytes)?;
-        }
-        Ok(())
-    }
-
-    /// What each opening must do: a sync, a read of each sector of the log, and a root.
-    fn open_all(&mut self, times: u32, sectors: u32) -> Result<(), Refusal> {
-        for _ in 0..times {
-            self.sync()?;
-            self.read_all(Reads {
-                count: sectors,
-                bytes: SECTOR_BYTES,
-                in_order: true,
-            })?;
-            self.write_roots(1)?;
-        }
-        Ok(())
-    }
-
-    fn make(&mut self, calls: Calls) -> Result<(), Refusal> {
-        match calls {
-            Calls::Write(writes) => self.write_all(writes),
-            Calls::Read(reads) => self.read_all(reads),
-            Calls::Load { sectors, roots } => {
-                self.write_from(0, sectors)?;
-                self.write_roots(roots)
-            }
-            Calls::Open { times, sectors } => self.open_all(times, sectors),
-        }
-    }
-
-    fn timed<R: Clock>(&mut self, rt: &R, calls: Calls) -> Result<u64, Refusal> {
-        let start = now(rt)?;
-        self.make(calls)?;
-        since(rt, start)
     }
 
     /// Makes the calls that a workload must make, and answers their nanoseconds.
     pub(crate) fn measure<R: Clock>(
         &mut self,
         rt: &R,
-        alloc: Global,
         sizes: Sizes,
         work: Work,
         measured: Measured,
     ) -> Result<u64, Refusal> {
-        let calls = calls_of(alloc, sizes, work, measured)?;
-        self.timed(rt, calls)
-    }
-}
-
-/// The calls of a workload.
-fn calls_of(alloc: Global, sizes: Sizes, work: Work, measured: Measured) -> Result<Calls, Refusal> {
-    match work {
-        Work::Commit(way) | Work::Keep { way, .. } => {
-            Ok(Calls::Write(writes_of(alloc, measured.operations, way)?))
-        }
-        Work::Load(_) | Work::Thin { .. } => Ok(load_of(measured)),
-        Work::GetHit | Work::GetCold | Work::GetMiss => Ok(Calls::Read(gets_of(
-            measured.operations,
-        ))),
-        Work::Scan => Ok(Calls::Read(scan_of(measured.wanted))),
-        Work::Reopen(_) => Ok(Calls::Open {
-            times: measured.operations,
-            sectors: sizes.logged,
-        }),
-        Work::Share { synced, .. } => Ok(Calls::Write(singles_of(measured.operations, synced))),
-        Work::Round { .. } => Ok(Calls::Write(singles_of(measured.operations, false))),
-    }
-}
-
-/// A write of each sector of each batch.
-fn writes_of(alloc: Global, puts: u32, way: Way) -> Result<Writes, Refusal> {
-    Ok(Writes {
-        count: puts / way.puts.max(1),
-        sectors: sectors_of(alloc, way.puts)?,
-        synced: way.synced,
-    })
-}
-
-/// So many writes of a sector.
-fn singles_of(count: u32, synced: bool) -> Writes {
-    Writes {
-        count,
-        sectors: 1,
-        synced,
-    }
-}
-
-/// A write of each sector of batches and of tables, and the roots.
-fn load_of(measured: Measured) -> Calls {
-    let written = measured.written;
-    let in_tables = written.blocks.wrapping_mul(BLOCK_SECTORS);
-    Calls::Load {
-        sectors: in_tables.wrapping_add(written.logged),
-        roots: written.roots,
-    }
-}
-
-/// One read of a block for each get.
-fn gets_of(count: u32) -> Reads {
-    Reads {
-        count,
-        bytes: BLOCK_BYTES,
-        in_order: false,
-    }
-}
-
-/// One read of a block for as many bytes of rows.
-fn scan_of(rows: u32) -> Reads {
-    let bytes = rows.wrapping_mul(KEY_BYTES + VALUE_BYTES);
-    Reads {
-        count: bytes.div_ceil(BLOCK_BYTES),
-        bytes: BLOCK_BYTES,
-        in_order: true,
+        let calls = calls_of(sizes, work, measured);
+        let start = now(rt);
+        self.make_all(calls)?;
+        Ok(since(rt, start))
     }
 }

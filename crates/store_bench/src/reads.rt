@@ -1,153 +1,101 @@
 //! Gets and scans, whose answers are compared with what was put.
 
-use crate::keys::{is_value, key_of, value_of};
+use crate::keys::{key_of, value_of};
 use crate::sizes::PAGE_ROWS;
-use crate::subject::Subject;
 use lsm_device::{Device, Refusal};
-use lsm_store::Page;
+use lsm_store::{At, Store};
 
-/// More pages than a map has.
-const MOST_PAGES: u32 = 100_000;
+/// More pages than are read one after another.
+const MOST_PAGES: u32 = 1_000_000;
 
-/// Whether a get of a number's key finds the value of a round.
-fn hits<D: Device + Drop>(
-    subject: &mut Subject<D>,
-    number: u32,
-    round: u8,
-) -> Result<bool, Refusal> {
-    let key = key_of(number);
-    match subject.get(&key)? {
-        Some(value) => Ok(value.as_slice() == value_of(&key, round).as_slice()),
-        None => Ok(false),
-    }
-}
-
-/// Whether a get of a number's key finds none.
-fn misses<D: Device + Drop>(subject: &mut Subject<D>, number: u32) -> Result<bool, Refusal> {
-    let found = subject.get(&key_of(number))?;
-    Ok(found.is_none())
-}
-
-/// Of the first so many numbers, how many have the value of a round. They are asked for in another order than that in which
-/// they were put.
-pub(crate) fn count_hits<D: Device + Drop>(
-    subject: &mut Subject<D>,
-    count: u32,
-    round: u8,
-) -> Result<u32, Refusal> {
-    let mut right = 0_u32;
-    for place in 0..count {
-        let number = place.wrapping_mul(7_919) % count.max(1);
-        if hits(subject, number, round)? {
-            right = right.wrapping_add(1);
-        }
-    }
-    Ok(right)
-}
-
-/// Of the first so many numbers, how many have the value of a round where they are odd, and else none.
-pub(crate) fn count_thinned<D: Device + Drop>(
-    subject: &mut Subject<D>,
-    count: u32,
-    round: u8,
-) -> Result<u32, Refusal> {
-    let mut right = 0_u32;
-    for number in 0..count {
-        let is_right = if number % 2 == 0 {
-            misses(subject, number)?
-        } else {
-            hits(subject, number, round)?
-        };
-        if is_right {
-            right = right.wrapping_add(1);
-        }
-    }
-    Ok(right)
-}
-
-/// Of so many numbers from one on, how many have no value.
-pub(crate) fn count_misses<D: Device + Drop>(
-    subject: &mut Subject<D>,
-    from: u32,
-    count: u32,
-) -> Result<u32, Refusal> {
-    let mut right = 0_u32;
-    for place in 0..count {
-        if misses(subject, from.wrapping_add(place))? {
-            right = right.wrapping_add(1);
-        }
-    }
-    Ok(right)
-}
-
-/// What scans found: so many pages, and rows with the value of their key.
+/// Which values are asked for.
 #[derive(Clone, Copy)]
-pub(crate) struct Scanned {
-    pub(crate) pages: u32,
-    pub(crate) rows: u32,
+pub(crate) enum Asked {
+    /// Those of a round, in another order than that in which they were put.
+    Put,
+    /// Of every second key that of a round, and of the others none.
+    Thinned,
+    /// None, of keys behind those that were put.
+    Nothing,
 }
 
-/// How many rows of a page have the value of their key in a round.
-fn right_rows(page: &Page, round: u8) -> u32 {
+/// Whether a get of a number's key finds the value of a round, or none where no round is given.
+fn finds<D: Device>(store: &mut Store<D>, number: u32, round: Option<u8>) -> Result<bool, Refusal> {
+    let key = key_of(number);
+    match (store.get(At::Now, &key)?, round) {
+        (Some(value), Some(round)) => Ok(value.as_slice() == value_of(&key, round).as_slice()),
+        (None, None) => Ok(true),
+        _ => Ok(false),
+    }
+}
+
+/// Of so many gets, how many are answered as they should be.
+pub(crate) fn count_right<D: Device>(
+    store: &mut Store<D>,
+    asked: Asked,
+    count: u32,
+    round: u8,
+) -> Result<u32, Refusal> {
+    let mut right = 0_u32;
+    for place in 0..count {
+        let (number, wanted) = match asked {
+            Asked::Put => (place.wrapping_mul(7_919) % count.max(1), Some(round)),
+            Asked::Thinned if place % 2 == 0 => (place, None),
+            Asked::Thinned => (place, Some(round)),
+            Asked::Nothing => (count.wrapping_add(place), None),
+        };
+        if finds(store, number, wanted)? {
+            right = right.wrapping_add(1);
+        }
+    }
+    Ok(right)
+}
+
+/// Whether a value is that of a key in a round, by its beginning and its end.
+fn is_value(value: &[u8], key: &[u8], round: u8) -> bool {
+    value.len() == 100 && value.starts_with(key) && value.last() == Some(&round)
+}
+
+/// Reads the page from a key on. It answers how many rows have the value of a round, and where the next page begins.
+fn read_page<D: Device>(
+    store: &mut Store<D>,
+    from: &[u8; 16],
+    round: u8,
+) -> Result<(u32, Option<[u8; 16]>), Refusal> {
+    let page = store.scan(At::Now, from, None, PAGE_ROWS)?;
     let mut right = 0_u32;
     for row in page.rows() {
         if is_value(row.value, row.key, round) {
             right = right.wrapping_add(1);
         }
     }
-    right
-}
-
-/// The key at which the next page begins.
-fn next_key(page: &Page) -> Option<[u8; 16]> {
-    let next = page.next_key()?;
-    let mut key = [0; 16];
-    if next.len() != 16 {
-        return None;
+    match page.next_key() {
+        Some(next) if next.len() == 16 => {
+            let mut key = [0; 16];
+            key.copy_from_slice(next);
+            Ok((right, Some(key)))
+        }
+        _ => Ok((right, None)),
     }
-    key.copy_from_slice(next);
-    Some(key)
 }
 
-/// Reads the page from a key on. It answers how many rows are right, and where the next page begins.
-fn read_page<D: Device + Drop>(
-    subject: &mut Subject<D>,
-    from: &[u8; 16],
+/// Scans the whole map so often. It answers how many pages were read, and how many rows have the value of a round.
+pub(crate) fn scan<D: Device>(
+    store: &mut Store<D>,
+    times: u32,
     round: u8,
-) -> Result<(u32, Option<[u8; 16]>), Refusal> {
-    let page = subject.scan(from, u64::from(PAGE_ROWS))?;
-    Ok((right_rows(&page, round), next_key(&page)))
-}
-
-/// Scans the whole map.
-pub(crate) fn scan<D: Device + Drop>(
-    subject: &mut Subject<D>,
-    round: u8,
-) -> Result<Scanned, Refusal> {
+) -> Result<(u32, u32), Refusal> {
     let mut from = [0; 16];
+    let mut ends = 0_u32;
     let mut rows = 0_u32;
     for pages in 1..MOST_PAGES {
-        let (right, next) = read_page(subject, &from, round)?;
+        let (right, next) = read_page(store, &from, round)?;
         rows = rows.wrapping_add(right);
-        match next {
-            Some(key) => from = key,
-            None => return Ok(Scanned { pages, rows }),
+        from = next.unwrap_or([0; 16]);
+        ends = ends.wrapping_add(u32::from(next.is_none()));
+        if ends >= times {
+            return Ok((pages, rows));
         }
     }
     Err(Refusal::BadLimit)
-}
-
-/// Scans the whole map so often.
-pub(crate) fn scan_often<D: Device + Drop>(
-    subject: &mut Subject<D>,
-    times: u32,
-    round: u8,
-) -> Result<Scanned, Refusal> {
-    let mut all = Scanned { pages: 0, rows: 0 };
-    for _ in 0..times {
-        let one = scan(subject, round)?;
-        all.pages = all.pages.wrapping_add(one.pages);
-        all.rows = all.rows.wrapping_add(one.rows);
-    }
-    Ok(all)
 }

@@ -1,6 +1,7 @@
 //! The workloads, in the order in which a run does them.
 
-use crate::rules::Rule;
+use crate::reads::Asked;
+use crate::settling::Rule;
 
 /// What guards a put.
 #[derive(Clone, Copy)]
@@ -27,27 +28,25 @@ pub(crate) struct Way {
 pub(crate) enum Work {
     /// Commits batches. What makes room in the log between them is not measured.
     Commit(Way),
-    /// Puts all keys into an empty store and does all jobs, until none is left.
-    Load(Way),
-    /// Puts all keys into an empty store, and deletes every second one a log later, so that of all operations a third are deletes.
-    /// It does all jobs that a rule takes, until none is left.
-    Thin { way: Way, rule: Rule },
+    /// Puts all keys into an empty store, in batches of 100, with the rotations in the time, and with all jobs that a rule takes. Or
+    /// it deletes every second one too, a log later, so that of all operations a third are deletes.
+    Load { rule: Rule, thins: bool },
     /// Puts all keys, into an empty store or over what it has, with the rotations in the time, and with all jobs that a rule takes.
     Keep { way: Way, rule: Rule, fresh: bool },
-    /// Gets each key.
-    GetHit,
+    /// Gets each key, or as many that have no value.
+    Get(Asked),
     /// Gets each key, from a store that was just opened with a cache of one block. The opening is not measured.
     GetCold,
-    /// Gets as many keys that have no value.
-    GetMiss,
     /// Scans the whole map, page by page.
     Scan,
     /// Opens a store that has batches in its log.
-    Reopen(Way),
+    Reopen,
     /// So many clients of one session commit batches of one put, each client in a thread of its own.
-    Share { clients: u32, synced: bool },
+    Share(u32),
+    /// And sync each of them.
+    ShareSynced(u32),
     /// So many clients fill the trail of one session: each asks for a value 39 times, and then puts one.
-    Round { clients: u32 },
+    Fill(u32),
 }
 
 /// A workload with its name, and the ratio of its rate to that of the raw calls, in thousandths, that the store aims at.
@@ -65,20 +64,6 @@ pub(crate) const SINGLE: Way = Way {
     synced: false,
     in_log: 2_000,
     guarding: Guarding::Nothing,
-};
-
-const IN_TABLE: Way = Way {
-    puts: 1,
-    synced: false,
-    in_log: 2_000,
-    guarding: Guarding::InTable(6),
-};
-
-const IN_MEMORY: Way = Way {
-    puts: 1,
-    synced: false,
-    in_log: 2_000,
-    guarding: Guarding::InMemory,
 };
 
 pub(crate) const HUNDRED: Way = Way {
@@ -102,10 +87,22 @@ const HUNDRED_SYNCED: Way = Way {
     guarding: Guarding::Nothing,
 };
 
-pub(crate) const COUNT: usize = 18;
+const IN_TABLE: Way = Way {
+    puts: 1,
+    synced: false,
+    in_log: 2_000,
+    guarding: Guarding::InTable(6),
+};
 
-/// The workloads. Each value that a workload puts says in which of them it was put.
-pub(crate) const WORKLOADS: [Workload; COUNT] = [
+const IN_MEMORY: Way = Way {
+    puts: 1,
+    synced: false,
+    in_log: 2_000,
+    guarding: Guarding::InMemory,
+};
+
+/// The workloads that are measured beside raw calls. Each value that a workload puts says in which of them it was put.
+pub(crate) const WORKLOADS: [Workload; 18] = [
     Workload {
         name: "fill",
         work: Work::Commit(SINGLE),
@@ -138,37 +135,40 @@ pub(crate) const WORKLOADS: [Workload; COUNT] = [
     },
     Workload {
         name: "load, a third deletes",
-        work: Work::Thin {
-            way: HUNDRED,
+        work: Work::Load {
             rule: Rule::Next,
+            thins: true,
         },
         aim: 200,
         round: 12,
     },
     Workload {
         name: "deletes, limits alone",
-        work: Work::Thin {
-            way: HUNDRED,
+        work: Work::Load {
             rule: Rule::LimitsAlone,
+            thins: true,
         },
         aim: 200,
         round: 13,
     },
     Workload {
         name: "load and settle",
-        work: Work::Load(HUNDRED),
+        work: Work::Load {
+            rule: Rule::Next,
+            thins: false,
+        },
         aim: 200,
         round: 6,
     },
     Workload {
         name: "get hit",
-        work: Work::GetHit,
+        work: Work::Get(Asked::Put),
         aim: 840,
         round: 6,
     },
     Workload {
         name: "get miss",
-        work: Work::GetMiss,
+        work: Work::Get(Asked::Nothing),
         aim: 2_000,
         round: 6,
     },
@@ -192,44 +192,180 @@ pub(crate) const WORKLOADS: [Workload; COUNT] = [
     },
     Workload {
         name: "reopen",
-        work: Work::Reopen(SINGLE),
+        work: Work::Reopen,
         aim: 450,
         round: 7,
     },
     Workload {
         name: "1 client",
-        work: Work::Share {
-            clients: 1,
-            synced: false,
-        },
+        work: Work::Share(1),
         aim: 450,
         round: 8,
     },
     Workload {
         name: "2 clients",
-        work: Work::Share {
-            clients: 2,
-            synced: false,
-        },
+        work: Work::Share(2),
         aim: 350,
         round: 9,
     },
     Workload {
         name: "4 clients",
-        work: Work::Share {
-            clients: 4,
-            synced: false,
-        },
+        work: Work::Share(4),
         aim: 400,
         round: 10,
     },
     Workload {
         name: "4 clients, synced",
-        work: Work::Share {
-            clients: 4,
-            synced: true,
-        },
+        work: Work::ShareSynced(4),
         aim: 800,
         round: 11,
+    },
+];
+
+/// The workloads that count their rotations and jobs, by the job that comes next and by the policy. They have no aim.
+pub(crate) const KEPT: [Workload; 8] = [
+    Workload {
+        name: "fill, next",
+        work: Work::Keep {
+            way: SINGLE,
+            rule: Rule::Next,
+            fresh: true,
+        },
+        aim: 0,
+        round: 1,
+    },
+    Workload {
+        name: "overwrite, next",
+        work: Work::Keep {
+            way: SINGLE,
+            rule: Rule::Next,
+            fresh: false,
+        },
+        aim: 0,
+        round: 2,
+    },
+    Workload {
+        name: "batches of 100, next",
+        work: Work::Keep {
+            way: HUNDRED,
+            rule: Rule::Next,
+            fresh: false,
+        },
+        aim: 0,
+        round: 3,
+    },
+    Workload {
+        name: "load, next",
+        work: Work::Keep {
+            way: HUNDRED,
+            rule: Rule::Next,
+            fresh: true,
+        },
+        aim: 0,
+        round: 4,
+    },
+    Workload {
+        name: "fill, policy",
+        work: Work::Keep {
+            way: SINGLE,
+            rule: Rule::Policy,
+            fresh: true,
+        },
+        aim: 0,
+        round: 5,
+    },
+    Workload {
+        name: "overwrite, policy",
+        work: Work::Keep {
+            way: SINGLE,
+            rule: Rule::Policy,
+            fresh: false,
+        },
+        aim: 0,
+        round: 6,
+    },
+    Workload {
+        name: "batches of 100, policy",
+        work: Work::Keep {
+            way: HUNDRED,
+            rule: Rule::Policy,
+            fresh: false,
+        },
+        aim: 0,
+        round: 7,
+    },
+    Workload {
+        name: "load, policy",
+        work: Work::Keep {
+            way: HUNDRED,
+            rule: Rule::Policy,
+            fresh: true,
+        },
+        aim: 0,
+        round: 8,
+    },
+];
+
+/// Sessions whose trails are filled, and before them the load of what their clients ask for. They have no aim.
+pub(crate) const ROUNDS: [Workload; 3] = [
+    Workload {
+        name: "load before rounds",
+        work: Work::Keep {
+            way: HUNDRED,
+            rule: Rule::Policy,
+            fresh: true,
+        },
+        aim: 0,
+        round: 8,
+    },
+    Workload {
+        name: "2 clients, a round",
+        work: Work::Fill(2),
+        aim: 0,
+        round: 10,
+    },
+    Workload {
+        name: "4 clients, a round",
+        work: Work::Fill(4),
+        aim: 0,
+        round: 12,
+    },
+];
+
+/// A load, and reads of all that it put: blocks that are not in the cache, and those that are as far as it has room.
+pub(crate) const LOOKS: [Workload; 5] = [
+    Workload {
+        name: "load before reads",
+        work: Work::Keep {
+            way: HUNDRED,
+            rule: Rule::Policy,
+            fresh: true,
+        },
+        aim: 0,
+        round: 8,
+    },
+    Workload {
+        name: "get cold",
+        work: Work::GetCold,
+        aim: 1_000,
+        round: 8,
+    },
+    Workload {
+        name: "get hit",
+        work: Work::Get(Asked::Put),
+        aim: 500,
+        round: 8,
+    },
+    Workload {
+        name: "get miss",
+        work: Work::Get(Asked::Nothing),
+        aim: 0,
+        round: 8,
+    },
+    Workload {
+        name: "scan pages",
+        work: Work::Scan,
+        aim: 200,
+        round: 8,
     },
 ];
