@@ -105,7 +105,11 @@ fn put_six(batch: &mut Batch<&LocalHeap>) -> Result<(), Refusal> {
         let before = count(batch);
         if let Err(refusal) = batch.put(b"b", &[2; 40]) {
             let is_left = count(batch) == before;
-            return Err(if is_left { refusal } else { Refusal::WrongState });
+            return Err(if is_left {
+                refusal
+            } else {
+                Refusal::WrongState
+            });
         }
     }
     Ok(())

@@ -25,11 +25,13 @@ fn a_manifest_with_a_table(rt: HostRuntime) {
 }
 
 /// Whether a manifest of two tables of seven entries, which tell these deletes or none, is read back in versions 1 and 2.
-fn read_back<R: Abort>(rt: &R, alloc: Global, first: Option<u16>, second: Option<u16>) -> (bool, bool) {
-    let tables = [
-        (1, 1, 0, 0, 1, 1, 7, first),
-        (2, 1, 0, 4, 1, 1, 7, second),
-    ];
+fn read_back<R: Abort>(
+    rt: &R,
+    alloc: Global,
+    first: Option<u16>,
+    second: Option<u16>,
+) -> (bool, bool) {
+    let tables = [(1, 1, 0, 0, 1, 1, 7, first), (2, 1, 0, 4, 1, 1, 7, second)];
     let sectors = sectors_of(rt, alloc, &manifest(rt, alloc, (4, 1, 4, 0), &[], &tables));
     (
         read(rt, alloc, FormatVersion::One, &sectors).is_some(),
@@ -75,10 +77,30 @@ fn table_records_in_order_and_out_of_it(rt: HostRuntime) {
         ("in order", 2, [A, B, C], true),
         ("the later run first", 2, [B, A, C], false),
         ("the later level first", 2, [C, A, B], false),
-        ("a number twice", 2, [A, (1, 0, 1, 4, 1, 1, 1, none), C], false),
-        ("the next number", 2, [A, B, (4, 1, 0, 8, 1, 1, 1, none)], false),
-        ("the first blocks meet", 2, [A, (2, 0, 1, 3, 1, 1, 1, none), C], false),
-        ("the last blocks meet", 2, [A, B, (3, 1, 0, 0, 1, 1, 1, none)], false),
+        (
+            "a number twice",
+            2,
+            [A, (1, 0, 1, 4, 1, 1, 1, none), C],
+            false,
+        ),
+        (
+            "the next number",
+            2,
+            [A, B, (4, 1, 0, 8, 1, 1, 1, none)],
+            false,
+        ),
+        (
+            "the first blocks meet",
+            2,
+            [A, (2, 0, 1, 3, 1, 1, 1, none), C],
+            false,
+        ),
+        (
+            "the last blocks meet",
+            2,
+            [A, B, (3, 1, 0, 0, 1, 1, 1, none)],
+            false,
+        ),
         (
             "apart, in no order",
             2,
@@ -87,7 +109,12 @@ fn table_records_in_order_and_out_of_it(rt: HostRuntime) {
         ),
         ("a run without a record", 3, [A, B, C], false),
         ("a run that is none", 1, [A, B, C], false),
-        ("two tables of a run", 1, [A, (2, 0, 0, 4, 1, 1, 1, none), C], true),
+        (
+            "two tables of a run",
+            1,
+            [A, (2, 0, 0, 4, 1, 1, 1, none), C],
+            true,
+        ),
         (
             "two tables of a level",
             0,

@@ -112,17 +112,20 @@ pub fn is_spelled<R: Abort>(
 
 #[test]
 fn manifests_of_a_format_and_an_open(rt: HostRuntime) {
-    for (generation, logs, text) in [
-        (1, [].as_slice(), FORMATTED),
-        (2, &[(0, 2, 1)], OPENED),
-    ] {
+    for (generation, logs, text) in [(1, [].as_slice(), FORMATTED), (2, &[(0, 2, 1)], OPENED)] {
         let manifest = manifest(&rt, rt.alloc(), (generation, 0, 1, 0), logs, &[]);
         assert!(rt; is_spelled(&rt, rt.alloc(), FormatVersion::Two, &manifest, text));
     }
 }
 
 /// Whether a manifest without a table is within the limits and read back, as `fits` says.
-fn are_limited<R: Abort>(rt: &R, alloc: Global, numbers: Numbers, logs: &[Log], fits: bool) -> bool {
+fn are_limited<R: Abort>(
+    rt: &R,
+    alloc: Global,
+    numbers: Numbers,
+    logs: &[Log],
+    fits: bool,
+) -> bool {
     let manifest = manifest(rt, alloc, numbers, logs, &[]);
     is_limited(rt, alloc, FormatVersion::Two, &manifest, fits)
 }

@@ -166,7 +166,9 @@ fn spelled_among<R: Abort>(rt: &R, alloc: Global, blocks: &[[u8; 4_096]; 3]) -> 
 
 #[test]
 fn each_byte_is_changed_in_turn(rt: HostRuntime) {
-    let blocks = [DATA_BLOCK, INDEX, FOOTER].map(|text| bytes_of::<4_096>(text).unwrap_or([0; 4_096]));
+    let blocks = [DATA_BLOCK, INDEX, FOOTER].map(|text| bytes_of::<4_096>(text).unwrap_or(
+        [0; 4_096],
+    ));
     // The key, seven bytes of the number, the high byte of the value's length, and the value. The key, and seven bytes of the
     // number. Then eight bytes of the number, one of the entries, two of the index's length, and the key.
     assert!(rt; spelled_among(&rt, rt.alloc(), &blocks) == [10, 8, 12]);

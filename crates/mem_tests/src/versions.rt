@@ -10,7 +10,8 @@ use std::process::Abort;
 /// Adds the key, the number and the value of a version to a line.
 fn tell<R: Abort>(rt: &R, line: &mut Vec<u8>, version: VersionRef<'_>) {
     line.extend_from_slice(version.key).expect(rt, "memory");
-    line.push(b'0' + (version.number % 10) as u8).expect(rt, "memory");
+    line.push(b'0' + (version.number % 10) as u8)
+        .expect(rt, "memory");
     if let Some(value) = version.value {
         line.push(b'=').expect(rt, "memory");
         line.extend_from_slice(value).expect(rt, "memory");
@@ -52,7 +53,10 @@ fn a_range_gives_the_newest_version_of_each_key(rt: HostRuntime) {
         (b"ba", 9, b"c1=1 "),
         (b"d", 9, b""),
     ] {
-        assert!(rt; has_range(&rt, rt.alloc(), table.mem(), (from, at), wanted), "{at}");
+        assert!(rt;
+            has_range(&rt, rt.alloc(), table.mem(), (from, at), wanted),
+            "{at}"
+        );
     }
 }
 

@@ -98,7 +98,11 @@ fn is_cut_at<R: Abort>(rt: &R, alloc: Global, runs: &[&[Row]], parts: u8, keys: 
 #[test]
 fn borders_of_runs(rt: HostRuntime) {
     for (runs, parts, keys) in [
-        ([EIGHT.as_slice()].as_slice(), 4, [0x63, 0x65, 0x67].as_slice()),
+        (
+            [EIGHT.as_slice()].as_slice(),
+            4,
+            [0x63, 0x65, 0x67].as_slice(),
+        ),
         (&[&EIGHT[..3]], 8, &[0x61, 0x62, 0x63]),
         (&[&VERSIONS], 4, &[0x61]),
         (&[&EIGHT], 1, &[]),

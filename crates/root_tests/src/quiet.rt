@@ -6,19 +6,22 @@ use std::process::Abort;
 
 /// A device that tells contracts nothing.
 #[derive(Drop)]
-pub struct Quiet {
-    device: MemDevice,
+pub struct Silenced<D: Drop> {
+    device: D,
 }
 
-impl Quiet {
+/// One in memory.
+pub type Quiet = Silenced<MemDevice>;
+
+impl Silenced<MemDevice> {
     pub fn new<R: Abort>(rt: &R, alloc: Global, sectors: u32) -> Quiet {
-        Quiet {
+        Silenced {
             device: MemDevice::new(alloc, sectors).expect(rt, "memory"),
         }
     }
 
     pub fn crash(self, keep: &[bool]) -> Quiet {
-        Quiet {
+        Silenced {
             device: self.device.crash(keep),
         }
     }
@@ -51,19 +54,18 @@ impl Quiet {
     }
 }
 
-impl Device for Quiet {
+impl<D: Device + Drop> Device for Silenced<D> {
     ghost use Rattle.std.specs.Prelude.{[]};
     ghost use Rattle.std.proofs.lemmas.Bool.{false≢true};
     ghost use Rattle.lsm_device.specs.Medium.{silent};
-    ghost use Rattle.lsm_device.specs.Memory.{medium_in};
 
-    ghost medium = { λ d. record { size = (medium_in d.device).size; lasting = silent; calls = (medium_in d.device).calls; history = [] } };
+    ghost medium = { λ d. record { size = (D.medium d.device).size; lasting = silent; calls = (D.medium d.device).calls; history = [] } };
 
     ghost sound = { λ d t. absurd (false≢true t) };
 
     ghost keeps_fuses = { λ d t. absurd (false≢true t) };
 
-    ghost small = { λ d. ⟦<MemDevice as Device>⟧.small d.device };
+    ghost small = { λ d. D.small d.device };
 
     fn sectors(&self) -> u32 {
         self.device.sectors()

@@ -72,7 +72,10 @@ fn each_growth_is_refused_in_turn(rt: HostRuntime) {
         }
     }
     assert!(rt; nothing.wrapping_add(some).wrapping_add(all) == 39);
-    assert!(rt; nothing > 0 && some > 10 && all > 5, "{nothing} {some} {all}");
+    assert!(rt;
+        nothing > 0 && some > 10 && all > 5,
+        "{nothing} {some} {all}"
+    );
 }
 
 /// Whether a cache with memory for one block keeps that one, and gives the others too.

@@ -40,7 +40,10 @@ fn the_lowest_fit_is_taken(rt: HostRuntime) {
         (2, Some(8)),
         (1, None),
     ] {
-        assert!(rt; blocks > 0 && takes(&mut extents, blocks, first), "{blocks}");
+        assert!(rt;
+            blocks > 0 && takes(&mut extents, blocks, first),
+            "{blocks}"
+        );
     }
     assert!(rt; extents.free_blocks() == 0);
 }
@@ -51,8 +54,10 @@ fn gives_back<R: Abort>(rt: &R, heap: &LocalHeap, bytes: usize) -> bool {
     let mut extents = Extents::new(heap, 10);
     let stay = claims(&mut extents, 4, 4, true);
     let first = extents.take(4).expect(rt, "memory");
-    let rest: Result<Vec<u8, &LocalHeap>, _> =
-        Vec::with_capacity(heap, bytes.saturating_sub(heap.used()));
+    let rest: Result<Vec<u8, &LocalHeap>, _> = Vec::with_capacity(
+        heap,
+        bytes.saturating_sub(heap.used()),
+    );
     extents.give(first);
     stay && rest.is_ok()
         && takes(&mut extents, 2, Some(0))
@@ -83,7 +88,10 @@ fn blocks_are_claimed_where_all_are_free(rt: HostRuntime) {
         (0, 1, true),
         (0, 1, false),
     ] {
-        assert!(rt; blocks > 0 && claims(&mut extents, first, blocks, given), "{first}");
+        assert!(rt;
+            blocks > 0 && claims(&mut extents, first, blocks, given),
+            "{first}"
+        );
     }
     assert!(rt; extents.free_blocks() == 0);
 }

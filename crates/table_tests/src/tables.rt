@@ -51,7 +51,13 @@ fn of_three<R: Abort>(rt: &R, alloc: Global) -> Table {
     let image = image_of(rt, alloc, &[b"a".as_slice(), b"b", b"c"], &[7; 2_048]);
     assert!(rt; image.data_blocks() == 3 && image.extent_blocks() > 3);
     let record = image.table_record(9, 0, 0, 0);
-    let table = Table::open(alloc, record, &image.footer(9), image.index(), &image.block(9, 3));
+    let table = Table::open(
+        alloc,
+        record,
+        &image.footer(9),
+        image.index(),
+        &image.block(9, 3),
+    );
     table.expect(rt, "a table")
 }
 
@@ -207,7 +213,9 @@ fn lies_at(
 
 #[test]
 fn entries_are_lent_where_they_lie(rt: HostRuntime) {
-    let block = block_of("000201610000000000000001010001310162000000000000000202").expect(&rt, "hex");
+    let block = block_of("000201610000000000000001010001310162000000000000000202").expect(
+        &rt, "hex",
+    );
     let (put, behind) = EntryPlace::first(&block)
         .first_entry(&block)
         .expect(&rt, "a put");
