@@ -474,7 +474,7 @@ room_again() {
     scripts <again
 }
 
-# A commit may have 16 guards. A 17th is refused before all that the state decides, but for a store that is stopped.
+# A commit may have 16 guards. A 17th is refused before all that the state decides, a full log too, but for a store that is stopped.
 many_guards() {
     local sixteen='' number
     for ((number = 0; number < 16; number++)); do sixteen+='!61 '; done
@@ -489,6 +489,11 @@ get 62 | absent
 crash all |
 fuse 0 | refused 02 Io
 if ${sixteen}!61 then +61=31 | refused 03 Stopped
+
+lives 8192 128 | open 0
+commit PUTS +1e=09{1896} | batch 1
+if ${sixteen}then -01 | refused 04 LogFull
+if ${sixteen}!61 then -01 | refused 31 TooManyGuards
 END
 }
 

@@ -1,44 +1,46 @@
 //! A store that is let go does nothing more to its file.
 
-use crate::setup::CACHE;
 use lsm_codec::{Batch, Op};
 use lsm_device::FileDevice;
 use lsm_open::format;
 use lsm_store::Store;
+use std::alloc::Global;
 use std::fs;
 use std::fs::{File, Files};
-use std::test::Fail;
+use std::process::Abort;
 
 /// A new file with an empty store, opened.
-fn opened<R: Files<File = File> + AllocGlobal>(
-    rt: &R,
-    path: &str,
-) -> Result<Store<FileDevice>, Fail> {
-    let device = match format(rt.alloc(), FileDevice::create(rt, path, 8_192)?, 128) {
+fn opened<R: Files<File = File> + Abort>(rt: &R, alloc: Global, path: &str) -> Store<FileDevice> {
+    let device = FileDevice::create(rt, path, 8_192).expect(rt, "a file");
+    let device = match format(alloc, device, 128) {
         Ok(device) => device,
-        Err((refusal, _)) => return Err(Fail::from(refusal.name())),
+        Err((refusal, _)) => rt.panic(refusal.name()),
     };
-    match Store::open(rt.alloc(), device, CACHE) {
-        Ok(store) => Ok(store),
-        Err((refusal, _)) => Err(Fail::from(refusal.name())),
+    match Store::open(alloc, device, 256) {
+        Ok(store) => store,
+        Err((refusal, _)) => rt.panic(refusal.name()),
     }
 }
 
-/// Opens a store, commits a batch that is not synced, and lets the store go; whether that left the file as it was before.
-fn leaves_file<R: Files<File = File> + AllocGlobal>(rt: &R, path: &str) -> Result<bool, Fail> {
-    let mut store = opened(rt, path)?;
-    let batch = Batch::new(rt.alloc(), Op::put(rt.alloc(), b"a", b"1")?)?;
-    store.commit(&batch)?;
-    let before = fs::read(rt, path)?;
-    drop(store);
-    Ok(fs::read(rt, path)? == before)
+/// A batch of one put.
+fn batch<R: Abort>(rt: &R, alloc: Global) -> Batch {
+    let op = Op::put(alloc, b"a", b"1").expect(rt, "an operation");
+    Batch::new(alloc, op).expect(rt, "a batch")
+}
+
+/// Commits a batch that is not synced.
+fn commit<R: Abort>(rt: &R, alloc: Global, store: &mut Store<FileDevice>) {
+    store.commit(&batch(rt, alloc)).expect(rt, "a number");
 }
 
 #[test]
-fn a_store_that_is_let_go_leaves_its_file(rt: HostRuntime) -> Result<(), Fail> {
+fn a_store_that_is_let_go_leaves_its_file(rt: HostRuntime) {
     let path = "a_store_that_is_let_go_leaves_its_file.img";
-    let same = leaves_file(&rt, path)?;
-    fs::remove_file(&rt, path)?;
+    let mut store = opened(&rt, rt.alloc(), path);
+    commit(&rt, rt.alloc(), &mut store);
+    let before = fs::read(&rt, path).expect(&rt, "its bytes");
+    drop(store);
+    let same = fs::read(&rt, path).expect(&rt, "its bytes") == before;
+    fs::remove_file(&rt, path).expect(&rt, "no file");
     assert!(rt; same);
-    Ok(())
 }
