@@ -540,6 +540,22 @@ many_commits() {
     count=$((count + 1))
 }
 
+# A hundred batches of a sector each, with a sync behind every fifth, are explored within a minute. Where a write or a sync fails,
+# what pends are the writes since the last sync, that one included: 9 crashes of the opening's five, 2 + 4 + 8 + 16 + 32 + 32 of
+# each five batches with their sync, and 1 of the whole life. Behind each of them an opening has ten.
+many_explored() {
+    local number start=$SECONDS
+    {
+        echo "explore 8192 128 | first $((9 + 20 * 94 + 1)) second $((10 * (9 + 20 * 94 + 1))) skipped 0 wrong 0"
+        for ((number = 1; number <= 100; number++)); do
+            printf 'commit +%02x=31 |\n' "$number"
+            if ((number % 5 == 0)); then echo 'sync |'; fi
+        done
+    } >explored
+    scripts <explored
+    ((SECONDS - start < 60)) || fail "a hundred batches are explored in $((SECONDS - start)) seconds"
+}
+
 # ---- mistakes in scripts
 
 mistakes() {
@@ -617,6 +633,7 @@ no_space
 room_again
 many_guards
 many_commits
+many_explored
 mistakes <"$runs/lines.txt"
 runs_on_inputs <"$runs/inputs.txt"
 long_scripts

@@ -2,10 +2,6 @@
 
 #[cfg(test)]
 mod faults;
-#[cfg(test)]
-mod growth;
-#[cfg(test)]
-mod setup;
 mod whole;
 
 pub use whole::check_after_lives;

@@ -1,27 +1,28 @@
 //! Growths that memory refuses.
 
-use crate::setup::{Told, are_of_lives, formatted, get, led, put};
-use lsm_device::{MemDevice, Refusal};
+use crate::setup::{Told, are, formatted, led};
+use crate::steps::{get, put};
+use lsm_device::Refusal;
 use lsm_lives::{Call, Life, Step};
 use merge_tests::budget::Budget;
 use std::alloc::{Allocator, Global};
-use std::test::Fail;
+use std::process::Abort;
 use std::thread::Threads;
 
-// One life with three steps.
-fn one_life<A: Allocator + Clone>(alloc: A) -> Result<Life<A>, Refusal> {
-    let mut steps = Vec::new(alloc.clone()?);
-    steps.push(put(alloc.clone()?, b"\x61", b"\x31")?)?;
-    steps.push(Step::Call(Call::Sync))?;
-    steps.push(get(alloc.clone()?, b"\x61")?)?;
+// A life with three steps.
+fn life<A: Allocator + Copy>(heap: A) -> Result<Life<A>, Refusal> {
+    let mut steps = Vec::with_capacity(heap, 3)?;
+    steps.push_reserved(put(heap, b"\x61", b"\x31")?);
+    steps.push_reserved(Step::Call(Call::Sync));
+    steps.push_reserved(get(heap, b"\x61")?);
     Ok(Life {
         fuse: None,
         steps,
-        mask: Vec::new(alloc),
+        mask: Vec::new(heap),
     })
 }
 
-const AMPLE: [Told; 4] = [
+const AMPLE: &[Told] = &[
     Told::Number(0),
     Told::Number(1),
     Told::Done,
@@ -29,11 +30,9 @@ const AMPLE: [Told; 4] = [
 ];
 
 // How far a life comes on a heap.
-#[derive(Clone, Copy)]
+#[derive(Clone, Copy, PartialEq, Eq)]
 enum Reach {
-    /// It isn't even made.
-    Unmade,
-    /// There is no place for its replies.
+    /// There is no place for its replies, and nothing is done.
     Refused,
     /// It is led, and some steps are refused.
     Led,
@@ -41,53 +40,37 @@ enum Reach {
     Served,
 }
 
-// How far a life comes on a heap. Where it is refused, nothing is done.
-fn reach_of<R: Threads + Sync, A: Allocator + Clone + Send + Sync>(
-    rt: &R,
-    alloc: A,
-    device: MemDevice,
-    life: &[Life<A>],
-) -> Result<Reach, Fail> {
+// How far it comes where so many growths are allowed. The device has a heap of its own, so that its record can grow.
+fn reached<R: Threads + Sync + Abort>(rt: &R, alloc: Global, growths: u64) -> Reach {
+    let heap = Budget::new(alloc, u64::MAX);
+    let given = [life(&heap).expect(rt, "a life")];
+    let device = formatted(rt, alloc);
     let writes = device.writes();
-    match led(rt, alloc, device, life) {
+    heap.allow(growths);
+    match led(rt, &heap, device, &given) {
         Ok((replies, device)) => {
-            if replies.len() != 1 || device.writes() != 0 {
-                return Err(Fail::from("one life, and a crash"));
+            assert!(rt; replies.len() == 1 && device.writes() == 0);
+            if are(&replies, &[AMPLE]) {
+                return Reach::Served;
             }
-            if are_of_lives(&replies, &[&AMPLE]) {
-                return Ok(Reach::Served);
-            }
-            Ok(Reach::Led)
+            Reach::Led
         }
-        Err((Refusal::NoMemory, device)) if device.writes() == writes => Ok(Reach::Refused),
-        Err(_) => Err(Fail::from("NoMemory, before anything is done")),
+        Err((refusal, device)) => {
+            assert!(rt; refusal == Refusal::NoMemory && device.writes() == writes);
+            Reach::Refused
+        }
     }
-}
-
-// How far the life comes where so many growths are allowed.
-fn reached_on<R: Threads + Sync>(rt: &R, alloc: Global, growths: u64) -> Result<Reach, Fail> {
-    // The device has a heap of its own, so that its record can grow.
-    let device = formatted(alloc)?;
-    let heap = Budget::new(alloc, growths);
-    let Ok(life) = one_life(&heap) else {
-        return Ok(Reach::Unmade);
-    };
-    reach_of(rt, &heap, device, &[life])
 }
 
 #[test]
-fn without_a_place_for_the_replies_nothing_is_done(rt: HostRuntime) -> Result<(), Fail> {
-    let mut refused = false;
-    let mut led = false;
-    let mut served = false;
+fn without_a_place_for_the_replies_nothing_is_done(rt: HostRuntime) {
+    let mut reaches = [0u32; 3];
     for growths in 0..200u64 {
-        match reached_on(&rt, rt.alloc(), growths)? {
-            Reach::Unmade => {}
-            Reach::Refused => refused = true,
-            Reach::Led => led = true,
-            Reach::Served => served = true,
+        match reached(&rt, rt.alloc(), growths) {
+            Reach::Refused => reaches[0] = reaches[0].wrapping_add(1),
+            Reach::Led => reaches[1] = reaches[1].wrapping_add(1),
+            Reach::Served => reaches[2] = reaches[2].wrapping_add(1),
         }
     }
-    assert!(rt; refused && led && served);
-    Ok(())
+    assert!(rt; reaches[0] > 0 && reaches[1] > 0 && reaches[2] > 0);
 }

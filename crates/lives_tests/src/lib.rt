@@ -9,12 +9,10 @@ mod growth;
 #[cfg(test)]
 mod living;
 #[cfg(test)]
-mod replaying;
-#[cfg(test)]
 mod setup;
-mod whole;
 #[cfg(test)]
-mod working;
+mod steps;
+mod whole;
 
 pub use checks::check_after_lives;
 pub use whole::lives_from_format;

@@ -67,16 +67,20 @@ fn is_added(reply: Reply) -> Result<bool, Refusal>
     }
 }
 
-// Adds a batch under guards, unless one of them is false. Whether it was added.
-fn add_if<B: SessionName, R: Wait>(
+// Puts a number under a key that still has the value that was got. Whether it has, and the number was put.
+fn put_if_still<B: SessionName, R: Wait>(
     rt: &R,
+    alloc: Global,
     shared: &Shared<MemDevice, Global, B>,
     me: &mut Client<Global, B>,
-    guards: Vec<Guard>,
-    batch: Batch,
+    key: &[u8],
+    value: &Option<Vec<u8>>,
+    number: u64,
 ) -> Result<bool, Refusal>
     ensures { IfOk result (λ added. added ≡ true → HasRaised me.new) }
 {
+    let guards = still(alloc, key, value)?;
+    let batch = batch_of_number(alloc, key, number)?;
     let reply = me.call(rt, shared, Call::CommitIf(guards, batch))?;
     is_added(reply)
 }
@@ -97,9 +101,7 @@ pub fn raise<B: SessionName, R: Wait>(
     for _ in 0..tries {
         let value = get(rt, alloc, shared, me, key)?;
         let next = number_in(&value).wrapping_add(1);
-        let guards = still(alloc, key, &value)?;
-        let batch = batch_of_number(alloc, key, next)?;
-        if add_if(rt, shared, me, guards, batch)? {
+        if put_if_still(rt, alloc, shared, me, key, &value, next)? {
             return Ok(Some(next));
         }
     }

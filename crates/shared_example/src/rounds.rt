@@ -3,7 +3,6 @@
 ghost use Rattle.std.specs.Prelude.{◌≡◌};
 
 use crate::client::batch_of;
-use crate::session::{list_of, two_of};
 use byteorder::{BigEndian, ByteOrder};
 use lsm_device::{MemDevice, Refusal};
 use lsm_lives::{Call, Reply};
@@ -53,16 +52,21 @@ fn put_keys<B: SessionName, R: Wait>(
     Ok(end)
 }
 
-// Lets both clients put, each in a thread of its own, and hands both back with how far they came.
+// Lets both clients put, each in a thread of its own. It tells how far they came.
 fn put_both<B: SessionName + Send + Sync, R: Threads + Wait + Sync>(
     rt: &R,
     alloc: Global,
     shared: &Shared<MemDevice, Global, B>,
-    clients: (&mut Client<Global, B>, &mut Client<Global, B>),
+    clients: &mut [Client<Global, B>],
     put: Progress,
     end: u32,
 ) -> Result<Progress, Refusal> {
-    let (one, two) = clients;
+    let Some((one, others)) = clients.split_first_mut() else {
+        return Err(Refusal::NotYours);
+    };
+    let Some(two) = others.first_mut() else {
+        return Err(Refusal::NotYours);
+    };
     let (first, second) = join(
         rt,
         || -> Result<u32, Refusal> { put_keys(rt, alloc, shared, one, 1, put.one, end) },
@@ -82,19 +86,13 @@ fn play<B: SessionName + Send + Sync, R: Threads + Wait + Sync>(
     put: Progress,
     end: u32,
 ) -> Result<(Store<MemDevice>, Progress), Refusal>
-    requires session { opened ≡ B.id }
-    requires clients { opened.begin.clients ≡ 2 }
+    requires { opened ≡ B.id }
 {
-    let (shared, clients) = match Shared::<MemDevice, Global, B>::begin(alloc, opened) {
+    let (shared, mut clients) = match Shared::<MemDevice, Global, B>::begin(alloc, opened) {
         Ok(begun) => begun,
         Err((refusal, _)) => return Err(refusal),
     };
-    let (mut one, mut two) = match two_of(clients) {
-        Some(two) => two,
-        None => return Err(Refusal::NotYours),
-    };
-    let reached = put_both(rt, alloc, &shared, (&mut one, &mut two), put, end)?;
-    let clients = list_of(alloc, one, two)?;
+    let reached = put_both(rt, alloc, &shared, &mut clients, put, end)?;
     match shared.finish(clients) {
         Ok((store, _)) => Ok((store, reached)),
         Err((refusal, _, _)) => Err(refusal),

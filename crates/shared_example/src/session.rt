@@ -15,7 +15,7 @@ use std::sync::Wait;
 use std::thread::{Threads, join};
 
 // The clients of a session that has two.
-pub(crate) fn two_of<B: SessionName>(
+fn two_of<B: SessionName>(
     clients: Vec<Client<Global, B>>,
 ) -> Option<(Client<Global, B>, Client<Global, B>)>
     requires { clients.items ≡ newcomers B.id.begin 2 }
@@ -56,7 +56,7 @@ pub(crate) fn store_both<B: SessionName + Send + Sync, R: Threads + Wait + Sync>
 }
 
 // Both clients in a list.
-pub(crate) fn list_of<B: SessionName>(
+fn list_of<B: SessionName>(
     alloc: Global,
     one: Client<Global, B>,
     two: Client<Global, B>,

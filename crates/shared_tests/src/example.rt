@@ -1,9 +1,9 @@
 //! The whole callers of the library `shared_example`.
 
-use crate::setup::small;
-use crate::turns::{Ask, Asked, Told, play, put};
+use crate::asks::{Ask, Asked, Told};
+use crate::sessions::{Deeds, lead};
+use crate::setup::{prepared, put, small};
 use lsm_device::{MemDevice, Refusal};
-use lsm_shared::prepare;
 use lsm_store::Store;
 use shared_example::{in_three_threads, put_in_rounds, share, share_beside_a_worker};
 use std::alloc::Global;
@@ -22,42 +22,32 @@ fn has_both<R: Abort>(rt: &R, found: Found) -> bool {
 
 #[test]
 fn two_clients_find_both_values(rt: HostRuntime) {
-    let device = MemDevice::new(rt.alloc(), 8_192).expect(&rt, "a device");
+    let alloc = rt.alloc();
+    let device = MemDevice::new(alloc, 8_192).expect(&rt, "a device");
     let keep = [false, true];
-    let found = share(&rt, rt.alloc(), device, b"one", b"1", b"two", b"2", &keep);
+    let found = share(&rt, alloc, device, b"one", b"1", b"two", b"2", &keep);
+    assert!(rt; has_both(&rt, found));
+    let device = MemDevice::new(alloc, 8_192).expect(&rt, "a device");
+    let found = share_beside_a_worker(&rt, alloc, device, b"one", b"1", b"two", b"2", &keep);
     assert!(rt; has_both(&rt, found));
 }
 
-#[test]
-fn two_clients_beside_a_worker_find_both_values(rt: HostRuntime) {
-    let device = MemDevice::new(rt.alloc(), 8_192).expect(&rt, "a device");
-    let keep = [false, true];
-    let found = share_beside_a_worker(&rt, rt.alloc(), device, b"one", b"1", b"two", b"2", &keep);
-    assert!(rt; has_both(&rt, found));
-}
-
-const A_ROTATION: &[Asked<'static>] = &[
-    (0, Ask::Put(b"zero", b"0"), Ok(Told::Number(1))),
-    (0, Ask::Rotate, Ok(Told::Done)),
+// A sealed memory table, which waits for its flush.
+const WAITING: &[Asked] = &[
+    (0, Ask::Put(0x61), Told::Number(1)),
+    (0, Ask::Rotate, Told::Done),
 ];
 
-// A small store with a sealed memory table, which waits for its flush.
-fn waiting<R: Wait + Abort>(rt: &R, alloc: Global) -> Store<MemDevice> {
-    let (store, _) = play(rt, alloc, small(rt, alloc), (1, 2), A_ROTATION).into_parts();
-    store
-}
-
-// What is left of it once two clients and a worker shared it.
+// What is left of a small store with such a table once two clients and a worker shared it.
 fn shared_with_a_worker<R: Threads + Wait + Abort + Sync>(
     rt: &R,
     alloc: Global,
 ) -> Store<MemDevice> {
     let one = put(alloc, b"one", b"1").expect(rt, "a batch");
     let two = put(alloc, b"two", b"2").expect(rt, "a batch");
-    let opened = match prepare(alloc, waiting(rt, alloc), 3, 64) {
-        Ok(opened) => opened,
-        Err((refusal, _)) => rt.panic(refusal.name()),
-    };
+    let left = lead(rt, alloc, small(rt, alloc), (1, 2), Deeds::Asks(WAITING));
+    let (store, _) = left.into_parts();
+    let opened = prepared(rt, alloc, store, (3, 64));
     match in_three_threads::<Brand, _>(rt, alloc, opened, one, two) {
         Ok((store, _)) => store,
         Err(refusal) => rt.panic(refusal.name()),
@@ -72,17 +62,12 @@ fn a_worker_flushes_beside_two_clients(rt: HostRuntime) {
     assert!(rt; matches!(store.stat(), Ok(stat) if stat.tables == 1 && !stat.waiting));
 }
 
-// Two clients with 150 keys each, in rounds of so many entries: the keys of a store, and its rounds.
-fn rounds_of<R: Threads + Wait + Abort + Sync>(rt: &R, alloc: Global, entries: u32) -> (u64, u32) {
-    let played = put_in_rounds(rt, alloc, small(rt, alloc), 150, entries);
-    let (store, rounds) = played.expect(rt, "rounds");
-    (store.batch_count(), rounds)
-}
-
-// A trail of 40 entries takes 300 puts in eight rounds, and a few more where turns of both fall into one.
+// Two clients with 150 keys each. A trail of 40 entries takes 300 puts in eight rounds, and a few more where turns of both fall into
+// one.
 #[test]
 fn a_service_goes_on_by_rounds(rt: HostRuntime) {
-    let (batches, rounds) = rounds_of(&rt, rt.alloc(), 40);
-    assert!(rt; batches == 300);
+    let played = put_in_rounds(&rt, rt.alloc(), small(&rt, rt.alloc()), 150, 40);
+    let (store, rounds) = played.expect(&rt, "rounds");
+    assert!(rt; store.batch_count() == 300);
     assert!(rt; rounds >= 8 && rounds <= 300);
 }

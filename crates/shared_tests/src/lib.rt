@@ -1,33 +1,30 @@
 //! Tests of stores that threads share.
+//!
+//! | module | what is in it |
+//! |---|---|
+//! | `setup` | stores, and what is left of sessions |
+//! | `asks` | what clients do one after another, in a table |
+//! | `parts` | what all clients do at the same time |
+//! | `sessions` | leads a session |
+//!
+//! The others are tests.
 #![tactic(auto)]
 
 #[cfg(test)]
-mod bases;
-#[cfg(test)]
-mod beginnings;
-#[cfg(test)]
-mod counting;
+mod asks;
 #[cfg(test)]
 mod example;
 #[cfg(test)]
-mod faults;
-#[cfg(test)]
-mod growth;
+mod parts;
 #[cfg(test)]
 mod policies;
 #[cfg(test)]
-mod replies;
+mod sessions;
 #[cfg(test)]
 mod setup;
 #[cfg(test)]
 mod tallies;
 #[cfg(test)]
 mod threads;
-#[cfg(test)]
-mod turns;
-#[cfg(test)]
-mod watching;
-#[cfg(test)]
-mod workers;
 #[cfg(test)]
 mod working;

@@ -1,21 +1,18 @@
 //! Workers that go by a policy.
 
-ghost use Rattle.std.specs.Prelude.{◌≡◌};
-
-use crate::setup::{Left, Session, prepared, small};
-use crate::turns::put;
+use crate::asks::{Ask, Told, ask_all};
+use crate::sessions::{Deeds, lead};
+use crate::setup::small;
 use lsm_device::MemDevice;
-use lsm_lives::{Call, Reply};
+use lsm_lives::Reply;
 use lsm_policy::Policy;
-use lsm_trail::{Opened, SessionName};
+use lsm_shared::{Client, Shared};
+use lsm_trail::SessionName;
 use lsm_worker::work;
 use std::alloc::Global;
-use std::marker::Brand;
 use std::process::Abort;
 use std::sync::Wait;
 use std::thread::Threads;
-
-const KEYS: [&[u8]; 5] = [b"\x61", b"\x62", b"\x63", b"\x64", b"\x65"];
 
 // A policy by which each run goes down, levels 1 to 3 hold so many blocks, and no tables go together.
 fn eager(limit: u64) -> Policy {
@@ -27,94 +24,59 @@ fn eager(limit: u64) -> Policy {
     }
 }
 
-// Whether the client, working by a policy, comes to its end.
-fn works<B: SessionName, R: Threads + Wait + Abort + Sync>(
+// Whether a client, working by a policy, comes to its end.
+fn works<B: SessionName, R: Threads + Wait + Sync>(
     rt: &R,
     alloc: Global,
-    session: &mut Session<B>,
-    policy: &Policy,
+    shared: &Shared<MemDevice, Global, B>,
+    me: &mut Client<Global, B>,
 ) -> bool {
-    let me = session.clients.first_mut().expect(rt, "a client");
     matches!(
-        work(rt, alloc, &session.shared, me, policy, 2, 1_000),
+        work(rt, alloc, shared, me, &eager(1_000), 2, 1_000),
         Ok(true)
     )
 }
 
-// Each key goes into a table of level 1 of its own.
-fn put_down<B: SessionName, R: Threads + Wait + Abort + Sync>(
-    rt: &R,
-    alloc: Global,
-    session: &mut Session<B>,
-) {
-    for key in KEYS {
-        let batch = put(alloc, key, b"\x31").expect(rt, "a batch");
-        let _number = session
-            .call(rt, 0, Call::Commit(batch))
-            .expect(rt, "a reply");
-        let _done = session.call(rt, 0, Call::Rotate).expect(rt, "a reply");
-        assert!(rt; works(rt, alloc, session, &eager(1_000)));
-    }
-}
-
-// Whether the client takes a job that a policy advises.
+// Whether a client takes a job that a policy advises, by which no level may hold a block.
 fn takes<B: SessionName, R: Wait + Abort>(
     rt: &R,
-    session: &mut Session<B>,
-    policy: &Policy,
+    shared: &Shared<MemDevice, Global, B>,
+    me: &mut Client<Global, B>,
 ) -> bool {
-    let me = session.clients.first_mut().expect(rt, "a client");
-    match me
-        .take_next(rt, &session.shared, policy)
-        .expect(rt, "a reply")
-    {
+    match me.take_next(rt, shared, &eager(0)).expect(rt, "a reply") {
         Some(Reply::Taken(Some(_))) => true,
         Some(_) => rt.panic("nothing was taken"),
         None => false,
     }
 }
 
-fn in_level_1<B: SessionName, R: Threads + Wait + Abort + Sync>(
+/// Brings each of five keys into a table of level 1 of its own. Then four of the tables go into a job each, and no slot is left for
+/// the fifth.
+pub fn go_by_policies<B: SessionName, R: Threads + Wait + Abort + Sync>(
     rt: &R,
     alloc: Global,
-    opened: Opened<MemDevice>,
-) -> Left
-    requires { opened ≡ B.id }
-{
-    let mut session = Session::<B>::begin(alloc, opened).expect(rt, "a session");
-    put_down(rt, alloc, &mut session);
-    session.end(rt)
-}
-
-// Four of the tables go into a job each, and no slot is left for the fifth.
-fn in_four_jobs<B: SessionName, R: Threads + Wait + Abort + Sync>(
-    rt: &R,
-    alloc: Global,
-    opened: Opened<MemDevice>,
-) -> Left
-    requires { opened ≡ B.id }
-{
-    let mut session = Session::<B>::begin(alloc, opened).expect(rt, "a session");
-    put_down(rt, alloc, &mut session);
-    for _ in 0..4 {
-        assert!(rt; takes(rt, &mut session, &eager(0)));
+    shared: &Shared<MemDevice, Global, B>,
+    clients: &mut [Client<Global, B>],
+) {
+    for (key, number) in [(0x61, 1), (0x62, 2), (0x63, 3), (0x64, 4), (0x65, 5)] {
+        let table = [
+            (0, Ask::Put(key), Told::Number(number)),
+            (0, Ask::Rotate, Told::Done),
+        ];
+        ask_all(rt, alloc, shared, clients, &table);
+        let me = clients.first_mut().expect(rt, "a client");
+        assert!(rt; works(rt, alloc, shared, me));
     }
-    assert!(rt; !takes(rt, &mut session, &eager(0)));
-    session.end(rt)
+    let me = clients.first_mut().expect(rt, "a client");
+    for slot in 0..5u32 {
+        assert!(rt; takes(rt, shared, me) == (slot < 4));
+    }
 }
 
 #[test]
 fn a_worker_takes_what_its_policy_advises(rt: HostRuntime) {
     let store = small(&rt, rt.alloc());
-    let opened = prepared(rt.alloc(), store, (2, 65_536)).expect(&rt, "a session");
-    let left = in_level_1::<Brand, _>(&rt, rt.alloc(), opened);
+    let left = lead(&rt, rt.alloc(), store, (2, 65_536), Deeds::ByPolicies);
     assert!(rt; matches!(left.store.stat(), Ok(stat) if stat.tables == 5 && stat.runs == 0));
-}
-
-#[test]
-fn nothing_is_taken_where_no_slot_is_free(rt: HostRuntime) {
-    let store = small(&rt, rt.alloc());
-    let opened = prepared(rt.alloc(), store, (2, 65_536)).expect(&rt, "a session");
-    let left = in_four_jobs::<Brand, _>(&rt, rt.alloc(), opened);
     assert!(rt; left.store.jobs().turn_at(3).is_some());
 }

@@ -18,17 +18,12 @@ fn tallied<R: Threads + Wait + Abort + Sync>(
     tally(rt, alloc, load).expect(rt, "memory for a tally")
 }
 
-// Nobody comes between what it gets and what it commits.
+// Nobody comes between what one client gets and what it commits. A commit that is accepted makes the guard of at most one try of each
+// other client false. So of four clients one try in four is accepted at least, in every schedule.
 #[test]
-fn one_client_is_accepted_each_time(rt: HostRuntime) {
+fn one_try_of_each_client_is_accepted(rt: HostRuntime) {
     let one = tallied(&rt, rt.alloc(), 1, 10);
     assert!(rt; one.count == 10 && one.accepted == 10);
-}
-
-// A commit that is accepted makes the guard of at most one try of each other client false. So of four clients one try in four is
-// accepted at least, in every schedule.
-#[test]
-fn one_try_in_four_is_accepted(rt: HostRuntime) {
     let four = tallied(&rt, rt.alloc(), 4, 100);
     assert!(rt; four.count == four.accepted && (100..=400).contains(&four.count));
 }

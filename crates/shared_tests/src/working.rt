@@ -1,45 +1,28 @@
-//! Turns of clients and results that they bring, on one thread.
+//! Results that two clients build of one input, one after the other and at the same time, and turns that look anew.
 
-ghost use Rattle.std.specs.Prelude.{◌≡◌};
 ghost use Rattle.std.specs.Arc.{arc_value};
 ghost use Rattle.lsm_shared.specs.Turns.{WasLent};
 
-use crate::setup::{Left, Session, prepared, small};
-use crate::turns::{Ask, Asked, Told, ask_all, play, put};
+use crate::asks::{Ask, Asked, Told, ask_all};
+use crate::parts::Part;
+use crate::sessions::{Deeds, lead};
+use crate::setup::small;
 use lsm_device::{MemDevice, Refusal};
 use lsm_lives::{Call, Reply, Step, Work};
 use lsm_merge::{Input, build};
 use lsm_shared::{Client, Shared, Turn};
-use lsm_trail::{Entry, Opened, SessionName, Trail};
+use lsm_trail::{Entry, SessionName, Trail};
 use std::alloc::Global;
-use std::marker::Brand;
 use std::process::Abort;
 use std::sync::{Arc, Wait};
 use std::thread::Threads;
 
-/// An input that a turn handed out.
+// An input that a turn handed out.
 #[derive(Drop)]
-pub struct Lent {
-    pub job: u64,
-    pub result: u64,
-    pub input: Arc<Input>,
-}
-
-/// Builds the result of an input in four parts, and brings it.
-pub fn bring<B: SessionName, R: Threads + Wait + Abort + Sync>(
-    rt: &R,
-    alloc: Global,
-    shared: &Shared<MemDevice, Global, B>,
-    me: &mut Client<Global, B>,
-    lent: Lent,
-)
-    requires { WasLent me.old.mine lent.job lent.result (arc_value lent.input) }
-{
-    let Lent { job, result, input } = lent;
-    let built = build(rt, alloc, input, 4).expect(rt, "a result");
-    let _reply = me
-        .bring(rt, shared, job, result, &built)
-        .expect(rt, "a reply");
+struct Lent {
+    job: u64,
+    result: u64,
+    input: Arc<Input>,
 }
 
 // A turn of a client that must be handed out an input.
@@ -56,25 +39,38 @@ fn borrow<B: SessionName, R: Wait + Abort>(
     }
 }
 
-// Puts a value as a client, who may still bring what it was lent.
-fn put_between<B: SessionName, R: Wait + Abort>(
+// Builds the result of an input in four parts, and brings it.
+fn bring<B: SessionName, R: Threads + Wait + Abort + Sync>(
     rt: &R,
     alloc: Global,
     shared: &Shared<MemDevice, Global, B>,
     me: &mut Client<Global, B>,
-    lent: &Lent,
+    lent: Lent,
 )
-    requires { WasLent me.old.mine lent.now.job lent.now.result (arc_value lent.now.input) }
-    ensures { WasLent me.new.mine lent.now.job lent.now.result (arc_value lent.now.input) }
+    requires { WasLent me.old.mine lent.job lent.result (arc_value lent.input) }
 {
-    let batch = put(alloc, b"\x62", b"\x32").expect(rt, "a batch");
+    let Lent { job, result, input } = lent;
+    let built = build(rt, alloc, input, 4).expect(rt, "a result");
     let _reply = me
-        .call(rt, shared, Call::Commit(batch))
+        .bring(rt, shared, job, result, &built)
         .expect(rt, "a reply");
 }
 
-// Both clients are handed out one input. The second puts a value, and then each brings a result.
-fn build_twice<B: SessionName, R: Threads + Wait + Abort + Sync>(
+const BEFORE: &[Asked] = &[
+    (0, Ask::Turn, Told::Idle),
+    (0, Ask::Put(0x61), Told::Number(1)),
+    (0, Ask::Rotate, Told::Done),
+    (0, Ask::Turn, Told::Did),
+];
+
+const BEHIND: &[Asked] = &[
+    (0, Ask::Turn, Told::Did),
+    (0, Ask::Turn, Told::Did),
+    (0, Ask::Turn, Told::Idle),
+];
+
+// Both clients are handed out one input, and then each brings a result.
+fn build_both<B: SessionName, R: Threads + Wait + Abort + Sync>(
     rt: &R,
     alloc: Global,
     shared: &Shared<MemDevice, Global, B>,
@@ -85,43 +81,27 @@ fn build_twice<B: SessionName, R: Threads + Wait + Abort + Sync>(
     let first = borrow(rt, shared, zero);
     let second = borrow(rt, shared, one);
     assert!(rt; (first.job, first.result) == (1, 1) && (second.job, second.result) == (1, 2));
-    put_between(rt, alloc, shared, one, &second);
     bring(rt, alloc, shared, zero, first);
     bring(rt, alloc, shared, one, second);
 }
 
-const BEFORE: &[Asked<'static>] = &[
-    (0, Ask::Turn, Ok(Told::Idle)),
-    (0, Ask::Put(b"\x61", b"\x31"), Ok(Told::Number(1))),
-    (0, Ask::Rotate, Ok(Told::Done)),
-    (0, Ask::Turn, Ok(Told::Did)),
-];
-
-const BEHIND: &[Asked<'static>] = &[
-    (0, Ask::Turn, Ok(Told::Did)),
-    (0, Ask::Turn, Ok(Told::Did)),
-    (0, Ask::Turn, Ok(Told::Idle)),
-];
-
-// Client 0 takes a flush, which both clients build, and ends it.
-fn in_turns<B: SessionName, R: Threads + Wait + Abort + Sync>(
+/// Client 0 takes a flush, which both clients build, and ends it.
+pub fn build_twice<B: SessionName, R: Threads + Wait + Abort + Sync>(
     rt: &R,
     alloc: Global,
-    opened: Opened<MemDevice>,
-) -> Left
-    requires { opened ≡ B.id }
-{
-    let mut session = Session::<B>::begin(alloc, opened).expect(rt, "a session");
-    ask_all(rt, alloc, &mut session, BEFORE);
-    build_twice(rt, alloc, &session.shared, &mut session.clients);
-    ask_all(rt, alloc, &mut session, BEHIND);
-    session.end(rt)
+    shared: &Shared<MemDevice, Global, B>,
+    clients: &mut [Client<Global, B>],
+) {
+    ask_all(rt, alloc, shared, clients, BEFORE);
+    build_both(rt, alloc, shared, clients);
+    ask_all(rt, alloc, shared, clients, BEHIND);
 }
 
 // Who made an entry, and what it is of, with its reply.
 fn told(entry: &Entry) -> (u32, &'static str) {
     let kind = match (entry.step(), entry.reply()) {
         (Step::Call(Call::Commit(_)), Reply::Number(_)) => "commit",
+        (Step::Call(Call::Sync), Reply::Done) => "sync",
         (Step::Call(Call::Rotate), Reply::Done) => "rotate",
         (Step::Work(Work::Take), Reply::Taken(Some(_))) => "take",
         (Step::Work(Work::Build { job: 1, parts: 4 }), Reply::Number(_)) => "build",
@@ -134,14 +114,14 @@ fn told(entry: &Entry) -> (u32, &'static str) {
     (entry.client(), kind)
 }
 
-// Whether a trail has just these entries.
-fn is_of(trail: &Trail, wanted: &[(u32, &'static str)]) -> bool {
-    let entries = trail.entries();
-    let mut all = entries.len() == wanted.len();
-    for (entry, wanted) in entries.iter().zip(wanted) {
+// Whether a trail has just these entries, also once it is made of them again.
+fn is_of(trail: Trail, wanted: &[(u32, &'static str)]) -> bool {
+    let mut all = trail.len() == wanted.len();
+    let trail = Trail::from_entries(trail.into_entries());
+    for (entry, wanted) in trail.entries().iter().zip(wanted) {
         all = all && told(entry) == *wanted;
     }
-    all
+    all && trail.len() == wanted.len()
 }
 
 const TWO_BUILDS: &[(u32, &str)] = &[
@@ -150,36 +130,71 @@ const TWO_BUILDS: &[(u32, &str)] = &[
     (0, "take"),
     (0, "build"),
     (1, "build"),
-    (1, "commit"),
     (0, "accept"),
     (1, "late"),
     (0, "write"),
     (0, "install"),
 ];
 
-/// What is left of a session of a small store, in which two clients did a flush.
-pub fn flushed<R: Threads + Wait + Abort + Sync>(rt: &R, alloc: Global) -> Left {
-    let opened = prepared(alloc, small(rt, alloc), (2, 64)).expect(rt, "a session");
-    in_turns::<Brand, _>(rt, alloc, opened)
-}
-
 #[test]
 fn two_clients_build_one_result(rt: HostRuntime) {
-    let left = flushed(&rt, rt.alloc());
-    assert!(rt; is_of(&left.trail, TWO_BUILDS));
-    assert!(rt; left.store.batch_count() == 2 && left.store.synced_count() == 2);
+    let store = small(&rt, rt.alloc());
+    let (store, trail) = lead(&rt, rt.alloc(), store, (2, 64), Deeds::BuildTwice).into_parts();
+    assert!(rt; is_of(trail, TWO_BUILDS));
+    assert!(rt; store.batch_count() == 1 && store.synced_count() == 1);
 }
 
-// Client 1 makes no call. It is idle, and takes a flush once client 0 has rotated.
-const ANEW: &[Asked<'static>] = &[
-    (1, Ask::Turn, Ok(Told::Idle)),
-    (0, Ask::Put(b"\x61", b"\x31"), Ok(Told::Number(1))),
-    (0, Ask::Rotate, Ok(Told::Done)),
-    (1, Ask::Turn, Ok(Told::Did)),
+// Client 1 makes no call. It reads the numbers of what client 0 did, and is idle until that has rotated.
+const ANEW: &[Asked] = &[
+    (1, Ask::Turn, Told::Idle),
+    (1, Ask::Watch, Told::Numbers(0, 0, 0)),
+    (0, Ask::Put(0x61), Told::Number(1)),
+    (1, Ask::Watch, Told::Numbers(1, 1, 0)),
+    (0, Ask::Sync, Told::Done),
+    (1, Ask::Watch, Told::Numbers(2, 1, 1)),
+    (0, Ask::Rotate, Told::Done),
+    (1, Ask::Turn, Told::Did),
 ];
 
 #[test]
-fn an_idle_client_looks_anew(rt: HostRuntime) {
-    let left = play(&rt, rt.alloc(), small(&rt, rt.alloc()), (2, 8), ANEW);
-    assert!(rt; is_of(&left.trail, &[(0, "commit"), (0, "rotate"), (1, "take")]));
+fn a_client_looks_anew(rt: HostRuntime) {
+    let store = small(&rt, rt.alloc());
+    let (_store, trail) = lead(&rt, rt.alloc(), store, (2, 8), Deeds::Asks(ANEW)).into_parts();
+    assert!(rt;
+        is_of(
+            trail,
+            &[(0, "commit"), (0, "sync"), (0, "rotate"), (1, "take")]
+        )
+    );
+}
+
+// How an accept in a trail was answered, if no other way than that it is done or comes too late: whether it is done.
+fn is_accepted(entry: &Entry) -> Option<bool> {
+    match (entry.step(), entry.reply()) {
+        (Step::Work(Work::Accept { .. }), Reply::Done) => Some(true),
+        (
+            Step::Work(Work::Accept { .. }),
+            Reply::Refused(Refusal::NoSuchJob | Refusal::WrongState | Refusal::ForeignResult),
+        ) => Some(false),
+        (Step::Work(Work::Accept { .. }), _) => None,
+        _ => Some(false),
+    }
+}
+
+// How many accepts of a trail are done, if all others came too late.
+fn accepted_in(trail: &Trail) -> Option<u32> {
+    let mut count = 0u32;
+    for entry in trail.entries() {
+        count = count.wrapping_add(u32::from(is_accepted(entry)?));
+    }
+    Some(count)
+}
+
+#[test]
+fn one_of_two_results_is_accepted(rt: HostRuntime) {
+    let store = small(&rt, rt.alloc());
+    let deeds = Deeds::AtOnce(BEFORE, Part::WorkAtOneSlot);
+    let left = lead(&rt, rt.alloc(), store, (5, 65_536), deeds);
+    assert!(rt; accepted_in(&left.trail) == Some(1));
+    assert!(rt; matches!(left.store.stat(), Ok(stat) if stat.tables == 1 && !stat.waiting));
 }

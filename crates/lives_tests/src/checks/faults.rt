@@ -1,47 +1,84 @@
 //! Reads that fail.
 
-use crate::checks::setup::{NUMBERS, left, left_old};
-use lsm_check::{Finding, check};
-use lsm_device::{MemDevice, Refusal};
+use crate::lives_from_format;
+use crate::setup::{LOG_SECTORS, SECTORS};
+use crate::steps::{Line, steps_of};
+use lsm_check::{Finding, Report, check};
+use lsm_device::{Device, MemDevice, Refusal};
+use lsm_lives::Life;
 use std::alloc::Global;
-use std::test::Fail;
+use std::process::Abort;
+use std::thread::Threads;
+
+/// The numbers of the image that `left` answers.
+const NUMBERS: Report = Report {
+    generation: 4,
+    batches: 2,
+    tables: 1,
+    entries: 1,
+    free_blocks: 955,
+};
 
 /// The reads of a check of the image: two superblocks and a sector of the manifest; footer, index and filter of the table; the
 /// batch in the log and the sector behind it; each sector of the three logs; and the data block.
 const READS: u64 = 3 + 3 * 8 + 2 + 3 * 128 + 8;
 
-/// Whether a check of which the read of this number fails finds the image sound, or tells that a read failed. It only reads.
-fn is_sound_but_for(alloc: Global, read: u64, device: &mut MemDevice) -> Result<bool, Fail> {
-    device.fail(read, false);
-    let found = check(alloc, device);
-    if device.writes() != 0 || device.syncs() != 0 {
-        return Err(Fail::from("a check writes nothing"));
-    }
-    match found {
-        Ok(report) if report == NUMBERS => Ok(true),
-        Err(Finding::Refused(Refusal::Io)) => Ok(false),
-        _ => Err(Fail::from("a sound image, or a read that failed")),
-    }
+/// The device that a life leaves in which a batch is flushed, and another stays in the log.
+fn left<R: Threads + Sync + Abort>(rt: &R, alloc: Global) -> MemDevice {
+    let lines = [
+        Line::Put(0x61, 0x31),
+        Line::Rotate,
+        Line::Take,
+        Line::End(1),
+        Line::Put(0x62, 0x32),
+        Line::Sync,
+    ];
+    let life = Life {
+        fuse: None,
+        steps: steps_of(rt, alloc, &lines),
+        mask: Vec::new(alloc),
+    };
+    let (_replies, device) = lives_from_format(rt, alloc, SECTORS, LOG_SECTORS, &[life]).expect(
+        rt, "a life",
+    );
+    device
 }
 
-/// How many reads of a check can fail, one in each check, until none does.
-fn failing_reads(alloc: Global, device: &mut MemDevice) -> Result<u64, Fail> {
+/// The device with both superblocks in version 1 of the format. The manifest is the same, since its only table has no delete.
+fn in_version_1<R: Abort>(rt: &R, device: MemDevice) -> MemDevice {
+    let mut device = device;
+    for at in 0..2u32 {
+        let mut sector = [0; 512];
+        assert!(rt; at < device.sectors());
+        device.read(at, &mut sector).expect(rt, "a superblock");
+        sector[5] = 1;
+        device.write(at, &sector).expect(rt, "a superblock");
+    }
+    device.sync().expect(rt, "a sync");
+    device.crash(&[])
+}
+
+/// How many reads of a check can fail, one in each check, until none does and it finds the image sound. Else it tells that a read
+/// failed. It only reads.
+fn failing_reads<R: Abort>(rt: &R, alloc: Global, device: &mut MemDevice) -> u64 {
     for read in 0..1_000u64 {
-        if is_sound_but_for(alloc, read, device)? {
-            return Ok(read);
+        device.fail(read, false);
+        let found = check(alloc, device);
+        assert!(rt; device.writes() == 0 && device.syncs() == 0);
+        match found {
+            Ok(report) if report == NUMBERS => return read,
+            Err(Finding::Refused(Refusal::Io)) => {}
+            _ => rt.panic("neither a sound image nor a read that failed"),
         }
     }
-    Err(Fail::from("a check without a failing read"))
+    rt.panic("a read fails in each check")
 }
 
 #[test]
-fn a_check_tells_each_read_that_fails(rt: HostRuntime) -> Result<(), Fail> {
-    let mut device = left(&rt, rt.alloc())?;
-    let failing = failing_reads(rt.alloc(), &mut device)?;
-    assert!(rt; failing == READS);
+fn a_check_tells_each_read_that_fails(rt: HostRuntime) {
+    let mut device = left(&rt, rt.alloc());
+    assert!(rt; failing_reads(&rt, rt.alloc(), &mut device) == READS);
     // In version 1 the data block is read once more, to count its deletes.
-    let mut old = left_old(&rt, rt.alloc())?;
-    let failing = failing_reads(rt.alloc(), &mut old)?;
-    assert!(rt; failing == READS + 8);
-    Ok(())
+    let mut old = in_version_1(&rt, left(&rt, rt.alloc()));
+    assert!(rt; failing_reads(&rt, rt.alloc(), &mut old) == READS + 8);
 }

@@ -1,0 +1,83 @@
+//! Steps that a table tells.
+
+use lsm_codec::{Batch, Op};
+use lsm_device::Refusal;
+use lsm_lives::{Call, Step, Work};
+use lsm_store::{At, Choice};
+use std::alloc::{Allocator, Global};
+use std::process::Abort;
+
+/// A step, or those of a whole job.
+#[derive(Clone, Copy)]
+pub enum Line {
+    /// A commit of one put of a key and a value of a byte each.
+    Put(u8, u8),
+    Delete(u8),
+    Get(u8),
+    Sync,
+    Snapshot,
+    Rotate,
+    /// The job that comes next is taken.
+    Take,
+    /// A job of so many of the oldest runs is taken.
+    TakeRuns(usize),
+    /// A job's data blocks are read.
+    Read(u64),
+    /// The result of a job is built, accepted, written and installed, where it has the number of the job.
+    End(u64),
+}
+
+/// A commit of one put.
+pub fn put<A: Allocator + Copy>(alloc: A, key: &[u8], value: &[u8]) -> Result<Step<A>, Refusal> {
+    let op = Op::put(alloc, key, value)?;
+    Ok(Step::Call(Call::Commit(Batch::new(alloc, op)?)))
+}
+
+fn delete(alloc: Global, key: &[u8]) -> Result<Step, Refusal> {
+    let op = Op::delete(alloc, key)?;
+    Ok(Step::Call(Call::Commit(Batch::new(alloc, op)?)))
+}
+
+/// The look-up of a key.
+pub fn get<A: Allocator>(alloc: A, key: &[u8]) -> Result<Step<A>, Refusal> {
+    Ok(Step::Call(Call::Get(At::Now, Vec::from_slice(alloc, key)?)))
+}
+
+// What ends a job.
+fn end(steps: &mut Vec<Step>, job: u64) -> Result<(), Refusal> {
+    for piece in [
+        Work::Build { job, parts: 1 },
+        Work::Accept { job, result: job },
+        Work::Write(job),
+        Work::Install(job),
+    ] {
+        steps.push(Step::Work(piece))?;
+    }
+    Ok(())
+}
+
+fn add(alloc: Global, steps: &mut Vec<Step>, line: Line) -> Result<(), Refusal> {
+    let step = match line {
+        Line::Put(key, value) => put(alloc, &[key], &[value])?,
+        Line::Delete(key) => delete(alloc, &[key])?,
+        Line::Get(key) => get(alloc, &[key])?,
+        Line::Sync => Step::Call(Call::Sync),
+        Line::Snapshot => Step::Call(Call::Snapshot),
+        Line::Rotate => Step::Call(Call::Rotate),
+        Line::Take => Step::Work(Work::Take),
+        Line::TakeRuns(count) => Step::Work(Work::TakeOf(Choice::OldestRuns { count })),
+        Line::Read(job) => Step::Work(Work::Read(job)),
+        Line::End(job) => return end(steps, job),
+    };
+    steps.push(step)?;
+    Ok(())
+}
+
+/// The steps of a table.
+pub fn steps_of<R: Abort>(rt: &R, alloc: Global, lines: &[Line]) -> Vec<Step> {
+    let mut steps = Vec::new(alloc);
+    for line in lines {
+        add(alloc, &mut steps, *line).expect(rt, "memory for a step");
+    }
+    steps
+}

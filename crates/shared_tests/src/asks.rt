@@ -1,0 +1,101 @@
+//! What clients of a session do one after another, in a table, each with what it must be told.
+
+use crate::setup::put;
+use lsm_device::MemDevice;
+use lsm_lives::{Call, Reply};
+use lsm_shared::{Client, Shared, Turn};
+use lsm_trail::SessionName;
+use std::alloc::Global;
+use std::process::Abort;
+use std::sync::Wait;
+
+/// What a client asks.
+#[derive(Clone, Copy)]
+pub enum Ask {
+    /// A commit of one put, of a key of one byte.
+    Put(u8),
+    Sync,
+    Rotate,
+    /// The next piece of work.
+    Turn,
+    /// The numbers of the history, without the lock.
+    Watch,
+}
+
+/// What it is told.
+#[derive(Clone, Copy, PartialEq, Eq)]
+pub enum Told {
+    Number(u64),
+    Done,
+    /// Its turn did a piece of work.
+    Did,
+    /// There is no work for it.
+    Idle,
+    /// Calls, batches, and synced batches.
+    Numbers(u64, u64, u64),
+    /// Anything else.
+    Other,
+}
+
+/// The number of a client, what it asks, and what it must be told.
+pub type Asked = (usize, Ask, Told);
+
+/// What a client is told of a call.
+pub fn call<B: SessionName, R: Wait>(
+    rt: &R,
+    shared: &Shared<MemDevice, Global, B>,
+    me: &mut Client<Global, B>,
+    call: Call,
+) -> Told {
+    match me.call(rt, shared, call) {
+        Ok(Reply::Number(number)) => Told::Number(number),
+        Ok(Reply::Done) => Told::Done,
+        _ => Told::Other,
+    }
+}
+
+// What it is told of a turn.
+fn turn<B: SessionName, R: Wait>(
+    rt: &R,
+    shared: &Shared<MemDevice, Global, B>,
+    me: &mut Client<Global, B>,
+) -> Told {
+    match me.turn(rt, shared) {
+        Ok(Turn::Idle) => Told::Idle,
+        Ok(Turn::Did(_)) => Told::Did,
+        _ => Told::Other,
+    }
+}
+
+// What it reads of the history.
+fn watch<B: SessionName>(
+    shared: &Shared<MemDevice, Global, B>,
+    me: &mut Client<Global, B>,
+) -> Told {
+    let numbers = me.watch(shared);
+    Told::Numbers(numbers.calls, numbers.batches, numbers.synced)
+}
+
+/// Has clients do what a table says.
+pub fn ask_all<B: SessionName, R: Wait + Abort>(
+    rt: &R,
+    alloc: Global,
+    shared: &Shared<MemDevice, Global, B>,
+    clients: &mut [Client<Global, B>],
+    table: &[Asked],
+) {
+    for (client, ask, wanted) in table {
+        let me = clients.get_mut(*client).expect(rt, "a client");
+        let told = match *ask {
+            Ask::Put(key) => {
+                let batch = put(alloc, &[key], b"\x31").expect(rt, "a batch");
+                call(rt, shared, me, Call::Commit(batch))
+            }
+            Ask::Sync => call(rt, shared, me, Call::Sync),
+            Ask::Rotate => call(rt, shared, me, Call::Rotate),
+            Ask::Turn => turn(rt, shared, me),
+            Ask::Watch => watch(shared, me),
+        };
+        assert!(rt; told == *wanted, "another answer");
+    }
+}
