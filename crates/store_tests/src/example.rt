@@ -1,13 +1,19 @@
 //! The whole caller of the library `store_example`.
 
 use lsm_device::MemDevice;
-use std::process::Abort;
+use std::alloc::Global;
+use std::test::Fail;
 use store_example::survive;
 
-/// A value that was put and synced is found after a crash.
+// Whether a value that was put and synced is found after a crash.
+fn survives(alloc: Global, key: &[u8], value: &[u8]) -> Result<bool, Fail> {
+    let device = MemDevice::new(alloc, 8_192)?;
+    let found = survive(alloc, device, key, value, &[false, true])?;
+    Ok(found.as_deref() == Some(value))
+}
+
 #[test]
-fn a_value_survives(rt: HostRuntime) {
-    let device = MemDevice::new(rt.alloc(), 8_192).expect(&rt, "a device");
-    let found = survive(rt.alloc(), device, b"key", b"value", &[false, true]);
-    assert!(rt; found.expect(&rt, "a value").as_deref() == Some(b"value"));
+fn a_value_survives(rt: HostRuntime) -> Result<(), Fail> {
+    assert!(rt; survives(rt.alloc(), b"key", b"value")?);
+    Ok(())
 }
