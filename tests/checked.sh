@@ -1,5 +1,6 @@
 #!/usr/bin/env bash
-# Looks what `lsmctl check` says of files: of those that the program left, and of some in which bytes were changed.
+# Looks what `lsmctl check` says of files: of those that the program left, and of some in which bytes were changed, of which an opening
+# says the same where it is refused.
 #
 #     tests/checked.sh PROGRAM
 #
