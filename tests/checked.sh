@@ -1,6 +1,6 @@
 #!/usr/bin/env bash
-# Looks what `lsmctl check` says of files: of those that the program left, and of some in which bytes were changed; and what a
-# get and a scan say where a block of them holds no entries.
+# Looks what `lsmctl check` says of files: of those that the program left, and of some in which bytes were changed, of which an opening
+# says the same where it is refused; and what a get and a scan say where a block of them holds no entries.
 #
 #     tests/checked.sh PROGRAM
 #
