@@ -1,4 +1,4 @@
-//! How many sectors are read for a look-up, and for a guard. A block has eight.
+//! How many sectors are read for a look-up, a page, and a guard. A block has eight.
 
 use crate::subject::{CACHE, Subject, begun, begun_with};
 use lsm_device::Refusal;
@@ -41,6 +41,24 @@ fn a_block_is_read_unless_the_cache_has_it(rt: HostRuntime) {
     ] {
         let reads = reads_of(&rt, rt.alloc(), cache, keys);
         assert!(rt; reads == wanted, "{cache}: {reads}");
+    }
+}
+
+/// Where a page begins, how many rows it may have, how many it has, and how many sectors are read for it. The key of the row that it
+/// leaves out may stand in the next block.
+const PAGES: [(&[u8], u64, (usize, u64)); 5] = [
+    (&[], 64, (3, 24)),
+    (&[0x62], 64, (2, 16)),
+    (&[0x61], 1, (1, 16)),
+    (&[0x65], 1, (1, 8)),
+    (&[0x65, 0x00], 64, (0, 0)),
+];
+
+#[test]
+fn a_page_reads_each_block_once(rt: HostRuntime) {
+    for (from, limit, wanted) in PAGES {
+        let page = with_three_blocks(&rt, rt.alloc(), 1).page(&rt, from, limit);
+        assert!(rt; page == wanted, "{from:?}: {page:?}");
     }
 }
 

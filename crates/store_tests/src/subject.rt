@@ -106,6 +106,16 @@ impl Subject {
         (first, self.store.reads().wrapping_sub(before))
     }
 
+    /// How many rows a page from a key on has, and how many sectors were read for it.
+    pub(crate) fn page<R: Abort>(&mut self, rt: &R, from: &[u8], limit: u64) -> (usize, u64) {
+        let before = self.store.reads();
+        let page = self
+            .store
+            .scan(At::Now, from, None, limit)
+            .expect(rt, "a page");
+        (page.rows().len(), self.store.reads().wrapping_sub(before))
+    }
+
     /// Closes the log, so that what was put waits for a flush.
     pub(crate) fn rotate<R: Abort>(&mut self, rt: &R) {
         self.store.rotate().expect(rt, "a rotation");
