@@ -92,20 +92,19 @@ fn keeps<R: Abort>(rt: &R, alloc: Global, batches: &[&[Operation]], wanted: &[u8
     is_lent && are(rt, alloc, sealed.versions(), wanted) && are_entries(rt, alloc, &entries, wanted)
 }
 
+/// Two puts of a key.
+const ONE: [&[Operation]; 2] = [&[(b"a", Some(b"1"))], &[(b"a", Some(b"2"))]];
+
+/// A put and a delete of it, one way and the other: the later operation of a batch counts.
+const TWICE: [&[Operation]; 2] = [
+    &[(b"a", Some(b"1")), (b"a", None)],
+    &[(b"a", None), (b"a", Some(b"2"))],
+];
+
 #[test]
 fn all_versions_come_by_key_and_the_newest_first(rt: HostRuntime) {
-    let one: [&[Operation]; 2] = [&[(b"a", Some(b"1"))], &[(b"a", Some(b"2"))]];
-    // The later operation of a batch counts.
-    let twice: [&[Operation]; 2] = [
-        &[(b"a", Some(b"1")), (b"a", None)],
-        &[(b"a", None), (b"a", Some(b"2"))],
-    ];
-    for (batches, wanted) in [
-        ([].as_slice(), b"".as_slice()),
-        (&one, b"a2=2 a1=1 "),
-        (&twice, b"a2=2 a1 "),
-        (&SEVERAL, b"a1=1 ab3= b2 b1=1 c1=1 "),
-    ] {
-        assert!(rt; keeps(&rt, rt.alloc(), batches, wanted));
-    }
+    let alloc = rt.alloc();
+    assert!(rt; keeps(&rt, alloc, &[], b"") && keeps(&rt, alloc, &ONE, b"a2=2 a1=1 "));
+    let several = b"a1=1 ab3= b2 b1=1 c1=1 ";
+    assert!(rt; keeps(&rt, alloc, &TWICE, b"a2=2 a1 ") && keeps(&rt, alloc, &SEVERAL, several));
 }

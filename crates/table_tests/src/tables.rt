@@ -28,7 +28,7 @@ fn image_of<R: Abort>(rt: &R, alloc: Global, keys: &[&[u8]], value: &[u8]) -> Im
 
 /// Whether a block of the image's extent under number 1 is that one.
 fn has_block(image: &Image, at: usize, text: &str) -> bool {
-    at < image.extent_blocks() && block_of(text).is_some_and(|wanted| wanted == image.block(1, at))
+    at < image.extent_blocks() && block_of(text) == Some(image.block(1, at))
 }
 
 const DATA_BLOCK: &str = "00010161000000000000000101000131";
