@@ -7,7 +7,7 @@ use crate::reads::{Asked, count_right, scan};
 use crate::settling::{USUAL, Upkeep, Written};
 use crate::sizes::{CACHE, Sizes};
 use crate::subject::Subject;
-use crate::workloads::{HUNDRED, SINGLE, Work, Workload};
+use crate::workloads::{HUNDRED, SINGLE, Way, Work, Workload};
 use lsm_device::{Device, Refusal};
 use std::alloc::Global;
 use std::rt::Clock;
@@ -184,9 +184,18 @@ fn fill<R: Clock + Threads + Wait + Sync, D: Device + Drop + Send>(
     Ok(measured)
 }
 
-/// Puts of a workload.
+/// How many puts a way of committing makes.
+fn count_of(sizes: Sizes, way: Way) -> u32 {
+    if way.synced && way.puts == 1 {
+        sizes.synced
+    } else {
+        sizes.keys
+    }
+}
+
+/// The puts of a workload.
 fn puts_of(sizes: Sizes, workload: Workload) -> Puts {
-    let mut puts = Puts {
+    let puts = Puts {
         way: SINGLE,
         count: sizes.keys,
         round: workload.round,
@@ -196,28 +205,31 @@ fn puts_of(sizes: Sizes, workload: Workload) -> Puts {
         thins: false,
     };
     match workload.work {
-        Work::Commit(way) => {
-            puts.way = way;
-            if way.synced && way.puts == 1 {
-                puts.count = sizes.synced;
-            }
-        }
-        Work::Load { rule, thins } => {
-            puts.way = HUNDRED;
-            puts.upkeep.rule = rule;
-            puts.fresh = true;
-            puts.is_whole = true;
-            puts.thins = thins;
-        }
-        Work::Keep { way, rule, fresh } => {
-            puts.way = way;
-            puts.upkeep = Upkeep { rule, parts: 1 };
-            puts.fresh = fresh;
-            puts.is_whole = true;
-        }
-        _ => puts.count = sizes.logged,
+        Work::Commit(way) => Puts {
+            way,
+            count: count_of(sizes, way),
+            ..puts
+        },
+        Work::Load { rule, thins } => Puts {
+            way: HUNDRED,
+            upkeep: Upkeep { rule, parts: 4 },
+            fresh: true,
+            is_whole: true,
+            thins,
+            ..puts
+        },
+        Work::Keep { way, rule, fresh } => Puts {
+            way,
+            upkeep: Upkeep { rule, parts: 1 },
+            fresh,
+            is_whole: true,
+            ..puts
+        },
+        _ => Puts {
+            count: sizes.logged,
+            ..puts
+        },
     }
-    puts
 }
 
 /// What so many clients do in a session of a workload.

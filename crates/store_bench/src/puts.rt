@@ -9,7 +9,6 @@ use lsm_codec::Batch;
 use lsm_device::{Device, Refusal};
 use lsm_store::Store;
 use std::alloc::Global;
-use std::ops::Range;
 use std::rt::Clock;
 use std::thread::Threads;
 
@@ -35,11 +34,11 @@ impl Puts {
         self.count / self.way.puts.max(1)
     }
 
-    /// The batches that the log of a place among these takes.
-    fn in_log(self, log: u32) -> Range<u32> {
+    /// The batches that the log of a place among these takes, from which on, and up to which.
+    fn in_log(self, log: u32) -> (u32, u32) {
         let first = log.wrapping_mul(self.way.in_log);
         let end = first.wrapping_add(self.way.in_log);
-        first..end.min(self.batches())
+        (first, end.min(self.batches()))
     }
 
     /// The number and the round of the value that guards the batch of a place, none where there is no guard. In memory it is that
@@ -80,7 +79,8 @@ fn fill_log<D: Device>(
     log: u32,
 ) -> Result<(), Refusal> {
     let count = puts.way.puts;
-    for place in puts.in_log(log) {
+    let (first, end) = puts.in_log(log);
+    for place in first..end {
         let batch = batch_of(alloc, place.wrapping_mul(count), count, puts.round)?;
         commit(alloc, store, puts.guard(place), &batch)?;
         if puts.way.synced {
@@ -90,7 +90,8 @@ fn fill_log<D: Device>(
     if !puts.thins || log == 0 {
         return Ok(());
     }
-    for place in puts.in_log(log - 1) {
+    let (first, end) = puts.in_log(log - 1);
+    for place in first..end {
         let batch = thinning_of(alloc, place.wrapping_mul(count), count)?;
         commit(alloc, store, None, &batch)?;
     }

@@ -98,6 +98,11 @@ fn calls_of(sizes: Sizes, work: Work, measured: Measured) -> Calls {
     Calls { calls, times }
 }
 
+/// The bytes of a block.
+fn sevens(alloc: Global) -> Result<Vec<u8>, Refusal> {
+    Ok(vec![in alloc; 7; BLOCK_BYTES as usize]?)
+}
+
 impl Raw {
     /// A new file of so many sectors, written as the file of a store is.
     pub(crate) fn create<R: Files<File = File>>(
@@ -106,8 +111,8 @@ impl Raw {
         path: &str,
         sectors: u32,
     ) -> Result<Raw, Refusal> {
+        let buffer = sevens(alloc)?;
         FileDevice::create(rt, path, sectors)?;
-        let buffer = vec![in alloc; 7; BLOCK_BYTES as usize]?;
         match OpenOptions::new().read(true).write(true).open(rt, path) {
             Ok(file) => Ok(Raw {
                 file,

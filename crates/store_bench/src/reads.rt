@@ -53,7 +53,7 @@ pub(crate) fn count_right<D: Device>(
 
 /// Whether a value is that of a key in a round, by its beginning and its end.
 fn is_value(value: &[u8], key: &[u8], round: u8) -> bool {
-    value.len() == 100 && value.starts_with(key) && value.last() == Some(&round)
+    value.len() == 100 && value.starts_with(key) && value[99] == round
 }
 
 /// Reads the page from a key on. It answers how many rows have the value of a round, and where the next page begins.

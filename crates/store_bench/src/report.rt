@@ -59,26 +59,32 @@ const COLUMN: u64 = 25;
 const COLUMNS: u64 = 100;
 
 fn figure_of(sample: &Sample, figure: Figure) -> u64 {
-    let measured = sample.measured;
-    let second = u64::from(measured.operations).wrapping_mul(1_000_000_000);
-    let put = u64::from(measured.wanted.wrapping_mul(ROW_BYTES));
-    let in_tables = u64::from(measured.written.blocks).wrapping_mul(u64::from(BLOCK_BYTES));
-    let beside = measured
-        .written
-        .logged
-        .wrapping_add(measured.written.in_roots);
-    let in_all = in_tables.wrapping_add(u64::from(beside).wrapping_mul(u64::from(SECTOR_BYTES)));
-    match figure {
-        Figure::Operations => u64::from(measured.operations),
-        Figure::StoreRate => second / measured.nanos.max(1),
-        Figure::RawRate => second / sample.raw.max(1),
-        Figure::Ratio => sample.raw.saturating_mul(1_000) / measured.nanos.max(1),
-        Figure::Aim => sample.aim,
-        Figure::Wait => measured.wait / 1_000,
-        Figure::Held => u64::from(measured.held),
-        Figure::InTables => in_tables.wrapping_mul(1_000) / put.max(1),
-        Figure::InAll => in_all.wrapping_mul(1_000) / put.max(1),
-    }
+    let Measured {
+        operations,
+        nanos,
+        wanted,
+        written,
+        held,
+        wait,
+        ..
+    } = sample.measured;
+    let second = u64::from(operations).wrapping_mul(1_000_000_000);
+    let put = u64::from(wanted.wrapping_mul(ROW_BYTES));
+    let in_tables = u64::from(written.blocks).wrapping_mul(1_000 * BLOCK_BYTES as u64);
+    let beside = u64::from(written.logged.wrapping_add(written.in_roots));
+    let in_all = in_tables.wrapping_add(beside.wrapping_mul(1_000 * SECTOR_BYTES as u64));
+    let (number, of) = match figure {
+        Figure::Operations => (u64::from(operations), 1),
+        Figure::StoreRate => (second, nanos),
+        Figure::RawRate => (second, sample.raw),
+        Figure::Ratio => (sample.raw.saturating_mul(1_000), nanos),
+        Figure::Aim => (sample.aim, 1),
+        Figure::Wait => (wait, 1_000),
+        Figure::Held => (u64::from(held), 1),
+        Figure::InTables => (in_tables, put),
+        Figure::InAll => (in_all, put),
+    };
+    number / of.max(1)
 }
 
 /// The middle one of some numbers, 0 where there is none.

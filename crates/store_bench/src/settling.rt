@@ -1,7 +1,7 @@
 //! A store is settled: its jobs are done, one after another, and its log is empty then.
 
 use lsm_device::{Device, Refusal};
-use lsm_levels::{Choice, Levels};
+use lsm_levels::{Choice, Levels, Run};
 use lsm_merge::build;
 use lsm_policy::Policy;
 use lsm_store::{Store, TakenJob};
@@ -69,23 +69,31 @@ impl Written {
     }
 }
 
-/// What is over its limit, of the least level: there the table of the least number.
+/// The table of the least number of a run, if it has more blocks than its limit.
+fn least_over(run: &Run, limit: u32) -> Option<Choice> {
+    let mut blocks = 0_u32;
+    let mut least = u64::MAX;
+    for table in run.tables() {
+        blocks = blocks.saturating_add(table.blocks());
+        least = least.min(table.number());
+    }
+    if blocks <= limit {
+        return None;
+    }
+    Some(Choice::Tables {
+        first: least,
+        last: least,
+    })
+}
+
+/// What is over its limit, of the least level.
 fn over_limit(levels: &Levels) -> Option<Choice> {
     if levels.runs().len() >= RUNS {
         return Some(Choice::OldestRuns { count: 1 });
     }
     for (level, limit) in LIMITS.iter().enumerate() {
-        let mut blocks = 0_u32;
-        let mut least = u64::MAX;
-        for table in levels.deeper().get(level)?.tables() {
-            blocks = blocks.saturating_add(table.blocks());
-            least = least.min(table.number());
-        }
-        if blocks > *limit {
-            return Some(Choice::Tables {
-                first: least,
-                last: least,
-            });
+        if let Some(choice) = least_over(levels.deeper().get(level)?, *limit) {
+            return Some(choice);
         }
     }
     None

@@ -57,11 +57,16 @@ impl<D: Device + Drop> Subject<D> {
         }
     }
 
-    /// Syncs the store, closes it, and gives its device.
-    fn closed(&mut self) -> Result<D, Refusal> {
-        if let Some(store) = &mut self.store {
-            store.sync()?;
+    /// Makes all batches outlast a crash.
+    fn sync(&mut self) -> Result<(), Refusal> {
+        match &mut self.store {
+            Some(store) => store.sync(),
+            None => Err(Refusal::Stopped),
         }
+    }
+
+    /// Closes the store, and gives its device.
+    fn closed(&mut self) -> Result<D, Refusal> {
         match self.store.take() {
             Some(store) => Ok(store.into_device()),
             None => Err(Refusal::Stopped),
@@ -75,13 +80,15 @@ impl<D: Device + Drop> Subject<D> {
         Ok(())
     }
 
-    /// Closes the store, and opens it again with an empty cache of so many blocks. It answers the nanoseconds of the opening.
+    /// Syncs the store, closes it, and opens it again with an empty cache of so many blocks. It answers the nanoseconds of the
+    /// opening.
     pub(crate) fn reopen<R: Clock>(
         &mut self,
         rt: &R,
         alloc: Global,
         cache: u32,
     ) -> Result<u64, Refusal> {
+        self.sync()?;
         let device = self.closed()?;
         let start = now(rt);
         self.store = Some(opened(alloc, device, cache)?);
@@ -90,6 +97,18 @@ impl<D: Device + Drop> Subject<D> {
 }
 
 impl<D: Device + Drop + Send> Subject<D> {
+    fn settle<R: Threads + Sync>(
+        &mut self,
+        rt: &R,
+        alloc: Global,
+        upkeep: Upkeep,
+    ) -> Result<(), Refusal> {
+        match &mut self.store {
+            Some(store) => settle(rt, alloc, store, upkeep, &mut Written::NOTHING),
+            None => Err(Refusal::Stopped),
+        }
+    }
+
     /// Settles the store, and lets clients share it. It answers what was measured of the session.
     pub(crate) fn share<R: Threads + Wait + Clock + Sync>(
         &mut self,
@@ -98,14 +117,14 @@ impl<D: Device + Drop + Send> Subject<D> {
         upkeep: Upkeep,
         task: Task,
     ) -> Result<Times, Refusal> {
-        if let Some(store) = &mut self.store {
-            settle(rt, alloc, store, upkeep, &mut Written::NOTHING)?;
+        self.settle(rt, alloc, upkeep)?;
+        match self.store.take() {
+            Some(store) => {
+                let (store, times) = shared_by(rt, alloc, store, task)?;
+                self.store = Some(store);
+                Ok(times)
+            }
+            None => Err(Refusal::Stopped),
         }
-        let Some(store) = self.store.take() else {
-            return Err(Refusal::Stopped);
-        };
-        let (store, times) = shared_by(rt, alloc, store, task)?;
-        self.store = Some(store);
-        Ok(times)
     }
 }
