@@ -5,15 +5,17 @@ ghost use Rattle.lsm_device.specs.Disk.{seen};
 ghost use Rattle.lsm_device.specs.Medium.{disk};
 ghost use Rattle.lsm_device.specs.Memory.{medium_in};
 ghost use Rattle.lsm_store.specs.Backing.{IsBacked};
-ghost use Rattle.shared_example.specs.Shares.{StandsForBoth, OutlastCrashes};
+ghost use Rattle.shared_example.specs.Shares.{IsShared, StandsForBoth, OutlastCrashes};
 
 use crate::client::batch_of;
 use crate::session::in_two_threads;
 use crate::working::in_three_threads;
+use lsm_codec::Batch;
 use lsm_device::{MemDevice, Refusal};
 use lsm_open::format;
 use lsm_shared::{prepare, trail_tells_what_a_crash_leaves};
 use lsm_store::{At, Store};
+use lsm_trail::{Opened, SessionName, Trail};
 use std::alloc::Global;
 use std::marker::Brand;
 use std::sync::Wait;
@@ -33,7 +35,25 @@ fn new_store(alloc: Global, device: MemDevice) -> Result<Store<MemDevice>, Refus
     }
 }
 
-// Lets two clients put a value each, and sync.
+// A session of two clients, or of two and a worker.
+fn in_threads<B: SessionName + Send + Sync, R: Threads + Wait + Sync>(
+    rt: &R,
+    alloc: Global,
+    opened: Opened<MemDevice>,
+    first: Batch,
+    second: Batch,
+) -> Result<(Store<MemDevice>, Trail), Refusal>
+    requires { opened ≡ B.id }
+    ensures { IfOk result (λ ended. IsShared opened.begin first second ended.0 ended.1) }
+{
+    match opened.clients() {
+        2 => in_two_threads::<B, R>(rt, alloc, opened, first, second),
+        3 => in_three_threads::<B, R>(rt, alloc, opened, first, second),
+        _ => Err(Refusal::TooManyClients),
+    }
+}
+
+// Lets two clients put a value each, and sync, in a session of so many clients.
 fn store_both<R: Threads + Wait + Sync>(
     rt: &R,
     alloc: Global,
@@ -42,6 +62,7 @@ fn store_both<R: Threads + Wait + Sync>(
     first_value: &[u8],
     second_key: &[u8],
     second_value: &[u8],
+    clients: u32,
 ) -> Result<Store<MemDevice>, Refusal>
     requires sectors { store.state.log_sectors ≡ 128 }
     requires backed { IsBacked store }
@@ -50,37 +71,11 @@ fn store_both<R: Threads + Wait + Sync>(
 {
     let one = batch_of(alloc, first_key, first_value)?;
     let two = batch_of(alloc, second_key, second_value)?;
-    let opened = match prepare(alloc, store, 2, 4) {
+    let opened = match prepare(alloc, store, clients, 1_024) {
         Ok(opened) => opened,
         Err((refusal, _)) => return Err(refusal),
     };
-    let (store, _) = in_two_threads::<Brand, R>(rt, alloc, opened, one, two)?;
-    trail_tells_what_a_crash_leaves();
-    Ok(store)
-}
-
-// The same beside a third one, which works on the jobs of the store.
-fn store_beside_a_worker<R: Threads + Wait + Sync>(
-    rt: &R,
-    alloc: Global,
-    store: Store<MemDevice>,
-    first_key: &[u8],
-    first_value: &[u8],
-    second_key: &[u8],
-    second_value: &[u8],
-) -> Result<Store<MemDevice>, Refusal>
-    requires sectors { store.state.log_sectors ≡ 128 }
-    requires backed { IsBacked store }
-    requires apart { first_key.now ≢ second_key.now }
-    ensures { IfOk result (λ ended. OutlastCrashes (first_key.now, first_value.now) (second_key.now, second_value.now) ended) }
-{
-    let one = batch_of(alloc, first_key, first_value)?;
-    let two = batch_of(alloc, second_key, second_value)?;
-    let opened = match prepare(alloc, store, 3, 1_024) {
-        Ok(opened) => opened,
-        Err((refusal, _)) => return Err(refusal),
-    };
-    let (store, _) = in_three_threads::<Brand, R>(rt, alloc, opened, one, two)?;
+    let (store, _) = in_threads::<Brand, R>(rt, alloc, opened, one, two)?;
     trail_tells_what_a_crash_leaves();
     Ok(store)
 }
@@ -143,6 +138,7 @@ pub fn share<R: Threads + Wait + Sync>(
         first_value,
         second_key,
         second_value,
+        2,
     )?;
     Ok(find_after_a_crash(alloc, store, first_key, second_key, keep)?)
 }
@@ -162,7 +158,7 @@ pub fn share_beside_a_worker<R: Threads + Wait + Sync>(
     ensures { IfOk result (λ found. (option_map (λ v. v.items) found.0 ≡ Some first_value.now) × (option_map (λ v. v.items) found.1 ≡ Some second_value.now)) }
 {
     let store = new_store(alloc, device)?;
-    let store = store_beside_a_worker(
+    let store = store_both(
         rt,
         alloc,
         store,
@@ -170,6 +166,7 @@ pub fn share_beside_a_worker<R: Threads + Wait + Sync>(
         first_value,
         second_key,
         second_value,
+        3,
     )?;
     Ok(find_after_a_crash(alloc, store, first_key, second_key, keep)?)
 }
