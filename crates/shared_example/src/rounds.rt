@@ -3,7 +3,6 @@
 ghost use Rattle.std.specs.Prelude.{◌≡◌};
 
 use crate::client::batch_of;
-use byteorder::{BigEndian, ByteOrder};
 use lsm_device::{MemDevice, Refusal};
 use lsm_lives::{Call, Reply};
 use lsm_shared::{Client, Shared, prepare};
@@ -24,9 +23,8 @@ struct Progress {
 
 // A key of a client.
 fn key_of(client: u8, number: u32) -> [u8; 5] {
-    let mut key = [client; 5];
-    BigEndian::write_u32(&mut key[1..], number);
-    key
+    let [a, b, c, d] = number.to_be_bytes();
+    [client, a, b, c, d]
 }
 
 // Puts the keys of a client from a number on, until all are put or the round is over. It tells which one comes next.
