@@ -20,7 +20,7 @@ pub fn device<R: Abort>(rt: &R, alloc: Global) -> MemDevice {
     let mut device = MemDevice::new(alloc, 64).expect(rt, "memory");
     for block in 0..4_u8 {
         for sector in 0..8_u8 {
-            let at = sector_of(block) + sector as u32;
+            let at = sector_of(block).wrapping_add(sector as u32);
             if at < device.sectors() {
                 let written = device.write(at, &[byte_of(block, sector as usize); 512]);
                 assert!(rt; written.is_ok());
@@ -38,7 +38,7 @@ pub fn reads_for<A: Allocator + Clone>(
 ) -> Option<u64> {
     let before = device.reads();
     let sector = sector_of(block);
-    if device.sectors() < sector + 8 {
+    if sector > 48 || device.sectors() < 64 {
         return None;
     }
     let mut bytes = [0; 4_096];

@@ -48,27 +48,27 @@ fn the_lowest_fit_is_taken(rt: HostRuntime) {
     assert!(rt; extents.free_blocks() == 0);
 }
 
+/// All memory that is left of a heap.
+fn rest_of(heap: &LocalHeap, bytes: usize) -> Option<Vec<u8, &LocalHeap>> {
+    Vec::with_capacity(heap, bytes.saturating_sub(heap.used())).ok()
+}
+
 /// Whether blocks before others that stay are given back without memory, and taken again.
-fn gives_back<R: Abort>(rt: &R, heap: &LocalHeap, bytes: usize) -> bool {
+fn gives_back(heap: &LocalHeap, bytes: usize) -> Result<bool, Refusal> {
     extent_laws();
     let mut extents = Extents::new(heap, 10);
     let stay = claims(&mut extents, 4, 4, true);
-    let first = extents.take(4).expect(rt, "memory");
-    let rest: Result<Vec<u8, &LocalHeap>, _> = Vec::with_capacity(
-        heap,
-        bytes.saturating_sub(heap.used()),
-    );
+    let first = extents.take(4)?;
+    let rest = rest_of(heap, bytes);
     extents.give(first);
-    stay && rest.is_ok()
-        && takes(&mut extents, 2, Some(0))
-        && takes(&mut extents, 3, None)
-        && extents.free_blocks() == 4
+    let again = takes(&mut extents, 2, Some(0)) && takes(&mut extents, 3, None);
+    Ok(stay && rest.is_some() && again && extents.free_blocks() == 4)
 }
 
 #[test]
 fn the_room_of_an_extent_is_used_again(rt: HostRuntime) {
     let heap = LocalHeap::new(rt.alloc(), 256).expect(&rt, "a heap");
-    assert!(rt; gives_back(&rt, &heap, 256));
+    assert!(rt; gives_back(&heap, 256) == Ok(true));
 }
 
 #[test]
