@@ -1,5 +1,6 @@
 #!/usr/bin/env bash
-# Looks what `lsmctl check` says of files: of those that the program left, and of some in which bytes were changed.
+# Looks what `lsmctl check` says of files: of those that the program left, and of some in which bytes were changed; and what a
+# get and a scan say where a block of them holds no entries.
 #
 #     tests/checked.sh PROGRAM
 #
@@ -132,6 +133,34 @@ cp two other && patch other 514 11 02
 checks 1 other 'finding Entries table 1'
 patch other 522 0 0000
 checks 1 other 'refused 24 BadTable'
+
+# A get or a scan is refused where a block that it comes to holds no entries, for the key of the next row too. What stands behind
+# the entries of a block is judged by a scan that goes past them, and not by a get. Three entries take a block each.
+says() {
+    local text=$1 wanted=0 status=0
+    shift
+    case $text in refused*) wanted=1 ;; esac
+    "$program" "$@" >output 2>errors || status=$?
+    [ "$status" -eq "$wanted" ] && [ "$(cat output errors)" = "$text" ] || fail "$* ended with $status: $(cat output errors)"
+}
+value=$(zeros_word)
+{
+    echo "commit +61=$value +62=$value +63=$value"
+    flush 1
+} | made blocks
+cp blocks other && patch other 514 0 0000
+says 'refused 24 BadTable' get other 61
+says "value $value" get other 62
+says 'refused 24 BadTable' scan other empty 1
+cp blocks other && patch other 522 0 0000
+says 'refused 24 BadTable' scan other empty 1
+says "63 $value"$'\nend' scan other 63 1
+cp blocks other && patch other 530 0 0000
+says "61 $value"$'\nnext 62' scan other empty 1
+says 'refused 24 BadTable' scan other empty 64
+cp blocks other && patch other 529 511 01
+says "value $value" get other 62
+says 'refused 24 BadTable' scan other empty 64
 
 # A sector of the first log is of an epoch that hasn't come yet.
 cp table other && patch other 130 11 09

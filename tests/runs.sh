@@ -364,8 +364,9 @@ no_space() {
     scripts <space
 }
 
-# What an accept refuses for want of room takes none. Of 85 blocks that are left, a flush with both versions of 58 keys wants 67
-# and 55, and finds room for the first table alone. The older versions were kept for a snapshot: without it the flush wants 61.
+# What an accept refuses for want of room takes none, and what a job took is free once it is dropped. Of 85 blocks that are left, a
+# flush with both versions of 58 keys wants 67 and 55, and finds room for the first table alone. The older versions were kept for a
+# snapshot: without it the flush wants 61, once, and again behind a job that took them.
 room_again() {
     {
         echo 'lives 8192 2048 | open 0'
@@ -377,9 +378,10 @@ room_again() {
         echo 'snapshot | snapshot 1'
         full_commits 8 2
         printf '%s\n' 'rotate | ok' 'take | job 2 flush' 'build 2 1 | built 2 images 2' 'accept 2 2 | refused 13 NoSpace' 'drop 2 | ok'
-        printf '%s\n' 'release 1 | ok' 'take | job 3 flush' 'build 3 1 | built 3 images 1' 'accept 3 3 | ok'
-        until_none_is_left 'write 3' 61
-        printf '%s\n' 'install 3 | ok' 'get 0000 | value 09{2048}' 'get 0090 | value 09{2048}'
+        printf '%s\n' 'release 1 | ok' 'take | job 3 flush' 'build 3 1 | built 3 images 1' 'accept 3 3 | ok' 'drop 3 | ok'
+        printf '%s\n' 'take | job 4 flush' 'build 4 1 | built 4 images 1' 'accept 4 4 | ok'
+        until_none_is_left 'write 4' 61
+        printf '%s\n' 'install 4 | ok' 'get 0000 | value 09{2048}' 'get 0090 | value 09{2048}'
     } >again
     scripts <again
 }
