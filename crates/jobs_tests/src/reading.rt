@@ -1,59 +1,40 @@
-//! Merges whose data blocks are read.
+//! A merge whose data blocks are read.
 
-use crate::merging::{entries, one_merge, write_block};
+use crate::subject::{By, Subject, gathered};
 use lsm_device::Refusal;
-use std::alloc::Global;
 use std::process::Abort;
-use std::test::Fail;
-use table_tests::input::images_of;
 
-/// What steps of job 1 answer, how many sectors each of them reads, and what a job that isn't there answers.
-fn is_read_in_two_steps(alloc: Global) -> Result<bool, Refusal> {
-    let mut subject = one_merge(alloc, 10)?;
-    let first = subject.read(1) == Ok(3) && subject.device.reads() == 64;
-    let second = subject.read(1) == Ok(0) && subject.device.reads() == 88;
-    let third = subject.read(1) == Err(Refusal::WrongState);
-    Ok(first && second && third && subject.read(2) == Err(Refusal::NoSuchJob))
+/// Whether a step is refused with Io where a read of it fails, after so many, and is made then: so many sectors are read, and so many
+/// blocks are left.
+fn goes_on_after(subject: &mut Subject, reads: u64, sectors: u64, left: usize) -> bool {
+    subject.fail_after(reads);
+    let is_refused = subject.read() == Err(Refusal::Io);
+    let before = subject.reads();
+    is_refused && subject.read() == Ok(left) && subject.reads().wrapping_sub(before) == sectors
 }
 
+/// Three runs and a table below them have fourteen blocks, of which a step reads eight, of eight sectors each.
 #[test]
-fn eight_blocks_are_read_a_step(rt: HostRuntime) -> Result<(), Fail> {
-    assert!(rt; is_read_in_two_steps(rt.alloc())?);
-    Ok(())
-}
-
-/// Whether a step is refused with Io where a read of it fails, after so many, and the next one goes on.
-fn goes_on_after(alloc: Global, reads: u64) -> Result<bool, Refusal> {
-    let mut subject = one_merge(alloc, 10)?;
-    subject.device.fail(reads, false);
-    Ok(subject.read(1) == Err(Refusal::Io) && subject.read(1) == Ok(3) && subject.read(1) == Ok(0))
-}
-
-#[test]
-fn a_read_that_fails(rt: HostRuntime) -> Result<(), Fail> {
-    for reads in [0, 7, 8, 63] {
-        assert!(rt; goes_on_after(rt.alloc(), reads)?, "{reads}");
+fn three_runs_are_read_in_two_steps(rt: HostRuntime) {
+    let input = gathered(&rt, rt.alloc());
+    for (first, second) in [(0, 0), (7, 8), (8, 24), (63, 47)] {
+        let mut subject = Subject::new(&rt, rt.alloc());
+        let is_read = goes_on_after(&mut subject, first, 64, 6)
+            && goes_on_after(&mut subject, second, 48, 0);
+        assert!(rt; is_read && subject.has_input(&input), "{first} {second}");
     }
-    Ok(())
 }
 
-/// Whether a step is refused with BadTable where a block is that of another place, or zeros, and goes on once it is not.
-fn is_bad(alloc: Global) -> Result<bool, Refusal> {
-    let mut subject = one_merge(alloc, 10)?;
-    let images = images_of(alloc, entries(&alloc, 0x10, 10)?)?;
-    let Some(image) = images.first() else {
-        return Err(Refusal::BadTable);
-    };
-    write_block(&mut subject.device, 1, &image.block(1, 0))?;
-    let out_of_order = subject.read(1) == Err(Refusal::BadTable);
-    write_block(&mut subject.device, 1, &[0; 4_096])?;
-    let zeros = subject.read(1) == Err(Refusal::BadTable);
-    write_block(&mut subject.device, 1, &image.block(1, 1))?;
-    Ok(out_of_order && zeros && subject.read(1) == Ok(3))
-}
-
+/// A block that is none, or the one before it again, is refused, and the job goes on once it is there.
 #[test]
-fn bad_blocks(rt: HostRuntime) -> Result<(), Fail> {
-    assert!(rt; is_bad(rt.alloc())?);
-    Ok(())
+fn bad_blocks(rt: HostRuntime) {
+    let mut subject = Subject::new(&rt, rt.alloc());
+    for (by, answer) in [
+        (By::Zeros, Err(Refusal::BadTable)),
+        (By::First, Err(Refusal::BadTable)),
+        (By::Itself, Ok(6)),
+    ] {
+        subject.spoil(&rt, by);
+        assert!(rt; subject.read() == answer);
+    }
 }

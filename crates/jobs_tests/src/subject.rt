@@ -1,88 +1,190 @@
-//! Jobs, and results of their merges.
+//! Tables on a device, and the job that merges them.
 
-ghost use Rattle.std.specs.Prelude.{◌≡◌, ◌∷◌, [], IfOk};
-ghost use Rattle.std.specs.Arc.{arc_value};
-ghost use Rattle.std.specs.List.{AllByRecursion};
-ghost use Rattle.lsm_codec.specs.Versions.{IsEntry};
+ghost use Rattle.std.specs.Prelude.{◌≡◌, ◌∷◌, []};
 
-use lsm_codec::{Batch, Op};
-use lsm_device::Refusal;
+use lsm_codec::Entry;
+use lsm_device::{Device, MemDevice, Refusal};
 use lsm_jobs::{Slots, TakenJob};
-use lsm_levels::Levels;
-use lsm_mem::{Mem, Sealed};
-use lsm_merge::{Built, build};
-use std::alloc::{AllocError, Allocator, Global};
-use std::sync::Arc;
-use std::thread::Threads;
+use lsm_levels::{Choice, Levels, PlacedTable, Run, is_run};
+use lsm_merge::Input;
+use lsm_table::Image;
+use merge_tests::input::input_of;
+use std::alloc::Global;
+use std::process::Abort;
+use table_tests::input::{entry, images_of};
+
+/// Where the blocks of tables begin.
+const AREA: u32 = 16;
+
+/// The number of a table, the first of its keys, which have one byte each, and how many they are.
+type Keys = (u32, u8, u8);
+
+/// The runs of level 0, the oldest first: three that overlap, and one that is left.
+const RUNS: [Keys; 4] = [(1, 0x10, 4), (2, 0x12, 3), (3, 0x11, 6), (4, 0x40, 1)];
+
+/// The table of level 1: it meets the three runs behind the end of the oldest.
+const LEVEL_1: Keys = (5, 0x15, 1);
+
+/// Pushes entries of batch 1 with values of 2,048 bytes, so that each fills a block. All bytes of the values are the first key.
+fn push_entries<R: Abort>(rt: &R, alloc: Global, made: &mut Vec<Entry>, (_, first, count): Keys) {
+    for i in 0..count {
+        let key = [first.wrapping_add(i)];
+        let entry = entry(alloc, &key, Some(&[first; 2_048])).expect(rt, "memory");
+        made.push(entry.expect(rt, "an entry")).expect(rt, "memory");
+    }
+}
+
+/// The entries of a table.
+fn entries<R: Abort>(rt: &R, alloc: Global, keys: Keys) -> Vec<Entry> {
+    let mut made = Vec::new(alloc);
+    push_entries(rt, alloc, &mut made, keys);
+    made
+}
+
+/// The image of a table, alone.
+fn images<R: Abort>(rt: &R, alloc: Global, keys: Keys) -> Vec<Image> {
+    images_of(alloc, entries(rt, alloc, keys)).expect(rt, "memory")
+}
+
+/// The first block of a table's extent: they lie ten blocks apart.
+fn first_block(number: u32) -> u32 {
+    number.wrapping_mul(10)
+}
+
+/// Writes a block to its place in the data area.
+fn write_block<R: Abort>(rt: &R, device: &mut MemDevice, place: u32, block: &[u8; 4_096]) {
+    let sector = place.wrapping_mul(8).wrapping_add(AREA);
+    assert!(rt; sector < 504 && device.sectors() == 512);
+    device.write_run(sector, block).expect(rt, "a write");
+}
+
+/// The run of a table, whose blocks are written.
+fn run_of<R: Abort>(rt: &R, alloc: Global, device: &mut MemDevice, keys: Keys) -> Run {
+    let number = keys.0;
+    let images = images(rt, alloc, keys);
+    let image = images.first().expect(rt, "an image");
+    let mut place = first_block(number);
+    for at in 0..image.extent_blocks() {
+        write_block(rt, device, place, &image.block(number as u64, at));
+        place = place.wrapping_add(1);
+    }
+    let table = PlacedTable::of_image(alloc, image, number as u64, first_block(number));
+    let mut tables = Vec::new(alloc);
+    tables
+        .push(table.expect(rt, "a table"))
+        .expect(rt, "memory");
+    assert!(rt; is_run(&tables));
+    Run::from_tables(tables)
+}
+
+/// The levels of the tables, which are written.
+fn levels<R: Abort>(rt: &R, alloc: Global, device: &mut MemDevice) -> Levels {
+    let mut levels = Levels::new(alloc).expect(rt, "levels");
+    for keys in RUNS {
+        let run = run_of(rt, alloc, device, keys);
+        assert!(rt; !run.tables().is_empty());
+        assert!(rt; levels.add_run(run).is_ok());
+    }
+    levels.set_level(1, run_of(rt, alloc, device, LEVEL_1));
+    levels
+}
 
 /// The count 1 as the only cut.
-pub(crate) fn one_cut<A: Allocator>(alloc: A) -> Result<Vec<u64, A>, AllocError>
-    ensures { IfOk result (λ cuts. cuts.items ≡ 1 ∷ []) }
+fn cuts<R: Abort>(rt: &R, alloc: Global) -> Vec<u64>
+    ensures { result.items ≡ 1 ∷ [] }
 {
     let mut cuts = Vec::new(alloc);
-    cuts.push(1)?;
-    Ok(cuts)
+    cuts.push(1).expect(rt, "memory");
+    cuts
 }
 
-/// What is told of a flush.
-pub(crate) fn flush(number: u64) -> TakenJob {
-    TakenJob {
-        number,
-        level: None,
-    }
+/// What a block is overwritten with.
+#[derive(Clone, Copy)]
+pub(crate) enum By {
+    First,
+    Itself,
+    Zeros,
 }
 
-/// What is told of a merge of the oldest run of level 0.
-pub(crate) fn merge(number: u64) -> TakenJob {
-    TakenJob {
-        number,
-        level: Some(0),
-    }
-}
-
-/// A batch of one put of the value 31.
-fn one_put<A: Allocator + Clone>(alloc: &A, key: u8) -> Result<Batch<A>, Refusal> {
-    Batch::new(alloc.clone()?, Op::put(alloc.clone()?, &[key], b"\x31")?)
-}
-
-/// Memory with that put as batch 1, sealed.
-pub(crate) fn sealed_put<A: Allocator + Clone>(
-    alloc: &A,
-    key: u8,
-) -> Result<Arc<Sealed<A>, A>, Refusal>
-    ensures { IfOk result (λ sealed. AllByRecursion IsEntry (arc_value sealed)) }
-{
-    let mut mem = Mem::new(alloc.clone()?)?;
-    mem.insert(&one_put(alloc, key)?, 1)?;
-    match mem.seal() {
-        Ok(sealed) => Ok(sealed),
-        Err(_mem) => Err(Refusal::NoMemory),
-    }
-}
-
-/// Slots with a flush of that put, as job 1.
-pub(crate) fn flushing<A: Allocator + Clone>(alloc: &A, key: u8) -> Result<Slots<A>, Refusal> {
-    let levels = Levels::new(alloc.clone()?)?;
-    let sealed = sealed_put(alloc, key)?;
-    let mut slots = Slots::new(alloc.clone()?)?;
-    match slots.take(
-        alloc,
-        &levels,
-        None,
-        Some(&sealed),
-        one_cut(alloc.clone()?)?,
-    )? {
-        Some(job) if job == flush(1) => Ok(slots),
-        _ => Err(Refusal::NoSuchJob),
-    }
-}
-
-/// The result of a job.
-pub(crate) fn built<R: Threads + Sync>(
-    rt: &R,
+/// A device, and the slots of a job that merges tables on it.
+#[derive(Drop)]
+pub(crate) struct Subject {
     alloc: Global,
-    slots: &Slots,
-    job: u64,
-) -> Result<Built, Refusal> {
-    build(rt, alloc, slots.input(job)?, 1)
+    device: MemDevice,
+    slots: Slots,
+}
+
+impl Subject {
+    /// Job 1 is chosen: a merge of the three oldest runs.
+    pub(crate) fn new<R: Abort>(rt: &R, alloc: Global) -> Subject {
+        let mut device = MemDevice::new(alloc, 512).expect(rt, "a device");
+        let mut slots = Slots::new(alloc).expect(rt, "slots");
+        let levels = levels(rt, alloc, &mut device);
+        let choice = Choice::OldestRuns { count: 3 };
+        let taken = slots.take(&alloc, &levels, Some(choice), None, cuts(rt, alloc));
+        let wanted = TakenJob {
+            number: 1,
+            level: Some(0),
+        };
+        assert!(rt; taken == Ok(Some(wanted)));
+        Subject {
+            alloc,
+            device,
+            slots,
+        }
+    }
+
+    /// Reads the next blocks of the job.
+    pub(crate) fn read(&mut self) -> Result<usize, Refusal> {
+        if !self.slots.can_be_read(1, self.device.sectors(), AREA) {
+            return Err(Refusal::BadGeometry);
+        }
+        self.slots.read(&self.alloc, 1, AREA, &mut self.device)
+    }
+
+    /// How many sectors have been read.
+    pub(crate) fn reads(&self) -> u64 {
+        self.device.reads()
+    }
+
+    /// The read that follows so many others fails.
+    pub(crate) fn fail_after(&mut self, reads: u64) {
+        self.device.fail(reads, false);
+    }
+
+    /// Writes to the second block that is read, the one behind the first of the newest run's table: that first block, the block
+    /// itself, or zeros.
+    pub(crate) fn spoil<R: Abort>(&mut self, rt: &R, by: By) {
+        let images = images(rt, self.alloc, RUNS[2]);
+        let image = images.first().expect(rt, "an image");
+        let block = match by {
+            By::First => image.block(3, 0),
+            By::Itself => image.block(3, 1),
+            By::Zeros => [0; 4_096],
+        };
+        write_block(rt, &mut self.device, first_block(3).wrapping_add(1), &block);
+    }
+
+    /// Whether the input of the job is this.
+    pub(crate) fn has_input(&self, input: &Input) -> bool {
+        match self.slots.input(1) {
+            Ok(own) => own.is_same(input),
+            Err(_) => false,
+        }
+    }
+}
+
+/// What the job gathers: each run, the newer first, and with the oldest the table behind it.
+pub(crate) fn gathered<R: Abort>(rt: &R, alloc: Global) -> Input {
+    let mut oldest = entries(rt, alloc, RUNS[0]);
+    push_entries(rt, alloc, &mut oldest, LEVEL_1);
+    let mut runs = Vec::new(alloc);
+    for run in [
+        entries(rt, alloc, RUNS[2]),
+        entries(rt, alloc, RUNS[1]),
+        oldest,
+    ] {
+        runs.push(run).expect(rt, "memory");
+    }
+    input_of(runs, cuts(rt, alloc), true).expect(rt, "an input")
 }

@@ -1,2 +1,0 @@
-mod Dropped
-mod Ended
