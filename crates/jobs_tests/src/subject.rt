@@ -1,5 +1,7 @@
 //! Tables on a device, and the job that merges them.
 
+ghost use Rattle.std.specs.Prelude.{◌≡◌, ◌∷◌, []};
+
 use lsm_codec::Entry;
 use lsm_device::{Device, MemDevice, Refusal};
 use lsm_jobs::{Slots, TakenJob};
@@ -27,9 +29,8 @@ const LEVEL_1: Keys = (5, 0x15, 1);
 fn push_entries<R: Abort>(rt: &R, alloc: Global, made: &mut Vec<Entry>, (_, first, count): Keys) {
     for i in 0..count {
         let key = [first.wrapping_add(i)];
-        let made_of = entry(alloc, &key, Some(&[first; 2_048])).expect(rt, "memory");
-        made.push(made_of.expect(rt, "an entry"))
-            .expect(rt, "memory");
+        let entry = entry(alloc, &key, Some(&[first; 2_048])).expect(rt, "memory");
+        made.push(entry.expect(rt, "an entry")).expect(rt, "memory");
     }
 }
 
@@ -62,9 +63,10 @@ fn run_of<R: Abort>(rt: &R, alloc: Global, device: &mut MemDevice, keys: Keys) -
     let number = keys.0;
     let images = images(rt, alloc, keys);
     let image = images.first().expect(rt, "an image");
+    let mut place = first_block(number);
     for at in 0..image.extent_blocks() {
-        let place = first_block(number).wrapping_add(at as u32);
         write_block(rt, device, place, &image.block(number as u64, at));
+        place = place.wrapping_add(1);
     }
     let table = PlacedTable::of_image(alloc, image, number as u64, first_block(number));
     let mut tables = Vec::new(alloc);
@@ -88,10 +90,20 @@ fn levels<R: Abort>(rt: &R, alloc: Global, device: &mut MemDevice) -> Levels {
 }
 
 /// The count 1 as the only cut.
-fn cuts<R: Abort>(rt: &R, alloc: Global) -> Vec<u64> {
+fn cuts<R: Abort>(rt: &R, alloc: Global) -> Vec<u64>
+    ensures { result.items ≡ 1 ∷ [] }
+{
     let mut cuts = Vec::new(alloc);
     cuts.push(1).expect(rt, "memory");
     cuts
+}
+
+/// What a block is overwritten with.
+#[derive(Clone, Copy)]
+pub(crate) enum By {
+    First,
+    Itself,
+    Zeros,
 }
 
 /// A device, and the slots of a job that merges tables on it.
@@ -160,14 +172,6 @@ impl Subject {
             Err(_) => false,
         }
     }
-}
-
-/// What a block is overwritten with.
-#[derive(Clone, Copy)]
-pub(crate) enum By {
-    First,
-    Itself,
-    Zeros,
 }
 
 /// What the job gathers: each run, the newer first, and with the oldest the table behind it.
