@@ -1,9 +1,9 @@
 //! Steps as values of a session or a replay, and what these reply.
 
-use crate::subject::{batch_of, told_page, value_of};
+use crate::subject::{batch_of, told_page, told_taken, value_of};
 use lsm_device::Refusal;
 use lsm_lives::{Call, Reply, Step as Asked, Work};
-use lsm_store::At;
+use lsm_store::{At, Choice};
 use plain_machine::{Answer, Change, Step};
 use std::alloc::Allocator;
 
@@ -51,6 +51,7 @@ pub fn call_of<A: Allocator + Clone>(alloc: &A, step: Step) -> Result<Call<A>, R
 fn work_of(step: Step, number: u64) -> Option<Work> {
     match step {
         Step::Take => Some(Work::Take),
+        Step::TakeRuns(count) => Some(Work::TakeOf(Choice::OldestRuns { count })),
         Step::Read(job) => Some(Work::Read(job)),
         Step::Build(job, parts) => Some(Work::Build {
             job,
@@ -101,8 +102,7 @@ pub fn told_call<A: Allocator>(reply: &Reply<A>) -> Answer {
         Reply::Value(None) => Answer::Found(None),
         Reply::Value(Some(value)) => Answer::Found(Some(value_of(value))),
         Reply::Page(page) => told_page(page),
-        Reply::Taken(None) => Answer::Taken(None),
-        Reply::Taken(Some(job)) => Answer::Taken(Some((job.number, job.level))),
+        Reply::Taken(taken) => told_taken(*taken),
         Reply::Built { tables, .. } => Answer::Built(*tables as usize),
         Reply::Refused(refusal) => Answer::Refused(*refusal),
     }

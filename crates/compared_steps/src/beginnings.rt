@@ -1,9 +1,10 @@
 //! Images that steps leave, to begin with.
 
 use crate::disk::{Disk, formatted};
+use crate::draws::Draws;
 use crate::image::Image;
 use crate::layout::spread;
-use crate::lists::{Line, steps_of};
+use crate::lists::{Line, drawn, steps_of};
 use crate::playing::{opened, play};
 use crate::trouble::Trouble;
 use plain_machine::{Answer, Change, LOG_SECTORS, Machine, Step};
@@ -62,6 +63,25 @@ pub fn begun<R: Threads + Sync>(
     Ok(Beginning { image, machine })
 }
 
+/// The image that lives of so many drawn steps each leave, one behind another, of which nothing is lost, and the machine that the next
+/// opening finds.
+pub fn lived<R: Threads + Sync>(
+    rt: &R,
+    alloc: Global,
+    draws: &mut Draws,
+    lives: &[u32],
+) -> Result<Beginning, Trouble> {
+    let mut machine = Machine::new(alloc);
+    let mut disk = formatted(alloc, LOG_SECTORS)?;
+    for length in lives {
+        let steps = drawn(alloc, draws, machine.reopened()?, *length)?;
+        disk = played(rt, alloc, disk, &mut machine, &steps)?;
+        machine = machine.reopened()?;
+    }
+    let image = Image::of(alloc, &mut disk)?;
+    Ok(Beginning { image, machine })
+}
+
 /// What a crash leaves behind some lines that end with a sync: of one batch more, of two sectors, the first.
 fn torn<R: Threads + Sync>(rt: &R, alloc: Global, past: &[Line]) -> Result<Beginning, Trouble> {
     let steps = steps_of(alloc, past)?;
@@ -70,7 +90,7 @@ fn torn<R: Threads + Sync>(rt: &R, alloc: Global, past: &[Line]) -> Result<Begin
     let mut subject = opened(&alloc, disk)?;
     play(rt, &mut subject, &mut machine, &steps)?;
     let batch = subject.answer_alone(Step::Commit(Change::Put(9, 9, 600)));
-    let mut disk = subject.into_disk().crashed([true, false]);
+    let mut disk = subject.into_disk().crashed(1);
     let image = Image::of(alloc, &mut disk)?;
     match batch {
         Answer::Number(_) => Ok(Beginning { image, machine }),

@@ -10,11 +10,14 @@ pub const SECTORS: u32 = 8_192;
 /// The most writes that pend.
 const PENDING: usize = 1_024;
 
-/// Of the pending writes the first, the third and so on, and the others.
-pub type Mask = [bool; 2];
+/// Of 64 pending writes one after another those that a crash keeps, and likewise of the next 64: the first by the lowest bit.
+pub type Mask = u64;
 
-/// The crashes that are tried.
-pub const MASKS: [Mask; 4] = [[false, false], [true, true], [true, false], [false, true]];
+/// Keeps the first pending write, the third and so on.
+const THIRDS: Mask = 0x5555_5555_5555_5555;
+
+/// The crashes that are tried: they keep none of the pending writes, all, the first, the third and so on, or the others.
+pub const MASKS: [Mask; 4] = [0, u64::MAX, THIRDS, !THIRDS];
 
 /// The crash of a number: each of the four in turn.
 pub fn mask_of(n: u64) -> Mask {
@@ -40,7 +43,7 @@ impl<B: Allocator> Drop for Disk<B> {
 }
 
 /// A device with an empty store.
-pub(crate) fn formatted(alloc: Global, log: u16) -> Result<Disk, Refusal> {
+pub fn formatted(alloc: Global, log: u16) -> Result<Disk, Refusal> {
     match format(alloc, MemDevice::new(alloc, SECTORS)?, log) {
         Ok(device) => Ok(Disk { device }),
         Err((refusal, _)) => Err(refusal),
@@ -93,6 +96,11 @@ impl<B: Allocator> Disk<B> {
         self.device.reads().wrapping_add(self.changes())
     }
 
+    /// Lets all writes and syncs fail behind so many.
+    pub fn fuse(&mut self, n: u64) {
+        self.device.fuse(n);
+    }
+
     /// Lets the call with this number fail, counted from 0.
     pub fn fail(&mut self, n: u64, kept: bool) {
         self.device.fail(n, kept);
@@ -100,10 +108,11 @@ impl<B: Allocator> Disk<B> {
 
     /// The device after a crash.
     pub fn crashed(self, mask: Mask) -> Disk<B> {
-        let [even, odd] = mask;
-        let mut keep = [even; PENDING];
-        for half in 0..512_usize {
-            keep[2 * half + 1] = odd;
+        let mut keep = [false; PENDING];
+        let mut left = mask;
+        for place in 0..PENDING {
+            keep[place] = left % 2 == 1;
+            left = left.rotate_right(1);
         }
         Disk {
             device: self.into_device().crash(&keep),

@@ -19,7 +19,7 @@ pub struct Image {
 
 impl Image {
     /// What reads on a device.
-    pub(crate) fn of(alloc: Global, disk: &mut Disk) -> Result<Image, Refusal> {
+    pub fn of(alloc: Global, disk: &mut Disk) -> Result<Image, Refusal> {
         let mut sectors = Vec::new(alloc);
         for at in 0..SECTORS {
             let mut bytes = [0; 512];
@@ -31,6 +31,20 @@ impl Image {
             }
         }
         Ok(Image { sectors })
+    }
+
+    /// One number of all that stands from a sector on.
+    pub fn sum_from(&self, first: u32) -> u64 {
+        let mut sum = 0_u64;
+        for sector in self.sectors.iter() {
+            if sector.at >= first {
+                sum ^= u64::from(sector.at);
+                for byte in sector.bytes {
+                    sum = (sum ^ u64::from(byte)).wrapping_mul(0x0000_0100_0000_01b3);
+                }
+            }
+        }
+        sum
     }
 
     fn put_on<B: Allocator>(&self, disk: &mut Disk<B>) -> bool {

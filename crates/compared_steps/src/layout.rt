@@ -5,7 +5,9 @@ use crate::image::Image;
 /// Where the areas of the manifests begin, those of even generations and those of odd ones.
 const MANIFESTS: [u32; 2] = [2, 66];
 
-/// In a superblock, where the generation stands.
+/// In a superblock, where the version of the format ends, and where the generation stands.
+const VERSION: usize = 5;
+
 const GENERATION: usize = 6;
 
 /// In a manifest, where the number of its log records stands, and of its runs of level 0, and of its tables.
@@ -21,6 +23,9 @@ const HEADER: usize = 32;
 const LOG_RECORD: usize = 17;
 
 const TABLE_RECORD: usize = 20;
+
+/// In version 1 of the format the record of a table lacks the deletes.
+const OLD_RECORD: usize = 18;
 
 /// In the record of a table, where its level stands, and its run.
 const LEVEL: usize = 8;
@@ -84,10 +89,15 @@ fn set(bytes: &mut [u8; 512], at: usize, byte: u8) {
     }
 }
 
+/// Where the records of tables begin in a manifest.
+fn first_record(bytes: &[u8; 512]) -> usize {
+    let logs = usize::from(byte_of(bytes, LOGS));
+    HEADER.wrapping_add(LOG_RECORD.wrapping_mul(logs))
+}
+
 /// Gives each table but the first the level of its place, in a manifest of one sector.
 fn spread_in(bytes: &mut [u8; 512]) {
-    let logs = usize::from(byte_of(bytes, LOGS));
-    let mut record = HEADER.wrapping_add(LOG_RECORD.wrapping_mul(logs));
+    let mut record = first_record(bytes);
     for place in 0..byte_of(bytes, TABLES) {
         set(bytes, record.wrapping_add(LEVEL), place);
         set(bytes, record.wrapping_add(RUN), 0);
@@ -102,6 +112,36 @@ pub(crate) fn spread(image: &mut Image) {
     for sector in image.sectors.iter_mut() {
         if sector.at == manifest {
             spread_in(&mut sector.bytes);
+        }
+    }
+}
+
+/// A manifest of one sector as version 1 has it.
+fn old_manifest(bytes: &[u8; 512]) -> [u8; 512] {
+    let first = first_record(bytes);
+    let records = usize::from(byte_of(bytes, TABLES));
+    let mut old = [0; 512];
+    for at in 0..512_usize {
+        let place = at.wrapping_sub(first);
+        if at < first {
+            old[at] = bytes[at];
+        } else if place / OLD_RECORD < records {
+            let record = TABLE_RECORD.wrapping_mul(place / OLD_RECORD);
+            let from = first.wrapping_add(record).wrapping_add(place % OLD_RECORD);
+            old[at] = byte_of(bytes, from);
+        }
+    }
+    old
+}
+
+/// Makes the image of a store, whose manifests have one sector, one of version 1.
+pub fn make_old(image: &mut Image) {
+    let [even, odd] = MANIFESTS;
+    for sector in image.sectors.iter_mut() {
+        if sector.at < even {
+            set(&mut sector.bytes, VERSION, 1);
+        } else if sector.at == even || sector.at == odd {
+            sector.bytes = old_manifest(&sector.bytes);
         }
     }
 }
@@ -141,11 +181,44 @@ pub fn record_in(image: &Image, place: usize) -> Option<Record> {
     let manifest = manifest_of(image);
     for sector in image.sectors.iter() {
         if sector.at == manifest && place < usize::from(byte_of(&sector.bytes, TABLES)) {
-            let logs = usize::from(byte_of(&sector.bytes, LOGS));
-            let first = HEADER.wrapping_add(LOG_RECORD.wrapping_mul(logs));
+            let first = first_record(&sector.bytes);
             let record = first.wrapping_add(TABLE_RECORD.wrapping_mul(place));
             return Some(record_of(manifest, &sector.bytes, record));
         }
     }
     None
+}
+
+/// What the manifest of an image tells: its tables, those of their entries that are deletes, and its logs.
+#[derive(Clone, Copy)]
+pub struct Numbers {
+    pub tables: u32,
+    pub deletes: u32,
+    pub logs: u32,
+}
+
+/// What a manifest of one sector tells.
+fn numbers_of(bytes: &[u8; 512]) -> Numbers {
+    let mut deletes = 0_u32;
+    let mut record = first_record(bytes);
+    for _ in 0..byte_of(bytes, TABLES) {
+        deletes = deletes.wrapping_add(field_of(bytes, record, DELETES + 1));
+        record = record.wrapping_add(TABLE_RECORD);
+    }
+    Numbers {
+        tables: byte_of(bytes, TABLES).into(),
+        deletes,
+        logs: byte_of(bytes, LOGS).into(),
+    }
+}
+
+/// What the manifest of an image tells, which has one sector.
+pub fn numbers_in(image: &Image) -> Numbers {
+    let manifest = manifest_of(image);
+    for sector in image.sectors.iter() {
+        if sector.at == manifest {
+            return numbers_of(&sector.bytes);
+        }
+    }
+    numbers_of(&[0; 512])
 }

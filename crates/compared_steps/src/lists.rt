@@ -3,7 +3,7 @@
 use crate::draws::Draws;
 use lsm_device::Refusal;
 use lsm_store::At;
-use plain_machine::{Change, Step};
+use plain_machine::{Change, Machine, Step};
 use std::alloc::Global;
 
 /// One or more steps, in a word.
@@ -75,47 +75,59 @@ pub fn steps_of(alloc: Global, lines: &[Line]) -> Result<Vec<Step>, Refusal> {
     Ok(steps)
 }
 
-/// The steps of a random list.
-const STEPS: u32 = 40;
-
+/// What a batch does: it deletes one in four keys, and of the lowest most.
 fn change(draws: &mut Draws) -> Change {
-    let key = draws.byte() % 24 + 1;
+    let key = draws.key();
     match draws.below(8) {
         0 | 1 => Change::Delete(key),
-        2 => Change::Both(key, draws.byte() % 24 + 1),
-        3 => Change::Put(key, draws.byte(), 700),
+        4..=6 if key < 20 => Change::Delete(key),
+        2 => Change::Both(key, draws.key()),
+        3 => Change::Put(key, draws.byte(), 1_400),
         _ => Change::Put(key, draws.byte(), 3),
     }
 }
 
-/// The present map, or that of one of the first snapshots.
-fn at(draws: &mut Draws) -> At {
-    match draws.below(4) {
-        0 => At::Snap(1),
-        1 => At::Snap(2),
+/// A live snapshot of the machine, or a number that may be none.
+fn snapshot(draws: &mut Draws, machine: &Machine) -> u64 {
+    let place = draws.below(6);
+    match machine.snapshot_at(place as usize) {
+        Some(number) => number,
+        None => place.into(),
+    }
+}
+
+/// The present map, or that of a snapshot.
+fn at(draws: &mut Draws, machine: &Machine) -> At {
+    match draws.below(2) {
+        0 => At::Snap(snapshot(draws, machine)),
         _ => At::Now,
     }
 }
 
-fn call(draws: &mut Draws) -> Step {
-    match draws.below(16) {
+fn call(draws: &mut Draws, machine: &Machine) -> Step {
+    match draws.below(20) {
         0 => Step::Sync,
         1 => Step::SyncTo(draws.below(12).into()),
         2 => Step::Snapshot,
-        3 => Step::Release(draws.below(3).into()),
-        4 | 5 => Step::Rotate,
-        6 => Step::Get(at(draws), draws.byte() % 24 + 1),
-        7 => Step::Scan(at(draws), draws.byte() % 24, draws.below(5).into()),
-        8 => Step::Stat,
+        3 | 4 => Step::Release(snapshot(draws, machine)),
+        5 => Step::Rotate,
+        6 | 7 => Step::Get(at(draws, machine), draws.key()),
+        8 => Step::Scan(
+            at(draws, machine),
+            draws.byte() % 64,
+            draws.below(66).into(),
+        ),
+        9 => Step::Stat,
         _ => Step::Commit(change(draws)),
     }
 }
 
 /// A piece of work on one of the first jobs, whether there is one or not.
 fn piece(draws: &mut Draws) -> Step {
-    let job = u64::from(draws.below(3)) + 1;
+    let job = u64::from(draws.below(6)) + 1;
     match draws.below(8) {
-        0 | 1 => Step::Take,
+        0 => Step::Take,
+        1 => Step::TakeRuns(draws.place(5)),
         2 => Step::Read(job),
         3 => Step::Build(job, 1),
         4 => Step::Accept(job),
@@ -125,20 +137,29 @@ fn piece(draws: &mut Draws) -> Step {
     }
 }
 
-/// A random list: calls and pieces as drawn, with two whole jobs among them.
-pub fn drawn(alloc: Global, seed: u64) -> Result<Vec<Step>, Refusal> {
-    let mut draws = Draws::new(seed);
+/// A step that a machine may be asked for: a call, a piece of work that comes next, or any other one.
+fn step(draws: &mut Draws, machine: &Machine) -> Step {
+    match (draws.below(16), machine.turn_of(draws.below(4))) {
+        (0, _) => piece(draws),
+        (1..=5, Some(Step::Build(job, _))) if draws.below(2) == 0 => Step::Accept(job),
+        (1..=5, Some(step)) => step,
+        _ => call(draws, machine),
+    }
+}
+
+/// So many random steps of a machine, which it has made then.
+pub fn drawn(
+    alloc: Global,
+    draws: &mut Draws,
+    machine: Machine,
+    count: u32,
+) -> Result<Vec<Step>, Refusal> {
+    let mut machine = machine;
     let mut steps = Vec::new(alloc);
-    for place in 0..STEPS {
-        if place == 14 {
-            push_job(&mut steps, 1)?;
-        } else if place == 30 {
-            push_job(&mut steps, 2)?;
-        } else if draws.below(3) == 0 {
-            steps.push(piece(&mut draws))?;
-        } else {
-            steps.push(call(&mut draws))?;
-        }
+    for _ in 0..count {
+        let step = step(draws, &machine);
+        let _answer = machine.answer(step);
+        steps.push(step)?;
     }
     Ok(steps)
 }

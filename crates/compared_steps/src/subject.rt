@@ -5,7 +5,7 @@ use lsm_codec::{Batch, Op};
 use lsm_device::{MemDevice, Refusal};
 use lsm_lives::{Reply, Step as Asked, replay};
 use lsm_merge::{Built, Input, build};
-use lsm_store::{At, Page, Store};
+use lsm_store::{At, Choice, Page, Store, TakenJob};
 use plain_machine::{Answer, Change, Operation, RowsTold, Step, Value, told};
 use std::alloc::{AllocError, Allocator, Global};
 use std::sync::Arc;
@@ -66,6 +66,13 @@ pub(crate) fn told_page<A: Allocator>(page: &Page<A>) -> Answer {
         rows.next = Some(only(key));
     }
     Answer::Rows(rows)
+}
+
+pub(crate) fn told_taken(taken: Option<TakenJob>) -> Answer {
+    match taken {
+        Some(job) => Answer::Taken(Some((job.number, job.level))),
+        None => Answer::Taken(None),
+    }
 }
 
 /// The bytes of a value.
@@ -179,11 +186,9 @@ impl<A: Allocator + Clone, B: Allocator> Subject<A, B> {
         Ok(Answer::Numbers(self.store.stat()?))
     }
 
-    fn take(&mut self) -> Result<Answer, Refusal> {
-        match self.store.job_take()? {
-            Some(job) => Ok(Answer::Taken(Some((job.number, job.level)))),
-            None => Ok(Answer::Taken(None)),
-        }
+    fn take_runs(&mut self, count: usize) -> Result<Answer, Refusal> {
+        let taken = self.store.job_take_of(Choice::OldestRuns { count })?;
+        Ok(told_taken(taken))
     }
 
     fn read(&mut self, job: u64) -> Result<Answer, Refusal> {
@@ -216,7 +221,8 @@ impl<A: Allocator + Clone, B: Allocator> Subject<A, B> {
     /// What a piece of work answers that builds nothing.
     fn worked(&mut self, step: Step) -> Result<Answer, Refusal> {
         match step {
-            Step::Take => self.take(),
+            Step::Take => Ok(told_taken(self.store.job_take()?)),
+            Step::TakeRuns(count) => self.take_runs(count),
             Step::Read(job) => self.read(job),
             Step::Accept(job) => self.accept(job),
             Step::Write(job) => self.write(job),

@@ -17,10 +17,10 @@ const MOST: u64 = 10_000;
 
 /// The call that fails, counted from 0, whether it stands where it is a write, and which crash follows.
 #[derive(Clone, Copy)]
-struct Fault {
-    n: u64,
-    kept: bool,
-    mask: Mask,
+pub(crate) struct Fault {
+    pub(crate) n: u64,
+    pub(crate) kept: bool,
+    pub(crate) mask: Mask,
 }
 
 /// How many calls the device had before, and whether one failed.
@@ -107,7 +107,7 @@ fn make<R: Threads + Sync>(
 }
 
 /// Makes all steps, and tells whether a call failed.
-fn make_all<R: Threads + Sync>(
+pub(crate) fn make_all<R: Threads + Sync>(
     rt: &R,
     subject: &mut Subject<Global>,
     machine: &mut Machine,

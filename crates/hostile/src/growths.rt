@@ -5,6 +5,7 @@ use crate::sweeps::Extent;
 use crate::tally::Tally;
 use compared_steps::beginnings::begun;
 use compared_steps::disk::mask_of;
+use compared_steps::draws::Draws;
 use compared_steps::lists::drawn;
 use compared_steps::playing::{crash, is_unchanged};
 use compared_steps::subject::Subject;
@@ -17,6 +18,9 @@ use std::thread::Threads;
 
 /// More growths than any list has.
 const MOST: u64 = 100_000;
+
+/// The steps of a random list.
+const STEPS: u32 = 52;
 
 /// An allocator of which one growth may be refused.
 type Heap<'h> = &'h Budget<Global>;
@@ -163,10 +167,12 @@ pub(crate) fn sweep_drawn<R: Threads + Sync>(
     extent: Extent,
     tally: &mut Tally,
 ) -> Result<(), Trouble> {
+    let beginning = begun(rt, alloc, &[])?;
+    let machine = beginning.machine.reopened()?;
     let attacked = Attacked {
-        beginning: begun(rt, alloc, &[])?,
+        beginning,
         before: Vec::new(alloc),
-        steps: drawn(alloc, seed)?,
+        steps: drawn(alloc, &mut Draws::new(seed), machine, STEPS)?,
     };
     attack_all(rt, alloc, &attacked, extent, tally)
 }

@@ -9,6 +9,8 @@ mod explorations;
 mod faults;
 mod foreign;
 mod growths;
+mod lives;
+mod old_images;
 mod openings;
 mod replays;
 mod scripts;
@@ -46,12 +48,15 @@ fn main(rt: HostRuntime) -> Result<ExitCode> {
         ("sessions", found.sessions),
         ("replays and explorations", found.replays),
         ("foreign images", found.images),
+        ("random lives", found.lives),
+        ("old images", found.old_images),
     ] {
         let Tally {
             cases,
             failed,
             refused,
             openings,
+            tables: _,
         } = tally;
         eprintln!(rt;
             "{sweep}: {cases} cases, {failed} calls failed, {refused} growths refused, {openings} openings"

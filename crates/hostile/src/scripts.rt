@@ -80,6 +80,20 @@ const MERGED: [Line; 6] = [
     Line::Scan(0, 64),
 ];
 
+/// The merge of the oldest three runs, and of those behind it there are too few for another.
+const THREE_MERGED: [Line; 10] = [
+    Line::One(Step::TakeRuns(3)),
+    Line::One(Step::Read(1)),
+    Line::Put(5),
+    Line::One(Step::Build(1, 2)),
+    Line::One(Step::Accept(1)),
+    Line::One(Step::Write(1)),
+    Line::One(Step::Install(1)),
+    Line::One(Step::TakeRuns(2)),
+    Line::One(Step::Stat),
+    Line::Scan(0, 64),
+];
+
 /// A flush and a merge side by side.
 const SIDE_BY_SIDE: [Line; 18] = [
     Line::Put(6),
@@ -196,7 +210,7 @@ const DELETES: [Line; 8] = [
 ];
 
 /// The lists.
-pub(crate) const LISTS: [List; 13] = [
+pub(crate) const LISTS: [List; 14] = [
     List {
         name: "a store with a torn batch",
         past: &BATCHES,
@@ -252,6 +266,14 @@ pub(crate) const LISTS: [List; 13] = [
         is_opened: false,
         before: &[],
         steps: &MERGED,
+    },
+    List {
+        name: "a merge of three runs",
+        past: &FOUR_RUNS,
+        after: After::Nothing,
+        is_opened: false,
+        before: &[],
+        steps: &THREE_MERGED,
     },
     List {
         name: "a merge beside a flush",

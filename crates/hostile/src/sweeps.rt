@@ -5,7 +5,9 @@ use crate::deeds::SITTINGS;
 use crate::explorations::TOURS;
 use crate::scripts::LISTS;
 use crate::tally::Tally;
-use crate::{explorations, faults, foreign, growths, openings, replays, sessions};
+use crate::{
+    explorations, faults, foreign, growths, lives, old_images, openings, replays, sessions,
+};
 use compared_steps::trouble::Trouble;
 use lsm_device::Refusal;
 use std::alloc::Global;
@@ -80,6 +82,10 @@ pub(crate) struct Found {
     pub(crate) sessions: Tally,
     pub(crate) replays: Tally,
     pub(crate) images: Tally,
+    pub(crate) lives: Tally,
+    pub(crate) old_images: Tally,
+    /// Whether there were old images of each kind.
+    has_each_kind: bool,
     pub(crate) differences: Vec<Difference>,
 }
 
@@ -92,6 +98,9 @@ impl Found {
             sessions: Tally::NONE,
             replays: Tally::NONE,
             images: Tally::NONE,
+            lives: Tally::NONE,
+            old_images: Tally::NONE,
+            has_each_kind: false,
             differences: Vec::new(alloc),
         }
     }
@@ -101,8 +110,10 @@ impl Found {
         let images = self.images.openings > 0 && self.images.openings < self.images.cases;
         let is_met = self.faults.failed > 0 && self.growths.refused > 0;
         let is_shared = self.sessions.failed > 0 && self.sessions.refused > 0;
-        if is_met && is_shared && self.replays.refused > 0 && images {
-            return "calls failed, growths were refused, images were refused and opened";
+        let lives = self.lives.failed > 0 && self.lives.tables > 0;
+        let are_drawn = lives && self.has_each_kind;
+        if is_met && is_shared && self.replays.refused > 0 && images && are_drawn {
+            return "calls failed, growths were refused, images were refused and opened, old ones too";
         }
         "a part of the sweeps"
     }
@@ -210,7 +221,34 @@ impl Found {
         self.note("images", "random", swept)
     }
 
-    /// The sweep at a place: those of the lists, and then five others.
+    fn live<R: Threads + Sync>(
+        &mut self,
+        rt: &R,
+        alloc: Global,
+        extent: Extent,
+    ) -> Result<(), Refusal> {
+        let stores = extent.part.wrapping_mul(2);
+        let swept = lives::sweep(rt, alloc, stores, &mut self.lives);
+        self.note("lives", "random", swept)
+    }
+
+    fn try_old<R: Threads + Sync>(
+        &mut self,
+        rt: &R,
+        alloc: Global,
+        extent: Extent,
+    ) -> Result<(), Refusal> {
+        let images = (extent.part / 25).max(1);
+        match old_images::sweep(rt, alloc, images, &mut self.old_images) {
+            Ok(has_each_kind) => {
+                self.has_each_kind = has_each_kind;
+                Ok(())
+            }
+            Err(trouble) => self.note("old images", "random", Err(trouble)),
+        }
+    }
+
+    /// The sweep at a place: those of the lists, and then seven others.
     fn sweep_at<R: Threads + Wait + Sync>(
         &mut self,
         rt: &R,
@@ -229,7 +267,9 @@ impl Found {
             1 => self.try_bytes(rt, alloc, extent),
             2 => self.try_drawn(rt, alloc, extent),
             3 => self.share(rt, alloc, extent),
-            _ => self.explore(rt, alloc, extent),
+            4 => self.explore(rt, alloc, extent),
+            5 => self.live(rt, alloc, extent),
+            _ => self.try_old(rt, alloc, extent),
         }
     }
 
@@ -244,7 +284,7 @@ impl Found {
         if let Some(place) = alone {
             return self.sweep_at(rt, alloc, place, extent);
         }
-        for place in 0..LISTS.len().wrapping_add(5) {
+        for place in 0..LISTS.len().wrapping_add(7) {
             self.sweep_at(rt, alloc, place, extent)?;
         }
         Ok(())

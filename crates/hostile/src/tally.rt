@@ -8,6 +8,8 @@ pub(crate) struct Tally {
     pub(crate) failed: u64,
     pub(crate) refused: u64,
     pub(crate) openings: u64,
+    /// How many images of drawn lives had tables.
+    pub(crate) tables: u64,
 }
 
 impl Tally {
@@ -16,6 +18,7 @@ impl Tally {
         failed: 0,
         refused: 0,
         openings: 0,
+        tables: 0,
     };
 
     pub(crate) fn count_case(&mut self) {
@@ -28,6 +31,10 @@ impl Tally {
 
     pub(crate) fn count_refused(&mut self, met: bool) {
         self.refused = self.refused.wrapping_add(met.into());
+    }
+
+    pub(crate) fn count_tables(&mut self, tables: usize) {
+        self.tables = self.tables.wrapping_add((tables > 0).into());
     }
 
     pub(crate) fn count_opening(&mut self) {

@@ -101,12 +101,15 @@ impl Batches {
         }
     }
 
-    pub(crate) fn copy(&self, alloc: Global) -> Result<Batches, Refusal> {
+    /// What a crash and an opening leave, where so many batches are kept.
+    pub(crate) fn kept(&self, alloc: Global, count: u64) -> Result<Batches, Refusal> {
+        let mut changes = Vec::from_slice(alloc, &self.changes)?;
+        changes.truncate(count as usize);
         Ok(Batches {
-            changes: Vec::from_slice(alloc, &self.changes)?,
-            synced: self.synced,
-            marks: Vec::from_slice(alloc, &self.marks)?,
-            next_mark: self.next_mark,
+            changes,
+            synced: count,
+            marks: Vec::new(alloc),
+            next_mark: 1,
         })
     }
 
@@ -131,14 +134,6 @@ impl Batches {
         self.synced = self.count();
     }
 
-    /// What a crash and an opening leave, where so many batches are kept.
-    pub(crate) fn keep(&mut self, count: u64) {
-        self.changes.truncate(count as usize);
-        self.synced = self.count();
-        self.marks.clear();
-        self.next_mark = 1;
-    }
-
     /// The map after so many batches.
     pub(crate) fn map(&self, count: u64) -> Map {
         let mut map = [None; 256];
@@ -158,6 +153,12 @@ impl Batches {
         self.marks.push(Mark { number, count })?;
         self.next_mark = number.wrapping_add(1);
         Ok(number)
+    }
+
+    /// The snapshot at a place among those that live.
+    pub(crate) fn live(&self, place: usize) -> Option<u64> {
+        let mark = self.marks.get(place)?;
+        Some(mark.number)
     }
 
     /// The place of a snapshot among those that live.

@@ -39,23 +39,22 @@ impl Input {
             && self.bottom == other.bottom
     }
 
-    /// Whether a version is the newest of its key at a count.
-    fn is_newest(&self, version: Version, cut: u64) -> bool {
-        if version.number > cut {
-            return false;
-        }
+    /// The batch of the next newer version of a key, if there is one.
+    fn hidden_by(&self, version: Version) -> u64 {
+        let mut least = u64::MAX;
         for other in self.versions.iter() {
-            if other.key == version.key && other.number > version.number && other.number <= cut {
-                return false;
+            if other.key == version.key && other.number > version.number {
+                least = least.min(other.number);
             }
         }
-        true
+        least
     }
 
-    /// Whether some cut wants a version.
+    /// Whether at some cut a version is the newest of its key.
     fn is_wanted(&self, version: Version) -> bool {
+        let hidden_by = self.hidden_by(version);
         for cut in self.cuts.iter() {
-            if self.is_newest(version, *cut) {
+            if version.number <= *cut && *cut < hidden_by {
                 return true;
             }
         }
@@ -75,8 +74,8 @@ impl Input {
 
     /// Whether a version is kept: in the lowest level a delete with nothing to hide is not.
     fn is_kept(&self, version: Version) -> bool {
-        let hides = version.value.is_some() || !self.bottom || self.has_older_put(version);
-        hides && self.is_wanted(version)
+        let hides = version.value.is_some() || !self.bottom;
+        self.is_wanted(version) && (hides || self.has_older_put(version))
     }
 
     /// The versions that a merge keeps, by key, and of a key the newest first.

@@ -74,9 +74,11 @@ impl Machine {
 
     /// The store that an opening finds where nothing was lost.
     pub fn reopened(&self) -> Result<Machine, Refusal> {
-        let count = self.batches.count();
-        let mut batches = self.batches.copy(self.alloc)?;
-        batches.keep(count);
+        self.left(self.batches.count())
+    }
+
+    /// The store that an opening finds behind a crash that kept so many batches, and the last root.
+    pub fn left(&self, count: u64) -> Result<Machine, Refusal> {
         let closed = self.closed_after(count);
         let first = count.wrapping_add(1);
         let log = if closed < REGIONS {
@@ -86,7 +88,7 @@ impl Machine {
         };
         Ok(Machine {
             alloc: self.alloc,
-            batches,
+            batches: self.batches.kept(self.alloc, count)?,
             working: self.working.reopened(self.alloc, count)?,
             log,
             closed,
@@ -228,7 +230,8 @@ impl Machine {
 
     fn work(&mut self, step: Step) -> Result<Answer, Refusal> {
         match step {
-            Step::Take => self.working.take(self.alloc, &self.batches),
+            Step::Take => self.working.take(self.alloc, &self.batches, None),
+            Step::TakeRuns(count) => self.working.take(self.alloc, &self.batches, Some(count)),
             Step::Read(job) => self.working.read(job),
             Step::Build(job, _) => self.working.build(self.alloc, job),
             Step::Accept(job) => self.working.accept(self.alloc, job),
@@ -286,6 +289,16 @@ impl Machine {
             }
         }
         None
+    }
+
+    /// Whether an opening that finds this generation tells that the last root is lost: a write or a sync of it met a fault.
+    pub fn has_lost_root(&self, generation: u64) -> bool {
+        self.stopped && generation == self.generation
+    }
+
+    /// The number of the snapshot at a place among those that live, if there is one.
+    pub fn snapshot_at(&self, place: usize) -> Option<u64> {
+        self.batches.live(place)
     }
 
     /// Whether a crash may leave so many batches: all that are synced, and no more than there are.

@@ -35,17 +35,6 @@ fn shared(alloc: Global, shares: &[Share], job: u64) -> Result<Vec<u64>, Refusal
     Ok(numbers)
 }
 
-/// The jobs but one.
-fn without(alloc: Global, jobs: &[Job], number: u64) -> Result<Vec<Job>, Refusal> {
-    let mut left = Vec::new(alloc);
-    for job in jobs {
-        if job.number != number {
-            left.push(*job)?;
-        }
-    }
-    Ok(left)
-}
-
 impl Working {
     fn job(&self, number: u64) -> Result<Job, Refusal> {
         for job in self.jobs.iter() {
@@ -63,6 +52,25 @@ impl Working {
                 *held = job;
             }
         }
+    }
+
+    /// A job is held no more.
+    fn end(&mut self, alloc: Global, number: u64) -> Result<(), Refusal> {
+        let mut jobs = Vec::new(alloc);
+        for job in self.jobs.iter() {
+            if job.number != number {
+                jobs.push(*job)?;
+            }
+        }
+        let mut taken_in = Vec::new(alloc);
+        for share in self.taken_in.iter() {
+            if share.job != number {
+                taken_in.push(*share)?;
+            }
+        }
+        self.jobs = jobs;
+        self.taken_in = taken_in;
+        Ok(())
     }
 
     pub(crate) fn read(&mut self, number: u64) -> Result<Answer, Refusal> {
@@ -172,6 +180,21 @@ impl Working {
         Ok(tables)
     }
 
+    /// The versions of these tables.
+    fn rows_after(&self, alloc: Global, job: Job) -> Result<Vec<Row>, Refusal> {
+        let mut rows = Vec::new(alloc);
+        for row in self.rows.iter() {
+            if !self.takes_in(job.number, row.owner) {
+                rows.push(*row)?;
+            }
+        }
+        if let Some(output) = job.output {
+            let kept = self.input(alloc, job)?.kept(alloc)?;
+            add_all(&mut rows, output.number, &kept)?;
+        }
+        Ok(rows)
+    }
+
     /// Puts a job's output in the place of what it took in. It tells whether it was a flush.
     pub(crate) fn install(&mut self, alloc: Global, number: u64) -> Result<bool, Refusal> {
         let job = self.job(number)?;
@@ -182,12 +205,9 @@ impl Working {
         if is_flush && self.runs() >= MOST_RUNS {
             return Err(Refusal::TooManyRuns);
         }
-        if let Some(output) = job.output {
-            let kept = self.input(alloc, job)?.kept(alloc)?;
-            add_all(&mut self.rows, output.number, &kept)?;
-        }
+        self.rows = self.rows_after(alloc, job)?;
         self.tables = self.tables_after(alloc, job)?;
-        self.jobs = without(alloc, &self.jobs, number)?;
+        self.end(alloc, number)?;
         if is_flush {
             self.base = self.sealed_to;
         }
@@ -196,7 +216,7 @@ impl Working {
 
     pub(crate) fn drop_job(&mut self, alloc: Global, number: u64) -> Result<Answer, Refusal> {
         let _dropped = self.job(number)?;
-        self.jobs = without(alloc, &self.jobs, number)?;
+        self.end(alloc, number)?;
         Ok(Answer::Done)
     }
 }

@@ -89,6 +89,8 @@ pub enum Step {
     Room,
     Stat,
     Take,
+    /// Takes the merge of so many of the oldest runs of level 0.
+    TakeRuns(usize),
     Read(u64),
     /// Builds a result of a job's input, in so many parts.
     Build(u64, u8),

@@ -40,6 +40,35 @@ pub(crate) struct Table {
     pub(crate) is_mostly_deletes: bool,
 }
 
+/// What a merge takes in of a level: the tables from one number to another, and the range of their keys.
+#[derive(Clone, Copy)]
+pub(crate) struct Upper {
+    pub(crate) level: usize,
+    first: u64,
+    last: u64,
+    hull: Hull,
+}
+
+impl Upper {
+    /// With a table of a greater number, of the same level.
+    pub(crate) fn and(self, next: Table) -> Upper {
+        Upper {
+            level: self.level,
+            first: self.first,
+            last: next.number,
+            hull: self.hull.and(next.hull),
+        }
+    }
+
+    /// Whether the merge takes in a table: one of these, or one of the next level that has a key between theirs.
+    pub(crate) fn takes_in(self, table: Table) -> bool {
+        if table.level == self.level {
+            return self.first <= table.number && table.number <= self.last;
+        }
+        table.level == self.level.wrapping_add(1) && table.hull.meets(self.hull)
+    }
+}
+
 /// The data blocks of a table of versions: each version goes into the block that is begun if it fits, else into the next.
 fn data_blocks(versions: &[Version]) -> u64 {
     let mut blocks = 0_u64;
@@ -93,9 +122,14 @@ impl Table {
         self.data_blocks.wrapping_add(3)
     }
 
-    /// Whether a merge of it takes in a table of the next level.
-    pub(crate) fn takes_in(self, lower: Table) -> bool {
-        lower.level == self.level.wrapping_add(1) && lower.hull.meets(self.hull)
+    /// It alone as what a merge takes in of its level.
+    pub(crate) fn alone(self) -> Upper {
+        Upper {
+            level: self.level,
+            first: self.number,
+            last: self.number,
+            hull: self.hull,
+        }
     }
 
     /// Whether it is numbered below another, if there is one.

@@ -3,7 +3,7 @@
 use crate::batches::Batches;
 use crate::keeping::{Input, Version, versions_of};
 use crate::step::Answer;
-use crate::table::{Hull, Table};
+use crate::table::{Hull, Table, Upper};
 use lsm_device::Refusal;
 use std::alloc::Global;
 
@@ -34,11 +34,11 @@ pub(crate) struct Job {
     pub(crate) output: Option<Table>,
 }
 
-/// The job that comes next: a flush, or the merge of a table and those of the next level that it meets.
+/// The job that is taken: a flush, or the merge of some tables and those of the next level that they meet.
 #[derive(Clone, Copy)]
 enum Next {
     Flush,
-    Merge(Table),
+    Merge(Upper),
 }
 
 /// A version of a table or of what a job takes in.
@@ -216,34 +216,40 @@ impl Working {
         true
     }
 
-    /// Whether a table and those that a merge of it takes in are free.
-    fn can_merge(&self, upper: Table) -> bool {
-        for lower in self.tables.iter() {
-            if upper.takes_in(*lower) && !self.is_free(lower.number) {
+    /// Whether no job takes in a table that a merge takes in.
+    fn can_merge(&self, upper: Upper) -> bool {
+        for table in self.tables.iter() {
+            if upper.takes_in(*table) && !self.is_free(table.number) {
                 return false;
             }
         }
-        self.is_free(upper.number)
+        true
     }
 
-    /// The oldest run of level 0: flushes are installed in their order.
-    fn oldest_run(&self) -> Option<Table> {
+    /// So many of the oldest runs of level 0, if there are as many: flushes are installed in their order.
+    fn oldest(&self, count: usize) -> Option<Upper> {
+        let mut oldest: Option<Upper> = None;
+        let mut found = 0_usize;
         for table in self.tables.iter() {
-            if table.level == 0 {
-                return Some(*table);
+            if table.level == 0 && found < count {
+                oldest = match oldest {
+                    Some(upper) => Some(upper.and(*table)),
+                    None => Some(table.alone()),
+                };
+                found = found.wrapping_add(1);
             }
         }
-        None
+        if found < count { None } else { oldest }
     }
 
-    /// The run that a merge of level 0 takes in, where one comes next.
-    fn next_of_runs(&self) -> Option<Table> {
-        if self.runs() < MERGED_RUNS || self.holds(Some(0)) {
+    /// The merge of so many of the oldest runs, if it can be taken.
+    fn merge_of_runs(&self, count: usize) -> Option<Next> {
+        if self.jobs.len() >= MOST_JOBS || self.holds(Some(0)) {
             return None;
         }
-        let oldest = self.oldest_run()?;
-        if self.can_merge(oldest) {
-            return Some(oldest);
+        let upper = self.oldest(count)?;
+        if self.can_merge(upper) {
+            return Some(Next::Merge(upper));
         }
         None
     }
@@ -253,21 +259,23 @@ impl Working {
         let mut least = None;
         for table in self.tables.iter() {
             let is_wanted = table.level == level && table.is_mostly_deletes;
-            if is_wanted && self.can_merge(*table) && table.is_less(least) {
+            if is_wanted && self.can_merge(table.alone()) && table.is_less(least) {
                 least = Some(*table);
             }
         }
         least
     }
 
-    /// The upper table of the merge that comes next. With so few blocks no level is over its limit.
-    fn next_merge(&self) -> Option<Table> {
-        if let Some(oldest) = self.next_of_runs() {
-            return Some(oldest);
+    /// The merge that comes next. With so few blocks no level is over its limit.
+    fn next_merge(&self) -> Option<Next> {
+        if self.runs() >= MERGED_RUNS {
+            if let Some(next) = self.merge_of_runs(1) {
+                return Some(next);
+            }
         }
         for level in 1..4_usize {
             if let Some(table) = self.next_of_deletes(level) {
-                return Some(table);
+                return Some(Next::Merge(table.alone()));
             }
         }
         None
@@ -288,6 +296,7 @@ impl Working {
         self.next().is_some()
     }
 
+    /// The job that comes next.
     fn next(&self) -> Option<Next> {
         if self.jobs.len() >= MOST_JOBS {
             return None;
@@ -295,16 +304,15 @@ impl Working {
         if self.base < self.sealed_to && !self.holds(None) {
             return Some(Next::Flush);
         }
-        let upper = self.next_merge()?;
-        Some(Next::Merge(upper))
+        self.next_merge()
     }
 
     /// The job of the next number takes in the tables of a merge. It answers the range of their keys, and their data blocks.
-    fn gather(&mut self, upper: Table) -> Result<(Hull, u64), Refusal> {
+    fn gather(&mut self, upper: Upper) -> Result<(Hull, u64), Refusal> {
         let mut hull = Hull::EMPTY;
         let mut blocks = 0_u64;
         for table in self.tables.iter() {
-            if table.number == upper.number || upper.takes_in(*table) {
+            if upper.takes_in(*table) {
                 self.taken_in.push(Share {
                     job: self.next_job,
                     number: table.number,
@@ -337,7 +345,7 @@ impl Working {
         true
     }
 
-    fn merge(&mut self, alloc: Global, upper: Table) -> Result<Job, Refusal> {
+    fn merge(&mut self, alloc: Global, upper: Upper) -> Result<Job, Refusal> {
         let (hull, blocks) = self.gather(upper)?;
         let versions = self.gathered(alloc)?;
         add_all(&mut self.inputs, self.next_job, &versions)?;
@@ -375,9 +383,18 @@ impl Working {
         Ok(())
     }
 
-    /// Takes the job that comes next, if one does.
-    pub(crate) fn take(&mut self, alloc: Global, batches: &Batches) -> Result<Answer, Refusal> {
-        let Some(next) = self.next() else {
+    /// Takes the job that comes next, or the merge of so many of the oldest runs, if there is one.
+    pub(crate) fn take(
+        &mut self,
+        alloc: Global,
+        batches: &Batches,
+        runs: Option<usize>,
+    ) -> Result<Answer, Refusal> {
+        let taken = match runs {
+            Some(count) => self.merge_of_runs(count),
+            None => self.next(),
+        };
+        let Some(next) = taken else {
             return Ok(Answer::Taken(None));
         };
         let job = match next {
