@@ -2,8 +2,9 @@
 
 use crate::asks::{Ask, Asked, Told};
 use crate::sessions::{Deeds, lead};
-use crate::setup::{prepared, put, small};
+use crate::setup::{put, small};
 use lsm_device::{MemDevice, Refusal};
+use lsm_shared::prepare;
 use lsm_store::Store;
 use shared_example::{in_three_threads, put_in_rounds, share, share_beside_a_worker};
 use std::alloc::Global;
@@ -47,7 +48,10 @@ fn shared_with_a_worker<R: Threads + Wait + Abort + Sync>(
     let two = put(alloc, b"two", b"2").expect(rt, "a batch");
     let left = lead(rt, alloc, small(rt, alloc), (1, 2), Deeds::Asks(WAITING));
     let (store, _) = left.into_parts();
-    let opened = prepared(rt, alloc, store, (3, 64));
+    let opened = match prepare(alloc, store, 3, 64) {
+        Ok(opened) => opened,
+        Err((refusal, _)) => rt.panic(refusal.name()),
+    };
     match in_three_threads::<Brand, _>(rt, alloc, opened, one, two) {
         Ok((store, _)) => store,
         Err(refusal) => rt.panic(refusal.name()),
