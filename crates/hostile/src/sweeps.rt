@@ -238,7 +238,7 @@ impl Found {
         alloc: Global,
         extent: Extent,
     ) -> Result<(), Refusal> {
-        let images = (extent.part / 25).max(1);
+        let images = (extent.part / 60).max(1);
         match old_images::sweep(rt, alloc, images, &mut self.old_images) {
             Ok(has_each_kind) => {
                 self.has_each_kind = has_each_kind;
