@@ -1,7 +1,7 @@
 //! What clients of a session do one after another, in a table, each with what it must be told.
 
 use crate::setup::put;
-use lsm_device::MemDevice;
+use lsm_device::{MemDevice, Refusal};
 use lsm_lives::{Call, Reply};
 use lsm_shared::{Client, Shared, Turn};
 use lsm_trail::SessionName;
@@ -16,6 +16,8 @@ pub enum Ask {
     Put(u8),
     Sync,
     Rotate,
+    /// A release of the snapshot of a number.
+    Release(u64),
     /// The next piece of work.
     Turn,
     /// The numbers of the history, without the lock.
@@ -33,6 +35,8 @@ pub enum Told {
     Idle,
     /// Calls, batches, and synced batches.
     Numbers(u64, u64, u64),
+    /// A call was not made.
+    Refused(Refusal),
     /// Anything else.
     Other,
 }
@@ -50,7 +54,8 @@ pub fn call<B: SessionName, R: Wait>(
     match me.call(rt, shared, call) {
         Ok(Reply::Number(number)) => Told::Number(number),
         Ok(Reply::Done) => Told::Done,
-        _ => Told::Other,
+        Ok(_) => Told::Other,
+        Err(refusal) => Told::Refused(refusal),
     }
 }
 
@@ -93,6 +98,7 @@ pub fn ask_all<B: SessionName, R: Wait + Abort>(
             }
             Ask::Sync => call(rt, shared, me, Call::Sync),
             Ask::Rotate => call(rt, shared, me, Call::Rotate),
+            Ask::Release(number) => call(rt, shared, me, Call::Release(number)),
             Ask::Turn => turn(rt, shared, me),
             Ask::Watch => watch(shared, me),
         };

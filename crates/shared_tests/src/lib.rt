@@ -23,6 +23,8 @@ mod sessions;
 #[cfg(test)]
 mod setup;
 #[cfg(test)]
+mod sizes;
+#[cfg(test)]
 mod tallies;
 #[cfg(test)]
 mod threads;
