@@ -2,7 +2,7 @@
 //! program's tests, `tests/files.sh`; which files are refused, by `tests/runs.sh` and `tests/words.sh`.
 
 use crate::sectors::{are, byte_of, put};
-use lsm_device::{Device, Fault, FileDevice};
+use lsm_device::{Device, Fault, FileDevice, OpenError};
 use std::fs;
 use std::fs::{File, Files, OpenOptions};
 use std::process::Abort;
@@ -103,10 +103,12 @@ fn a_file_that_was_cut_while_open_gives_faults(rt: HostRuntime) -> Result<(), Fa
 }
 
 /// Whether no second device gets a file that one has, and it is told to be in use.
-fn keeps_others_out<R: Files<File = File>>(rt: &R, path: &str) -> bool {
+fn keeps_others_out<R: Files<File = File> + AllocGlobal>(rt: &R, path: &str) -> bool {
     FileDevice::open(rt, path).is_err()
         && FileDevice::create(rt, path, 2).is_err()
-        && FileDevice::is_in_use(rt, path)
+        && matches!(FileDevice::try_open(rt, path), Err(OpenError::InUse))
+        && matches!(FileDevice::open_read_only(rt, path), Err(OpenError::InUse))
+        && matches!(FileDevice::create_beside(rt, path, 2), Err(OpenError::InUse))
 }
 
 #[test]
@@ -116,7 +118,62 @@ fn a_file_is_one_device_s_at_a_time(rt: HostRuntime) -> Result<(), Fail> {
     let written = put(&mut device, 1, 1).is_ok();
     assert!(rt; written && keeps_others_out(&rt, path) && are(&mut device, &[0, 1, 0]));
     drop(device);
-    assert!(rt; !FileDevice::is_in_use(&rt, path) && holds(&rt, path, &[0, 1, 0]));
+    assert!(rt; holds(&rt, path, &[0, 1, 0]));
+    fs::remove_file(&rt, path)?;
+    Ok(())
+}
+
+/// Whether two devices read a file at the same time, none writes, and what the system says of the write is told.
+fn is_read_by_two<R: Files<File = File>>(rt: &R, path: &str, bytes: &[u8]) -> bool {
+    let one = FileDevice::open_read_only(rt, path);
+    let two = FileDevice::open_read_only(rt, path);
+    let (Ok(mut one), Ok(mut two)) = (one, two) else {
+        return false;
+    };
+    let untold = one.last_error().is_none();
+    are(&mut one, bytes)
+        && are(&mut two, bytes)
+        && untold
+        && put(&mut one, 0, 9).is_err()
+        && one.last_error().is_some()
+        && FileDevice::open(rt, path).is_err()
+}
+
+#[test]
+fn a_file_that_is_only_read_has_many_readers(rt: HostRuntime) -> Result<(), Fail> {
+    let path = "a_file_that_is_only_read_has_many_readers.img";
+    let written = put(&mut made(&rt, path, 2), 1, 7).is_ok();
+    assert!(rt; written && is_read_by_two(&rt, path, &[0, 7]) && holds(&rt, path, &[0, 7]));
+    fs::remove_file(&rt, path)?;
+    Ok(())
+}
+
+/// Makes a file beside the one of a path, fills its first sector, and puts it there or gives it up.
+fn replace<R: Abort + Files<File = File> + AllocGlobal>(rt: &R, path: &str, is_kept: bool) {
+    let (mut device, replacement) = match FileDevice::create_beside(rt, path, 2) {
+        Ok(made) => made,
+        Err(_) => panic!(rt; "no file beside the old one"),
+    };
+    put(&mut device, 0, 5).expect(rt, "a write");
+    if is_kept {
+        replacement.finish(rt).expect(rt, "the new name");
+    } else {
+        replacement.give_up(rt);
+    }
+}
+
+#[test]
+fn a_new_file_takes_the_place_of_an_old_one_once_it_is_whole(rt: HostRuntime) -> Result<(), Fail> {
+    let path = "a_new_file_takes_the_place_of_an_old_one_once_it_is_whole.img";
+    let written = put(&mut made(&rt, path, 3), 2, 1).is_ok();
+    replace(&rt, path, false);
+    assert!(rt; written && holds(&rt, path, &[0, 0, 1]));
+    replace(&rt, path, true);
+    assert!(rt; holds(&rt, path, &[5, 0]));
+    fs::remove_file(&rt, path)?;
+    // Where there is none it is the first.
+    replace(&rt, path, true);
+    assert!(rt; holds(&rt, path, &[5, 0]));
     fs::remove_file(&rt, path)?;
     Ok(())
 }

@@ -1,0 +1,173 @@
+//! A new file that takes the place of an old one only once it is whole.
+
+ghost use Rattle.std.specs.Prelude.{◌≡◌, IfOk, false};
+ghost use Rattle.lsm_device.specs.Calls.{no_calls};
+
+use crate::opening::{open_locked, sync_folder};
+use crate::{Device, FileDevice, OpenError};
+use std::fs;
+use std::fs::{File, Files, OpenOptions};
+use std::io;
+use std::io::ErrorKind;
+use std::os::unix::fs::FileTypeExt;
+
+/// What the name of a new file ends with until it takes its place.
+const SUFFIX: &str = ".corwaphi-new";
+
+/// The place that a new file is to take, and what stands there until then. It holds the lock of the old file, if there is one.
+#[derive(Drop)]
+pub struct Replacement {
+    _old: Option<File>,
+    place: String,
+    // The name of the new file; none for a block device, which is made where it is.
+    beside: Option<String>,
+}
+
+impl FileDevice {
+    /// Makes a file of zero sectors beside the one whose place it will take, in the same folder, and syncs it. The old file, if there is
+    /// one, stays as it is, and nobody else gets it meanwhile. [`Replacement::finish`] puts the new file in its place, and
+    /// [`Replacement::give_up`] removes it. Where it can't be made nothing is left of it. A block device has no file beside it: it
+    /// is made at once, where it is.
+    ///
+    /// A symbolic link is followed. The new file has the permissions of the old one; it has the owner of a new file, and other hard
+    /// links to the old file keep what they had. What a killed process left of such a new file is removed by the next one.
+    pub fn create_beside<R: Files<File = File> + AllocGlobal>(
+        rt: &R,
+        path: &str,
+        sectors: u32,
+    ) -> Result<(FileDevice, Replacement), OpenError>
+        ensures size { IfOk result (λ made. (⟦<FileDevice as Device>⟧.medium made.0).size ≡ sectors) }
+        ensures no_calls { IfOk result (λ made. (⟦<FileDevice as Device>⟧.medium made.0).calls ≡ no_calls) }
+        ensures tells_nothing { IfOk result (λ made. (⟦<FileDevice as Device>⟧.medium made.0).lasting.tells ≡ false) }
+    {
+        let place = place_of(rt, path)?;
+        let old = old_file(rt, &place)?;
+        if is_block_device(&old) {
+            // Its lock would keep this very device out.
+            drop(old);
+            return create_there(rt, place, sectors);
+        }
+        let beside = name_beside(rt, &place)?;
+        let file = new_file(rt, &beside)?;
+        match filled(file, &old, sectors) {
+            Ok(device) => Ok((device, Replacement { _old: old, place, beside: Some(beside) })),
+            Err(error) => {
+                let _ = fs::remove_file(rt, beside.as_str());
+                Err(error)
+            }
+        }
+    }
+}
+
+impl Replacement {
+    /// Gives the new file the name of the old one, which is gone then, and syncs the folder, so that the name lasts. Where the name can't
+    /// be given the new file is removed, and the old one stays; where the folder can't be synced the new one has its place, but
+    /// perhaps not after a power cut.
+    pub fn finish<R: Files<File = File>>(self, files: &R) -> io::Result<()> {
+        let Some(beside) = &self.beside else {
+            return Ok(());
+        };
+        let renamed = fs::rename(files, beside.as_str(), self.place.as_str());
+        if renamed.is_err() {
+            let _ = fs::remove_file(files, beside.as_str());
+            return renamed;
+        }
+        sync_folder(files, &self.place)
+    }
+
+    /// Removes the new file. The old one stays as it was.
+    pub fn give_up<R: Files<File = File>>(self, files: &R) {
+        if let Some(beside) = &self.beside {
+            let _ = fs::remove_file(files, beside.as_str());
+        }
+    }
+}
+
+// Where a path leads: to the file behind symbolic links, if there is one.
+fn place_of<R: Files<File = File> + AllocGlobal>(rt: &R, path: &str) -> Result<String, OpenError> {
+    let found = fs::canonicalize(rt, path);
+    match found {
+        Ok(place) => copy_of(rt, place.as_str()),
+        Err(error) if error.kind() == ErrorKind::NotFound => copy_of(rt, path),
+        Err(error) if error.kind() == ErrorKind::OutOfMemory => Err(OpenError::NoMemory),
+        Err(error) => Err(OpenError::Failed(error)),
+    }
+}
+
+fn copy_of<R: AllocGlobal>(rt: &R, text: &str) -> Result<String, OpenError> {
+    String::from_str(rt.alloc(), text).map_err(|_| OpenError::NoMemory)
+}
+
+fn name_beside<R: AllocGlobal>(rt: &R, place: &str) -> Result<String, OpenError> {
+    let mut name = copy_of(rt, place)?;
+    match name.push_str(SUFFIX) {
+        Ok(()) => Ok(name),
+        Err(_) => Err(OpenError::NoMemory),
+    }
+}
+
+// The file that has the place, with its lock; none if there is none.
+fn old_file<R: Files<File = File>>(files: &R, place: &str) -> Result<Option<File>, OpenError> {
+    let mut how = OpenOptions::new();
+    how.read(true).write(true);
+    match open_locked(files, place, &how, false) {
+        Ok(file) => Ok(Some(file)),
+        Err(OpenError::Failed(error)) if error.kind() == ErrorKind::NotFound => Ok(None),
+        Err(error) => Err(error),
+    }
+}
+
+fn is_block_device(old: &Option<File>) -> bool {
+    let Some(file) = old else {
+        return false;
+    };
+    match file.metadata() {
+        Ok(metadata) => metadata.file_type().is_block_device(),
+        Err(_) => false,
+    }
+}
+
+fn create_there<R: Files<File = File>>(
+    files: &R,
+    place: String,
+    sectors: u32,
+) -> Result<(FileDevice, Replacement), OpenError>
+    ensures size { IfOk result (λ made. (⟦<FileDevice as Device>⟧.medium made.0).size ≡ sectors) }
+    ensures no_calls { IfOk result (λ made. (⟦<FileDevice as Device>⟧.medium made.0).calls ≡ no_calls) }
+{
+    let device = FileDevice::try_create(files, &place, sectors)?;
+    Ok((device, Replacement { _old: None, place, beside: None }))
+}
+
+// Makes a file that was not there, and takes its lock. One that is there is what a killed process left, unless another one has its lock.
+fn new_file<R: Files<File = File>>(files: &R, beside: &str) -> Result<File, OpenError> {
+    let mut how = OpenOptions::new();
+    how.read(true).write(true).create_new(true);
+    match open_locked(files, beside, &how, false) {
+        Err(OpenError::Failed(error)) if error.kind() == ErrorKind::AlreadyExists => {
+            remove_left(files, beside)?;
+            open_locked(files, beside, &how, false)
+        }
+        made => made,
+    }
+}
+
+// Removes what a killed process left. Its lock is held until the name is gone, so that no other process makes its file under it.
+fn remove_left<R: Files<File = File>>(files: &R, beside: &str) -> Result<(), OpenError> {
+    let mut how = OpenOptions::new();
+    how.read(true).write(true);
+    let _left = open_locked(files, beside, &how, false)?;
+    fs::remove_file(files, beside).map_err(OpenError::Failed)
+}
+
+// The device of a new file, which has the permissions of the old one.
+fn filled(file: File, old: &Option<File>, sectors: u32) -> Result<FileDevice, OpenError>
+    ensures size { IfOk result (λ d. (⟦<FileDevice as Device>⟧.medium d).size ≡ sectors) }
+    ensures no_calls { IfOk result (λ d. (⟦<FileDevice as Device>⟧.medium d).calls ≡ no_calls) }
+{
+    if let Some(old) = old {
+        let metadata = old.metadata().map_err(OpenError::Failed)?;
+        file.set_permissions(metadata.permissions()).map_err(OpenError::Failed)?;
+    }
+    FileDevice::zeroed(file, sectors)
+}
