@@ -108,7 +108,10 @@ fn keeps_others_out<R: Files<File = File> + AllocGlobal>(rt: &R, path: &str) -> 
         && FileDevice::create(rt, path, 2).is_err()
         && matches!(FileDevice::try_open(rt, path), Err(OpenError::InUse))
         && matches!(FileDevice::open_read_only(rt, path), Err(OpenError::InUse))
-        && matches!(FileDevice::create_beside(rt, path, 2), Err(OpenError::InUse))
+        && matches!(
+            FileDevice::create_beside(rt, path, 2),
+            Err(OpenError::InUse)
+        )
 }
 
 #[test]

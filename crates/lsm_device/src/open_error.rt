@@ -1,7 +1,6 @@
 //! Why a file can't be opened, or made, as a device.
 
-use std::fmt;
-use std::io;
+use std::{fmt, io};
 
 /// Why a file can't be opened, or made, as a device.
 #[derive(Clone, Copy, Debug)]

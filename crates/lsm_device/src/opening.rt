@@ -1,13 +1,12 @@
 //! Files that are opened for a device alone.
 
 use crate::OpenError;
-use std::fs;
 use std::fs::{File, Files, Metadata, OpenOptions, TryLockError};
-use std::io;
 use std::io::{Seek, SeekFrom};
 use std::os::fd::AsRawFd;
 use std::os::unix::fs::FileTypeExt;
 use std::path::Path;
+use std::{fs, io};
 
 pub(crate) const SECTOR_BYTES: u64 = 512;
 

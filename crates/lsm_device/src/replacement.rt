@@ -5,11 +5,10 @@ ghost use Rattle.lsm_device.specs.Calls.{no_calls};
 
 use crate::opening::{open_locked, sync_folder};
 use crate::{Device, FileDevice, OpenError};
-use std::fs;
 use std::fs::{File, Files, OpenOptions};
-use std::io;
 use std::io::ErrorKind;
 use std::os::unix::fs::FileTypeExt;
+use std::{fs, io};
 
 /// What the name of a new file ends with until it takes its place.
 const SUFFIX: &str = ".corwaphi-new";
@@ -50,7 +49,14 @@ impl FileDevice {
         let beside = name_beside(rt, &place)?;
         let file = new_file(rt, &beside)?;
         match filled(file, &old, sectors) {
-            Ok(device) => Ok((device, Replacement { _old: old, place, beside: Some(beside) })),
+            Ok(device) => Ok((
+                device,
+                Replacement {
+                    _old: old,
+                    place,
+                    beside: Some(beside),
+                },
+            )),
             Err(error) => {
                 let _ = fs::remove_file(rt, beside.as_str());
                 Err(error)
@@ -136,7 +142,14 @@ fn create_there<R: Files<File = File>>(
     ensures no_calls { IfOk result (λ made. (⟦<FileDevice as Device>⟧.medium made.0).calls ≡ no_calls) }
 {
     let device = FileDevice::try_create(files, &place, sectors)?;
-    Ok((device, Replacement { _old: None, place, beside: None }))
+    Ok((
+        device,
+        Replacement {
+            _old: None,
+            place,
+            beside: None,
+        },
+    ))
 }
 
 // Makes a file that was not there, and takes its lock. One that is there is what a killed process left, unless another one has its lock.
@@ -167,7 +180,8 @@ fn filled(file: File, old: &Option<File>, sectors: u32) -> Result<FileDevice, Op
 {
     if let Some(old) = old {
         let metadata = old.metadata().map_err(OpenError::Failed)?;
-        file.set_permissions(metadata.permissions()).map_err(OpenError::Failed)?;
+        file.set_permissions(metadata.permissions())
+            .map_err(OpenError::Failed)?;
     }
     FileDevice::zeroed(file, sectors)
 }
