@@ -1,8 +1,7 @@
 -- The sectors of blocks.
 use Rattle.std.proofs.Common.{◌≡◌, ◌<◌, ◌≤◌, ℕ, zero, suc, ◌+◌, ◌-◌, ◌*◌, Bool, true, false, cond, List, [], ◌∷◌, ◌++◌, length, get_or, take, drop, Some, None, refl, sym, ◌∙◌, ap, subst, append_assoc, arith}
-use Rattle.std.specs.Prelude.{ltb, leb, ◌↔◌}
-use Rattle.std.specs.List.{AllByRecursion, list_all}
-use Rattle.lsm_codec.proofs.Limits.{at_most-Decides, each-Decides}
+use Rattle.std.specs.Prelude.{ltb}
+use Rattle.std.specs.List.{AllByRecursion}
 use Rattle.std.specs.Prelude.{IsTrue, Result, Ok, Err, is_ok, OnOk, OnErr}
 use Rattle.std.proofs.Common.{inl, inr}
 use Rattle.std.proofs.lemmas.Bool.{ltb-true, ltb-false, cases_lt}
@@ -147,13 +146,6 @@ pub here_ends : (images : List TableBlocks) (tables : List Table) (at i b size a
     → AllByRecursion (EndsWithin size area) tables → first ≡ t.start → area + 8 * (first + b) + 8 ≤ size
 here_ends images tables at i b size area first t image here is_t is_image within start =
     block_ends image t size area first b (here.size t image is_t is_image) (here.ends t size area is_t within) (subst (λ (x : TableBlocks). b < extent_size x) (sym is_image) (here.block image)) start
-
--- whether extents lie in the device
-pub within_tested : (size area : ℕ) (tables shown : List Table) (r : Bool) → r ≡ list_all (λ t. leb (area + 8 * (t.start + t.blocks)) size) shown → shown ≡ tables → IsTrue r ↔ AllByRecursion (EndsWithin size area) tables
-within_tested size area tables shown r e same =
-    let whole : r ≡ list_all (λ (t : Table). leb (area + 8 * (t.start + t.blocks)) size) tables = e ∙ ap (λ (ts : List Table). list_all (λ (t : Table). leb (area + 8 * (t.start + t.blocks)) size) ts) same in
-    let d = each-Decides (λ (t : Table). leb (area + 8 * (t.start + t.blocks)) size) (EndsWithin size area) (λ t. at_most-Decides (area + 8 * (t.start + t.blocks)) size) tables in
-    (λ t. d.0 (sym whole ∙ t), λ all. whole ∙ d.1 all)
 
 -- ---- a block is written
 

@@ -1,11 +1,11 @@
 //! How the outputs of a job are written.
 
-ghost use Rattle.std.specs.Prelude.{◌≡◌, ◌↔◌, ◌≤◌, ◌+◌, leb, ◌*◌, length, min, take, drop, IsTrue, OnOk, OnErr, is_ok, true, IfOk, IfErr};
+ghost use Rattle.std.specs.Prelude.{◌≡◌, ◌≤◌, ◌+◌, ◌*◌, length, min, take, drop, IsTrue, OnOk, OnErr, is_ok, true, IfOk, IfErr};
 ghost use Rattle.lsm_device.specs.Calls.{AtMost, faults_after};
 ghost use Rattle.lsm_device.specs.History.{EachSince};
 ghost use Rattle.lsm_device.specs.Medium.{disk};
 ghost use Rattle.lsm_device.specs.Runs.{run_at, grown, HasSomeOf};
-ghost use Rattle.std.specs.List.{AllByRecursion, list_all};
+ghost use Rattle.std.specs.List.{AllByRecursion};
 ghost use Rattle.lsm_device.specs.Refusals.{faultless};
 ghost use Rattle.lsm_jobs.specs.Slots.{slot_of, outputs_of, to_write};
 ghost use Rattle.lsm_jobs.specs.Outputs.{in_sectors, EndsWithin};
@@ -16,7 +16,6 @@ ghost use Rattle.lsm_jobs.specs.Refusing.{IsNotWriting, RefusesWrite};
 use crate::outputs::Outputs;
 use crate::slots::Slots;
 use lsm_device::{Device, Fault, Refusal};
-use lsm_levels::PlacedTable;
 use std::alloc::Allocator;
 
 /// Writes a block to the eight sectors from one on, by one call of the device.
@@ -41,32 +40,7 @@ pub(crate) fn write_block<D: Device>(
     Ok(())
 }
 
-/// Whether the extent of a table lies in so many sectors.
-fn ends_within<A: Allocator>(table: &PlacedTable<A>, sectors: u32, area: u32) -> bool
-    ensures { result ≡ leb (area + 8 * (table.now.start + table.now.blocks)) sectors }
-{
-    area as u64 + 8 * (table.first_block() as u64 + table.blocks() as u64) <= sectors as u64
-}
-
-/// Whether the extents of tables do.
-fn end_within<A: Allocator>(tables: &[PlacedTable<A>], sectors: u32, area: u32) -> bool
-    ensures { result ≡ list_all (λ t. leb (area + 8 * (t.start + t.blocks)) sectors) tables.now }
-{
-    tables.iter().all(|table| ends_within(table, sectors, area))
-}
-
 impl<A: Allocator> Slots<A> {
-    /// Whether the extents of a job's outputs, if it has some, lie in a device of so many sectors, where the data area begins
-    /// with the sector `area`.
-    pub fn lie_within(&self, job: u64, sectors: u32, area: u32) -> bool
-        ensures { IsTrue result ↔ AllByRecursion (EndsWithin sectors area) (outputs_of (slot_of job self.now.slots)) }
-    {
-        match self.find(job) {
-            Ok((_place, held)) => end_within(held.outputs(), sectors, area),
-            Err(_refusal) => true,
-        }
-    }
-
     /// The place of a job that is writing, and its outputs.
     fn writing(&self, job: u64) -> Result<(usize, &Outputs<A>), Refusal>
         ensures found { IfOk result (λ found. IsWritingAt job self.now.slots found.0 found.1.now) }
