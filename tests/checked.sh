@@ -5,28 +5,16 @@
 #     tests/checked.sh PROGRAM
 #
 # PROGRAM is a built `lsmctl`. For one of the files it needs a gigabyte of disk.
-set -u
-
+source "$(dirname "$(realpath "$0")")/common.sh"
 program=$(realpath "${1:?the path of a built lsmctl}")
-folder=$(mktemp -d)
-trap 'rm -rf "$folder"' EXIT
-cd "$folder" || exit 1
+cd "$folder"
 count=0
 
-# What the changes make of a file that is looked at, where a line tells it.
-what=
-
-fail() {
-    echo "checked.sh: $*${what:+ (${what# })}" >&2
-    exit 1
-}
-
-# Checks a file: it ends with the status, within a minute, and prints the text on standard output, or on standard error where it
-# is a refusal.
+# Checks a file: it ends with the status, and prints the text on standard output, or on standard error where it is a refusal.
 checks() {
     local wanted=$1 file=$2 text=$3 status=0 told=output silent=errors
     cp "$file" before
-    timeout 60 "$program" check "$file" >output 2>errors || status=$?
+    "$program" check "$file" >output 2>errors || status=$?
     [ "$status" -eq "$wanted" ] || fail "check $file ended with $status: $(cat output errors)"
     case $text in refused*) told=errors silent=output ;; esac
     [ "$(cat "$told")" = "$text" ] || fail "check $file says '$(cat "$told")', not '$text'"
@@ -47,19 +35,19 @@ refuses() {
 # Writes bytes, as hex, into a file from an offset within a sector on.
 patch() {
     local file=$1 sector=$2 offset=$3 bytes=$4
+    # shellcheck disable=SC2001
     printf '%b' "$(sed 's/../\\x&/g' <<<"$bytes")" | dd of="$file" bs=1 seek=$((sector * 512 + offset)) conv=notrunc status=none
 }
 
 # Changes bytes of a file, each time of a copy, which is then refused. A line has a sector, counted from the one that is given, an
 # offset in it and bytes, once or twice, and behind a # what they make of it.
 damages() {
-    local file=$1 from=$2 text=$3 changes
+    local file=$1 from=$2 text=$3 changes sector offset bytes
     while IFS='#' read -r changes what; do
-        set -- $changes
+        what=${what# }
         cp "$file" other
-        while (($# > 0)); do
-            patch other $((from + $1)) "$2" "$3"
-            shift 3
+        while read -r sector offset bytes changes <<<"$changes" && [ -n "$sector" ]; do
+            patch other $((from + sector)) "$offset" "$bytes"
         done
         refuses other "$text"
     done
@@ -469,7 +457,7 @@ checks 1 other 'finding Filter table 1'
 counted() {
     local file=$1 version=$2 deletes=$3 found
     found=$(od -An -v -tx1 -j $((512 + 4)) -N 10 "$file" | tr -d ' \n')$(od -An -v -tx1 -j $((66 * 512 + 65)) -N 4 "$file" | tr -d ' \n')
-    [ "$found" = "$version"0000000000000005"0001$deletes" ] || fail "$file has another version or other deletes: $found"
+    [ "$found" = "${version}00000000000000050001$deletes" ] || fail "$file has another version or other deletes: $found"
 }
 cp old other && patch other 514 12 $deleted
 checks 0 other 'ok generation 4 batches 1 tables 1 entries 1 free 955'

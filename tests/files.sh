@@ -5,18 +5,10 @@
 #     tests/files.sh PROGRAM
 #
 # PROGRAM is a built `lsmctl`. Writes are made to fail, and to fall short, by a limit of the file size, which `prlimit`
-# sets in bytes. Syncs are seen by `strace`. Where the machine lacks one of them, that part is skipped, and a line says so.
-set -u
-
+# sets in bytes. Syncs are seen by `strace`, which also counts the calls of a run.
+source "$(dirname "$(realpath "$0")")/common.sh"
 program=$(realpath "${1:?the path of a built lsmctl}")
-folder=$(mktemp -d)
-trap 'rm -rf "$folder"' EXIT
-cd "$folder" || exit 1
-
-fail() {
-    echo "files.sh: $*" >&2
-    exit 1
-}
+cd "$folder"
 
 # Runs the program with no write above so many bytes of a file. Leaves `status`, and what it printed in `said`: no file, which
 # the limit would cut. A write at the limit fails, and one across it falls short; the signal that then comes is ignored, or
@@ -24,11 +16,11 @@ fail() {
 run_below() {
     local bytes=$1 signal=$2
     shift 2
+    status=0
     said=$(
         if [ "$signal" = ignored ]; then trap '' XFSZ; fi
         exec prlimit --core=0 --fsize="$bytes" "$program" "$@" 2>&1
-    )
-    status=$?
+    ) || status=$?
 }
 
 # What a `put` under a limit left: all of it where it was acknowledged, else everything or nothing.
@@ -106,12 +98,10 @@ put_that_cannot_settle() {
     echo "files.sh: a put whose settling fails is refused with 03 Stopped, and loses nothing"
 }
 
-if command -v prlimit >prlimit.path; then
+if has prlimit 'writes that fail or fall short'; then
     puts_below_limits
     formats_below_limits
     put_that_cannot_settle
-else
-    echo "files.sh: skipped: writes that fail or fall short, for want of prlimit"
 fi
 
 # ---- a file that other processes read
@@ -131,26 +121,51 @@ echo "files.sh: a file, and a copy of it, is read back by other processes"
 
 # ---- many runs
 
-# Puts one after another, of keys that come again and of keys that don't: each settles what the one before it has left. How long
-# the second hundred of them takes, and the last, is told on standard error; the last may take three times as long at most.
-# The file is then the image of a store.
+# Runs the program with its calls of the file counted: those that read, write or sync, in `calls`.
+counted=
+run_counted() {
+    if [ -z "$counted" ]; then
+        "$program" "$@"
+        return
+    fi
+    strace -qq -e trace=pread64,pwrite64,pwritev,fdatasync -o trace "$program" "$@"
+    calls=$((calls + $(wc -l <trace)))
+}
+
+# Leaves in `used` the processor's time of all runs so far, in clock ticks.
+take_time() {
+    local stat
+    read -ra stat <"/proc/$$/stat"
+    used=$((stat[15] + stat[16]))
+}
+
+# Puts one after another, of keys that come again and of keys that don't: each settles what the one before it has left. The last hundred
+# makes three times as many calls as the second at most. The hundreds between are not counted, and the last of these takes four times
+# the processor's time of the first at most. The file is then the image of a store.
 many_puts() {
-    local number key value second last
-    local -A wanted=() at=()
+    local number key value calls=0 used second last
+    local -A wanted=() times=() calls_at=()
     "$program" format many 65536 128 >out 2>err || fail "format: $(cat err)"
     for ((number = 1; number <= 1000; number++)); do
         if ((number % 4 == 0)); then key=$((number % 1000)); else key=$((number % 29)); fi
         printf -v key %04x "$key"
         printf -v value %04x "$number"
         wanted[$key]=$value
-        "$program" put many "$key" "$value" >out 2>err || fail "put $number: $(cat err)"
+        run_counted put many "$key" "$value" >out 2>err || fail "put $number: $(cat err)"
         [ "$(cat out)" = "batch $number" ] || fail "put $number prints $(cat out)"
-        if ((number % 100 == 0)); then at[$number]=${EPOCHREALTIME//[!0-9]/}; fi
+        if ((number % 100 == 0)); then
+            take_time
+            times[$number]=$used calls_at[$number]=$calls
+            case $number in 100 | 900) counted=$traced ;; *) counted='' ;; esac
+        fi
     done
-    second=$(((at[200] - at[100]) / 1000))
-    last=$(((at[1000] - at[900]) / 1000))
-    echo "files.sh: puts 101 to 200 took $second milliseconds, and puts 901 to 1000 $last" >&2
-    [ "$last" -le $((3 * second)) ] || fail "puts 901 to 1000 took more than three times as long as puts 101 to 200: $last and $second milliseconds"
+    if [ -n "$traced" ]; then
+        second=$((calls_at[200] - calls_at[100])) last=$((calls_at[1000] - calls_at[900]))
+        [ "$second" -gt 0 ] && [ "$last" -le $((3 * second)) ] || fail "puts 901 to 1000 made $last calls of the file, and puts 101 to 200 $second"
+        echo "files.sh: puts 101 to 200 made $second calls of the file, and puts 901 to 1000 $last"
+    fi
+    second=$((times[300] - times[200])) last=$((times[900] - times[800]))
+    [ "$last" -le $((4 * second + 20)) ] || fail "puts 801 to 900 took $last ticks of a processor, and puts 201 to 300 $second"
     "$program" check many >out 2>err || fail "check after 1000 puts: $(cat out err)"
     [[ $(cat out) == 'ok generation '*' batches 1000 tables '* ]] || fail "check after 1000 puts prints $(cat out)"
     for key in "${!wanted[@]}"; do
@@ -158,6 +173,8 @@ many_puts() {
     done
     echo "files.sh: 1000 puts one after another stand in an image that a check finds sound, and each key has its last value"
 }
+traced=
+if traces 'counts of the calls of many puts'; then traced=yes; fi
 many_puts
 
 # ---- syncs
@@ -177,7 +194,7 @@ told_after_a_sync() {
     [[ $calls =~ ^[wds]*dp+$ ]] || fail "$1: its calls are $(printf %s "$calls" | tr -s w)"
 }
 
-if command -v strace >strace.path && strace -qq -o trace true 2>err; then
+if traces 'syncs of a file, which nothing else sees'; then
     calls_of format traced 8192 128
     told_after_a_sync format
     # The zeros of the new file, 64 KiB by a call, are synced whole, and then the folder with its name, before the store is written.
@@ -195,20 +212,18 @@ if command -v strace >strace.path && strace -qq -o trace true 2>err; then
         printf 'commit'
         for key in 01 02 03 04 05 06 07 08 09 0a; do printf ' +%s=%04096d' "$key" 0; done
         printf ' +0b=%01400d\nroom\n' 0
-    } >batch
-    calls_of replay traced <batch
+    } >script
+    calls_of replay traced <script
     [ "$(tail -n 1 out)" = 'room 83' ] || fail "a batch of 45 sectors leaves $(tail -n 1 out)"
     [ "$(count w)" -le 6 ] || fail "a batch of 45 sectors: $(count w) writes"
     # Format syncs its zeros, and each opening what pended; then a root is installed with two syncs. A put syncs its batch.
     [ "$formatting $putting $getting" = "3 4 3" ] || fail "syncs of data: format $formatting, put $putting, get $getting"
     echo "files.sh: syncs of data: format $formatting and one of the whole file and its folder, put $putting, get $getting; each before the line that tells"
-else
-    echo "files.sh: skipped: syncs of a file, since strace is not installed or may not trace: nothing else sees whether they are made"
 fi
 
 # ---- a file that another program has
 
-if command -v flock >/dev/null; then
+if has flock 'a file that another program has'; then
     "$program" format held 8192 128 >out 2>err || fail "format held: $(cat err)"
     before=$(sha256sum <held)
     rm -f locked
@@ -216,7 +231,7 @@ if command -v flock >/dev/null; then
         exec 9<>held
         flock 9
         : >locked
-        exec sleep 60
+        exec sleep 600
     ) &
     holder=$!
     until [ -e locked ]; do sleep 0.05; done
@@ -229,11 +244,9 @@ if command -v flock >/dev/null; then
             fail "'$words' of a file in use ended with $status: $said"
     done
     kill "$holder"
-    wait "$holder" 2>/dev/null
+    wait "$holder" 2>/dev/null || true
     [ "$(sha256sum <held)" = "$before" ] || fail "a refused run has changed a file in use"
     said=$("$program" get held 61 2>&1) || fail "get of a file that is free again: $said"
     [ "$said" = absent ] || fail "get of a file that is free again prints '$said'"
     echo "files.sh: a file that another program has is left alone"
-else
-    echo "files.sh: skipped: flock is not installed, so no run met a file that another program has"
 fi

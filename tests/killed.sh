@@ -2,26 +2,15 @@
 # Kills `lsmctl` at arbitrary points and looks what the file holds: the image of a store, with every put that was
 # acknowledged, and of the put that was killed everything or nothing.
 #
-#     tests/killed.sh PROGRAM [KILLS] [SECONDS]
+#     tests/killed.sh PROGRAM [KILLS]
 #
-# PROGRAM is a built `lsmctl`. It goes on until KILLS processes (300) were killed, or SECONDS (45) have passed, of which
-# at least a third of KILLS must have been killed. A killed process is no power cut: what was written to the file
-# stays with the system, in the order of the calls.
-set -u
-
+# PROGRAM is a built `lsmctl`. It goes on until KILLS processes (150) were killed, however long that takes; at least one of twenty must
+# be. A killed process is no power cut: what was written to the file stays with the system, in the order of the calls.
+source "$(dirname "$(realpath "$0")")/common.sh"
 program=$(realpath "${1:?the path of a built lsmctl}")
-kills=${2:-300}
-seconds=${3:-45}
-
-folder=$(mktemp -d)
-trap 'rm -rf "$folder"' EXIT
-cd "$folder" || exit 1
+kills=${2:-150}
+cd "$folder"
 exec {silence}<> <(:)
-
-fail() {
-    echo "killed.sh: $*" >&2
-    exit 1
-}
 
 # Runs the program and sends it SIGKILL after up to `span` microseconds. Leaves `status`, and what it printed in out and err.
 # The span follows how long the program takes, so that about half of the processes are killed, at any point of their run.
@@ -35,10 +24,10 @@ run_and_kill() {
     : >err
     "$program" "$@" >out 2>err &
     process=$!
-    read -r -t "$(printf '0.%06d' "$delay")" -u "$silence"
-    kill -KILL "$process" 2>/dev/null
-    wait "$process" 2>/dev/null
-    status=$?
+    read -r -t "$(printf '%d.%06d' $((delay / 1000000)) $((delay % 1000000)))" -u "$silence" || true
+    kill -KILL "$process" 2>/dev/null || true
+    status=0
+    wait "$process" 2>/dev/null || status=$?
     if [ "$status" -eq 137 ]; then
         killed=$((killed + 1))
         span=$((span + span / 8))
@@ -78,7 +67,8 @@ look() {
 
 "$program" format fresh 8192 128 >out 2>err || fail "format: $(cat err)"
 unanswered=0 files=0 puts=0
-while [ "$killed" -lt "$kills" ] && [ "$SECONDS" -lt "$seconds" ]; do
+while [ "$killed" -lt "$kills" ]; do
+    [ "$puts" -lt $((20 * kills)) ] || fail "only $killed processes were killed at $puts puts"
     files=$((files + 1)) standing=0
     cp fresh store
     for ((put = 1; put <= 9; put++)); do
@@ -106,5 +96,4 @@ while [ "$killed" -lt "$kills" ] && [ "$SECONDS" -lt "$seconds" ]; do
     done
 done
 
-[ "$killed" -ge $((kills / 3)) ] || fail "only $killed processes were killed in $seconds seconds"
 echo "killed.sh: $killed processes killed at $puts puts on $files files; $unanswered unanswered puts stood; none was lost"

@@ -6,19 +6,11 @@
 #
 # PROGRAM is a built `lsmctl`. 300 single puts are made in the order of keys, and as many in another order, and each goes on to 5,000
 # as long as SECONDS last, or 10. A store is filled and emptied so many TIMES, or once.
-set -u
-
+source "$(dirname "$(realpath "$0")")/common.sh"
 program=$(realpath "${1:?the path of a built lsmctl}")
 seconds=${2:-10}
 times=${3:-1}
-folder=$(mktemp -d)
-trap 'rm -rf "$folder"' EXIT
-cd "$folder" || exit 1
-
-fail() {
-    echo "lasting.sh: $*" >&2
-    exit 1
-}
+cd "$folder"
 
 # Runs the program, which has to end with 0, and leaves what it printed in `said`.
 ask() {

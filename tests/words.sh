@@ -1,16 +1,9 @@
 #!/usr/bin/env bash
 # words.sh PROGRAM: a word that is no UTF-8, a file that can't be opened, an answer or a fault that can't be written, and an input
 # that can't be read to its end. What can be told is told on standard error. A writer that takes four bytes is a limit of the file size, which
-# `prlimit` sets; where the machine lacks it that part is skipped, and a line says so.
-set -eu
-program=$(realpath "$1")
-folder=$(mktemp -d)
-trap 'rm -rf "$folder"' EXIT
-
-fail() {
-    echo "words.sh: $*" >&2
-    exit 1
-}
+# `prlimit` sets.
+source "$(dirname "$(realpath "$0")")/common.sh"
+program=$(realpath "${1:?the path of a built lsmctl}")
 
 # expect STATUS TEXT WORD..: so the program ends on these words, and so its text on standard error begins.
 expect() {
@@ -31,24 +24,21 @@ errors=$folder/errors
 expect 2 "error: a word is no UTF-8 text" get "$folder/"$'\xff' 61
 [ ! -s "$output" ] || fail "an answer was printed"
 
-# opens_not CAUSE WORD..: so the program refuses a file on these words.
+# opens_not CAUSE WORDS FILE: so the program refuses a file on words that are parted by spaces, of which FILE stands for the file.
 opens_not() {
-    local cause=$1 status=0 told
-    shift
-    told=$("$program" "$@" </dev/null 2>&1) || status=$?
-    [ "$status" = 1 ] && [ "$told" = "$(printf 'refused 02 Io\nerror: %s' "$cause")" ] || fail "$* ended with $status: $told"
+    local cause=$1 file=$3 status=0 told words
+    read -ra words <<<"$2"
+    words=("${words[@]/#FILE/"$file"}")
+    told=$("$program" "${words[@]}" </dev/null 2>&1) || status=$?
+    [ "$status" = 1 ] && [ "$told" = "$(printf 'refused 02 Io\nerror: %s' "$cause")" ] || fail "$2 of $file ended with $status: $told"
 }
 
 printf x >"$folder/byte"
 for word in 'get FILE 61' 'put FILE 61 31' 'check FILE' 'serve FILE' 'dump FILE'; do
-    # The words are parted by spaces.
-    # shellcheck disable=SC2086
-    {
-        opens_not "there is no such file" ${word/FILE/$folder/none}
-        opens_not "the folder of the file is missing" ${word/FILE/$folder/none/F}
-        opens_not "the file is a folder" ${word/FILE/$folder}
-        opens_not "the length of the file is not a whole number of sectors" ${word/FILE/$folder/byte}
-    }
+    opens_not "there is no such file" "$word" "$folder/none"
+    opens_not "the folder of the file is missing" "$word" "$folder/none/F"
+    opens_not "the file is a folder" "$word" "$folder"
+    opens_not "the length of the file is not a whole number of sectors" "$word" "$folder/byte"
 done
 # A sparse file of one sector more than have numbers, where the file system has such.
 if truncate -s $((512 << 32)) "$folder/large" 2>"$folder/truncated"; then
@@ -57,13 +47,13 @@ if truncate -s $((512 << 32)) "$folder/large" 2>"$folder/truncated"; then
     [ "$status" = 1 ] && [ "$told" = 'refused 02 Io' ] || fail "a file of too many sectors ended with $status: $told"
     rm "$folder/large"
 fi
-opens_not "the folder of the file is missing" format "$folder/none/F" 8192 128
-opens_not "the file is a folder" format "$folder" 8192 128
+opens_not "the folder of the file is missing" 'format FILE 8192 128' "$folder/none/F"
+opens_not "the file is a folder" 'format FILE 8192 128' "$folder"
 [ ! -e "$folder/none" ] || fail "a file that is only read was made"
 if [ "$(id -u)" != 0 ]; then
     : >"$folder/denied"
     chmod 000 "$folder/denied"
-    opens_not "the file may not be read and written" get "$folder/denied" 61
+    opens_not "the file may not be read and written" 'get FILE 61' "$folder/denied"
 fi
 
 output=/dev/full
@@ -74,7 +64,7 @@ expect 1 "" lives 8192 128
 expect 1 "" lives 8191 128
 expect 1 "" lives 8192
 
-if command -v prlimit >"$folder/prlimit.path"; then
+if has prlimit 'a write that falls short'; then
     status=0
     told=$(
         trap '' XFSZ
@@ -85,8 +75,6 @@ if command -v prlimit >"$folder/prlimit.path"; then
     "error: the answer could not be written: "*) ;;
     *) fail "a short write told $told" ;;
     esac
-else
-    echo "words.sh: skipped: a write that falls short, for want of prlimit"
 fi
 
 # A closed standard stream: a file gets no number of one, so nothing that is printed or read goes to the store.
@@ -94,6 +82,7 @@ fi
 "$program" put "$folder/F" 61 31 >"$folder/output"
 output=$folder/output
 errors=$folder/errors
+# shellcheck disable=SC2016 # eval expands them.
 for word in 'get "$folder/F" 61' 'put "$folder/F" 62 32' 'replay "$folder/F"'; do
     for streams in '<&-' '>&-' '2>&-' '<&- >&- 2>&-'; do
         eval "\"\$program\" $word </dev/null >\"\$output\" 2>\"\$errors\" $streams" || true
@@ -123,5 +112,7 @@ for words, wanted in [("lives 8192 128", 1), ("lives 8191 128", 1), ("lives 8192
         sys.exit(f"{words} ended with {ended.returncode}: {ended.stdout + ended.stderr}")
     print(words, ended.stderr.decode(), end="")
 END
-python3 "$folder/torn.py" "$program" >"$output" || fail "an input that fails"
+if has python3 'an input that fails behind its first byte'; then
+    python3 "$folder/torn.py" "$program" >"$output" || fail "an input that fails"
+fi
 echo "words.sh: a word that is no UTF-8, and what can't be written or read, is told"
