@@ -5,12 +5,14 @@
 #
 # They are the files crates/CRATE/edits/*.edit, in the form of must-fail/*.edit. Each crate is tried on a copy of the repository, so
 # that nothing here is changed; what checks have kept in out/ is used. Without a name all crates that have such a folder are tried.
-set -euo pipefail
-cd "$(dirname "$0")/.."
-top=$PWD
-[ $# -gt 0 ] || set -- $(for folder in crates/*/edits; do basename "$(dirname "$folder")"; done)
-copy=$(mktemp -d)
-trap 'rm -rf "$copy"' EXIT
+source "$(dirname "$(realpath "$0")")/common.sh"
+cd "$tests/.."
+top=$PWD copy=$room/copy
+if [ $# -eq 0 ]; then
+    mapfile -t crates < <(for edits in crates/*/edits; do basename "$(dirname "$edits")"; done)
+    set -- "${crates[@]}"
+fi
+mkdir "$copy"
 cp crates.txt HANDLES "$copy"
 # What checks have kept is large: where the file system lets it, the copy has the same files.
 cp -al "$top/crates" "$copy/crates" 2>/dev/null || { rm -rf "$copy/crates"; cp -a "$top/crates" "$copy/crates"; }

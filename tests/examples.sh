@@ -1,16 +1,13 @@
 #!/usr/bin/env bash
 # Looks that the example of the README is, line by line, one that stands in a crate, so that the gate proves it.
-set -euo pipefail
-cd "$(dirname "$0")/.."
+source "$(dirname "$(realpath "$0")")/common.sh"
+cd "$tests/.."
 
 # The lines of the example in a file.
 example() {
     sed -n '/^    let device = FileDevice::open/,/^    store\.release/p' "$1"
 }
 
-[ "$(example README.md | wc -l)" -gt 10 ] || { echo "examples.sh: README has no example" >&2; exit 1; }
-if ! diff <(example README.md) <(example crates/store_example/src/first_use.rt); then
-    echo "examples.sh: the example of the README is another one than use_a_file of crates/store_example" >&2
-    exit 1
-fi
+[ "$(example README.md | wc -l)" -gt 10 ] || fail "README has no example"
+diff <(example README.md) <(example crates/store_example/src/first_use.rt) || fail "the example of the README is another one than use_a_file of crates/store_example"
 echo "examples.sh: the example of the README stands in a crate"

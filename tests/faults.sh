@@ -86,6 +86,7 @@ all_faults() {
     local look=$1 kind place errors
     shift
     count_calls "$@"
+    [ "$1" = check ] || [ "${calls[fdatasync]}" -gt 0 ] || fail "$1 syncs nothing"
     for kind in "${kinds[@]}"; do
         for place in $(sample "${calls[$kind]}"); do
             # Each error in turn; all of them at the first call.

@@ -7,16 +7,15 @@
 # edits that the prover refuses, from a folder must-fail/; the others stand here. Each crash is opened once, without the crashes of the
 # opening behind it. The last wrong body shows at a third crash alone: with it a run of lives gives another answer. Without a name all
 # are tried.
-set -euo pipefail
-cd "$(dirname "$0")/.."
-folder=$(mktemp -d)
-trap 'rm -rf "$folder"' EXIT
+source "$(dirname "$(realpath "$0")")/common.sh"
+cd "$tests/.."
+folder=$room # Without a space, for what builds there.
 code=0
 wanted="$*"
 
 # Makes a wrong body in the copy, as it is read: each pair of texts, old and new, in its file.
 edit() {
-    local line target= old= text
+    local line target='' old='' text
     while IFS= read -r line; do
         case $line in
         file:*) target=$folder/copy/crates/${line#file: } ;;
@@ -25,7 +24,7 @@ edit() {
             text=$(cat "$target" && echo .)
             case $text in
             *"$old"*) ;;
-            *) echo "wrong.sh: this is not in $target: $old" >&2 && return 1 ;;
+            *) fail "this is not in $target: $old" ;;
             esac
             printf '%s' "${text/"$old"/"${line#new: }"}" >"$target"
             truncate -s -1 "$target" # The dot.
@@ -51,7 +50,7 @@ try() {
     cat >"$folder/cases/$name"
     tr ' ' '\n' <<<"$words" >"$folder/cases/$name.args"
     (cd "$folder/copy/crates/lsmctl" && rt try --seconds 600 --cases "$folder/cases") >"$folder/answers" 2>"$folder/errors" || true
-    grep -q "^case=$name run=ended" "$folder/errors" || { cat "$folder/answers" "$folder/errors" >&2 && exit 1; }
+    grep -q "^case=$name run=ended" "$folder/errors" || fail "$name: $(cat "$folder/answers" "$folder/errors")"
     grep -Eq "$pattern" "$folder/answers" || found=no
     if [ "$found" = "$matches" ]; then
         echo "$name is found: $(grep -E '^(first|rows)' "$folder/answers" | tail -n 1)"
