@@ -3,9 +3,9 @@
 
     tests/breaks.py REPORT
 
-REPORT is what `rt ci` or `rt must-fail` printed. Each crates/NAME/must-fail/*.edit has a line `# breaks: CLAUSE`, the name of a clause
-or of a whole goal, as `keeps` or `returns-in-Err`. The first goal that `rt` tells of the edit has to be of that name. What was refused
-only by a limit of the prover, or only since a name is gone, says little of a contract, and a bad edit says nothing.
+REPORT is what `rt ci` or `rt must-fail` printed. Each crates/NAME/must-fail/*.edit has a line `# breaks: FUNCTION.CLAUSE`, as `put.keeps`,
+where `ensures` stands for a clause without a name. The first goal that `rt` tells of the edit has to be of that clause. What was
+refused only by a limit of the prover, or only since a name is gone, says little of a contract, and a bad edit says nothing.
 """
 
 from __future__ import annotations
@@ -18,8 +18,9 @@ from typing import Iterator, Optional
 # A line that tells what the try of one edit came to. rt says `must-fail CRATE/NAME.edit: WHAT`, and behind that what the prover said.
 TOLD = re.compile(r"rt: must-fail (?P<edit>\w+/[\w.-]+\.edit): (?P<what>.*)")
 REFUSED = "refused, as it must be"
-# The goal that the prover told first: PLACE: error: `GOAL`: TEXT.
-GOAL = re.compile(r": error: `(?P<goal>[^`]+)`")
+# The goal that the prover told first, with the file of its answer: proofs/MODULE/FUNCTION/Answers.antt:LINE:COLUMN: error: `GOAL`: TEXT.
+# One without an answer is told at its line of src/.
+GOAL = re.compile(r"(?:\./)?(?P<file>(?:proofs|src)/\S+?):\d+:\d+: error(?:\[[\w-]+\])?: (?:`(?P<goal>[^`]+)`)?")
 
 
 def read_report(text: str) -> dict[str, str]:
@@ -32,35 +33,41 @@ def unnamed(text: str) -> list[str]:
     return [line for line in text.splitlines() if ": BAD EDIT: " in line and not TOLD.fullmatch(line)]
 
 
-def clause_of(text: str) -> Optional[str]:
-    """The clause that an edit names, if it names one."""
-    found = re.findall(r"(?m)^# breaks: (\S+)$", text)
+def clause_of(text: str) -> Optional[tuple[str, str]]:
+    """The function and its clause that an edit names, if it names one."""
+    found = re.findall(r"(?m)^# breaks: (\w+)\.(\w+)$", text)
     return found[0] if len(found) == 1 else None
 
 
 def is_of(goal: str, clause: str) -> bool:
-    """Whether a goal is that of a clause: its name is that of the goal, or ends in it."""
-    return goal == clause or goal.endswith(f"-clause-{clause}")
+    """Whether a goal is that of a clause."""
+    return "-clause-" not in goal if clause == "ensures" else goal.endswith(f"-clause-{clause}")
 
 
-def fault(clause: Optional[str], what: Optional[str]) -> Optional[str]:
-    """What is wrong with an edit that names a clause, by what was said of it."""
+def breaks(function: str, clause: str, reason: str) -> bool:
+    """Whether what the prover said is of this clause of the function. A line of src/ names the function, or is on its own clause."""
+    found = GOAL.search(reason)
+    if not found:
+        return False
+    if found["file"].startswith("proofs/"):
+        return Path(found["file"]).parent.name == function and bool(found["goal"]) and is_of(found["goal"], clause)
+    return is_of(found["goal"], clause) if found["goal"] else function in reason
+
+
+def fault(named: Optional[tuple[str, str]], what: Optional[str]) -> Optional[str]:
+    """What is wrong with an edit that names this function and clause, by what was said of it."""
     if what is None:
         return "the report doesn't tell of it"
     if not what.startswith(REFUSED):
         return what
-    reason = what[len(REFUSED) :]
+    reason = what[len(REFUSED) :].removeprefix(": ")
     if reason.startswith(" (only by a limit of the prover"):
         return "it is refused only by a limit of the prover: choose a change that it refuses sooner"
     if reason.startswith(" (only because a proof file names"):
         return "it is refused only since a name is gone: change a value and keep the names"
-    found = GOAL.search(reason)
-    goal = found["goal"] if found else None
-    if clause is None:
-        return f"it has no line '# breaks: CLAUSE'; the goal that it breaks is {goal or 'not told'}"
-    if goal is None:
-        return f"it is to break {clause}, and no goal is told:{reason.removeprefix(':')}"
-    return None if is_of(goal, clause) else f"it is to break {clause}, and it breaks {goal}"
+    if named is None:
+        return f"it has no line '# breaks: FUNCTION.CLAUSE', or more than one; the prover says: {reason}"
+    return None if breaks(*named, reason) else f"it is to break {'.'.join(named)}, and the prover says: {reason}"
 
 
 def faults(root: Path, report: str) -> Iterator[str]:

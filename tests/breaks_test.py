@@ -4,7 +4,7 @@ import tempfile
 import unittest
 from pathlib import Path
 
-from breaks import clause_of, fault, faults, read_report
+from breaks import breaks, clause_of, fault, faults, read_report
 
 PLACE = "./proofs/cache/Cache/put/Answers.antt:10:5: error: `returns-clause-keeps`: `rw`: no occurrence of the path's left endpoint"
 REPORT = f"""== lsm_cache
@@ -23,22 +23,35 @@ rt: crates/lsm_cache/must-fail/edit.txt: BAD EDIT: an edit stands right in must-
 
 
 class Breaks(unittest.TestCase):
-    def told(self, name: str, clause: str | None = "keeps") -> str | None:
-        return fault(clause, read_report(REPORT).get(f"lsm_cache/{name}.edit"))
+    def told(self, name: str, named: tuple[str, str] | None = ("put", "keeps")) -> str | None:
+        return fault(named, read_report(REPORT).get(f"lsm_cache/{name}.edit"))
 
     def test_the_clause_that_is_named(self) -> None:
         self.assertIsNone(self.told("kept"))
-        self.assertIsNone(self.told("kept", "returns-clause-keeps"))
 
-    def test_another_clause(self) -> None:
-        for clause in ("eps", "keep", "clause-keeps", "returns", "size"):
-            self.assertEqual(self.told("kept", clause), f"it is to break {clause}, and it breaks returns-clause-keeps")
+    def test_another_clause_or_function(self) -> None:
+        for named in [("put", "eps"), ("put", "keep"), ("put", "ensures"), ("get", "keeps"), ("Cache", "keeps")]:
+            self.assertEqual(self.told("kept", named), f"it is to break {'.'.join(named)}, and the prover says: {PLACE}")
 
     def test_no_clause(self) -> None:
-        self.assertIn("'# breaks: CLAUSE'; the goal that it breaks is returns-clause-keeps", self.told("kept", None) or "")
+        self.assertEqual(self.told("kept", None), f"it has no line '# breaks: FUNCTION.CLAUSE', or more than one; the prover says: {PLACE}")
 
     def test_no_goal(self) -> None:
-        self.assertIn("no goal is told", self.told("silent") or "")
+        self.assertEqual(self.told("silent"), "it is to break put.keeps, and the prover says: ")
+
+    def test_goals(self) -> None:
+        answers = "./proofs/writer/switch/Answers.antt:40:138: error: `returns-in_err-sync-2-clause-moments`: `rw`: no occurrence"
+        self.assertTrue(breaks("switch", "moments", answers))
+        self.assertFalse(breaks("switch", "all", answers))
+        whole = "./proofs/reader/newer/Answers.antt:4:1: error: `returns-in-Ok`: the types differ"
+        self.assertTrue(breaks("newer", "ensures", whole))
+        self.assertFalse(breaks("newer", "newest", whole))
+        # A lemma is no clause, and a goal that is cut off is none.
+        self.assertFalse(breaks("put", "keeps", "./proofs/ReadingLaws.antt:159:14: error: `put-clause-keeps`: write a variable"))
+        self.assertFalse(breaks("put", "keeps", "./proofs/cache/Cache/put/Answers.antt:10:5: error: `returns-clause-kee"))
+        self.assertTrue(breaks("put", "keeps", "./src/cache.rt:10:5: error: `returns-clause-keeps`: no proof"))
+        self.assertFalse(breaks("put", "keeps", "./src/cache.rt:10:5: error: `returns-clause-size`: no proof"))
+        self.assertTrue(breaks("may_follow", "ensures", "src/reader.rt:49:1: error[not-proved]: fn lsm_root::reader::may_follow"))
 
     def test_refusals_that_say_little(self) -> None:
         self.assertIn("a limit of the prover", self.told("limit") or "")
@@ -50,8 +63,8 @@ class Breaks(unittest.TestCase):
         self.assertEqual(self.told("other"), "the report doesn't tell of it")
 
     def test_the_line_of_an_edit(self) -> None:
-        self.assertEqual(clause_of("# Why.\n# breaks: keeps\nfile: src/cache.rt\n"), "keeps")
-        for text in ("file: src/cache.rt\n", "# breaks:\n", "# breaks: one two\n", "# breaks: one\n# breaks: two\n"):
+        self.assertEqual(clause_of("# Why.\n# breaks: put.keeps\nfile: src/cache.rt\n"), ("put", "keeps"))
+        for text in ("file: src/cache.rt\n", "# breaks: keeps\n", "# breaks: a.one b.two\n", "# breaks: a.one\n# breaks: a.two\n"):
             self.assertIsNone(clause_of(text))
 
     def test_files(self) -> None:
@@ -59,7 +72,7 @@ class Breaks(unittest.TestCase):
             folder = Path(room) / "crates" / "lsm_cache" / "must-fail"
             folder.mkdir(parents=True)
             for name in ("kept", "gone", "other"):
-                (folder / f"{name}.edit").write_text("# breaks: keeps\nfile: src/cache.rt\n")
+                (folder / f"{name}.edit").write_text("# breaks: put.keeps\nfile: src/cache.rt\n")
             found = list(faults(Path(room), REPORT))
         self.assertEqual([it.partition(": ")[0] for it in found[:2]], ["lsm_cache/gone.edit", "lsm_cache/other.edit"])
         self.assertEqual(len(found), 3)
