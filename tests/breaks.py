@@ -3,9 +3,10 @@
 
     tests/breaks.py REPORT
 
-REPORT is what `rt ci` or `rt must-fail` printed. Each crates/NAME/must-fail/*.edit has a line `# breaks: FUNCTION.CLAUSE`, as `put.keeps`,
-where `ensures` stands for a clause without a name. The first goal that `rt` tells of the edit has to be of that clause. What was
-refused only by a limit of the prover, or only since a name is gone, says little of a contract, and a bad edit says nothing.
+REPORT is what `rt ci` or `rt must-fail` printed. Each crates/NAME/must-fail/*.edit has a line `# breaks: FUNCTION.CLAUSE, ..`, as
+`put.keeps`, where `ensures` stands for a clause without a name, and a FUNCTION alone for each of its clauses. The first goal that `rt`
+tells of the edit has to be of one of these. What was refused only by a limit of the prover, or only since a name is gone, says little of
+a contract, and a bad edit says nothing.
 """
 
 from __future__ import annotations
@@ -33,15 +34,19 @@ def unnamed(text: str) -> list[str]:
     return [line for line in text.splitlines() if ": BAD EDIT: " in line and not TOLD.fullmatch(line)]
 
 
-def clause_of(text: str) -> Optional[tuple[str, str]]:
-    """The function and its clause that an edit names, if it names one."""
-    found = re.findall(r"(?m)^# breaks: (\w+)\.(\w+)$", text)
-    return found[0] if len(found) == 1 else None
+def clauses_of(text: str) -> list[tuple[str, str]]:
+    """The functions that an edit names, each with its clause, or with nothing for each of its clauses."""
+    found = re.findall(r"(?m)^# breaks: (\w+(?:\.\w+)?(?:, \w+(?:\.\w+)?)*)$", text)
+    return [(it.partition(".")[0], it.partition(".")[2]) for it in found[0].split(", ")] if len(found) == 1 else []
 
 
 def is_of(goal: str, clause: str) -> bool:
-    """Whether a goal is that of a clause."""
-    return "-clause-" not in goal if clause == "ensures" else goal.endswith(f"-clause-{clause}")
+    """Whether a goal is that of a clause of its function: it stands at a return, and is none of what a callee requires."""
+    if not goal.startswith("returns"):
+        return False
+    if clause == "ensures":
+        return "-clause-" not in goal
+    return not clause or goal.endswith(f"-clause-{clause}")
 
 
 def breaks(function: str, clause: str, reason: str) -> bool:
@@ -54,8 +59,8 @@ def breaks(function: str, clause: str, reason: str) -> bool:
     return is_of(found["goal"], clause) if found["goal"] else function in reason
 
 
-def fault(named: Optional[tuple[str, str]], what: Optional[str]) -> Optional[str]:
-    """What is wrong with an edit that names this function and clause, by what was said of it."""
+def fault(named: list[tuple[str, str]], what: Optional[str]) -> Optional[str]:
+    """What is wrong with an edit that names these functions and clauses, by what was said of it."""
     if what is None:
         return "the report doesn't tell of it"
     if not what.startswith(REFUSED):
@@ -65,9 +70,12 @@ def fault(named: Optional[tuple[str, str]], what: Optional[str]) -> Optional[str
         return "it is refused only by a limit of the prover: choose a change that it refuses sooner"
     if reason.startswith(" (only because a proof file names"):
         return "it is refused only since a name is gone: change a value and keep the names"
-    if named is None:
+    if not named:
         return f"it has no line '# breaks: FUNCTION.CLAUSE', or more than one; the prover says: {reason}"
-    return None if breaks(*named, reason) else f"it is to break {'.'.join(named)}, and the prover says: {reason}"
+    if any(breaks(*it, reason) for it in named):
+        return None
+    wanted = " or ".join(".".join(filter(None, it)) for it in named)
+    return f"it is to break {wanted}, and the prover says: {reason}"
 
 
 def faults(root: Path, report: str) -> Iterator[str]:
@@ -75,7 +83,7 @@ def faults(root: Path, report: str) -> Iterator[str]:
     told = read_report(report)
     for file in sorted(root.glob("crates/*/must-fail/*.edit")):
         edit = f"{file.parts[-3]}/{file.name}"
-        why = fault(clause_of(file.read_text(encoding="utf-8")), told.get(edit))
+        why = fault(clauses_of(file.read_text(encoding="utf-8")), told.get(edit))
         if why:
             yield f"{edit}: {why}"
     yield from unnamed(report)

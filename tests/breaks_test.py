@@ -4,7 +4,7 @@ import tempfile
 import unittest
 from pathlib import Path
 
-from breaks import breaks, clause_of, fault, faults, read_report
+from breaks import breaks, clauses_of, fault, faults, read_report
 
 PLACE = "./proofs/cache/Cache/put/Answers.antt:10:5: error: `returns-clause-keeps`: `rw`: no occurrence of the path's left endpoint"
 REPORT = f"""== lsm_cache
@@ -23,21 +23,24 @@ rt: crates/lsm_cache/must-fail/edit.txt: BAD EDIT: an edit stands right in must-
 
 
 class Breaks(unittest.TestCase):
-    def told(self, name: str, named: tuple[str, str] | None = ("put", "keeps")) -> str | None:
-        return fault(named, read_report(REPORT).get(f"lsm_cache/{name}.edit"))
+    def told(self, name: str, *named: tuple[str, str]) -> str | None:
+        return fault(list(named), read_report(REPORT).get(f"lsm_cache/{name}.edit"))
 
     def test_the_clause_that_is_named(self) -> None:
-        self.assertIsNone(self.told("kept"))
+        self.assertIsNone(self.told("kept", ("put", "keeps")))
+        self.assertIsNone(self.told("kept", ("get", "keeps"), ("put", "keeps")))
+        self.assertIsNone(self.told("kept", ("put", "")))
 
     def test_another_clause_or_function(self) -> None:
         for named in [("put", "eps"), ("put", "keep"), ("put", "ensures"), ("get", "keeps"), ("Cache", "keeps")]:
             self.assertEqual(self.told("kept", named), f"it is to break {'.'.join(named)}, and the prover says: {PLACE}")
+        self.assertEqual(self.told("kept", ("get", ""), ("put", "x")), f"it is to break get or put.x, and the prover says: {PLACE}")
 
     def test_no_clause(self) -> None:
-        self.assertEqual(self.told("kept", None), f"it has no line '# breaks: FUNCTION.CLAUSE', or more than one; the prover says: {PLACE}")
+        self.assertEqual(self.told("kept"), f"it has no line '# breaks: FUNCTION.CLAUSE', or more than one; the prover says: {PLACE}")
 
     def test_no_goal(self) -> None:
-        self.assertEqual(self.told("silent"), "it is to break put.keeps, and the prover says: ")
+        self.assertEqual(self.told("silent", ("put", "keeps")), "it is to break put.keeps, and the prover says: ")
 
     def test_goals(self) -> None:
         answers = "./proofs/writer/switch/Answers.antt:40:138: error: `returns-in_err-sync-2-clause-moments`: `rw`: no occurrence"
@@ -46,6 +49,8 @@ class Breaks(unittest.TestCase):
         whole = "./proofs/reader/newer/Answers.antt:4:1: error: `returns-in-Ok`: the types differ"
         self.assertTrue(breaks("newer", "ensures", whole))
         self.assertFalse(breaks("newer", "newest", whole))
+        required = "./proofs/cache/Cache/put/Answers.antt:9:1: error: `lru-put-requires-clause-keeps`: the types differ"
+        self.assertFalse(breaks("put", "keeps", required) or breaks("put", "", required))
         # A lemma is no clause, and a goal that is cut off is none.
         self.assertFalse(breaks("put", "keeps", "./proofs/ReadingLaws.antt:159:14: error: `put-clause-keeps`: write a variable"))
         self.assertFalse(breaks("put", "keeps", "./proofs/cache/Cache/put/Answers.antt:10:5: error: `returns-clause-kee"))
@@ -63,9 +68,10 @@ class Breaks(unittest.TestCase):
         self.assertEqual(self.told("other"), "the report doesn't tell of it")
 
     def test_the_line_of_an_edit(self) -> None:
-        self.assertEqual(clause_of("# Why.\n# breaks: put.keeps\nfile: src/cache.rt\n"), ("put", "keeps"))
-        for text in ("file: src/cache.rt\n", "# breaks: keeps\n", "# breaks: a.one b.two\n", "# breaks: a.one\n# breaks: a.two\n"):
-            self.assertIsNone(clause_of(text))
+        self.assertEqual(clauses_of("# Why.\n# breaks: put.keeps\nfile: src/cache.rt\n"), [("put", "keeps")])
+        self.assertEqual(clauses_of("# breaks: lives.led, make\n"), [("lives", "led"), ("make", "")])
+        for text in ("file: src/cache.rt\n", "# breaks:\n", "# breaks: a.one b.two\n", "# breaks: a.one\n# breaks: a.two\n"):
+            self.assertEqual(clauses_of(text), [])
 
     def test_files(self) -> None:
         with tempfile.TemporaryDirectory() as room:
