@@ -12,7 +12,5 @@ mod living;
 mod setup;
 #[cfg(test)]
 mod steps;
-mod whole;
 
 pub use checks::check_after_lives;
-pub use whole::lives_from_format;

@@ -4,3 +4,5 @@ pub mod Lived
 pub mod Lifetimes
 pub mod Made
 pub mod Listing
+pub mod Beginnings
+mod WorkedBatches

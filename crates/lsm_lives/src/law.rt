@@ -1,11 +1,14 @@
 // What steps and lives come to, and when a device holds what a crash left.
 ghost use Rattle.std.specs.Prelude.{ℕ, List, [], IsNone, Contains};
+ghost use Rattle.lsm_codec.specs.Map.{Operation};
 ghost use Rattle.lsm_device.specs.Disk.{Disk};
 ghost use Rattle.lsm_device.specs.Medium.{Medium, disk};
 ghost use Rattle.lsm_device.specs.Outcomes.{Leaves};
 ghost use Rattle.lsm_lives.specs.Asked.{Asked, Told};
+ghost use Rattle.lsm_lives.specs.Batches.{acts_asked, replies_told, KeepsBatches};
+ghost use Rattle.lsm_lives.specs.Devices.{KeepsBatchesOn};
 ghost use Rattle.lsm_lives.specs.Leading.{LifeView, LeadsTo, AreLed};
-ghost use Rattle.lsm_lives.specs.Living.{asked_in, Holds, AfterCrash, AreLived};
+ghost use Rattle.lsm_lives.specs.Living.{asked_in, Holds, AfterCrash, AreLived, KeepPromise};
 ghost use Rattle.lsm_lives.specs.Replaying.{MakesEach, AreReplayed, Replays, GoOn};
 ghost use Rattle.lsm_open.specs.CrashState.{CrashState};
 ghost use Rattle.lsm_open.specs.Image.{StandFor};
@@ -44,4 +47,12 @@ pub fn devices_hold_what_was_left()
         → Holds s.state.log_sectors (last_crash_state s.state) (may_leave s.state) (disk s.device) }
     ensures stopped { (s : StoreView) → IsBacked s → (left : CrashState) × Contains (may_leave s.state) left
         × Holds s.state.log_sectors left (may_leave s.state) (disk s.device) }
+{}
+
+/// Lives that keep the promise keep it in the words of calls, replies, batches and maps alone, and so on their device.
+pub fn promise_keeps_batches()
+    ensures batches { (log_sectors : ℕ) (before : List (List Operation)) (opened : CrashState) (lives : List (List Asked)) (answers : List (List Told)) (d : Disk)
+        → KeepPromise log_sectors before opened lives answers d → KeepsBatches log_sectors before opened (acts_asked lives) (replies_told answers) }
+    ensures device { (log_sectors : ℕ) (before : List (List Operation)) (opened : CrashState) (lives : List (List Asked)) (answers : List (List Told)) (d : Disk)
+        → KeepPromise log_sectors before opened lives answers d → KeepsBatchesOn log_sectors before opened (acts_asked lives) (replies_told answers) d }
 {}

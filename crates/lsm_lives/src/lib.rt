@@ -20,11 +20,14 @@ mod living;
 mod making;
 mod replaying;
 mod serving;
+mod whole;
 
 pub use calls::{Call, Reply, Step, Work};
 pub use law::{
-    devices_hold_what_was_left, led_lives_go_on, steps_go_on, what_is_asked_is_replayed,
+    devices_hold_what_was_left, led_lives_go_on, promise_keeps_batches, steps_go_on,
+    what_is_asked_is_replayed,
 };
 pub use living::{CACHE_BLOCKS, Life, lives, open, open_and_make};
 pub use replaying::replay;
 pub use serving::serve;
+pub use whole::lives_from_format;

@@ -1,11 +1,10 @@
 //! Reads that fail.
 
-use crate::lives_from_format;
 use crate::setup::{LOG_SECTORS, SECTORS};
 use crate::steps::{Line, steps_of};
 use lsm_check::{Finding, Report, check};
 use lsm_device::{Device, MemDevice, Refusal};
-use lsm_lives::Life;
+use lsm_lives::{Life, lives_from_format};
 use std::alloc::Global;
 use std::process::Abort;
 use std::thread::Threads;
