@@ -22,6 +22,8 @@ REFUSED = "refused, as it must be"
 # The goal that the prover told first, with the file of its answer: proofs/MODULE/FUNCTION/Answers.antt:LINE:COLUMN: error: `GOAL`: TEXT.
 # One without an answer is told at its line of src/.
 GOAL = re.compile(r"(?:\./)?(?P<file>(?:proofs|src)/\S+?):\d+:\d+: error(?:\[[\w-]+\])?: (?:`(?P<goal>[^`]+)`)?")
+# What a function ensures and has no answer for is told at the line of its `fn`.
+NOTE = re.compile(r"note: (?P<file>src/\S+?):(?P<line>\d+):\d+: it is not proved that what the function ensures holds .*?\(`(?P<goal>[^`]+)`\)")
 
 
 def read_report(text: str) -> dict[str, str]:
@@ -49,8 +51,18 @@ def is_of(goal: str, clause: str) -> bool:
     return not clause or goal.endswith(f"-clause-{clause}")
 
 
-def breaks(function: str, clause: str, reason: str) -> bool:
-    """Whether what the prover said is of this clause of the function. A line of src/ names the function, or is on its own clause."""
+def is_at(folder: Path, file: str, line: int, function: str) -> bool:
+    """Whether a function begins at this line of a file of the crate."""
+    lines = (folder / file).read_text(encoding="utf-8").splitlines()
+    return bool(re.search(rf"\bfn {function}\b", lines[line - 1])) if line <= len(lines) else False
+
+
+def breaks(function: str, clause: str, reason: str, folder: Path) -> bool:
+    """Whether what the prover said of an edit of this crate is of this clause of the function. A line of src/ names the function, or is on
+    its own clause."""
+    noted = NOTE.search(reason)
+    if noted:
+        return is_at(folder, noted["file"], int(noted["line"]), function) and is_of(noted["goal"], clause)
     found = GOAL.search(reason)
     if not found:
         return False
@@ -59,8 +71,8 @@ def breaks(function: str, clause: str, reason: str) -> bool:
     return is_of(found["goal"], clause) if found["goal"] else function in reason
 
 
-def fault(named: list[tuple[str, str]], what: Optional[str]) -> Optional[str]:
-    """What is wrong with an edit that names these functions and clauses, by what was said of it."""
+def fault(named: list[tuple[str, str]], what: Optional[str], folder: Path) -> Optional[str]:
+    """What is wrong with an edit of this crate that names these functions and clauses, by what was said of it."""
     if what is None:
         return "the report doesn't tell of it"
     if not what.startswith(REFUSED):
@@ -72,7 +84,7 @@ def fault(named: list[tuple[str, str]], what: Optional[str]) -> Optional[str]:
         return "it is refused only since a name is gone: change a value and keep the names"
     if not named:
         return f"it has no line '# breaks: FUNCTION.CLAUSE', or more than one; the prover says: {reason}"
-    if any(breaks(*it, reason) for it in named):
+    if any(breaks(*it, reason, folder) for it in named):
         return None
     wanted = " or ".join(".".join(filter(None, it)) for it in named)
     return f"it is to break {wanted}, and the prover says: {reason}"
@@ -83,7 +95,7 @@ def faults(root: Path, report: str) -> Iterator[str]:
     told = read_report(report)
     for file in sorted(root.glob("crates/*/must-fail/*.edit")):
         edit = f"{file.parts[-3]}/{file.name}"
-        why = fault(clauses_of(file.read_text(encoding="utf-8")), told.get(edit))
+        why = fault(clauses_of(file.read_text(encoding="utf-8")), told.get(edit), file.parent.parent)
         if why:
             yield f"{edit}: {why}"
     yield from unnamed(report)

@@ -24,7 +24,7 @@ rt: crates/lsm_cache/must-fail/edit.txt: BAD EDIT: an edit stands right in must-
 
 class Breaks(unittest.TestCase):
     def told(self, name: str, *named: tuple[str, str]) -> str | None:
-        return fault(list(named), read_report(REPORT).get(f"lsm_cache/{name}.edit"))
+        return fault(list(named), read_report(REPORT).get(f"lsm_cache/{name}.edit"), Path("lsm_cache"))
 
     def test_the_clause_that_is_named(self) -> None:
         self.assertIsNone(self.told("kept", ("put", "keeps")))
@@ -44,19 +44,28 @@ class Breaks(unittest.TestCase):
 
     def test_goals(self) -> None:
         answers = "./proofs/writer/switch/Answers.antt:40:138: error: `returns-in_err-sync-2-clause-moments`: `rw`: no occurrence"
-        self.assertTrue(breaks("switch", "moments", answers))
-        self.assertFalse(breaks("switch", "all", answers))
+        self.assertTrue(breaks("switch", "moments", answers, Path()))
+        self.assertFalse(breaks("switch", "all", answers, Path()))
         whole = "./proofs/reader/newer/Answers.antt:4:1: error: `returns-in-Ok`: the types differ"
-        self.assertTrue(breaks("newer", "ensures", whole))
-        self.assertFalse(breaks("newer", "newest", whole))
+        self.assertTrue(breaks("newer", "ensures", whole, Path()))
+        self.assertFalse(breaks("newer", "newest", whole, Path()))
         required = "./proofs/cache/Cache/put/Answers.antt:9:1: error: `lru-put-requires-clause-keeps`: the types differ"
-        self.assertFalse(breaks("put", "keeps", required) or breaks("put", "", required))
+        self.assertFalse(breaks("put", "keeps", required, Path()) or breaks("put", "", required, Path()))
         # A lemma is no clause, and a goal that is cut off is none.
-        self.assertFalse(breaks("put", "keeps", "./proofs/ReadingLaws.antt:159:14: error: `put-clause-keeps`: write a variable"))
-        self.assertFalse(breaks("put", "keeps", "./proofs/cache/Cache/put/Answers.antt:10:5: error: `returns-clause-kee"))
-        self.assertTrue(breaks("put", "keeps", "./src/cache.rt:10:5: error: `returns-clause-keeps`: no proof"))
-        self.assertFalse(breaks("put", "keeps", "./src/cache.rt:10:5: error: `returns-clause-size`: no proof"))
-        self.assertTrue(breaks("may_follow", "ensures", "src/reader.rt:49:1: error[not-proved]: fn lsm_root::reader::may_follow"))
+        self.assertFalse(breaks("put", "keeps", "./proofs/ReadingLaws.antt:159:14: error: `put-clause-keeps`: write a variable", Path()))
+        self.assertFalse(breaks("put", "keeps", "./proofs/cache/Cache/put/Answers.antt:10:5: error: `returns-clause-kee", Path()))
+        self.assertTrue(breaks("put", "keeps", "./src/cache.rt:10:5: error: `returns-clause-keeps`: no proof", Path()))
+        self.assertFalse(breaks("put", "keeps", "./src/cache.rt:10:5: error: `returns-clause-size`: no proof", Path()))
+        self.assertTrue(breaks("may_follow", "ensures", "src/reader.rt:49:1: error[not-proved]: fn lsm_root::reader::may_follow", Path()))
+
+    def test_a_function_without_answers(self) -> None:
+        note = "note: src/reader.rt:2:1: it is not proved that what the function ensures holds when it returns (`returns-in-One-later`); the facts"
+        with tempfile.TemporaryDirectory() as room:
+            (Path(room) / "src").mkdir()
+            (Path(room) / "src" / "reader.rt").write_text("// Whether.\nfn may_follow(a: u8) -> bool\n")
+            self.assertTrue(breaks("may_follow", "ensures", note, Path(room)))
+            self.assertFalse(breaks("newer", "ensures", note, Path(room)))
+            self.assertFalse(breaks("may_follow", "later", note, Path(room)))
 
     def test_refusals_that_say_little(self) -> None:
         self.assertIn("a limit of the prover", self.told("limit") or "")
