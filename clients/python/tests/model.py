@@ -23,6 +23,8 @@ def word(data: bytes) -> str:
 
 
 def data_of(said: str) -> bytes:
+    if said != "empty" and not re.fullmatch("([0-9a-fA-F]{2})+", said):
+        raise ValueError
     return b"" if said == "empty" else bytes.fromhex(said)
 
 
@@ -78,6 +80,8 @@ class Model:
         os.pwrite(self.file.fileno(), data, self.end)
         os.pwrite(self.file.fileno(), HEADER.pack(MAGIC, self.end + len(data)), 0)
         self.end += len(data)
+        if os.fstat(self.file.fileno()).st_size % 512:
+            os.ftruncate(self.file.fileno(), (self.end // 512 + 1) * 512)
         self.pending.clear()
 
     def at(self, words: List[str]) -> Dict[bytes, bytes]:

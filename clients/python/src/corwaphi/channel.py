@@ -34,7 +34,7 @@ class Channel:
         self._link = link
         self._lock = threading.RLock()
         self._closed = ""  # Why it is closed, if it is.
-        self._ended = False
+        self._ended = self._ending = False
         self._pending = False  # Whether a question was asked whose answer has not come whole.
         self._inside = False  # Whether a call of this channel is on the stack of the thread that has the lock.
         self._tag = 0
@@ -135,8 +135,7 @@ class Channel:
         self._closed = self._closed or f"a call was cut off by {type(error).__name__}"
         self._link.shut()
         if isinstance(error, (_NoMore, ConnectionError)):
-            said = self._link.end()
-            self._ended = True
+            said = self._end()
             return refusal_of_end(said) or Ended(said or "it ended before it answered")
         return error
 
@@ -195,12 +194,17 @@ class Channel:
             self._end()
 
     def _end(self) -> str:
+        """Ends the other side, once. Gives what it said. A handler that comes meanwhile does nothing."""
         self._closed = self._closed or "close() was called"
-        if self._ended:
+        if self._ended or self._ending:
             return ""
-        said = self._link.end()
-        self._ended = True
-        return said
+        self._ending = True
+        try:
+            said = self._link.end()
+            self._ended = True
+            return said
+        finally:
+            self._ending = False
 
     @property
     def closed(self) -> bool:

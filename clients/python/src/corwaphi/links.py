@@ -121,7 +121,11 @@ class ProcessLink(Link):
     def __init__(self, path: "str | os.PathLike[str]", program: Optional[str]) -> None:
         super().__init__()
         self._said = scratch()
-        self._process = start([program_of(program), "serve", path_word(path)], self._said)
+        try:
+            self._process = start([program_of(program), "serve", path_word(path)], self._said)
+        except BaseException:
+            self._said.close()
+            raise
         assert self._process.stdin is not None and self._process.stdout is not None
         self._input, self._output = self._process.stdin, self._process.stdout
         self._cut = False
