@@ -1,17 +1,36 @@
-"""Compares a store that `lsmctl serve` holds with a dict, by the Python client, and measures it.
+"""Compares a store that `lsmctl serve` holds with a dict, line by line, with tags and without, and measures it.
 
     serve.py compare PROGRAM FILE LINES     random lines beside a dict with snapshots; a kill in the middle, and a second start
-    serve.py speed PROGRAM FILE             gets that are sent at once, and one after another
+    serve.py speed PROGRAM FILE             gets that are sent at once, and one after another, and by the Python client
+
+The lines are sent as they stand. The Python client has tests of its own (tests/python.sh).
 """
 import os
 import random
 import signal
+import subprocess
 import sys
 import threading
 import time
 
-sys.path.insert(0, os.path.join(os.path.dirname(os.path.abspath(__file__)), "..", "clients", "python"))
-from corwaphi import Refused, Store  # noqa: E402
+sys.path.insert(0, os.path.join(os.path.dirname(os.path.abspath(__file__)), "..", "clients", "python", "src"))
+from corwaphi import Store  # noqa: E402
+
+
+class Served:
+    """A run of `lsmctl serve`."""
+
+    def __init__(self, file, program):
+        self.process = subprocess.Popen([program, "serve", file], stdin=subprocess.PIPE, stdout=subprocess.PIPE)
+
+    def __enter__(self):
+        return self
+
+    def __exit__(self, kind, *_):
+        self.process.stdin.close()
+        status = self.process.wait()
+        if kind is None and status != 0:
+            sys.exit(f"serve.py: it ends with {status}")
 
 
 def word(data):
@@ -77,13 +96,19 @@ class Lines:
         return f"scan {word(first)} {word(last)} {limit}{at}", reply
 
     def wrong(self):
-        line, why = self.random.choice([("rotate", "the line is no call"), ("nonsense", "the line can't be read"), ("", "the line can't be read"),
-                                        ("get 6", "the line can't be read"), ("x" * 300001, "a line has at most 300000 bytes")])
-        return line, f"usage {self.number}: {why}"
+        """A line that asks for nothing. That it is told is looked at here, and by which words in serve.sh."""
+        return self.random.choice(["rotate", "nonsense", "", "get 6", "get 61 ", "#get 61", "x" * 300001]), f"usage {self.number}: "
 
     def next(self):
-        """The next line, and its reply."""
+        """The next line, and its reply. Some lines have a tag, which the reply repeats."""
         self.number += 1
+        line, reply = self.untagged()
+        if self.random.random() < 0.5:
+            tag = f"#{self.random.randrange(10 ** self.random.randrange(1, 21))} "
+            return tag + line, tag + reply
+        return line, reply
+
+    def untagged(self):
         choice = self.random.random()
         if choice < 0.35:
             rows, at = self.place()
@@ -132,15 +157,16 @@ def answered(store, model, count, stop=None):
     synced = model.batches
     asked = 0
     while asked < count:
+        model.first = model.number + 1
         pairs = [model.next() for _ in range(min(200, count - asked))]
         batches = model.batches
         for place, reply in enumerate(ask_all(store, [line for line, _ in pairs])):
             line, expected = pairs[place]
-            if reply != expected:
+            if reply != expected and not (expected.endswith(f"usage {model.first + place}: ") and reply.startswith(expected)):
                 sys.exit(f"serve.py: line {asked + place + 1}: {line[:200]!r} was answered {reply[:200]!r}, not {expected[:200]!r}")
-            if reply.startswith("batch "):
-                batches = int(reply[6:])
-            if line == "sync":
+            if " batch " in f" {reply}":
+                batches = int(reply.split()[-1])
+            if line.split(" ")[-1] == "sync":
                 synced = batches
             if stop is not None and asked + place + 1 == stop:
                 os.kill(store.process.pid, signal.SIGKILL)
@@ -150,18 +176,18 @@ def answered(store, model, count, stop=None):
 
 
 def compare(program, file, count):
-    with Store(file, program) as store:
+    with Served(file, program) as store:
         model = Lines(1, 0, {})
         answered(store, model, count // 2)
     # All is synced at the end. The second start is killed somewhere within a batch of lines, and the third finds what was synced.
-    store = Store(file, program)
+    store = Served(file, program)
     model = Lines(2, model.batches, model.now)
     begun = dict(model.now)
     synced = answered(store, model, count, stop=count // 2 + 37)
     store.process.communicate()
-    with Store(file, program) as store:
-        found = dict(store.scan())
-        batches = int(store._ask("stat")[3])
+    with Store.open(file, program=program) as store:
+        found = dict(store.items())
+        batches = store.stat().batches
         if not synced <= batches <= model.batches:
             sys.exit(f"serve.py: {batches} batches after a kill, where {synced} were synced and {model.batches} asked for")
         for number, changes in model.history:
@@ -170,48 +196,42 @@ def compare(program, file, count):
         expected = {key: value for key, value in begun.items() if value is not None}
         if found != expected:
             sys.exit(f"serve.py: after a kill the store has another map than after {batches} batches")
-        calls(store)
     print(f"serve.py: {count} lines, {batches} batches, {len(found)} keys after a kill: as a dict")
 
 
-def calls(store):
-    """The calls of the client."""
-    number = store.put(b"apple", b"red")
-    assert store.commit([(b"pear", b""), (b"plum", b"blue"), (b"apple", None)]) == number + 1
-    assert (store.get(b"pear"), store.get(b"apple")) == (b"", None)
-    with store.snapshot() as then:
-        store.delete(b"plum")
-        assert [key for key, _ in then.scan(b"p", b"q", 1)] == [b"pear", b"plum"]
-        assert then.get(b"plum") == b"blue"
-    assert store.get(b"plum") is None
-    store.commit_if([(b"pear", b""), (b"fig", None)], [(b"fig", b"1")])
-    try:
-        store.commit_if([(b"fig", None)], [(b"fig", b"2")])
-        sys.exit("serve.py: a false guard was taken")
-    except Refused as refusal:
-        assert (refusal.number, refusal.name, refusal.place) == (30, "GuardFailed", 0)
-    store.sync()
-
-
 def speed(program, file):
-    with Store(file, program) as store:
+    chosen = random.Random(3)
+    keys = [b"%05d" % chosen.randrange(10000) for _ in range(100000)]
+    lines = [f"get {word(key)}" for key in keys]
+    with Served(file, program) as store:
         for first in range(0, 10000, 100):
-            store.commit([(b"%05d" % key, b"value") for key in range(first, first + 100)])
-        chosen = random.Random(3)
-        lines = [f"get {word(b'%05d' % chosen.randrange(10000))}" for _ in range(100000)]
-        begun = time.perf_counter()
-        for reply in ask_all(store, lines):
-            assert reply == "value 76616c7565", reply
-        at_once = time.perf_counter() - begun
-        begun = time.perf_counter()
-        for line in lines[:20000]:
-            store.process.stdin.write(line.encode() + b"\n")
-            store.process.stdin.flush()
-            store.process.stdout.readline()
-        one_by_one = time.perf_counter() - begun
+            ask_one(store, "commit " + " ".join(f"+{word(b'%05d' % key)}=76616c7565" for key in range(first, first + 100)))
+        at_once = seconds(lambda: [reply for reply in ask_all(store, lines) if reply != "value 76616c7565"])
+        one_by_one = seconds(lambda: [line for line in lines[:20000] if ask_one(store, line) != "value 76616c7565"])
     used = os.times()
     print(f"100,000 gets at once: {at_once:.2f} s, of which the program took {used.children_user + used.children_system:.2f} s in all; "
           f"one after another: {one_by_one / 20000 * 1e6:.1f} us each")
+    with Store.open(file, program=program) as store:
+        calls = store.pipeline()
+        for key in keys:
+            calls.get(key)
+        at_once = seconds(lambda: [value for value in calls.run() if value != b"value"])
+        one_by_one = seconds(lambda: [key for key in keys[:20000] if store.get(key) != b"value"])
+    print(f"by the client: 100,000 gets of a pipeline: {at_once:.2f} s; one after another: {one_by_one / 20000 * 1e6:.1f} us each")
+
+
+def ask_one(store, line):
+    store.process.stdin.write(line.encode() + b"\n")
+    store.process.stdin.flush()
+    return store.process.stdout.readline().decode().rstrip("\n")
+
+
+def seconds(work):
+    """How long work takes that gives nothing if all is right."""
+    begun = time.perf_counter()
+    if work():
+        sys.exit("serve.py: a get has another value")
+    return time.perf_counter() - begun
 
 
 if __name__ == "__main__":
