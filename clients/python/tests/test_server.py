@@ -115,7 +115,7 @@ class Servers(Case):
             self.addCleanup(slow.close)
             slow.connect(self.socket)
             slow.setblocking(False)
-            sent, line = 0, b"scan empty end 64\n"
+            sent, line = 0, b"#%020d get 3037\n" % 7
             for _ in range(200):
                 try:
                     sent += slow.send(line * 1000)

@@ -65,8 +65,10 @@ class Channel:
 
     def _between(self, work: Callable[[], T]) -> T:
         """Does what lies between questions and answers. That a question is pending stands before it is sent, and until its answer is read."""
-        self._inside = True
+        self._inside = True  # From here on a handler can't close it.
         try:
+            if self._closed:
+                raise Closed(f"the store is closed: {self._closed}")
             self._pending = True
             result = work()
             self._check_process()
