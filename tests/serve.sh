@@ -3,7 +3,7 @@
 #
 #     tests/serve.sh PROGRAM [LINES]
 #
-# PROGRAM is a built `lsmctl`. By the Python client LINES random lines (20,000) are compared with a dict and its snapshots; a kill
+# PROGRAM is a built `lsmctl`. LINES random lines (20,000), with tags and without, are compared with a dict and its snapshots; a kill
 # falls in the middle, and a second start has to find all that was synced. Where the machine lacks python3 that part is
 # skipped, and a line says so.
 set -u
@@ -113,9 +113,9 @@ printf 'no store' >none
 if command -v python3 >/dev/null; then
     rm -f F
     "$program" format F 8192 128 >out || fail "format: $(cat out)"
-    python3 "$tests/serve.py" compare "$program" F "$lines" || fail 'the Python client'
+    python3 "$tests/serve.py" compare "$program" F "$lines" || fail 'random lines'
     "$program" check F >out || fail "after a kill: $(cat out)"
 else
-    echo "serve.sh: skipped: the Python client, since python3 is not installed"
+    echo "serve.sh: skipped: random lines, since python3 is not installed"
 fi
 echo "serve.sh: all is as it should be"

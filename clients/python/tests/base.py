@@ -40,6 +40,10 @@ class Case(unittest.TestCase):
         self.file = os.path.join(self.folder, "F")
         self.socket = os.path.join(self.folder, "S")
         self.addCleanup(shutil.rmtree, self.folder, ignore_errors=True)
+        if len(self.socket) > 100:  # The path of a socket has at most 107 bytes.
+            short = tempfile.mkdtemp(dir="/tmp")
+            self.socket = os.path.join(short, "S")
+            self.addCleanup(shutil.rmtree, short, ignore_errors=True)
         self.addCleanup(faulthandler.cancel_dump_traceback_later)
 
     def store(self, **words: Any) -> Store:

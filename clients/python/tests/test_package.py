@@ -48,31 +48,20 @@ class Pages(Case):
             self.assertEqual(dict(store.items()), {b"apple": b"red", b"pear": b"ripe", b"last": b"20"})
 
     def test_the_page_of_other_languages(self) -> None:
-        self.server()
-        for language, code in blocks(os.path.join(os.path.dirname(PACKAGE), "README.md")):
-            with self.subTest(language=language):
-                if language == "sh":
-                    self.assertEqual(self.shell(code.replace("first.sock", "S")), ["#1 batch 1", "#2 value 31", "#3 ok"])
-                else:
-                    self.assertEqual(self.compiled(code), ["batch 2", "value 677265656e", "ok"])
-
-    def needs(self, tool: str) -> None:
-        """A machine without the tool fails, unless it may be skipped."""
-        if shutil.which(tool) is None:
-            if os.environ.get("CHECK_WITHOUT_TOOLS") == "1":
-                self.skipTest(f"{tool} is not installed")
-            self.fail(f"{tool} is not installed")
-
-    def shell(self, code: str) -> List[str]:
-        self.needs("nc")
-        return subprocess.run(["sh", "-c", code], cwd=self.folder, capture_output=True, text=True, timeout=60, check=True).stdout.splitlines()
-
-    def compiled(self, code: str) -> List[str]:
-        self.needs("cc")
+        self.store().close()
+        code = dict(blocks(os.path.join(os.path.dirname(PACKAGE), "README.md")))
         with open(os.path.join(self.folder, "first.c"), "w", encoding="utf-8") as file:
-            file.write(code)
-        subprocess.run(["cc", "-Wall", "-Wextra", "-Werror", "-o", "first", "first.c"], cwd=self.folder, check=True, timeout=60)
-        return subprocess.run(["./first", "S"], cwd=self.folder, capture_output=True, text=True, timeout=60, check=True).stdout.splitlines()
+            file.write(code["c"])
+        self.assertEqual(self.lines("bash", "-euc", code["sh"].replace("first.img", "F")), ["batch 1", "value 31"])
+        if shutil.which("cc") is None:
+            self.skipTest("cc is not installed, so the page's example in C is not compiled")
+        self.server()
+        self.lines("cc", "-Wall", "-Wextra", "-Werror", "-o", "first", "first.c")
+        self.assertEqual(self.lines("./first", self.socket), ["batch 2", "value 677265656e", "ok"])
+
+    def lines(self, *words: str) -> List[str]:
+        done = subprocess.run(words, cwd=self.folder, stdout=subprocess.PIPE, text=True, timeout=100, check=True)
+        return done.stdout.splitlines()
 
 
 class Installed(Case):
