@@ -19,7 +19,7 @@ from typing import IO, Optional, Sequence
 from .errors import Error
 
 PATIENCE = 60.0  # The seconds that an end may take. Then it is a kill, which loses nothing that was synced.
-PIPE_SIZE = 1 << 20
+PIPE_SIZE = 1 << 19  # A line has less than half of that. A user may have some hundred such pipes.
 PIECE = 1 << 18  # The most bytes of one read.
 
 _links: "dict[int, weakref.ref[Link]]" = {}
@@ -130,7 +130,6 @@ class ProcessLink(Link):
         self._input, self._output = self._process.stdin, self._process.stdout
         self._cut = False
         self.window = _enlarge(self._input.fileno()) // 4
-        _enlarge(self._output.fileno())
 
     @property
     def pid(self) -> int:

@@ -66,7 +66,7 @@ class Pipeline:
 
     def run(self) -> List[object]:
         """Makes the calls, and forgets them. Gives their results."""
-        questions, self._questions = self._questions, []
+        questions, self._questions, self.results = self._questions, [], []
         self.results = self._channel.ask_all(questions)
         return self.results
 
