@@ -5,4 +5,5 @@ pub mod Lifetimes
 pub mod Made
 pub mod Listing
 pub mod Beginnings
+mod Formatted
 mod WorkedBatches

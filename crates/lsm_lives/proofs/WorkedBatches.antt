@@ -1,5 +1,5 @@
 -- What ring 1 allows and what it refuses, computed from its definitions.
-use Rattle.std.proofs.Common.{◌≡◌, ◌≤◌, ℕ, zero, suc, List, [], ◌∷◌, length, map, take, Option, Some, None, refl, ap, sym, subst, ◌∙◌, arith, rules}
+use Rattle.std.proofs.Common.{◌≡◌, ◌≤◌, ℕ, zero, suc, List, [], ◌∷◌, length, map, take, Option, Some, None, refl, ap, sym, subst, ◌∙◌, arith}
 use Rattle.std.specs.FinMap as finite
 use Rattle.std.specs.FinMap.{gets}
 use Rattle.lsm_codec.specs.BatchText.{batch_text}
@@ -7,7 +7,7 @@ use Rattle.lsm_codec.specs.Keys.{Bytes}
 use Rattle.lsm_codec.specs.Map.{Map, Operation, apply_all}
 use Rattle.lsm_device.specs.declared.refusal.Refusal.TheVariants.{Io, LogFull}
 use Rattle.lsm_open.specs.CrashState.{CrashState, formatted}
-use Rattle.lsm_store.specs.Calls.{Call, Reply}
+use Rattle.lsm_store.specs.Calls.{Reply}
 use Rattle.lsm_store.specs.Calls.{Commit, Sync, Get, Number, Done, Value, Refused, Unread, as_told}
 use Rattle.lsm_store.specs.Crash.{reopened}
 use Rattle.lsm_store.specs.Effects.{decided}
@@ -138,7 +138,10 @@ module _ (log_sectors : ℕ) (before after : List (List Operation)) (opened left
 
 -- ---- two lives: an opening doesn't lose a synced batch
 
-take_none : (n : ℕ) → take n ([] {A = List Operation}) ≡ []
+abbrev no_batches : List (List Operation)
+no_batches = []
+
+take_none : (n : ℕ) → take n no_batches ≡ no_batches
 take_none zero = refl
 take_none (suc n) = refl
 
@@ -146,14 +149,14 @@ kept_one : (batch : List Operation) (n : ℕ) (after : List (List Operation)) �
 kept_one batch zero after least is = absurd (omega (arith, least))
 kept_one batch (suc n) after least is = is ∙ ap (λ (l : List (List Operation)). batch ∷ l) (take_none n)
 
-no_batch : 0 ≡ 1 → ⊥
-no_batch is = cc
+not_one : zero ≡ suc zero → ⊥
+not_one is = cc
 
 opening_loses_none : KeepsBatches 128 [] formatted ((Calls (Commit one) ∷ Calls Sync ∷ []) ∷ [] ∷ []) ((Number 0 ∷ Number 1 ∷ Done ∷ []) ∷ (Number 0 ∷ []) ∷ []) → ⊥
 opening_loses_none (after, left, life, (later, end, next_life, rest)) =
-    let kept = kept_as_told 128 [] after formatted left (Calls (Commit one) ∷ Calls Sync ∷ []) (Number 0 ∷ Number 1 ∷ Done ∷ []) (number_quiet 0, number_quiet 1, done_quiet, tt) life in
+    let kept = kept_as_told 128 [] after formatted left (Calls (Commit one) ∷ Calls Sync ∷ []) (Number 0 ∷ Number 1 ∷ Done ∷ []) (number_quiet 0, (number_quiet 1, (done_quiet, tt))) life in
     let opens = life_as_told 128 after later left end [] (Number 0 ∷ []) (number_quiet 0, tt) next_life in
-    no_batch (opens.1 ∙ next_life.opens.count ∙ ap length (kept_one one kept.holds after kept.at_least kept.is))
+    not_one (opens.1 ∙ next_life.opens.count ∙ ap length (kept_one one kept.holds after kept.at_least kept.is))
 
 -- ---- two lives: nor does it keep half a batch, synced or not
 
@@ -166,14 +169,14 @@ asked_of_left left = refl
 
 -- what is kept of it where an opening answers 1
 whole : (n : ℕ) (after : List (List Operation)) → after ≡ take n (two ∷ []) → 1 ≡ length after → after ≡ two ∷ []
-whole zero after is counted = absurd (no_batch (sym (counted ∙ ap length is)))
+whole zero after is counted = absurd (not_one (sym (counted ∙ ap length is)))
 whole (suc n) after is counted = is ∙ ap (λ (l : List (List Operation)). two ∷ l) (take_none n)
 
 opening_keeps_no_half : KeepsBatches 128 [] formatted ((Calls (Commit two) ∷ []) ∷ (Calls (Get Now (0x62 ∷ [])) ∷ []) ∷ []) ((Number 0 ∷ Number 1 ∷ []) ∷ (Number 1 ∷ Value None ∷ []) ∷ []) → ⊥
 opening_keeps_no_half (after, left, life, (later, end, next_life, rest)) =
-    let kept = kept_as_told 128 [] after formatted left (Calls (Commit two) ∷ []) (Number 0 ∷ Number 1 ∷ []) (number_quiet 0, number_quiet 1, tt) life in
-    let opens = life_as_told 128 after later left end (Calls (Get Now (0x62 ∷ [])) ∷ []) (Number 1 ∷ Value None ∷ []) (number_quiet 1, value_quiet None, tt) next_life in
+    let kept = kept_as_told 128 [] after formatted left (Calls (Commit two) ∷ []) (Number 0 ∷ Number 1 ∷ []) (number_quiet 0, (number_quiet 1, tt)) life in
+    let opens = life_as_told 128 after later left end (Calls (Get Now (0x62 ∷ [])) ∷ []) (Number 1 ∷ Value None ∷ []) (number_quiet 1, (value_quiet None, tt)) next_life in
     let is = whole kept.holds after kept.is (opens.1 ∙ next_life.opens.count) in
-    hidden (0x32 ∷ []) (opens.2.1.0 ∙ asked_of_left left
+    hidden (0x32 ∷ []) (opens.3.0 ∙ asked_of_left left
     ∙ ap (λ (m : Map). Value (finite.get m (0x62 ∷ []))) (next_life.opens.same_map ∙ ap (λ (l : List (List Operation)). apply_all finite.empty l) is)
     ∙ ap (λ (o : Option Bytes). Value o) second_found)
