@@ -4,9 +4,9 @@
     tests/breaks.py REPORT
 
 REPORT is what `rt ci` or `rt must-fail` printed. Each crates/NAME/must-fail/*.edit has a line `# breaks: FUNCTION.CLAUSE, ..`, as
-`put.keeps`, where `ensures` stands for a clause without a name, and a FUNCTION alone for each of its clauses. The first goal that `rt`
-tells of the edit has to be of one of these. What was refused only by a limit of the prover, or only since a name is gone, says little of
-a contract, and a bad edit says nothing.
+`put.keeps`, where `ensures` stands for a clause without a name, and a FUNCTION alone for each of its clauses. `put.loop` is what a loop
+of it keeps, and `put.CALL` what it owes to a call. The first goal that `rt` tells of the edit has to be of one of these. What was refused
+only by a limit of the prover, or only since a name is gone, says little of a contract, and a bad edit says nothing.
 """
 
 from __future__ import annotations
@@ -43,9 +43,10 @@ def clauses_of(text: str) -> list[tuple[str, str]]:
 
 
 def is_of(goal: str, clause: str) -> bool:
-    """Whether a goal is that of a clause of its function: it stands at a return, and is none of what a callee requires."""
+    """Whether a goal is that of a clause of its function: it stands at a return, and is none of what a callee requires. In the place of a
+    clause `loop` stands for what its loops keep, and the name of a call for what that requires."""
     if not goal.startswith("returns"):
-        return False
+        return bool(clause) and goal.startswith(f"{clause}-")
     if clause == "ensures":
         return "-clause-" not in goal
     return not clause or goal.endswith(f"-clause-{clause}")
