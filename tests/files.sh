@@ -23,14 +23,6 @@ run_below() {
     ) || status=$?
 }
 
-# Whether the run was refused so, and the second line tells what the system said: that the file would be too large, or that a write fell
-# short.
-is_told() {
-    local first=${said%%$'\n'*} second=${said#*$'\n'}
-    [ "$first" = "refused $*" ] || return 1
-    [ "$second" = 'error: File too large (os error 27)' ] || [ "$second" = 'error: a write to the file fell short' ]
-}
-
 # What a `put` under a limit left: all of it where it was acknowledged, else everything or nothing.
 look() {
     local limit=$1 got
@@ -62,7 +54,7 @@ puts_below_limits() {
                 done=$((done + 1))
                 ;;
             1)
-                is_told 02 Io || fail "limit $limit: put prints '$said'"
+                [ "$said" = "refused 02 Io" ] || fail "limit $limit: put prints '$said'"
                 refused=$((refused + 1))
                 ;;
             *) fail "limit $limit: put ended with $status: $said" ;;
@@ -83,20 +75,13 @@ puts_below_limits() {
 formats_below_limits() {
     local limit
     for limit in 0 511 512 66816 $((size / 2)) $((size - 512)) $((size - 1)); do
-        rm -rf making
-        mkdir making
-        run_below "$limit" ignored format making/made 8192 128
-        [ "$status" -eq 1 ] && is_told 02 Io || fail "format below $limit bytes ended with $status: $said"
-        [ -z "$(ls -A making)" ] || fail "a format that is refused leaves $(ls -A making)"
-        # A store that is there stays as it was.
-        cp fresh making/made
-        run_below "$limit" ignored format making/made 8192 130
-        [ "$status" -eq 1 ] && is_told 02 Io || fail "format of a store below $limit bytes ended with $status: $said"
-        [ "$(ls -A making)" = made ] && cmp -s fresh making/made || fail "a format that is refused leaves another file: $(ls -A making)"
+        rm -f made
+        run_below "$limit" ignored format made 8192 128
+        [ "$status" -eq 1 ] && [ "$said" = "refused 02 Io" ] || fail "format below $limit bytes ended with $status: $said"
     done
     run_below "$size" ignored format made 8192 128
     [ "$status" -eq 0 ] && [ "$(stat -c %s made)" -eq "$size" ] || fail "format below $size bytes ended with $status: $said"
-    echo "files.sh: format is refused below each limit of the file size that its file exceeds, and leaves what was there"
+    echo "files.sh: format is refused below each limit of the file size that its file exceeds"
 }
 
 # A put first moves the batch before it into a table. The limit leaves all but the data blocks, so that the write of the table's
@@ -105,7 +90,7 @@ put_that_cannot_settle() {
     cp fresh store
     "$program" put store 61 31 >out 2>err || fail "put: $(cat err)"
     run_below $((514 * 512)) ignored put store 62 32
-    [ "$status" -eq 1 ] && is_told 03 Stopped || fail "a put that can't settle ended with $status: $said"
+    [ "$status" -eq 1 ] && [ "$said" = "refused 03 Stopped" ] || fail "a put that can't settle ended with $status: $said"
     [ "$("$program" get store 61)" = "value 31" ] || fail "get 61 after a put that couldn't settle"
     [ "$("$program" get store 62)" = absent ] || fail "get 62 after a put that couldn't settle"
     "$program" put store 62 32 >out 2>err || fail "put: $(cat err)"
@@ -113,26 +98,10 @@ put_that_cannot_settle() {
     echo "files.sh: a put whose settling fails is refused with 03 Stopped, and loses nothing"
 }
 
-# A store that is served answers each line behind the write that failed, and ends with 1.
-served_below_a_limit() {
-    cp fresh store
-    printf 'commit +61=31\nget 61\n' >lines
-    status=0
-    (
-        trap '' XFSZ
-        exec prlimit --core=0 --fsize=$((130 * 512)) "$program" serve store <lines >answers 2>told
-    ) || status=$?
-    said=$(cat told)
-    [ "$status" -eq 1 ] && is_told 03 Stopped || fail "serve ended with $status: $said"
-    [ "$(cat answers)" = $'refused 02 Io\nrefused 03 Stopped' ] || fail "serve answers $(cat answers)"
-    echo "files.sh: a store that is stopped while it is served ends with 1, and tells why"
-}
-
 if has prlimit 'writes that fail or fall short'; then
     puts_below_limits
     formats_below_limits
     put_that_cannot_settle
-    served_below_a_limit
 fi
 
 # ---- a file that other processes read
@@ -251,30 +220,6 @@ if traces 'syncs of a file, which nothing else sees'; then
     [ "$formatting $putting $getting" = "3 4 3" ] || fail "syncs of data: format $formatting, put $putting, get $getting"
     echo "files.sh: syncs of data: format $formatting and one of the whole file and its folder, put $putting, get $getting; each before the line that tells"
 fi
-
-# ---- a file that may only be read
-
-# Checks work side by side; no other word takes such a file. Whom nothing is denied asks for less.
-cp fresh readable
-chmod 444 readable
-as_reader=()
-if [ "$(id -u)" = 0 ] && has setpriv 'a file that may only be read'; then
-    # The program and the file have to be where nobody may go.
-    chmod 755 "$room" "$folder"
-    cp "$program" reader
-    as_reader=(setpriv --reuid 65534 --regid 65534 --clear-groups)
-fi
-reader=$program
-if [ -e reader ]; then reader=./reader; fi
-said=$("${as_reader[@]}" "$reader" check readable 2>&1) || fail "check of a file that may only be read: $said"
-[ "$said" = 'ok generation 2 batches 0 tables 0 entries 0 free 959' ] || fail "check of a file that may only be read prints '$said'"
-status=0
-said=$("${as_reader[@]}" "$reader" get readable 61 2>&1) || status=$?
-[ "$status" -eq 1 ] && [ "$said" = "$(printf 'refused 02 Io\nerror: the file may not be read and written')" ] || fail "get of a file that may only be read ended with $status: $said"
-if has flock 'checks side by side'; then
-    said=$(flock -s readable "$program" check readable 2>&1) || fail "check of a file that is read: $said"
-fi
-echo "files.sh: a file that may only be read is checked, also while others read it"
 
 # ---- a file that another program has
 

@@ -1,6 +1,6 @@
 -- What follows from how a run of the program ends.
-use Rattle.std.proofs.Common.{◌≡◌, ◌∙◌, ◌&&◌, ℕ, Bor, List, Option, Some, None, Result, Ok, Err, MatchResult, true, false, true≢false, refl, sym, ap, subst, inl, inr, arith, ◌⊎◌}
-use Rattle.std.specs.Prelude.{IfErr, IfOk, IsTrue, is_some}
+use Rattle.std.proofs.Common.{◌≡◌, ◌∙◌, ℕ, Bor, List, Option, Some, None, Result, Ok, Err, MatchResult, true, false, true≢false, refl, sym, ap, subst, inl, inr, arith, ◌⊎◌}
+use Rattle.std.specs.Prelude.{IsTrue}
 use Rattle.std.specs.Io.KnownBytes.{Appends, Keeps}
 use Rattle.std.specs.declared.io.Error.{Error}
 use Rattle.clap.specs.Words.{HasKind, IsAmong, kind_of, Row, Text, fault_of, subcommand_of}
@@ -8,7 +8,7 @@ use Rattle.clap.specs.declared.error.Error.{Error as ClapError}
 use Rattle.clap.specs.declared.error.kind.ErrorKind.{ErrorKind}
 use Rattle.clap.specs.declared.error.kind.ErrorKind.TheVariants.{OutOfMemory}
 use Rattle.lsm_device.specs.declared.refusal.Refusal.{Refusal}
-use Rattle.lsm_device.specs.declared.refusal.Refusal.TheVariants.{NoMemory, Stopped}
+use Rattle.lsm_device.specs.declared.refusal.Refusal.TheVariants.{NoMemory}
 use Rattle.lsm_requests.specs.declared.answer.Answer.{Answer}
 use Rattle.lsm_language.specs.declared.asked.Asked.{Asked}
 use Rattle.lsm_language.specs.declared.asked.Asked.TheVariants as asked
@@ -17,18 +17,15 @@ use Rattle.lsm_language.specs.declared.request.Request.TheVariants as request
 use Rattle.lsm_language.specs.declared.fault.Fault.{Fault}
 use Rattle.lsm_language.specs.Faults.{Reason, mistake, refusal, unopened, unread, unwritten, reason_of, status_of}
 use Rattle.lsm_cli.specs.Program.{has_words, program}
-use Rattle.lsm_language.specs.Lines.{Said}
-use Rattle.lsm_language.specs.Numbers.{number_said}
-use Rattle.lsm_language.specs.Requests.{Says, kind_of, or_else, reason_for, said_reason, wants_script}
-use Rattle.lsm_language.specs.Scripts.{FailsScript}
+use Rattle.lsm_language.specs.Requests.{Says, reason_for, wants_script}
 use Rattle.lsm_requests.specs.Answers.{Comes, LoadsTo, TellsLoaded, TellsNumber, TellsServed}
 use Rattle.lsm_serve.specs.Answering.{Answered}
 use Rattle.lsm_serve.specs.Serving.{ToldBefore}
-use Rattle.lsm_requests.specs.Refusing.{FaultsWith, MayRefuse}
+use Rattle.lsm_requests.specs.Refusing.{FaultsWith}
 use Rattle.lsm_requests.specs.Loading.{loaded_line}
 use Rattle.lsm_requests.proofs.EndingLaws.{answer_status-at_most}
 use Rattle.lsm_requests.specs.Endings.{PrintsAnswer, PrintsFault, Written, status_after}
-use Rattle.lsm_cli.specs.Runs.{AskNothing, IsAsked, Fails, FindsMistake, HasServed, IsRead, IsRequested, IsRun, IsServed, IsTried, IsUntried, IsWrong, LoadsToNoRow, has_dash}
+use Rattle.lsm_cli.specs.Runs.{AskNothing, IsAsked, Fails, FindsMistake, HasServed, IsRead, IsRequested, IsRun, IsServed, IsToldAs, IsTried, IsUntried, IsWrong, LoadsToNoRow, has_dash}
 use Rattle.lsm_cli.proofs.ProgramLaws.{has_words-asked}
 
 -- ---- words that ask for nothing
@@ -63,40 +60,21 @@ AskNothing-words words name rows found e = record {
 -- ---- why there is no answer
 
 -- the first that is wrong with what was read
-pub untried-request : (words : List Text) (input : Option (List ℕ)) (asked : Asked) (said : Option (List Said)) (reason : Reason) → IsRead words input asked said
-    → (reason_for asked said ≡ Some reason) ⊎ (reason ≡ refusal NoMemory) → IsUntried words input reason
-untried-request words input asked said reason read (inl e) = inl record { asked = asked; said = said; read = read; first = e }
-untried-request words input asked said reason read (inr e) = inr (inr (inl e))
-
--- a script that says nothing is the first mistake, where the words before it are right
-none_said : (asked : Asked) → IsTrue (wants_script asked) → reason_for asked None ≡ Some mistake
-none_said (asked.Replay file) wants = refl
-none_said (asked.Lives sectors log) wants = both (number_said sectors.now) (number_said log.now) wants
-  where
-    both : (m n : Option ℕ) → IsTrue (is_some m && is_some n) → or_else (said_reason m) (or_else (said_reason n) (Some mistake)) ≡ Some mistake
-    both (Some m) (Some n) some = refl
-    both (Some m) None some = absurd (true≢false (sym some))
-    both None n some = absurd (true≢false (sym some))
-none_said (asked.Explore sectors log) wants = both (number_said sectors.now) (number_said log.now) wants
-  where
-    both : (m n : Option ℕ) → IsTrue (is_some m && is_some n) → or_else (said_reason m) (or_else (said_reason n) (Some mistake)) ≡ Some mistake
-    both (Some m) (Some n) some = refl
-    both (Some m) None some = absurd (true≢false (sym some))
-    both None n some = absurd (true≢false (sym some))
-none_said other wants = absurd (true≢false (sym wants))
+pub untried-request : (words : List Text) (input : Option (List ℕ)) (asked : Asked) (text : List ℕ) (reason : Reason) → IsRead words input asked text
+    → (reason_for asked text ≡ Some reason) ⊎ (reason ≡ refusal NoMemory) → IsUntried words input reason
+untried-request words input asked text reason read (inl e) = inl record { asked = asked; text = text; read = read; first = e }
+untried-request words input asked text reason read (inr e) = inr (inr (inl e))
 
 -- words that ask for nothing, or no memory for them
 pub untried-words : (words : List Text) (input : Option (List ℕ)) (reason : Reason) → ((reason ≡ mistake) × AskNothing words) ⊎ (reason ≡ refusal NoMemory) → IsUntried words input reason
 untried-words words input reason (inl nothing) = inr (inl nothing)
 untried-words words input reason (inr short) = inr (inr (inl short))
 
--- a script that says nothing, or could not be read, or no memory for it
-pub untried-script : (words : List Text) (input : Option (List ℕ)) (asked : Asked) (reason : Reason) → IsAsked words asked → IsTrue (wants_script asked)
-    → FailsScript (kind_of asked) input reason → IsUntried words input reason
-untried-script words input asked reason words_ask wants (inl (is, nothing)) =
-    inl record { asked = asked; said = None; read = record { words_ask = words_ask; whole = λ _. nothing }; first = none_said asked wants ∙ ap (λ (r : Reason). Some r) (sym is) }
-untried-script words input asked reason words_ask wants (inr (inl short)) = inr (inr (inl short))
-untried-script words input asked reason words_ask wants (inr (inr is)) = inr (inr (inr (is, record { asked = asked; words_ask = words_ask; wants = wants })))
+-- a script that could not be read, or no memory for it
+pub untried-script : (words : List Text) (input : Option (List ℕ)) (asked : Asked) (reason : Reason) → IsAsked words asked
+    → (reason ≡ refusal NoMemory) ⊎ ((reason ≡ unread) × IsTrue (wants_script asked)) → IsUntried words input reason
+untried-script words input asked reason words_ask (inl short) = inr (inr (inl short))
+untried-script words input asked reason words_ask (inr (is, wants)) = inr (inr (inr (is, record { asked = asked; words_ask = words_ask; wants = wants })))
 
 -- known bytes that are the same are kept
 pub keeps : (old new : Option (List ℕ)) → new ≡ old → Keeps old new
@@ -105,40 +83,24 @@ keeps (Some xs) None e = cc
 keeps (Some xs) (Some ys) e = cc
 
 -- the input is left as it is before it is read for rows
-untouched_lines : (asked : Asked) (said : Option (List Said)) (path : Bor (List ℕ)) → Says asked said (request.Serve path) → wants_script asked ≡ false
-untouched_lines (asked.Serve file) said path says = refl
-untouched_lines other said path says = absurd says
+untouched_lines : (asked : Asked) (text : List ℕ) (path : Bor (List ℕ)) → Says asked text (request.Serve path) → wants_script asked ≡ false
+untouched_lines (asked.Serve file) text path says = refl
+untouched_lines other text path says = absurd says
 
-untouched : (asked : Asked) (said : Option (List Said)) (path : Bor (List ℕ)) → Says asked said (request.Load path) → wants_script asked ≡ false
-untouched (asked.Load file) said path says = refl
-untouched other said path says = absurd says
+untouched : (asked : Asked) (text : List ℕ) (path : Bor (List ℕ)) → Says asked text (request.Load path) → wants_script asked ≡ false
+untouched (asked.Load file) text path says = refl
+untouched other text path says = absurd says
 
-module _ (asked : Asked) (said : Option (List Said)) (before after output output_after : Option (List ℕ)) (same : wants_script asked ≡ false → after ≡ before) where
-  pub comes_of : (r : Request) (answer : Answer) → Says asked said r → Comes r after output output_after answer → Comes r before output output_after answer
-  comes_of (request.Load path) answer says comes = subst (λ (i : Option (List ℕ)). Comes (request.Load path) i output output_after answer) (same (untouched asked said path says)) comes
-  comes_of (request.Serve path) answer says comes = subst (λ (i : Option (List ℕ)). Comes (request.Serve path) i output output_after answer) (same (untouched_lines asked said path says)) comes
+module _ (asked : Asked) (text : List ℕ) (before after output output_after : Option (List ℕ)) (same : wants_script asked ≡ false → after ≡ before) where
+  pub comes_of : (r : Request) (answer : Answer) → Says asked text r → Comes r after output output_after answer → Comes r before output output_after answer
+  comes_of (request.Load path) answer says comes = subst (λ (i : Option (List ℕ)). Comes (request.Load path) i output output_after answer) (same (untouched asked text path says)) comes
+  comes_of (request.Serve path) answer says comes = subst (λ (i : Option (List ℕ)). Comes (request.Serve path) i output output_after answer) (same (untouched_lines asked text path says)) comes
   comes_of other answer says comes = comes
 
-  pub faults_of : (r : Request) (reason : Reason) → Says asked said r → FaultsWith r after reason output output_after → FaultsWith r before reason output output_after
-  faults_of (request.Load path) reason says faults = subst (λ (i : Option (List ℕ)). FaultsWith (request.Load path) i reason output output_after) (same (untouched asked said path says)) faults
-  faults_of (request.Serve path) reason says faults = subst (λ (i : Option (List ℕ)). FaultsWith (request.Serve path) i reason output output_after) (same (untouched_lines asked said path says)) faults
+  pub faults_of : (r : Request) (reason : Reason) → Says asked text r → FaultsWith r after reason output output_after → FaultsWith r before reason output output_after
+  faults_of (request.Load path) reason says faults = subst (λ (i : Option (List ℕ)). FaultsWith (request.Load path) i reason output output_after) (same (untouched asked text path says)) faults
+  faults_of (request.Serve path) reason says faults = subst (λ (i : Option (List ℕ)). FaultsWith (request.Serve path) i reason output output_after) (same (untouched_lines asked text path says)) faults
   faults_of other reason says faults = faults
-
--- what comes of a request, by what was read
-pub answered_to : (words : List Text) (input after output output_after : Option (List ℕ)) (asked : Asked) (said : Option (List Said)) (request : Request) (result : Result Answer Fault)
-    → IsRead words input asked said → reason_for asked said ≡ None → Says asked said request → (wants_script asked ≡ false → after ≡ input)
-    → IfOk result (Comes request after output output_after) → IfErr result (λ e. FaultsWith request after (reason_of e) output output_after)
-    → MatchResult result (IsServed words input output output_after) (λ fault. Fails words input (reason_of fault) output output_after)
-answered_to words input after output output_after asked said request (Ok answer) read sound says same comes faults = record {
-  request = request;
-  requested = record { asked = asked; said = said; read = read; sound = sound; says = says };
-  comes = comes_of asked said input after output output_after same request answer says comes;
-}
-answered_to words input after output output_after asked said request (Err fault) read sound says same comes faults = inr record {
-  request = request;
-  requested = record { asked = asked; said = said; read = read; sound = sound; says = says };
-  faults = faults_of asked said input after output output_after same request (reason_of fault) says faults;
-}
 
 -- ---- the clauses of a run, from what it is
 
@@ -187,6 +149,10 @@ loads_kept input output between output_after reason l kept = record {
   tells = tells_kept l.loaded.rows (reason_of l.fault) reason output between output_after l.tells kept;
 }
 
+as_mistake : (why : Reason) → IsToldAs why mistake → why ≡ mistake
+as_mistake why (inl same) = sym same
+as_mistake why (inr (is, becomes)) = absurd becomes
+
 -- a store is not served no longer for a mistake
 not_served : (reason : Reason) (answers : List Answered) (output output_after : Option (List ℕ)) → ToldBefore reason answers output output_after → reason ≡ mistake → ⊥
 not_served mistake answers output output_after told is = told
@@ -201,42 +167,23 @@ module _ (words : List Text) (input output output_after : Option (List ℕ)) whe
   not_refusal e h = cc
 
   load_tried : (path : Bor (List ℕ)) → IsRequested words input (request.Load path) → TellsLoaded input mistake output output_after → LoadsToNoRow words input output output_after
-  load_tried path requested (inl (told, same)) = absurd told
+  load_tried path requested (inl (e, is, refused, same)) = absurd (not_refusal e is)
   load_tried path requested (inr loads) = record { file = path; requested = requested; loads = loads }
 
   serve_tried : TellsServed input mistake output output_after → ⊥
-  serve_tried (inl (told, same)) = told
-  serve_tried (inr (inl serves)) = not_served (reason_of serves.fault) serves.serves.answers output output_after serves.serves.told serves.same
-  serve_tried (inr (inr stopped)) = not_refusal Stopped stopped.told
-
-  -- no request is refused with one
-  no_mistake : (r : Request) → MayRefuse r mistake → ⊥
-  no_mistake (request.Format path geometry) may = may
-  no_mistake (request.Put path batch) may = may
-  no_mistake (request.PutIf path guards batch) may = may
-  no_mistake (request.Delete path batch) may = may
-  no_mistake (request.Get path key) may = may
-  no_mistake (request.Scan path from limit) may = may
-  no_mistake (request.Stat path) may = may
-  no_mistake (request.Check path) may = may
-  no_mistake (request.Compact path) may = may
-  no_mistake (request.Dump path) may = may
-  no_mistake (request.Load path) may = may
-  no_mistake (request.Serve path) may = may
-  no_mistake (request.Replay path script) may = may
-  no_mistake (request.Lives geometry script) may = may
-  no_mistake (request.Explore geometry script) may = may
-  no_mistake (request.Storm load) may = may
-  no_mistake (request.Tally load) may = may
+  serve_tried (inl (e, is, refused, same)) = not_refusal e is
+  serve_tried (inr serves) = not_served (reason_of serves.fault) serves.serves.answers output output_after serves.serves.told serves.same
 
   mistake_tried : (r : Request) → IsRequested words input r → FaultsWith r input mistake output output_after → LoadsToNoRow words input output output_after
   mistake_tried (request.Dump path) requested faults = absurd faults
   mistake_tried (request.Load path) requested faults = load_tried path requested faults
   mistake_tried (request.Serve path) requested faults = absurd (serve_tried faults)
-  mistake_tried other requested faults = absurd (no_mistake other faults.0)
+  mistake_tried other requested faults = absurd faults.0
 
   tried_mistake : IsTried words input mistake output output_after → LoadsToNoRow words input output output_after
-  tried_mistake tried = mistake_tried tried.request tried.requested tried.faults
+  tried_mistake tried =
+      mistake_tried tried.request tried.requested
+      (subst (λ (why : Reason). FaultsWith tried.request input why output output_after) (as_mistake tried.why tried.is) tried.faults)
 
 finds_mistake : (words : List Text) (input output between output_after : Option (List ℕ)) → Fails words input mistake output between → Keeps between output_after
     → FindsMistake words input output output_after

@@ -4,18 +4,16 @@ use Rattle.std.specs.Borrow.{Bor}
 use Rattle.std.specs.List.{list_any}
 use Rattle.std.specs.Io.KnownBytes.{Appends, Keeps}
 use Rattle.clap.specs.Words.{Row, Text, fault_of, subcommand_of}
-use Rattle.lsm_device.specs.declared.refusal.Refusal.TheVariants.{NoMemory}
+use Rattle.lsm_device.specs.declared.refusal.Refusal.TheVariants.{NoMemory, Io}
 use Rattle.lsm_language.specs.declared.asked.Asked.{Asked}
 use Rattle.lsm_language.specs.declared.request.Request.{Request}
 use Rattle.lsm_language.specs.declared.request.Request.TheVariants as request
 use Rattle.lsm_requests.specs.declared.answer.Answer.{Answer}
 use Rattle.lsm_language.specs.declared.fault.Fault.{Fault}
-use Rattle.lsm_language.specs.Faults.{Reason, mistake, refusal, unread, reason_of}
-use Rattle.lsm_language.specs.Lines.{Said}
+use Rattle.lsm_language.specs.Faults.{Reason, mistake, refusal, unread, IsUnopened, reason_of}
 use Rattle.lsm_language.specs.Words.{after}
 use Rattle.lsm_cli.specs.Program.{program, Asks}
-use Rattle.lsm_language.specs.Requests.{Says, kind_of, reason_for, wants_script}
-use Rattle.lsm_language.specs.Scripts.{IsScriptSaid}
+use Rattle.lsm_language.specs.Requests.{Says, reason_for, wants_script}
 use Rattle.lsm_requests.specs.Answers.{Comes, LoadsTo, lines_of}
 use Rattle.lsm_requests.specs.Refusing.{FaultsWith}
 use Rattle.lsm_requests.specs.Endings.{Concludes, Written}
@@ -39,18 +37,18 @@ pub record IsAsked (words : List Text) (asked : Asked) : Type 0 where
 pub record AskNothing (words : List Text) : Type 0 where
   pub none : (asked : Asked) → ¬ (IsAsked words asked)
 
--- the words, and what the script says that is asked for, which is all of the input, as far as that is known
-pub record IsRead (words : List Text) (input : Option (List ℕ)) (asked : Asked) (said : Option (List Said)) : Type 0 where
+-- the words and the script, where the script is all of the input, as far as that is known
+pub record IsRead (words : List Text) (input : Option (List ℕ)) (asked : Asked) (text : List ℕ) : Type 0 where
   pub words_ask : IsAsked words asked
-  pub whole : IsTrue (wants_script asked) → IsScriptSaid (kind_of asked) input said
+  pub whole : IsTrue (wants_script asked) → IfSome input (λ all. text ≡ all)
 
 -- nothing is wrong with them, and the request is what they say
 pub record IsRequested (words : List Text) (input : Option (List ℕ)) (request : Request) : Type 0 where
   pub asked : Asked
-  pub said : Option (List Said)
-  pub read : IsRead words input asked said
-  pub sound : reason_for asked said ≡ None
-  pub says : Says asked said request
+  pub text : List ℕ
+  pub read : IsRead words input asked text
+  pub sound : reason_for asked text ≡ None
+  pub says : Says asked text request
 
 -- ---- what comes of it
 
@@ -70,9 +68,9 @@ pub record HasServed (words : List Text) (input output output_after : Option (Li
 -- this is the first that is wrong with the words and the script
 pub record IsWrong (words : List Text) (input : Option (List ℕ)) (reason : Reason) : Type 0 where
   pub asked : Asked
-  pub said : Option (List Said)
-  pub read : IsRead words input asked said
-  pub first : reason_for asked said ≡ Some reason
+  pub text : List ℕ
+  pub read : IsRead words input asked text
+  pub first : reason_for asked text ≡ Some reason
 
 -- the script was asked for, and could not be read
 pub record IsUnread (words : List Text) : Type 0 where
@@ -85,11 +83,17 @@ abbrev pub IsUntried : List Text → Option (List ℕ) → Reason → Type 0
 IsUntried words input reason = IsWrong words input reason
     ⊎ (((reason ≡ mistake) × AskNothing words) ⊎ ((reason ≡ refusal NoMemory) ⊎ ((reason ≡ unread) × IsUnread words)))
 
--- What the words and the input ask for was tried, and has no answer; why it has none is told, and what was printed.
-pub record IsTried (words : List Text) (input : Option (List ℕ)) (reason : Reason) (output output_after : Option (List ℕ)) : Type 0 where
+-- a reason is told as it is, or as a file that can't be opened
+abbrev pub IsToldAs : Reason → Reason → Type 0
+IsToldAs reason told = (told ≡ reason) ⊎ ((reason ≡ refusal Io) × IsUnopened told)
+
+-- What the words and the input ask for was tried, and has no answer; why it has none is told so, and what was printed.
+pub record IsTried (words : List Text) (input : Option (List ℕ)) (told : Reason) (output output_after : Option (List ℕ)) : Type 0 where
   pub request : Request
   pub requested : IsRequested words input request
-  pub faults : FaultsWith request input reason output output_after
+  pub why : Reason
+  pub faults : FaultsWith request input why output output_after
+  pub is : IsToldAs why told
 
 -- Why there is no answer, and what was printed all the same: nothing was done, and nothing printed; or it was tried.
 abbrev pub Fails : List Text → Option (List ℕ) → Reason → Option (List ℕ) → Option (List ℕ) → Type 0

@@ -3,5 +3,6 @@
 
 mod parser;
 mod program;
+mod unopened;
 
 pub use program::run;

@@ -12,7 +12,7 @@ ghost use Rattle.lsm_cli.specs.Runs.{has_dash, IsAsked, AskNothing};
 use clap::error::ErrorKind;
 use clap::{Arg, ArgAction, ArgMatches, Command};
 use lsm_device::Refusal;
-use lsm_language::{Asked, Excerpt, Fault, Usage, after};
+use lsm_language::{Asked, Fault, Usage, after};
 use std::alloc::{AllocError, Global};
 use std::convert::AsStr;
 
@@ -58,24 +58,8 @@ fn mistake_of<S: AsStr>(alloc: Global, words: &[S], error: &clap::Error) -> Resu
 fn told<S: AsStr>(alloc: Global, words: &[S], error: &clap::Error) -> Result<Usage, AllocError> {
     match dashed(words) {
         Some(word) if error.kind() != ErrorKind::DisplayHelp => dash(alloc, word),
-        _ => {
-            let text = format!(in alloc; "{error}")?;
-            Ok(Usage::Words(shortened(alloc, words, text)?))
-        }
+        _ => Ok(Usage::Words(format!(in alloc; "{error}")?)),
     }
-}
-
-// A text in which no word is longer than a message shows it.
-fn shortened<S: AsStr>(alloc: Global, words: &[S], text: String) -> Result<String, AllocError> {
-    let mut text = text;
-    for word in words {
-        let shown = Excerpt::of(alloc, word.as_str().as_bytes())?;
-        if shown.is_cut() {
-            let shown = format!(in alloc; "{shown}")?;
-            text = text.replace(alloc, word.as_str(), &shown)?;
-        }
-    }
-    Ok(text)
 }
 
 // The first word that begins with a dash.
@@ -97,7 +81,7 @@ fn begins_with_dash(word: &str) -> bool
 }
 
 fn dash(alloc: Global, word: &str) -> Result<Usage, AllocError> {
-    let word = Excerpt::of(alloc, word.as_bytes())?;
+    let word = String::from_str(alloc, word)?;
     Ok(Usage::Dash { word })
 }
 

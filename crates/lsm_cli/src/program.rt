@@ -3,10 +3,12 @@
 ghost use Rattle.std.specs.Prelude.{◌≡◌, ◌≤◌, map, MatchResult};
 ghost use Rattle.std.specs.Io.KnownBytes.{Keeps};
 ghost use Rattle.lsm_language.specs.Faults.{reason_of};
-ghost use Rattle.lsm_cli.specs.Runs.{Fails, FindsMistake, HasServed, IsRun, IsServed};
+ghost use Rattle.lsm_cli.specs.Runs.{Fails, FindsMistake, HasServed, IsRun, IsServed, IsToldAs};
 
 use crate::parser::asked_for;
-use lsm_language::{Fault, Request, script_of};
+use crate::unopened::cause_of;
+use lsm_device::Refusal;
+use lsm_language::{Fault, Request, script_text};
 use lsm_progress::Progress;
 use lsm_requests::{Answer, answer_request, conclude};
 use std::convert::AsStr;
@@ -57,7 +59,25 @@ fn answer<
         (λ fault. Fails (map S.text words.entry.now) (I.remaining input.old) (reason_of fault) (O.contents output.old) (O.contents output.new)) }
 {
     let asked = asked_for(rt.alloc(), words)?;
-    let script = script_of(rt.alloc(), &asked, input)?;
-    let request = Request::read(rt.alloc(), asked, script)?;
-    answer_request(rt, request, input, output, progress)
+    let text = script_text(rt.alloc(), &asked, input)?;
+    let request = Request::read(rt.alloc(), asked, &text)?;
+    let file = request.file();
+    let is_made = matches!(request, Request::Format { .. });
+    match answer_request(rt, request, input, output, progress) {
+        Ok(answer) => Ok(answer),
+        Err(fault) => Err(told(rt, file, is_made, fault)),
+    }
+}
+
+// A fault as it is told: of a file that can't be opened, with the cause.
+fn told<R: Files<File = File>>(rt: &R, file: Option<&str>, is_made: bool, fault: Fault) -> Fault
+    ensures { IsToldAs (reason_of fault) (reason_of result) }
+{
+    match fault {
+        Fault::Refused(Refusal::Io) => match cause_of(rt, file, is_made) {
+            Some(cause) => Fault::Unopened(cause),
+            None => Fault::Refused(Refusal::Io),
+        },
+        other => other,
+    }
 }

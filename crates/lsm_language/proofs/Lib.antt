@@ -3,7 +3,5 @@ pub mod WordLaws
 pub mod LineLaws
 pub mod NumberLaws
 pub mod LoadLaws
-pub mod ReadingLaws
 pub mod RowLaws
 pub mod TextLaws
-pub mod BufferedLaws

@@ -4,9 +4,9 @@ use Rattle.lsm_device.specs.declared.refusal.Refusal.{Refusal}
 use Rattle.lsm_device.specs.declared.refusal.Refusal.TheVariants.{Io}
 use Rattle.lsm_device.specs.Refusals.{number_of, name_of, place_of}
 use Rattle.lsm_language.specs.declared.cause.Cause.{Cause}
-use Rattle.lsm_language.specs.declared.cause.Cause.TheVariants.{InUse, Missing, NoFolder, Denied, Folder, NotAFile, Uneven, TooLarge}
+use Rattle.lsm_language.specs.declared.cause.Cause.TheVariants.{InUse, Missing, NoFolder, Denied, Folder, Uneven}
 use Rattle.lsm_language.specs.declared.fault.Fault.{Fault}
-use Rattle.lsm_language.specs.declared.fault.Fault.TheVariants.{Usage, Refused, Failed, Unopened, Input, Output}
+use Rattle.lsm_language.specs.declared.fault.Fault.TheVariants.{Usage, Refused, Unopened, Input, Output}
 
 -- a mistake in the words or the input, a refusal, a file that can't be opened, an input that could not be read, or an answer that
 -- could not be written
@@ -20,10 +20,14 @@ pub data Reason : Type 0 where
 abbrev pub reason_of : Fault → Reason
 reason_of (Usage usage) = mistake
 reason_of (Refused r) = refusal r
-reason_of (Failed r text) = refusal r
 reason_of (Unopened cause) = unopened cause
 reason_of (Input error) = unread
 reason_of (Output error) = unwritten
+
+-- a file that can't be opened
+abbrev pub IsUnopened : Reason → Type 0
+IsUnopened (unopened cause) = Unit {0}
+IsUnopened other = ⊥
 
 -- the exit status
 abbrev pub status_of : Reason → ℕ
@@ -51,14 +55,8 @@ cause_text Missing = codes "there is no such file"
 cause_text NoFolder = codes "the folder of the file is missing"
 cause_text Denied = codes "the file may not be read and written"
 cause_text Folder = codes "the file is a folder"
-cause_text NotAFile = codes "the file is neither a regular file nor a block device"
 cause_text Uneven = codes "the length of the file is not a whole number of sectors"
-cause_text TooLarge = codes "the file has 2^32 sectors or more"
-
--- a refusal, and behind it a line that tells why
-abbrev pub explained_lines : Refusal → List ℕ → List ℕ
-explained_lines r text = refusal_line r ++ codes "error: " ++ text ++ 10 ∷ []
 
 -- what is printed of a file that can't be opened: the refusal, and then the cause
 abbrev pub unopened_lines : Cause → List ℕ
-unopened_lines cause = explained_lines Io (cause_text cause)
+unopened_lines cause = refusal_line Io ++ codes "error: " ++ cause_text cause ++ 10 ∷ []

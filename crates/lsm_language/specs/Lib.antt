@@ -6,7 +6,6 @@ pub mod Keyed
 pub mod Changes
 pub mod Guards
 pub mod Lines
-pub mod Rows
-pub mod Reading
 pub mod Scripts
 pub mod Requests
+pub mod Rows

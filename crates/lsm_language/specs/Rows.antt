@@ -1,7 +1,8 @@
 -- Rows of an input.
-use Rattle.std.specs.Prelude.{◌≡◌, ℕ, ◌==◌, ◌&&◌, Bool, true, false, List, [], ◌∷◌, ◌++◌, length, Option, Some, None, is_some, option_and_then, if◌then◌else◌}
+use Rattle.std.specs.Prelude.{◌≡◌, ℕ, ◌==◌, ◌&&◌, Bool, true, false, List, [], ◌∷◌, ◌++◌, length, Option, Some, None, is_some, option_and_then, IfSome, if◌then◌else◌}
 use Rattle.std.specs.List.{position_or_len, before_first, after_first}
 use Rattle.std.specs.Str.{is_utf8}
+use Rattle.std.specs.Io.BufRead.{drop_through}
 use Rattle.lsm_codec.specs.Map.{Operation}
 use Rattle.lsm_language.specs.Changes.{put_said, first_refusal}
 
@@ -21,11 +22,12 @@ lines_from line (b ∷ text) = if b == 10 then line ∷ lines_from [] text else 
 abbrev pub lines_of : List ℕ → List (List ℕ)
 lines_of text = lines_from [] text
 
--- ---- rows
+-- the next line of what a reader has left, as far as that is known, and what it has left then; no line is found at the end alone
+abbrev pub ReadsLine : Option (List ℕ) → Bool → List ℕ → Option (List ℕ) → Type 0
+ReadsLine before true line after = IfSome before (λ text. (after ≡ Some (drop_through 10 text)) × (lines_of text ≡ line ∷ lines_of (drop_through 10 text)))
+ReadsLine before false line after = IfSome before (λ text. text ≡ [])
 
--- the most bytes that one may have: a key and a value in hex, and the space between them
-abbrev pub most_row_bytes : ℕ
-most_row_bytes = 4607
+-- ---- rows
 
 -- the two words around the first space
 abbrev pub words_around : List ℕ → Option (List ℕ × List ℕ)

@@ -3,7 +3,7 @@
 ghost use Rattle.std.specs.Prelude.{◌≡◌};
 ghost use Rattle.lsm_language.specs.Faults.{cause_text};
 
-/// Why a file can't be opened, or made, as a store.
+/// Why a file can't be opened as a store.
 #[derive(Clone, Copy, Debug, PartialEq, Eq)]
 pub enum Cause {
     /// Another program has it.
@@ -16,12 +16,8 @@ pub enum Cause {
     Denied,
     /// It is a folder.
     Folder,
-    /// It is a FIFO, a socket, a terminal or another device of characters.
-    NotAFile,
     /// Its length is not a whole number of sectors.
     Uneven,
-    /// It has more sectors than have numbers of 32 bits.
-    TooLarge,
 }
 
 /// A cause in words.
@@ -34,8 +30,6 @@ pub fn cause_text(cause: &Cause) -> &'static str
         Cause::NoFolder => "the folder of the file is missing",
         Cause::Denied => "the file may not be read and written",
         Cause::Folder => "the file is a folder",
-        Cause::NotAFile => "the file is neither a regular file nor a block device",
         Cause::Uneven => "the length of the file is not a whole number of sectors",
-        Cause::TooLarge => "the file has 2^32 sectors or more",
     }
 }

@@ -5,9 +5,7 @@ ghost use Rattle.lsm_device.specs.declared.refusal.Refusal.TheVariants.{NoMemory
 ghost use Rattle.lsm_language.specs.Faults.{reason_of, mistake, refusal};
 
 use crate::cause::{Cause, cause_text};
-use crate::excerpt::Excerpt;
 use crate::refused::refusal_text;
-use crate::script::MOST_BYTES;
 use lsm_device::Refusal;
 use std::alloc::{AllocError, AllocFailed};
 use std::io;
@@ -23,44 +21,39 @@ pub enum Usage {
     #[error("a word is no UTF-8 text")]
     NoText,
     /// A word begins with a dash.
-    #[error("{word} begins with a dash: there are no options, and no word does")]
-    Dash { word: Excerpt },
+    #[error("{word:?} begins with a dash: there are no options, and no word does")]
+    Dash { word: String },
     /// A word is missing.
     #[error("{0} is missing")]
     Missing(&'static str),
     /// A word is no decimal number below 2^64.
-    #[error("{place} is {word}: expected a decimal number below 2^64, of digits alone")]
-    Number { place: &'static str, word: Excerpt },
+    #[error("{place} is {word:?}: expected a decimal number below 2^64, of digits alone")]
+    Number { place: &'static str, word: String },
     /// A word says no bytes.
-    #[error("{place} is {word}: expected hex, two digits a byte, or empty for no bytes")]
-    Bytes { place: &'static str, word: Excerpt },
+    #[error("{place} is {word:?}: expected hex, two digits a byte, or empty for no bytes")]
+    Bytes { place: &'static str, word: String },
     /// A word says neither bytes nor that there are none.
-    #[error("OLD is {word}: expected hex, two digits a byte, empty for no bytes, or absent for no value")]
-    Old { word: Excerpt },
+    #[error("OLD is {word:?}: expected hex, two digits a byte, empty for no bytes, or absent for no value")]
+    Old { word: String },
     /// A line of the script, counted from 1, is none of its language.
-    #[error("line {number} of the script can't be read: {line}")]
-    Line { number: usize, line: Excerpt },
-    /// A line of the script, counted from 1, is longer than any may be.
-    #[error("line {number} of the script has more than {most} bytes", most = MOST_BYTES)]
-    LongLine { number: usize },
+    #[error("line {number} of the script can't be read: {line:?}")]
+    Line { number: usize, line: String },
     /// A line of the input, counted from 1, is no row.
-    #[error("line {number} of the input is no row KEY VALUE: {line}")]
-    Row { number: u64, line: Excerpt },
+    #[error("line {number} of the input is no row KEY VALUE: {line:?}")]
+    Row { number: u64, line: String },
     /// A line of the script, counted from 1, may not stand there.
-    #[error("line {number} of the script may not stand there: {line}")]
-    Misplaced { number: usize, line: Excerpt },
+    #[error("line {number} of the script may not stand there: {line:?}")]
+    Misplaced { number: usize, line: String },
 }
 
-/// A mistake in the words or the input, a refusal, a refusal and what the system says of a call of the file that failed, a file that
-/// can't be opened, an input that could not be read, or an answer that could not be written.
+/// A mistake in the words or the input, a refusal, a file that can't be opened, an input that could not be read, or an
+/// answer that could not be written.
 #[derive(Debug, Drop, Error)]
 pub enum Fault {
     #[error("{0}")]
     Usage(Usage),
     #[error("{text}", text = refusal_text(.0))]
     Refused(Refusal),
-    #[error("{text}: {1}", text = refusal_text(.0))]
-    Failed(Refusal, String),
     #[error("{text}", text = cause_text(.0))]
     Unopened(Cause),
     #[error("the input could not be read: {0}")]

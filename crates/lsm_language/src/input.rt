@@ -1,42 +1,38 @@
-//! The script that is asked for, from the program's input.
+//! The text of a script, from the program's input.
 
-ghost use Rattle.std.specs.Prelude.{◌≡◌, Some, false, map, IfOk, IfErr, IsTrue};
-ghost use Rattle.lsm_language.specs.Faults.{reason_of};
-ghost use Rattle.lsm_language.specs.Lines.{means};
-ghost use Rattle.lsm_language.specs.Requests.{kind_of, wants_script};
-ghost use Rattle.lsm_language.specs.Scripts.{FailsScript, IsScriptSaid};
+ghost use Rattle.std.specs.Prelude.{◌≡◌, ◌⊎◌, false, IfOk, IfErr, IfSome, IsTrue};
+ghost use Rattle.lsm_device.specs.declared.refusal.Refusal.TheVariants.{NoMemory};
+ghost use Rattle.lsm_language.specs.Faults.{reason_of, refusal, unread};
+ghost use Rattle.lsm_language.specs.Requests.{wants_script};
 
 use crate::asked::Asked;
 use crate::fault::Fault;
-use crate::line::Line;
 use crate::number::parse_number;
-use crate::reading::buffered;
-use crate::script::{Kind, read_script};
+use lsm_device::Refusal;
 use std::alloc::Global;
-use std::io::Read;
+use std::io::{ErrorKind, Read};
 
-/// Reads the script that is asked for, where the words before it are right. Else it is empty, and the input is left as it is.
-pub fn script_of<I: Read>(
+/// Reads the input to its end where a script is asked for and the words before it are right. Else it is left as it is.
+pub fn script_text<I: Read>(
     alloc: Global,
     asked: &Asked<'_>,
     input: &mut I,
-) -> Result<Vec<Line>, Fault>
-    ensures script { IfOk result (λ script. IsTrue (wants_script asked.now) → IsScriptSaid (kind_of asked.now) (I.remaining input.old) (Some (map means script.items))) }
+) -> Result<Vec<u8>, Fault>
+    ensures whole { IfOk result (λ text. IsTrue (wants_script asked.now) → IfSome (I.remaining input.old) (λ all. text.items ≡ all)) }
     ensures untouched { wants_script asked.now ≡ false → input.new ≡ input.old }
-    ensures fails { IfErr result (λ e. IsTrue (wants_script asked.now) × FailsScript (kind_of asked.now) (I.remaining input.old) (reason_of e)) }
+    ensures fails { IfErr result (λ e. (reason_of e ≡ refusal NoMemory) ⊎ ((reason_of e ≡ unread) × IsTrue (wants_script asked.now))) }
 {
+    let mut text = Vec::new(alloc);
     if !wants_script(asked) {
-        return Ok(Vec::new(alloc));
+        return Ok(text);
     }
-    read_buffered(alloc, kind_of(asked), input)
-}
-
-fn read_buffered<I: Read>(alloc: Global, kind: Kind, input: &mut I) -> Result<Vec<Line>, Fault>
-    ensures script { IfOk result (λ script. IsScriptSaid kind (I.remaining input.old) (Some (map means script.items))) }
-    ensures fails { IfErr result (λ e. FailsScript kind (I.remaining input.old) (reason_of e)) }
-{
-    let mut lines = buffered(alloc, input)?;
-    read_script(alloc, kind, &mut lines)
+    match input.read_to_end(&mut text) {
+        Ok(_) => Ok(text),
+        Err(error) if error.kind() == ErrorKind::OutOfMemory => {
+            Err(Fault::Refused(Refusal::NoMemory))
+        }
+        Err(error) => Err(Fault::Input(error)),
+    }
 }
 
 fn wants_script(asked: &Asked<'_>) -> bool
@@ -48,15 +44,5 @@ fn wants_script(asked: &Asked<'_>) -> bool
             parse_number(sectors).is_some() && parse_number(log).is_some()
         }
         _ => false,
-    }
-}
-
-// Lives are written with fuses and crashes, and every other script is one of steps alone.
-fn kind_of(asked: &Asked<'_>) -> Kind
-    ensures { result ≡ kind_of asked.now }
-{
-    match asked {
-        Asked::Lives { .. } => Kind::Lives,
-        _ => Kind::Steps,
     }
 }

@@ -3,7 +3,6 @@
 
 mod asked;
 mod cause;
-mod excerpt;
 mod fault;
 mod geometry;
 mod guards;
@@ -13,7 +12,6 @@ mod line;
 mod load;
 mod number;
 mod operations;
-mod reading;
 mod refused;
 mod request;
 mod row;
@@ -22,14 +20,12 @@ mod words;
 
 pub use asked::Asked;
 pub use cause::{Cause, cause_text};
-pub use excerpt::Excerpt;
 pub use fault::{Fault, Usage};
 pub use geometry::Geometry;
-pub use input::script_of;
+pub use input::script_text;
 pub use line::{Kept, Line, read_line};
 pub use load::Load;
-pub use reading::{buffered, next_line};
 pub use refused::refusal_text;
 pub use request::Request;
-pub use row::{MOST_ROW_BYTES, read_row};
+pub use row::{next_line, read_row};
 pub use words::{Unread, after};

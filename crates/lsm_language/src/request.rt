@@ -9,9 +9,9 @@ ghost use Rattle.lsm_language.specs.Guards.{condition_of};
 ghost use Rattle.lsm_language.specs.Numbers.{number_said};
 ghost use Rattle.lsm_language.specs.Lines.{means};
 ghost use Rattle.lsm_language.specs.Requests.{bytes_in, limits_reason, load_reason, number_in, old_in, old_said, or_else, page_reason, put_if_refusal, said_reason};
+ghost use Rattle.lsm_language.specs.Scripts.{script_said};
 
 use crate::asked::Asked;
-use crate::excerpt::Excerpt;
 use crate::fault::{Fault, Usage};
 use crate::geometry::Geometry;
 use crate::guards::guard;
@@ -19,6 +19,7 @@ use crate::keyed::Keyed;
 use crate::line::Line;
 use crate::load::Load;
 use crate::number::parse_number;
+use crate::script::{Kind, read_script};
 use lsm_codec::{Batch, Guard, Op, unword};
 use lsm_device::Refusal;
 use std::alloc::Global;
@@ -109,13 +110,37 @@ pub enum Request<'a> {
 }
 
 impl<'a> Request<'a> {
-    ghost use Rattle.lsm_language.specs.Requests.{reason_for, Says};
+    /// The file that it is about, if it is about one.
+    pub fn file(&self) -> Option<&'a str>
+        ensures { option_map (λ file. file.now) result ≡ file_of self.now }
+    {
+        match self {
+            Request::Format { file, .. }
+            | Request::Put { file, .. }
+            | Request::PutIf { file, .. }
+            | Request::Delete { file, .. }
+            | Request::Get { file, .. }
+            | Request::Scan { file, .. }
+            | Request::Stat { file }
+            | Request::Check { file }
+            | Request::Compact { file }
+            | Request::Dump { file }
+            | Request::Load { file }
+            | Request::Serve { file }
+            | Request::Replay { file, .. } => Some(*file),
+            Request::Lives { .. }
+            | Request::Explore { .. }
+            | Request::Storm { .. }
+            | Request::Tally { .. } => None,
+        }
+    }
 
-    /// Reads numbers and bytes from the left, then tests the limits, then forms guards and batch. The script was read before.
-    pub fn read(alloc: Global, asked: Asked<'a>, script: Vec<Line>) -> Result<Request<'a>, Fault>
-        ensures { let said = Some (map means script.items) in
-            MatchResult result (λ r. (reason_for asked.entry said ≡ None) × Says asked.entry said r)
-            (λ e. (reason_for asked.entry said ≡ Some (reason_of e)) ⊎ (reason_of e ≡ refusal NoMemory)) }
+    ghost use Rattle.lsm_language.specs.Requests.{file_of, reason_for, Says};
+
+    /// Reads numbers and bytes from the left, then the text of the script, then tests the limits, then forms guards and batch.
+    pub fn read(alloc: Global, asked: Asked<'a>, text: &[u8]) -> Result<Request<'a>, Fault>
+        ensures { MatchResult result (λ r. (reason_for asked.entry text.now ≡ None) × Says asked.entry text.now r)
+            (λ e. (reason_for asked.entry text.now ≡ Some (reason_of e)) ⊎ (reason_of e ≡ refusal NoMemory)) }
     {
         match asked {
             Asked::Format { file, sectors, log } => {
@@ -158,13 +183,16 @@ impl<'a> Request<'a> {
             Asked::Dump { file } => Ok(Request::Dump { file }),
             Asked::Load { file } => Ok(Request::Load { file }),
             Asked::Serve { file } => Ok(Request::Serve { file }),
-            Asked::Replay { file } => Ok(Request::Replay { file, script }),
+            Asked::Replay { file } => {
+                let script = read_script(alloc, Kind::Steps, text)?;
+                Ok(Request::Replay { file, script })
+            }
             Asked::Lives { sectors, log } => {
-                let geometry = geometry_in(alloc, sectors, log)?;
+                let (geometry, script) = scripted(alloc, Kind::Lives, sectors, log, text)?;
                 Ok(Request::Lives { geometry, script })
             }
             Asked::Explore { sectors, log } => {
-                let geometry = geometry_in(alloc, sectors, log)?;
+                let (geometry, script) = scripted(alloc, Kind::Steps, sectors, log, text)?;
                 Ok(Request::Explore { geometry, script })
             }
             Asked::Storm {
@@ -262,6 +290,28 @@ fn limit_in(alloc: Global, limit: &str) -> Result<u64, Fault>
     Ok(limit)
 }
 
+// The sizes of a store that two words say, and a script of this kind.
+fn scripted(
+    alloc: Global,
+    kind: Kind,
+    sectors: &str,
+    log: &str,
+    text: &[u8],
+) -> Result<(Geometry, Vec<Line>), Fault>
+    ensures { let reason = or_else (said_reason (number_said sectors.now)) (or_else (said_reason (number_said log.now))
+        (or_else (said_reason (script_said kind text.now)) (limits_reason (number_in sectors.now) (number_in log.now)))) in
+        MatchResult result
+        (λ r. (reason ≡ None) × (number_said sectors.now ≡ Some r.0.sectors) × (number_said log.now ≡ Some r.0.log_sectors)
+        × (script_said kind text.now ≡ Some (map means r.1.items)))
+        (λ e. (reason ≡ Some (reason_of e)) ⊎ (reason_of e ≡ refusal NoMemory)) }
+{
+    let sectors = number(alloc, sectors, "SECTORS")?;
+    let log_sectors = number(alloc, log, "LOG")?;
+    let script = read_script(alloc, kind, text)?;
+    let geometry = Geometry::new(sectors, log_sectors)?;
+    Ok((geometry, script))
+}
+
 // What three words let clients and workers do.
 fn load_in(alloc: Global, clients: &str, commits: &str, workers: &str) -> Result<Load, Fault>
     ensures { let reason = or_else (said_reason (number_said clients.now)) (or_else (said_reason (number_said commits.now))
@@ -298,7 +348,7 @@ fn number(alloc: Global, word: &str, place: &'static str) -> Result<u64, Fault>
     match parse_number(word) {
         Some(number) => Ok(number),
         None => {
-            let word = Excerpt::of(alloc, word.as_bytes())?;
+            let word = String::from_str(alloc, word)?;
             Err(Fault::Usage(Usage::Number { place, word }))
         }
     }
@@ -312,7 +362,7 @@ fn bytes(alloc: Global, word: &str, place: &'static str) -> Result<Vec<u8>, Faul
     match unword(alloc, word)? {
         Some(bytes) => Ok(bytes),
         None => {
-            let word = Excerpt::of(alloc, word.as_bytes())?;
+            let word = String::from_str(alloc, word)?;
             Err(Fault::Usage(Usage::Bytes { place, word }))
         }
     }
@@ -329,7 +379,7 @@ fn old_value(alloc: Global, word: &str) -> Result<Option<Vec<u8>>, Fault>
     match unword(alloc, word)? {
         Some(bytes) => Ok(Some(bytes)),
         None => {
-            let word = Excerpt::of(alloc, word.as_bytes())?;
+            let word = String::from_str(alloc, word)?;
             Err(Fault::Usage(Usage::Old { word }))
         }
     }

@@ -1,19 +1,16 @@
 //! A script: lines of text, all of which are read before any step is made.
 
-ghost use Rattle.std.specs.Prelude.{◌≡◌, Some, map, IfErr, IfOk};
-ghost use Rattle.lsm_language.specs.Faults.{reason_of};
+ghost use Rattle.std.specs.Prelude.{◌≡◌, ◌==◌, map, IfOk};
+ghost use Rattle.std.specs.List.{slice_split};
 ghost use Rattle.lsm_language.specs.Lines.{means};
 ghost use Rattle.lsm_language.specs.Words.{Reads};
-ghost use Rattle.lsm_language.specs.Scripts.{FailsScript, IsScriptSaid, ReadsText, ends_life, may_stand, next_said, text_said};
+ghost use Rattle.lsm_language.specs.Scripts.{ReadsText, ends_life, lines_in, may_stand, next_said, script_said, text_said, without_newline};
 
-use crate::excerpt::Excerpt;
 use crate::fault::{Fault, Usage};
 use crate::line::{Line, read_line};
-use crate::reading::next_line;
 use crate::words::Unread;
 use lsm_device::Refusal;
-use std::alloc::Global;
-use std::io::BufRead;
+use std::alloc::{AllocError, Global};
 
 /// Which lines a script may have.
 #[derive(Clone, Copy)]
@@ -24,36 +21,49 @@ pub enum Kind {
     Lives,
 }
 
-/// The most bytes that a line of a script may have. What a store takes is said in less: the operations of a batch in 122,876 bytes, and
-/// 16 guards in 73,744.
-pub(crate) const MOST_BYTES: usize = 300_000;
-
-/// Reads a script to the end of an input. The first line that says nothing, or may not stand there, is a mistake, and nothing behind it
-/// is read.
-pub(crate) fn read_script<I: BufRead>(
-    alloc: Global,
-    kind: Kind,
-    input: &mut I,
-) -> Result<Vec<Line>, Fault>
-    ensures script { IfOk result (λ script. IsScriptSaid kind (I.remaining input.old) (Some (map means script.items))) }
-    ensures fails { IfErr result (λ e. FailsScript kind (I.remaining input.old) (reason_of e)) }
+/// Reads a script. The first line that says nothing, or may not stand there, is a mistake.
+pub fn read_script(alloc: Global, kind: Kind, text: &[u8]) -> Result<Vec<Line>, Fault>
+    ensures { ReadsText (λ script. map means script.items) (script_said kind text.now) result }
 {
+    let lines = lines_of(alloc, text)?;
     let mut script = Vec::new(alloc);
-    let mut text = Vec::new(alloc);
     let mut begins = true;
-    for _ in 0..u64::MAX {
-        if !next_line(input, MOST_BYTES, &mut text)? {
-            return Ok(script);
-        }
-        let line = line_in(alloc, kind, begins, &text, script.len() + 1)?;
+    for line in &lines {
+        let line = next_line(alloc, kind, begins, line, script.len() + 1)?;
         begins = is_crash(&line);
         script.push(line)?;
     }
-    Err(Fault::Refused(Refusal::NoMemory)) // No memory holds so many lines.
+    Ok(script)
+}
+
+// The lines of a text. A newline ends each, and may be missing after the last.
+fn lines_of(alloc: Global, text: &[u8]) -> Result<Vec<&[u8]>, AllocError>
+    ensures { IfOk result (λ lines. map (λ line. line.now) lines.items ≡ lines_in text.now) }
+{
+    if text.is_empty() {
+        return Ok(Vec::new(alloc));
+    }
+    Ok(parts_of(alloc, without_newline(text))?)
+}
+
+// The parts of a text between newlines.
+fn parts_of(alloc: Global, text: &[u8]) -> Result<Vec<&[u8]>, AllocError>
+    ensures { IfOk result (λ parts. map (λ part. part.now) parts.items ≡ slice_split (λ b. b == 10) text.now) }
+{
+    text.split(|byte| *byte == b'\n').collect(alloc)
+}
+
+fn without_newline(text: &[u8]) -> &[u8]
+    ensures { result.now ≡ without_newline text.now }
+{
+    match text.split_last() {
+        Some((b'\n', rest)) => rest,
+        _ => text,
+    }
 }
 
 // Reads a line of this number that may stand where a life begins, or behind its first line.
-fn line_in(
+fn next_line(
     alloc: Global,
     kind: Kind,
     begins: bool,
@@ -65,14 +75,11 @@ fn line_in(
     match read_text(alloc, text) {
         Ok(line) if is_allowed(kind, begins, &line) => Ok(line),
         Ok(_) => {
-            let line = Excerpt::of(alloc, text)?;
+            let line = String::from_utf8_lossy(alloc, text)?;
             Err(Fault::Usage(Usage::Misplaced { number, line }))
         }
-        Err(Unread::Malformed) if text.len() > MOST_BYTES => {
-            Err(Fault::Usage(Usage::LongLine { number }))
-        }
         Err(Unread::Malformed) => {
-            let line = Excerpt::of(alloc, text)?;
+            let line = String::from_utf8_lossy(alloc, text)?;
             Err(Fault::Usage(Usage::Line { number, line }))
         }
         Err(Unread::NoMemory) => Err(Fault::Refused(Refusal::NoMemory)),
@@ -82,9 +89,6 @@ fn line_in(
 fn read_text(alloc: Global, text: &[u8]) -> Result<Line, Unread>
     ensures { Reads means (text_said text.now) result }
 {
-    if text.len() > MOST_BYTES {
-        return Err(Unread::Malformed);
-    }
     match str::from_utf8(text) {
         Ok(line) => read_line(alloc, line),
         Err(_) => Err(Unread::Malformed),

@@ -12,7 +12,7 @@ use Rattle.lsm_store.specs.Serving.{Serves}
 use Rattle.lsm_store.specs.declared.asked.At.{At}
 use Rattle.lsm_store.specs.declared.asked.At.TheVariants.{Now}
 use Rattle.lsm_walk.specs.Walking.{IsHeld, WalkView, WalksTo}
-use Rattle.lsm_requests.specs.Answers.{TellsDumped, TellsRefusal, WasOpened}
+use Rattle.lsm_requests.specs.Answers.{TellsDumped, WasOpened}
 use Rattle.lsm_requests.specs.Dumping.{Dumps, DumpsPage, IsUnprinted, RefusesPage, StopsAtPage, StopsDumping, pages_lines, rows_lines}
 use Rattle.lsm_serve.proofs.ServingLaws.{appends_none, appends_more}
 
@@ -148,11 +148,3 @@ tells_stopped (refusal e) store output output_after opened stops = inr (store, o
 tells_stopped (unopened cause) store output output_after opened stops = absurd stops
 tells_stopped unread store output output_after opened stops = absurd stops
 tells_stopped unwritten store output output_after opened stops = tt
-
--- or of a file in which no store was opened
-pub tells_undumped : (reason : Reason) (output : Option (List ℕ)) → TellsRefusal IsOpeningRefusal reason → TellsDumped reason output output
-tells_undumped mistake output told = absurd told
-tells_undumped (refusal e) output told = inl (told, refl)
-tells_undumped (unopened cause) output told = refl
-tells_undumped unread output told = absurd told
-tells_undumped unwritten output told = absurd told

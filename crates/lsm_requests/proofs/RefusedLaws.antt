@@ -1,23 +1,17 @@
 -- Calls of a store that were refused.
-use Rattle.std.proofs.Common.{◌≡◌, ◌⊎◌, ℕ, Bool, true, false, List, Result, Ok, Err, refl, sym, ap, subst, inl, inr}
-use Rattle.std.specs.Prelude.{IfErr, IfOk, is_some, if◌then◌else◌}
-use Rattle.lsm_check.specs.Images.{IsCheckRefusal}
+use Rattle.std.proofs.Common.{◌≡◌, ◌⊎◌, ℕ, Bool, true, false, List, Ok, Err, refl, sym, ap, subst, inl, inr}
+use Rattle.std.specs.Prelude.{is_some, if◌then◌else◌}
 use Rattle.lsm_codec.specs.Guards.{Condition}
 use Rattle.lsm_codec.specs.Map.{Operation}
-use Rattle.lsm_device.specs.Medium.{Medium}
 use Rattle.lsm_device.specs.declared.refusal.Refusal.{Refusal}
 use Rattle.lsm_device.specs.declared.refusal.Refusal.TheVariants.{NoMemory, Io, Stopped, NoSpace}
-use Rattle.lsm_language.specs.declared.fault.Fault.{Fault}
-use Rattle.lsm_language.specs.Faults.{Reason, mistake, refusal, unopened, unread, unwritten, reason_of}
 use Rattle.lsm_open.specs.Recovering.{IsOpeningRefusal}
 use Rattle.lsm_store.specs.Backing.{StoreView, machine_of}
 use Rattle.lsm_store.specs.Calls.{Call, CommitIf, Sync, Number, Refused, Unread, as_told}
 use Rattle.lsm_store.specs.Serving.{Serves, reply_in}
 use Rattle.lsm_store.specs.State.{State}
 use Rattle.lsm_store.specs.Stats.{stat_answer, stat_of}
-use Rattle.lsm_requests.specs.declared.answer.Answer.{Answer}
-use Rattle.lsm_requests.specs.declared.answer.Output.{Output}
-use Rattle.lsm_requests.specs.Answers.{Answered, IsCalledUnopened, IsRefusedOpened, OfOpened, TellsRefusal, WasOpened}
+use Rattle.lsm_requests.specs.Answers.{IsRefusedOpened, WasOpened}
 use Rattle.lsm_requests.specs.Commits.{IsKeptUp, Refuses, takes_puts}
 use Rattle.lsm_requests.specs.Refusing.{RefusesToCommit, RefusesToTell}
 
@@ -84,77 +78,3 @@ numbers_unrefused store e opened = by (is_some store.state.stopped) (ap (λ (s :
 pub numbers_refused : (store : StoreView) (e : Refusal) → WasOpened store → (e ≡ NoMemory) ⊎ (stat_answer (machine_of store) ≡ Err e) → IsOpeningRefusal e
 numbers_refused store e opened (inl short) = memory_opening e short
 numbers_refused store e opened (inr is) = absurd (numbers_unrefused store e opened is)
-
--- ---- what is told
-
--- a refusal
-pub tells_as : (IsRefusal : Refusal → Type 0) (reason : Reason) (e : Refusal) → reason ≡ refusal e → IsRefusal e → TellsRefusal IsRefusal reason
-tells_as IsRefusal reason e is may = subst (λ (r : Reason). TellsRefusal IsRefusal r) (sym is) may
-
--- a file that can't be opened
-tells_weaker : (IsRefusal IsOther : Refusal → Type 0) (reason : Reason) → ((e : Refusal) → IsRefusal e → IsOther e) → TellsRefusal IsRefusal reason → TellsRefusal IsOther reason
-tells_weaker IsRefusal IsOther mistake weaker told = absurd told
-tells_weaker IsRefusal IsOther (refusal e) weaker told = weaker e told
-tells_weaker IsRefusal IsOther (unopened cause) weaker told = tt
-tells_weaker IsRefusal IsOther unread weaker told = absurd told
-tells_weaker IsRefusal IsOther unwritten weaker told = absurd told
-
-pub called_opening : (reason : Reason) → IsCalledUnopened reason → TellsRefusal IsOpeningRefusal reason
-called_opening reason called = tells_weaker (λ e. (e ≡ NoMemory) ⊎ (e ≡ Io)) IsOpeningRefusal reason by called
-  where
-    by : (e : Refusal) → (e ≡ NoMemory) ⊎ (e ≡ Io) → IsOpeningRefusal e
-    by e (inl is) = memory_opening e is
-    by e (inr is) = subst IsOpeningRefusal (sym is) (inr tt)
-
-pub called_check : (reason : Reason) → IsCalledUnopened reason → TellsRefusal IsCheckRefusal reason
-called_check reason called = tells_weaker (λ e. (e ≡ NoMemory) ⊎ (e ≡ Io)) IsCheckRefusal reason by called
-  where
-    by : (e : Refusal) → (e ≡ NoMemory) ⊎ (e ≡ Io) → IsCheckRefusal e
-    by e (inl is) = subst IsCheckRefusal (sym is) tt
-    by e (inr is) = subst IsCheckRefusal (sym is) tt
-
--- or made
-pub called_refused : (reason : Reason) (e : Refusal) → reason ≡ refusal e → (e ≡ NoMemory) ⊎ (e ≡ Io) → IsCalledUnopened reason
-called_refused reason e is may = tells_as (λ e. (e ≡ NoMemory) ⊎ (e ≡ Io)) reason e is may
-
-pub called_io : (reason : Reason) → reason ≡ refusal Io → IsCalledUnopened reason
-called_io reason is = called_refused reason Io is (inr refl)
-
--- no store was opened
-pub tells_opening : (RefusesSo : StoreView → Refusal → Type 0) (reason : Reason) → TellsRefusal IsOpeningRefusal reason → TellsRefusal (IsRefusedOpened RefusesSo) reason
-tells_opening RefusesSo reason told = tells_weaker IsOpeningRefusal (IsRefusedOpened RefusesSo) reason (λ e may. inl may) told
-
--- or one was: its answer
-pub opened_gives : (Tells : StoreView → StoreView → Output → Type 0) (store after : StoreView) (made : Result Output Refusal) (result : Result Answer Fault) → WasOpened store
-    → IfOk made (Tells store after) → Answered made after.device result → IfOk result (OfOpened Tells)
-opened_gives Tells store after (Ok output) (Ok answer) opened tells (same, hands) =
-    record { store = store; after = after; opened = opened; tells = subst (λ (o : Output). Tells store after o) (sym same) tells; hands = hands }
-opened_gives Tells store after (Ok output) (Err fault) opened tells answered = tt
-opened_gives Tells store after (Err e) (Ok answer) opened tells answered = absurd answered
-opened_gives Tells store after (Err e) (Err fault) opened tells answered = tt
-
--- or its refusal
-pub opened_refuses : (RefusesSo : StoreView → Refusal → Type 0) (store : StoreView) (device : Medium) (made : Result Output Refusal) (result : Result Answer Fault) → WasOpened store
-    → IfErr made (RefusesSo store) → Answered made device result → IfErr result (λ e. TellsRefusal (IsRefusedOpened RefusesSo) (reason_of e))
-opened_refuses RefusesSo store device (Ok output) (Ok answer) opened refused answered = tt
-opened_refuses RefusesSo store device (Ok output) (Err fault) opened refused answered = absurd answered
-opened_refuses RefusesSo store device (Err e) (Ok answer) opened refused answered = tt
-opened_refuses RefusesSo store device (Err e) (Err fault) opened refused answered =
-    tells_as (IsRefusedOpened RefusesSo) (reason_of fault) e answered (opened_refused RefusesSo store e opened refused)
-
--- or one that its opening may be refused with too
-pub opening_refuses : (device : Medium) (made : Result Output Refusal) (result : Result Answer Fault) → IfErr made IsOpeningRefusal → Answered made device result
-    → IfErr result (λ e. TellsRefusal IsOpeningRefusal (reason_of e))
-opening_refuses device (Ok output) (Ok answer) refused answered = tt
-opening_refuses device (Ok output) (Err fault) refused answered = absurd answered
-opening_refuses device (Err e) (Ok answer) refused answered = tt
-opening_refuses device (Err e) (Err fault) refused answered = tells_as IsOpeningRefusal (reason_of fault) e answered refused
-
-pub numbers_opening : (store : StoreView) (made : Result Output Refusal) → WasOpened store → IfErr made (λ e. (e ≡ NoMemory) ⊎ (stat_answer (machine_of store) ≡ Err e))
-    → IfErr made IsOpeningRefusal
-numbers_opening store (Ok output) opened refused = tt
-numbers_opening store (Err e) opened refused = numbers_refused store e opened refused
-
-pub memory_openings : (made : Result Output Refusal) → IfErr made (λ e. e ≡ NoMemory) → IfErr made IsOpeningRefusal
-memory_openings (Ok output) refused = tt
-memory_openings (Err e) refused = memory_opening e refused

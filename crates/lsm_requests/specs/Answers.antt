@@ -1,7 +1,7 @@
 -- What the program prints.
-use Rattle.std.specs.Prelude.{◌≡◌, ◌⊎◌, ℕ, ◌+◌, ◌*◌, ◌==◌, List, [], ◌∷◌, ◌++◌, map, Option, Some, None, is_some, Result, Ok, Err, IfOk, IsTrue, MatchResult, false, true, codes, decimal, string_bytes}
+use Rattle.std.specs.Prelude.{◌≡◌, ◌⊎◌, ℕ, ◌+◌, ◌*◌, ◌==◌, List, [], ◌∷◌, ◌++◌, map, Option, Some, None, Result, Ok, Err, IfOk, IsTrue, false, true, codes, decimal, string_bytes}
 use Rattle.std.specs.Io.KnownBytes.{Appends}
-use Rattle.lsm_language.specs.Faults.{Reason, refusal, unopened, unwritten, reason_of}
+use Rattle.lsm_language.specs.Faults.{Reason, refusal, unwritten, reason_of}
 use Rattle.lsm_language.specs.declared.fault.Fault.{Fault}
 use Rattle.lsm_codec.specs.Keys.{Bytes}
 use Rattle.lsm_codec.specs.Words.{word_of}
@@ -14,7 +14,6 @@ use Rattle.lsm_device.specs.Outcomes.{Leaves}
 use Rattle.lsm_device.specs.declared.file.FileDevice.{FileDevice}
 use Rattle.lsm_root.specs.Counted.{CallsMade}
 use Rattle.lsm_device.specs.declared.refusal.Refusal.{Refusal}
-use Rattle.lsm_device.specs.declared.refusal.Refusal.TheVariants.{NoMemory, Io, Stopped}
 use Rattle.lsm_open.specs.CrashState.{formatted as empty_store}
 use Rattle.lsm_open.specs.Image.{StandFor}
 use Rattle.lsm_open.specs.ReadParts.{ReadsAtMost}
@@ -112,16 +111,6 @@ pub record OpensAndRefuses (RefusesSo : StoreView → Refusal → Type 0) (e : R
   pub opened : WasOpened store
   pub refused : RefusesSo store e
 
--- A file can't be opened, or a refusal of this kind is told, of a store in a file that was opened or of its opening.
-abbrev pub TellsRefusal : (Refusal → Type 0) → Reason → Type 0
-TellsRefusal IsRefusal (refusal e) = IsRefusal e
-TellsRefusal IsRefusal (unopened cause) = Unit {0}
-TellsRefusal IsRefusal other = ⊥
-
--- a file that can't be opened or made is told by its cause, or as Io with what the system says, or there was no memory
-abbrev pub IsCalledUnopened : Reason → Type 0
-IsCalledUnopened reason = TellsRefusal (λ e. (e ≡ NoMemory) ⊎ (e ≡ Io)) reason
-
 -- no store was opened, or one was, and refused so
 abbrev pub IsRefusedOpened : (StoreView → Refusal → Type 0) → Refusal → Type 0
 IsRefusedOpened RefusesSo e = IsOpeningRefusal e ⊎ OpensAndRefuses RefusesSo e
@@ -133,11 +122,6 @@ pub record OfOpened (Tells : StoreView → StoreView → Output → Type 0) (ans
   pub opened : WasOpened store
   pub tells : Tells store after answer.output
   pub hands : Hands answer.file after.device
-
--- the store in a file was let go: what was made of its calls is the answer, or why nothing was is told
-abbrev pub Answered : Result Output Refusal → Medium → Result Answer Fault → Type 0
-Answered (Ok output) device result = MatchResult result (λ answer. (answer.output ≡ output) × Hands answer.file device) (λ fault. ⊥)
-Answered (Err e) device result = MatchResult result (λ answer. ⊥) (λ fault. reason_of fault ≡ refusal e)
 
 -- a value is told by its word
 abbrev pub TellsValue : Option Bytes → Output → Type 0
@@ -271,16 +255,10 @@ pub record OfDumped (output output_after : Option (List ℕ)) (answer : Answer) 
   pub appends : Appends output output_after printed
   pub dumps : OfOpened (HasDumped printed) answer
 
--- all lines of the input were answered, and the store was synced; it is not stopped
+-- all lines of the input were answered, and the store was synced
 pub record HasServed (input output output_after : Option (List ℕ)) (before after : StoreView) (answered : Output) : Type 0 where
   pub serves : IsServed input (Ok tt) before after output output_after
-  pub running : is_some after.state.stopped ≡ false
   pub told : answered ≡ Served
-
--- a store that is not stopped was served to the end, and one that is refuses
-abbrev pub AnsweredUnlessStopped : StoreView → Result Answer Fault → Type 0
-AnsweredUnlessStopped store (Ok answer) = (is_some store.state.stopped ≡ false) × (answer.output ≡ Served) × Hands answer.file store.device
-AnsweredUnlessStopped store (Err fault) = (is_some store.state.stopped ≡ true) × (reason_of fault ≡ refusal Stopped)
 
 -- What a request comes to, of this input: an answer, which is to be printed behind what the output holds then.
 abbrev pub Comes : Request → Option (List ℕ) → Option (List ℕ) → Option (List ℕ) → Answer → Type 0
@@ -294,7 +272,6 @@ Comes other input output output_after answer = Gives other answer × (output_aft
 abbrev pub TellsDumped : Reason → Option (List ℕ) → Option (List ℕ) → Type 0
 TellsDumped (refusal e) output output_after = (IsOpeningRefusal e × (output_after ≡ output))
     ⊎ ((store : StoreView) × WasOpened store × StopsDumping (refusal e) store output output_after)
-TellsDumped (unopened cause) output output_after = output_after ≡ output
 TellsDumped unwritten output output_after = Unit {0}
 TellsDumped other output output_after = ⊥
 
@@ -313,15 +290,9 @@ pub record LoadsTo (input output output_after : Option (List ℕ)) (reason : Rea
   pub ends : loaded.ended ≡ Err fault
   pub tells : TellsNumber loaded.rows (reason_of fault) reason output output_after
 
--- of a store into which so many rows were loaded: all of them, which are the answer; or up to a fault, before which their number was printed
-abbrev pub AnswersLoaded : ℕ → Result (Unit {0}) Fault → Medium → Result Answer Fault → Option (List ℕ) → Option (List ℕ) → Type 0
-AnswersLoaded rows (Ok done) device result output output_after =
-    MatchResult result (λ answer. (answer.output ≡ Loaded rows) × Hands answer.file device) (λ told. ⊥) × (output_after ≡ output)
-AnswersLoaded rows (Err fault) device result output output_after = MatchResult result (λ answer. ⊥) (λ told. TellsNumber rows (reason_of fault) (reason_of told) output output_after)
-
 -- Why not all rows were loaded, and what was printed: a refusal, and nothing; or rows were put up to a fault.
 abbrev pub TellsLoaded : Option (List ℕ) → Reason → Option (List ℕ) → Option (List ℕ) → Type 0
-TellsLoaded input reason output output_after = (TellsRefusal (IsRefusedOpened (RefusesToLoad input)) reason × (output_after ≡ output))
+TellsLoaded input reason output output_after = ((e : Refusal) × (reason ≡ refusal e) × IsRefusedOpened (RefusesToLoad input) e × (output_after ≡ output))
     ⊎ LoadsTo input output output_after reason
 
 -- Why a store was not served to the end of the input: it was not opened, or there was no memory for a reader, and nothing was printed; or
@@ -334,15 +305,5 @@ pub record ServesTo (input output output_after : Option (List ℕ)) (reason : Re
   pub serves : IsServed input (Err fault) store after output output_after
   pub same : reason_of fault ≡ reason
 
--- all lines were answered, but a write or a sync had failed in the meantime, which stopped the store
-pub record ServesStopped (input output output_after : Option (List ℕ)) (reason : Reason) : Type 0 where
-  pub store : StoreView
-  pub after : StoreView
-  pub opened : WasOpened store
-  pub serves : IsServed input (Ok tt) store after output output_after
-  pub stopped : is_some after.state.stopped ≡ true
-  pub told : reason ≡ refusal Stopped
-
 abbrev pub TellsServed : Option (List ℕ) → Reason → Option (List ℕ) → Option (List ℕ) → Type 0
-TellsServed input reason output output_after = (TellsRefusal IsOpeningRefusal reason × (output_after ≡ output))
-    ⊎ (ServesTo input output output_after reason ⊎ ServesStopped input output output_after reason)
+TellsServed input reason output output_after = ((e : Refusal) × (reason ≡ refusal e) × IsOpeningRefusal e × (output_after ≡ output)) ⊎ ServesTo input output output_after reason

@@ -44,15 +44,6 @@ HasTooMany input = IfSome input (λ all. 18446744073709551615 ≤ length (rows_o
 abbrev pub IsShort : Option (List ℕ) → Refusal → Type 0
 IsShort input e = (e ≡ NoMemory) ⊎ ((e ≡ Exhausted) × HasTooMany input)
 
--- whether a reading ended with a refusal
-abbrev pub is_refusal : Reason → Bool
-is_refusal (refusal e) = true
-is_refusal other = false
-
-abbrev pub is_refused : Result (Unit {0}) Fault → Bool
-is_refused (Ok done) = false
-is_refused (Err fault) = is_refusal (reason_of fault)
-
 -- ---- how a loading ends
 
 -- rows behind those that a store has were not added to it: the first ones that were to come, or no others were read

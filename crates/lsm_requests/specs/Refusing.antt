@@ -2,7 +2,7 @@
 use Rattle.std.specs.Prelude.{◌≡◌, ◌⊎◌, ℕ, Bool, true, false, List, Option, None, Err, IsTrue}
 use Rattle.lsm_check.specs.Images.{IsCheckRefusal}
 use Rattle.lsm_device.specs.declared.refusal.Refusal.{Refusal}
-use Rattle.lsm_device.specs.declared.refusal.Refusal.TheVariants.{NoMemory, NoSpace}
+use Rattle.lsm_device.specs.declared.refusal.Refusal.TheVariants.{NoMemory, Io, NoSpace}
 use Rattle.lsm_language.specs.Faults.{Reason, refusal}
 use Rattle.lsm_language.specs.declared.request.Request.{Request}
 use Rattle.lsm_language.specs.declared.request.Request.TheVariants as request
@@ -14,7 +14,7 @@ use Rattle.lsm_store.specs.Serving.{Serves}
 use Rattle.lsm_store.specs.Stats.{stat_answer}
 use Rattle.lsm_upkeep.specs.Upkeep.{CompactsAll}
 use Rattle.lsm_storm.specs.Storms.{IsSessionRefusal, IsStormRefusal}
-use Rattle.lsm_requests.specs.Answers.{IsCalledUnopened, IsRefusedOpened, TellsDumped, TellsLoaded, TellsRefusal, TellsServed}
+use Rattle.lsm_requests.specs.Answers.{IsRefusedOpened, TellsDumped, TellsLoaded, TellsServed}
 use Rattle.lsm_requests.specs.Commits.{IsKeptUp, Refuses, takes_puts}
 
 -- a call that reads was refused, or there was no memory for the text of its answer
@@ -47,34 +47,34 @@ pub record RefusesToCompact (before : StoreView) (e : Refusal) : Type 0 where
   pub compacts : CompactsAll kept after
   pub untold : (e ≡ NoMemory) ⊎ (stat_answer (machine_of after) ≡ Err e)
 
--- a refusal of this kind is told, of a store in memory
-abbrev pub IsRefusedBy : (Refusal → Type 0) → Reason → Type 0
-IsRefusedBy IsRefusal (refusal e) = IsRefusal e
-IsRefusedBy IsRefusal other = ⊥
-
 -- With what a request may be refused that prints nothing before its answer.
-abbrev pub MayRefuse : Request → Reason → Type 0
-MayRefuse (request.Format file geometry) reason = IsCalledUnopened reason
-MayRefuse (request.Put file batch) reason = TellsRefusal (IsRefusedOpened (RefusesToCommit true (Commit batch))) reason
-MayRefuse (request.PutIf file guards batch) reason = TellsRefusal (IsRefusedOpened (RefusesToCommit true (CommitIf guards.items batch))) reason
-MayRefuse (request.Delete file batch) reason = TellsRefusal (IsRefusedOpened (RefusesToCommit false (Commit batch))) reason
-MayRefuse (request.Get file key) reason = TellsRefusal (IsRefusedOpened (RefusesToTell (Get Now key.items))) reason
-MayRefuse (request.Scan file from limit) reason = TellsRefusal (IsRefusedOpened (RefusesToTell (Scan Now from.items None limit))) reason
-MayRefuse (request.Stat file) reason = TellsRefusal IsOpeningRefusal reason
-MayRefuse (request.Check file) reason = TellsRefusal IsCheckRefusal reason
-MayRefuse (request.Compact file) reason = TellsRefusal (IsRefusedOpened RefusesToCompact) reason
-MayRefuse (request.Dump file) reason = ⊥
-MayRefuse (request.Load file) reason = ⊥
-MayRefuse (request.Serve file) reason = ⊥
-MayRefuse (request.Replay file script) reason = TellsRefusal IsOpeningRefusal reason
-MayRefuse (request.Lives geometry script) reason = IsRefusedBy (λ e. e ≡ NoMemory) reason
-MayRefuse (request.Explore geometry script) reason = IsRefusedBy (λ e. e ≡ NoMemory) reason
-MayRefuse (request.Storm load) reason = IsRefusedBy IsStormRefusal reason
-MayRefuse (request.Tally load) reason = IsRefusedBy IsSessionRefusal reason
+abbrev pub MayRefuse : Request → Refusal → Type 0
+MayRefuse (request.Format file geometry) e = (e ≡ NoMemory) ⊎ (e ≡ Io)
+MayRefuse (request.Put file batch) e = IsRefusedOpened (RefusesToCommit true (Commit batch)) e
+MayRefuse (request.PutIf file guards batch) e = IsRefusedOpened (RefusesToCommit true (CommitIf guards.items batch)) e
+MayRefuse (request.Delete file batch) e = IsRefusedOpened (RefusesToCommit false (Commit batch)) e
+MayRefuse (request.Get file key) e = IsRefusedOpened (RefusesToTell (Get Now key.items)) e
+MayRefuse (request.Scan file from limit) e = IsRefusedOpened (RefusesToTell (Scan Now from.items None limit)) e
+MayRefuse (request.Stat file) e = IsOpeningRefusal e
+MayRefuse (request.Check file) e = IsCheckRefusal e
+MayRefuse (request.Compact file) e = IsRefusedOpened RefusesToCompact e
+MayRefuse (request.Dump file) e = ⊥
+MayRefuse (request.Load file) e = ⊥
+MayRefuse (request.Serve file) e = ⊥
+MayRefuse (request.Replay file script) e = IsOpeningRefusal e
+MayRefuse (request.Lives geometry script) e = e ≡ NoMemory
+MayRefuse (request.Explore geometry script) e = e ≡ NoMemory
+MayRefuse (request.Storm load) e = IsStormRefusal e
+MayRefuse (request.Tally load) e = IsSessionRefusal e
+
+-- such a refusal
+abbrev pub IsRefusalOf : Request → Reason → Type 0
+IsRefusalOf request (refusal e) = MayRefuse request e
+IsRefusalOf request other = ⊥
 
 -- why there is no answer, and what was printed then
 abbrev pub FaultsWith : Request → Option (List ℕ) → Reason → Option (List ℕ) → Option (List ℕ) → Type 0
 FaultsWith (request.Dump file) input reason output output_after = TellsDumped reason output output_after
 FaultsWith (request.Load file) input reason output output_after = TellsLoaded input reason output output_after
 FaultsWith (request.Serve file) input reason output output_after = TellsServed input reason output output_after
-FaultsWith other input reason output output_after = MayRefuse other reason × (output_after ≡ output)
+FaultsWith other input reason output output_after = IsRefusalOf other reason × (output_after ≡ output)

@@ -1,6 +1,7 @@
 //! The calls of the store that a request makes, on a store in a file.
 
 ghost use Rattle.std.specs.Prelude.{◌≡◌, ◌⊎◌, [], ◌+◌, true, false, map, None, Err, IfErr, IfOk};
+ghost use Rattle.std.specs.Io.Buffered.{reader_remaining};
 ghost use Rattle.lsm_check.specs.Images.{IsCheckRefusal};
 ghost use Rattle.lsm_device.specs.declared.refusal.Refusal.TheVariants.{NoMemory, Io};
 ghost use Rattle.lsm_open.specs.Recovering.{IsOpeningRefusal};
@@ -15,16 +16,15 @@ ghost use Rattle.lsm_requests.specs.Steps.{steps_after, lives_said, told_after, 
 ghost use Rattle.lsm_requests.specs.Replies.{table_line};
 ghost use Rattle.lsm_requests.specs.Commits.{HasCommitted};
 ghost use Rattle.lsm_requests.specs.Loading.{HasLoaded, KeepsAndLoads, RefusesToLoad};
-ghost use Rattle.lsm_requests.specs.Answers.{Comes, HasCompacted, HasFormatted, HasCounted, IsCalledUnopened, IsRefusedOpened, AnsweredUnlessStopped, AnswersLoaded, OfDumped, TellsDumped, TellsRefusal, TellsLoaded, TellsNumber, TellsServed, HasFound, HasServed, HasLives, HasNumbers, HasChecked, IsChecked, TellsFound, HasRows, HasReplies, OfOpened};
+ghost use Rattle.lsm_requests.specs.Answers.{Comes, HasCompacted, HasFormatted, HasCounted, IsRefusedOpened, OfDumped, TellsDumped, TellsLoaded, TellsNumber, TellsServed, HasFound, HasServed, HasLives, HasNumbers, HasChecked, IsChecked, TellsFound, HasRows, HasReplies, OfOpened};
 ghost use Rattle.lsm_requests.specs.Refusing.{FaultsWith, RefusesToCommit, RefusesToCompact, RefusesToTell};
 
 use crate::answer::{Answer, Output};
 use crate::committing::{blocks_of_log, check_room, keep};
 use crate::dumping::dump_rows;
 use crate::exploring::explore;
-use crate::failing::{answered, failed, told};
 use crate::loading::{Loaded, load_rows};
-use crate::opening::{device_to_read, new_device, open, put_in_place};
+use crate::opening::open;
 use crate::reply::{counts_text, push_page, report_text, table_text};
 use crate::steps::steps_of;
 use crate::tallied::tally;
@@ -32,14 +32,14 @@ use crate::{committing, runs};
 use lsm_check::Finding;
 use lsm_codec::{Batch, Guard, word};
 use lsm_device::{Device, FileDevice, Refusal};
-use lsm_language::{Fault, Geometry, Line, Load, Request, buffered};
+use lsm_language::{Fault, Geometry, Line, Load, Request};
 use lsm_progress::Progress;
 use lsm_replies::stat_text;
 use lsm_store::{At, Store};
 use lsm_upkeep::compact_all_showing;
 use std::alloc::Global;
 use std::fs::{File, Files};
-use std::io::{BufRead, Read, Write};
+use std::io::{BufRead, BufReader, Read, Write};
 use std::sync::Wait;
 use std::thread::Threads;
 
@@ -61,23 +61,23 @@ pub fn answer_request<
     ensures faults { IfErr result (λ e. FaultsWith request.entry (I.remaining input.old) (reason_of e) (O.contents output.old) (O.contents output.new)) }
 {
     match request {
-        Request::Format { file, geometry } => format(rt, file, geometry),
-        Request::Put { file, batch } => put(rt, file, &batch),
+        Request::Format { file, geometry } => Ok(format(rt, file, geometry)?),
+        Request::Put { file, batch } => Ok(put(rt, file, &batch)?),
         Request::PutIf {
             file,
             guards,
             batch,
-        } => put_if(rt, file, &guards, &batch),
-        Request::Delete { file, batch } => delete(rt, file, &batch),
-        Request::Get { file, key } => get(rt, file, &key),
-        Request::Scan { file, from, limit } => scan(rt, file, &from, limit),
-        Request::Stat { file } => stat(rt, file),
-        Request::Check { file } => check(rt, file),
-        Request::Compact { file } => compact(rt, file, progress),
+        } => Ok(put_if(rt, file, &guards, &batch)?),
+        Request::Delete { file, batch } => Ok(delete(rt, file, &batch)?),
+        Request::Get { file, key } => Ok(get(rt, file, &key)?),
+        Request::Scan { file, from, limit } => Ok(scan(rt, file, &from, limit)?),
+        Request::Stat { file } => Ok(stat(rt, file)?),
+        Request::Check { file } => Ok(check(rt, file)?),
+        Request::Compact { file } => Ok(compact(rt, file, progress)?),
         Request::Dump { file } => dump(rt, file, output),
         Request::Load { file } => load(rt, file, input, output, progress),
         Request::Serve { file } => serve(rt, file, input, output),
-        Request::Replay { file, script } => replay(rt, file, script),
+        Request::Replay { file, script } => Ok(replay(rt, file, script)?),
         Request::Lives { geometry, script } => Ok(lives(rt, rt.alloc(), geometry, script)?),
         Request::Explore { geometry, script } => {
             Ok(explore(rt, rt.alloc(), geometry, script, progress)?)
@@ -91,13 +91,13 @@ fn compact<R: Files<File = File> + AllocGlobal + Threads + Sync, P: Progress>(
     rt: &R,
     file: &str,
     progress: &mut P,
-) -> Result<Answer, Fault>
+) -> Result<Answer, Refusal>
     ensures gives { IfOk result (OfOpened HasCompacted) }
-    ensures refused { IfErr result (λ e. TellsRefusal (IsRefusedOpened RefusesToCompact) (reason_of e)) }
+    ensures refused { IfErr result (IsRefusedOpened RefusesToCompact) }
 {
     let mut store = open(rt, file)?;
-    let made = keep_and_compact(rt, rt.alloc(), &mut store, progress);
-    answered(rt.alloc(), store, made)
+    let output = keep_and_compact(rt, rt.alloc(), &mut store, progress)?;
+    Ok(Answer::of_store(output, store))
 }
 
 // Keeps a store up, then compacts it, and tells its numbers.
@@ -125,10 +125,8 @@ fn dump<R: Files<File = File> + AllocGlobal, O: Write>(
     ensures fault { IfErr result (λ e. TellsDumped (reason_of e) (O.contents output.old) (O.contents output.new)) }
 {
     let mut store = open(rt, file)?;
-    match dump_rows(rt.alloc(), &mut store, output) {
-        Ok(()) => Ok(Answer::of_store(Output::Dumped, store)),
-        Err(fault) => Err(told(rt.alloc(), fault, &store.into_device())),
-    }
+    dump_rows(rt.alloc(), &mut store, output)?;
+    Ok(Answer::of_store(Output::Dumped, store))
 }
 
 fn load<R: Files<File = File> + AllocGlobal + Threads + Sync, I: Read, O: Write, P: Progress>(
@@ -143,33 +141,14 @@ fn load<R: Files<File = File> + AllocGlobal + Threads + Sync, I: Read, O: Write,
 {
     let mut store = open(rt, file)?;
     let mut lines = buffered(rt.alloc(), input)?;
-    match keep_and_load(rt, rt.alloc(), &mut store, &mut lines, progress) {
-        Ok(loaded) => tell_loaded(rt.alloc(), loaded, store, output),
-        Err(refusal) => Err(failed(rt.alloc(), refusal, &store.into_device())),
-    }
-}
-
-// What is answered of a store into which rows were loaded: their number, which is printed at once where they are not all.
-fn tell_loaded<O: Write>(
-    alloc: Global,
-    loaded: Loaded,
-    store: Store<FileDevice>,
-    output: &mut O,
-) -> Result<Answer, Fault>
-    ensures { AnswersLoaded loaded.rows loaded.ended store.device result (O.contents output.old) (O.contents output.new) }
-{
-    let Loaded { rows, ended } = loaded;
+    let Loaded { rows, ended } = keep_and_load(rt, rt.alloc(), &mut store, &mut lines, progress)?;
     match ended {
         Ok(()) => Ok(Answer::of_store(Output::Loaded(rows), store)),
-        Err(fault) => {
-            let fault = told(alloc, fault, &store.into_device());
-            Err(told_first(rows, fault, output))
-        }
+        Err(fault) => Err(told_first(rows, fault, output)),
     }
 }
 
-// Answers the lines of an input, with the store open all the while. It ends with a refusal where the store was stopped, though all lines
-// were answered.
+// Answers the lines of an input, with the store open all the while.
 fn serve<R: Files<File = File> + AllocGlobal + Threads + Sync, I: Read, O: Write>(
     rt: &R,
     file: &str,
@@ -181,20 +160,8 @@ fn serve<R: Files<File = File> + AllocGlobal + Threads + Sync, I: Read, O: Write
 {
     let mut store = open(rt, file)?;
     let mut lines = buffered(rt.alloc(), input)?;
-    match lsm_serve::serve(rt, rt.alloc(), &mut store, &mut lines, output) {
-        Ok(()) => unless_stopped(rt.alloc(), store),
-        Err(fault) => Err(told(rt.alloc(), fault, &store.into_device())),
-    }
-}
-
-// What is answered of a store that was served to the end. One that was stopped refuses to tell its numbers.
-fn unless_stopped(alloc: Global, store: Store<FileDevice>) -> Result<Answer, Fault>
-    ensures { AnsweredUnlessStopped store result }
-{
-    match store.stat() {
-        Ok(_) => Ok(Answer::of_store(Output::Served, store)),
-        Err(refusal) => Err(failed(alloc, refusal, &store.into_device())),
-    }
+    lsm_serve::serve(rt, rt.alloc(), &mut store, &mut lines, output)?;
+    Ok(Answer::of_store(Output::Served, store))
 }
 
 // Keeps a store up, then loads rows.
@@ -213,6 +180,17 @@ fn keep_and_load<R: Threads + Sync, D: Device, I: BufRead, P: Progress>(
     load_rows(rt, alloc, store, lines, progress)
 }
 
+// A reader that takes in 64 KiB at a time.
+fn buffered<I: Read>(alloc: Global, input: &mut I) -> Result<BufReader<&mut I>, Refusal>
+    ensures lines { IfOk result (λ lines. reader_remaining (λ input. I.remaining input.now) lines ≡ I.remaining input.old) }
+    ensures refused { IfErr result (λ e. e ≡ NoMemory) }
+{
+    match BufReader::with_capacity(alloc, 65_536, input) {
+        Ok(lines) => Ok(lines),
+        Err(_) => Err(Refusal::NoMemory),
+    }
+}
+
 // Prints how many rows were loaded before the fault.
 fn told_first<O: Write>(rows: u64, fault: Fault, output: &mut O) -> Fault
     ensures { TellsNumber rows (reason_of fault) (reason_of result) (O.contents output.old) (O.contents output.new) }
@@ -223,28 +201,21 @@ fn told_first<O: Write>(rows: u64, fault: Fault, output: &mut O) -> Fault
     }
 }
 
-// Makes a store beside the file whose place it takes once it is whole and synced. Until then that file stays as it was.
 fn format<R: Files<File = File> + AllocGlobal>(
     rt: &R,
     file: &str,
     geometry: Geometry,
-) -> Result<Answer, Fault>
+) -> Result<Answer, Refusal>
     ensures gives { IfOk result (HasFormatted geometry.sectors geometry.log_sectors) }
-    ensures refused { IfErr result (λ e. IsCalledUnopened (reason_of e)) }
+    ensures refused { IfErr result (λ e. (e ≡ NoMemory) ⊎ (e ≡ Io)) }
 {
-    let (device, replacement) = new_device(rt, file, geometry.sectors())?;
+    let device = FileDevice::create(rt, file, geometry.sectors())?;
     match lsm_open::format(rt.alloc(), device, geometry.log_sectors()) {
-        Ok(device) => {
-            put_in_place(rt, replacement)?;
-            Ok(Answer {
-                output: Output::Formatted(geometry.data_blocks()),
-                file: Some(device),
-            })
-        }
-        Err((refusal, device)) => {
-            replacement.give_up(rt);
-            Err(failed(rt.alloc(), refusal, &device))
-        }
+        Ok(device) => Ok(Answer {
+            output: Output::Formatted(geometry.data_blocks()),
+            file: Some(device),
+        }),
+        Err((refusal, _)) => Err(refusal),
     }
 }
 
@@ -252,13 +223,13 @@ fn put<R: Files<File = File> + AllocGlobal + Threads + Sync>(
     rt: &R,
     file: &str,
     batch: &Batch,
-) -> Result<Answer, Fault>
+) -> Result<Answer, Refusal>
     ensures gives { IfOk result (OfOpened (HasCommitted true (Commit batch.now))) }
-    ensures refused { IfErr result (λ e. TellsRefusal (IsRefusedOpened (RefusesToCommit true (Commit batch.now))) (reason_of e)) }
+    ensures refused { IfErr result (IsRefusedOpened (RefusesToCommit true (Commit batch.now))) }
 {
     let mut store = open(rt, file)?;
-    let made = committing::put(rt, rt.alloc(), &mut store, batch);
-    answered(rt.alloc(), store, made)
+    let output = committing::put(rt, rt.alloc(), &mut store, batch)?;
+    Ok(Answer::of_store(output, store))
 }
 
 fn put_if<R: Files<File = File> + AllocGlobal + Threads + Sync>(
@@ -266,35 +237,39 @@ fn put_if<R: Files<File = File> + AllocGlobal + Threads + Sync>(
     file: &str,
     guards: &[Guard],
     batch: &Batch,
-) -> Result<Answer, Fault>
+) -> Result<Answer, Refusal>
     ensures gives { IfOk result (OfOpened (HasCommitted true (CommitIf guards.now batch.now))) }
-    ensures refused { IfErr result (λ e. TellsRefusal (IsRefusedOpened (RefusesToCommit true (CommitIf guards.now batch.now))) (reason_of e)) }
+    ensures refused { IfErr result (IsRefusedOpened (RefusesToCommit true (CommitIf guards.now batch.now))) }
 {
     let mut store = open(rt, file)?;
-    let made = committing::put_if(rt, rt.alloc(), &mut store, guards, batch);
-    answered(rt.alloc(), store, made)
+    let output = committing::put_if(rt, rt.alloc(), &mut store, guards, batch)?;
+    Ok(Answer::of_store(output, store))
 }
 
 fn delete<R: Files<File = File> + AllocGlobal + Threads + Sync>(
     rt: &R,
     file: &str,
     batch: &Batch,
-) -> Result<Answer, Fault>
+) -> Result<Answer, Refusal>
     ensures gives { IfOk result (OfOpened (HasCommitted false (Commit batch.now))) }
-    ensures refused { IfErr result (λ e. TellsRefusal (IsRefusedOpened (RefusesToCommit false (Commit batch.now))) (reason_of e)) }
+    ensures refused { IfErr result (IsRefusedOpened (RefusesToCommit false (Commit batch.now))) }
 {
     let mut store = open(rt, file)?;
-    let made = committing::delete(rt, rt.alloc(), &mut store, batch);
-    answered(rt.alloc(), store, made)
+    let output = committing::delete(rt, rt.alloc(), &mut store, batch)?;
+    Ok(Answer::of_store(output, store))
 }
 
-fn get<R: Files<File = File> + AllocGlobal>(rt: &R, file: &str, key: &[u8]) -> Result<Answer, Fault>
+fn get<R: Files<File = File> + AllocGlobal>(
+    rt: &R,
+    file: &str,
+    key: &[u8],
+) -> Result<Answer, Refusal>
     ensures gives { IfOk result (OfOpened (HasFound key.now)) }
-    ensures refused { IfErr result (λ e. TellsRefusal (IsRefusedOpened (RefusesToTell (Get Now key.now))) (reason_of e)) }
+    ensures refused { IfErr result (IsRefusedOpened (RefusesToTell (Get Now key.now))) }
 {
     let mut store = open(rt, file)?;
-    let made = find(rt.alloc(), &mut store, key);
-    answered(rt.alloc(), store, made)
+    let output = find(rt.alloc(), &mut store, key)?;
+    Ok(Answer::of_store(output, store))
 }
 
 // Looks a key up.
@@ -312,14 +287,14 @@ fn replay<R: Files<File = File> + AllocGlobal + Threads + Sync>(
     rt: &R,
     file: &str,
     script: Vec<Line>,
-) -> Result<Answer, Fault>
+) -> Result<Answer, Refusal>
     ensures gives { IfOk result (OfOpened (HasReplies (map asked_of (steps_after [] script.items)) (told_after [] script.items))) }
-    ensures refused { IfErr result (λ e. TellsRefusal IsOpeningRefusal (reason_of e)) }
+    ensures refused { IfErr result IsOpeningRefusal }
 {
     let steps = steps_of(rt.alloc(), script)?;
     let mut store = open(rt, file)?;
-    let made = runs::replay(rt, rt.alloc(), &mut store, &steps);
-    answered(rt.alloc(), store, made)
+    let output = runs::replay(rt, rt.alloc(), &mut store, &steps)?;
+    Ok(Answer::of_store(output, store))
 }
 
 fn scan<R: Files<File = File> + AllocGlobal>(
@@ -327,13 +302,13 @@ fn scan<R: Files<File = File> + AllocGlobal>(
     file: &str,
     from: &[u8],
     limit: u64,
-) -> Result<Answer, Fault>
+) -> Result<Answer, Refusal>
     ensures gives { IfOk result (OfOpened (HasRows from.now limit)) }
-    ensures refused { IfErr result (λ e. TellsRefusal (IsRefusedOpened (RefusesToTell (Scan Now from.now None limit))) (reason_of e)) }
+    ensures refused { IfErr result (IsRefusedOpened (RefusesToTell (Scan Now from.now None limit))) }
 {
     let mut store = open(rt, file)?;
-    let made = list(rt.alloc(), &mut store, from, limit);
-    answered(rt.alloc(), store, made)
+    let output = list(rt.alloc(), &mut store, from, limit)?;
+    Ok(Answer::of_store(output, store))
 }
 
 // Lists a page.
@@ -361,13 +336,13 @@ fn numbers<D: Device>(alloc: Global, store: &Store<D>) -> Result<Output, Refusal
     Ok(Output::Lines(stat_text(alloc, &stat)?))
 }
 
-fn stat<R: Files<File = File> + AllocGlobal>(rt: &R, file: &str) -> Result<Answer, Fault>
+fn stat<R: Files<File = File> + AllocGlobal>(rt: &R, file: &str) -> Result<Answer, Refusal>
     ensures gives { IfOk result (OfOpened HasNumbers) }
-    ensures refused { IfErr result (λ e. TellsRefusal IsOpeningRefusal (reason_of e)) }
+    ensures refused { IfErr result IsOpeningRefusal }
 {
     let store = open(rt, file)?;
-    let made = numbers(rt.alloc(), &store);
-    answered(rt.alloc(), store, made)
+    let output = numbers(rt.alloc(), &store)?;
+    Ok(Answer::of_store(output, store))
 }
 
 // Checks a device, and tells what comes of it.
@@ -393,19 +368,16 @@ fn found(alloc: Global, what: &str, number: u64) -> Result<Output, Refusal>
     Ok(Output::Found(table_text(alloc, what, number)?))
 }
 
-// Checks a file, which may be one that may only be read.
-fn check<R: Files<File = File> + AllocGlobal>(rt: &R, file: &str) -> Result<Answer, Fault>
+fn check<R: Files<File = File> + AllocGlobal>(rt: &R, file: &str) -> Result<Answer, Refusal>
     ensures gives { IfOk result HasChecked }
-    ensures refused { IfErr result (λ e. TellsRefusal IsCheckRefusal (reason_of e)) }
+    ensures refused { IfErr result IsCheckRefusal }
 {
-    let mut device = device_to_read(rt, file)?;
-    match checked(rt.alloc(), &mut device) {
-        Ok(output) => Ok(Answer {
-            output,
-            file: Some(device),
-        }),
-        Err(refusal) => Err(failed(rt.alloc(), refusal, &device)),
-    }
+    let mut device = FileDevice::open(rt, file)?;
+    let output = checked(rt.alloc(), &mut device)?;
+    Ok(Answer {
+        output,
+        file: Some(device),
+    })
 }
 
 fn lives<R: Threads + Sync>(

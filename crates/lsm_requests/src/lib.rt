@@ -7,14 +7,12 @@ mod committing;
 mod dumping;
 mod ending;
 mod exploring;
-mod failing;
 mod loading;
 mod opening;
 mod reply;
 mod runs;
 mod steps;
 mod tallied;
-mod unopened;
 
 pub use answer::Answer;
 pub use calls::answer_request;

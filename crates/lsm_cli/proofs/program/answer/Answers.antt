@@ -1,8 +1,8 @@
-use Rattle.std.proofs.Common.{Some, ap, inl, inr, map, refl, rules}
+use Rattle.std.proofs.Common.{ap, inl, inr, map, refl, rules}
 use Rattle.std.proofs.lemmas.Result.{err_from_is_err_and}
-use Rattle.lsm_language.specs.Lines.{means}
+use Rattle.lsm_language.specs.Faults.{reason_of}
 use Rattle.lsm_cli.specs.Runs.{IsRead}
-use Rattle.lsm_cli.proofs.RunLaws.{answered_to, keeps, untried-request, untried-script, untried-words}
+use Rattle.lsm_cli.proofs.RunLaws.{comes_of, faults_of, keeps, untried-request, untried-script, untried-words}
 use Rattle.lsm_cli.proofs.program.answer.Goals as goal
 
 pub returns-in_err-asked : goal.returns-in_err-asked
@@ -10,22 +10,37 @@ returns-in_err-asked g c =
     let p = err_from_is_err_and c.from_residual.result c.from_residual.ensures.1 in
     rw (p.1, p.2) (inl (untried-words _ _ _ c.in_err-asked.ensures.faults, keeps _ _ refl))
 
-pub returns-in_err-script : goal.returns-in_err-script
-returns-in_err-script g c =
-    let p = err_from_is_err_and c.from_residual-in_err-script.result c.from_residual-in_err-script.ensures.1 in
-    rw (p.1, p.2) (inl (untried-script _ _ c.in_ok-asked.asked _ c.in_ok-asked.ensures.asked c.in_err-script.ensures.fails.0 c.in_err-script.ensures.fails.1, keeps _ _ refl))
+pub returns-in_err-text : goal.returns-in_err-text
+returns-in_err-text g c =
+    let p = err_from_is_err_and c.from_residual-in_err-text.result c.from_residual-in_err-text.ensures.1 in
+    rw (p.1, p.2) (inl (untried-script _ _ c.in_ok-asked.asked _ c.in_ok-asked.ensures.asked c.in_err-text.ensures.fails, keeps _ _ refl))
 
 pub returns-in_err-request : goal.returns-in_err-request
 returns-in_err-request g c =
     let words = map g.S.AsStr.text c.args.words.now in
     let input = g.I.Read.remaining c.args.input.now in
-    let read : IsRead words input c.in_ok-asked.asked (Some (map means c.in_ok-script.script.items)) = record { words_ask = c.in_ok-asked.ensures.asked; whole = c.in_ok-script.ensures.script } in
+    let read : IsRead words input c.in_ok-asked.asked c.deref.result.now = record { words_ask = search rules; whole = search rules } in
     let p = err_from_is_err_and c.from_residual-in_err-request.result c.from_residual-in_err-request.ensures.1 in
     rw (p.1, p.2) (inl (untried-request words input _ _ _ read c.in_err-request.ensures, keeps _ _ refl))
 
+pub returns-in-Ok : goal.returns-in-Ok
+returns-in-Ok g c =
+    let read : IsRead (map g.S.AsStr.text c.args.words.now) (g.I.Read.remaining c.args.input.now) c.in_ok-asked.asked c.deref.result.now = record { words_ask = search rules; whole = search rules } in
+    let says = c.in_ok-request.ensures.1 in
+    record {
+      request = c.in_ok-request.request;
+      requested = record { asked = c.in_ok-asked.asked; text = c.deref.result.now; read = read; sound = c.in_ok-request.ensures.0; says = says };
+      comes = comes_of c.in_ok-asked.asked c.deref.result.now _ _ _ _ (λ none. ap g.I.Read.remaining (c.in_ok-text.ensures.untouched none)) c.in_ok-request.request c.in-Ok.answer says c.in-Ok.ensures.comes;
+    }
+
 pub returns : goal.returns
 returns g c =
-    let read : IsRead (map g.S.AsStr.text c.args.words.now) (g.I.Read.remaining c.args.input.now) c.in_ok-asked.asked (Some (map means c.in_ok-script.script.items)) =
-    record { words_ask = c.in_ok-asked.ensures.asked; whole = c.in_ok-script.ensures.script } in
-    answered_to _ _ _ _ _ c.in_ok-asked.asked (Some (map means c.in_ok-script.script.items)) c.in_ok-request.request c.answer_request.result read c.in_ok-request.ensures.0 c.in_ok-request.ensures.1
-    (λ none. ap g.I.Read.remaining (c.in_ok-script.ensures.untouched none)) c.answer_request.ensures.comes c.answer_request.ensures.faults
+    let read : IsRead (map g.S.AsStr.text c.args.words.now) (g.I.Read.remaining c.args.input.now) c.in_ok-asked.asked c.deref.result.now = record { words_ask = search rules; whole = search rules } in
+    let says = c.in_ok-request.ensures.1 in
+    inr record {
+      request = c.in_ok-request.request;
+      requested = record { asked = c.in_ok-asked.asked; text = c.deref.result.now; read = read; sound = c.in_ok-request.ensures.0; says = says };
+      why = reason_of c.in-Err.fault;
+      faults = faults_of c.in_ok-asked.asked c.deref.result.now _ _ _ _ (λ none. ap g.I.Read.remaining (c.in_ok-text.ensures.untouched none)) c.in_ok-request.request (reason_of c.in-Err.fault) says c.in-Err.ensures.faults;
+      is = c.told.ensures;
+    }

@@ -1,11 +1,17 @@
-use Rattle.lsm_requests.specs.Answers.{HasNumbers}
-use Rattle.lsm_requests.proofs.RefusedLaws.{numbers_opening, opened_gives, opening_refuses}
+use Rattle.std.proofs.Common.{rules}
+use Rattle.std.proofs.lemmas.Result.{err_from_is_err_and}
+use Rattle.lsm_requests.proofs.RefusedLaws.{numbers_refused}
 use Rattle.lsm_requests.proofs.calls.stat.Goals as goal
 
 pub returns-clause-gives : goal.returns-clause-gives
-returns-clause-gives g c =
-    opened_gives HasNumbers c.in_ok-store.store c.in_ok-store.store c.numbers-made.result c.answered.result c.in_ok-store.ensures.opened c.numbers-made.ensures.gives c.answered.ensures
+returns-clause-gives g c = record {
+  store = c.in_ok-store.store;
+  after = c.in_ok-store.store;
+  opened = search rules;
+  tells = search rules;
+  hands = search rules;
+}
 
-pub returns-clause-refused : goal.returns-clause-refused
-returns-clause-refused g c =
-    opening_refuses _ c.numbers-made.result c.answered.result (numbers_opening c.in_ok-store.store c.numbers-made.result c.in_ok-store.ensures.opened c.numbers-made.ensures.refused) c.answered.ensures
+pub returns-in_err-output-clause-refused : goal.returns-in_err-output-clause-refused
+returns-in_err-output-clause-refused g c =
+    let p = err_from_is_err_and c.from_residual-in_err-output.result c.from_residual-in_err-output.ensures.1 in rw (p.1, p.2) (numbers_refused c.in_ok-store.store _ c.in_ok-store.ensures.opened c.in_err-output.ensures.refused)

@@ -1,6 +1,0 @@
-use Rattle.std.proofs.Common.{◌≤◌, ◌+◌, length}
-use Rattle.lsm_language.proofs.ReadingLaws.{IsReading}
-use Rattle.lsm_language.proofs.reading.next_line.Given as goal
-
-abbrev pub invariant-loop : goal.invariant-loop
-invariant-loop g l = IsReading (g.I.Read.remaining l.fn.input) l.line.items (g.I.Read.remaining l.input) × (length l.line.items ≤ l.fn.most + 1)

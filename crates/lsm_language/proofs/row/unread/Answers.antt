@@ -1,0 +1,8 @@
+use Rattle.std.proofs.Common.{inl, inr, refl}
+use Rattle.lsm_language.proofs.row.unread.Goals as goal
+
+pub returns-then-eq : goal.returns-then-eq
+returns-then-eq c = inl refl
+
+pub returns : goal.returns
+returns c = inr refl
