@@ -1,12 +1,10 @@
 //! Why a file can't be opened, as far as the system tells.
 
-use lsm_device::FileDevice;
+use lsm_device::{FileDevice, OpenError};
 use lsm_language::Cause;
 use std::fs::{File, Files, OpenOptions};
-use std::io::ErrorKind;
+use std::io::{Error, ErrorKind};
 use std::path::Path;
-
-const SECTOR_BYTES: u64 = 512;
 
 /// Why a file can't be opened as a device, or made if `is_made`. None if there is none, nothing is wrong with it, or nobody knows
 /// what.
@@ -16,29 +14,30 @@ pub(crate) fn cause_of<R: Files<File = File>>(
     is_made: bool,
 ) -> Option<Cause> {
     let path = path?;
-    if FileDevice::is_in_use(files, path) {
-        return Some(Cause::InUse);
-    }
-    match OpenOptions::new().read(true).write(true).open(files, path) {
-        Ok(file) if !is_made => uneven(&file),
+    match FileDevice::try_open(files, path) {
         Ok(_) => None,
-        Err(error) => match error.kind() {
-            ErrorKind::NotFound if !has_folder(files, path) => Some(Cause::NoFolder),
-            ErrorKind::NotFound if !is_made => Some(Cause::Missing),
-            ErrorKind::PermissionDenied => Some(Cause::Denied),
-            ErrorKind::IsADirectory => Some(Cause::Folder),
-            _ => None,
-        },
+        Err(OpenError::InUse) => Some(Cause::InUse),
+        Err(OpenError::Folder) => Some(Cause::Folder),
+        Err(OpenError::NotAFile) => Some(Cause::NotAFile),
+        Err(OpenError::Uneven) if !is_made => Some(Cause::Uneven),
+        Err(OpenError::Failed(error)) => told_by(files, path, is_made, &error),
+        Err(_) => None,
     }
 }
 
-// Whether the length of a file is the cause.
-fn uneven(file: &File) -> Option<Cause> {
-    let metadata = file.metadata().ok()?;
-    if metadata.len() % SECTOR_BYTES == 0 {
-        return None;
+// The cause that an error of the system tells.
+fn told_by<R: Files<File = File>>(
+    files: &R,
+    path: &str,
+    is_made: bool,
+    error: &Error,
+) -> Option<Cause> {
+    match error.kind() {
+        ErrorKind::NotFound if !has_folder(files, path) => Some(Cause::NoFolder),
+        ErrorKind::NotFound if !is_made => Some(Cause::Missing),
+        ErrorKind::PermissionDenied => Some(Cause::Denied),
+        _ => None,
     }
-    Some(Cause::Uneven)
 }
 
 // Whether the folder of a file is there.

@@ -4,7 +4,7 @@ use Rattle.lsm_device.specs.declared.refusal.Refusal.{Refusal}
 use Rattle.lsm_device.specs.declared.refusal.Refusal.TheVariants.{Io}
 use Rattle.lsm_device.specs.Refusals.{number_of, name_of, place_of}
 use Rattle.lsm_language.specs.declared.cause.Cause.{Cause}
-use Rattle.lsm_language.specs.declared.cause.Cause.TheVariants.{InUse, Missing, NoFolder, Denied, Folder, Uneven}
+use Rattle.lsm_language.specs.declared.cause.Cause.TheVariants.{InUse, Missing, NoFolder, Denied, Folder, NotAFile, Uneven}
 use Rattle.lsm_language.specs.declared.fault.Fault.{Fault}
 use Rattle.lsm_language.specs.declared.fault.Fault.TheVariants.{Usage, Refused, Unopened, Input, Output}
 
@@ -55,6 +55,7 @@ cause_text Missing = codes "there is no such file"
 cause_text NoFolder = codes "the folder of the file is missing"
 cause_text Denied = codes "the file may not be read and written"
 cause_text Folder = codes "the file is a folder"
+cause_text NotAFile = codes "the file is neither a regular file nor a block device"
 cause_text Uneven = codes "the length of the file is not a whole number of sectors"
 
 -- what is printed of a file that can't be opened: the refusal, and then the cause

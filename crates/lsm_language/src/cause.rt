@@ -16,6 +16,8 @@ pub enum Cause {
     Denied,
     /// It is a folder.
     Folder,
+    /// It is neither a regular file nor a block device.
+    NotAFile,
     /// Its length is not a whole number of sectors.
     Uneven,
 }
@@ -30,6 +32,7 @@ pub fn cause_text(cause: &Cause) -> &'static str
         Cause::NoFolder => "the folder of the file is missing",
         Cause::Denied => "the file may not be read and written",
         Cause::Folder => "the file is a folder",
+        Cause::NotAFile => "the file is neither a regular file nor a block device",
         Cause::Uneven => "the length of the file is not a whole number of sectors",
     }
 }

@@ -24,7 +24,7 @@ use crate::committing::{blocks_of_log, check_room, keep};
 use crate::dumping::dump_rows;
 use crate::exploring::explore;
 use crate::loading::{Loaded, load_rows};
-use crate::opening::open;
+use crate::opening::{create_beside, open, open_read_only, put_in_place};
 use crate::reply::{counts_text, push_page, report_text, table_text};
 use crate::steps::steps_of;
 use crate::tallied::tally;
@@ -209,13 +209,20 @@ fn format<R: Files<File = File> + AllocGlobal>(
     ensures gives { IfOk result (HasFormatted geometry.sectors geometry.log_sectors) }
     ensures refused { IfErr result (λ e. (e ≡ NoMemory) ⊎ (e ≡ Io)) }
 {
-    let device = FileDevice::create(rt, file, geometry.sectors())?;
+    let (device, replacement) = create_beside(rt, file, geometry.sectors())?;
     match lsm_open::format(rt.alloc(), device, geometry.log_sectors()) {
-        Ok(device) => Ok(Answer {
-            output: Output::Formatted(geometry.data_blocks()),
-            file: Some(device),
-        }),
-        Err((refusal, _)) => Err(refusal),
+        Ok(device) => {
+            put_in_place(rt, replacement)?;
+            Ok(Answer {
+                output: Output::Formatted(geometry.data_blocks()),
+                file: Some(device),
+            })
+        }
+        Err((refusal, device)) => {
+            drop(device);
+            replacement.give_up(rt);
+            Err(refusal)
+        }
     }
 }
 
@@ -372,7 +379,7 @@ fn check<R: Files<File = File> + AllocGlobal>(rt: &R, file: &str) -> Result<Answ
     ensures gives { IfOk result HasChecked }
     ensures refused { IfErr result IsCheckRefusal }
 {
-    let mut device = FileDevice::open(rt, file)?;
+    let mut device = open_read_only(rt, file)?;
     let output = checked(rt.alloc(), &mut device)?;
     Ok(Answer {
         output,
