@@ -6,7 +6,9 @@ use Rattle.lsm_store.specs.Backing.{StoreView}
 use Rattle.lsm_serve.proofs.ReadingLaws.{take-short}
 use Rattle.lsm_serve.specs.Asking.{Meaning, meaning_of}
 use Rattle.lsm_serve.specs.Reading.{most_bytes, most_kept}
-use Rattle.lsm_serve.specs.Answering.{Answered, Answers, AnswersLine, AnswersLines, answer_text, answers_text}
+use Rattle.lsm_serve.specs.Answering.{Answered, Answers, AnswersLine, AnswersLines, AnswersUntagged, Outcome, answer_text, answers_text}
+use Rattle.lsm_serve.specs.Tagging.{tag_in}
+use Rattle.lsm_serve.proofs.TaggingLaws.{tag_kept}
 
 -- ---- a line that is too long is seen to be
 
@@ -26,13 +28,16 @@ meaning_kept line = by (nat_lt most_bytes (length line)) refl
     by true is = rw (over most_bytes line is, is) refl
     by false is = ap meaning_of (take-short most_kept line (short most_bytes line is))
 
+untagged_kept : (before after : StoreView) (line kept : List ℕ) (outcome : Outcome) → kept ≡ take most_kept line → AnswersUntagged before kept outcome after → AnswersUntagged before line outcome after
+untagged_kept before after line kept outcome cut (inl answers) = inl (subst (λ (m : Meaning). Answers m before outcome after) (ap meaning_of cut ∙ meaning_kept line) answers)
+untagged_kept before after line kept outcome cut (inr none) = inr none
+
 pub answers_kept : (before after : StoreView) (line kept : List ℕ) (answered : Answered) → kept ≡ take most_kept line → AnswersLine before kept answered after → AnswersLine before line answered after
-answers_kept before after line kept answered cut (inl answers) = inl (subst (λ (m : Meaning). Answers m before answered after) (ap meaning_of cut ∙ meaning_kept line) answers)
-answers_kept before after line kept answered cut (inr none) = inr none
+answers_kept before after line kept answered cut (tag, answers) = (tag ∙ ap tag_in cut ∙ tag_kept most_kept line (omega arith), untagged_kept before after line kept answered.outcome cut answers)
 
 -- the slice of a line is the line
-pub answers_read : (before after : StoreView) (line shown : List ℕ) (answered : Answered) → shown ≡ line → AnswersLine before shown answered after → AnswersLine before line answered after
-answers_read before after line shown answered is answers = subst (λ (l : List ℕ). AnswersLine before l answered after) is answers
+pub answers_shown : (before after : StoreView) (line shown : List ℕ) (answered : Answered) → shown ≡ line → AnswersLine before shown answered after → AnswersLine before line answered after
+answers_shown before after line shown answered is answers = subst (λ (l : List ℕ). AnswersLine before l answered after) is answers
 
 -- ---- a line more
 

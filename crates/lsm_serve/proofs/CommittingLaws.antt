@@ -1,5 +1,5 @@
 -- What a call that commits comes to.
-use Rattle.std.proofs.Common.{◌≡◌, ◌∙◌, Bool, true, false, true≢false, inl, inr, refl, sym, ap, subst}
+use Rattle.std.proofs.Common.{◌≡◌, ◌∙◌, Bool, true, false, not, true≢false, inl, inr, refl, sym, ap, subst}
 use Rattle.lsm_device.specs.declared.refusal.Refusal.TheVariants.{LogFull, NoSpace}
 use Rattle.lsm_lives.specs.Asked.{Replied}
 use Rattle.lsm_lives.specs.Calls.{reply_of, told_of}
@@ -43,6 +43,11 @@ full_served : (call : Call) (told : Reply) (old new : StoreView) → ServesTold 
 full_served call told old new s is = subst (λ (r : Reply). Serves old call r new) (full_told s.reply (ap is_log_full (sym s.is) ∙ is)) s.serves
 
 -- ---- room for puts
+
+-- what was asked for the other way
+pub negated : (b asked is : Bool) → asked ≡ not b → asked ≡ is → b ≡ not is
+negated true asked is e f = ap not (sym e ∙ f)
+negated false asked is e f = ap not (sym e ∙ f)
 
 pub eases_passes : (puts : Bool) (call : Call) (old new : StoreView) → Eases puts old new → Passes call old new
 eases_passes puts call old new eases = by (lacks_room puts old) eases

@@ -1,5 +1,7 @@
 pub mod AskingLaws
 pub mod ReadingLaws
+pub mod TaggingLaws
+pub mod MistakeLaws
 pub mod Passing
 pub mod CommittingLaws
 pub mod AnsweringLaws

@@ -1,19 +1,19 @@
 -- Work between lines, as steps.
-use Rattle.std.proofs.Common.{◌≡◌, ◌⊎◌, ◌<◌, ℕ, zero, suc, List, [], ◌∷◌, ◌++◌, Option, Some, None, inl, inr, refl, sym, subst}
+use Rattle.std.proofs.Common.{◌≡◌, ◌⊎◌, ◌<◌, ℕ, zero, suc, Bool, true, false, List, [], ◌∷◌, ◌++◌, Option, Some, None, inl, inr, refl, sym, subst}
 use Rattle.lsm_device.specs.declared.refusal.Refusal.TheVariants.{LogFull}
 use Rattle.lsm_levels.specs.declared.choosing.Choice.{Choice}
 use Rattle.lsm_lives.specs.Replaying.{Replays}
 use Rattle.lsm_store.specs.Backing.{StoreView}
-use Rattle.lsm_store.specs.Calls.{Call, Reply, Refused, Rotate}
+use Rattle.lsm_store.specs.Calls.{Call, Reply, Number, Refused, Rotate}
 use Rattle.lsm_store.specs.Machine.{Step, Called, Worked}
 use Rattle.lsm_store.specs.Serving.{Serves}
 use Rattle.lsm_store.specs.Work.{Work, Take, Read, Ask, Accept, Write, Install, Drop}
 use Rattle.lsm_store.specs.Working.{Works, ServesStep}
 use Rattle.lsm_upkeep.specs.Finishing.{HasLeft, IsFinished, IsGivenUp, DoesNotGoThrough, IsOffered, IsReadWhole, IsStuck, IsUndone, IsUnfinished, IsUnmerged, IsUnread, LeavesBlocksEachTime, Taken}
 use Rattle.lsm_upkeep.specs.Keeping.{IsSameMap, KeepsMap}
-use Rattle.lsm_upkeep.specs.Upkeep.{AreDone, AsksChosen, Compacts, IsIdle, IsNoMore}
+use Rattle.lsm_upkeep.specs.Upkeep.{AreDone, AsksChosen, AsksNext, Compacts, CompactsIf, FinishesJobs, IsAtEnd, IsIdle, IsNoMore, IsRotatedAt, KeepsUp, NeverNone, Settles}
 use Rattle.lsm_upkeep.proofs.KeptMaps.{onward, rotate_keeps, stays as stays_same, works_keep}
-use Rattle.lsm_serve.specs.Committing.{AreUpkeep, IsUpkeep, MakesRoom}
+use Rattle.lsm_serve.specs.Committing.{AreUpkeep, CompactsWhole, IsUpkeep, MakesRoom}
 
 -- Steps that are none of a line, one after another.
 pub record Passes (call : Call) (old new : StoreView) : Type 0 where
@@ -120,20 +120,41 @@ module _ (call : Call) where
 
   -- ---- jobs
 
-  done : (n : ℕ) (old new : StoreView) → AreDone AsksChosen n old new → Passes call old new
-  done zero old new e = stays old new e
-  done (suc n) old new (mid, before, (asked, may, t)) = then old mid new (done n old mid before) (taken asked mid new t)
+  module _ (Asks : StoreView → Option Choice → Type 0) (AsksNone : StoreView → Type 0) where
+    done : (n : ℕ) (old new : StoreView) → AreDone Asks n old new → Passes call old new
+    done zero old new e = stays old new e
+    done (suc n) old new (mid, before, (asked, may, t)) = then old mid new (done n old mid before) (taken asked mid new t)
 
-  no_more : (old new : StoreView) → IsNoMore AsksChosen IsIdle old new → Passes call old new
-  no_more old new (inl (asked, may, u)) = undone asked old new u
-  no_more old new (inr (none, e)) = stays old new e
+    no_more : (old new : StoreView) → IsNoMore Asks AsksNone old new → Passes call old new
+    no_more old new (inl (asked, may, u)) = undone asked old new u
+    no_more old new (inr (none, e)) = stays old new e
+
+    jobs : (most : ℕ) (old new : StoreView) → FinishesJobs Asks AsksNone most old new → Passes call old new
+    jobs most old new f = then old f.last new (done f.count old f.last f.finished) (by f.ends)
+      where
+        by : ((f.count ≡ most) × (new ≡ f.last)) ⊎ ((f.count < most) × IsNoMore Asks AsksNone f.last new) → Passes call f.last new
+        by (inl (all, e)) = stays f.last new e
+        by (inr (few, more)) = no_more f.last new more
 
   pub compacts : (old new : StoreView) → Compacts old new → Passes call old new
-  compacts old new f = then old f.last new (done f.count old f.last f.finished) (by f.ends)
+  compacts old new f = jobs AsksChosen IsIdle 4096 old new f
+
+  rotated_at : (room : Reply) (old new : StoreView) → IsRotatedAt room old new → Passes call old new
+  rotated_at (Number zero) old new (reply, serves) = rotates old new reply serves
+  rotated_at other old new e = stays old new e
+
+  settles : (old new : StoreView) → Settles old new → Passes call old new
+  settles old new (mid, finished, opens) = then old mid new (jobs AsksNext NeverNone 64 old mid finished) (rotated_at opens.room mid new opens.rotated)
+
+  eased : (b : Bool) (old new : StoreView) → CompactsIf b old new → Passes call old new
+  eased true old new c = compacts old new c
+  eased false old new e = stays old new e
+
+  pub compacts_whole : (old new : StoreView) → CompactsWhole old new → Passes call old new
+  compacts_whole old new w = then old w.kept new (kept w.keeps_up) (jobs AsksChosen IsAtEnd 4096 w.kept new w.compacts)
     where
-      by : ((f.count ≡ 4096) × (new ≡ f.last)) ⊎ ((f.count < 4096) × IsNoMore AsksChosen IsIdle f.last new) → Passes call f.last new
-      by (inl (all, e)) = stays f.last new e
-      by (inr (few, more)) = no_more f.last new more
+      kept : KeepsUp 768 old w.kept → Passes call old w.kept
+      kept (settled, settles_first, eases) = then old settled w.kept (settles old settled settles_first) (eased _ settled w.kept eases)
 
   pub makes_room : (old new : StoreView) → MakesRoom old new → Passes call old new
   makes_room old new m = then old m.flushed new (compacts old m.flushed m.before) (then m.flushed m.rotated new (rotates m.flushed m.rotated m.reply m.rotates) (compacts m.rotated new m.behind))

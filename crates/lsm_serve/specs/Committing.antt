@@ -9,7 +9,7 @@ use Rattle.lsm_store.specs.Machine.{Step, Called, Worked}
 use Rattle.lsm_store.specs.Serving.{Serves}
 use Rattle.lsm_store.specs.Work.{Work}
 use Rattle.lsm_upkeep.specs.Keeping.{KeepsMap}
-use Rattle.lsm_upkeep.specs.Upkeep.{Compacts, CompactsIf, has_room}
+use Rattle.lsm_upkeep.specs.Upkeep.{Compacts, CompactsAll, CompactsIf, KeepsUp, has_room}
 
 -- a store served a call, and this is told of its reply
 pub record ServesTold (call : Call) (before : StoreView) (told : Reply) (after : StoreView) : Type 0 where
@@ -44,6 +44,14 @@ pub record MakesRoom (old new : StoreView) : Type 0 where
   pub before : Compacts old flushed
   pub rotates : Serves flushed Rotate reply rotated
   pub behind : Compacts rotated new
+
+-- ---- a compaction
+
+-- A store was kept up, and all its tables were merged down.
+pub record CompactsWhole (old new : StoreView) : Type 0 where
+  pub kept : StoreView
+  pub keeps_up : KeepsUp 768 old kept
+  pub compacts : CompactsAll kept new
 
 -- ---- what is done before a call, as steps
 

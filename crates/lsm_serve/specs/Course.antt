@@ -4,30 +4,32 @@ use Rattle.lsm_device.specs.declared.refusal.Refusal.TheVariants.{NoMemory, NoSp
 use Rattle.lsm_lives.specs.Replaying.{GoOn, Replays}
 use Rattle.lsm_replies.specs.Replies.{counted_by}
 use Rattle.lsm_store.specs.Backing.{StoreView}
-use Rattle.lsm_store.specs.Calls.{Call, Reply, Refused, as_told}
+use Rattle.lsm_store.specs.Calls.{Call, Reply, Refused, Rotate, as_told}
 use Rattle.lsm_store.specs.Machine.{Step, Called}
-use Rattle.lsm_serve.specs.Asking.{Meaning, asks_call, meaning_of}
+use Rattle.lsm_serve.specs.Asking.{Meaning, asks_call, asks_compaction, meaning_of}
 use Rattle.lsm_serve.specs.Committing.{AreUpkeep}
-use Rattle.lsm_serve.specs.Answering.{Answered, refuses, tells}
+use Rattle.lsm_serve.specs.Answering.{Answered, Outcome, refuses, tells}
 
 -- The last of these steps is the call, and its reply is told; those before it are work that was done for it.
-pub record EndsWithCall (call : Call) (answered : Answered) (steps : List Step) (replies : List Reply) : Type 0 where
+pub record EndsWithCall (call : Call) (outcome : Outcome) (steps : List Step) (replies : List Reply) : Type 0 where
   pub before : List Step
   pub earlier : List Reply
   pub reply : Reply
   pub all : steps ≡ before ++ Called call ∷ []
   pub replied : replies ≡ earlier ++ reply ∷ []
   pub upkeep : AreUpkeep call before earlier
-  pub told : answered ≡ tells (counted_by call) (as_told reply)
+  pub told : outcome ≡ tells (counted_by call) (as_told reply)
 
--- the steps that were made for a line that asks for this: a call where there was room for it, and what was done before; else none
-abbrev pub AreFor : Meaning → Answered → List Step → List Reply → Type 0
-AreFor (asks_call call) answered steps replies = EndsWithCall call answered steps replies ⊎ (AreUpkeep call steps replies × (answered ≡ tells (counted_by call) (Refused NoSpace)))
-AreFor other answered steps replies = (steps ≡ []) × (replies ≡ [])
+-- the steps that were made for a line that asks for this: a call where there was room for it, and what was done before; work on jobs and
+-- rotations for a compaction; else none
+abbrev pub AreFor : Meaning → Outcome → List Step → List Reply → Type 0
+AreFor (asks_call call) outcome steps replies = EndsWithCall call outcome steps replies ⊎ (AreUpkeep call steps replies × (outcome ≡ tells (counted_by call) (Refused NoSpace)))
+AreFor asks_compaction outcome steps replies = AreUpkeep Rotate steps replies
+AreFor other outcome steps replies = (steps ≡ []) × (replies ≡ [])
 
 -- or none, where memory for reading it was refused
 abbrev pub AreForLine : List ℕ → Answered → List Step → List Reply → Type 0
-AreForLine line answered steps replies = AreFor (meaning_of line) answered steps replies ⊎ ((answered ≡ refuses NoMemory) × (steps ≡ []) × (replies ≡ []))
+AreForLine line answered steps replies = AreFor (meaning_of line) answered.outcome steps replies ⊎ ((answered.outcome ≡ refuses NoMemory) × (steps ≡ []) × (replies ≡ []))
 
 -- So are the steps of lines one after another.
 abbrev pub AreForLines : List (List ℕ) → List Answered → List Step → List Reply → Type 0

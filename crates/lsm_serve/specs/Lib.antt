@@ -1,6 +1,9 @@
+pub mod Tagging
 pub mod Reading
+pub mod Mistakes
 pub mod Asking
 pub mod Committing
 pub mod Answering
 pub mod Serving
+pub mod Holding
 pub mod Course

@@ -1,13 +1,15 @@
 //! Answers, and their text.
 
-ghost use Rattle.std.specs.Prelude.{◌≡◌, IfErr, IfOk, string_bytes};
+ghost use Rattle.std.specs.Prelude.{◌≡◌, ◌++◌, IfErr, IfOk, string_bytes};
 ghost use Rattle.lsm_device.specs.declared.refusal.Refusal.TheVariants.{NoMemory};
 ghost use Rattle.lsm_lives.specs.Asked.{Replied};
 ghost use Rattle.lsm_lives.specs.Calls.{reply_of, told_of};
 ghost use Rattle.lsm_replies.specs.Replies.{reply_line};
-ghost use Rattle.lsm_serve.specs.Answering.{IsTellable, answer_text, answered_by, wrongs};
+ghost use Rattle.lsm_serve.specs.Mistakes.{mistake_text};
+ghost use Rattle.lsm_serve.specs.Answering.{IsTellable, outcome_of, outcome_text, usage_line};
 
 use crate::asking::Wrong;
+use crate::mistake::Mistake;
 use lsm_device::Refusal;
 use lsm_lives::Reply;
 use lsm_replies::{Counted, push_reply, stat_text};
@@ -26,16 +28,42 @@ pub enum Answer {
     Usage(Wrong),
 }
 
-/// The text of an answer to the line of a number: a line of its own. It is refused for want of memory alone.
-pub(crate) fn text_of(alloc: Global, number: u64, answer: &Answer) -> Result<String, Refusal>
+/// The text of an answer to the line of a number, behind the tag of that line: a line of its own. It is refused for want of memory
+/// alone.
+pub(crate) fn text_of(
+    alloc: Global,
+    number: u64,
+    tag: &[u8],
+    answer: &Answer,
+) -> Result<Vec<u8>, Refusal>
     requires { IsTellable answer.now }
-    ensures text { IfOk result (λ text. string_bytes text ≡ answer_text number (answered_by answer.now)) }
+    ensures text { IfOk result (λ text. text.items ≡ tag.now ++ outcome_text number (outcome_of answer.now)) }
+    ensures refused { IfErr result (λ e. e ≡ NoMemory) }
+{
+    let mut line = Vec::new(alloc);
+    line.extend_from_slice(tag)?;
+    let text = untagged(alloc, number, answer)?;
+    line.extend_from_slice(text.as_bytes())?;
+    Ok(line)
+}
+
+// The text of an answer without a tag.
+fn untagged(alloc: Global, number: u64, answer: &Answer) -> Result<String, Refusal>
+    requires { IsTellable answer.now }
+    ensures text { IfOk result (λ text. string_bytes text ≡ outcome_text number (outcome_of answer.now)) }
     ensures refused { IfErr result (λ e. e ≡ NoMemory) }
 {
     match answer {
         Answer::Told(counted, reply) => reply_text(alloc, *counted, reply),
         Answer::Numbers(stat) => stat_text(alloc, stat),
-        Answer::Usage(wrong) => usage_text(alloc, number, *wrong),
+        Answer::Usage(Wrong::TooLong) => {
+            usage_text(alloc, number, "a line has at most 300000 bytes")
+        }
+        Answer::Usage(Wrong::NoCall) => usage_text(alloc, number, "the line is no call"),
+        Answer::Usage(Wrong::Unreadable(mistake)) => {
+            let what = mistake_text(alloc, mistake)?;
+            usage_text(alloc, number, &what)
+        }
     }
 }
 
@@ -49,12 +77,23 @@ fn reply_text(alloc: Global, counted: Counted, reply: &Reply) -> Result<String, 
     Ok(text)
 }
 
-fn usage_text(alloc: Global, number: u64, wrong: Wrong) -> Result<String, Refusal>
-    ensures text { IfOk result (λ text. string_bytes text ≡ answer_text number (wrongs wrong)) }
+fn usage_text(alloc: Global, number: u64, what: &str) -> Result<String, Refusal>
+    ensures text { IfOk result (λ text. string_bytes text ≡ usage_line number what.now) }
     ensures refused { IfErr result (λ e. e ≡ NoMemory) }
 {
-    let what = wrong.text();
     let mut text = String::new(alloc);
     writeln!(text, "usage {number}: {what}")?;
+    Ok(text)
+}
+
+fn mistake_text(alloc: Global, mistake: &Mistake) -> Result<String, Refusal>
+    ensures text { IfOk result (λ text. string_bytes text ≡ mistake_text mistake.now.expected (string_bytes mistake.now.found)) }
+    ensures refused { IfErr result (λ e. e ≡ NoMemory) }
+{
+    let part = mistake.expected.part();
+    let found = mistake.found.as_str();
+    let form = mistake.expected.form();
+    let mut text = String::new(alloc);
+    write!(text, "{part}{found}{form}")?;
     Ok(text)
 }

@@ -1,8 +1,8 @@
 //! One line, answered.
 
 ghost use Rattle.std.specs.Prelude.{◌≡◌};
-ghost use Rattle.lsm_serve.specs.Answering.{Answers, AnswersLine, IsTellable, answered_by, numbers_in, refuses};
-ghost use Rattle.lsm_serve.specs.Asking.{asked_by};
+ghost use Rattle.lsm_serve.specs.Answering.{Answers, AnswersUntagged, IsTellable, numbers_in, outcome_of, refuses};
+ghost use Rattle.lsm_serve.specs.Asking.{IsAskable, asked_by, asks_compaction};
 ghost use Rattle.lsm_store.specs.Backing.{machine_of};
 ghost use Rattle.lsm_store.specs.Stats.{stat_answer};
 
@@ -11,8 +11,10 @@ use crate::asking::{Asked, read_asked};
 use crate::committing::make;
 use lsm_device::{Device, Refusal};
 use lsm_lives::Reply;
+use lsm_policy::Policy;
 use lsm_replies::{Counted, counted_in};
 use lsm_store::Store;
+use lsm_upkeep::{compact_all, keep_up};
 use std::alloc::Global;
 use std::thread::Threads;
 
@@ -23,7 +25,7 @@ pub(crate) fn answer_line<R: Threads + Sync, D: Device>(
     store: &mut Store<D>,
     line: &[u8],
 ) -> Answer
-    ensures answers { AnswersLine store.old line.now (answered_by result) store.new }
+    ensures answers { AnswersUntagged store.old line.now (outcome_of result) store.new }
     ensures tellable { IsTellable result }
 {
     match read_asked(alloc, line) {
@@ -39,19 +41,31 @@ fn answer<R: Threads + Sync, D: Device>(
     store: &mut Store<D>,
     asked: Asked,
 ) -> Answer
-    ensures answers { Answers (asked_by asked) store.old (answered_by result) store.new }
+    requires { IsAskable asked }
+    ensures answers { Answers (asked_by asked) store.old (outcome_of result) store.new }
     ensures tellable { IsTellable result }
 {
     match asked {
         Asked::Call(call) => Answer::Told(counted_in(&call), make(rt, alloc, store, &call)),
         Asked::NoBatch(refusal) => refused(refusal),
         Asked::Numbers => numbers(store),
+        Asked::Compaction => compact(rt, alloc, store),
         Asked::Nothing(wrong) => Answer::Usage(wrong),
     }
 }
 
+// Keeps a store up and compacts it, and tells its numbers then.
+fn compact<R: Threads + Sync, D: Device>(rt: &R, alloc: Global, store: &mut Store<D>) -> Answer
+    ensures answers { Answers asks_compaction store.old (outcome_of result) store.new }
+    ensures tellable { IsTellable result }
+{
+    keep_up(rt, alloc, store, &Policy::new());
+    compact_all(rt, alloc, store);
+    numbers(store)
+}
+
 fn numbers<D: Device>(store: &Store<D>) -> Answer
-    ensures answers { answered_by result ≡ numbers_in (stat_answer (machine_of store.now)) }
+    ensures answers { outcome_of result ≡ numbers_in (stat_answer (machine_of store.now)) }
     ensures tellable { IsTellable result }
 {
     match store.stat() {
@@ -61,7 +75,7 @@ fn numbers<D: Device>(store: &Store<D>) -> Answer
 }
 
 fn refused(refusal: Refusal) -> Answer
-    ensures answers { answered_by result ≡ refuses refusal }
+    ensures answers { outcome_of result ≡ refuses refusal }
     ensures tellable { IsTellable result }
 {
     Answer::Told(Counted::Batch, Reply::Refused(refusal))

@@ -1,22 +1,24 @@
 //! What a line asks for.
 
-ghost use Rattle.std.specs.Prelude.{◌≡◌, IfOk, codes};
-ghost use Rattle.lsm_language.specs.Lines.{means};
-ghost use Rattle.lsm_serve.specs.Asking.{asked_by, meaning_of, meaning_said, meaning_in, wrong_text};
+ghost use Rattle.std.specs.Prelude.{◌≡◌, IfOk};
+ghost use Rattle.lsm_language.specs.Lines.{line_said, means};
+ghost use Rattle.lsm_serve.specs.Asking.{IsAskable, asked_by, meaning_of, meaning_said, meaning_read, meaning_in};
 
+use crate::mistake::{Mistake, mistake_in};
 use crate::reading::MOST_BYTES;
+use crate::tagging::part_line;
 use lsm_device::Refusal;
 use lsm_language::{Line, Unread, read_line};
 use lsm_lives::Call;
 use std::alloc::{AllocError, Global};
 
 /// What is wrong with a line that asks for nothing.
-#[derive(Clone, Copy)]
+#[derive(Drop)]
 pub enum Wrong {
     /// It has too many bytes.
     TooLong,
     /// It is no line of a script, and none that is served besides.
-    Unreadable,
+    Unreadable(Mistake),
     /// It is a line of a script, but no call that is served.
     NoCall,
 }
@@ -30,39 +32,60 @@ pub enum Asked {
     NoBatch(Refusal),
     /// The numbers of the store.
     Numbers,
+    /// The numbers of the store, after it was kept up and compacted.
+    Compaction,
     /// Nothing.
     Nothing(Wrong),
 }
 
-/// Reads what a line asks for.
+/// Reads what a line asks for, behind its tag.
 pub(crate) fn read_asked(alloc: Global, line: &[u8]) -> Result<Asked, AllocError>
-    ensures { IfOk result (λ asked. asked_by asked ≡ meaning_of line.now) }
+    ensures asks { IfOk result (λ asked. asked_by asked ≡ meaning_of line.now) }
+    ensures askable { IfOk result IsAskable }
 {
     if line.len() > MOST_BYTES {
         return Ok(Asked::Nothing(Wrong::TooLong));
     }
-    match str::from_utf8(line) {
+    let (_, rest) = part_line(line);
+    match str::from_utf8(rest) {
         Ok(text) => read_text(alloc, text),
-        Err(_) => Ok(Asked::Nothing(Wrong::Unreadable)),
+        Err(_) => {
+            let mistake = Mistake::no_text(alloc, rest)?;
+            Ok(Asked::Nothing(Wrong::Unreadable(mistake)))
+        }
     }
 }
 
 fn read_text(alloc: Global, text: &str) -> Result<Asked, AllocError>
-    ensures { IfOk result (λ asked. asked_by asked ≡ meaning_in text.now) }
+    ensures asks { IfOk result (λ asked. asked_by asked ≡ meaning_in text.now) }
+    ensures askable { IfOk result IsAskable }
 {
-    if text == "stat" {
-        return Ok(Asked::Numbers);
+    match text {
+        "stat" => Ok(Asked::Numbers),
+        "compact" => Ok(Asked::Compaction),
+        _ => read_said(alloc, text),
     }
+}
+
+// Reads what a line of a script asks for.
+fn read_said(alloc: Global, text: &str) -> Result<Asked, AllocError>
+    ensures asks { IfOk result (λ asked. asked_by asked ≡ meaning_read (line_said text.now)) }
+    ensures askable { IfOk result IsAskable }
+{
     match read_line(alloc, text) {
         Ok(line) => Ok(asked_in(line)),
-        Err(Unread::Malformed) => Ok(Asked::Nothing(Wrong::Unreadable)),
+        Err(Unread::Malformed) => {
+            let mistake = mistake_in(alloc, text)?;
+            Ok(Asked::Nothing(Wrong::Unreadable(mistake)))
+        }
         Err(Unread::NoMemory) => Err(AllocError),
     }
 }
 
 // What a line of a script asks for.
 fn asked_in(line: Line) -> Asked
-    ensures { asked_by result ≡ meaning_said (means line) }
+    ensures asks { asked_by result ≡ meaning_said (means line) }
+    ensures askable { IsAskable result }
 {
     match line {
         Line::Call(Call::Rotate) | Line::Work(_) | Line::Fuse(_) | Line::Crash(_) => {
@@ -70,18 +93,5 @@ fn asked_in(line: Line) -> Asked
         }
         Line::Call(call) => Asked::Call(call),
         Line::NoBatch(refusal) => Asked::NoBatch(refusal),
-    }
-}
-
-impl Wrong {
-    /// What is wrong, in words.
-    pub fn text(self) -> &'static str
-        ensures { result.now ≡ wrong_text self }
-    {
-        match self {
-            Wrong::TooLong => "a line has at most 300000 bytes",
-            Wrong::Unreadable => "the line can't be read",
-            Wrong::NoCall => "the line is no call",
-        }
     }
 }

@@ -1,6 +1,6 @@
 //! Calls that are made for a line. A commit finds room: where the log has none for it, another log is opened.
 
-ghost use Rattle.std.specs.Prelude.{◌≡◌};
+ghost use Rattle.std.specs.Prelude.{◌≡◌, not};
 ghost use Rattle.lsm_lives.specs.Asked.{Replied};
 ghost use Rattle.lsm_lives.specs.Calls.{call_of, reply_of, told_of};
 ghost use Rattle.lsm_serve.specs.Committing.{Commits, CommitsBehind, Eases, MakesCall, MakesRoom, ServesTold, is_log_full, lacks_room, puts_in};
@@ -61,8 +61,7 @@ fn commit<R: Threads + Sync, D: Device>(
     ensures makes { Commits puts (call_of call.now) store.old (reply_of result) store.new }
     ensures told { told_of result ≡ Replied (reply_of result) }
 {
-    ease(rt, alloc, store, puts);
-    if lacks_room(store, puts) {
+    if !ease(rt, alloc, store, puts) {
         return Reply::Refused(Refusal::NoSpace);
     }
     let reply = serve(store, call);
@@ -79,13 +78,21 @@ fn is_log_full(reply: &Reply) -> bool
     matches!(reply, Reply::Refused(Refusal::LogFull))
 }
 
-// Compacts a store that has no room for puts, where there are some.
-fn ease<R: Threads + Sync, D: Device>(rt: &R, alloc: Global, store: &mut Store<D>, puts: bool)
-    ensures { Eases puts store.old store.new }
+// Compacts a store that has no room for puts, where there are some. It tells whether they have room then.
+fn ease<R: Threads + Sync, D: Device>(
+    rt: &R,
+    alloc: Global,
+    store: &mut Store<D>,
+    puts: bool,
+) -> bool
+    ensures eases { Eases puts store.old store.new }
+    ensures room { result ≡ not (lacks_room puts store.new) }
 {
-    if lacks_room(store, puts) {
-        compact(rt, alloc, store, &Policy::new());
+    if !lacks_room(store, puts) {
+        return true;
     }
+    compact(rt, alloc, store, &Policy::new());
+    !lacks_room(store, puts)
 }
 
 // Whether there are puts for which a store has no room.

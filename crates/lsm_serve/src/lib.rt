@@ -10,11 +10,17 @@ mod answer;
 mod answering;
 mod asking;
 mod committing;
+mod expected;
+mod finding;
 mod law;
+mod mistake;
 mod reading;
 mod serving;
+mod tagging;
 
 pub use answer::Answer;
 pub use asking::Wrong;
+pub use expected::Expected;
 pub use law::answered_lines_go_on;
+pub use mistake::Mistake;
 pub use serving::serve;

@@ -1,21 +1,26 @@
 //! Lines of an input, of which no more is kept than the longest that is answered, and a byte.
 
-ghost use Rattle.std.specs.Prelude.{◌≡◌, ◌≤◌, ◌∷◌, ◌++◌, [], take, length, IfErr, IfOk, OnOk};
-ghost use Rattle.lsm_language.specs.Faults.{reason_of, unread};
+ghost use Rattle.std.specs.Prelude.{◌≡◌, ◌≢◌, ◌≤◌, ◌<◌, ◌==◌, ◌++◌, All, is_some, length, not, take, IfErr, IfOk, OnOk, slice_index};
+ghost use Rattle.lsm_language.specs.Faults.{reason_of};
 ghost use Rattle.lsm_serve.specs.Reading.{Takes, TakesLine, IsInputFault, most_kept};
 
 use lsm_language::Fault;
 use std::alloc::{AllocError, Global};
-use std::io::{ErrorKind, Read};
+use std::io::{BufRead, ErrorKind};
 
 /// The most bytes that a line may have.
 pub const MOST_BYTES: usize = 300_000;
 
-/// What a read took.
+/// So many bytes of a line are kept at most, by which it is seen that it is too long.
+const MOST_KEPT: usize = 300_001;
+
+/// What one look at an input took.
 #[derive(Clone, Copy)]
 pub enum Taken {
-    /// A byte.
-    Byte(u8),
+    /// The rest of a line, and its newline. It tells whether another whole line was read behind it.
+    Line(bool),
+    /// A part of a line, of which more may come.
+    Part,
     /// Nothing, since it was interrupted.
     Nothing,
     /// Nothing, since there is no more.
@@ -23,44 +28,85 @@ pub enum Taken {
 }
 
 /// Reads the next line of an input in the place of the one before it, without its newline, which may be missing after the
-/// last. Of a line that is too long one byte more than the most is kept, and the rest is passed over. It tells whether there
-/// is a line. An input of which 2^64 - 1 reads don't end a line can't be read.
-pub(crate) fn next_line<I: Read>(input: &mut I, line: &mut Vec<u8>) -> Result<bool, Fault>
-    ensures line { IfOk result (λ found. TakesLine (I.remaining input.old) found line.new.items (I.remaining input.new)) }
+/// last. Of a line that is too long one byte more than the most is kept, and the rest is passed over. If there is a line it tells
+/// whether another whole one was read behind it, so that the next call doesn't wait. An input of which 2^64 - 1 looks don't end a
+/// line can't be read.
+pub(crate) fn next_line<I: BufRead>(
+    input: &mut I,
+    line: &mut Vec<u8>,
+) -> Result<Option<bool>, Fault>
+    ensures line { IfOk result (λ found. TakesLine (I.remaining input.old) (is_some found) line.new.items (I.remaining input.new)) }
     ensures fails { IfErr result (λ e. IsInputFault (reason_of e)) }
 {
     line.clear();
     for _ in 0..u64::MAX {
-        match next_byte(input)? {
-            Taken::End => return Ok(!line.is_empty()),
-            Taken::Byte(b'\n') => return Ok(true),
-            Taken::Byte(byte) => keep(line, byte)?,
-            Taken::Nothing => {}
+        match take_piece(input, line)? {
+            Taken::Line(ahead) => return Ok(Some(ahead)),
+            Taken::End => return Ok(last_line(line)),
+            Taken::Part | Taken::Nothing => {}
         }
     }
     Err(Fault::Input(ErrorKind::Interrupted.into()))
 }
 
-fn next_byte<I: Read>(input: &mut I) -> Result<Taken, Fault>
-    ensures takes { IfOk result (λ taken. Takes (I.remaining input.old) taken (I.remaining input.new)) }
-    ensures fails { IfErr result (λ e. reason_of e ≡ unread) }
+// What stands at the end of an input, without a newline: a line, behind which none was read, if it has a byte.
+fn last_line(line: &[u8]) -> Option<bool>
+    ensures { is_some result ≡ not (length line.now == 0) }
 {
-    let mut byte = [0];
-    match input.read(&mut byte) {
-        Ok(0) => Ok(Taken::End),
-        Ok(_) => Ok(Taken::Byte(byte[0])),
-        Err(error) if error.kind() == ErrorKind::Interrupted => Ok(Taken::Nothing),
-        Err(error) => Err(Fault::Input(error)),
+    if line.is_empty() {
+        return None;
     }
+    Some(false)
 }
 
-// Adds a byte to a line, of which no more is kept than is needed to see that it is too long.
-fn keep(line: &mut Vec<u8>, byte: u8) -> Result<(), AllocError>
+// Takes what was read of a line, and keeps it behind what is kept of it.
+fn take_piece<I: BufRead>(input: &mut I, line: &mut Vec<u8>) -> Result<Taken, Fault>
     requires { length line.old.items ≤ most_kept }
-    ensures { OnOk result (line.new.items ≡ take most_kept (line.old.items ++ byte ∷ [])) }
+    ensures takes { IfOk result (λ taken. Takes (I.remaining input.old) line.old.items taken line.new.items (I.remaining input.new)) }
+    ensures fails { IfErr result (λ e. IsInputFault (reason_of e)) }
 {
-    if line.len() <= MOST_BYTES {
-        line.push(byte)?;
+    let read = match input.fill_buf() {
+        Ok(read) => read,
+        Err(error) if error.kind() == ErrorKind::Interrupted => return Ok(Taken::Nothing),
+        Err(error) => return Err(Fault::Input(error)),
+    };
+    if read.is_empty() {
+        return Ok(Taken::End);
     }
+    let end = end_of_line(read);
+    keep(line, &read[..end])?;
+    if end == read.len() {
+        input.consume(end);
+        return Ok(Taken::Part);
+    }
+    let ahead = has_line(&read[end + 1..]);
+    input.consume(end + 1);
+    Ok(Taken::Line(ahead))
+}
+
+// Where the first newline stands, or how many bytes there are.
+fn end_of_line(bytes: &[u8]) -> usize
+    ensures within { result ≤ length bytes.now }
+    ensures before { All (λ b. b ≢ 10) (take result bytes.now) }
+    ensures newline { result < length bytes.now → slice_index bytes.now result ≡ 10 }
+{
+    bytes
+        .iter()
+        .position(|byte| *byte == b'\n')
+        .unwrap_or(bytes.len())
+}
+
+// Whether there is a newline.
+fn has_line(bytes: &[u8]) -> bool {
+    bytes.contains(&b'\n')
+}
+
+// Adds bytes to a line, of which no more is kept than is needed to see that it is too long.
+fn keep(line: &mut Vec<u8>, bytes: &[u8]) -> Result<(), AllocError>
+    requires { length line.old.items ≤ most_kept }
+    ensures { OnOk result (line.new.items ≡ take most_kept (line.old.items ++ bytes.now)) }
+{
+    let room = MOST_KEPT - line.len();
+    line.extend_from_slice(&bytes[..room.min(bytes.len())])?;
     Ok(())
 }

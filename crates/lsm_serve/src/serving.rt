@@ -1,29 +1,35 @@
 //! Lines, answered as they come.
 
-ghost use Rattle.std.specs.Prelude.{◌≡◌, ◌⊎◌, MatchResult, OnOk, [], ◌∷◌};
+ghost use Rattle.std.specs.Prelude.{◌≡◌, ◌≤◌, ◌++◌, MatchResult, OnOk, [], length};
 ghost use Rattle.std.specs.Io.KnownBytes.{Appends};
-ghost use Rattle.lsm_device.specs.declared.refusal.Refusal.TheVariants.{NoMemory};
-ghost use Rattle.lsm_language.specs.Faults.{reason_of, refusal, unwritten};
-ghost use Rattle.lsm_serve.specs.Answering.{IsTellable, answer_text, answered_by};
-ghost use Rattle.lsm_serve.specs.Serving.{AreServed, IsServed, IsSynced, IsUnsynced, Untold};
+ghost use Rattle.lsm_language.specs.Faults.{reason_of, unwritten};
+ghost use Rattle.lsm_serve.specs.Answering.{IsTellable, outcome_of, outcome_text};
+ghost use Rattle.lsm_serve.specs.Holding.{AreHeld, HoldsAnswer, IsAdded, KeepsHeld};
+ghost use Rattle.lsm_serve.specs.Serving.{AreServed, IsServed, IsSynced, IsUnsynced};
+ghost use Rattle.lsm_serve.specs.Tagging.{tag_in};
 
 use crate::answer::{Answer, text_of};
 use crate::answering::answer_line;
 use crate::reading::next_line;
+use crate::tagging::part_line;
 use lsm_device::{Device, Refusal};
 use lsm_language::Fault;
 use lsm_store::Store;
 use std::alloc::Global;
 use std::io;
-use std::io::{Read, Write};
+use std::io::{BufRead, Write};
 use std::thread::Threads;
 
+/// From so many bytes on answers are written, though another line was read already.
+const MOST_HELD: usize = 65_536;
+
 /// Answers the lines of an input, each before the next one is read, and syncs the store at the end of the input, unless it is stopped.
-/// What is refused is an answer, and so is what is wrong with a line.
+/// What is refused is an answer, and so is what is wrong with a line. Answers are written at the latest where no other whole line was
+/// read behind theirs, or where they have 64 KiB, so that none is held while a read waits.
 ///
 /// It ends before where the input can't be read, an answer can't be written, there is no memory for a line or for the text of an answer,
 /// or the lines are more than have a number below 2^64 - 1.
-pub fn serve<R: Threads + Sync, D: Device, I: Read, O: Write>(
+pub fn serve<R: Threads + Sync, D: Device, I: BufRead, O: Write>(
     rt: &R,
     alloc: Global,
     store: &mut Store<D>,
@@ -47,8 +53,8 @@ fn sync<D: Device>(store: &mut Store<D>) -> Result<(), Fault>
     }
 }
 
-// Answers the lines of an input.
-fn answer_lines<R: Threads + Sync, D: Device, I: Read, O: Write>(
+// Answers the lines of an input, and writes all answers that there are.
+fn answer_lines<R: Threads + Sync, D: Device, I: BufRead, O: Write>(
     rt: &R,
     alloc: Global,
     store: &mut Store<D>,
@@ -57,26 +63,93 @@ fn answer_lines<R: Threads + Sync, D: Device, I: Read, O: Write>(
 ) -> Result<(), Fault>
     ensures { AreServed (I.remaining input.old) result store.old store.new (O.contents output.old) (O.contents output.new) }
 {
+    let mut held = Vec::new(alloc);
+    let answered = hold_answers(rt, alloc, store, input, &mut held, output);
+    if let Err(Fault::Output(_)) = &answered {
+        return answered;
+    }
+    write_held(&mut held, output)?;
+    answered
+}
+
+// Answers the lines of an input. Answers are held as long as another line was read already, and they are few.
+fn hold_answers<R: Threads + Sync, D: Device, I: BufRead, O: Write>(
+    rt: &R,
+    alloc: Global,
+    store: &mut Store<D>,
+    input: &mut I,
+    held: &mut Vec<u8>,
+    output: &mut O,
+) -> Result<(), Fault>
+    requires { held.old.items ≡ [] }
+    ensures { AreHeld (I.remaining input.old) result store.old store.new (O.contents output.old) (O.contents output.new) held.new.items }
+{
     let mut line = Vec::new(alloc);
     for number in 1..u64::MAX {
-        if !next_line(input, &mut line)? {
+        let Some(ahead) = next_line(input, &mut line)? else {
             return Ok(());
-        }
-        let answer = answer_line(rt, alloc, store, &line);
-        tell(alloc, number, &answer, output)?;
+        };
+        hold_answer(rt, alloc, store, number, &line, held)?;
+        write_unless(ahead, held, output)?;
     }
     Err(Fault::Refused(Refusal::Exhausted))
 }
 
-// Prints an answer, and flushes it.
-fn tell<O: Write>(alloc: Global, number: u64, answer: &Answer, output: &mut O) -> Result<(), Fault>
-    requires { IsTellable answer.now }
-    ensures { MatchResult result (λ _. Appends (O.contents output.old) (O.contents output.new) (answer_text number (answered_by answer.now)))
-        (λ e. Untold (reason_of e) (O.contents output.old) (O.contents output.new)) }
+// Answers a line, and holds the answer.
+fn hold_answer<R: Threads + Sync, D: Device>(
+    rt: &R,
+    alloc: Global,
+    store: &mut Store<D>,
+    number: u64,
+    line: &[u8],
+    held: &mut Vec<u8>,
+) -> Result<(), Refusal>
+    ensures { HoldsAnswer store.old number line.now held.old.items result store.new held.new.items }
 {
-    let text = text_of(alloc, number, answer)?;
-    match print(output, text.as_bytes()) {
-        Ok(()) => Ok(()),
+    let answer = answer_line(rt, alloc, store, line);
+    hold(alloc, number, line, &answer, held)
+}
+
+// Adds the text of an answer to those that are held.
+fn hold(
+    alloc: Global,
+    number: u64,
+    line: &[u8],
+    answer: &Answer,
+    held: &mut Vec<u8>,
+) -> Result<(), Refusal>
+    requires { IsTellable answer.now }
+    ensures { IsAdded result held.old.items (tag_in line.now ++ outcome_text number (outcome_of answer.now)) held.new.items }
+{
+    let (tag, _) = part_line(line);
+    let text = text_of(alloc, number, tag, answer)?;
+    held.extend_from_slice(&text)?;
+    Ok(())
+}
+
+// Writes what is held, unless another line was read already and it is little.
+fn write_unless<O: Write>(ahead: bool, held: &mut Vec<u8>, output: &mut O) -> Result<(), Fault>
+    ensures { MatchResult result (λ _. KeepsHeld (O.contents output.old) held.old.items (O.contents output.new) held.new.items) (λ e. reason_of e ≡ unwritten) }
+{
+    if ahead && held.len() < MOST_HELD {
+        return Ok(());
+    }
+    write_held(held, output)
+}
+
+// Writes what is held, if anything is, and flushes it.
+fn write_held<O: Write>(held: &mut Vec<u8>, output: &mut O) -> Result<(), Fault>
+    ensures { MatchResult result (λ _. KeepsHeld (O.contents output.old) held.old.items (O.contents output.new) [] × (held.new.items ≡ []))
+        (λ e. (reason_of e ≡ unwritten) × (1 ≤ length held.old.items)) }
+{
+    if held.is_empty() {
+        return Ok(());
+    }
+    match print(output, held) {
+        Ok(()) => {
+            held.clear();
+            Ok(())
+        }
         Err(error) => Err(Fault::Output(error)),
     }
 }

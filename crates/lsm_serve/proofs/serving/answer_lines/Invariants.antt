@@ -1,5 +1,0 @@
-use Rattle.lsm_serve.proofs.ServingLaws.{IsServing}
-use Rattle.lsm_serve.proofs.serving.answer_lines.Given as goal
-
-abbrev pub invariant-loop-number : goal.invariant-loop-number
-invariant-loop-number g l = IsServing (g.I.Read.remaining l.fn.input) (g.I.Read.remaining l.input) l.number l.fn.store l.store (g.O.Write.contents l.fn.output) (g.O.Write.contents l.output)
