@@ -185,8 +185,8 @@ seen_now id old c d f is = subst (HasSeen id old) (sym is) record {
 
 module _ (id : SessionId) (base : ℕ) (store new : StoreView) (log : List Event) (session : IsSession id base store log) (step : Step) (reply : Reply) (serves : ServesStep store step reply new) (client result : ℕ) (e : Event) (is : e ≡ event client step reply result (machine_of new)) where
   -- it may come next
-  pub may_follow : reply ≢ Refused NoMemory → step ≢ Called (Release (base_of id.begin)) → IsNextNumber (inputs_of log) reply result → TakesResult (inputs_of log) step result → MayFollow id.begin log e
-  may_follow made keeps next takes = subst (MayFollow id.begin log) (sym is) record {
+  pub may_follow : reply ≢ Refused NoMemory → reply ≢ Given None → step ≢ Called (Release (base_of id.begin)) → IsNextNumber (inputs_of log) reply result → TakesResult (inputs_of log) step result → MayFollow id.begin log e
+  may_follow made taken keeps next takes = subst (MayFollow id.begin log) (sym is) record {
     admitted = subst (λ (m : Machine). AdmitsStep m step reply) session.machine (served_admits store step reply new serves);
     goes = subst (λ (m : Machine). GoesTo m step reply (machine_of new)) session.machine (served_goes store step reply new serves);
     allowed = λ began. subst (λ (m : Machine). AllowsStep m step reply) session.machine (served_allows store step reply new serves (session.backed began));
@@ -194,6 +194,7 @@ module _ (id : SessionId) (base : ℕ) (store new : StoreView) (log : List Event
     next = next;
     takes = takes;
     made = made;
+    taken = taken;
     keeps = keeps;
   }
 

@@ -1,10 +1,12 @@
 -- A result that is brought is of the input that was lent under its number.
 use Rattle.std.proofs.Common.{◌≡◌, ◌⊎◌, ℕ, suc, ◌+◌, ◌==◌, Bool, true, false, Option, Some, List, [], ◌∷◌, ◌++◌, length, if◌then◌else◌, refl, ap, sym, ◌∙◌, subst, inl, inr, ⊎_elim, arith, append_assoc}
-use Rattle.std.specs.Prelude.{Contains, slice_get}
+use Rattle.std.specs.Prelude.{Contains, slice_get, IfOk, IfErr, Result, Ok, Err}
 use Rattle.std.proofs.lemmas.List.Elements.{Contains-append_left, Contains-append_right, Contains-append_cases, Contains-push, Contains-push_cases}
+use Rattle.lsm_device.specs.declared.refusal.Refusal.{Refusal}
+use Rattle.lsm_lives.specs.Asked.{Told}
 use Rattle.lsm_merge.specs.Inputs.{MergeInput, kept_of}
 use Rattle.lsm_merge.specs.Results.{MergeResult}
-use Rattle.lsm_store.specs.Calls.{Reply}
+use Rattle.lsm_store.specs.Calls.{Call, Reply}
 use Rattle.lsm_store.specs.Calls.{Handed}
 use Rattle.lsm_store.specs.Machine.{Worked}
 use Rattle.lsm_store.specs.Work.{Accept}
@@ -13,6 +15,7 @@ use Rattle.lsm_trail.specs.Begins.{Begin}
 use Rattle.lsm_trail.specs.History.{Event, lent_to, handed, inputs_of, input_of, IsMadeOf, IsNextNumber, TakesResult, AreNumbered, IsLegal, entries_by}
 use Rattle.lsm_trail.specs.Knowledge.{SessionId, Known}
 use Rattle.lsm_store.specs.Backing.{StoreView}
+use Rattle.lsm_shared.specs.Clients.{MakesCall, IsNoCall}
 use Rattle.lsm_shared.specs.Sessions.{SessionView, HasSeen}
 use Rattle.lsm_shared.specs.Turns.{WasLent}
 use Rattle.lsm_store.proofs.Membership.{none_in}
@@ -71,3 +74,16 @@ pub may_take_was : (id : SessionId) (store : StoreView) (log : List Event) (old 
     → TakesResult (inputs_of log) (Worked (Accept job (Some made))) result
 may_take_was id store log old c was legal seen {job} {result} {made} lent tables =
     may_take id.begin log c.number job result c.mine made legal (ap (λ (v : SessionView). entries_by c.number v.log) was ∙ seen.finds.knows.own) lent tables
+
+-- what was lent may be brought also after a call
+lent_then : (mine entries all : List Event) (job result : ℕ) (input : MergeInput) → all ≡ mine ++ entries → WasLent mine job result input → WasLent all job result input
+lent_then mine entries all job result input is lent = record {
+  client = lent.client;
+  machine = lent.machine;
+  among = subst (λ (l : List Event). Contains l (lent_to lent.client job input result lent.machine)) (sym is) (Contains-append_left mine entries (lent_to lent.client job input result lent.machine) lent.among);
+}
+
+pub lent_after_call : {T : Type 0} (res : Result T Refusal) (f : T → Told) (c d : Known) (call : Call) (job result : ℕ) (input : MergeInput) → IfOk res (λ r. MakesCall c call (f r) d) → IfErr res (λ e. IsNoCall c call e d)
+    → WasLent c.mine job result input → WasLent d.mine job result input
+lent_after_call (Ok r) f c d call job result input made refused lent = lent_then c.mine _ d.mine job result input made.adds.mine lent
+lent_after_call (Err e) f c d call job result input made refused lent = subst (λ (l : List Event). WasLent l job result input) (sym refused.0.mine) lent

@@ -1,6 +1,7 @@
 pub mod Bases
 mod Bringing
 mod Choosing
+mod Giving
 pub mod Counting
 pub mod Crashes
 pub mod Holds

@@ -6,24 +6,26 @@ use Rattle.std.proofs.lemmas.List.Elements.{Contains-push}
 use Rattle.std.proofs.lemmas.List.{append-nil}
 use Rattle.lsm_device.specs.declared.refusal.Refusal.{Refusal}
 use Rattle.lsm_device.specs.declared.refusal.Refusal.TheVariants.{NoMemory, TrailFull, NotYours}
+use Rattle.lsm_levels.specs.declared.choosing.Choice.{Choice}
 use Rattle.lsm_merge.specs.Results.{MergeResult}
 use Rattle.lsm_store.specs.Backing.{machine_of}
 use Rattle.lsm_store.specs.Calls.{Call}
-use Rattle.lsm_store.specs.Calls.{Refused}
+use Rattle.lsm_store.specs.Calls.{Given, Refused}
 use Rattle.lsm_store.specs.Machine.{Machine, Worked}
 use Rattle.lsm_store.specs.Pieces.{next_piece, places_from}
 use Rattle.lsm_store.specs.Run.{Admits, Allows}
 use Rattle.lsm_store.specs.State.{State}
 use Rattle.lsm_store.specs.Work.{Work, Take}
+use Rattle.lsm_store.specs.WorkReplies.{work_decided}
 use Rattle.lsm_lives.specs.Asked.{Told}
 use Rattle.lsm_lives.specs.Calls.{told_of}
 use Rattle.lsm_lives.specs.declared.calls.Reply.{Reply as GivenReply}
 use Rattle.lsm_trail.specs.History.{Event, lent_to, machine_after, IsLegal, entries_by}
 use Rattle.lsm_trail.specs.Knowledge.{SessionId, Known, Sees}
 use Rattle.lsm_shared.specs.Clients.{Adds, MakesCall, Denies, IsNoCall}
-use Rattle.lsm_shared.specs.Holds.{IsPutBack, IsTakenNext, IsNotTakenNext, TakesAmong, StopsAmong, IsBroughtBy, StopsBringing}
+use Rattle.lsm_shared.specs.Holds.{IsPutBack, IsTakenOf, IsNotTakenOf, IsTakenNext, IsNotTakenNext, TakesAmong, StopsAmong, IsBroughtBy, StopsBringing}
 use Rattle.lsm_shared.specs.Sessions.{SessionView, Enters, EntersStep, IsMade, IsRefused}
-use Rattle.lsm_shared.specs.Turns.{MayChoose, MakesPiece, IsNoPiece, TakesNext, IsNoNext, IsTurn, MayRest, TakesTurn, StopsBefore, DeniesWork, IsNoTurn, HasLent, Brings, IsNotBrought}
+use Rattle.lsm_shared.specs.Turns.{Gives, MayChoose, MakesPiece, IsNoPiece, TakesOf, IsNotTaken, TakesNext, IsNoNext, IsTurn, MayRest, TakesTurn, StopsBefore, DeniesWork, IsNoTurn, HasLent, Brings, IsNotBrought}
 use Rattle.lsm_shared.specs.declared.turn.Turn.{Turn}
 use Rattle.lsm_shared.specs.declared.turn.Turn.TheVariants as turn
 
@@ -176,11 +178,25 @@ no_piece id old new c d work r b = record {
   denied = denied_then id old new c d [] b.enters work r b.denied;
 }
 
-pub tells_piece : {A : Type 0} (res : Result (GivenReply A) Refusal) (id : SessionId) (old new : SessionView) (c d : Known) (work : Work)
-    → MatchResult res (λ reply. EntersStep id old c (Worked work) 0 (told_of reply) new d) (λ r. IsPutBack id old c work r new d)
-    → MatchResult res (λ reply. MakesPiece c work (told_of reply) d) (λ r. IsNoPiece c work r d)
-tells_piece (Ok reply) id old new c d work p = made_piece id old new c d work (told_of reply) p
-tells_piece (Err r) id old new c d work b = no_piece id old new c d work r b
+-- where a hold made no entry, the client has seen the history behind which it found the machine
+machine_seen : (id : SessionId) (old new : SessionView) (c d : Known) → Enters id old c [] new d → machine_of old.store ≡ machine_after d.begin d.seen
+machine_seen id old new c d e =
+    let log : old.log ≡ d.seen = sym (append-nil old.log) ∙ sym e.log ∙ sym (seen_is id old new c d [] e) in
+    e.finds.machine ∙ (λ i. machine_after (sym (begin_is id old new c d [] e) i) (log i))
+
+not_taken : (id : SessionId) (old new : SessionView) (c d : Known) (choice : Choice) (r : Refusal) → IsNotTakenOf id old c choice r new d → IsNotTaken c choice r d
+not_taken id old new c d choice r t = record {
+  piece = no_piece id old new c d (Take (Some choice)) r t.piece;
+  gives = subst (λ (m : Machine). Gives m (Take (Some choice))) (machine_seen id old new c d t.piece.enters) t.gives;
+}
+
+pub tells_of : {A : Type 0} (res : Result (Option (GivenReply A)) Refusal) (id : SessionId) (old new : SessionView) (c d : Known) (choice : Choice)
+    → MatchResult res (λ taken. IsTakenOf id old c choice (option_map told_of taken) new d) (λ r. IsNotTakenOf id old c choice r new d)
+    → MatchResult res (λ taken. TakesOf c choice (option_map told_of taken) d) (λ r. IsNotTaken c choice r d)
+tells_of (Ok None) id old new c d choice t =
+    (sees id old new c d t.enters, subst (λ (m : Machine). work_decided m (Take (Some choice)) ≡ Given None) (machine_seen id old new c d t.enters) t.none)
+tells_of (Ok (Some reply)) id old new c d choice t = made_piece id old new c d (Take (Some choice)) (told_of reply) t
+tells_of (Err r) id old new c d choice t = not_taken id old new c d choice r t
 
 pub tells_next : {A : Type 0} (res : Result (Option (GivenReply A)) Refusal) (id : SessionId) (old new : SessionView) (c d : Known)
     → MatchResult res (λ taken. IsTakenNext id old c (option_map told_of taken) new d) (λ r. IsNotTakenNext id old c r new d)
@@ -191,7 +207,7 @@ tells_next (Ok (Some reply)) id old new c d t = record {
   piece = made_piece id old new c d (Take (Some t.choice)) (told_of reply) t.step;
   may = subst (λ (m : Machine). MayChoose m t.choice) (machine_found id old new c d _ t.step.one.enters) t.may;
 }
-tells_next (Err r) id old new c d t = (t.0, no_piece id old new c d (Take (Some t.0)) r t.1)
+tells_next (Err r) id old new c d t = (t.0, not_taken id old new c d t.0 r t.1)
 
 -- ---- results
 

@@ -5,15 +5,17 @@ use Rattle.lsm_levels.specs.declared.choosing.Choice.{Choice}
 use Rattle.lsm_merge.specs.Results.{MergeResult}
 use Rattle.lsm_store.specs.Backing.{StoreView, machine_of}
 use Rattle.lsm_store.specs.Calls.{Reply}
+use Rattle.lsm_store.specs.Calls.{Given}
 use Rattle.lsm_store.specs.Machine.{Worked}
 use Rattle.lsm_store.specs.Work.{Work, Take}
+use Rattle.lsm_store.specs.WorkReplies.{work_decided}
 use Rattle.lsm_store.specs.Working.{Works}
 use Rattle.lsm_lives.specs.Asked.{Told, Replied}
 use Rattle.lsm_lives.specs.Replaying.{Replays}
 use Rattle.lsm_trail.specs.History.{Event, steps_of, replies_of}
 use Rattle.lsm_trail.specs.Knowledge.{SessionId, Known}
 use Rattle.lsm_shared.specs.Sessions.{SessionView, Enters, EntersStep, IsLost}
-use Rattle.lsm_shared.specs.Turns.{MayChoose, IsTurn, DeniesWork, StopsBefore, IsBrought, IsLeftOfBringing}
+use Rattle.lsm_shared.specs.Turns.{Gives, MayChoose, IsTurn, DeniesWork, StopsBefore, IsBrought, IsLeftOfBringing}
 use Rattle.lsm_shared.specs.declared.turn.Turn.{Turn}
 use Rattle.lsm_shared.specs.declared.turn.Turn.TheVariants as turn
 
@@ -32,6 +34,22 @@ pub record IsPutBack (id : SessionId) (old : SessionView) (c : Known) (work : Wo
   pub out : IsLeftOut old.store work new.store
   pub denied : DeniesWork id.begin new.log work e
 
+-- It found no job of this choice: all is as it was, but that the client has seen the history.
+pub record FindsNoJob (id : SessionId) (old : SessionView) (c : Known) (choice : Choice) (new : SessionView) (d : Known) : Type 0 where
+  pub none : work_decided (machine_of old.store) (Take (Some choice)) ≡ Given None
+  pub enters : Enters id old c [] new d
+  pub same : new ≡ old
+
+-- It took the job of this choice and told the reply, or found none.
+abbrev pub IsTakenOf : SessionId → SessionView → Known → Choice → Option Told → SessionView → Known → Type 0
+IsTakenOf id old c choice None new d = FindsNoJob id old c choice new d
+IsTakenOf id old c choice (Some answer) new d = EntersStep id old c (Worked (Take (Some choice))) 0 answer new d
+
+-- It made no entry of the taking of this choice, for which there is a job.
+pub record IsNotTakenOf (id : SessionId) (old : SessionView) (c : Known) (choice : Choice) (e : Refusal) (new : SessionView) (d : Known) : Type 0 where
+  pub piece : IsPutBack id old c (Take (Some choice)) e new d
+  pub gives : Gives (machine_of old.store) (Take (Some choice))
+
 -- It took the job of some choice that could be taken, and told the reply.
 pub record IsSomeTaken (id : SessionId) (old : SessionView) (c : Known) (answer : Told) (new : SessionView) (d : Known) : Type 0 where
   pub choice : Choice
@@ -45,7 +63,7 @@ IsTakenNext id old c (Some answer) new d = IsSomeTaken id old c answer new d
 
 -- It made no entry of the taking of some choice.
 abbrev pub IsNotTakenNext : SessionId → SessionView → Known → Refusal → SessionView → Known → Type 0
-IsNotTakenNext id old c e new d = (choice : Choice) × IsPutBack id old c (Take (Some choice)) e new d
+IsNotTakenNext id old c e new d = (choice : Choice) × IsNotTakenOf id old c choice e new d
 
 -- an idle turn leaves the machine as it was
 abbrev pub StaysIfIdle : {A : Type 0} → Turn A → SessionView → SessionView → Type 0

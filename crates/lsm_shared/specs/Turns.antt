@@ -1,5 +1,5 @@
 -- What turns of clients do, and results that they bring.
-use Rattle.std.specs.Prelude.{◌≡◌, ℕ, ◌<◌, Bool, true, false, List, [], ◌∷◌, ◌++◌, length, map, Contains, Option, Some, None, is_some, if◌then◌else◌}
+use Rattle.std.specs.Prelude.{◌≡◌, ◌≢◌, ℕ, ◌<◌, Bool, true, false, List, [], ◌∷◌, ◌++◌, length, map, Contains, Option, Some, None, is_some, if◌then◌else◌}
 use Rattle.std.specs.Arc.{arc_value}
 use Rattle.lsm_device.specs.declared.refusal.Refusal.{Refusal}
 use Rattle.lsm_device.specs.declared.refusal.Refusal.TheVariants.{NoMemory, NoSpace, TrailFull}
@@ -9,11 +9,11 @@ use Rattle.lsm_levels.specs.declared.choosing.Choice.{Choice}
 use Rattle.lsm_merge.specs.Inputs.{MergeInput}
 use Rattle.lsm_merge.specs.Results.{MergeResult}
 use Rattle.lsm_store.specs.Calls.{Reply}
-use Rattle.lsm_store.specs.Calls.{Refused}
+use Rattle.lsm_store.specs.Calls.{Given, Refused}
 use Rattle.lsm_store.specs.Machine.{Machine, Step, Worked}
 use Rattle.lsm_store.specs.Pieces.{piece_at, is_of_full_levels, is_put_off, next_among, next_piece, places_from}
 use Rattle.lsm_store.specs.Work.{Work, Take, Ask, Accept, Drop}
-use Rattle.lsm_store.specs.WorkReplies.{WorkAdmits}
+use Rattle.lsm_store.specs.WorkReplies.{WorkAdmits, work_decided}
 use Rattle.lsm_lives.specs.Asked.{Told, Replied}
 use Rattle.lsm_lives.specs.Calls.{told_of}
 use Rattle.lsm_trail.specs.Begins.{Begin}
@@ -116,6 +116,20 @@ pub record IsNoPiece (c : Known) (work : Work) (e : Refusal) (d : Known) : Type 
   pub adds : Adds c others [] d
   pub denied : DeniesWork d.begin d.seen work e
 
+-- a machine doesn't tell of this piece of work that there is no job to take
+abbrev pub Gives : Machine → Work → Type 0
+Gives m work = work_decided m work ≢ Given None
+
+-- A client took the job of this choice and was told the reply; or there was none, and it saw the history.
+abbrev pub TakesOf : Known → Choice → Option Told → Known → Type 0
+TakesOf c choice None d = Sees c d × (work_decided (machine_after d.begin d.seen) (Take (Some choice)) ≡ Given None)
+TakesOf c choice (Some answer) d = MakesPiece c (Take (Some choice)) answer d
+
+-- It could not: there is one, and its taking is no entry behind the history that the client has seen then.
+pub record IsNotTaken (c : Known) (choice : Choice) (e : Refusal) (d : Known) : Type 0 where
+  pub piece : IsNoPiece c (Take (Some choice)) e d
+  pub gives : Gives (machine_after d.begin d.seen) (Take (Some choice))
+
 -- a choice whose job may be taken beside the jobs that are held
 abbrev pub MayChoose : Machine → Choice → Type 0
 MayChoose m choice = is_some (chosen m.work.levels (held_jobs m.work.jobs.slots) choice) ≡ true
@@ -131,9 +145,9 @@ abbrev pub TakesNext : Known → Option Told → Known → Type 0
 TakesNext c None d = Sees c d
 TakesNext c (Some answer) d = TakesSome c answer d
 
--- It could not: the taking of some choice is no entry behind the history that the client has seen then.
+-- It could not take the job of some choice.
 abbrev pub IsNoNext : Known → Refusal → Known → Type 0
-IsNoNext c e d = (choice : Choice) × IsNoPiece c (Take (Some choice)) e d
+IsNoNext c e d = (choice : Choice) × IsNotTaken c choice e d
 
 -- ---- results
 

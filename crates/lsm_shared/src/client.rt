@@ -1,12 +1,13 @@
 // The clients of a session.
-ghost use Rattle.std.specs.Prelude.{◌≡◌, [], Some, option_map, IfOk, IfErr, MatchResult};
+ghost use Rattle.std.specs.Prelude.{◌≡◌, [], option_map, IfOk, IfErr, MatchResult};
+ghost use mathlib.Core.List.{IsPrefix};
 ghost use Rattle.lsm_lives.specs.Calls.{call_of, told_of};
 ghost use Rattle.lsm_trail.specs.History.{numbers};
 ghost use Rattle.lsm_trail.specs.Knowledge.{known, Sees, known_of, IsClientPass};
 ghost use Rattle.lsm_shared.specs.Clients.{MakesCall, IsNoCall};
-ghost use Rattle.lsm_store.specs.Work.{Take};
-ghost use Rattle.lsm_shared.specs.Turns.{MakesPiece, IsNoPiece, TakesNext, IsNoNext, TakesTurn, IsNoTurn, HasLent, WasLent, Brings, IsNotBrought};
+ghost use Rattle.lsm_shared.specs.Turns.{TakesOf, IsNotTaken, TakesNext, IsNoNext, TakesTurn, IsNoTurn, HasLent, WasLent, Brings, IsNotBrought};
 
+use crate::seen::Seen;
 use crate::shared::Shared;
 use crate::turn::Turn;
 use lsm_device::{Device, Refusal};
@@ -73,6 +74,27 @@ impl<A: Allocator, B: SessionName> Client<A, B> {
     {
         shared.counters.watch(&mut self.pass)
     }
+
+    /// What the client has seen, for another to hear: its own calls, and all before them.
+    ///
+    /// It takes no lock and no memory, and waits for nobody.
+    pub fn tell<D: Device>(&mut self, shared: &Shared<D, A, B>) -> Seen<A, B>
+        ensures same { self.new ≡ self.old }
+        ensures told { result ≡ self.old.seen }
+    {
+        Seen::new(shared.counters.tell(&mut self.pass))
+    }
+
+    /// The client hears what another has seen. It has then seen the history as it is at one moment of this call, which begins with
+    /// that. So all that it does from then on comes after what the other had seen.
+    ///
+    /// It takes no lock and no memory, and waits for nobody.
+    pub fn hear<D: Device>(&mut self, shared: &Shared<D, A, B>, seen: Seen<A, B>)
+        ensures sees { Sees self.old self.new }
+        ensures heard { IsPrefix seen self.new.seen }
+    {
+        shared.counters.hear(&mut self.pass, seen.into_pass())
+    }
 }
 
 impl<A: Allocator + Clone, B: SessionName> Client<A, B> {
@@ -116,26 +138,29 @@ impl<A: Allocator + Clone, B: SessionName> Client<A, B> {
     }
 
     /// Takes the job of a choice, in one hold of the lock: neighbouring tables of a level from 1 to 3, or so many of the oldest
-    /// runs of level 0, with the tables of the next level that meet their hull. What the store refuses is a reply too. Turns of
-    /// whatever clients do the rest of the job.
+    /// runs of level 0, with the tables of the next level that meet their hull. None where the store has no such job to give, which
+    /// is no entry. What the store refuses is a reply too. Turns of whatever clients do the rest of the job.
     ///
-    /// It is refused with `TrailFull` where the trail has no place for another entry, and with `NoMemory`.
+    /// It is refused with `TrailFull` where there is something to enter and the trail has no place for it, and with `NoMemory`.
     pub fn take<D: Device, R: Wait>(
         &mut self,
         rt: &R,
         shared: &Shared<D, A, B>,
         choice: Choice,
-    ) -> Result<Reply<A>, Refusal>
+    ) -> Result<Option<Reply<A>>, Refusal>
         ensures { MatchResult result
-            (λ reply. MakesPiece self.old (Take (Some choice)) (told_of reply) self.new)
-            (λ e. IsNoPiece self.old (Take (Some choice)) e self.new) }
+            (λ taken. TakesOf self.old choice (option_map told_of taken) self.new)
+            (λ e. IsNotTaken self.old choice e self.new) }
     {
         shared.hold(rt).take(&shared.counters, self, choice)
     }
 
     /// Takes the job that a policy advises, in one hold of the lock: none, which is no entry, where it advises nothing, where a flush
-    /// is to be taken first, where no slot is free, and where the store is stopped. Turns of whatever clients do the rest of the job, so a client that asks
-    /// before each turn works by the policy.
+    /// is to be taken first, where no slot is free, and where the store is stopped. Turns of whatever clients do the rest of the job,
+    /// so a client that asks before each turn works by the policy.
+    ///
+    /// No clause says what a policy advises, nor when nothing is taken: one that never took anything would meet this contract, and
+    /// only tests exclude it.
     ///
     /// It is refused with `TrailFull` where there is something to take and the trail has no place for another entry, and with
     /// `NoMemory`.

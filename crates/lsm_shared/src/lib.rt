@@ -2,9 +2,10 @@
 //!
 //! [`prepare`] and [`Shared::begin`] make a session and its clients, one for each thread. [`Client::call`] makes a call in one hold of
 //! the lock; [`Client::turn`] does the next piece of a flush or a compaction, or hands out an input, which the thread merges without the
-//! lock and gives back by [`Client::bring`]; [`Client::watch`] reads the numbers of the history without the lock. [`Shared::finish`] ends
-//! the session: it gives the store, and the trail of all calls with each client's own. A trail has 65,536 entries at most; then each
-//! call answers `TrailFull`, the clients come back, and the next session begins.
+//! lock and gives back by [`Client::bring`]; [`Client::watch`] reads the numbers of the history without the lock. A client hands what it
+//! has seen to another by [`Client::tell`] and [`Client::hear`]: what that one does then comes after it. [`Shared::finish`] ends the
+//! session: it gives the store, and the trail of all calls with each client's own. A trail has 65,536 entries at most; then each call
+//! answers `TrailFull`, the clients come back, and the next session begins.
 //!
 //! ```
 //! match me.turn(rt, shared)? {
@@ -26,14 +27,16 @@ mod history;
 mod law;
 mod pieces;
 mod preparing;
+mod seen;
 mod session;
 mod shared;
 mod turn;
 mod working;
 
 pub use client::Client;
-pub use law::trail_tells_what_a_crash_leaves;
+pub use law::{trail_tells_what_a_crash_leaves, what_is_heard_comes_first};
 pub use preparing::prepare;
+pub use seen::Seen;
 pub use session::Session;
 pub use shared::Shared;
 pub use turn::Turn;

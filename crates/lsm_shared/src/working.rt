@@ -1,20 +1,22 @@
 // Pieces of work in a hold of the lock.
-ghost use Rattle.std.specs.Prelude.{◌≡◌, ◌≢◌, ◌∷◌, ℕ, [], Some, false, option_map, IfSome, MatchBool, MatchResult};
+ghost use Rattle.std.specs.Prelude.{◌≡◌, ◌≢◌, ◌∷◌, ℕ, [], Some, None, false, is_some, option_map, IfSome, MatchBool, MatchResult};
 ghost use Rattle.lsm_device.specs.declared.refusal.Refusal.TheVariants.{NoMemory};
 ghost use Rattle.std.specs.Arc.{arc_value};
 ghost use Rattle.lsm_merge.specs.Inputs.{kept_of};
 ghost use Rattle.lsm_table.specs.Division.{IsTables};
 ghost use Rattle.lsm_lives.specs.Calls.{told_of};
 ghost use Rattle.lsm_store.specs.Backing.{machine_of};
-ghost use Rattle.lsm_store.specs.Calls.{Handed, Refused};
+ghost use Rattle.lsm_store.specs.Calls.{Given, Handed, Refused};
 ghost use Rattle.lsm_store.specs.Pieces.{piece_at, is_put_off, places_from};
 ghost use Rattle.lsm_store.specs.Machine.{Worked};
 ghost use Rattle.lsm_store.specs.Work.{Take, Ask, Accept, Install};
+ghost use Rattle.lsm_store.specs.WorkRefusals.{job_given};
+ghost use Rattle.lsm_store.specs.WorkReplies.{work_decided};
 ghost use Rattle.lsm_store.specs.Working.{Works};
-ghost use Rattle.lsm_shared.specs.Holds.{IsPutBack, IsTakenNext, IsNotTakenNext, TakesAmong, StopsAmong, IsBroughtBy, StopsBringing};
+ghost use Rattle.lsm_shared.specs.Holds.{IsPutBack, IsTakenOf, IsNotTakenOf, IsTakenNext, IsNotTakenNext, TakesAmong, StopsAmong, IsBroughtBy, StopsBringing};
 ghost use Rattle.lsm_shared.specs.Pieces.{work_of};
 ghost use Rattle.lsm_shared.specs.Sessions.{HasSeen, EntersStep};
-ghost use Rattle.lsm_shared.specs.Turns.{MayChoose, WasLent, tells_full_levels, tells_no_space};
+ghost use Rattle.lsm_shared.specs.Turns.{Gives, MayChoose, WasLent, tells_full_levels, tells_no_space};
 
 use crate::answer::answer_of;
 use crate::client::Client;
@@ -63,14 +65,17 @@ impl<D: Device, A: Allocator + Clone, B: SessionName> Session<D, A, B> {
         counters: &Counters<D, A, B>,
         me: &mut Client<A, B>,
         choice: Choice,
-    ) -> Result<Reply<A>, Refusal>
+    ) -> Result<Option<Reply<A>>, Refusal>
         ensures { MatchResult result
-            (λ reply. EntersStep B.id self.old me.old (Worked (Take (Some choice))) 0 (told_of reply) self.new me.new)
-            (λ e. IsPutBack B.id self.old me.old (Take (Some choice)) e self.new me.new) }
+            (λ taken. IsTakenOf B.id self.old me.old choice (option_map told_of taken) self.new me.new)
+            (λ e. IsNotTakenOf B.id self.old me.old choice e self.new me.new) }
     {
         self.show(counters, me);
+        if gives_none(&self.store, choice) {
+            return Ok(None);
+        }
         let reply = self.work(counters, me, OwnPiece::TakeOf(choice))?;
-        Ok(reply)
+        Ok(Some(reply))
     }
 
     /// Takes the job that a policy advises, as [`Client::take_next`] says. The client sees the history first.
@@ -142,7 +147,8 @@ impl<D: Device, A: Allocator + Clone, B: SessionName> Session<D, A, B> {
         me: &mut Client<A, B>,
         piece: OwnPiece,
     ) -> Result<Turn<A>, Refusal>
-        requires { HasSeen B.id self.old me.old }
+        requires seen { HasSeen B.id self.old me.old }
+        requires gives { Gives (machine_of self.old.store) (work_of piece) }
         ensures { (place : ℕ) → piece_at (machine_of self.old.store) place ≡ Some (work_of piece) → is_put_off (machine_of self.old.store) (work_of piece) ≡ false → MatchResult result
             (λ turn. TakesAmong B.id self.old me.old (place ∷ []) turn self.new me.new)
             (λ e. StopsAmong B.id self.old me.old (place ∷ []) e self.new me.new) }
@@ -243,7 +249,8 @@ impl<D: Device, A: Allocator + Clone, B: SessionName> Session<D, A, B> {
         me: &mut Client<A, B>,
         piece: OwnPiece,
     ) -> Result<Reply<A>, Refusal>
-        requires { HasSeen B.id self.old me.old }
+        requires seen { HasSeen B.id self.old me.old }
+        requires gives { Gives (machine_of self.old.store) (work_of piece) }
         ensures { MatchResult result
             (λ reply. EntersStep B.id self.old me.old (Worked (work_of piece)) 0 (told_of reply) self.new me.new)
             (λ e. IsPutBack B.id self.old me.old (work_of piece) e self.new me.new) }
@@ -310,7 +317,7 @@ impl<D: Device, A: Allocator + Clone, B: SessionName> Session<D, A, B> {
 
 // What a policy advises to take: nothing where the store is stopped, a flush is to be taken first, or no slot is free.
 fn advised<D: Device, A: Allocator>(store: &Store<D, A>, policy: &Policy) -> Option<Choice>
-    ensures { IfSome result (λ choice. MayChoose (machine_of store.now) choice) }
+    ensures { IfSome result (λ choice. MayChoose (machine_of store.now) choice × Gives (machine_of store.now) (Take (Some choice))) }
 {
     let Ok(stat) = store.stat() else {
         return None;
@@ -322,7 +329,36 @@ fn advised<D: Device, A: Allocator>(store: &Store<D, A>, policy: &Policy) -> Opt
     if !has_free_slot(jobs) {
         return None;
     }
-    policy.next_choice(store.levels(), stat.free_blocks, jobs)
+    let Some(choice) = policy.next_choice(store.levels(), stat.free_blocks, jobs) else {
+        return None;
+    };
+    if gives_none(store, choice) {
+        return None;
+    }
+    Some(choice)
+}
+
+// Whether a store, asked for the job of a choice, tells that there is none. A stopped one refuses that.
+fn gives_none<D: Device, A: Allocator>(store: &Store<D, A>, choice: Choice) -> bool
+    ensures { MatchBool result
+        (work_decided (machine_of store.now) (Take (Some choice)) ≡ Given None)
+        (Gives (machine_of store.now) (Take (Some choice))) }
+{
+    if store.stat().is_err() {
+        return false;
+    }
+    !has_job(store, choice)
+}
+
+// Whether there is a job of a choice, and a free slot for it.
+fn has_job<D: Device, A: Allocator>(store: &Store<D, A>, choice: Choice) -> bool
+    ensures { result ≡ is_some (job_given (machine_of store.now) (Some choice)) }
+{
+    // Whether a flush waits makes no difference to a choice.
+    match store.jobs().has_next(store.levels(), Some(choice), false) {
+        Ok(given) => given,
+        Err(_exhausted) => true,
+    }
 }
 
 // Whether a slot is free for a job.

@@ -1,5 +1,5 @@
 -- What a storm leaves, and what is counted of it.
-use Rattle.std.specs.Prelude.{◌≡◌, ◌⊎◌, ℕ, ◌+◌, ◌&&◌, Bool, true, false, List, [], ◌∷◌, length, if◌then◌else◌}
+use Rattle.std.specs.Prelude.{◌≡◌, ◌⊎◌, ℕ, ◌+◌, ◌&&◌, Bool, true, false, not, List, [], ◌∷◌, length, if◌then◌else◌}
 use Rattle.std.specs.FinMap as finite
 use Rattle.lsm_device.specs.declared.refusal.Refusal.{Refusal}
 use Rattle.lsm_device.specs.declared.refusal.Refusal.TheVariants.{NoMemory, Io, Stopped, BadLimit}
@@ -12,7 +12,7 @@ use Rattle.lsm_store.specs.Machine.{Step, Called}
 use Rattle.lsm_store.specs.RecoveryPoints.{batch_count, present_map}
 use Rattle.lsm_trail.specs.Begins.{Begin}
 use Rattle.lsm_trail.specs.Entries.{is_number, told_in}
-use Rattle.lsm_trail.specs.History.{Event, TrailView}
+use Rattle.lsm_trail.specs.History.{Event, TrailView, is_call}
 use Rattle.lsm_trail.specs.Knowledge.{Known}
 use Rattle.lsm_shared.specs.Sessions.{IsEnded}
 use Rattle.lsm_storm.specs.declared.counts.Counts.{Counts}
@@ -32,6 +32,15 @@ is_accepted e = is_commit e.step && is_number (told_in e.reply e.result)
 abbrev pub accepted_in : List Event → ℕ
 accepted_in [] = 0
 accepted_in (e ∷ log) = (if is_accepted e then 1 else 0) + accepted_in log
+
+-- whether an entry is a piece of work
+abbrev pub is_piece : Event → Bool
+is_piece e = not (is_call e.step)
+
+-- how many entries are pieces of work
+abbrev pub pieces_in : List Event → ℕ
+pieces_in [] = 0
+pieces_in (e ∷ log) = (if is_piece e then 1 else 0) + pieces_in log
 
 -- the keys of the present map of a store
 abbrev pub keys_in : StoreView → ℕ
@@ -76,7 +85,7 @@ pub record HasEndedFresh (threads : ℕ) (store : StoreView) (trail : TrailView)
   pub ended : HasEnded begin store trail
 
 -- So many clients and workers shared a fresh store in a session that has ended: these are the commits in its trail that were
--- answered with a number, as many as the batches of the store, and the keys of its map.
+-- answered with a number, as many as the batches of the store, the keys of its map, and the pieces of work in the trail.
 pub record HasStormed (threads : ℕ) (counts : Counts) : Type 0 where
   pub store : StoreView
   pub trail : TrailView
@@ -84,3 +93,4 @@ pub record HasStormed (threads : ℕ) (counts : Counts) : Type 0 where
   pub commits : counts.commits ≡ accepted_in trail.log
   pub batches : counts.batches ≡ batch_count store.state.points
   pub rows : counts.rows ≡ keys_in store
+  pub pieces : counts.pieces ≡ pieces_in trail.log

@@ -4,7 +4,7 @@ ghost use Rattle.lsm_mem.specs.Paging.{pairs_in};
 ghost use Rattle.lsm_store.specs.Backing.{IsBacked};
 ghost use Rattle.lsm_store.specs.RecoveryPoints.{present_map};
 ghost use Rattle.lsm_trail.specs.Entries.{is_number, told_in};
-ghost use Rattle.lsm_storm.specs.Storms.{is_commit, is_accepted, accepted_in, keys_in, IsStormRefusal};
+ghost use Rattle.lsm_storm.specs.Storms.{is_commit, is_accepted, accepted_in, is_piece, pieces_in, keys_in, IsStormRefusal};
 
 use lsm_device::{MemDevice, Refusal};
 use lsm_lives::{Call, Reply, Step};
@@ -20,6 +20,8 @@ pub struct Counts {
     pub batches: u64,
     /// The rows of a whole scan.
     pub rows: u64,
+    /// The pieces of work in the trail: those of the workers, since the clients do none.
+    pub pieces: u64,
 }
 
 /// The most rows of a page.
@@ -59,6 +61,24 @@ pub(crate) fn accepted_in(trail: &Trail) -> u64
     let mut count = 0;
     for entry in trail.entries() {
         count += u64::from(is_accepted(entry));
+    }
+    count
+}
+
+// Whether an entry is a piece of work.
+fn is_piece(entry: &Entry) -> bool
+    ensures { result ≡ is_piece entry.now }
+{
+    !entry.is_call()
+}
+
+/// How many entries of a trail are pieces of work.
+pub(crate) fn pieces_in(trail: &Trail) -> u64
+    ensures { result ≡ pieces_in trail.now.log }
+{
+    let mut count = 0;
+    for entry in trail.entries() {
+        count += u64::from(is_piece(entry));
     }
     count
 }

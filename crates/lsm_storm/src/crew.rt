@@ -28,6 +28,11 @@ pub(crate) enum Tasks {
     Tally { tries: u16 },
 }
 
+// How many calls so many clients make: each its commits and a rotation.
+fn calls_of(clients: u16, commits: u16) -> u64 {
+    u64::from(clients).saturating_mul(u64::from(commits) + 1)
+}
+
 // What one of them does.
 fn take_part<B: SessionName, R: Threads + Wait + Sync>(
     rt: &R,
@@ -43,7 +48,7 @@ fn take_part<B: SessionName, R: Threads + Wait + Sync>(
             if me.number() < u32::from(clients) {
                 commit_all(rt, alloc, shared, me, commits);
             } else {
-                work(rt, alloc, shared, me);
+                work(rt, alloc, shared, me, calls_of(clients, commits));
             }
         }
         Tasks::Tally { tries } => count_up(rt, alloc, shared, me, tries),

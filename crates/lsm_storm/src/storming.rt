@@ -3,7 +3,7 @@ ghost use Rattle.std.specs.Prelude.{◌≡◌, ◌≤◌, ◌+◌, IfErr, IfOk};
 ghost use Rattle.lsm_storm.specs.Crews.{IsDone};
 ghost use Rattle.lsm_storm.specs.Storms.{IsFreshBegin, HasEndedFresh, HasStormed, IsSessionRefusal, IsStormRefusal};
 
-use crate::counts::{Counts, accepted_in, rows_in};
+use crate::counts::{Counts, accepted_in, pieces_in, rows_in};
 use crate::crew::{Left, Tasks, run};
 use crate::fresh::fresh;
 use lsm_device::{MemDevice, Refusal};
@@ -19,8 +19,9 @@ use std::thread::Threads;
 const PLACES: u32 = 65_536;
 
 /// Lets clients and workers share an empty store in memory, all at the same time, each in a thread of its own, and counts what came
-/// of it. Each client commits puts of keys of its own, and in their middle rotates the log once; each worker takes 200 turns, and
-/// builds and brings what these hand out to be merged. Whatever one of them is answered, it goes on.
+/// of it. Each client commits puts of keys of its own, and in their middle rotates the log once; each worker takes turns until the
+/// clients have made all their calls and nothing is left to do, and builds and brings what these hand out to be merged. Whatever one
+/// of them is answered, it goes on.
 ///
 /// It is refused with `NoMemory`, where memory for the store, the session or a page is refused; with `Io` or `Stopped`, where the
 /// device had none for a write; and with `BadLimit` for more than 65,536 pages of rows. What a client or a worker is refused is no refusal of the storm: the counts show it.
@@ -36,12 +37,14 @@ pub fn storm<R: Threads + Wait + Sync>(rt: &R, alloc: Global, load: Load) -> Res
     };
     let mut left = shared_by_all(rt, alloc, threads, tasks)?;
     let commits = accepted_in(&left.trail);
+    let pieces = pieces_in(&left.trail);
     let batches = left.store.batch_count();
     let rows = rows_in(&mut left.store)?;
     Ok(Counts {
         commits,
         batches,
         rows,
+        pieces,
     })
 }
 

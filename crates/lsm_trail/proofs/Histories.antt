@@ -1,5 +1,5 @@
 -- Histories, with one entry more.
-use Rattle.std.proofs.Common.{◌≡◌, ◌≢◌, ℕ, ◌+◌, ◌≤◌, ◌==◌, Bool, true, false, is_some, List, [], ◌∷◌, ◌++◌, length, if◌then◌else◌, refl, ap, sym, ◌∙◌, subst, arith, append_assoc, length-append, eq-eqb, ne_eqb}
+use Rattle.std.proofs.Common.{◌≡◌, ◌≢◌, ℕ, ◌+◌, ◌≤◌, ◌==◌, Bool, true, false, is_some, None, List, [], ◌∷◌, ◌++◌, length, if◌then◌else◌, refl, ap, sym, ◌∙◌, subst, arith, append_assoc, length-append, eq-eqb, ne_eqb}
 use Rattle.std.specs.Prelude.{IsNone}
 use Rattle.std.proofs.lemmas.List.{append-nil}
 use Rattle.std.proofs.lemmas.List.Elements.{All-push}
@@ -114,6 +114,7 @@ legal_none b pinned = record {
   run = λ backed. record { run = tt; state = refl; work = λ running. refl };
   numbered = tt;
   made = λ k d below. absurd (omega arith);
+  taken = λ k d below. absurd (omega arith);
   keeps_base = λ k d below. absurd (omega arith);
 }
 
@@ -124,6 +125,7 @@ legal_more b log e legal may = record {
   run = λ backed. are_run_more (first_machine b) log e (legal.run backed) (may.allowed backed) may.goes.state (may.work backed);
   numbered = numbered_more [] log e legal.numbered may.next may.takes;
   made = All-push (λ (x : Event). x.reply ≢ Refused NoMemory) log e legal.made may.made;
+  taken = All-push (λ (x : Event). x.reply ≢ Given None) log e legal.taken may.taken;
   keeps_base = All-push (λ (x : Event). x.step ≢ Called (Release (base_of b))) log e legal.keeps_base may.keeps;
 }
 

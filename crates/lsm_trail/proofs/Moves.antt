@@ -11,7 +11,7 @@ use Rattle.atomic_table.proofs.Lists.{at_set, set_again}
 use Rattle.lsm_store.specs.RecoveryPoints.{batch_count}
 use Rattle.lsm_trail.specs.Begins.{Begin, CanPin}
 use Rattle.lsm_trail.specs.History.{Event, IsLegal, entries_by, numbers}
-use Rattle.lsm_trail.specs.Knowledge.{Keeper, Known, Sees, View, known, keeping, view_of, nobody}
+use Rattle.lsm_trail.specs.Knowledge.{Keeper, Known, Sees, View, known, keeping, view_of, nobody, hearing, telling}
 use Rattle.lsm_trail.specs.Rule.{StandsAt, Drafted, FitsKeeper, FitsClient, Fits, Kept, first_view}
 use Rattle.lsm_trail.specs.Steps.{Puts, published, Publishes, Notes, Looks, Peeks, Compares, dealer, dealt_to}
 use Rattle.lsm_trail.specs.declared.numbers.Numbers.{Numbers}
@@ -101,8 +101,8 @@ module _ (b : Begin) where
           count = get_or-set_other s.words i 0 new 0 (λ e. omega arith) ∙ r.count;
           rows = λ seen p. row_set s.words i new (3 * length seen + 1) (numbers b seen) (let l = prefix_length seen r.log p in omega arith) (r.rows seen p);
           strangers = r.strangers;
-          fits = views_set (Fits b r.log r.dealt r.writer r.seat words') s.views id w ((f.0.0, f.0.1, f.0.2, f.0.3, drafted), f.1)
-              (λ j u apart e. let g = r.fits j u e in (others_keeper r.log r.log r.dealt r.dealt r.writer s.words words' j u.keeper (λ is. apart (is ∙ sym f.0.1)) g.0, g.1));
+          fits = views_set (Fits b r.log r.dealt r.writer r.seat words') s.views id w ((f.0.0, f.0.1, f.0.2, f.0.3, drafted), f.1, f.2)
+              (λ j u apart e. let g = r.fits j u e in (others_keeper r.log r.log r.dealt r.dealt r.writer s.words words' j u.keeper (λ is. apart (is ∙ sym f.0.1)) g.0, g.1, g.2));
         },
         (refl, refl),
       )
@@ -155,8 +155,9 @@ module _ (b : Begin) where
         fits = views_set (Fits b log' r.dealt r.writer r.seat words') s.views id (published k c e) (
           (f.0.0, f.0.1, now, f.0.3, tt),
           (f.1.0, f.1.1, f.1.2, subst (λ (l : List Event). IsPrefix l log') (sym now) (prefix_self log'), entries_by-mine c.number r.log e by ∙ ap (λ l. l ++ e ∷ []) f.1.4),
+          (log', refl),
         )
-            (λ j u apart e'. let g = r.fits j u e' in (others_keeper r.log log' r.dealt r.dealt r.writer s.words words' j u.keeper (λ x. apart (x ∙ sym f.0.1)) g.0, others_client r.log e r.dealt r.seat id j u.client is apart g.1));
+            (λ j u apart e'. let g = r.fits j u e' in (others_keeper r.log log' r.dealt r.dealt r.writer s.words words' j u.keeper (λ x. apart (x ∙ sym f.0.1)) g.0, others_client r.log e r.dealt r.seat id j u.client is apart g.1, prefix_more u.told r.log e g.2));
       }
 
   pub publishes : (slots id : ℕ) (k : Keeper) (c : Known) (e : Event) (old : ℕ) → old ≡ length k.log → e.client ≡ c.number → length k.log < b.limit → IsLegal b (k.log ++ e ∷ [])
@@ -184,13 +185,14 @@ module _ (b : Begin) where
         w,
         keeps,
         tt,
-        unmoved s r 0 id [] w (f.0, (f.1.0, f.1.1, f.1.2, subst (λ (l : List Event). IsPrefix l r.log) (sym same) (prefix_self r.log), f.1.4)),
+        unmoved s r 0 id [] w (f.0, (f.1.0, f.1.1, f.1.2, subst (λ (l : List Event). IsPrefix l r.log) (sym same) (prefix_self r.log), f.1.4), (r.log, refl)),
         (refl, (refl, subst (IsPrefix c.seen) (sym same) f.1.3, ap (entries_by c.number) same ∙ f.1.4)),
       )
 
-  pub looks : (slots id : ℕ) (c : Known) → Allows (Kept b) slots id (view_of None (Some c), []) 0 (λ n. n) (Looks (step slots 0 0 0 none) (view_of None (Some c), []))
-  looks slots id c s r _ at _ =
-      let f = (r.fits id (view_of None (Some c)) at).1 in
+  pub looks : (slots id : ℕ) (told : List Event) (c : Known) → Allows (Kept b) slots id (hearing told c, []) 0 (λ n. n) (Looks (step slots 0 0 0 none) (hearing told c, []))
+  looks slots id told c s r _ at _ =
+      let knew = r.fits id (hearing told c) at in
+      let f = knew.1 in
       let d = known c.begin c.number r.log c.mine in
       let sees : Sees c d = record {
         begin = refl;
@@ -204,8 +206,8 @@ module _ (b : Begin) where
         view_of None (Some d),
         keeps,
         tt,
-        unmoved s r 0 id [] (view_of None (Some d)) (tt, (f.0, f.1, f.2, prefix_self r.log, f.4)),
-        (refl, refl, (sees, sym r.count)),
+        unmoved s r 0 id [] (view_of None (Some d)) (tt, (f.0, f.1, f.2, prefix_self r.log, f.4), (r.log, refl)),
+        (refl, refl, refl, (sees, knew.2, sym r.count)),
       )
 
   pub peeks : (slots id : ℕ) (c : Known) (word : ℕ) → Allows (Kept b) slots id (view_of None (Some c), []) word (λ n. n) (Peeks (step slots word 0 0 none) (view_of None (Some c), []))
@@ -235,7 +237,7 @@ module _ (b : Begin) where
         w,
         keeps,
         tt,
-        unmoved s r 0 id [] w (f.0, tt),
+        unmoved s r 0 id [] w (f.0, tt, (r.log, refl)),
         (
           refl,
           (
@@ -259,9 +261,50 @@ module _ (b : Begin) where
     count = r.count;
     rows = r.rows;
     strangers = r.strangers;
-    fits = views_snoc (Fits b r.log r.dealt r.writer r.seat s.words) (set s.views id v) nobody (tt, tt)
+    fits = views_snoc (Fits b r.log r.dealt r.writer r.seat s.words) (set s.views id v) nobody (tt, tt, (r.log, refl))
         (λ j u e. r.fits j u (subst (λ l. get_elem? l j ≡ some u) (set_again s.views id v at) e));
   }
+
+  -- a new pass tells what a client has seen
+  pub tells : (id : ℕ) (c : Known) → Splits (Kept b) id (view_of None (Some c)) (view_of None (Some c)) (telling c.seen)
+  tells id c s r at =
+      let v = view_of None (Some c) in
+      let f = r.fits id v at in record {
+        log = r.log;
+        dealt = r.dealt;
+        writer = r.writer;
+        seat = r.seat;
+        legal = r.legal;
+        wide = r.wide;
+        room = r.room;
+        count = r.count;
+        rows = r.rows;
+        strangers = r.strangers;
+        fits = views_snoc (Fits b r.log r.dealt r.writer r.seat s.words) (set s.views id v) (telling c.seen) (tt, tt, f.1.3)
+            (λ j u e. r.fits j u (subst (λ l. get_elem? l j ≡ some u) (set_again s.views id v at) e));
+      }
+
+  -- a client is told what that pass tells
+  pub hears : (id : ℕ) (c : Known) (other : ℕ) (told : List Event) → Joins (Kept b) id (view_of None (Some c)) other (telling told) (hearing told c) nobody
+  hears id c other told s r at apart there =
+      let f = r.fits id (view_of None (Some c)) at in
+      let both = hearing told c in
+      let was : get_elem? s.views other ≡ some (telling told) =
+      ⊎_elim (λ (t : (other ≡ id) × (both ≡ telling told)). absurd (apart t.0)) (λ (t : (other ≢ id) × (get_elem? s.views other ≡ some (telling told))). t.1) (at_set s.views id other both (telling told) there) in
+      let g = (r.fits other (telling told) was).2 in record {
+        log = r.log;
+        dealt = r.dealt;
+        writer = r.writer;
+        seat = r.seat;
+        legal = r.legal;
+        wide = r.wide;
+        room = r.room;
+        count = r.count;
+        rows = r.rows;
+        strangers = r.strangers;
+        fits = views_set (Fits b r.log r.dealt r.writer r.seat s.words) (set s.views id both) other nobody (tt, tt, (r.log, refl))
+            (λ j u far e. views_set (Fits b r.log r.dealt r.writer r.seat s.words) s.views id both (tt, f.1, g) (λ j' u' _ e'. r.fits j' u' e') j u e);
+      }
 
   -- what stands of a client's part, where another's goes to another place
   moved_client : (log : List Event) (dealt dealt' : ℕ) (seat : ℕ → ℕ) (number from to j : ℕ) (c : Option Known) → dealt ≤ dealt' → (j ≡ seat number → ⊥) → FitsClient b log dealt seat j c → FitsClient b log dealt' (placed seat number to) j c
@@ -291,10 +334,10 @@ module _ (b : Begin) where
         count = r.count;
         rows = r.rows;
         strangers = r.strangers;
-        fits = views_set (Fits b r.log r.dealt r.writer seat' s.words) (set s.views id both) other nobody (tt, tt)
+        fits = views_set (Fits b r.log r.dealt r.writer seat' s.words) (set s.views id both) other nobody (tt, tt, (r.log, refl))
             (λ j u far e. ⊎_elim
-            (λ (t : (j ≡ id) × (both ≡ u)). subst (λ (y : ℕ × View). Fits b r.log r.dealt r.writer seat' s.words y.0 y.1) (λ i. (sym t.0 i, t.1 i)) (f.0, (g.0, placed_here r.seat c.number id c.number refl, g.2, g.3, g.4)))
-            (λ (t : (j ≢ id) × (get_elem? s.views j ≡ some u)). let h = r.fits j u t.1 in (h.0, moved_client r.log r.dealt r.dealt r.seat c.number other id j u.client (omega arith) (λ is. far (is ∙ g.1)) h.1))
+            (λ (t : (j ≡ id) × (both ≡ u)). subst (λ (y : ℕ × View). Fits b r.log r.dealt r.writer seat' s.words y.0 y.1) (λ i. (sym t.0 i, t.1 i)) (f.0, (g.0, placed_here r.seat c.number id c.number refl, g.2, g.3, g.4), (r.log, refl)))
+            (λ (t : (j ≢ id) × (get_elem? s.views j ≡ some u)). let h = r.fits j u t.1 in (h.0, moved_client r.log r.dealt r.dealt r.seat c.number other id j u.client (omega arith) (λ is. far (is ∙ g.1)) h.1, h.2))
             (at_set s.views id j both u e));
       }
 
@@ -317,9 +360,9 @@ module _ (b : Begin) where
         count = r.count;
         rows = r.rows;
         strangers = r.strangers;
-        fits = views_snoc (Fits b r.log r.dealt r.writer seat' s.words) views' right (tt, (f.1.0, placed_here r.seat c.number (length views') c.number refl, f.1.2, f.1.3, f.1.4))
-            (views_set (Fits b r.log r.dealt r.writer seat' s.words) s.views id left (f.0, tt)
-            (λ j u far e. let h = r.fits j u e in (h.0, moved_client r.log r.dealt r.dealt r.seat c.number id (length views') j u.client (omega arith) (λ is. far (is ∙ f.1.1)) h.1)));
+        fits = views_snoc (Fits b r.log r.dealt r.writer seat' s.words) views' right (tt, (f.1.0, placed_here r.seat c.number (length views') c.number refl, f.1.2, f.1.3, f.1.4), (r.log, refl))
+            (views_set (Fits b r.log r.dealt r.writer seat' s.words) s.views id left (f.0, tt, (r.log, refl))
+            (λ j u far e. let h = r.fits j u e in (h.0, moved_client r.log r.dealt r.dealt r.seat c.number id (length views') j u.client (omega arith) (λ is. far (is ∙ f.1.1)) h.1, h.2)));
       }
 
   -- what stands of the other clients' parts, where there is a new client
@@ -350,9 +393,9 @@ module _ (b : Begin) where
         rows = r.rows;
         strangers = λ x far. r.strangers x (omega arith);
         fits = views_snoc (Fits b r.log (r.dealt + 1) r.writer seat' s.words) views' right
-            (tt, (f.0.0, placed_here r.seat r.dealt (length views') k.dealt is, omega arith, (r.log, refl), r.strangers k.dealt (omega arith)))
-            (views_set (Fits b r.log (r.dealt + 1) r.writer seat' s.words) s.views id left ((f.0.0, f.0.1, f.0.2, ap (λ (n : ℕ). n + 1) is, f.0.4), tt)
-            (λ j u far e. let h = r.fits j u e in (others_keeper r.log r.log r.dealt (r.dealt + 1) r.writer s.words s.words j u.keeper (λ x. far (x ∙ sym f.0.1)) h.0, more_clients r.log r.dealt r.seat (length views') j u.client h.1)));
+            (tt, (f.0.0, placed_here r.seat r.dealt (length views') k.dealt is, omega arith, (r.log, refl), r.strangers k.dealt (omega arith)), (r.log, refl))
+            (views_set (Fits b r.log (r.dealt + 1) r.writer seat' s.words) s.views id left ((f.0.0, f.0.1, f.0.2, ap (λ (n : ℕ). n + 1) is, f.0.4), tt, (r.log, refl))
+            (λ j u far e. let h = r.fits j u e in (others_keeper r.log r.log r.dealt (r.dealt + 1) r.writer s.words s.words j u.keeper (λ x. far (x ∙ sym f.0.1)) h.0, more_clients r.log r.dealt r.seat (length views') j u.client h.1, h.2)));
       }
 
   zeros : (n i : ℕ) → slice_index (replicate n 0) i ≡ 0
@@ -389,7 +432,7 @@ module _ (b : Begin) where
       get_or-set_other (set none 2 batches) 3 0 b.store.state.points.synced 0 (λ e. omega arith) ∙ (get_or-set_other none 2 0 batches 0 (λ e. omega arith) ∙ zeros (3 * b.limit + 4) 0)
 
   one : (by : ℕ) (v : View) → get_elem? (first_view b ∷ []) by ≡ some v → Fits b [] 0 0 (λ c. c) first_words by v
-  one zero v e = subst (Fits b [] 0 0 (λ c. c) first_words 0) (some-injective _ _ e) ((refl, refl, refl, refl, tt), tt)
+  one zero v e = subst (Fits b [] 0 0 (λ c. c) first_words 0) (some-injective _ _ e) ((refl, refl, refl, refl, tt), tt, ([], refl))
   one (suc by) v e = absurd (some-ne-none v (sym e))
 
   pub begins : (words : List ℕ) → CanPin b → words ≡ first_words → Kept b (opening words [] (first_view b))

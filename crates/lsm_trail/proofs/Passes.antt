@@ -1,5 +1,5 @@
 -- The steps by passes of which this is known, and what they tell of them.
-use Rattle.std.proofs.Common.{◌≡◌, ℕ, ◌+◌, ◌*◌, ◌<◌, ◌≤◌, ◌==◌, [], ◌∷◌, ◌++◌, length, Option, Some, None, refl, ap, sym, ◌∙◌, subst}
+use Rattle.std.proofs.Common.{◌≡◌, ℕ, ◌+◌, ◌*◌, ◌<◌, ◌≤◌, ◌==◌, List, [], ◌∷◌, ◌++◌, length, Option, Some, None, refl, ap, sym, ◌∙◌, subst}
 use mathlib.Core.List.{IsPrefix}
 use mathlib.Core.Option.{some, none}
 use prog.Atomic.{either}
@@ -7,10 +7,10 @@ use Rattle.atomic_table.specs.Table.{Me, step, Allows, Splits, Joins}
 use Rattle.atomic_table.specs.declared.shared.Seat.{Seat}
 use Rattle.lsm_trail.specs.Begins.{Begin}
 use Rattle.lsm_trail.specs.History.{Event, IsLegal, entries_by, numbers}
-use Rattle.lsm_trail.specs.Knowledge.{SessionId, Keeper, Known, Sees, View, known, keeping, view_of, nobody, known_or, known_of, IsClientPass, row_of}
+use Rattle.lsm_trail.specs.Knowledge.{SessionId, Keeper, Known, Sees, View, known, keeping, view_of, hearing, telling, nobody, known_or, known_of, IsClientPass, row_of}
 use Rattle.lsm_trail.specs.Rule.{Kept}
-use Rattle.lsm_trail.specs.Steps.{Puts, published, Publishes, Notes, LooksAs, Looks, IsPeeked, Peeks, Compares, dealer, dealt_to}
-use Rattle.lsm_trail.proofs.Moves.{puts, publishes, notes, looks, peeks, compares, lends, gives_back, deals}
+use Rattle.lsm_trail.specs.Steps.{Puts, published, Publishes, Notes, LooksAs, Looks, IsPeeked, Peeks, Compares, dealer, dealt_to, heard, said_by}
+use Rattle.lsm_trail.proofs.Moves.{puts, publishes, notes, looks, peeks, compares, tells, hears, lends, gives_back, deals}
 
 abbrev M : Type 0
 M = Me Event View
@@ -55,21 +55,29 @@ pub noted : (k : Keeper) (c : Known) (me me' : M) → me ≡ (view_of (Some k) (
     → (me' ≡ (view_of (Some k) (Some (known c.begin c.number k.log c.mine)), [])) × IsPrefix c.seen k.log × (entries_by c.number k.log ≡ c.mine)
 noted k c me me' is rule = let r = subst (λ (m : M). Notes (step 0 0 0 0 none) m 0 me') is rule in ((λ j. (r.1.0 j, r.0 j)), r.1.1, r.1.2)
 
-pub looks_at : (key : Begin) (slots id : ℕ) (me : M) (c : Known) → me ≡ (view_of None (Some c), []) → Allows (Kept key) slots id me 0 (λ n. n) (Looks (step slots 0 0 0 none) me)
-looks_at key slots id me c is = subst (λ (m : M). Allows (Kept key) slots id m 0 (λ n. n) (Looks (step slots 0 0 0 none) m)) (sym is) (looks key slots id c)
+pub looks_at : (key : Begin) (slots id : ℕ) (me : M) (told : List Event) (c : Known) → me ≡ (hearing told c, []) → Allows (Kept key) slots id me 0 (λ n. n) (Looks (step slots 0 0 0 none) me)
+looks_at key slots id me told c is = subst (λ (m : M). Allows (Kept key) slots id m 0 (λ n. n) (Looks (step slots 0 0 0 none) m)) (sym is) (looks key slots id told c)
 
 -- a client still has a part
-looked_as : (c : Known) (found : ℕ) (w : Option Known) → LooksAs (Some c) found w → (w ≡ Some (known_or w)) × Sees c (known_or w) × (length (known_or w).seen ≡ found)
-looked_as c found None rule = absurd rule
-looked_as c found (Some d) rule = (refl, rule.0, rule.1)
+looked_as : (told : List Event) (c : Known) (found : ℕ) (w : Option Known) → LooksAs told (Some c) found w → (w ≡ Some (known_or w)) × Sees c (known_or w) × IsPrefix told (known_or w).seen × (length (known_or w).seen ≡ found)
+looked_as told c found None rule = absurd rule
+looked_as told c found (Some d) rule = (refl, rule.0, rule.1, rule.2)
 
--- what a look tells of a client's pass
-pub looked : (id : SessionId) (p q : Seat Event View) (found : ℕ) → IsClientPass id p → q.table_id ≡ p.table_id → Looks (step 0 0 0 0 none) p.me found q.me
-    → IsClientPass id q × Sees (known_of p) (known_of q) × (length (known_of q).seen ≡ found)
-looked id p q found h same rule =
-    let r = subst (λ (m : M). Looks (step 0 0 0 0 none) m found q.me) h.1 rule in
-    let t = looked_as (known_of p) found q.me.0.client r.2 in
-    ((same ∙ h.0, (λ i. (view_of (r.1 i) (t.0 i), r.0 i)), t.1.begin ∙ h.2), t.1, t.2)
+-- what a look tells of a client's pass, which was told this
+pub looked : (id : SessionId) (told : List Event) (c : Known) (me : M) (q : Seat Event View) (found : ℕ) → me ≡ (hearing told c, []) → c.begin ≡ id.begin → q.table_id ≡ id.table → Looks (step 0 0 0 0 none) me found q.me
+    → IsClientPass id q × Sees c (known_of q) × IsPrefix told (known_of q).seen × (length (known_of q).seen ≡ found)
+looked id told c me q found is begin same rule =
+    let r = subst (λ (m : M). Looks (step 0 0 0 0 none) m found q.me) is rule in
+    let t = looked_as told c found q.me.0.client r.3 in
+    ((same, (λ i. (record { keeper = r.1 i; client = t.0 i; told = r.2 i }, r.0 i)), t.1.begin ∙ begin), t.1, t.2, t.3)
+
+-- a client's pass tells what the client has seen
+pub tells_at : (key : Begin) (id : ℕ) (v : View) (c : Known) → v ≡ view_of None (Some c) → Splits (Kept key) id v v (said_by v)
+tells_at key id v c is = subst (λ (x : View). Splits (Kept key) id x x (said_by x)) (sym is) (tells key id c)
+
+-- and hears what another has seen
+pub hears_at : (key : Begin) (id : ℕ) (v : View) (c : Known) (other : ℕ) (w : View) (told : List Event) → v ≡ view_of None (Some c) → w ≡ telling told → Joins (Kept key) id v other w (heard v w) nobody
+hears_at key id v c other w told is too = subst (λ (x : View × View). Joins (Kept key) id x.0 other x.1 (heard x.0 x.1) nobody) (λ i. (sym is i, sym too i)) (hears key id c other told)
 
 pub peeks_at : (key : Begin) (slots id : ℕ) (me : M) (c : Known) (word : ℕ) → me ≡ (view_of None (Some c), []) → Allows (Kept key) slots id me word (λ n. n) (Peeks (step slots word 0 0 none) me)
 peeks_at key slots id me c word is = subst (λ (m : M). Allows (Kept key) slots id m word (λ n. n) (Peeks (step slots word 0 0 none) m)) (sym is) (peeks key slots id c word)

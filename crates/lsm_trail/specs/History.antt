@@ -8,7 +8,7 @@ use Rattle.lsm_store.specs.RecoveryPoints.{batch_count}
 use Rattle.lsm_store.specs.State.{State}
 use Rattle.lsm_store.specs.Backing.{IsBacked}
 use Rattle.lsm_store.specs.Calls.{Call, Reply}
-use Rattle.lsm_store.specs.Calls.{Release, Handed, Refused}
+use Rattle.lsm_store.specs.Calls.{Release, Given, Handed, Refused}
 use Rattle.lsm_store.specs.Work.{Work, Ask, Accept}
 use Rattle.lsm_store.specs.Machine.{Machine, Step, Called, Worked}
 use Rattle.lsm_store.specs.Run.{AdmitsStep, GoesTo, Run, last_machine}
@@ -108,7 +108,8 @@ AreNumbered inputs (e ∷ log) = IsNextNumber inputs e.reply e.result × TakesRe
 -- ---- legal histories
 
 -- A history that is legal where a session begins so: its replies are those of one store in which the base is pinned, results of
--- builds are numbered in their order, none of the replies tells of want of memory, and no step releases the base.
+-- builds are numbered in their order, none of the replies tells of want of memory or that no job was taken, and no step releases the
+-- base.
 pub record IsLegal (b : Begin) (log : List Event) : Type 0 where
   pub pinned : CanPin b
   -- memory decides the replies but for what the device holds; these are the machine's too where the device backed it at the
@@ -117,6 +118,8 @@ pub record IsLegal (b : Begin) (log : List Event) : Type 0 where
   pub run : IsBacked b.store → AreRun (first_machine b) log
   pub numbered : AreNumbered [] log
   pub made : All (λ e. e.reply ≢ Refused NoMemory) log
+  -- a taking that gives no job is no entry
+  pub taken : All (λ e. e.reply ≢ Given None) log
   pub keeps_base : All (λ e. e.step ≢ Called (Release (base_of b))) log
 
 -- the machine after a history, and its state

@@ -42,10 +42,11 @@ pub record Sees (c d : Known) : Type 0 where
   pub own : entries_by d.number d.seen ≡ d.mine
   pub room : length d.seen ≤ d.begin.limit
 
--- What a pass knows: the lock's part, a client's part, both or nothing.
+-- What a pass knows: the lock's part, a client's part, both or nothing, and what it was told: a beginning of the history.
 pub record View : Type 0 where
   pub keeper : Option Keeper
   pub client : Option Known
+  pub told : List Event
 
 abbrev pub keeping : Begin → ℕ → List Event → List ℕ → Keeper
 keeping begin dealt log draft = record { begin = begin; dealt = dealt; log = log; draft = draft }
@@ -54,10 +55,17 @@ abbrev pub known : Begin → ℕ → List Event → List Event → Known
 known begin number seen mine = record { begin = begin; number = number; seen = seen; mine = mine }
 
 abbrev pub view_of : Option Keeper → Option Known → View
-view_of keeper client = record { keeper = keeper; client = client }
+view_of keeper client = record { keeper = keeper; client = client; told = [] }
 
 abbrev pub nobody : View
 nobody = view_of None None
+
+-- a client that was told this, and a pass that knows nothing else
+abbrev pub hearing : List Event → Known → View
+hearing told c = record { keeper = None; client = Some c; told = told }
+
+abbrev pub telling : List Event → View
+telling told = record { keeper = None; client = None; told = told }
 
 -- the begin of no session
 abbrev pub no_begin : Begin
@@ -90,6 +98,14 @@ known_of p = known_or p.me.0.client
 
 abbrev pub keeper_of : Seat Event View → Keeper
 keeper_of p = keeper_or p.me.0.keeper
+
+-- what a pass was told
+abbrev pub told_to : Seat Event View → List Event
+told_to p = p.me.0.told
+
+-- a pass that was told this, and has no part
+abbrev pub IsToldPass : SessionId → List Event → Seat Event View → Type 0
+IsToldPass id told p = (p.table_id ≡ id.table) × (p.me ≡ (telling told, []))
 
 -- the pass of a client: it has the client's part and nothing else
 abbrev pub IsClientPass : SessionId → Seat Event View → Type 0

@@ -29,8 +29,9 @@ abbrev pub FitsClient : Begin → List Event → ℕ → (ℕ → ℕ) → ℕ �
 FitsClient b log dealt seat by None = Unit {0}
 FitsClient b log dealt seat by (Some c) = (c.begin ≡ b) × (seat c.number ≡ by) × (c.number < dealt) × IsPrefix c.seen log × (entries_by c.number log ≡ c.mine)
 
+-- what a pass was told is a beginning of the history
 abbrev pub Fits : Begin → List Event → ℕ → ℕ → (ℕ → ℕ) → List ℕ → ℕ → View → Type 0
-Fits b log dealt writer seat words by v = FitsKeeper b log dealt writer words by v.keeper × FitsClient b log dealt seat by v.client
+Fits b log dealt writer seat words by v = FitsKeeper b log dealt writer words by v.keeper × FitsClient b log dealt seat by v.client × IsPrefix v.told log
 
 -- There is one legal history. The words are the numbers of its beginnings, and only the clients have calls in it.
 pub record Kept (b : Begin) (s : State Event View) : Type 0 where

@@ -1,10 +1,10 @@
 -- The steps of passes, and what they tell.
-use Rattle.std.specs.Prelude.{◌≡◌, ℕ, ◌+◌, ◌*◌, ◌≤◌, [], ◌∷◌, ◌++◌, length, Option, Some, None}
+use Rattle.std.specs.Prelude.{◌≡◌, ℕ, ◌+◌, ◌*◌, ◌≤◌, List, [], ◌∷◌, ◌++◌, length, Option, Some, None}
 use mathlib.Core.List.{IsPrefix}
 use mathlib.Core.Option.{some}
 use Rattle.atomic_table.specs.Table.{Me, Step}
 use Rattle.lsm_trail.specs.History.{Event, entries_by, numbers}
-use Rattle.lsm_trail.specs.Knowledge.{Keeper, Known, Sees, View, keeping, known, view_of}
+use Rattle.lsm_trail.specs.Knowledge.{Keeper, Known, Sees, View, keeping, known, known_or, view_of, telling}
 
 abbrev PutsAs : Option Keeper → Option Known → ℕ → View → Type 0
 PutsAs None c new w = Unit {0}
@@ -34,14 +34,14 @@ NotesAs _ _ w = Unit {0}
 abbrev pub Notes : Step Event → Me Event View → ℕ → Me Event View → Type 0
 Notes s m found w = (w.1 ≡ m.1) × NotesAs m.0.keeper m.0.client w.0
 
-abbrev pub LooksAs : Option Known → ℕ → Option Known → Type 0
-LooksAs (Some c) found (Some d) = Sees c d × (length d.seen ≡ found)
-LooksAs (Some c) found None = ⊥
-LooksAs None found w = Unit {0}
+abbrev pub LooksAs : List Event → Option Known → ℕ → Option Known → Type 0
+LooksAs told (Some c) found (Some d) = Sees c d × IsPrefix told d.seen × (length d.seen ≡ found)
+LooksAs told (Some c) found None = ⊥
+LooksAs told None found w = Unit {0}
 
--- look: a client reads the length of the history without the lock, and has seen this history
+-- look: a client reads the length of the history without the lock, and has seen this history, which begins with what it was told
 abbrev pub Looks : Step Event → Me Event View → ℕ → Me Event View → Type 0
-Looks s m found w = (w.1 ≡ m.1) × (w.0.keeper ≡ m.0.keeper) × LooksAs m.0.client found w.0.client
+Looks s m found w = (w.1 ≡ m.1) × (w.0.keeper ≡ m.0.keeper) × (w.0.told ≡ []) × LooksAs m.0.told m.0.client found w.0.client
 
 -- a word of the row that belongs to what a client has seen
 pub record IsPeeked (c : Known) (word found : ℕ) : Type 0 where
@@ -80,3 +80,11 @@ dealer v = view_of (deal v.keeper) v.client
 -- what that client knows
 abbrev pub dealt_to : View → View
 dealt_to v = view_of None (newcomer v.keeper)
+
+-- a client that was told what another pass was told
+abbrev pub heard : View → View → View
+heard v w = record { keeper = v.keeper; client = v.client; told = w.told }
+
+-- what a client has seen, for another to hear
+abbrev pub said_by : View → View
+said_by v = telling (known_or v.client).seen

@@ -2,13 +2,15 @@
 ghost use Rattle.std.specs.Prelude.{◌≡◌, ℕ, ◌+◌, ◌*◌, ◌<◌, ◌≤◌, [], ◌∷◌, ◌++◌, length, Some, None};
 ghost use mathlib.Core.List.{IsPrefix};
 ghost use Rattle.lsm_trail.specs.History.{IsLegal, entries_by, numbers};
-ghost use Rattle.lsm_trail.specs.Knowledge.{known, Sees, keeping, view_of, IsClientPass, IsKeeperPass, HasBoth, known_of, keeper_of, row_of};
+ghost use Rattle.lsm_trail.specs.Knowledge.{known, Sees, keeping, view_of, IsClientPass, IsKeeperPass, IsToldPass, HasBoth, known_of, keeper_of, told_to, row_of};
 ghost use Rattle.lsm_trail.specs.Steps.{published};
 
 use crate::entry::Entry;
 use crate::knowledge::Pass;
 use crate::numbers::Numbers;
-use crate::rule::{Board, Compare, Deal, Lend, Look, Note, Nothing, Peek, Publish, Put};
+use crate::rule::{
+    Board, Compare, Deal, Hear, Lend, Look, Note, Nothing, Peek, Publish, Put, Tell,
+};
 use crate::start::SessionName;
 use lsm_device::Device;
 use std::alloc::{Allocator, Global};
@@ -171,6 +173,29 @@ impl<D: Device, A: Allocator, B: SessionName> Counters<D, A, B> {
     {
         let count = self.look(client);
         self.read_row(client, count)
+    }
+
+    /// A pass that tells what the client has seen. It takes no lock and no memory, and waits for nobody.
+    pub fn tell(&self, client: &mut Pass<A>) -> Pass<A>
+        requires { IsClientPass B.id client.old }
+        ensures client { IsClientPass B.id client.new × (known_of client.new ≡ known_of client.old) }
+        ensures told { IsToldPass B.id (known_of client.old).seen result }
+    {
+        self.board.shared.split_seat::<Tell>(client)
+    }
+
+    /// The client sees the history as it is at one moment of this call, which begins with what it is told. It takes no lock and
+    /// no memory, and waits for nobody.
+    pub fn hear(&self, client: &mut Pass<A>, told: Pass<A>)
+        requires client { IsClientPass B.id client.old }
+        requires told { IsToldPass B.id (told_to told) told }
+        ensures client { IsClientPass B.id client.new }
+        ensures sees { Sees (known_of client.old) (known_of client.new) }
+        ensures heard { IsPrefix (told_to told) (known_of client.new).seen }
+    {
+        let shared = &self.board.shared;
+        shared.join_seat::<Hear>(client, told);
+        shared.load::<Look>(client, 0);
     }
 
     /// The pass of a new client.

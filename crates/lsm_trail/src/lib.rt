@@ -18,6 +18,6 @@ pub use knowledge::{Knowledge, Pass};
 pub use law::base_stays;
 pub use numbers::Numbers;
 pub use opened::Opened;
-pub use rule::{Compare, Deal, Law, Lend, Look, Note, Nothing, Peek, Publish, Put};
+pub use rule::{Compare, Deal, Hear, Law, Lend, Look, Note, Nothing, Peek, Publish, Put, Tell};
 pub use start::{SessionName, Start};
 pub use trail::Trail;

@@ -57,7 +57,7 @@ impl<A: Allocator> Play<Entry<A>, Knowledge> for Note {
     ghost then = { Notes };
 }
 
-/// A client reads the length of the history without the lock, and has seen it.
+/// A client reads the length of the history without the lock, and has seen it. It begins with what the client was told.
 pub struct Look;
 
 impl<A: Allocator> Play<Entry<A>, Knowledge> for Look {
@@ -115,4 +115,27 @@ impl Split<Knowledge> for Deal {
     ghost left = { dealer };
 
     ghost right = { dealt_to };
+}
+
+/// A pass that tells what a client has seen.
+pub struct Tell;
+
+impl Split<Knowledge> for Tell {
+    ghost use Rattle.lsm_trail.specs.Steps.{said_by};
+
+    ghost left = { λ v. v };
+
+    ghost right = { said_by };
+}
+
+/// A client's pass is told what that one tells.
+pub struct Hear;
+
+impl Join<Knowledge> for Hear {
+    ghost use Rattle.lsm_trail.specs.Knowledge.{nobody};
+    ghost use Rattle.lsm_trail.specs.Steps.{heard};
+
+    ghost both = { heard };
+
+    ghost spent = { nobody };
 }

@@ -1,12 +1,13 @@
 -- What turns of a worker, and results that it brings, add to its entries.
-use Rattle.std.proofs.Common.{◌≡◌, ◌<◌, ℕ, suc, ◌+◌, List, [], ◌∷◌, ◌++◌, refl, ap, sym, subst, ◌∙◌, arith}
-use Rattle.std.specs.Prelude.{Bool, true, false, is_some, Option, Some, None, if◌then◌else◌}
+use Rattle.std.proofs.Common.{◌≡◌, ◌⊎◌, ◌<◌, ◌≤◌, inl, inr, ⊎_elim, ℕ, suc, ◌+◌, List, [], ◌∷◌, ◌++◌, refl, ap, sym, subst, ◌∙◌, arith}
+use Rattle.std.proofs.lemmas.Bool.{cases_lt}
+use Rattle.std.specs.Prelude.{Result, Ok, Err, Bool, true, false, is_some, Option, Some, None, if◌then◌else◌}
 use Rattle.std.specs.Arc.{arc_value}
 use Rattle.std.specs.Global.{Global}
 use Rattle.std.specs.Option.{option_map}
 use Rattle.std.specs.declared.sync.Arc.{Arc}
 use Rattle.lsm_device.specs.declared.refusal.Refusal.{Refusal}
-use Rattle.lsm_device.specs.declared.refusal.Refusal.TheVariants.{NoSpace}
+use Rattle.lsm_device.specs.declared.refusal.Refusal.TheVariants.{BadLimit, NoSpace}
 use Rattle.lsm_merge.specs.Inputs.{MergeInput}
 use Rattle.lsm_merge.specs.Results.{MergeResult}
 use Rattle.lsm_store.specs.Calls.{Reply}
@@ -21,7 +22,7 @@ use Rattle.lsm_shared.specs.Clients.{Adds}
 use Rattle.lsm_shared.specs.Turns.{as_steps, pieces_among, IsTurn, TakesNext, IsNoNext, TakesTurn, IsNoTurn, IsBrought, Brings, IsLeftOfBringing, IsNotBrought}
 use Rattle.lsm_shared.specs.declared.turn.Turn.{Turn}
 use Rattle.lsm_shared.specs.declared.turn.Turn.TheVariants as turn
-use Rattle.lsm_worker.specs.Working.{MakesNoCall, Delivers, DeliversNot, EndsTurn, EndsInVain, TakesWhole, TakesTurns, TakesUpTo}
+use Rattle.lsm_worker.specs.Working.{MakesNoCall, MayPart, Delivers, DeliversNot, EndsTurn, EndsInVain, TakesWhole, TakesTurns, TakesUpTo}
 
 -- how many calls are among steps
 abbrev calls_among : List Step → ℕ
@@ -85,7 +86,7 @@ pub nexts : (c d : Known) (answer : Told) → TakesNext c (Some answer) d → Ma
 nexts c d answer takes = adds_none c d takes.piece.others _ takes.piece.adds refl
 
 pub no_nexts : (c d : Known) (e : Refusal) → IsNoNext c e d → MakesNoCall c d
-no_nexts c d e takes = adds_none c d takes.1.others [] takes.1.adds refl
+no_nexts c d e takes = adds_none c d takes.1.piece.others [] takes.1.piece.adds refl
 
 of_result : (number job result : ℕ) (made : MergeResult) (reply : Reply) (entries : List Event) → IsBrought number job result made reply entries → calls_in entries ≡ 0
 of_result number job result made (Refused NoSpace) entries brought = ap calls_in brought.3
@@ -115,29 +116,41 @@ stays c d e one two = record { number = two.number ∙ one.number; calls = two.c
 pub stays_itself : (c : Known) → MakesNoCall c c
 stays_itself c = record { number = refl; calls = refl }
 
+-- ---- in how many parts a result was built
+
+no_refusal : {T : Type 0} (x : T) (e : Refusal) → Ok x ≡ Err e → ⊥
+no_refusal x e is = cc
+
+-- a result that was built was built in 1 to 8
+pub parted : {T : Type 0} (parts : ℕ) (x : T) → ((parts < 1) ⊎ (8 < parts) → Ok x ≡ Err BadLimit) → MayPart parts
+parted parts x limit = (
+  ⊎_elim (λ (few : parts < 1). absurd (no_refusal x BadLimit (limit (inl few)))) (λ (enough : 1 ≤ parts). enough) (cases_lt parts 1),
+  ⊎_elim (λ (many : 8 < parts). absurd (no_refusal x BadLimit (limit (inr many)))) (λ (few : parts ≤ 8). few) (cases_lt 8 parts),
+)
+
 -- ---- how a turn ended
 
-pub idle_ends : (taken : Turn Global) (mid : Known) → taken ≡ turn.Idle → EndsTurn taken false mid mid
-idle_ends taken mid is = subst (λ (t : Turn Global). EndsTurn t false mid mid) (sym is) (refl, refl)
+pub idle_ends : (parts : ℕ) (taken : Turn Global) (mid : Known) → taken ≡ turn.Idle → EndsTurn parts taken false mid mid
+idle_ends parts taken mid is = subst (λ (t : Turn Global). EndsTurn parts t false mid mid) (sym is) (refl, refl)
 
-pub did_ends : (taken : Turn Global) (reply : GivenReply Global) (mid : Known) → taken ≡ turn.Did reply → EndsTurn taken true mid mid
-did_ends taken reply mid is = subst (λ (t : Turn Global). EndsTurn t true mid mid) (sym is) (refl, refl)
+pub did_ends : (parts : ℕ) (taken : Turn Global) (reply : GivenReply Global) (mid : Known) → taken ≡ turn.Did reply → EndsTurn parts taken true mid mid
+did_ends parts taken reply mid is = subst (λ (t : Turn Global). EndsTurn parts t true mid mid) (sym is) (refl, refl)
 
-pub merge_ends : (taken : Turn Global) (job result : ℕ) (input : Arc MergeInput Global) (mid new : Known) → taken ≡ turn.Merge job result input → Delivers job result (arc_value input) mid new → EndsTurn taken true mid new
-merge_ends taken job result input mid new is d = subst (λ (t : Turn Global). EndsTurn t true mid new) (sym is) (refl, d)
+pub merge_ends : (parts : ℕ) (taken : Turn Global) (job result : ℕ) (input : Arc MergeInput Global) (mid new : Known) → taken ≡ turn.Merge job result input → Delivers parts job result (arc_value input) mid new → EndsTurn parts taken true mid new
+merge_ends parts taken job result input mid new is d = subst (λ (t : Turn Global). EndsTurn parts t true mid new) (sym is) (refl, d)
 
 pub merge_ends_not : (parts : ℕ) (e : Refusal) (taken : Turn Global) (job result : ℕ) (input : Arc MergeInput Global) (mid new : Known) → taken ≡ turn.Merge job result input → DeliversNot parts e job result (arc_value input) mid new → EndsInVain parts e taken mid new
 merge_ends_not parts e taken job result input mid new is d = subst (λ (t : Turn Global). EndsInVain parts e t mid new) (sym is) d
 
 -- ---- turns one after another
 
-pub one_more : (n : ℕ) (busy : Bool) (c d e : Known) → busy ≡ true → TakesTurns n c d → TakesWhole busy d e → TakesTurns (n + 1) c e
-one_more n busy c d e is turns last =
+pub one_more : (parts n : ℕ) (busy : Bool) (c d e : Known) → busy ≡ true → TakesTurns parts n c d → TakesWhole parts busy d e → TakesTurns parts (n + 1) c e
+one_more parts n busy c d e is turns last =
     let more : suc n ≡ n + 1 = omega arith in
-    subst (λ (m : ℕ). TakesTurns m c e) more (d, turns, subst (λ (b : Bool). TakesWhole b d e) is last)
+    subst (λ (m : ℕ). TakesTurns parts m c e) more (d, turns, subst (λ (b : Bool). TakesWhole parts b d e) is last)
 
-pub idle_then : (turns n : ℕ) (busy : Bool) (c d e : Known) → busy ≡ false → n < turns → TakesTurns n c d → TakesWhole busy d e → TakesUpTo turns true c e
-idle_then turns n busy c d e is within before last = (n, within, d, before, subst (λ (b : Bool). TakesWhole b d e) is last)
+pub idle_then : (turns parts n : ℕ) (busy : Bool) (c d e : Known) → busy ≡ false → n < turns → TakesTurns parts n c d → TakesWhole parts busy d e → TakesUpTo turns parts true c e
+idle_then turns parts n busy c d e is within before last = (n, within, d, before, subst (λ (b : Bool). TakesWhole parts b d e) is last)
 
-pub all_taken : (turns n : ℕ) (c d : Known) → n ≡ turns → TakesTurns n c d → TakesUpTo turns false c d
-all_taken turns n c d is taken = subst (λ (m : ℕ). TakesTurns m c d) is taken
+pub all_taken : (turns parts n : ℕ) (c d : Known) → n ≡ turns → TakesTurns parts n c d → TakesUpTo turns parts false c d
+all_taken turns parts n c d is taken = subst (λ (m : ℕ). TakesTurns parts m c d) is taken

@@ -27,7 +27,7 @@ fn merge<D: Device, B: SessionName, R: Threads + Wait + Sync>(
     requires { WasLent me.old.mine lent.0 lent.1 (arc_value lent.2) }
     ensures works { MakesNoCall me.old me.new }
     ensures delivers { MatchResult result
-        (λ _. Delivers lent.0 lent.1 (arc_value lent.2) me.old me.new)
+        (λ _. Delivers parts lent.0 lent.1 (arc_value lent.2) me.old me.new)
         (λ e. DeliversNot parts e lent.0 lent.1 (arc_value lent.2) me.old me.new) }
 {
     let (job, number, input) = lent;
@@ -44,7 +44,7 @@ fn turn<D: Device, B: SessionName, R: Threads + Wait + Sync>(
     me: &mut Client<Global, B>,
     parts: u8,
 ) -> Result<bool, Refusal>
-    ensures takes { (old : Known) → TakesNext old None me.old → MatchResult result (λ busy. TakesWhole busy old me.new) (λ e. TakesPart parts e old me.new) }
+    ensures takes { (old : Known) → TakesNext old None me.old → MatchResult result (λ busy. TakesWhole parts busy old me.new) (λ e. TakesPart parts e old me.new) }
     ensures works { MakesNoCall me.old me.new }
     ensures rests { IfOk result (λ busy. busy ≡ false → Rests me.new) }
 {
@@ -62,8 +62,11 @@ fn turn<D: Device, B: SessionName, R: Threads + Wait + Sync>(
 /// result is built in so many parts, 1 to 8, each in a thread of its own and with no lock in hand, and brought. It returns
 /// whether there was something to do.
 ///
-/// It is refused as a turn and a bringing are, with `TrailFull` and `NoMemory`, and with `BadLimit` for another number of parts.
-/// What was entered before stands.
+/// It is refused as a turn and a bringing are, with `TrailFull` and `NoMemory`, and with `BadLimit` where a result is to be built in
+/// another number of parts. What was entered before stands.
+///
+/// No clause says that the policy is asked first, nor how many threads there are: the tables of a result are the same for each number
+/// of parts. Tests show the first.
 pub fn take_turn<D: Device, B: SessionName, R: Threads + Wait + Sync>(
     rt: &R,
     alloc: Global,
@@ -72,7 +75,7 @@ pub fn take_turn<D: Device, B: SessionName, R: Threads + Wait + Sync>(
     policy: &Policy,
     parts: u8,
 ) -> Result<bool, Refusal>
-    ensures takes { MatchResult result (λ busy. TakesWhole busy me.old me.new) (λ e. TakesPart parts e me.old me.new) }
+    ensures takes { MatchResult result (λ busy. TakesWhole parts busy me.old me.new) (λ e. TakesPart parts e me.old me.new) }
     ensures works { MakesNoCall me.old me.new }
     ensures rests { IfOk result (λ busy. busy ≡ false → Rests me.new) }
 {
@@ -92,7 +95,7 @@ pub fn work<D: Device, B: SessionName, R: Threads + Wait + Sync>(
     parts: u8,
     turns: u32,
 ) -> Result<bool, Refusal>
-    ensures takes { MatchResult result (λ idle. TakesUpTo turns idle me.old me.new) (λ e. StopsWithin turns parts e me.old me.new) }
+    ensures takes { MatchResult result (λ idle. TakesUpTo turns parts idle me.old me.new) (λ e. StopsWithin turns parts e me.old me.new) }
     ensures works { MakesNoCall me.old me.new }
     ensures rests { IfOk result (λ idle. idle ≡ true → Rests me.new) }
 {

@@ -1,4 +1,5 @@
 pub mod Making
+pub mod Following
 pub mod Ending
 pub mod Staying
 pub mod Lasting

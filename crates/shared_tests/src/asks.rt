@@ -3,11 +3,15 @@
 use crate::setup::put;
 use lsm_device::{MemDevice, Refusal};
 use lsm_lives::{Call, Reply};
+use lsm_policy::Policy;
 use lsm_shared::{Client, Shared, Turn};
+use lsm_store::Choice;
 use lsm_trail::SessionName;
+use lsm_worker::work;
 use std::alloc::Global;
 use std::process::Abort;
 use std::sync::Wait;
+use std::thread::Threads;
 
 /// What a client asks.
 #[derive(Clone, Copy)]
@@ -20,6 +24,10 @@ pub enum Ask {
     Release(u64),
     /// The next piece of work.
     Turn,
+    /// Turns of a worker, until nothing is left to do.
+    Work,
+    /// The job of so many of the oldest runs of level 0.
+    Take(usize),
     /// The numbers of the history, without the lock.
     Watch,
 }
@@ -33,6 +41,8 @@ pub enum Told {
     Did,
     /// There is no work for it.
     Idle,
+    /// There is no such job.
+    NoJob,
     /// Calls, batches, and synced batches.
     Numbers(u64, u64, u64),
     /// A call was not made.
@@ -72,6 +82,34 @@ fn turn<B: SessionName, R: Wait>(
     }
 }
 
+// What it is told of turns of a worker.
+fn work_on<B: SessionName, R: Threads + Wait + Sync>(
+    rt: &R,
+    alloc: Global,
+    shared: &Shared<MemDevice, Global, B>,
+    me: &mut Client<Global, B>,
+) -> Told {
+    match work(rt, alloc, shared, me, &Policy::new(), 2, 100) {
+        Ok(true) => Told::Idle,
+        _ => Told::Other,
+    }
+}
+
+// What it is told of the taking of a job of so many runs.
+fn take<B: SessionName, R: Wait>(
+    rt: &R,
+    shared: &Shared<MemDevice, Global, B>,
+    me: &mut Client<Global, B>,
+    count: usize,
+) -> Told {
+    match me.take(rt, shared, Choice::OldestRuns { count }) {
+        Ok(None) => Told::NoJob,
+        Ok(Some(Reply::Taken(Some(_)))) => Told::Did,
+        Ok(Some(_)) => Told::Other,
+        Err(refusal) => Told::Refused(refusal),
+    }
+}
+
 // What it reads of the history.
 fn watch<B: SessionName>(
     shared: &Shared<MemDevice, Global, B>,
@@ -82,7 +120,7 @@ fn watch<B: SessionName>(
 }
 
 /// Has clients do what a table says.
-pub fn ask_all<B: SessionName, R: Wait + Abort>(
+pub fn ask_all<B: SessionName, R: Threads + Wait + Abort + Sync>(
     rt: &R,
     alloc: Global,
     shared: &Shared<MemDevice, Global, B>,
@@ -100,6 +138,8 @@ pub fn ask_all<B: SessionName, R: Wait + Abort>(
             Ask::Rotate => call(rt, shared, me, Call::Rotate),
             Ask::Release(number) => call(rt, shared, me, Call::Release(number)),
             Ask::Turn => turn(rt, shared, me),
+            Ask::Work => work_on(rt, alloc, shared, me),
+            Ask::Take(count) => take(rt, shared, me, count),
             Ask::Watch => watch(shared, me),
         };
         assert!(rt; told == *wanted, "another answer");

@@ -15,6 +15,8 @@ mod asks;
 #[cfg(test)]
 mod example;
 #[cfg(test)]
+mod order;
+#[cfg(test)]
 mod parts;
 #[cfg(test)]
 mod policies;
@@ -24,6 +26,12 @@ mod sessions;
 mod setup;
 #[cfg(test)]
 mod sizes;
+#[cfg(test)]
+mod stopping;
+#[cfg(test)]
+mod storms;
+#[cfg(test)]
+mod taking;
 #[cfg(test)]
 mod tallies;
 #[cfg(test)]

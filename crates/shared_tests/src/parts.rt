@@ -45,8 +45,8 @@ pub fn key_of(client: u32, commit: u32) -> [u8; 4] {
         .to_be_bytes()
 }
 
-// Commits one put as a client, which has its key for its value.
-fn commit<B: SessionName, R: Wait + Abort>(
+/// Commits one put as a client, which has its key for its value.
+pub fn commit<B: SessionName, R: Wait + Abort>(
     rt: &R,
     alloc: Global,
     shared: &Shared<MemDevice, Global, B>,

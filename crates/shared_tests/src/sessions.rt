@@ -3,9 +3,11 @@
 ghost use Rattle.std.specs.Prelude.{◌≡◌};
 
 use crate::asks::{Asked, ask_all};
+use crate::order::go_in_rounds;
 use crate::parts::{Part, at_once};
 use crate::policies::go_by_policies;
 use crate::setup::{Left, prepared};
+use crate::stopping::commit_on;
 use crate::working::build_twice;
 use lsm_device::MemDevice;
 use lsm_shared::{Client, Shared};
@@ -28,6 +30,10 @@ pub enum Deeds<'a> {
     BuildTwice,
     /// One of them works by policies.
     ByPolicies,
+    /// Each hands on what it has seen to the next, round by round.
+    InRounds,
+    /// All commit at the same time, whatever they are told.
+    CommitOn,
 }
 
 fn act<B: SessionName + Send + Sync, R: Threads + Wait + Abort + Sync>(
@@ -45,6 +51,8 @@ fn act<B: SessionName + Send + Sync, R: Threads + Wait + Abort + Sync>(
         }
         Deeds::BuildTwice => build_twice(rt, alloc, shared, clients),
         Deeds::ByPolicies => go_by_policies(rt, alloc, shared, clients),
+        Deeds::InRounds => go_in_rounds(rt, alloc, shared, clients),
+        Deeds::CommitOn => commit_on(rt, alloc, shared, clients),
     }
 }
 

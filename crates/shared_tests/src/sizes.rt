@@ -37,6 +37,24 @@ fn a_session_has_1_to_64_clients_and_1_to_65536_places(rt: HostRuntime) {
     }
 }
 
+// An idle turn takes no place, and a call that finds none changes no number.
+const TWO_PLACES: &[Asked] = &[
+    (0, Ask::Turn, Told::Idle),
+    (0, Ask::Watch, Told::Numbers(0, 0, 0)),
+    (0, Ask::Put(0x61), Told::Number(1)),
+    (0, Ask::Watch, Told::Numbers(1, 1, 0)),
+    (0, Ask::Sync, Told::Done),
+    (0, Ask::Watch, Told::Numbers(2, 1, 1)),
+    (0, Ask::Put(0x62), Told::Refused(Refusal::TrailFull)),
+    (0, Ask::Watch, Told::Numbers(2, 1, 1)),
+];
+
+// Client 1 makes no call.
+const WITH_ANOTHER: &[Asked] = &[
+    (0, Ask::Put(0x61), Told::Number(1)),
+    (1, Ask::Watch, Told::Numbers(1, 1, 0)),
+];
+
 // The base has the number 1.
 const ONE_PLACE: &[Asked] = &[
     (0, Ask::Release(1), Told::Refused(Refusal::NotYours)),
@@ -44,6 +62,26 @@ const ONE_PLACE: &[Asked] = &[
     (0, Ask::Sync, Told::Refused(Refusal::TrailFull)),
     (0, Ask::Release(1), Told::Refused(Refusal::TrailFull)),
 ];
+
+#[test]
+fn a_trail_of_two_places_takes_two_calls(rt: HostRuntime) {
+    let left = lead(
+        &rt,
+        rt.alloc(),
+        small(&rt, rt.alloc()),
+        (1, 2),
+        Deeds::Asks(TWO_PLACES),
+    );
+    assert!(rt; left.trail.len() == 2 && left.store.synced_count() == 1);
+    let left = lead(
+        &rt,
+        rt.alloc(),
+        small(&rt, rt.alloc()),
+        (2, 2),
+        Deeds::Asks(WITH_ANOTHER),
+    );
+    assert!(rt; left.trail.len() == 1);
+}
 
 #[test]
 fn a_trail_of_one_place_takes_one_call(rt: HostRuntime) {

@@ -6,7 +6,7 @@ ghost use Rattle.lsm_shared.specs.Turns.{WasLent};
 use crate::asks::{Ask, Asked, Told, ask_all};
 use crate::parts::Part;
 use crate::sessions::{Deeds, lead};
-use crate::setup::small;
+use crate::setup::{put, small};
 use lsm_device::{MemDevice, Refusal};
 use lsm_lives::{Call, Reply, Step, Work};
 use lsm_merge::{Input, build};
@@ -69,7 +69,23 @@ const BEHIND: &[Asked] = &[
     (0, Ask::Turn, Told::Idle),
 ];
 
-// Both clients are handed out one input, and then each brings a result.
+// Commits a put as a client that was handed out an input. It may still bring the result.
+fn commit_between<B: SessionName, R: Wait + Abort>(
+    rt: &R,
+    alloc: Global,
+    shared: &Shared<MemDevice, Global, B>,
+    me: &mut Client<Global, B>,
+    lent: &Lent,
+)
+    requires { WasLent me.old.mine lent.now.job lent.now.result (arc_value lent.now.input) }
+    ensures { WasLent me.new.mine lent.now.job lent.now.result (arc_value lent.now.input) }
+{
+    let batch = put(alloc, b"\x62", b"\x32").expect(rt, "a batch");
+    let reply = me.call(rt, shared, Call::Commit(batch));
+    assert!(rt; matches!(reply, Ok(Reply::Number(2))));
+}
+
+// Both clients are handed out one input. The second one makes a commit, and then each brings a result.
 fn build_both<B: SessionName, R: Threads + Wait + Abort + Sync>(
     rt: &R,
     alloc: Global,
@@ -81,6 +97,7 @@ fn build_both<B: SessionName, R: Threads + Wait + Abort + Sync>(
     let first = borrow(rt, shared, zero);
     let second = borrow(rt, shared, one);
     assert!(rt; (first.job, first.result) == (1, 1) && (second.job, second.result) == (1, 2));
+    commit_between(rt, alloc, shared, one, &second);
     bring(rt, alloc, shared, zero, first);
     bring(rt, alloc, shared, one, second);
 }
@@ -130,6 +147,7 @@ const TWO_BUILDS: &[(u32, &str)] = &[
     (0, "take"),
     (0, "build"),
     (1, "build"),
+    (1, "commit"),
     (0, "accept"),
     (1, "late"),
     (0, "write"),
@@ -141,7 +159,8 @@ fn two_clients_build_one_result(rt: HostRuntime) {
     let store = small(&rt, rt.alloc());
     let (store, trail) = lead(&rt, rt.alloc(), store, (2, 64), Deeds::BuildTwice).into_parts();
     assert!(rt; is_of(trail, TWO_BUILDS));
-    assert!(rt; store.batch_count() == 1 && store.synced_count() == 1);
+    // An install syncs all batches.
+    assert!(rt; store.batch_count() == 2 && store.synced_count() == 2);
 }
 
 // Client 1 makes no call. It reads the numbers of what client 0 did, and is idle until that has rotated.

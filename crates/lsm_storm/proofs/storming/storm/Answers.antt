@@ -14,6 +14,7 @@ returns-clause-stormed g c = record {
   commits = search rules;
   batches = search rules;
   rows = search rules;
+  pieces = search rules;
 }
 
 pub returns-clause-all : goal.returns-clause-all

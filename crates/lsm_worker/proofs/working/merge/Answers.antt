@@ -1,5 +1,5 @@
 use Rattle.std.proofs.lemmas.Result.{err_from_is_err_and}
-use Rattle.lsm_worker.proofs.AtWork.{brings, brings_not}
+use Rattle.lsm_worker.proofs.AtWork.{brings, brings_not, parted}
 use Rattle.lsm_worker.specs.Working.{not_brought}
 use Rattle.lsm_worker.proofs.working.merge.Goals as goal
 
@@ -9,7 +9,16 @@ returns-in_err-_reply-clause-works g c = brings_not _ _ _ _ _ _ c.in_err-_reply.
 pub returns-in_err-_reply-clause-delivers : goal.returns-in_err-_reply-clause-delivers
 returns-in_err-_reply-clause-delivers g c =
     let p = err_from_is_err_and c.from_residual-in_err-_reply.result c.from_residual-in_err-_reply.ensures.1 in
-    rw (p.1, p.2) (not_brought _ (record { input_of = c.in_ok-built.ensures.input; tables = c.in_ok-built.ensures.tables }) c.in_err-_reply.ensures)
+    rw (p.1, p.2) (not_brought (parted c.args.parts c.in_ok-built.built c.in_ok-built.ensures.limit) _ (record { input_of = c.in_ok-built.ensures.input; tables = c.in_ok-built.ensures.tables }) c.in_err-_reply.ensures)
 
 pub returns-clause-works : goal.returns-clause-works
 returns-clause-works g c = brings _ _ _ _ _ _ c.in_ok-_reply.ensures
+
+pub returns-clause-delivers : goal.returns-clause-delivers
+returns-clause-delivers g c = record {
+  within = parted c.args.parts c.in_ok-built.built c.in_ok-built.ensures.limit;
+  made = _;
+  merged = record { input_of = c.in_ok-built.ensures.input; tables = c.in_ok-built.ensures.tables };
+  told = _;
+  brings = c.in_ok-_reply.ensures;
+}

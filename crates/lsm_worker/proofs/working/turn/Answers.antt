@@ -15,13 +15,13 @@ pub returns-in-Idle-clause-works : goal.returns-in-Idle-clause-works
 returns-in-Idle-clause-works g c = turns _ _ _ c.in_ok-turn.ensures.taken
 
 pub returns-in-Idle-clause-takes : goal.returns-in-Idle-clause-takes
-returns-in-Idle-clause-takes g c old none = turned _ none _ _ c.in_ok-turn.ensures.taken (idle_ends _ _ c.in-Idle.is)
+returns-in-Idle-clause-takes g c old none = turned _ none _ _ c.in_ok-turn.ensures.taken (idle_ends _ _ _ c.in-Idle.is)
 
 pub returns-in-Did-clause-works : goal.returns-in-Did-clause-works
 returns-in-Did-clause-works g c = turns _ _ _ c.in_ok-turn.ensures.taken
 
 pub returns-in-Did-clause-takes : goal.returns-in-Did-clause-takes
-returns-in-Did-clause-takes g c old none = turned _ none _ _ c.in_ok-turn.ensures.taken (did_ends _ _ _ c.in-Did.is)
+returns-in-Did-clause-takes g c old none = turned _ none _ _ c.in_ok-turn.ensures.taken (did_ends _ _ _ _ c.in-Did.is)
 
 pub returns-in_err-merge-in-Merge-clause-works : goal.returns-in_err-merge-in-Merge-clause-works
 returns-in_err-merge-in-Merge-clause-works g c = stays _ _ _ (turns _ _ _ c.in_ok-turn.ensures.taken) c.merge.ensures.works
@@ -35,4 +35,4 @@ pub returns-clause-works : goal.returns-clause-works
 returns-clause-works g c = stays _ _ _ (turns _ _ _ c.in_ok-turn.ensures.taken) c.merge.ensures.works
 
 pub returns-clause-takes : goal.returns-clause-takes
-returns-clause-takes g c old none = turned _ none _ _ c.in_ok-turn.ensures.taken (merge_ends _ _ _ _ _ _ c.in-Merge.is c.in_ok-merge-in-Merge.ensures.delivers)
+returns-clause-takes g c old none = turned _ none _ _ c.in_ok-turn.ensures.taken (merge_ends _ _ _ _ _ _ _ c.in-Merge.is c.in_ok-merge-in-Merge.ensures.delivers)

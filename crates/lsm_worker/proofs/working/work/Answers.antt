@@ -9,13 +9,13 @@ returns-in_err-take_turn-clause-takes g c =
     rw (p.1, p.2) (record { before = c.loop.counter; within = omega (arith, c.loop-test.true); mid = c.loop.me; takes = c.loop.invariant.1; refused = c.in_err-take_turn.ensures.takes })
 
 pub returns-then-not-branch-clause-takes : goal.returns-then-not-branch-clause-takes
-returns-then-not-branch-clause-takes g c = idle_then _ c.loop.counter _ _ _ _ c.if-not-branch.true (omega (arith, c.loop-test.true)) c.loop.invariant.1 c.in_ok-take_turn.ensures.takes
+returns-then-not-branch-clause-takes g c = idle_then _ _ c.loop.counter _ _ _ _ c.if-not-branch.true (omega (arith, c.loop-test.true)) c.loop.invariant.1 c.in_ok-take_turn.ensures.takes
 
 pub loop-preserved : goal.loop-preserved
 loop-preserved g c = (
   stays _ _ _ c.loop.invariant.0 c.in_ok-take_turn.ensures.works,
-  one_more c.loop.counter _ _ _ _ c.if-not-branch.false c.loop.invariant.1 c.in_ok-take_turn.ensures.takes,
+  one_more _ c.loop.counter _ _ _ _ c.if-not-branch.false c.loop.invariant.1 c.in_ok-take_turn.ensures.takes,
 )
 
 pub returns-clause-takes : goal.returns-clause-takes
-returns-clause-takes g c = all_taken _ c.loop.counter _ _ (omega (arith, c.loop-test.false, c.loop.auto.counter-end)) c.loop.invariant.1
+returns-clause-takes g c = all_taken _ _ c.loop.counter _ _ (omega (arith, c.loop-test.false, c.loop.auto.counter-end)) c.loop.invariant.1

@@ -1,5 +1,5 @@
-use Rattle.lsm_shared.proofs.Telling.{tells_piece}
+use Rattle.lsm_shared.proofs.Telling.{tells_of}
 use Rattle.lsm_shared.proofs.client.Client.take.Goals as goal
 
 pub returns : goal.returns
-returns g c = tells_piece _ _ _ _ _ _ _ c.take.ensures
+returns g c = tells_of _ _ _ _ _ _ _ c.take.ensures

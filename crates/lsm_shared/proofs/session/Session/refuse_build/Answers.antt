@@ -23,7 +23,7 @@ enter-requires-clause-by g c = ap (λ (e : Event). e.client) c.of_refused_build-
 pub enter-requires-clause-may : goal.enter-requires-clause-may
 enter-requires-clause-may g c =
     let works = works_inside _ _ _ _ _ c.self.view_is c.requires.refused in
-    may_follow _ _ _ _ _ c.self.invariant (Worked (Ask c.args.job)) _ works _ _ _ c.of_refused_build-entry.ensures (other_refusal _ c.if-is_short.ensures) (λ same. cc) tt tt
+    may_follow _ _ _ _ _ c.self.invariant (Worked (Ask c.args.job)) _ works _ _ _ c.of_refused_build-entry.ensures (other_refusal _ c.if-is_short.ensures) (λ same. cc) (λ same. cc) tt tt
 
 pub enter-requires-clause-machine : goal.enter-requires-clause-machine
 enter-requires-clause-machine g c = ap (λ (e : Event). e.machine) c.of_refused_build-entry.ensures

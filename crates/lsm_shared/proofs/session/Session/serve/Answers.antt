@@ -3,6 +3,7 @@ use Rattle.lsm_store.specs.Machine.{Called}
 use Rattle.lsm_trail.specs.Knowledge.{Known}
 use Rattle.lsm_lives.specs.Calls.{call_of, reply_of}
 use Rattle.lsm_shared.proofs.Holds.{session_kept, refused_with, short_was, place_left, may_follow, keeps_base, session_entered, lost_in, made_in, number_in, entered_one, knows_then, called_step}
+use Rattle.lsm_shared.proofs.Giving.{calls_take_none}
 use Rattle.lsm_shared.proofs.OwnWork.{no_number}
 use Rattle.lsm_shared.proofs.session.Session.serve.Goals as goal
 
@@ -18,7 +19,7 @@ returns-in_err-answer-clause-refused g c =
 pub enter-requires-clause-may : goal.enter-requires-clause-may
 enter-requires-clause-may g c =
     let i = c.self.invariant in
-    may_follow _ _ _ _ _ i (Called (call_of c.args.call)) _ c.serve-reply.ensures.serves _ _ _ c.of_call-entry.ensures (made_in (call_of c.args.call) c.serve-reply.new.store.state (reply_of c.serve-reply.result) c.in_ok-answer.ensures.1) (keeps_base g.B.SessionName.id _ _ i.number c.if-releases.ensures) (number_in _ _ (call_of c.args.call) c.serve-reply.new.store.state (reply_of c.serve-reply.result) (no_number _ c.serve-reply.result _)) tt
+    may_follow _ _ _ _ _ i (Called (call_of c.args.call)) _ c.serve-reply.ensures.serves _ _ _ c.of_call-entry.ensures (made_in (call_of c.args.call) c.serve-reply.new.store.state (reply_of c.serve-reply.result) c.in_ok-answer.ensures.1) (calls_take_none _ _ _ _ c.serve-reply.ensures.serves) (keeps_base g.B.SessionName.id _ _ i.number c.if-releases.ensures) (number_in _ _ (call_of c.args.call) c.serve-reply.new.store.state (reply_of c.serve-reply.result) (no_number _ c.serve-reply.result _)) tt
 
 pub invariant_of-self-2 : goal.invariant_of-self-2
 invariant_of-self-2 g c =
