@@ -92,14 +92,17 @@ module _ (input left after : Option (List ℕ)) (number : ℕ) (before now new :
       → TakesLine left found kept after → AnswersLine now kept answered new → Untold (reason_of fault) output_now output_new
       → (s : AreServed input (Err fault) before new output output_new) × (1 ≤ length s.lines)
   serving-untold false output_new fault none s takes answers untold = absurd (true≢false (sym none))
-  serving-untold true output_new fault found s (line, cut, come) answers untold = (record {
-    lines = s.lines ++ line ∷ [];
-    answers = s.answers ++ answered ∷ [];
-    serves = answers-more s.lines s.answers before now new line answered s.serves (answers_kept now new line kept answered cut answers);
-    come = left-first input after (s.lines ++ line ∷ []) (left-more input left after s.lines line s.come come);
-    told = by (reason_of fault) untold;
-    may = why (reason_of fault) untold;
-  }, one)
+  serving-untold true output_new fault found s (line, cut, come) answers untold = (
+    record {
+      lines = s.lines ++ line ∷ [];
+      answers = s.answers ++ answered ∷ [];
+      serves = answers-more s.lines s.answers before now new line answered s.serves (answers_kept now new line kept answered cut answers);
+      come = left-first input after (s.lines ++ line ∷ []) (left-more input left after s.lines line s.come come);
+      told = by (reason_of fault) untold;
+      may = why (reason_of fault) untold;
+    },
+    one,
+  )
     where
       one : 1 ≤ length (s.lines ++ line ∷ [])
       one =
