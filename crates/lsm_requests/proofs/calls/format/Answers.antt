@@ -1,8 +1,8 @@
 use Rattle.std.proofs.Common.{rules}
 use Rattle.lsm_requests.proofs.calls.format.Goals as goal
 
-pub returns-in-Ok-clause-gives : goal.returns-in-Ok-clause-gives
-returns-in-Ok-clause-gives g c = record {
+pub returns-in_ok-put_in_place-in-Ok-clause-gives : goal.returns-in_ok-put_in_place-in-Ok-clause-gives
+returns-in_ok-put_in_place-in-Ok-clause-gives g c = record {
   file = c.in-Ok.device;
   size = search rules;
   made = search rules;
