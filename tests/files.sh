@@ -191,14 +191,14 @@ count() {
 
 # Nothing is written behind the last sync, and nothing told before it.
 told_after_a_sync() {
-    [[ $calls =~ ^[wds]*dp+$ ]] || fail "$1: its calls are $(printf %s "$calls" | tr -s w)"
+    [[ $calls =~ ^[wds]*[ds]p+$ ]] || fail "$1: its calls are $(printf %s "$calls" | tr -s w)"
 }
 
 if traces 'syncs of a file, which nothing else sees'; then
     calls_of format traced 8192 128
     told_after_a_sync format
-    # The zeros of the new file, 64 KiB by a call, are synced whole, and then the folder with its name, before the store is written.
-    [[ $calls =~ ^w{64}ss ]] || fail "format: no sync of the new file and its folder behind its zeros"
+    # The zeros of the new file, 64 KiB by a call, are synced whole before the store is written, and the folder once the file has its name.
+    [[ $calls =~ ^w{64}s[wd]+dsp+$ ]] || fail "format: no sync of the new file behind its zeros, or of its folder behind its name"
     [ "$(count s)" -eq 2 ] || fail "format: $(count s) syncs of a whole file and its folder"
     formatting=$(count d)
     calls_of put traced 61 31

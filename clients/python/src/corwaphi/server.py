@@ -277,7 +277,10 @@ class Server:
         for client, slot in self._turns():
             self._add(chunk, client.asked(slot), client, slot)
         if chunk:
-            self.link.write(b"".join(chunk))
+            try:
+                self.link.write(b"".join(chunk))
+            except BrokenPipeError:
+                raise Error(self.link.end() or "lsmctl has ended") from None
 
     def _turns(self) -> Iterator[Tuple[Client, Slot]]:
         """The clients whose turn it is, with their next lines, as long as there is room for them."""
