@@ -2,9 +2,9 @@
 
 use crate::OpenError;
 use std::fs::{File, Files, Metadata, OpenOptions, TryLockError};
-use std::io::{Seek, SeekFrom};
+use std::io::{ErrorKind, Seek, SeekFrom};
 use std::os::fd::AsRawFd;
-use std::os::unix::fs::FileTypeExt;
+use std::os::unix::fs::{FileTypeExt, MetadataExt};
 use std::path::Path;
 use std::{fs, io};
 
@@ -25,9 +25,34 @@ pub(crate) fn open_locked<R: Files<File = File>>(
     if let Ok(metadata) = fs::metadata(files, path) {
         check_kind(&metadata)?;
     }
-    let file = above_streams(how.open(files, path).map_err(OpenError::Failed)?)?;
+    let file = how.open(files, path).map_err(OpenError::Failed)?;
+    locked(files, path, file, is_shared)
+}
+
+/// Makes a file that is not there yet, and takes its lock. Where the lock can't be had for another cause than that another one has
+/// it, the file is removed.
+pub(crate) fn make_locked<R: Files<File = File>>(files: &R, path: &str) -> Result<File, OpenError> {
+    let mut how = OpenOptions::new();
+    how.read(true).write(true).create_new(true);
+    let file = how.open(files, path).map_err(OpenError::Failed)?;
+    let made = locked(files, path, file, false);
+    if let Err(OpenError::Failed(_)) = &made {
+        let _ = fs::remove_file(files, path);
+    }
+    made
+}
+
+/// An open file, once its kind is known and its lock is taken.
+fn locked<R: Files<File = File>>(
+    files: &R,
+    path: &str,
+    file: File,
+    is_shared: bool,
+) -> Result<File, OpenError> {
+    let file = above_streams(file)?;
     check_kind(&file.metadata().map_err(OpenError::Failed)?)?;
     lock(&file, is_shared)?;
+    check_name(files, path, &file)?;
     Ok(file)
 }
 
@@ -62,6 +87,18 @@ fn lock(file: &File, is_shared: bool) -> Result<(), OpenError> {
         Ok(()) => Ok(()),
         Err(TryLockError::WouldBlock) => Err(OpenError::InUse),
         Err(TryLockError::Error(error)) => Err(OpenError::Failed(error)),
+    }
+}
+
+/// Before the lock was there another process, which had it, may have put a new file in the place of this one, or removed it. Nobody
+/// would find again what is written to such a file.
+fn check_name<R: Files<File = File>>(files: &R, path: &str, file: &File) -> Result<(), OpenError> {
+    let opened = file.metadata().map_err(OpenError::Failed)?;
+    match fs::metadata(files, path) {
+        Ok(named) if named.dev() == opened.dev() && named.ino() == opened.ino() => Ok(()),
+        Ok(_) => Err(OpenError::InUse),
+        Err(error) if error.kind() == ErrorKind::NotFound => Err(OpenError::InUse),
+        Err(error) => Err(OpenError::Failed(error)),
     }
 }
 

@@ -3,7 +3,7 @@
 ghost use Rattle.std.specs.Prelude.{◌≡◌, IfOk, false};
 ghost use Rattle.lsm_device.specs.Calls.{no_calls};
 
-use crate::opening::{open_locked, sync_folder};
+use crate::opening::{make_locked, open_locked, sync_folder};
 use crate::{Device, FileDevice, OpenError};
 use std::fs::{File, Files, OpenOptions};
 use std::io::ErrorKind;
@@ -13,10 +13,19 @@ use std::{fs, io};
 /// What the name of a new file ends with until it takes its place.
 const SUFFIX: &str = ".corwaphi-new";
 
-/// The place that a new file is to take, and what stands there until then. It holds the lock of the old file, if there is one.
+/// What has the place until the new file is whole, with its lock: the old file, or an empty one where there was none, so that
+/// nobody else makes a file there meanwhile.
+#[derive(Drop)]
+struct Holder {
+    file: File,
+    is_new: bool,
+}
+
+/// The place that a new file is to take, and what has it until then.
 #[derive(Drop)]
 pub struct Replacement {
-    _old: Option<File>,
+    // None for a block device.
+    holder: Option<Holder>,
     place: String,
     // The name of the new file; none for a block device, which is made where it is.
     beside: Option<String>,
@@ -24,12 +33,13 @@ pub struct Replacement {
 
 impl FileDevice {
     /// Makes a file of zero sectors beside the one whose place it will take, in the same folder, and syncs it. The old file, if there is
-    /// one, stays as it is, and nobody else gets it meanwhile. [`Replacement::finish`] puts the new file in its place, and
-    /// [`Replacement::give_up`] removes it. Where it can't be made nothing is left of it. A block device has no file beside it: it
-    /// is made at once, where it is.
+    /// one, stays as it is, and nobody else gets it meanwhile; where there is none, an empty one keeps the place. [`Replacement::finish`]
+    /// puts the new file in its place, and [`Replacement::give_up`] removes it. Where it can't be made nothing is left of it. A block
+    /// device has no file beside it: it is made at once, where it is.
     ///
     /// A symbolic link is followed. The new file has the permissions of the old one; it has the owner of a new file, and other hard
-    /// links to the old file keep what they had. What a killed process left of such a new file is removed by the next one.
+    /// links to the old file keep what they had. What a killed process left of such a new file is removed by the next one; the empty
+    /// file that kept its place stays, and another new file takes its place.
     pub fn create_beside<R: Files<File = File> + AllocGlobal>(
         rt: &R,
         path: &str,
@@ -40,27 +50,68 @@ impl FileDevice {
         ensures tells_nothing { IfOk result (λ made. (⟦<FileDevice as Device>⟧.medium made.0).lasting.tells ≡ false) }
     {
         let place = place_of(rt, path)?;
-        let old = old_file(rt, &place)?;
-        if is_block_device(&old) {
+        let beside = name_beside(rt, &place)?;
+        let holder = Holder::take(rt, &place)?;
+        if holder.is_block_device() {
             // Its lock would keep this very device out.
-            drop(old);
+            drop(holder);
             return create_there(rt, place, sectors);
         }
-        let beside = name_beside(rt, &place)?;
-        let file = new_file(rt, &beside)?;
-        match filled(file, &old, sectors) {
+        match created(rt, &beside, &holder, sectors) {
             Ok(device) => Ok((
                 device,
                 Replacement {
-                    _old: old,
+                    holder: Some(holder),
                     place,
                     beside: Some(beside),
                 },
             )),
             Err(error) => {
-                let _ = fs::remove_file(rt, beside.as_str());
+                holder.give_up(rt, &place);
                 Err(error)
             }
+        }
+    }
+}
+
+impl Holder {
+    fn take<R: Files<File = File>>(files: &R, place: &str) -> Result<Holder, OpenError> {
+        let mut how = OpenOptions::new();
+        how.read(true).write(true);
+        match open_locked(files, place, &how, false) {
+            Ok(file) => Ok(Holder {
+                file,
+                is_new: false,
+            }),
+            Err(OpenError::Failed(error)) if error.kind() == ErrorKind::NotFound => {
+                Holder::make(files, place)
+            }
+            Err(error) => Err(error),
+        }
+    }
+
+    fn make<R: Files<File = File>>(files: &R, place: &str) -> Result<Holder, OpenError> {
+        match make_locked(files, place) {
+            Ok(file) => Ok(Holder { file, is_new: true }),
+            // Another one has come first.
+            Err(OpenError::Failed(error)) if error.kind() == ErrorKind::AlreadyExists => {
+                Err(OpenError::InUse)
+            }
+            Err(error) => Err(error),
+        }
+    }
+
+    fn is_block_device(&self) -> bool {
+        match self.file.metadata() {
+            Ok(metadata) => metadata.file_type().is_block_device(),
+            Err(_) => false,
+        }
+    }
+
+    // Leaves the place as it was. Its lock is held until then, so that nobody else's file is removed.
+    fn give_up<R: Files<File = File>>(self, files: &R, place: &str) {
+        if self.is_new {
+            let _ = fs::remove_file(files, place);
         }
     }
 }
@@ -75,7 +126,7 @@ impl Replacement {
         };
         let renamed = fs::rename(files, beside.as_str(), self.place.as_str());
         if renamed.is_err() {
-            let _ = fs::remove_file(files, beside.as_str());
+            self.give_up(files);
             return renamed;
         }
         sync_folder(files, &self.place)
@@ -83,8 +134,16 @@ impl Replacement {
 
     /// Removes the new file. The old one stays as it was.
     pub fn give_up<R: Files<File = File>>(self, files: &R) {
-        if let Some(beside) = &self.beside {
+        let Replacement {
+            holder,
+            place,
+            beside,
+        } = self;
+        if let Some(beside) = beside {
             let _ = fs::remove_file(files, beside.as_str());
+        }
+        if let Some(holder) = holder {
+            holder.give_up(files, &place);
         }
     }
 }
@@ -112,27 +171,6 @@ fn name_beside<R: AllocGlobal>(rt: &R, place: &str) -> Result<String, OpenError>
     }
 }
 
-// The file that has the place, with its lock; none if there is none.
-fn old_file<R: Files<File = File>>(files: &R, place: &str) -> Result<Option<File>, OpenError> {
-    let mut how = OpenOptions::new();
-    how.read(true).write(true);
-    match open_locked(files, place, &how, false) {
-        Ok(file) => Ok(Some(file)),
-        Err(OpenError::Failed(error)) if error.kind() == ErrorKind::NotFound => Ok(None),
-        Err(error) => Err(error),
-    }
-}
-
-fn is_block_device(old: &Option<File>) -> bool {
-    let Some(file) = old else {
-        return false;
-    };
-    match file.metadata() {
-        Ok(metadata) => metadata.file_type().is_block_device(),
-        Err(_) => false,
-    }
-}
-
 fn create_there<R: Files<File = File>>(
     files: &R,
     place: String,
@@ -145,21 +183,37 @@ fn create_there<R: Files<File = File>>(
     Ok((
         device,
         Replacement {
-            _old: None,
+            holder: None,
             place,
             beside: None,
         },
     ))
 }
 
+// The new file, with sectors of zeros.
+fn created<R: Files<File = File>>(
+    files: &R,
+    beside: &str,
+    holder: &Holder,
+    sectors: u32,
+) -> Result<FileDevice, OpenError>
+    ensures size { IfOk result (λ d. (⟦<FileDevice as Device>⟧.medium d).size ≡ sectors) }
+    ensures no_calls { IfOk result (λ d. (⟦<FileDevice as Device>⟧.medium d).calls ≡ no_calls) }
+{
+    let file = new_file(files, beside)?;
+    let made = filled(file, holder, sectors);
+    if made.is_err() {
+        let _ = fs::remove_file(files, beside);
+    }
+    made
+}
+
 // Makes a file that was not there, and takes its lock. One that is there is what a killed process left, unless another one has its lock.
 fn new_file<R: Files<File = File>>(files: &R, beside: &str) -> Result<File, OpenError> {
-    let mut how = OpenOptions::new();
-    how.read(true).write(true).create_new(true);
-    match open_locked(files, beside, &how, false) {
+    match make_locked(files, beside) {
         Err(OpenError::Failed(error)) if error.kind() == ErrorKind::AlreadyExists => {
             remove_left(files, beside)?;
-            open_locked(files, beside, &how, false)
+            make_locked(files, beside)
         }
         made => made,
     }
@@ -174,14 +228,12 @@ fn remove_left<R: Files<File = File>>(files: &R, beside: &str) -> Result<(), Ope
 }
 
 // The device of a new file, which has the permissions of the old one.
-fn filled(file: File, old: &Option<File>, sectors: u32) -> Result<FileDevice, OpenError>
+fn filled(file: File, holder: &Holder, sectors: u32) -> Result<FileDevice, OpenError>
     ensures size { IfOk result (λ d. (⟦<FileDevice as Device>⟧.medium d).size ≡ sectors) }
     ensures no_calls { IfOk result (λ d. (⟦<FileDevice as Device>⟧.medium d).calls ≡ no_calls) }
 {
-    if let Some(old) = old {
-        let metadata = old.metadata().map_err(OpenError::Failed)?;
-        file.set_permissions(metadata.permissions())
-            .map_err(OpenError::Failed)?;
-    }
+    let metadata = holder.file.metadata().map_err(OpenError::Failed)?;
+    file.set_permissions(metadata.permissions())
+        .map_err(OpenError::Failed)?;
     FileDevice::zeroed(file, sectors)
 }
