@@ -11,6 +11,7 @@ ghost use Rattle.lsm_open.specs.Switching.{IsRotated};
 ghost use Rattle.lsm_open.specs.ToldTables.{records_of};
 ghost use Rattle.lsm_store.specs.Calls.{Rotate, Done, reply_of};
 ghost use Rattle.lsm_store.specs.Memory.{AreConsistent, IsInside, LieWithin, numbered_layout, state_of, view_of};
+ghost use Rattle.lsm_store.specs.RecoveryPoints.{batch_count};
 ghost use Rattle.lsm_store.specs.Refusals.{refusal};
 ghost use Rattle.lsm_store.specs.Serving.{Serves};
 
@@ -92,6 +93,7 @@ pub(crate) fn rotate<D: Device, A: Allocator + Clone>(
     requires inside { IsInside (D.medium device.old).size memory.old }
     ensures serves { (cache : Cached) → Serves (view_of (D.medium device.old) memory.old cache) Rotate (reply_of (λ _. Done) result) (view_of (D.medium device.new) memory.new cache) }
     ensures numbered { OnOk result (memory.new.regions.next_table ≡ memory.old.next_table) }
+    ensures opens { OnOk result (IsRotated (numbered_layout memory.old) (batch_count (state_of memory.old).points) (layout_of memory.new.regions)) }
 
     // Unless a call of the device failed, nothing has changed: all memory is taken before.
     ensures untouched { IfErr result (λ e. IsTrue (is_no_fault e) → (memory.new ≡ memory.old) × (device.new ≡ device.old)) }

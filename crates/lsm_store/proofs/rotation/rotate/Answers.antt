@@ -3,11 +3,12 @@ use Rattle.std.specs.Prelude.{Result}
 use Rattle.lsm_device.specs.declared.refusal.Refusal.{Refusal}
 use Rattle.lsm_device.specs.declared.refusal.Refusal.TheVariants.{NoMemory, Io}
 use Rattle.lsm_open.specs.Layout.{layout_of}
+use Rattle.lsm_open.specs.Switching.{IsRotated}
 use Rattle.lsm_store.specs.declared.memory.Memory.{Memory}
 use Rattle.lsm_store.specs.declared.memory.Status.TheVariants.{Stopped}
 use Rattle.lsm_store.specs.Calls.{Rotate, Done, Refused, reply_of}
 use Rattle.lsm_store.specs.Effects.{after}
-use Rattle.lsm_store.specs.Memory.{AreConsistent, IsInside, LieWithin, view_of}
+use Rattle.lsm_store.specs.Memory.{AreConsistent, IsInside, LieWithin, numbered_layout, view_of}
 use Rattle.lsm_store.specs.Refusals.{refusal}
 use Rattle.lsm_store.specs.Run.{stopped_in}
 use Rattle.lsm_store.specs.Serving.{Serves}
@@ -73,6 +74,14 @@ returns-in-Ok-clause-serves g c = λ cache.
     let installed = installed_next m c.requires.kept none medium.size c.requires.inside regions is c.sectors.result root c.in_ok-root.ensures.root medium new cache e.installed in
     subst (λ (x : Memory g.row.A.Denot). Serves (view_of medium m cache) Rotate Done (view_of new x cache)) (sym (c.rotate_to.ensures ∙ ap (λ (x : Memory g.row.A.Denot). record x { regions = regions; synced = x.count; told = record { state = after x.told.state Rotate } }) c.in_ok-seal.ensures.begun))
     (rotation_serves m c.requires.kept none medium.size c.requires.inside regions is sealed medium new cache c.in_ok-seal.ensures.sealed (λ tells. (g.met.D.Device.sound c.args.device.now tells).now.size) wrote installed e.faults)
+
+pub returns-in-Ok-clause-opens : goal.returns-in-Ok-clause-opens
+returns-in-Ok-clause-opens g c =
+    let m = c.args.memory.now in
+    let regions = c.in_ok-regions.regions in
+    subst (λ (n : ℕ). IsRotated (numbered_layout m) n (layout_of c.rotate_to.new.self.regions)) (sym c.requires.kept.agrees.counted)
+    (subst (λ (x : Memory g.row.A.Denot). IsRotated (numbered_layout m) m.count (layout_of x.regions)) (sym (c.rotate_to.ensures ∙ ap (λ (x : Memory g.row.A.Denot). record x { regions = regions; synced = x.count; told = record { state = after x.told.state Rotate } }) c.in_ok-seal.ensures.begun))
+    c.in_ok-regions.ensures.regions)
 
 pub returns-in-Ok-clause-kept : goal.returns-in-Ok-clause-kept
 returns-in-Ok-clause-kept g c =
