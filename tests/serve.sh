@@ -4,37 +4,27 @@
 #     tests/serve.sh PROGRAM [LINES]
 #
 # PROGRAM is a built `lsmctl`. LINES random lines (20,000), with tags and without, are compared with a dict and its snapshots; a kill
-# falls in the middle, and a second start has to find all that was synced. Where the machine lacks python3 that part is
-# skipped, and a line says so.
-set -u
-
+# falls in the middle, and a second start has to find all that was synced. That part needs python3.
+source "$(dirname "$(realpath "$0")")/common.sh"
 program=$(realpath "${1:?the path of a built lsmctl}")
 lines=${2:-20000}
-tests=$(dirname "$(realpath "$0")")
-folder=$(mktemp -d)
-trap 'rm -rf "$folder"' EXIT
-cd "$folder" || exit 1
-
-fail() {
-    echo "serve.sh: $*" >&2
-    exit 1
-}
+cd "$folder"
 
 # Makes a new store, and serves it the lines of the file `lines`. Leaves `status`, and what it printed in out and err.
 serve() {
     rm -f F
     "$program" format F 8192 128 >out || fail "format: $(cat out)"
-    "$program" serve F <lines >out 2>err
-    status=$?
+    status=0
+    "$program" serve F <lines >out 2>err || status=$?
 }
 
 # It has to end with 0, to print just the file `wanted`, and to leave a sound image of so many batches.
 expect() {
     [ "$status" = 0 ] || fail "$1: it ends with $status: $(cat err)"
     cmp -s out wanted || fail "$1: $(diff wanted out | head -n 5 | cut -c 1-200)"
-    [ -s err ] && fail "$1: on standard error: $(cat err)"
+    [ ! -s err ] || fail "$1: on standard error: $(cat err)"
     local said
-    said=$("$program" check F)
+    said=$("$program" check F) || fail "$1: check prints $said"
     [[ $said == 'ok generation '*" batches $2 "* ]] || fail "$1: check prints $said"
 }
 
@@ -166,26 +156,28 @@ grep -q '^batch ' out || fail "an emptied store: $(cat out)"
 
 # A standard output that is closed ends it with 1, and so does one whose reader has gone.
 echo 'get 61' >lines
-"$program" serve F <lines >&- 2>err
-[ $? = 1 ] || fail 'a closed standard output does not end it with 1'
+status=0
+"$program" serve F <lines >&- 2>err || status=$?
+[ "$status" = 1 ] || fail 'a closed standard output does not end it with 1'
 if [ -e /dev/full ]; then
-    "$program" serve F <lines >/dev/full 2>err
-    [ $? = 1 ] || fail 'a full standard output does not end it with 1'
+    status=0
+    "$program" serve F <lines >/dev/full 2>err || status=$?
+    [ "$status" = 1 ] || fail 'a full standard output does not end it with 1'
 fi
-yes 'get 61' | "$program" serve F 2>err | head -n 1 >out
-[ "${PIPESTATUS[1]}" = 1 ] || fail 'it goes on after its reader has gone'
+statuses=(0 0 0)
+yes 'get 61' | "$program" serve F 2>err | head -n 1 >out || statuses=("${PIPESTATUS[@]}")
+[ "${statuses[1]}" = 1 ] || fail 'it goes on after its reader has gone'
 
-# A file that is no store, and one that another process holds.
+# A file that is no store.
 printf 'no store' >none
-"$program" serve none <lines >out 2>err
-[ $? = 1 ] && [ ! -s out ] || fail 'a file that is no store is served'
+status=0
+"$program" serve none <lines >out 2>err || status=$?
+[ "$status" = 1 ] && [ ! -s out ] || fail 'a file that is no store is served'
 
-if command -v python3 >/dev/null; then
+if has python3 'random lines'; then
     rm -f F
     "$program" format F 8192 128 >out || fail "format: $(cat out)"
     python3 "$tests/serve.py" compare "$program" F "$lines" || fail 'random lines'
     "$program" check F >out || fail "after a kill: $(cat out)"
-else
-    echo "serve.sh: skipped: random lines, since python3 is not installed"
 fi
 echo "serve.sh: all is as it should be"

@@ -21,6 +21,10 @@ class Version(unittest.TestCase):
         if (TOP / "clients/python/pyproject.toml").is_file():
             self.assertTrue(found, "the package names no version")
 
+    def test_documents(self) -> None:
+        self.assertIn(f"Version {self.version}", (TOP / "README.md").read_text())
+        self.assertIn(f"\n## {self.version}\n", (TOP / "CHANGELOG.md").read_text())
+
 
 if __name__ == "__main__":
     unittest.main()
