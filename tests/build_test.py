@@ -2,8 +2,13 @@
 
 import importlib.machinery
 import importlib.util
+import os
+import shutil
+import signal
+import subprocess
 import sys
 import tempfile
+import time
 import unittest
 import unittest.mock
 from pathlib import Path
@@ -57,6 +62,20 @@ Path("out/rlib/stamp").write_text(crate.name)
 if sys.argv[1] == "run":
     Path("out/lsmctl").write_text("the program")
 """
+# It starts a process that lasts, whose number it tells.
+SLEEPING = """#!/bin/sh
+sleep 1000 &
+echo $! >>"$CALLS"
+wait
+"""
+
+
+def is_running(process: int) -> bool:
+    """Whether there is such a process, but for one that has ended and that nobody has waited for."""
+    try:
+        return Path(f"/proc/{process}/stat").read_text().rpartition(") ")[2][0] != "Z"
+    except OSError:
+        return False
 
 
 class Builds(unittest.TestCase):
@@ -133,6 +152,25 @@ class Builds(unittest.TestCase):
         self.assertIn("no proof", self.said[-1])
         self.assertIn("left was not built", self.said[-1])
         self.assertFalse((self.root / "crates/top/out").exists())
+
+    def test_a_build_that_is_ended(self) -> None:
+        self.rt.write_text(SLEEPING)
+        shutil.copy(TOP / "build", self.root / "build")
+        room = self.rt.parent
+        given = {**os.environ, "CALLS": str(self.calls), "PATH": f"{room}:{os.environ['PATH']}", "TMPDIR": str(room)}
+        with subprocess.Popen([sys.executable, self.root / "build"], env=given, stdin=subprocess.DEVNULL, stderr=subprocess.DEVNULL) as running:
+            while not self.calls.exists() or not self.calls.read_text().endswith("\n"):
+                self.assertIsNone(running.poll())
+                time.sleep(0.01)
+            running.send_signal(signal.SIGTERM)
+            self.assertEqual(running.wait(), 143)
+        (started,) = map(int, self.calls.read_text().split())
+        for _ in range(1000):
+            if not is_running(started):
+                break
+            time.sleep(0.01)
+        self.assertFalse(is_running(started))
+        self.assertEqual(list(room.glob("corwaphi-*")), [])
 
 
 if __name__ == "__main__":
