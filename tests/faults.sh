@@ -6,12 +6,11 @@
 #
 # PROGRAM is a built `lsmctl`. Of each kind of call of a run the FIRST ones fail (10), each in a run of its own, and as many of the
 # others. `strace` makes them fail: a call that fails so isn't made. A `format` that is refused has to leave the folder as it was, unless it
-# is the last sync of the folder that failed: then the new file may have its name already. With strict=1 in the environment a refusal has
-# to name the system's error in a second line.
+# is the last sync of the folder that failed: then the new file may have its name already. A refusal has to name the system's error in a
+# second line, and in no other.
 source "$(dirname "$(realpath "$0")")/common.sh"
 program=$(realpath "${1:?the path of a built lsmctl}")
 first=${2:-10}
-strict=${strict:-0}
 cd "$folder"
 traces 'faults of a real file' || exit 0
 
@@ -63,16 +62,17 @@ fails() {
     faults=$((faults + 1))
 }
 
-# The run was refused with a fault, and the second line names the error.
+# The run was refused with a fault, and the second line names the error. How far a load is stands before.
 is_refused() {
     local error=${1:-}
     [ "$status" -eq 1 ] || fail "it ends with $status, and prints $(head -c 300 out err)"
-    case $(head -n 1 err) in
+    grep -v ' rows loaded$' err >told || fail "it tells nothing"
+    case $(head -n 1 told) in
     'refused 02 Io' | 'refused 03 Stopped') ;;
-    *) fail "it is told as $(head -c 300 err)" ;;
+    *) fail "it is told as $(head -c 300 told)" ;;
     esac
-    if [ "$strict" = 1 ] && [ -n "$error" ]; then
-        grep -qi "^error: .*${cause[$error]}" err || fail "the system's error is not named: $(cat err)"
+    if [ "$(wc -l <told)" -ne 2 ] || ! sed -n 2p told | grep -q "^error: .*${error:+${cause[$error]}}"; then
+        fail "the system's error is not named: $(cat told)"
     fi
 }
 
@@ -93,7 +93,7 @@ all_faults() {
         for place in $(sample "${calls[$kind]}"); do
             # Each error in turn; all of them at the first call.
             errors=(EIO ENOSPC EROFS EDQUOT)
-            case $kind in pread64 | f*sync | rename* | linkat) errors=(EIO) ;; esac
+            case $kind in flock | lseek | pread64 | f*sync | rename* | linkat) errors=(EIO) ;; esac
             [ "$place" -eq 1 ] || errors=("${errors[place % ${#errors[@]}]}")
             for error in "${errors[@]}"; do
                 fails "$kind" "error=$error" "$place" "$@"
@@ -155,7 +155,7 @@ for over in yes no; do all_faults of_format format room/F 8192 128; done
 
 # ---- runs on a store
 
-kinds=(pread64 "${kinds[@]}")
+kinds=(openat flock lseek pread64 "${kinds[@]}") # Those of an opening too.
 paths=(-P "$folder/store")
 begin() {
     cp base store
@@ -217,8 +217,8 @@ for ((number = 1; number <= 60; number++)); do
 done >input
 of_serve() {
     local synced_to last values
-    # It ends with 0 once it has answered, and the answers tell of the fault.
-    if [ "$1" != again ] && [ "$1" != pread64 ] && ! grep -q '^refused 0[23] ' out; then is_refused "$2"; fi
+    # A store that a failed write or sync has stopped is told at the end too. After a read that failed it goes on.
+    is_refused_or_read "$@"
     [ "$status" -eq 0 ] || is_refused "$2"
     synced_to=$(awk '/^batch/ { batch++ } /^ok/ { synced = batch } END { print synced + 0 }' out)
     opens

@@ -23,6 +23,12 @@ run_below() {
     ) || status=$?
 }
 
+# Behind the refusal stands what the system said, in one line: a write that begins at the limit or behind it is refused, and one across it
+# falls short.
+is_told() {
+    [ "$said" = "$1"$'\nerror: File too large (os error 27)' ] || [ "$said" = "$1"$'\nerror: a write to the file fell short' ]
+}
+
 # What a `put` under a limit left: all of it where it was acknowledged, else everything or nothing.
 look() {
     local limit=$1 got
@@ -54,7 +60,7 @@ puts_below_limits() {
                 done=$((done + 1))
                 ;;
             1)
-                [ "$said" = "refused 02 Io" ] || fail "limit $limit: put prints '$said'"
+                is_told 'refused 02 Io' || fail "limit $limit: put prints '$said'"
                 refused=$((refused + 1))
                 ;;
             *) fail "limit $limit: put ended with $status: $said" ;;
@@ -77,7 +83,7 @@ formats_below_limits() {
     for limit in 0 511 512 66816 $((size / 2)) $((size - 512)) $((size - 1)); do
         rm -f made
         run_below "$limit" ignored format made 8192 128
-        [ "$status" -eq 1 ] && [ "$said" = "refused 02 Io" ] || fail "format below $limit bytes ended with $status: $said"
+        [ "$status" -eq 1 ] && is_told 'refused 02 Io' || fail "format below $limit bytes ended with $status: $said"
     done
     run_below "$size" ignored format made 8192 128
     [ "$status" -eq 0 ] && [ "$(stat -c %s made)" -eq "$size" ] || fail "format below $size bytes ended with $status: $said"
@@ -90,7 +96,7 @@ put_that_cannot_settle() {
     cp fresh store
     "$program" put store 61 31 >out 2>err || fail "put: $(cat err)"
     run_below $((514 * 512)) ignored put store 62 32
-    [ "$status" -eq 1 ] && [ "$said" = "refused 03 Stopped" ] || fail "a put that can't settle ended with $status: $said"
+    [ "$status" -eq 1 ] && is_told 'refused 03 Stopped' || fail "a put that can't settle ended with $status: $said"
     [ "$("$program" get store 61)" = "value 31" ] || fail "get 61 after a put that couldn't settle"
     [ "$("$program" get store 62)" = absent ] || fail "get 62 after a put that couldn't settle"
     "$program" put store 62 32 >out 2>err || fail "put: $(cat err)"
@@ -250,3 +256,49 @@ if has flock 'a file that another program has'; then
     [ "$said" = absent ] || fail "get of a file that is free again prints '$said'"
     echo "files.sh: a file that another program has is left alone"
 fi
+
+# ---- a load that a signal ends
+
+# Rows come with pauses, and the signal behind the second line that tells how many are loaded. What was told last is there then, and what is
+# there is a beginning of the rows.
+load_ended_by() {
+    local signal=$1 status=0 turn feeder loader lines rows_told rows_there
+    rm -f feed
+    mkfifo feed
+    "$program" format loaded 16384 2042 >out 2>err || fail "format loaded: $(cat err)"
+    (
+        for part in 1 151 301 451; do
+            sed -n "$part,$((part + 149))p" rows
+            sleep 1.2
+        done
+        exec sleep 600
+    ) >feed &
+    feeder=$!
+    # A program that is started behind the script's back ignores SIGINT, unless jobs are controlled.
+    set -m
+    "$program" load loaded <feed >out 2>err &
+    loader=$!
+    set +m
+    lines=0
+    for ((turn = 0; turn < 300 && lines < 2; turn++)); do
+        sleep 0.1
+        lines=$(grep -c '^[0-9]* rows loaded$' err || true)
+    done
+    kill -s "$signal" "$loader" 2>/dev/null || true
+    wait "$loader" || status=$?
+    kill "$feeder" 2>/dev/null || true
+    wait "$feeder" 2>/dev/null || true
+    [ "$lines" -ge 2 ] || fail "a load tells how many rows are loaded in $lines lines: $(cat err)"
+    [ "$status" -eq $((128 + $(kill -l "$signal"))) ] && [ ! -s out ] || fail "a load that SIG$signal ends ended with $status: $(cat out err)"
+    rows_told=$(tail -n 1 err | sed 's/ .*//')
+    "$program" check loaded >out 2>err || fail "check after SIG$signal: $(cat out err)"
+    "$program" dump loaded >there 2>err || fail "dump after SIG$signal: $(cat err)"
+    rows_there=$(wc -l <there)
+    [ "$rows_told" -gt 0 ] && [ "$rows_there" -ge "$rows_told" ] || fail "$rows_told rows were told before SIG$signal, and $rows_there are there"
+    head -n "$rows_there" rows | cmp -s - there || fail "the $rows_there rows behind SIG$signal are no beginning"
+    echo "files.sh: of a load that SIG$signal ends $rows_told rows were told, and the first $rows_there are there"
+}
+
+awk 'BEGIN { for (row = 1; row <= 600; row++) printf "%08x %01000d\n", row, row }' >rows
+load_ended_by INT
+load_ended_by TERM

@@ -90,7 +90,7 @@ fill_and_empty() {
     local status=0 rows key
     for ((key = 0; key < 4000; key++)); do printf '%04x %04000x\n' "$key" "$key"; done >rows
     said=$("$program" load full <rows 2>err) || status=$?
-    [ "$status" -eq 1 ] && [ "$(cat err)" = "refused 13 NoSpace" ] || fail "load of more than there is room for ends with $status: $said $(cat err)"
+    [ "$status" -eq 1 ] && [ "$(grep -v ' rows loaded$' err)" = "refused 13 NoSpace" ] || fail "load of more than there is room for ends with $status: $said $(cat err)"
     rows=${said#loaded }
     status=0
     "$program" put full ffff 31 >out 2>err || status=$?
@@ -112,7 +112,7 @@ awk 'BEGIN { for (n = 0; n < 3000000; n++) printf "%08x empty\n", n }' >rows
 ask format many 1048576 2042
 status=0
 said=$("$program" load many <rows 2>err) || status=$?
-[ "$status" -eq 1 ] && [ "$(cat err)" = "refused 13 NoSpace" ] || fail "load of more rows than there are tables for ends with $status: $said $(cat err)"
+[ "$status" -eq 1 ] && [ "$(grep -v ' rows loaded$' err)" = "refused 13 NoSpace" ] || fail "load of more rows than there are tables for ends with $status: $said $(cat err)"
 rows=${said#loaded }
 ask stat many
 tables=${said#* tables }

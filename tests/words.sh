@@ -42,9 +42,7 @@ for word in 'get FILE 61' 'put FILE 61 31' 'check FILE' 'serve FILE' 'dump FILE'
 done
 # A sparse file of one sector more than have numbers, where the file system has such.
 if truncate -s $((512 << 32)) "$folder/large" 2>"$folder/truncated"; then
-    status=0
-    told=$("$program" get "$folder/large" 61 </dev/null 2>&1) || status=$?
-    [ "$status" = 1 ] && [ "$told" = 'refused 02 Io' ] || fail "a file of too many sectors ended with $status: $told"
+    opens_not "the file has more than 4294967295 sectors" 'get FILE 61' "$folder/large"
     rm "$folder/large"
 fi
 opens_not "the folder of the file is missing" 'format FILE 8192 128' "$folder/none/F"
@@ -92,6 +90,42 @@ done
 status=0
 "$program" get "$folder/F" 61 >&- 2>"$folder/told" || status=$?
 [ "$status" = 1 ] || fail "a closed standard output ended with $status"
+
+# ---- lines that are too long
+
+# A line of which there is more than can be right is a mistake at once, though it never ends: little of it is kept, and 80 bytes are told.
+# `first` comes before it.
+endless() {
+    local words=$1 first=$2 said=$3 answer=$4 status=0 told wanted
+    # The words are parted by spaces.
+    # shellcheck disable=SC2086
+    told=$(timeout 120 prlimit --data=$((100 << 20)) "$program" $words 2>&1 >"$folder/output" < <(printf "$first" && exec tr '\0' 6 </dev/zero)) || status=$?
+    wanted=$(printf 'error: line 2 of the %s: "%s"' "$said" "$(printf '%080d' 0 | tr 0 6)")
+    [ "$status" = 2 ] && [ "$told" = "$wanted" ] || fail "an endless line of $words ended with $status: $(head -c 300 <<<"$told")"
+    [ "$(cat "$folder/output")" = "$answer" ] || fail "an endless line of $words printed $(head -c 300 "$folder/output")"
+}
+cd "$folder"
+if has prlimit 'lines that never end'; then
+    endless 'load F' '6101 31\n' 'input is no row KEY VALUE' 'loaded 1'
+    endless 'replay F' 'room\n' "script can't be read" ''
+    endless 'lives 8192 128' 'room\n' "script can't be read" ''
+    endless 'explore 8192 128' 'room\n' "script can't be read" ''
+fi
+# The longest row, and the longest line of a script, are read; those with a byte more are not.
+{ printf '%0510d %04096d\n' 1 2 && printf '%0512d 32\n' 1; } >"$folder/rows"
+status=0
+"$program" load F <"$folder/rows" >"$folder/output" 2>"$folder/told" || status=$?
+[ "$status" = 2 ] && [ "$(cat "$folder/output")" = 'loaded 1' ] || fail "the longest row ended with $status: $(cat "$folder/output")"
+script_of() {
+    printf commit && awk 'BEGIN { for (put = 1; put <= 42855; put++) printf " +61=31" }' && printf ' +61=%s\n' "$1"
+}
+[ "$(script_of 3131 | wc -c)" = 300001 ] || fail "the longest line has $(script_of 3131 | wc -c) bytes"
+[ "$(script_of 3131 | "$program" replay F 2>&1)" = 'refused 18 BatchTooBig' ] || fail "the longest line of a script is not read"
+status=0
+line=$(script_of empty)
+told=$("$program" replay F <<<"$line" 2>&1) || status=$?
+[ "$status" = 2 ] && [ "$told" = "error: line 1 of the script can't be read: \"${line:0:80}\"" ] || fail "a line of a byte too many ended with $status: $(head -c 300 <<<"$told")"
+cd / # Paths are whole again.
 
 # An input that fails at its first read: a folder. One that gives a byte and then fails: a socket whose other end was closed
 # before it had read what was sent to it.

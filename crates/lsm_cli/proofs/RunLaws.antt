@@ -1,6 +1,6 @@
 -- What follows from how a run of the program ends.
 use Rattle.std.proofs.Common.{◌≡◌, ◌∙◌, ℕ, Bor, List, Option, Some, None, Result, Ok, Err, MatchResult, true, false, true≢false, refl, sym, ap, subst, inl, inr, arith, ◌⊎◌}
-use Rattle.std.specs.Prelude.{IsTrue}
+use Rattle.std.specs.Prelude.{IfErr, IfOk, IsTrue}
 use Rattle.std.specs.Io.KnownBytes.{Appends, Keeps}
 use Rattle.std.specs.declared.io.Error.{Error}
 use Rattle.clap.specs.Words.{HasKind, IsAmong, kind_of, Row, Text, fault_of, subcommand_of}
@@ -8,7 +8,7 @@ use Rattle.clap.specs.declared.error.Error.{Error as ClapError}
 use Rattle.clap.specs.declared.error.kind.ErrorKind.{ErrorKind}
 use Rattle.clap.specs.declared.error.kind.ErrorKind.TheVariants.{OutOfMemory}
 use Rattle.lsm_device.specs.declared.refusal.Refusal.{Refusal}
-use Rattle.lsm_device.specs.declared.refusal.Refusal.TheVariants.{NoMemory}
+use Rattle.lsm_device.specs.declared.refusal.Refusal.TheVariants.{NoMemory, Stopped}
 use Rattle.lsm_requests.specs.declared.answer.Answer.{Answer}
 use Rattle.lsm_language.specs.declared.asked.Asked.{Asked}
 use Rattle.lsm_language.specs.declared.asked.Asked.TheVariants as asked
@@ -25,7 +25,7 @@ use Rattle.lsm_requests.specs.Refusing.{FaultsWith}
 use Rattle.lsm_requests.specs.Loading.{loaded_line}
 use Rattle.lsm_requests.proofs.EndingLaws.{answer_status-at_most}
 use Rattle.lsm_requests.specs.Endings.{PrintsAnswer, PrintsFault, Written, status_after}
-use Rattle.lsm_cli.specs.Runs.{AskNothing, IsAsked, Fails, FindsMistake, HasServed, IsRead, IsRequested, IsRun, IsServed, IsToldAs, IsTried, IsUntried, IsWrong, LoadsToNoRow, has_dash}
+use Rattle.lsm_cli.specs.Runs.{AskNothing, IsAsked, Fails, FindsMistake, HasServed, IsRead, IsRequested, IsRun, IsServed, IsTried, IsUntried, IsWrong, LoadsToNoRow, has_dash}
 use Rattle.lsm_cli.proofs.ProgramLaws.{has_words-asked}
 
 -- ---- words that ask for nothing
@@ -102,6 +102,22 @@ module _ (asked : Asked) (text : List ℕ) (before after output output_after : O
   faults_of (request.Serve path) reason says faults = subst (λ (i : Option (List ℕ)). FaultsWith (request.Serve path) i reason output output_after) (same (untouched_lines asked text path says)) faults
   faults_of other reason says faults = faults
 
+-- what comes of a request
+pub answered_so : (words : List Text) (input left output output_after : Option (List ℕ)) (asked : Asked) (text : List ℕ) (request : Request) (result : Result Answer Fault)
+    → IsRead words input asked text → reason_for asked text ≡ None → Says asked text request → (wants_script asked ≡ false → left ≡ input)
+    → IfOk result (Comes request left output output_after) → IfErr result (λ e. FaultsWith request left (reason_of e) output output_after)
+    → MatchResult result (IsServed words input output output_after) (λ fault. Fails words input (reason_of fault) output output_after)
+answered_so words input left output output_after asked text request (Ok answer) read sound says same comes faults = record {
+  request = request;
+  requested = record { asked = asked; text = text; read = read; sound = sound; says = says };
+  comes = comes_of asked text input left output output_after same request answer says comes;
+}
+answered_so words input left output output_after asked text request (Err fault) read sound says same comes faults = inr record {
+  request = request;
+  requested = record { asked = asked; text = text; read = read; sound = sound; says = says };
+  faults = faults_of asked text input left output output_after same request (reason_of fault) says faults;
+}
+
 -- ---- the clauses of a run, from what it is
 
 status_of-positive : (r : Reason) → status_of r ≡ 0 → ⊥
@@ -149,10 +165,6 @@ loads_kept input output between output_after reason l kept = record {
   tells = tells_kept l.loaded.rows (reason_of l.fault) reason output between output_after l.tells kept;
 }
 
-as_mistake : (why : Reason) → IsToldAs why mistake → why ≡ mistake
-as_mistake why (inl same) = sym same
-as_mistake why (inr (is, becomes)) = absurd becomes
-
 -- a store is not served no longer for a mistake
 not_served : (reason : Reason) (answers : List Answered) (output output_after : Option (List ℕ)) → ToldBefore reason answers output output_after → reason ≡ mistake → ⊥
 not_served mistake answers output output_after told is = told
@@ -163,16 +175,17 @@ not_served unwritten answers output output_after told is = cc
 
 -- it is told of rows alone
 module _ (words : List Text) (input output output_after : Option (List ℕ)) where
-  not_refusal : (e : Refusal) → mistake ≡ refusal e → ⊥
-  not_refusal e h = cc
-
   load_tried : (path : Bor (List ℕ)) → IsRequested words input (request.Load path) → TellsLoaded input mistake output output_after → LoadsToNoRow words input output output_after
-  load_tried path requested (inl (e, is, refused, same)) = absurd (not_refusal e is)
+  load_tried path requested (inl (refused, same)) = absurd refused
   load_tried path requested (inr loads) = record { file = path; requested = requested; loads = loads }
 
   serve_tried : TellsServed input mistake output output_after → ⊥
-  serve_tried (inl (e, is, refused, same)) = not_refusal e is
-  serve_tried (inr serves) = not_served (reason_of serves.fault) serves.serves.answers output output_after serves.serves.told serves.same
+  serve_tried (inl (refused, same)) = refused
+  serve_tried (inr (inr stops)) = not_stopped stops.is
+    where
+      not_stopped : mistake ≡ refusal Stopped → ⊥
+      not_stopped h = cc
+  serve_tried (inr (inl serves)) = not_served (reason_of serves.fault) serves.serves.answers output output_after serves.serves.told serves.same
 
   mistake_tried : (r : Request) → IsRequested words input r → FaultsWith r input mistake output output_after → LoadsToNoRow words input output output_after
   mistake_tried (request.Dump path) requested faults = absurd faults
@@ -182,8 +195,7 @@ module _ (words : List Text) (input output output_after : Option (List ℕ)) whe
 
   tried_mistake : IsTried words input mistake output output_after → LoadsToNoRow words input output output_after
   tried_mistake tried =
-      mistake_tried tried.request tried.requested
-      (subst (λ (why : Reason). FaultsWith tried.request input why output output_after) (as_mistake tried.why tried.is) tried.faults)
+      mistake_tried tried.request tried.requested tried.faults
 
 finds_mistake : (words : List Text) (input output between output_after : Option (List ℕ)) → Fails words input mistake output between → Keeps between output_after
     → FindsMistake words input output output_after

@@ -4,13 +4,14 @@ use Rattle.std.specs.Borrow.{Bor}
 use Rattle.std.specs.List.{list_any}
 use Rattle.std.specs.Io.KnownBytes.{Appends, Keeps}
 use Rattle.clap.specs.Words.{Row, Text, fault_of, subcommand_of}
-use Rattle.lsm_device.specs.declared.refusal.Refusal.TheVariants.{NoMemory, Io}
+use Rattle.lsm_device.specs.declared.refusal.Refusal.TheVariants.{NoMemory}
 use Rattle.lsm_language.specs.declared.asked.Asked.{Asked}
 use Rattle.lsm_language.specs.declared.request.Request.{Request}
 use Rattle.lsm_language.specs.declared.request.Request.TheVariants as request
 use Rattle.lsm_requests.specs.declared.answer.Answer.{Answer}
 use Rattle.lsm_language.specs.declared.fault.Fault.{Fault}
-use Rattle.lsm_language.specs.Faults.{Reason, mistake, refusal, unread, IsUnopened, reason_of}
+use Rattle.lsm_language.specs.Faults.{Reason, mistake, refusal, unread, reason_of}
+use Rattle.lsm_language.specs.Scripts.{read_within}
 use Rattle.lsm_language.specs.Words.{after}
 use Rattle.lsm_cli.specs.Program.{program, Asks}
 use Rattle.lsm_language.specs.Requests.{Says, reason_for, wants_script}
@@ -37,10 +38,11 @@ pub record IsAsked (words : List Text) (asked : Asked) : Type 0 where
 pub record AskNothing (words : List Text) : Type 0 where
   pub none : (asked : Asked) → ¬ (IsAsked words asked)
 
--- the words and the script, where the script is all of the input, as far as that is known
+-- The words and the script, which is all that is read of the input, as far as that is known: all of it, unless a line is too long, by which
+-- the script is wrong.
 pub record IsRead (words : List Text) (input : Option (List ℕ)) (asked : Asked) (text : List ℕ) : Type 0 where
   pub words_ask : IsAsked words asked
-  pub whole : IsTrue (wants_script asked) → IfSome input (λ all. text ≡ all)
+  pub whole : IsTrue (wants_script asked) → IfSome input (λ all. text ≡ read_within 300001 all)
 
 -- nothing is wrong with them, and the request is what they say
 pub record IsRequested (words : List Text) (input : Option (List ℕ)) (request : Request) : Type 0 where
@@ -83,17 +85,11 @@ abbrev pub IsUntried : List Text → Option (List ℕ) → Reason → Type 0
 IsUntried words input reason = IsWrong words input reason
     ⊎ (((reason ≡ mistake) × AskNothing words) ⊎ ((reason ≡ refusal NoMemory) ⊎ ((reason ≡ unread) × IsUnread words)))
 
--- a reason is told as it is, or as a file that can't be opened
-abbrev pub IsToldAs : Reason → Reason → Type 0
-IsToldAs reason told = (told ≡ reason) ⊎ ((reason ≡ refusal Io) × IsUnopened told)
-
--- What the words and the input ask for was tried, and has no answer; why it has none is told so, and what was printed.
-pub record IsTried (words : List Text) (input : Option (List ℕ)) (told : Reason) (output output_after : Option (List ℕ)) : Type 0 where
+-- What the words and the input ask for was tried, and has no answer, for this reason; and what was printed.
+pub record IsTried (words : List Text) (input : Option (List ℕ)) (reason : Reason) (output output_after : Option (List ℕ)) : Type 0 where
   pub request : Request
   pub requested : IsRequested words input request
-  pub why : Reason
-  pub faults : FaultsWith request input why output output_after
-  pub is : IsToldAs why told
+  pub faults : FaultsWith request input reason output output_after
 
 -- Why there is no answer, and what was printed all the same: nothing was done, and nothing printed; or it was tried.
 abbrev pub Fails : List Text → Option (List ℕ) → Reason → Option (List ℕ) → Option (List ℕ) → Type 0

@@ -3,6 +3,5 @@
 
 mod parser;
 mod program;
-mod unopened;
 
 pub use program::run;

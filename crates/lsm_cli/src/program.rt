@@ -3,11 +3,9 @@
 ghost use Rattle.std.specs.Prelude.{◌≡◌, ◌≤◌, map, MatchResult};
 ghost use Rattle.std.specs.Io.KnownBytes.{Keeps};
 ghost use Rattle.lsm_language.specs.Faults.{reason_of};
-ghost use Rattle.lsm_cli.specs.Runs.{Fails, FindsMistake, HasServed, IsRun, IsServed, IsToldAs};
+ghost use Rattle.lsm_cli.specs.Runs.{Fails, FindsMistake, HasServed, IsRun, IsServed};
 
 use crate::parser::asked_for;
-use crate::unopened::cause_of;
-use lsm_device::Refusal;
 use lsm_language::{Fault, Request, script_text};
 use lsm_progress::Progress;
 use lsm_requests::{Answer, answer_request, conclude};
@@ -61,23 +59,5 @@ fn answer<
     let asked = asked_for(rt.alloc(), words)?;
     let text = script_text(rt.alloc(), &asked, input)?;
     let request = Request::read(rt.alloc(), asked, &text)?;
-    let file = request.file();
-    let is_made = matches!(request, Request::Format { .. });
-    match answer_request(rt, request, input, output, progress) {
-        Ok(answer) => Ok(answer),
-        Err(fault) => Err(told(rt, file, is_made, fault)),
-    }
-}
-
-// A fault as it is told: of a file that can't be opened, with the cause.
-fn told<R: Files<File = File>>(rt: &R, file: Option<&str>, is_made: bool, fault: Fault) -> Fault
-    ensures { IsToldAs (reason_of fault) (reason_of result) }
-{
-    match fault {
-        Fault::Refused(Refusal::Io) => match cause_of(rt, file, is_made) {
-            Some(cause) => Fault::Unopened(cause),
-            None => Fault::Refused(Refusal::Io),
-        },
-        other => other,
-    }
+    answer_request(rt, request, input, output, progress)
 }

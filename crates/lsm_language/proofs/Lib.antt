@@ -4,4 +4,6 @@ pub mod LineLaws
 pub mod NumberLaws
 pub mod LoadLaws
 pub mod RowLaws
+pub mod ReadingLaws
+pub mod TextReadingLaws
 pub mod TextLaws

@@ -1,5 +1,6 @@
 pub mod Numbers
 pub mod Limits
+pub mod Showing
 pub mod Faults
 pub mod Words
 pub mod Keyed
@@ -9,3 +10,4 @@ pub mod Lines
 pub mod Scripts
 pub mod Requests
 pub mod Rows
+pub mod Reading

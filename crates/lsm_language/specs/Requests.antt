@@ -96,26 +96,6 @@ reason_for (asked.Storm clients commits workers) text = or_else (said_reason (nu
 reason_for (asked.Tally clients tries) text = or_else (said_reason (number_said clients.now))
     (or_else (said_reason (number_said tries.now)) (load_reason (number_in clients.now) (number_in tries.now) 0))
 
--- the path of the file that a request is about, if it is about one
-abbrev pub file_of : Request → Option (List ℕ)
-file_of (request.Format path geometry) = Some path.now
-file_of (request.Put path batch) = Some path.now
-file_of (request.PutIf path guards batch) = Some path.now
-file_of (request.Delete path batch) = Some path.now
-file_of (request.Get path key) = Some path.now
-file_of (request.Scan path from limit) = Some path.now
-file_of (request.Stat path) = Some path.now
-file_of (request.Check path) = Some path.now
-file_of (request.Compact path) = Some path.now
-file_of (request.Dump path) = Some path.now
-file_of (request.Load path) = Some path.now
-file_of (request.Serve path) = Some path.now
-file_of (request.Replay path script) = Some path.now
-file_of (request.Lives geometry script) = None
-file_of (request.Explore geometry script) = None
-file_of (request.Storm load) = None
-file_of (request.Tally load) = None
-
 -- the request has the numbers and bytes that the words say, the batch of one operation on them and one guard where they ask for
 -- one, and what the script says
 abbrev pub Says : Asked → List ℕ → Request → Type 0

@@ -1,8 +1,7 @@
 -- Rows of an input.
-use Rattle.std.specs.Prelude.{◌≡◌, ℕ, ◌==◌, ◌&&◌, Bool, true, false, List, [], ◌∷◌, ◌++◌, length, Option, Some, None, is_some, option_and_then, IfSome, if◌then◌else◌}
+use Rattle.std.specs.Prelude.{◌≡◌, ℕ, ◌==◌, ◌&&◌, Bool, true, false, List, [], ◌∷◌, ◌++◌, length, Option, Some, None, is_some, nat_le, option_and_then, if◌then◌else◌}
 use Rattle.std.specs.List.{position_or_len, before_first, after_first}
 use Rattle.std.specs.Str.{is_utf8}
-use Rattle.std.specs.Io.BufRead.{drop_through}
 use Rattle.lsm_codec.specs.Map.{Operation}
 use Rattle.lsm_language.specs.Changes.{put_said, first_refusal}
 
@@ -22,11 +21,6 @@ lines_from line (b ∷ text) = if b == 10 then line ∷ lines_from [] text else 
 abbrev pub lines_of : List ℕ → List (List ℕ)
 lines_of text = lines_from [] text
 
--- the next line of what a reader has left, as far as that is known, and what it has left then; no line is found at the end alone
-abbrev pub ReadsLine : Option (List ℕ) → Bool → List ℕ → Option (List ℕ) → Type 0
-ReadsLine before true line after = IfSome before (λ text. (after ≡ Some (drop_through 10 text)) × (lines_of text ≡ line ∷ lines_of (drop_through 10 text)))
-ReadsLine before false line after = IfSome before (λ text. text ≡ [])
-
 -- ---- rows
 
 -- the two words around the first space
@@ -42,9 +36,17 @@ within_limits operation = if is_some (first_refusal operation) then None else So
 abbrev pub row_in : List ℕ → Option Operation
 row_in line = option_and_then within_limits (option_and_then put_said (words_around line))
 
--- what a line says, which has to be UTF-8
+-- the longest line that is a row: a key of 255 bytes and a value of 2,048 in hex, and the space between them
+abbrev pub most_row : ℕ
+most_row = 4607
+
+-- what a line says that is UTF-8
+abbrev pub utf8_row : List ℕ → Option Operation
+utf8_row line = if is_utf8 line then row_in line else None
+
+-- what a line says, if it isn't longer
 abbrev pub row_said : List ℕ → Option Operation
-row_said line = if is_utf8 line then row_in line else None
+row_said line = if nat_le (length line) most_row then utf8_row line else None
 
 -- a row before others, if there is one
 abbrev pub with_row : Option Operation → List Operation → List Operation

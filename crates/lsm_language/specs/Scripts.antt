@@ -1,5 +1,5 @@
 -- What a script says: its lines, each of which has to be one that may stand there.
-use Rattle.std.specs.Prelude.{◌≡◌, ◌⊎◌, ℕ, ◌==◌, ◌-◌, Bool, true, false, List, [], ◌∷◌, ◌++◌, length, take, get_or, Option, Some, None, option_and_then, Result, MatchResult, if◌then◌else◌}
+use Rattle.std.specs.Prelude.{◌≡◌, ◌⊎◌, ℕ, ◌==◌, ◌-◌, Bool, true, false, List, [], ◌∷◌, ◌++◌, length, take, get_or, nat_le, Option, Some, None, option_and_then, Result, MatchResult, if◌then◌else◌}
 use Rattle.std.specs.List.{slice_split}
 use Rattle.std.specs.Str.{is_utf8}
 use Rattle.lsm_device.specs.declared.refusal.Refusal.TheVariants.{NoMemory}
@@ -8,6 +8,16 @@ use Rattle.lsm_language.specs.Lines.{Said, fuse, crash, crash_all, line_said}
 use Rattle.lsm_language.specs.declared.fault.Fault.{Fault}
 use Rattle.lsm_language.specs.declared.script.Kind.{Kind}
 use Rattle.lsm_language.specs.declared.script.Kind.TheVariants.{Steps, Lives}
+
+-- how many bytes more may be read of the line that an input goes on with, behind one of them
+abbrev pub room_behind : ℕ → ℕ → ℕ
+room_behind room b = if b == 10 then 300001 else room - 1
+
+-- What is read of an input where so many may be. It is all, unless a line has more than 300,000 bytes: of that one byte more is read, and
+-- nothing behind it.
+abbrev pub read_within : ℕ → List ℕ → List ℕ
+read_within room [] = []
+read_within room (b ∷ bs) = if room == 0 then [] else b ∷ read_within (room_behind room b) bs
 
 -- a text without the newline at its end
 abbrev pub without_newline : List ℕ → List ℕ
@@ -34,9 +44,17 @@ may_stand _ _ _ = true
 abbrev pub if_may_stand : Kind → Bool → Said → Option Said
 if_may_stand kind begins said = if may_stand kind begins said then Some said else None
 
--- what a line says, which has to be UTF-8
+-- the most bytes of a line of a script
+abbrev pub most_line : ℕ
+most_line = 300000
+
+-- what a line says that is UTF-8
+abbrev pub utf8_said : List ℕ → Option Said
+utf8_said line = if is_utf8 line then line_said line else None
+
+-- what a line says, if it isn't longer
 abbrev pub text_said : List ℕ → Option Said
-text_said line = if is_utf8 line then line_said line else None
+text_said line = if nat_le (length line) most_line then utf8_said line else None
 
 -- what a line says that may stand there
 abbrev pub next_said : Kind → Bool → List ℕ → Option Said

@@ -20,6 +20,8 @@ pub enum Cause {
     NotAFile,
     /// Its length is not a whole number of sectors.
     Uneven,
+    /// It has more sectors than have numbers of 32 bits.
+    TooLarge,
 }
 
 /// A cause in words.
@@ -34,5 +36,6 @@ pub fn cause_text(cause: &Cause) -> &'static str
         Cause::Folder => "the file is a folder",
         Cause::NotAFile => "the file is neither a regular file nor a block device",
         Cause::Uneven => "the length of the file is not a whole number of sectors",
+        Cause::TooLarge => "the file has more than 4294967295 sectors",
     }
 }

@@ -3,11 +3,13 @@
 ghost use Rattle.std.specs.Prelude.{◌≡◌};
 ghost use Rattle.lsm_device.specs.declared.refusal.Refusal.TheVariants.{NoMemory};
 ghost use Rattle.lsm_language.specs.Faults.{reason_of, mistake, refusal};
+ghost use Rattle.lsm_language.specs.Showing.{is_of_device};
 
 use crate::cause::{Cause, cause_text};
+use crate::failure::{Failure, failure_text};
 use crate::refused::refusal_text;
 use lsm_device::Refusal;
-use std::alloc::{AllocError, AllocFailed};
+use std::alloc::{AllocError, AllocFailed, Global};
 use std::io;
 use thiserror::Error;
 
@@ -46,20 +48,44 @@ pub enum Usage {
     Misplaced { number: usize, line: String },
 }
 
-/// A mistake in the words or the input, a refusal, a file that can't be opened, an input that could not be read, or an
-/// answer that could not be written.
+/// A mistake in the words or the input, a refusal, one that a call of a file led to, a file that can't be opened, an input that
+/// could not be read, or an answer that could not be written.
 #[derive(Debug, Drop, Error)]
 pub enum Fault {
     #[error("{0}")]
     Usage(Usage),
     #[error("{text}", text = refusal_text(.0))]
     Refused(Refusal),
+    #[error("{text}", text = failure_text(.0))]
+    Failed(Failure),
     #[error("{text}", text = cause_text(.0))]
     Unopened(Cause),
     #[error("the input could not be read: {0}")]
     Input(io::Error),
     #[error("the answer could not be written: {0}")]
     Output(io::Error),
+}
+
+impl Fault {
+    /// A refusal, with what the system said where a call of a file led to it and there is memory for the words.
+    pub fn failed(alloc: Global, reason: Refusal, error: &io::Error) -> Fault
+        ensures { reason_of result ≡ refusal reason }
+    {
+        if !is_of_device(reason) {
+            return Fault::Refused(reason);
+        }
+        match Failure::new(alloc, reason, error) {
+            Ok(failure) => Fault::Failed(failure),
+            Err(_) => Fault::Refused(reason),
+        }
+    }
+}
+
+// Whether a refusal tells of a call of the device that failed.
+fn is_of_device(reason: Refusal) -> bool
+    ensures { result ≡ is_of_device reason }
+{
+    matches!(reason, Refusal::Io | Refusal::Stopped)
 }
 
 impl From<Usage> for Fault {

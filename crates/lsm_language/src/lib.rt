@@ -3,6 +3,7 @@
 
 mod asked;
 mod cause;
+mod failure;
 mod fault;
 mod geometry;
 mod guards;
@@ -12,20 +13,25 @@ mod line;
 mod load;
 mod number;
 mod operations;
+mod reading;
 mod refused;
 mod request;
 mod row;
 mod script;
+mod showing;
 mod words;
 
 pub use asked::Asked;
 pub use cause::{Cause, cause_text};
+pub use failure::{Failure, failure_text};
 pub use fault::{Fault, Usage};
 pub use geometry::Geometry;
-pub use input::script_text;
+pub use input::{buffered, script_text};
 pub use line::{Kept, Line, read_line};
 pub use load::Load;
 pub use refused::refusal_text;
 pub use request::Request;
-pub use row::{next_line, read_row};
+pub use reading::next_line;
+pub use row::{MOST_ROW, read_row};
+pub use showing::{beginning, shown};
 pub use words::{Unread, after};

@@ -110,32 +110,7 @@ pub enum Request<'a> {
 }
 
 impl<'a> Request<'a> {
-    /// The file that it is about, if it is about one.
-    pub fn file(&self) -> Option<&'a str>
-        ensures { option_map (λ file. file.now) result ≡ file_of self.now }
-    {
-        match self {
-            Request::Format { file, .. }
-            | Request::Put { file, .. }
-            | Request::PutIf { file, .. }
-            | Request::Delete { file, .. }
-            | Request::Get { file, .. }
-            | Request::Scan { file, .. }
-            | Request::Stat { file }
-            | Request::Check { file }
-            | Request::Compact { file }
-            | Request::Dump { file }
-            | Request::Load { file }
-            | Request::Serve { file }
-            | Request::Replay { file, .. } => Some(*file),
-            Request::Lives { .. }
-            | Request::Explore { .. }
-            | Request::Storm { .. }
-            | Request::Tally { .. } => None,
-        }
-    }
-
-    ghost use Rattle.lsm_language.specs.Requests.{file_of, reason_for, Says};
+    ghost use Rattle.lsm_language.specs.Requests.{reason_for, Says};
 
     /// Reads numbers and bytes from the left, then the text of the script, then tests the limits, then forms guards and batch.
     pub fn read(alloc: Global, asked: Asked<'a>, text: &[u8]) -> Result<Request<'a>, Fault>

@@ -4,10 +4,12 @@ ghost use Rattle.std.specs.Prelude.{◌≡◌, ◌==◌, map, IfOk};
 ghost use Rattle.std.specs.List.{slice_split};
 ghost use Rattle.lsm_language.specs.Lines.{means};
 ghost use Rattle.lsm_language.specs.Words.{Reads};
-ghost use Rattle.lsm_language.specs.Scripts.{ReadsText, ends_life, lines_in, may_stand, next_said, script_said, text_said, without_newline};
+ghost use Rattle.lsm_language.specs.Scripts.{ReadsText, ends_life, lines_in, may_stand, next_said, script_said, text_said, utf8_said, without_newline};
 
 use crate::fault::{Fault, Usage};
+use crate::input::MOST_LINE;
 use crate::line::{Line, read_line};
+use crate::showing::beginning;
 use crate::words::Unread;
 use lsm_device::Refusal;
 use std::alloc::{AllocError, Global};
@@ -75,11 +77,11 @@ fn next_line(
     match read_text(alloc, text) {
         Ok(line) if is_allowed(kind, begins, &line) => Ok(line),
         Ok(_) => {
-            let line = String::from_utf8_lossy(alloc, text)?;
+            let line = String::from_utf8_lossy(alloc, beginning(text))?;
             Err(Fault::Usage(Usage::Misplaced { number, line }))
         }
         Err(Unread::Malformed) => {
-            let line = String::from_utf8_lossy(alloc, text)?;
+            let line = String::from_utf8_lossy(alloc, beginning(text))?;
             Err(Fault::Usage(Usage::Line { number, line }))
         }
         Err(Unread::NoMemory) => Err(Fault::Refused(Refusal::NoMemory)),
@@ -88,6 +90,15 @@ fn next_line(
 
 fn read_text(alloc: Global, text: &[u8]) -> Result<Line, Unread>
     ensures { Reads means (text_said text.now) result }
+{
+    if text.len() > MOST_LINE {
+        return Err(Unread::Malformed);
+    }
+    read_short(alloc, text)
+}
+
+fn read_short(alloc: Global, text: &[u8]) -> Result<Line, Unread>
+    ensures { Reads means (utf8_said text.now) result }
 {
     match str::from_utf8(text) {
         Ok(line) => read_line(alloc, line),

@@ -4,7 +4,8 @@ use Rattle.std.specs.Io.KnownBytes.{Appends}
 use Rattle.lsm_codec.specs.Keys.{Bytes}
 use Rattle.lsm_device.specs.declared.refusal.Refusal.{Refusal}
 use Rattle.lsm_device.specs.declared.refusal.Refusal.TheVariants.{NoMemory, Exhausted}
-use Rattle.lsm_language.specs.Faults.{Reason, mistake, refusal, unopened, unread, unwritten}
+use Rattle.lsm_open.specs.Recovering.{IsOpeningRefusal}
+use Rattle.lsm_language.specs.Faults.{IsRefusalBy, Reason, mistake, refusal, unopened, unread, unwritten}
 use Rattle.lsm_mem.specs.Paging.{Page}
 use Rattle.lsm_store.specs.Backing.{StoreView}
 use Rattle.lsm_store.specs.Calls.{Refused, Rows, Scan}
@@ -148,3 +149,11 @@ tells_stopped (refusal e) store output output_after opened stops = inr (store, o
 tells_stopped (unopened cause) store output output_after opened stops = absurd stops
 tells_stopped unread store output output_after opened stops = absurd stops
 tells_stopped unwritten store output output_after opened stops = tt
+
+-- or it was not
+pub tells_unopened : (reason : Reason) (output : Option (List ℕ)) → IsRefusalBy IsOpeningRefusal reason → TellsDumped reason output output
+tells_unopened mistake output is = absurd is
+tells_unopened (refusal e) output is = inl (is, refl)
+tells_unopened (unopened cause) output is = refl
+tells_unopened unread output is = absurd is
+tells_unopened unwritten output is = absurd is

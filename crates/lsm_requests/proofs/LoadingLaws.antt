@@ -1,5 +1,5 @@
 -- How a loading goes on.
-use Rattle.std.proofs.Common.{◌≡◌, ◌∙◌, ◌+◌, ℕ, zero, suc, Bool, true, false, List, [], ◌∷◌, ◌++◌, length, Option, Some, None, Result, Ok, Err, is_some, ◌&&◌, ◌==◌, inl, inr, refl, sym, ap, subst, append_assoc, append-nil, length-append}
+use Rattle.std.proofs.Common.{◌≡◌, ◌∙◌, ◌+◌, ℕ, zero, suc, Bool, true, false, true≢false, List, [], ◌∷◌, ◌++◌, length, Option, Some, None, Result, Ok, Err, is_some, ◌&&◌, ◌==◌, inl, inr, refl, sym, ap, subst, append_assoc, append-nil, length-append}
 use Rattle.std.specs.Prelude.{IfErr, IfOk, IfSome, if◌then◌else◌}
 use Rattle.std.specs.Io.Buffered.{reader_buffer, reader_capacity, reader_inner, reader_remaining}
 use Rattle.std.specs.Io.KnownBytes.{prepend_known}
@@ -7,11 +7,11 @@ use Rattle.std.specs.declared.io.buffered.BufReader.{BufReader}
 use Rattle.lsm_codec.specs.Map.{Map, Operation, apply, changed}
 use Rattle.lsm_device.specs.declared.refusal.Refusal.{Refusal}
 use Rattle.lsm_device.specs.declared.refusal.Refusal.TheVariants.{NoSpace}
-use Rattle.std.specs.Io.BufRead.{drop_through}
 use Rattle.lsm_language.specs.declared.fault.Fault.{Fault}
-use Rattle.lsm_language.specs.declared.fault.Fault.TheVariants.{Input as InputFault, Output as OutputFault, Refused, Unopened, Usage}
-use Rattle.lsm_language.specs.Faults.{Reason, mistake, refusal, unopened, unread, unwritten, reason_of}
-use Rattle.lsm_language.specs.Rows.{ReadsLine, are_rows, lines_of, row_said, rows_of, with_row}
+use Rattle.lsm_language.specs.declared.fault.Fault.TheVariants.{Failed, Input as InputFault, Output as OutputFault, Refused, Unopened, Usage}
+use Rattle.lsm_language.specs.Faults.{IsRefusalBy, Reason, mistake, refusal, unopened, unread, unwritten, reason_of}
+use Rattle.lsm_language.specs.Reading.{ReadsLine}
+use Rattle.lsm_language.specs.Rows.{are_rows, lines_of, most_row, row_said, rows_of, with_row}
 use Rattle.lsm_open.specs.Recovering.{IsOpeningRefusal}
 use Rattle.lsm_store.specs.Backing.{StoreView}
 use Rattle.lsm_store.specs.Calls.{Done, Refused as RefusedSo, Sync}
@@ -21,13 +21,14 @@ use Rattle.lsm_store.specs.State.{State}
 use Rattle.lsm_upkeep.specs.Keeping.{KeepsMap}
 use Rattle.lsm_requests.specs.declared.loading.Loading.{Loading}
 use Rattle.lsm_requests.specs.declared.loading.Loaded.{Loaded}
-use Rattle.lsm_requests.specs.Answers.{TellsLoaded, TellsNumber, WasOpened}
+use Rattle.lsm_requests.specs.declared.answer.Answer.{Answer}
+use Rattle.lsm_requests.specs.Answers.{Hands, IsRefusedOpened, OfOpened, TellsLoaded, TellsNumber, WasOpened}
 use Rattle.lsm_requests.specs.Commits.{AddsNot, FillsWithLog, IsKeptUp, map_in, takes_puts}
 use Rattle.lsm_requests.specs.declared.answer.Output.{Output}
 use Rattle.lsm_requests.specs.declared.answer.Output.TheVariants.{Loaded as LoadedRows}
-use Rattle.lsm_requests.specs.Loading.{AddsWaiting, AreFirstRows, ArePut, AreRead, AreRowsOf, BeginsWith, CommitsWaiting, EndsFor, EndsReading, EndsReadingFor, EndsWith, FitsIf, HasLoaded, HasRead, IsLoaded, IsLoading, IsReady, IsShort, KeepsAndLoads, PutsRows, RefusesLastSync, RefusesToLoad, StaysLoaded, StopsAt, StopsReading, Takes, TakesNoRows, TakesNot, WaitingRefused, none_loaded, none_waits, rows_waiting}
+use Rattle.lsm_requests.specs.Loading.{AddsWaiting, AreFirstRows, ArePut, AreRead, AreRowsOf, BeginsWith, CommitsWaiting, EndsFor, EndsReading, EndsReadingFor, EndsWith, FitsIf, HasLoaded, HasRead, IsLoaded, IsLoading, IsReady, IsShort, KeepsAndLoads, PutsRows, RefusesLastSync, RefusesToLoad, StaysLoaded, StopsAt, StopsReading, Takes, TakesNoRows, TakesNot, WaitingRefused, is_refused, none_loaded, none_waits, rows_waiting}
 use Rattle.lsm_requests.proofs.CommittingLaws.{adds-puts, adds_not-keeps}
-use Rattle.lsm_requests.proofs.RefusedLaws.{opened_refused, refuses}
+use Rattle.lsm_requests.proofs.RefusedLaws.{not_opened, opened_refused, refuses, told_as}
 
 -- ---- maps
 
@@ -103,6 +104,14 @@ not_fit old new s same begun rows l = subst (λ (x : Loading). IsLoading begun r
 
 -- ---- what was read
 
+-- a line was read whole, and what stands behind it is left, as far as that is known
+abbrev pub IsWhole : Option (List ℕ) → List ℕ → Option (List ℕ) → Type 0
+IsWhole left line after = IfSome left (λ text. (rest : List ℕ) × (after ≡ Some rest) × (lines_of text ≡ line ∷ lines_of rest))
+
+-- the next line is no row
+abbrev pub BeginsNoRow : Option (List ℕ) → Type 0
+BeginsNoRow left = IfSome left (λ text. (line : List ℕ) × (rest : List ℕ) × (lines_of text ≡ line ∷ lines_of rest) × (row_said line ≡ None))
+
 -- so far
 pub record IsReading (input left : Option (List ℕ)) (loading : Loading) (before now : StoreView) : Type 0 where
   pub rows : List Operation
@@ -123,14 +132,14 @@ reading-begins input loading s is = record {
 
 -- a row more
 pub reading-more : (input left after : Option (List ℕ)) (line : List ℕ) (row : Operation) (old new : Loading) (before now next : StoreView) → IsReading input left old before now
-    → ReadsLine left true line after → row_said line ≡ Some row → Takes row old now new next → IsReading input after new before next
+    → IsWhole left line after → row_said line ≡ Some row → Takes row old now new next → IsReading input after new before next
 reading-more input left after line row old new before now next r reads said takes = record {
   rows = r.rows ++ row ∷ [];
   loads = takes before r.rows r.loads;
   reads = one_more input left after line row r.rows reads said r.reads;
 }
   where
-    one_more : (input left after : Option (List ℕ)) (line : List ℕ) (row : Operation) (rows : List Operation) → ReadsLine left true line after → row_said line ≡ Some row
+    one_more : (input left after : Option (List ℕ)) (line : List ℕ) (row : Operation) (rows : List Operation) → IsWhole left line after → row_said line ≡ Some row
         → HasRead input rows left → HasRead input (rows ++ row ∷ []) after
     one_more None left after line row rows reads said has = tt
     one_more (Some all) None after line row rows reads said (text, is, rest, good) = absurd (not_none is)
@@ -139,10 +148,10 @@ reading-more input left after line row old new before now next r reads said take
         not_none h = cc
     one_more (Some all) (Some left) after line row rows reads said (text, is, rest, good) =
         let same : left ≡ text = cc in
-        let behind = drop_through 10 left in
-        let first : lines_of text ≡ line ∷ lines_of behind = ap lines_of (sym same) ∙ reads.1 in (
+        let behind = reads.0 in
+        let first : lines_of text ≡ line ∷ lines_of behind = ap lines_of (sym same) ∙ reads.2 in (
           behind,
-          reads.0,
+          reads.1,
           rest ∙ ap (λ (ls : List (List ℕ)). rows ++ rows_of ls) first ∙ ap (λ (o : Option Operation). rows ++ with_row o (rows_of (lines_of behind))) said
               ∙ sym (append_assoc rows (row ∷ []) (rows_of (lines_of behind))),
           good ∙ ap are_rows first ∙ ap (λ (o : Option Operation). is_some o && are_rows (lines_of behind)) said,
@@ -160,10 +169,10 @@ whole-begins (Some all) whole rows (is, good) = ([], sym is ∙ sym (append-nil 
 
 -- the end of the input
 pub reading-ends : (input left after : Option (List ℕ)) (line : List ℕ) (loading : Loading) (before now : StoreView) → IsReading input left loading before now
-    → ReadsLine left false line after → AreRead input (Ok tt) loading before now
+    → ReadsLine most_row left false line after → AreRead input (Ok tt) loading before now
 reading-ends input left after line loading before now r reads = record { rows = r.rows; has = now; loads = r.loads; ends = (at_end input left after line r.rows reads r.reads, refl) }
   where
-    at_end : (input left after : Option (List ℕ)) (line : List ℕ) (rows : List Operation) → ReadsLine left false line after → HasRead input rows left
+    at_end : (input left after : Option (List ℕ)) (line : List ℕ) (rows : List Operation) → ReadsLine most_row left false line after → HasRead input rows left
         → IfSome input (λ all. (rows ≡ rows_of (lines_of all)) × (are_rows (lines_of all) ≡ true))
     at_end None left after line rows reads has = tt
     at_end (Some all) None after line rows reads (text, is, rest, good) = absurd (not_none is)
@@ -171,31 +180,31 @@ reading-ends input left after line loading before now r reads = record { rows = 
         not_none : None ≡ Some text → ⊥
         not_none h = cc
     at_end (Some all) (Some left) after line rows reads (text, is, rest, good) =
-        let none : text ≡ [] = let same : left ≡ text = cc in sym same ∙ reads in
-        (sym (rest ∙ ap (λ (t : List ℕ). rows ++ rows_of (lines_of t)) none ∙ append-nil rows), good ∙ ap (λ (t : List ℕ). are_rows (lines_of t)) none)
+        let none : lines_of text ≡ [] = let same : left ≡ text = cc in ap lines_of (sym same) ∙ reads in
+        (sym (rest ∙ ap (λ (ls : List (List ℕ)). rows ++ rows_of ls) none ∙ append-nil rows), good ∙ ap are_rows none)
 
 -- a line that is no row
-pub reading-stops : (input left after : Option (List ℕ)) (line : List ℕ) (fault : Fault) (loading : Loading) (before now : StoreView) → IsReading input left loading before now
-    → ReadsLine left true line after → row_said line ≡ None → reason_of fault ≡ mistake → AreRead input (Err fault) loading before now
-reading-stops input left after line fault loading before now r reads said is = record {
+pub reading-stops : (input left : Option (List ℕ)) (fault : Fault) (loading : Loading) (before now : StoreView) → IsReading input left loading before now
+    → BeginsNoRow left → reason_of fault ≡ mistake → AreRead input (Err fault) loading before now
+reading-stops input left fault loading before now r none is = record {
   rows = r.rows;
   has = now;
   loads = r.loads;
-  ends = subst (λ (reason : Reason). EndsReadingFor reason input r.rows loading now now) (sym is) (at_line input left after line r.rows reads said r.reads, refl);
+  ends = subst (λ (reason : Reason). EndsReadingFor reason input r.rows loading now now) (sym is) (at_line input left r.rows none r.reads, refl);
 }
   where
-    at_line : (input left after : Option (List ℕ)) (line : List ℕ) (rows : List Operation) → ReadsLine left true line after → row_said line ≡ None → HasRead input rows left
+    at_line : (input left : Option (List ℕ)) (rows : List Operation) → BeginsNoRow left → HasRead input rows left
         → IfSome input (λ all. (rows ≡ rows_of (lines_of all)) × (are_rows (lines_of all) ≡ false))
-    at_line None left after line rows reads said has = tt
-    at_line (Some all) None after line rows reads said (text, is, rest, good) = absurd (not_none is)
+    at_line None left rows none has = tt
+    at_line (Some all) None rows none (text, is, rest, good) = absurd (not_none is)
       where
         not_none : None ≡ Some text → ⊥
         not_none h = cc
-    at_line (Some all) (Some left) after line rows reads said (text, is, rest, good) =
+    at_line (Some all) (Some left) rows (line, behind, lines, said) (text, is, rest, good) =
         let same : left ≡ text = cc in
-        let first : lines_of text ≡ line ∷ lines_of (drop_through 10 left) = ap lines_of (sym same) ∙ reads.1 in (
-          sym (rest ∙ ap (λ (ls : List (List ℕ)). rows ++ rows_of ls) first ∙ ap (λ (o : Option Operation). rows ++ with_row o (rows_of (lines_of (drop_through 10 left)))) said ∙ append-nil rows),
-          good ∙ ap are_rows first ∙ ap (λ (o : Option Operation). is_some o && are_rows (lines_of (drop_through 10 left))) said,
+        let first : lines_of text ≡ line ∷ lines_of behind = ap lines_of (sym same) ∙ lines in (
+          sym (rest ∙ ap (λ (ls : List (List ℕ)). rows ++ rows_of ls) first ∙ ap (λ (o : Option Operation). rows ++ with_row o (rows_of (lines_of behind))) said ∙ append-nil rows),
+          good ∙ ap are_rows first ∙ ap (λ (o : Option Operation). is_some o && are_rows (lines_of behind)) said,
         )
 
 -- no memory, or too many rows
@@ -283,33 +292,35 @@ put input ended loading rows batches before has after puts counted ends = record
 }
 
 -- an end that is no refusal, where those that waited are put
-ends-put : (input : Option (List ℕ)) (ended : Result (Unit {0}) Fault) (rows : List Operation) (loading : Loading) (has after next : StoreView) → ((e : Refusal) → ended ≡ Err (Refused e) → ⊥)
+ends-put : (input : Option (List ℕ)) (ended : Result (Unit {0}) Fault) (rows : List Operation) (loading : Loading) (has after next : StoreView) → is_refused ended ≡ false
     → EndsReading ended input rows loading has after → EndsWith ended input rows next next
 ends-put input (Ok done) rows loading has after next other (are, same) = (are, refl)
 ends-put input (Err (Usage usage)) rows loading has after next other (are, same) = (are, refl)
-ends-put input (Err (Refused e)) rows loading has after next other ends = absurd (other e refl)
+ends-put input (Err (Refused e)) rows loading has after next other ends = absurd (true≢false other)
+ends-put input (Err (Failed failure)) rows loading has after next other ends = absurd (true≢false other)
 ends-put input (Err (Unopened cause)) rows loading has after next other ends = absurd ends
 ends-put input (Err (InputFault error)) rows loading has after next other (begins, same) = (begins, refl)
 ends-put input (Err (OutputFault error)) rows loading has after next other ends = absurd ends
 
 -- the store has not changed behind the last of them
-ends-same : (input : Option (List ℕ)) (ended : Result (Unit {0}) Fault) (rows : List Operation) (loading : Loading) (has after : StoreView) → ((e : Refusal) → ended ≡ Err (Refused e) → ⊥)
+ends-same : (input : Option (List ℕ)) (ended : Result (Unit {0}) Fault) (rows : List Operation) (loading : Loading) (has after : StoreView) → is_refused ended ≡ false
     → EndsReading ended input rows loading has after → after ≡ has
 ends-same input (Ok done) rows loading has after other (are, same) = same
 ends-same input (Err (Usage usage)) rows loading has after other (are, same) = same
-ends-same input (Err (Refused e)) rows loading has after other ends = absurd (other e refl)
+ends-same input (Err (Refused e)) rows loading has after other ends = absurd (true≢false other)
+ends-same input (Err (Failed failure)) rows loading has after other ends = absurd (true≢false other)
 ends-same input (Err (Unopened cause)) rows loading has after other ends = absurd ends
 ends-same input (Err (InputFault error)) rows loading has after other (begins, same) = same
 ends-same input (Err (OutputFault error)) rows loading has after other ends = absurd ends
 
 -- how far it is then
-loads-then : (input : Option (List ℕ)) (ended : Result (Unit {0}) Fault) (loading : Loading) (before now : StoreView) → ((e : Refusal) → ended ≡ Err (Refused e) → ⊥)
+loads-then : (input : Option (List ℕ)) (ended : Result (Unit {0}) Fault) (loading : Loading) (before now : StoreView) → is_refused ended ≡ false
     → (r : AreRead input ended loading before now) → IsLoading before r.rows loading now
 loads-then input ended loading before now other r =
     subst (λ (s : StoreView). IsLoading before r.rows loading s) (sym (ends-same input ended r.rows loading r.has now other r.ends)) r.loads
 
 -- those that were read were put, where the rest of them was committed
-pub put-read : (input : Option (List ℕ)) (ended : Result (Unit {0}) Fault) (loading new : Loading) (before now next : StoreView) → ((e : Refusal) → ended ≡ Err (Refused e) → ⊥)
+pub put-read : (input : Option (List ℕ)) (ended : Result (Unit {0}) Fault) (loading new : Loading) (before now next : StoreView) → is_refused ended ≡ false
     → AreRead input ended loading before now → CommitsWaiting loading now new next → ArePut input ended new before next
 put-read input ended loading new before now next other r commits =
     let done = commits.1 before r.rows (loads-then input ended loading before now other r) in
@@ -320,7 +331,7 @@ put-read input ended loading new before now next other r commits =
 
 -- and where it was not, some of them
 pub put-refused : (input : Option (List ℕ)) (ended : Result (Unit {0}) Fault) (fault : Fault) (e : Refusal) (loading new : Loading) (before now next : StoreView)
-    → ((e : Refusal) → ended ≡ Err (Refused e) → ⊥) → AreRead input ended loading before now → reason_of fault ≡ refusal e → WaitingRefused loading now e new next
+    → is_refused ended ≡ false → AreRead input ended loading before now → reason_of fault ≡ refusal e → WaitingRefused loading now e new next
     → ArePut input (Err fault) new before next
 put-refused input ended fault e loading new before now next other r is (same, refused) =
     let l = loads-then input ended loading before now other r in
@@ -332,25 +343,29 @@ put-refused input ended fault e loading new before now next other r is (same, re
     ))
 
 -- what a reading that was refused has put
-put-as_read : (input : Option (List ℕ)) (e : Refusal) (loading : Loading) (before now : StoreView) → AreRead input (Err (Refused e)) loading before now
-    → ArePut input (Err (Refused e)) loading before now
-put-as_read input e loading before now r =
+put-as_read : (input : Option (List ℕ)) (fault : Fault) (e : Refusal) (loading : Loading) (before now : StoreView) → (r : AreRead input (Err fault) loading before now)
+    → EndsReadingFor (refusal e) input r.rows loading r.has now → (EndsFor (refusal e) input r.loads.put r.has now → EndsWith (Err fault) input r.loads.put r.has now)
+    → ArePut input (Err fault) loading before now
+put-as_read input fault e loading before now r ends as =
     let l = r.loads in
-    put input (Err (Refused e)) loading l.put l.batches before r.has now l.puts l.loaded (
-      ends-some input r.rows l.put (rows_waiting loading.batch) l.all r.ends.0,
-      by r.ends.1,
-    )
+    put input (Err fault) loading l.put l.batches before r.has now l.puts l.loaded (as (
+      ends-some input r.rows l.put (rows_waiting loading.batch) l.all ends.0,
+      by ends.1,
+    ))
   where
     by : StopsReading input loading r.has e now → StopsAt input r.loads.put r.has e now
-    by (inl refused) = inl (rows_waiting loading.batch, subst (AreFirstRows input) r.loads.all r.ends.0, refused)
+    by (inl refused) = inl (rows_waiting loading.batch, subst (AreFirstRows input) r.loads.all ends.0, refused)
     by (inr short) = inr short
 
-pub put-if_refused : (input : Option (List ℕ)) (ended : Result (Unit {0}) Fault) (fault : Fault) (e : Refusal) (loading : Loading) (before now : StoreView) → ended ≡ Err fault
-    → fault ≡ Refused e → AreRead input ended loading before now → ArePut input ended loading before now
-put-if_refused input ended fault e loading before now is refused r =
-    let same : ended ≡ Err (Refused e) = is ∙ ap (λ (f : Fault). Err f) refused in
-    subst (λ (x : Result (Unit {0}) Fault). ArePut input x loading before now) (sym same)
-    (put-as_read input e loading before now (subst (λ (x : Result (Unit {0}) Fault). AreRead input x loading before now) same r))
+pub put-if_refused : (input : Option (List ℕ)) (ended : Result (Unit {0}) Fault) (loading : Loading) (before now : StoreView) → is_refused ended ≡ true
+    → AreRead input ended loading before now → ArePut input ended loading before now
+put-if_refused input (Err (Refused e)) loading before now is r = put-as_read input (Refused e) e loading before now r r.ends (λ ends. ends)
+put-if_refused input (Err (Failed failure)) loading before now is r = put-as_read input (Failed failure) failure.refusal loading before now r r.ends (λ ends. ends)
+put-if_refused input (Ok done) loading before now is r = absurd (true≢false (sym is))
+put-if_refused input (Err (Usage usage)) loading before now is r = absurd (true≢false (sym is))
+put-if_refused input (Err (Unopened cause)) loading before now is r = absurd (true≢false (sym is))
+put-if_refused input (Err (InputFault error)) loading before now is r = absurd (true≢false (sym is))
+put-if_refused input (Err (OutputFault error)) loading before now is r = absurd (true≢false (sym is))
 
 -- ---- the sync
 
@@ -416,26 +431,40 @@ tells_loaded input lines output output_after loaded fault told store after opene
     }
 
 -- or it was refused: no store was opened
-pub tells_unopened : (input output : Option (List ℕ)) (reason : Reason) (e : Refusal) → reason ≡ refusal e → IsOpeningRefusal e → TellsLoaded input reason output output
-tells_unopened input output reason e is may = inl (e, is, inl may, refl)
+pub tells_unopened : (input output : Option (List ℕ)) (reason : Reason) → IsRefusalBy IsOpeningRefusal reason → TellsLoaded input reason output output
+tells_unopened input output reason is = inl (not_opened (RefusesToLoad input) reason is, refl)
 
 -- or one was
 pub tells_refused : (input lines output : Option (List ℕ)) (reason : Reason) (e : Refusal) (store : StoreView) → reason ≡ refusal e → WasOpened store → lines ≡ input
     → RefusesToLoad lines store e → TellsLoaded input reason output output
 tells_refused input lines output reason e store is opened same refused =
-    inl (e, is, opened_refused (RefusesToLoad input) store e opened (subst (λ (i : Option (List ℕ)). RefusesToLoad i store e) same refused), refl)
+    inl (
+      told_as (IsRefusedOpened (RefusesToLoad input)) e reason is
+      (opened_refused (RefusesToLoad input) store e opened (subst (λ (i : Option (List ℕ)). RefusesToLoad i store e) same refused)),
+      refl,
+    )
 
--- ---- the reader
+-- what came of a loading, whose store is closed
+pub loaded_answers : (input lines output output_after : Option (List ℕ)) (loaded : Loaded) (store after : StoreView) (result : Result Answer Fault) → WasOpened store → lines ≡ input
+    → KeepsAndLoads lines loaded store after
+    → IfOk result (λ answer. (loaded.ended ≡ Ok tt) × (answer.output ≡ LoadedRows loaded.rows) × Hands answer.file after.device × (output_after ≡ output))
+    → IfOk result (λ answer. OfOpened (HasLoaded input) answer × (output_after ≡ output))
+loaded_answers input lines output output_after loaded store after (Err fault) opened same l ends = tt
+loaded_answers input lines output output_after loaded store after (Ok answer) opened same l (is, told, hands, kept) = (
+  record {
+    store = store;
+    after = after;
+    opened = opened;
+    tells = has_loaded input loaded store after answer.output (subst (λ (i : Option (List ℕ)). KeepsAndLoads i loaded store after) same l) is told;
+    hands = hands;
+  },
+  kept,
+)
 
-none_before : (known : Option (List ℕ)) → prepend_known [] known ≡ known
-none_before None = refl
-none_before (Some xs) = refl
-
-by_parts : {T : Type 0} (remaining : T → Option (List ℕ)) (inner y : T) (n : ℕ) (bs : List ℕ) → n ≡ 65536 → bs ≡ [] → y ≡ inner
-    → (if n == 0 then None else prepend_known bs (remaining y)) ≡ remaining inner
-by_parts remaining inner y n bs ns es same = rw (ns, es, same) (none_before (remaining inner))
-
--- with nothing in its buffer yet
-pub buffered-remaining : {T A : Type 0} (remaining : T → Option (List ℕ)) (reader : BufReader T A) (inner : T) → reader_inner reader ≡ inner → reader_buffer reader ≡ []
-    → reader_capacity reader ≡ 65536 → reader_remaining remaining reader ≡ remaining inner
-buffered-remaining remaining reader inner is empty capacity = by_parts remaining inner (reader_inner reader) (reader_capacity reader) (reader_buffer reader) capacity empty is
+pub loaded_tells : (input lines output output_after : Option (List ℕ)) (loaded : Loaded) (store after : StoreView) (result : Result Answer Fault) → WasOpened store → lines ≡ input
+    → KeepsAndLoads lines loaded store after
+    → IfErr result (λ e. (fault : Fault) × (loaded.ended ≡ Err fault) × TellsNumber loaded.rows (reason_of fault) (reason_of e) output output_after)
+    → IfErr result (λ e. TellsLoaded input (reason_of e) output output_after)
+loaded_tells input lines output output_after loaded store after (Ok answer) opened same l ends = tt
+loaded_tells input lines output output_after loaded store after (Err e) opened same l (fault, is, tells) =
+    tells_loaded input lines output output_after loaded fault (reason_of e) store after opened same l is tells

@@ -6,7 +6,9 @@ use Rattle.lsm_device.specs.declared.refusal.Refusal.TheVariants.{Exhausted, NoM
 use Rattle.lsm_language.specs.declared.fault.Fault.{Fault}
 use Rattle.lsm_language.specs.declared.fault.Fault.TheVariants.{Refused}
 use Rattle.lsm_language.specs.Faults.{mistake, refusal, unread, reason_of}
-use Rattle.lsm_language.specs.Rows.{ReadsLine, lines_of, row_said, rows_of}
+use Rattle.lsm_language.specs.Reading.{ReadsLine}
+use Rattle.lsm_language.specs.Rows.{lines_of, most_row, row_said, rows_of}
+use Rattle.lsm_language.proofs.RowLaws.{no_row_first, row_whole}
 use Rattle.lsm_store.specs.Backing.{StoreView}
 use Rattle.lsm_requests.specs.declared.loading.Loading.{Loading}
 use Rattle.lsm_requests.specs.Loading.{AreRead, CommitsWaiting, FitsIf, HasRead, HasTooMany, StaysLoaded, Takes, WaitingRefused}
@@ -27,8 +29,8 @@ reading-unread input left fault loading before now r (inr is) = reading-unreadab
 
 -- a line that is no row, or no memory for one
 pub reading-no_row : (input left after : Option (List ℕ)) (line : List ℕ) (fault : Fault) (loading : Loading) (before now : StoreView) → IsReading input left loading before now
-    → ReadsLine left true line after → ((reason_of fault ≡ mistake) × (row_said line ≡ None)) ⊎ (reason_of fault ≡ refusal NoMemory) → AreRead input (Err fault) loading before now
-reading-no_row input left after line fault loading before now r reads (inl (is, none)) = reading-stops input left after line fault loading before now r reads none is
+    → ReadsLine most_row left true line after → ((reason_of fault ≡ mistake) × (row_said line ≡ None)) ⊎ (reason_of fault ≡ refusal NoMemory) → AreRead input (Err fault) loading before now
+reading-no_row input left after line fault loading before now r reads (inl (is, none)) = reading-stops input left fault loading before now r (no_row_first left after line reads none) is
 reading-no_row input left after line fault loading before now r reads (inr is) = reading-short input left fault NoMemory loading before now r is (inl refl)
 
 -- the most rows that are read
@@ -79,18 +81,18 @@ refused_unfit fits row old mid new before after e is fit refused = subst (λ (l 
 -- ---- a line, by what is told of it
 
 pub ends_when : (more : Bool) (input left after : Option (List ℕ)) (line : List ℕ) (loading : Loading) (before now : StoreView) → more ≡ false → IsReading input left loading before now
-    → ReadsLine left more line after → AreRead input (Ok tt) loading before now
+    → ReadsLine most_row left more line after → AreRead input (Ok tt) loading before now
 ends_when true input left after line loading before now is r reads = absurd (true≢false is)
 ends_when false input left after line loading before now is r reads = reading-ends input left after line loading before now r reads
 
 pub more_when : (more : Bool) (input left after : Option (List ℕ)) (line seen : List ℕ) (row : Operation) (old new : Loading) (before now next : StoreView) → more ≡ true → IsReading input left old before now
-    → ReadsLine left more line after → seen ≡ line → row_said seen ≡ Some row → Takes row old now new next → IsReading input after new before next
+    → ReadsLine most_row left more line after → seen ≡ line → row_said seen ≡ Some row → Takes row old now new next → IsReading input after new before next
 more_when true input left after line seen row old new before now next is r reads same said takes =
-    reading-more input left after line row old new before now next r reads (ap row_said (sym same) ∙ said) takes
+    let is_row = ap row_said (sym same) ∙ said in reading-more input left after line row old new before now next r (row_whole left after line row reads is_row) is_row takes
 more_when false input left after line seen row old new before now next is r reads same said takes = absurd (true≢false (sym is))
 
 pub no_row_when : (more : Bool) (input left after : Option (List ℕ)) (line seen : List ℕ) (fault : Fault) (loading : Loading) (before now : StoreView) → more ≡ true → IsReading input left loading before now
-    → ReadsLine left more line after → seen ≡ line → ((reason_of fault ≡ mistake) × (row_said seen ≡ None)) ⊎ (reason_of fault ≡ refusal NoMemory) → AreRead input (Err fault) loading before now
+    → ReadsLine most_row left more line after → seen ≡ line → ((reason_of fault ≡ mistake) × (row_said seen ≡ None)) ⊎ (reason_of fault ≡ refusal NoMemory) → AreRead input (Err fault) loading before now
 no_row_when true input left after line seen fault loading before now is r reads same why =
     reading-no_row input left after line fault loading before now r reads (subst (λ (l : List ℕ). ((reason_of fault ≡ mistake) × (row_said l ≡ None)) ⊎ (reason_of fault ≡ refusal NoMemory)) same why)
 no_row_when false input left after line seen fault loading before now is r reads same why = absurd (true≢false (sym is))

@@ -1,6 +1,6 @@
 -- Calls of a store that were refused.
-use Rattle.std.proofs.Common.{◌≡◌, ◌⊎◌, ℕ, Bool, true, false, List, Ok, Err, refl, sym, ap, subst, inl, inr}
-use Rattle.std.specs.Prelude.{is_some, if◌then◌else◌}
+use Rattle.std.proofs.Common.{◌≡◌, ◌⊎◌, ℕ, Bool, true, false, List, Result, Ok, Err, refl, sym, ap, subst, inl, inr}
+use Rattle.std.specs.Prelude.{IfErr, IfOk, is_some, if◌then◌else◌}
 use Rattle.lsm_codec.specs.Guards.{Condition}
 use Rattle.lsm_codec.specs.Map.{Operation}
 use Rattle.lsm_device.specs.declared.refusal.Refusal.{Refusal}
@@ -11,7 +11,12 @@ use Rattle.lsm_store.specs.Calls.{Call, CommitIf, Sync, Number, Refused, Unread,
 use Rattle.lsm_store.specs.Serving.{Serves, reply_in}
 use Rattle.lsm_store.specs.State.{State}
 use Rattle.lsm_store.specs.Stats.{stat_answer, stat_of}
-use Rattle.lsm_requests.specs.Answers.{IsRefusedOpened, WasOpened}
+use Rattle.lsm_check.specs.Images.{IsCheckRefusal}
+use Rattle.lsm_language.specs.declared.fault.Fault.{Fault}
+use Rattle.lsm_language.specs.Faults.{IsRefusalBy, Reason, mistake, refusal, unopened, unread, unwritten, reason_of}
+use Rattle.lsm_requests.specs.declared.answer.Answer.{Answer}
+use Rattle.lsm_requests.specs.declared.answer.Output.{Output}
+use Rattle.lsm_requests.specs.Answers.{Hands, IsRefusedOpened, OfOpened, WasOpened}
 use Rattle.lsm_requests.specs.Commits.{IsKeptUp, Refuses, takes_puts}
 use Rattle.lsm_requests.specs.Refusing.{RefusesToCommit, RefusesToTell}
 
@@ -78,3 +83,70 @@ numbers_unrefused store e opened = by (is_some store.state.stopped) (ap (λ (s :
 pub numbers_refused : (store : StoreView) (e : Refusal) → WasOpened store → (e ≡ NoMemory) ⊎ (stat_answer (machine_of store) ≡ Err e) → IsOpeningRefusal e
 numbers_refused store e opened (inl short) = memory_opening e short
 numbers_refused store e opened (inr is) = absurd (numbers_unrefused store e opened is)
+
+-- ---- what comes of calls on a store that was opened
+
+-- they were answered
+pub closed_answers : (Tells : StoreView → StoreView → Output → Type 0) (store after : StoreView) (done : Result Output Refusal) (result : Result Answer Fault) → WasOpened store
+    → IfOk done (Tells store after) → IfOk result (λ answer. (done ≡ Ok answer.output) × Hands answer.file after.device) → IfOk result (OfOpened Tells)
+closed_answers Tells store after done (Err fault) opened tells closed = tt
+closed_answers Tells store after done (Ok answer) opened tells (is, hands) = record {
+  store = store;
+  after = after;
+  opened = opened;
+  tells = subst (λ (d : Result Output Refusal). IfOk d (Tells store after)) is tells;
+  hands = hands;
+}
+
+-- or refused
+pub closed_refuses : (RefusesSo : Refusal → Type 0) (done : Result Output Refusal) (result : Result Answer Fault) → IfErr done RefusesSo
+    → IfErr result (λ e. (reason : Refusal) × (done ≡ Err reason) × (reason_of e ≡ refusal reason)) → IfErr result (λ e. IsRefusalBy RefusesSo (reason_of e))
+closed_refuses RefusesSo done (Ok answer) refuses closed = tt
+closed_refuses RefusesSo done (Err fault) refuses (reason, is, told) =
+    subst (IsRefusalBy RefusesSo) (sym told) (subst (λ (d : Result Output Refusal). IfErr d RefusesSo) is refuses)
+
+opened_when : (RefusesSo : StoreView → Refusal → Type 0) (store : StoreView) (done : Result Output Refusal) → WasOpened store → IfErr done (RefusesSo store)
+    → IfErr done (IsRefusedOpened RefusesSo)
+opened_when RefusesSo store (Ok output) opened refuses = tt
+opened_when RefusesSo store (Err e) opened refuses = opened_refused RefusesSo store e opened refuses
+
+pub opened_refuses : (RefusesSo : StoreView → Refusal → Type 0) (store : StoreView) (done : Result Output Refusal) (result : Result Answer Fault) → WasOpened store
+    → IfErr done (RefusesSo store) → IfErr result (λ e. (reason : Refusal) × (done ≡ Err reason) × (reason_of e ≡ refusal reason))
+    → IfErr result (λ e. IsRefusalBy (IsRefusedOpened RefusesSo) (reason_of e))
+opened_refuses RefusesSo store done result opened refuses closed =
+    closed_refuses (IsRefusedOpened RefusesSo) done result (opened_when RefusesSo store done opened refuses) closed
+
+-- a refusal of one kind is one of a wider kind
+pub refused_wider : (Is May : Refusal → Type 0) (reason : Reason) → ((e : Refusal) → Is e → May e) → IsRefusalBy Is reason → IsRefusalBy May reason
+refused_wider Is May mistake wider is = absurd is
+refused_wider Is May (refusal e) wider is = wider e is
+refused_wider Is May (unopened cause) wider is = wider Io is
+refused_wider Is May unread wider is = absurd is
+refused_wider Is May unwritten wider is = absurd is
+
+-- no store was opened
+pub not_opened : (RefusesSo : StoreView → Refusal → Type 0) (reason : Reason) → IsRefusalBy IsOpeningRefusal reason → IsRefusalBy (IsRefusedOpened RefusesSo) reason
+not_opened RefusesSo reason is = refused_wider IsOpeningRefusal (IsRefusedOpened RefusesSo) reason (λ e may. inl may) is
+
+-- want of memory, and a fault, are what an opening may be refused with, and a check
+pub file_refused : (e : Refusal) → (e ≡ NoMemory) ⊎ (e ≡ Io) → IsOpeningRefusal e
+file_refused e (inl is) = memory_opening e is
+file_refused e (inr is) = subst IsOpeningRefusal (sym is) (inr tt)
+
+pub file_unchecked : (e : Refusal) → (e ≡ NoMemory) ⊎ (e ≡ Io) → IsCheckRefusal e
+file_unchecked e (inl is) = subst IsCheckRefusal (sym is) tt
+file_unchecked e (inr is) = subst IsCheckRefusal (sym is) tt
+
+-- a refusal as it is told
+pub told_as : (Is : Refusal → Type 0) (e : Refusal) (reason : Reason) → reason ≡ refusal e → Is e → IsRefusalBy Is reason
+told_as Is e reason told is = subst (IsRefusalBy Is) (sym told) is
+
+-- the numbers of a store that was just opened, and steps that want memory
+pub numbers_refuse : (store : StoreView) (done : Result Output Refusal) → WasOpened store → IfErr done (λ e. (e ≡ NoMemory) ⊎ (stat_answer (machine_of store) ≡ Err e))
+    → IfErr done IsOpeningRefusal
+numbers_refuse store (Ok output) opened refused = tt
+numbers_refuse store (Err e) opened refused = numbers_refused store e opened refused
+
+pub memory_refuses : (done : Result Output Refusal) → IfErr done (λ e. e ≡ NoMemory) → IfErr done IsOpeningRefusal
+memory_refuses (Ok output) refused = tt
+memory_refuses (Err e) refused = memory_opening e refused

@@ -1,7 +1,7 @@
 -- What the program prints.
-use Rattle.std.specs.Prelude.{◌≡◌, ◌⊎◌, ℕ, ◌+◌, ◌*◌, ◌==◌, List, [], ◌∷◌, ◌++◌, map, Option, Some, None, Result, Ok, Err, IfOk, IsTrue, false, true, codes, decimal, string_bytes}
+use Rattle.std.specs.Prelude.{◌≡◌, ◌⊎◌, ℕ, ◌+◌, ◌*◌, ◌==◌, List, [], ◌∷◌, ◌++◌, map, Option, Some, None, is_some, Result, Ok, Err, IfOk, IsTrue, false, true, codes, decimal, string_bytes}
 use Rattle.std.specs.Io.KnownBytes.{Appends}
-use Rattle.lsm_language.specs.Faults.{Reason, refusal, unwritten, reason_of}
+use Rattle.lsm_language.specs.Faults.{IsRefusalBy, Reason, refusal, unopened, unwritten, reason_of}
 use Rattle.lsm_language.specs.declared.fault.Fault.{Fault}
 use Rattle.lsm_codec.specs.Keys.{Bytes}
 use Rattle.lsm_codec.specs.Words.{word_of}
@@ -14,6 +14,7 @@ use Rattle.lsm_device.specs.Outcomes.{Leaves}
 use Rattle.lsm_device.specs.declared.file.FileDevice.{FileDevice}
 use Rattle.lsm_root.specs.Counted.{CallsMade}
 use Rattle.lsm_device.specs.declared.refusal.Refusal.{Refusal}
+use Rattle.lsm_device.specs.declared.refusal.Refusal.TheVariants.{Stopped}
 use Rattle.lsm_open.specs.CrashState.{formatted as empty_store}
 use Rattle.lsm_open.specs.Image.{StandFor}
 use Rattle.lsm_open.specs.ReadParts.{ReadsAtMost}
@@ -255,9 +256,10 @@ pub record OfDumped (output output_after : Option (List ℕ)) (answer : Answer) 
   pub appends : Appends output output_after printed
   pub dumps : OfOpened (HasDumped printed) answer
 
--- all lines of the input were answered, and the store was synced
+-- all lines of the input were answered, and the store, which is not stopped, was synced
 pub record HasServed (input output output_after : Option (List ℕ)) (before after : StoreView) (answered : Output) : Type 0 where
   pub serves : IsServed input (Ok tt) before after output output_after
+  pub runs : is_some after.state.stopped ≡ false
   pub told : answered ≡ Served
 
 -- What a request comes to, of this input: an answer, which is to be printed behind what the output holds then.
@@ -272,6 +274,7 @@ Comes other input output output_after answer = Gives other answer × (output_aft
 abbrev pub TellsDumped : Reason → Option (List ℕ) → Option (List ℕ) → Type 0
 TellsDumped (refusal e) output output_after = (IsOpeningRefusal e × (output_after ≡ output))
     ⊎ ((store : StoreView) × WasOpened store × StopsDumping (refusal e) store output output_after)
+TellsDumped (unopened cause) output output_after = output_after ≡ output
 TellsDumped unwritten output output_after = Unit {0}
 TellsDumped other output output_after = ⊥
 
@@ -292,11 +295,10 @@ pub record LoadsTo (input output output_after : Option (List ℕ)) (reason : Rea
 
 -- Why not all rows were loaded, and what was printed: a refusal, and nothing; or rows were put up to a fault.
 abbrev pub TellsLoaded : Option (List ℕ) → Reason → Option (List ℕ) → Option (List ℕ) → Type 0
-TellsLoaded input reason output output_after = ((e : Refusal) × (reason ≡ refusal e) × IsRefusedOpened (RefusesToLoad input) e × (output_after ≡ output))
+TellsLoaded input reason output output_after = (IsRefusalBy (IsRefusedOpened (RefusesToLoad input)) reason × (output_after ≡ output))
     ⊎ LoadsTo input output output_after reason
 
--- Why a store was not served to the end of the input: it was not opened, or there was no memory for a reader, and nothing was printed; or
--- lines were answered up to a fault.
+-- lines were answered up to a fault
 pub record ServesTo (input output output_after : Option (List ℕ)) (reason : Reason) : Type 0 where
   pub store : StoreView
   pub after : StoreView
@@ -305,5 +307,17 @@ pub record ServesTo (input output output_after : Option (List ℕ)) (reason : Re
   pub serves : IsServed input (Err fault) store after output output_after
   pub same : reason_of fault ≡ reason
 
+-- all were answered, but a write or a sync has failed meanwhile
+pub record ServesStopped (input output output_after : Option (List ℕ)) (reason : Reason) : Type 0 where
+  pub store : StoreView
+  pub after : StoreView
+  pub opened : WasOpened store
+  pub serves : IsServed input (Ok tt) store after output output_after
+  pub stopped : is_some after.state.stopped ≡ true
+  pub is : reason ≡ refusal Stopped
+
+-- Why a store was not served to the end of the input and synced then: it was not opened, or there was no memory for a reader, and nothing
+-- was printed; or lines were answered up to a fault; or it was stopped.
 abbrev pub TellsServed : Option (List ℕ) → Reason → Option (List ℕ) → Option (List ℕ) → Type 0
-TellsServed input reason output output_after = ((e : Refusal) × (reason ≡ refusal e) × IsOpeningRefusal e × (output_after ≡ output)) ⊎ ServesTo input output output_after reason
+TellsServed input reason output output_after = (IsRefusalBy IsOpeningRefusal reason × (output_after ≡ output))
+    ⊎ (ServesTo input output output_after reason ⊎ ServesStopped input output output_after reason)

@@ -6,7 +6,8 @@ use Rattle.lsm_requests.specs.declared.answer.Answer.{Answer}
 use Rattle.lsm_requests.specs.declared.answer.Output.{Output}
 use Rattle.lsm_requests.specs.declared.answer.Output.TheVariants.{Found, Explored, Tally}
 use Rattle.lsm_language.specs.declared.fault.Fault.{Fault}
-use Rattle.lsm_language.specs.Faults.{refusal_line, unopened_lines, Reason, refusal, unopened, reason_of, status_of}
+use Rattle.lsm_language.specs.declared.fault.Fault.TheVariants.{Refused, Failed, Unopened}
+use Rattle.lsm_language.specs.Faults.{failed_lines, refusal_line, unopened_lines, reason_of, status_of}
 use Rattle.lsm_requests.specs.Answers.{lines_of}
 
 -- the exit status of an answer: 1 where a check or an exploration found something wrong, or a tally is bad
@@ -27,16 +28,18 @@ abbrev pub PrintsAnswer : Result Answer Fault → Result (Unit {0}) Error → Op
 PrintsAnswer (Ok answer) written old new = OnOk written (Appends old new (lines_of answer))
 PrintsAnswer (Err fault) written old new = Keeps old new
 
--- a refusal is reported in one line, and a file that can't be opened in two; the text of any other fault is left open
-abbrev pub IsReported : Reason → Option (List ℕ) → Option (List ℕ) → Type 0
-IsReported (refusal r) old new = Appends old new (refusal_line r)
-IsReported (unopened cause) old new = Appends old new (unopened_lines cause)
+-- a refusal is reported in one line, and a call of a file that failed, or a file that can't be opened, in two; the text of any
+-- other fault is left open
+abbrev pub IsReported : Fault → Option (List ℕ) → Option (List ℕ) → Type 0
+IsReported (Refused r) old new = Appends old new (refusal_line r)
+IsReported (Failed failure) old new = Appends old new (failed_lines failure)
+IsReported (Unopened cause) old new = Appends old new (unopened_lines cause)
 IsReported _ old new = Unit {0}
 
 -- the errors are the fault, or stay as they are; that an answer could not be written is told as far as it can be
 abbrev pub PrintsFault : Result Answer Fault → Result (Unit {0}) Error → Option (List ℕ) → Option (List ℕ) → Type 0
 PrintsFault (Ok answer) written old new = OnOk written (Keeps old new)
-PrintsFault (Err fault) written old new = OnOk written (IsReported (reason_of fault) old new)
+PrintsFault (Err fault) written old new = OnOk written (IsReported fault old new)
 
 -- the bytes that the writers hold before and after, as far as they are known
 pub record Written : Type 0 where

@@ -7,6 +7,7 @@ use Rattle.lsm_store.specs.Backing.{StoreView}
 use Rattle.lsm_store.specs.Calls.{Done, LogRoom, Refused, Sync}
 use Rattle.lsm_store.specs.Serving.{Serves}
 use Rattle.lsm_language.specs.declared.fault.Fault.{Fault}
+use Rattle.lsm_language.specs.declared.fault.Fault.TheVariants as fault
 use Rattle.lsm_language.specs.Faults.{Reason, mistake, refusal, unread, reason_of}
 use Rattle.lsm_language.specs.Rows.{are_rows, lines_of, rows_of}
 use Rattle.lsm_requests.specs.Commits.{Adds, AddsNot, HasRoomForLog, IsKeptUp, Refuses, map_in}
@@ -181,6 +182,12 @@ none_waits old = record { batch = None; read = old.read; loaded = old.read }
 
 abbrev pub CommitsWaiting : Loading → StoreView → Loading → StoreView → Type 0
 CommitsWaiting old before new after = (new ≡ none_waits old) × StaysLoaded old before new after
+
+-- an end by a refusal
+abbrev pub is_refused : Result (Unit {0}) Fault → Bool
+is_refused (Err (fault.Refused e)) = true
+is_refused (Err (fault.Failed failure)) = true
+is_refused other = false
 
 -- why no more rows were read: those that were read are in the store, or wait
 abbrev pub StopsReading : Option (List ℕ) → Loading → StoreView → Refusal → StoreView → Type 0

@@ -3,7 +3,7 @@ use Rattle.std.specs.Prelude.{◌≡◌, ◌⊎◌, ℕ, Bool, true, false, List
 use Rattle.lsm_check.specs.Images.{IsCheckRefusal}
 use Rattle.lsm_device.specs.declared.refusal.Refusal.{Refusal}
 use Rattle.lsm_device.specs.declared.refusal.Refusal.TheVariants.{NoMemory, Io, NoSpace}
-use Rattle.lsm_language.specs.Faults.{Reason, refusal}
+use Rattle.lsm_language.specs.Faults.{IsRefusalBy, Reason}
 use Rattle.lsm_language.specs.declared.request.Request.{Request}
 use Rattle.lsm_language.specs.declared.request.Request.TheVariants as request
 use Rattle.lsm_open.specs.Recovering.{IsOpeningRefusal}
@@ -67,14 +67,9 @@ MayRefuse (request.Explore geometry script) e = e ≡ NoMemory
 MayRefuse (request.Storm load) e = IsStormRefusal e
 MayRefuse (request.Tally load) e = IsSessionRefusal e
 
--- such a refusal
-abbrev pub IsRefusalOf : Request → Reason → Type 0
-IsRefusalOf request (refusal e) = MayRefuse request e
-IsRefusalOf request other = ⊥
-
 -- why there is no answer, and what was printed then
 abbrev pub FaultsWith : Request → Option (List ℕ) → Reason → Option (List ℕ) → Option (List ℕ) → Type 0
 FaultsWith (request.Dump file) input reason output output_after = TellsDumped reason output output_after
 FaultsWith (request.Load file) input reason output output_after = TellsLoaded input reason output output_after
 FaultsWith (request.Serve file) input reason output output_after = TellsServed input reason output output_after
-FaultsWith other input reason output output_after = IsRefusalOf other reason × (output_after ≡ output)
+FaultsWith other input reason output output_after = IsRefusalBy (MayRefuse other) reason × (output_after ≡ output)

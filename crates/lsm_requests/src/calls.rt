@@ -1,22 +1,24 @@
 //! The calls of the store that a request makes, on a store in a file.
 
-ghost use Rattle.std.specs.Prelude.{◌≡◌, ◌⊎◌, [], ◌+◌, true, false, map, None, Err, IfErr, IfOk};
-ghost use Rattle.std.specs.Io.Buffered.{reader_remaining};
+ghost use Rattle.std.specs.Prelude.{◌≡◌, ◌⊎◌, [], ◌+◌, true, false, map, is_some, None, Ok, Err, IfErr, IfOk};
 ghost use Rattle.lsm_check.specs.Images.{IsCheckRefusal};
-ghost use Rattle.lsm_device.specs.declared.refusal.Refusal.TheVariants.{NoMemory, Io};
+ghost use Rattle.lsm_device.specs.declared.refusal.Refusal.TheVariants.{NoMemory, Io, Stopped};
+ghost use Rattle.lsm_device.specs.declared.refusal.Refusal.{Refusal};
+ghost use Rattle.lsm_language.specs.declared.fault.Fault.{Fault};
+ghost use Rattle.lsm_requests.specs.declared.answer.Output.TheVariants.{Loaded as LoadedRows, Served};
 ghost use Rattle.lsm_open.specs.Recovering.{IsOpeningRefusal};
 ghost use Rattle.lsm_store.specs.Backing.{machine_of};
 ghost use Rattle.lsm_store.specs.Calls.{Commit, CommitIf, Get, Scan};
 ghost use Rattle.lsm_store.specs.Stats.{stat_answer};
 ghost use Rattle.lsm_store.specs.declared.asked.At.TheVariants.{Now};
 ghost use Rattle.lsm_storm.specs.Storms.{IsStormRefusal};
-ghost use Rattle.lsm_language.specs.Faults.{reason_of};
+ghost use Rattle.lsm_language.specs.Faults.{IsRefusalBy, reason_of, refusal};
 ghost use Rattle.lsm_lives.specs.Calls.{asked_of};
 ghost use Rattle.lsm_requests.specs.Steps.{steps_after, lives_said, told_after, told_lives};
 ghost use Rattle.lsm_requests.specs.Replies.{table_line};
 ghost use Rattle.lsm_requests.specs.Commits.{HasCommitted};
 ghost use Rattle.lsm_requests.specs.Loading.{HasLoaded, KeepsAndLoads, RefusesToLoad};
-ghost use Rattle.lsm_requests.specs.Answers.{Comes, HasCompacted, HasFormatted, HasCounted, IsRefusedOpened, OfDumped, TellsDumped, TellsLoaded, TellsNumber, TellsServed, HasFound, HasServed, HasLives, HasNumbers, HasChecked, IsChecked, TellsFound, HasRows, HasReplies, OfOpened};
+ghost use Rattle.lsm_requests.specs.Answers.{Comes, Hands, HasCompacted, HasFormatted, HasCounted, IsRefusedOpened, OfDumped, TellsDumped, TellsLoaded, TellsNumber, TellsServed, HasFound, HasServed, HasLives, HasNumbers, HasChecked, IsChecked, TellsFound, HasRows, HasReplies, OfOpened};
 ghost use Rattle.lsm_requests.specs.Refusing.{FaultsWith, RefusesToCommit, RefusesToCompact, RefusesToTell};
 
 use crate::answer::{Answer, Output};
@@ -24,6 +26,7 @@ use crate::committing::{blocks_of_log, check_room, keep};
 use crate::dumping::dump_rows;
 use crate::exploring::explore;
 use crate::loading::{Loaded, load_rows};
+use crate::failing::{failed, with_error};
 use crate::opening::{create_beside, open, open_read_only, put_in_place};
 use crate::reply::{counts_text, push_page, report_text, table_text};
 use crate::steps::steps_of;
@@ -32,14 +35,14 @@ use crate::{committing, runs};
 use lsm_check::Finding;
 use lsm_codec::{Batch, Guard, word};
 use lsm_device::{Device, FileDevice, Refusal};
-use lsm_language::{Fault, Geometry, Line, Load, Request};
+use lsm_language::{Fault, Geometry, Line, Load, Request, buffered};
 use lsm_progress::Progress;
 use lsm_replies::stat_text;
 use lsm_store::{At, Store};
 use lsm_upkeep::compact_all_showing;
 use std::alloc::Global;
 use std::fs::{File, Files};
-use std::io::{BufRead, BufReader, Read, Write};
+use std::io::{BufRead, Read, Write};
 use std::sync::Wait;
 use std::thread::Threads;
 
@@ -61,23 +64,23 @@ pub fn answer_request<
     ensures faults { IfErr result (λ e. FaultsWith request.entry (I.remaining input.old) (reason_of e) (O.contents output.old) (O.contents output.new)) }
 {
     match request {
-        Request::Format { file, geometry } => Ok(format(rt, file, geometry)?),
-        Request::Put { file, batch } => Ok(put(rt, file, &batch)?),
+        Request::Format { file, geometry } => format(rt, file, geometry),
+        Request::Put { file, batch } => put(rt, file, &batch),
         Request::PutIf {
             file,
             guards,
             batch,
-        } => Ok(put_if(rt, file, &guards, &batch)?),
-        Request::Delete { file, batch } => Ok(delete(rt, file, &batch)?),
-        Request::Get { file, key } => Ok(get(rt, file, &key)?),
-        Request::Scan { file, from, limit } => Ok(scan(rt, file, &from, limit)?),
-        Request::Stat { file } => Ok(stat(rt, file)?),
-        Request::Check { file } => Ok(check(rt, file)?),
-        Request::Compact { file } => Ok(compact(rt, file, progress)?),
+        } => put_if(rt, file, &guards, &batch),
+        Request::Delete { file, batch } => delete(rt, file, &batch),
+        Request::Get { file, key } => get(rt, file, &key),
+        Request::Scan { file, from, limit } => scan(rt, file, &from, limit),
+        Request::Stat { file } => stat(rt, file),
+        Request::Check { file } => check(rt, file),
+        Request::Compact { file } => compact(rt, file, progress),
         Request::Dump { file } => dump(rt, file, output),
         Request::Load { file } => load(rt, file, input, output, progress),
         Request::Serve { file } => serve(rt, file, input, output),
-        Request::Replay { file, script } => Ok(replay(rt, file, script)?),
+        Request::Replay { file, script } => replay(rt, file, script),
         Request::Lives { geometry, script } => Ok(lives(rt, rt.alloc(), geometry, script)?),
         Request::Explore { geometry, script } => {
             Ok(explore(rt, rt.alloc(), geometry, script, progress)?)
@@ -91,13 +94,28 @@ fn compact<R: Files<File = File> + AllocGlobal + Threads + Sync, P: Progress>(
     rt: &R,
     file: &str,
     progress: &mut P,
-) -> Result<Answer, Refusal>
+) -> Result<Answer, Fault>
     ensures gives { IfOk result (OfOpened HasCompacted) }
-    ensures refused { IfErr result (IsRefusedOpened RefusesToCompact) }
+    ensures refused { IfErr result (λ e. IsRefusalBy (IsRefusedOpened RefusesToCompact) (reason_of e)) }
 {
     let mut store = open(rt, file)?;
-    let output = keep_and_compact(rt, rt.alloc(), &mut store, progress)?;
-    Ok(Answer::of_store(output, store))
+    let done = keep_and_compact(rt, rt.alloc(), &mut store, progress);
+    closed(rt.alloc(), store, done)
+}
+
+// What calls on the store in a file came to, which is closed by it.
+fn closed(
+    alloc: Global,
+    store: Store<FileDevice>,
+    done: Result<Output, Refusal>,
+) -> Result<Answer, Fault>
+    ensures answer { IfOk result (λ answer. (done ≡ Ok answer.output) × Hands answer.file store.device) }
+    ensures refused { IfErr result (λ e. (reason : Refusal) × (done ≡ Err reason) × (reason_of e ≡ refusal reason)) }
+{
+    match done {
+        Ok(output) => Ok(Answer::of_store(output, store)),
+        Err(reason) => Err(failed(alloc, reason, &store.into_device())),
+    }
 }
 
 // Keeps a store up, then compacts it, and tells its numbers.
@@ -125,8 +143,10 @@ fn dump<R: Files<File = File> + AllocGlobal, O: Write>(
     ensures fault { IfErr result (λ e. TellsDumped (reason_of e) (O.contents output.old) (O.contents output.new)) }
 {
     let mut store = open(rt, file)?;
-    dump_rows(rt.alloc(), &mut store, output)?;
-    Ok(Answer::of_store(Output::Dumped, store))
+    match dump_rows(rt.alloc(), &mut store, output) {
+        Ok(()) => Ok(Answer::of_store(Output::Dumped, store)),
+        Err(fault) => Err(with_error(rt.alloc(), fault, &store.into_device())),
+    }
 }
 
 fn load<R: Files<File = File> + AllocGlobal + Threads + Sync, I: Read, O: Write, P: Progress>(
@@ -141,14 +161,35 @@ fn load<R: Files<File = File> + AllocGlobal + Threads + Sync, I: Read, O: Write,
 {
     let mut store = open(rt, file)?;
     let mut lines = buffered(rt.alloc(), input)?;
-    let Loaded { rows, ended } = keep_and_load(rt, rt.alloc(), &mut store, &mut lines, progress)?;
-    match ended {
-        Ok(()) => Ok(Answer::of_store(Output::Loaded(rows), store)),
-        Err(fault) => Err(told_first(rows, fault, output)),
+    match keep_and_load(rt, rt.alloc(), &mut store, &mut lines, progress) {
+        Ok(loaded) => loaded_so(rt.alloc(), store, loaded, output),
+        Err(reason) => Err(failed(rt.alloc(), reason, &store.into_device())),
     }
 }
 
-// Answers the lines of an input, with the store open all the while.
+// What a loading came to, whose store is closed by it. If it ended before its input did, the number of its rows is printed.
+fn loaded_so<O: Write>(
+    alloc: Global,
+    store: Store<FileDevice>,
+    loaded: Loaded,
+    output: &mut O,
+) -> Result<Answer, Fault>
+    ensures answer { IfOk result (λ answer. (loaded.ended ≡ Ok tt) × (answer.output ≡ LoadedRows loaded.rows) × Hands answer.file store.device
+        × (O.contents output.new ≡ O.contents output.old)) }
+    ensures fault { IfErr result (λ e. (fault : Fault) × (loaded.ended ≡ Err fault)
+        × TellsNumber loaded.rows (reason_of fault) (reason_of e) (O.contents output.old) (O.contents output.new)) }
+{
+    let Loaded { rows, ended } = loaded;
+    match ended {
+        Ok(()) => Ok(Answer::of_store(Output::Loaded(rows), store)),
+        Err(fault) => {
+            let told = with_error(alloc, fault, &store.into_device());
+            Err(told_first(rows, told, output))
+        }
+    }
+}
+
+// Answers the lines of an input, with the store open all the while. A store that a failed write or sync has stopped is told at the end.
 fn serve<R: Files<File = File> + AllocGlobal + Threads + Sync, I: Read, O: Write>(
     rt: &R,
     file: &str,
@@ -160,8 +201,21 @@ fn serve<R: Files<File = File> + AllocGlobal + Threads + Sync, I: Read, O: Write
 {
     let mut store = open(rt, file)?;
     let mut lines = buffered(rt.alloc(), input)?;
-    lsm_serve::serve(rt, rt.alloc(), &mut store, &mut lines, output)?;
-    Ok(Answer::of_store(Output::Served, store))
+    match lsm_serve::serve(rt, rt.alloc(), &mut store, &mut lines, output) {
+        Ok(()) => served(rt.alloc(), store),
+        Err(fault) => Err(with_error(rt.alloc(), fault, &store.into_device())),
+    }
+}
+
+// The answer to whoever had all lines answered, if the store wasn't stopped meanwhile.
+fn served(alloc: Global, store: Store<FileDevice>) -> Result<Answer, Fault>
+    ensures answer { IfOk result (λ answer. (answer.output ≡ Served) × Hands answer.file store.device × (is_some store.state.stopped ≡ false)) }
+    ensures fault { IfErr result (λ e. (reason_of e ≡ refusal Stopped) × (is_some store.state.stopped ≡ true)) }
+{
+    match store.stat() {
+        Ok(_) => Ok(Answer::of_store(Output::Served, store)),
+        Err(reason) => Err(failed(alloc, reason, &store.into_device())),
+    }
 }
 
 // Keeps a store up, then loads rows.
@@ -180,17 +234,6 @@ fn keep_and_load<R: Threads + Sync, D: Device, I: BufRead, P: Progress>(
     load_rows(rt, alloc, store, lines, progress)
 }
 
-// A reader that takes in 64 KiB at a time.
-fn buffered<I: Read>(alloc: Global, input: &mut I) -> Result<BufReader<&mut I>, Refusal>
-    ensures lines { IfOk result (λ lines. reader_remaining (λ input. I.remaining input.now) lines ≡ I.remaining input.old) }
-    ensures refused { IfErr result (λ e. e ≡ NoMemory) }
-{
-    match BufReader::with_capacity(alloc, 65_536, input) {
-        Ok(lines) => Ok(lines),
-        Err(_) => Err(Refusal::NoMemory),
-    }
-}
-
 // Prints how many rows were loaded before the fault.
 fn told_first<O: Write>(rows: u64, fault: Fault, output: &mut O) -> Fault
     ensures { TellsNumber rows (reason_of fault) (reason_of result) (O.contents output.old) (O.contents output.new) }
@@ -205,9 +248,9 @@ fn format<R: Files<File = File> + AllocGlobal>(
     rt: &R,
     file: &str,
     geometry: Geometry,
-) -> Result<Answer, Refusal>
+) -> Result<Answer, Fault>
     ensures gives { IfOk result (HasFormatted geometry.sectors geometry.log_sectors) }
-    ensures refused { IfErr result (λ e. (e ≡ NoMemory) ⊎ (e ≡ Io)) }
+    ensures refused { IfErr result (λ e. IsRefusalBy (λ r. (r ≡ NoMemory) ⊎ (r ≡ Io)) (reason_of e)) }
 {
     let (device, replacement) = create_beside(rt, file, geometry.sectors())?;
     match lsm_open::format(rt.alloc(), device, geometry.log_sectors()) {
@@ -219,9 +262,10 @@ fn format<R: Files<File = File> + AllocGlobal>(
             })
         }
         Err((refusal, device)) => {
+            let fault = failed(rt.alloc(), refusal, &device);
             drop(device);
             replacement.give_up(rt);
-            Err(refusal)
+            Err(fault)
         }
     }
 }
@@ -230,13 +274,13 @@ fn put<R: Files<File = File> + AllocGlobal + Threads + Sync>(
     rt: &R,
     file: &str,
     batch: &Batch,
-) -> Result<Answer, Refusal>
+) -> Result<Answer, Fault>
     ensures gives { IfOk result (OfOpened (HasCommitted true (Commit batch.now))) }
-    ensures refused { IfErr result (IsRefusedOpened (RefusesToCommit true (Commit batch.now))) }
+    ensures refused { IfErr result (λ e. IsRefusalBy (IsRefusedOpened (RefusesToCommit true (Commit batch.now))) (reason_of e)) }
 {
     let mut store = open(rt, file)?;
-    let output = committing::put(rt, rt.alloc(), &mut store, batch)?;
-    Ok(Answer::of_store(output, store))
+    let done = committing::put(rt, rt.alloc(), &mut store, batch);
+    closed(rt.alloc(), store, done)
 }
 
 fn put_if<R: Files<File = File> + AllocGlobal + Threads + Sync>(
@@ -244,39 +288,39 @@ fn put_if<R: Files<File = File> + AllocGlobal + Threads + Sync>(
     file: &str,
     guards: &[Guard],
     batch: &Batch,
-) -> Result<Answer, Refusal>
+) -> Result<Answer, Fault>
     ensures gives { IfOk result (OfOpened (HasCommitted true (CommitIf guards.now batch.now))) }
-    ensures refused { IfErr result (IsRefusedOpened (RefusesToCommit true (CommitIf guards.now batch.now))) }
+    ensures refused { IfErr result (λ e. IsRefusalBy (IsRefusedOpened (RefusesToCommit true (CommitIf guards.now batch.now))) (reason_of e)) }
 {
     let mut store = open(rt, file)?;
-    let output = committing::put_if(rt, rt.alloc(), &mut store, guards, batch)?;
-    Ok(Answer::of_store(output, store))
+    let done = committing::put_if(rt, rt.alloc(), &mut store, guards, batch);
+    closed(rt.alloc(), store, done)
 }
 
 fn delete<R: Files<File = File> + AllocGlobal + Threads + Sync>(
     rt: &R,
     file: &str,
     batch: &Batch,
-) -> Result<Answer, Refusal>
+) -> Result<Answer, Fault>
     ensures gives { IfOk result (OfOpened (HasCommitted false (Commit batch.now))) }
-    ensures refused { IfErr result (IsRefusedOpened (RefusesToCommit false (Commit batch.now))) }
+    ensures refused { IfErr result (λ e. IsRefusalBy (IsRefusedOpened (RefusesToCommit false (Commit batch.now))) (reason_of e)) }
 {
     let mut store = open(rt, file)?;
-    let output = committing::delete(rt, rt.alloc(), &mut store, batch)?;
-    Ok(Answer::of_store(output, store))
+    let done = committing::delete(rt, rt.alloc(), &mut store, batch);
+    closed(rt.alloc(), store, done)
 }
 
 fn get<R: Files<File = File> + AllocGlobal>(
     rt: &R,
     file: &str,
     key: &[u8],
-) -> Result<Answer, Refusal>
+) -> Result<Answer, Fault>
     ensures gives { IfOk result (OfOpened (HasFound key.now)) }
-    ensures refused { IfErr result (IsRefusedOpened (RefusesToTell (Get Now key.now))) }
+    ensures refused { IfErr result (λ e. IsRefusalBy (IsRefusedOpened (RefusesToTell (Get Now key.now))) (reason_of e)) }
 {
     let mut store = open(rt, file)?;
-    let output = find(rt.alloc(), &mut store, key)?;
-    Ok(Answer::of_store(output, store))
+    let done = find(rt.alloc(), &mut store, key);
+    closed(rt.alloc(), store, done)
 }
 
 // Looks a key up.
@@ -294,14 +338,14 @@ fn replay<R: Files<File = File> + AllocGlobal + Threads + Sync>(
     rt: &R,
     file: &str,
     script: Vec<Line>,
-) -> Result<Answer, Refusal>
+) -> Result<Answer, Fault>
     ensures gives { IfOk result (OfOpened (HasReplies (map asked_of (steps_after [] script.items)) (told_after [] script.items))) }
-    ensures refused { IfErr result IsOpeningRefusal }
+    ensures refused { IfErr result (λ e. IsRefusalBy IsOpeningRefusal (reason_of e)) }
 {
     let steps = steps_of(rt.alloc(), script)?;
     let mut store = open(rt, file)?;
-    let output = runs::replay(rt, rt.alloc(), &mut store, &steps)?;
-    Ok(Answer::of_store(output, store))
+    let done = runs::replay(rt, rt.alloc(), &mut store, &steps);
+    closed(rt.alloc(), store, done)
 }
 
 fn scan<R: Files<File = File> + AllocGlobal>(
@@ -309,13 +353,13 @@ fn scan<R: Files<File = File> + AllocGlobal>(
     file: &str,
     from: &[u8],
     limit: u64,
-) -> Result<Answer, Refusal>
+) -> Result<Answer, Fault>
     ensures gives { IfOk result (OfOpened (HasRows from.now limit)) }
-    ensures refused { IfErr result (IsRefusedOpened (RefusesToTell (Scan Now from.now None limit))) }
+    ensures refused { IfErr result (λ e. IsRefusalBy (IsRefusedOpened (RefusesToTell (Scan Now from.now None limit))) (reason_of e)) }
 {
     let mut store = open(rt, file)?;
-    let output = list(rt.alloc(), &mut store, from, limit)?;
-    Ok(Answer::of_store(output, store))
+    let done = list(rt.alloc(), &mut store, from, limit);
+    closed(rt.alloc(), store, done)
 }
 
 // Lists a page.
@@ -343,13 +387,13 @@ fn numbers<D: Device>(alloc: Global, store: &Store<D>) -> Result<Output, Refusal
     Ok(Output::Lines(stat_text(alloc, &stat)?))
 }
 
-fn stat<R: Files<File = File> + AllocGlobal>(rt: &R, file: &str) -> Result<Answer, Refusal>
+fn stat<R: Files<File = File> + AllocGlobal>(rt: &R, file: &str) -> Result<Answer, Fault>
     ensures gives { IfOk result (OfOpened HasNumbers) }
-    ensures refused { IfErr result IsOpeningRefusal }
+    ensures refused { IfErr result (λ e. IsRefusalBy IsOpeningRefusal (reason_of e)) }
 {
     let store = open(rt, file)?;
-    let output = numbers(rt.alloc(), &store)?;
-    Ok(Answer::of_store(output, store))
+    let done = numbers(rt.alloc(), &store);
+    closed(rt.alloc(), store, done)
 }
 
 // Checks a device, and tells what comes of it.
@@ -375,16 +419,18 @@ fn found(alloc: Global, what: &str, number: u64) -> Result<Output, Refusal>
     Ok(Output::Found(table_text(alloc, what, number)?))
 }
 
-fn check<R: Files<File = File> + AllocGlobal>(rt: &R, file: &str) -> Result<Answer, Refusal>
+fn check<R: Files<File = File> + AllocGlobal>(rt: &R, file: &str) -> Result<Answer, Fault>
     ensures gives { IfOk result HasChecked }
-    ensures refused { IfErr result IsCheckRefusal }
+    ensures refused { IfErr result (λ e. IsRefusalBy IsCheckRefusal (reason_of e)) }
 {
     let mut device = open_read_only(rt, file)?;
-    let output = checked(rt.alloc(), &mut device)?;
-    Ok(Answer {
-        output,
-        file: Some(device),
-    })
+    match checked(rt.alloc(), &mut device) {
+        Ok(output) => Ok(Answer {
+            output,
+            file: Some(device),
+        }),
+        Err(reason) => Err(failed(rt.alloc(), reason, &device)),
+    }
 }
 
 fn lives<R: Threads + Sync>(

@@ -3,12 +3,11 @@
 ghost use Rattle.std.specs.Prelude.{◌≡◌, ◌≤◌, OnOk};
 ghost use Rattle.std.specs.Io.KnownBytes.{Appends, Keeps};
 ghost use Rattle.lsm_requests.specs.Answers.{lines_of};
-ghost use Rattle.lsm_language.specs.Faults.{reason_of};
 ghost use Rattle.lsm_requests.specs.Endings.{Concludes, IsReported, answer_status, status_after};
 
 use crate::answer::{Answer, Output};
 use lsm_device::Refusal;
-use lsm_language::{Fault, Usage, cause_text, refusal_text};
+use lsm_language::{Fault, Usage, cause_text, failure_text, refusal_text};
 use std::io;
 use std::io::Write;
 
@@ -50,8 +49,8 @@ fn status(answered: &Result<Answer, Fault>, written: &io::Result<()>) -> u8
     }
     match answered {
         Ok(answer) => answer_status(answer),
-        Err(Fault::Refused(_) | Fault::Unopened(_) | Fault::Input(_) | Fault::Output(_)) => REFUSED,
         Err(Fault::Usage(_)) => USAGE,
+        Err(_) => REFUSED,
     }
 }
 
@@ -99,12 +98,17 @@ fn print<O: Write>(output: &mut O, answer: &Answer) -> io::Result<()>
 
 // The parser's texts end with a line feed of their own.
 fn report<E: Write>(errors: &mut E, fault: &Fault) -> io::Result<()>
-    ensures { OnOk result (IsReported (reason_of fault.now) (E.contents errors.old) (E.contents errors.new)) }
+    ensures { OnOk result (IsReported fault.now (E.contents errors.old) (E.contents errors.new)) }
 {
     match fault {
         Fault::Refused(refusal) => {
             let refused = refusal_text(refusal);
             writeln!(errors, "{refused}")?;
+        }
+        Fault::Failed(failure) => {
+            let refused = refusal_text(failure.refusal());
+            let text = failure_text(failure);
+            writeln!(errors, "{refused}\nerror: {text}")?;
         }
         Fault::Unopened(cause) => {
             let refused = refusal_text(&Refusal::Io);

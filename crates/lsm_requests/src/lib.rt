@@ -7,6 +7,7 @@ mod committing;
 mod dumping;
 mod ending;
 mod exploring;
+mod failing;
 mod loading;
 mod opening;
 mod reply;

@@ -5,12 +5,12 @@ ghost use Rattle.lsm_device.specs.declared.refusal.Refusal.TheVariants.{BatchToo
 ghost use Rattle.lsm_language.specs.Faults.{mistake, reason_of, refusal};
 ghost use Rattle.lsm_language.specs.Rows.{row_said};
 ghost use Rattle.lsm_requests.specs.Commits.{AddsNot};
-ghost use Rattle.lsm_requests.specs.Loading.{AddsWaiting, ArePut, AreRead, CommitsWaiting, Fits, IsLoaded, RefusesLastSync, Takes, TakesNot, WaitingRefused, none_loaded, rows_waiting};
+ghost use Rattle.lsm_requests.specs.Loading.{AddsWaiting, ArePut, AreRead, CommitsWaiting, Fits, IsLoaded, RefusesLastSync, Takes, TakesNot, WaitingRefused, is_refused, none_loaded, rows_waiting};
 
 use crate::committing::add;
 use lsm_codec::{Batch, Op};
 use lsm_device::{Device, Refusal};
-use lsm_language::{Fault, Unread, Usage, next_line, read_row};
+use lsm_language::{Fault, MOST_ROW, Unread, Usage, beginning, next_line, read_row};
 use lsm_progress::{Milestone, Progress};
 use lsm_store::Store;
 use std::alloc::Global;
@@ -73,11 +73,17 @@ fn load_all<R: Threads + Sync, D: Device, I: BufRead, P: Progress>(
     ensures { ArePut (I.remaining input.old) result loading.new store.old store.new }
 {
     let read = read_rows(rt, alloc, store, input, loading, progress);
-    if let Err(Fault::Refused(_)) = &read {
+    if is_refused(&read) {
         return read;
     }
     commit_waiting(rt, alloc, store, loading)?;
     read
+}
+
+fn is_refused(ended: &Result<(), Fault>) -> bool
+    ensures { result ≡ is_refused ended.now }
+{
+    matches!(ended, Err(Fault::Refused(_) | Fault::Failed(_)))
 }
 
 // Reads rows to the end of the input, and commits all but the last of them.
@@ -94,7 +100,7 @@ fn read_rows<R: Threads + Sync, D: Device, I: BufRead, P: Progress>(
 {
     let mut line = Vec::new(alloc);
     for _ in 0..u64::MAX {
-        if !next_line(input, &mut line)? {
+        if !next_line(input, MOST_ROW, &mut line)? {
             return Ok(());
         }
         let row = row_in(alloc, loading.read, &line)?;
@@ -113,7 +119,7 @@ fn row_in(alloc: Global, before: u64, line: &[u8]) -> Result<Op, Fault>
     match read_row(alloc, line) {
         Ok(row) => Ok(row),
         Err(Unread::Malformed) => {
-            let line = String::from_utf8_lossy(alloc, line)?;
+            let line = String::from_utf8_lossy(alloc, beginning(line))?;
             let number = before.saturating_add(1);
             Err(Fault::Usage(Usage::Row { number, line }))
         }

@@ -27,13 +27,9 @@ use std::thread::Threads;
 fn main(rt: HostRuntime) -> ExitCode {
     let _held = fill_closed(&rt);
     let (mut input, mut output, mut errors) = (rt.stdin(), rt.stdout(), rt.stderr());
-    let terminal = rt.stderr();
-    let shown = if terminal.is_terminal() {
-        Some(terminal)
-    } else {
-        None
-    };
-    let mut meter = Meter::new(&rt, shown);
+    let shown = rt.stderr();
+    let is_terminal = shown.is_terminal();
+    let mut meter = Meter::new(&rt, shown, is_terminal);
     ExitCode::from(status(&rt, &mut input, &mut output, &mut errors, &mut meter))
 }
 

@@ -1,4 +1,4 @@
-//! How far a call is, shown on a terminal.
+//! How far a call is, on standard error.
 
 use lsm_progress::{Milestone, Progress};
 use std::io::Write;
@@ -8,21 +8,23 @@ use std::time::Instant;
 /// For so many seconds it shows nothing after a line, or after the start of the program.
 const PAUSE: u64 = 1;
 
-/// Shows the milestones of a call, a line each, at most one a second.
+/// Shows the milestones of a call, a line each, at most one a second: on a terminal all of them, and elsewhere how many rows are loaded,
+/// which whoever ends a load by a signal wants to know.
 #[derive(Drop)]
 pub(crate) struct Meter<'a, R: Clock, T: Write> {
     clock: &'a R,
-    // Where the lines go: none where nobody looks.
-    terminal: Option<T>,
+    errors: T,
+    is_terminal: bool,
     // When the last one was shown, or the program began; none where the clock can't be read.
     last: Option<Instant>,
 }
 
 impl<'a, R: Clock, T: Write> Meter<'a, R, T> {
-    pub(crate) fn new(clock: &'a R, terminal: Option<T>) -> Self {
+    pub(crate) fn new(clock: &'a R, errors: T, is_terminal: bool) -> Self {
         Meter {
             clock,
-            terminal,
+            errors,
+            is_terminal,
             last: Instant::now(clock).ok(),
         }
     }
@@ -41,12 +43,11 @@ impl<'a, R: Clock, T: Write> Meter<'a, R, T> {
 
 impl<R: Clock, T: Write> Progress for Meter<'_, R, T> {
     fn reached(&mut self, milestone: Milestone) {
-        if self.terminal.is_none() || !self.is_due() {
+        let is_shown = self.is_terminal || matches!(milestone, Milestone::Loaded { .. });
+        if !is_shown || !self.is_due() {
             return;
         }
         self.last = Instant::now(self.clock).ok();
-        if let Some(terminal) = &mut self.terminal {
-            let _ = writeln!(terminal, "{milestone}");
-        }
+        let _ = writeln!(self.errors, "{milestone}");
     }
 }

@@ -1,8 +1,7 @@
 use Rattle.std.proofs.Common.{ap, inl, inr, map, refl, rules}
 use Rattle.std.proofs.lemmas.Result.{err_from_is_err_and}
-use Rattle.lsm_language.specs.Faults.{reason_of}
 use Rattle.lsm_cli.specs.Runs.{IsRead}
-use Rattle.lsm_cli.proofs.RunLaws.{comes_of, faults_of, keeps, untried-request, untried-script, untried-words}
+use Rattle.lsm_cli.proofs.RunLaws.{answered_so, keeps, untried-request, untried-script, untried-words}
 use Rattle.lsm_cli.proofs.program.answer.Goals as goal
 
 pub returns-in_err-asked : goal.returns-in_err-asked
@@ -23,24 +22,8 @@ returns-in_err-request g c =
     let p = err_from_is_err_and c.from_residual-in_err-request.result c.from_residual-in_err-request.ensures.1 in
     rw (p.1, p.2) (inl (untried-request words input _ _ _ read c.in_err-request.ensures, keeps _ _ refl))
 
-pub returns-in-Ok : goal.returns-in-Ok
-returns-in-Ok g c =
-    let read : IsRead (map g.S.AsStr.text c.args.words.now) (g.I.Read.remaining c.args.input.now) c.in_ok-asked.asked c.deref.result.now = record { words_ask = search rules; whole = search rules } in
-    let says = c.in_ok-request.ensures.1 in
-    record {
-      request = c.in_ok-request.request;
-      requested = record { asked = c.in_ok-asked.asked; text = c.deref.result.now; read = read; sound = c.in_ok-request.ensures.0; says = says };
-      comes = comes_of c.in_ok-asked.asked c.deref.result.now _ _ _ _ (λ none. ap g.I.Read.remaining (c.in_ok-text.ensures.untouched none)) c.in_ok-request.request c.in-Ok.answer says c.in-Ok.ensures.comes;
-    }
-
 pub returns : goal.returns
 returns g c =
     let read : IsRead (map g.S.AsStr.text c.args.words.now) (g.I.Read.remaining c.args.input.now) c.in_ok-asked.asked c.deref.result.now = record { words_ask = search rules; whole = search rules } in
-    let says = c.in_ok-request.ensures.1 in
-    inr record {
-      request = c.in_ok-request.request;
-      requested = record { asked = c.in_ok-asked.asked; text = c.deref.result.now; read = read; sound = c.in_ok-request.ensures.0; says = says };
-      why = reason_of c.in-Err.fault;
-      faults = faults_of c.in_ok-asked.asked c.deref.result.now _ _ _ _ (λ none. ap g.I.Read.remaining (c.in_ok-text.ensures.untouched none)) c.in_ok-request.request (reason_of c.in-Err.fault) says c.in-Err.ensures.faults;
-      is = c.told.ensures;
-    }
+    answered_so _ _ _ _ _ c.in_ok-asked.asked c.deref.result.now c.in_ok-request.request c.answer_request.result read c.in_ok-request.ensures.0 c.in_ok-request.ensures.1
+    (λ none. ap g.I.Read.remaining (c.in_ok-text.ensures.untouched none)) c.answer_request.ensures.comes c.answer_request.ensures.faults

@@ -1,4 +1,6 @@
-use Rattle.std.proofs.Common.{rules}
+use Rattle.std.proofs.Common.{rules, inr}
+use Rattle.std.proofs.lemmas.Result.{err_from_is_err_and}
+use Rattle.lsm_requests.proofs.RefusedLaws.{refused_wider}
 use Rattle.lsm_requests.proofs.calls.format.Goals as goal
 
 pub returns-in_ok-put_in_place-in-Ok-clause-gives : goal.returns-in_ok-put_in_place-in-Ok-clause-gives
@@ -10,3 +12,8 @@ returns-in_ok-put_in_place-in-Ok-clause-gives g c = record {
   hands = search rules;
   told = search rules;
 }
+
+pub returns-in_err-put_in_place-in-Ok-clause-refused : goal.returns-in_err-put_in_place-in-Ok-clause-refused
+returns-in_err-put_in_place-in-Ok-clause-refused g c =
+    let p = err_from_is_err_and c.from_residual-in_err-put_in_place-in-Ok.result c.from_residual-in_err-put_in_place-in-Ok.ensures.1 in
+    rw (p.1, p.2) (refused_wider _ _ _ (λ e is. inr is) c.in_err-put_in_place-in-Ok.ensures.refused)

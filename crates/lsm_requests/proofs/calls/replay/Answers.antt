@@ -1,17 +1,13 @@
-use Rattle.std.proofs.Common.{rules}
-use Rattle.std.proofs.lemmas.Result.{err_from_is_err_and}
-use Rattle.lsm_requests.proofs.RefusedLaws.{memory_opening}
+use Rattle.std.proofs.Common.{◌≡◌, map, []}
+use Rattle.lsm_open.specs.Recovering.{IsOpeningRefusal}
+use Rattle.lsm_lives.specs.Calls.{asked_of}
+use Rattle.lsm_requests.specs.Answers.{HasReplies}
+use Rattle.lsm_requests.specs.Steps.{steps_after, told_after}
+use Rattle.lsm_requests.proofs.RefusedLaws.{closed_answers, closed_refuses, memory_refuses}
 use Rattle.lsm_requests.proofs.calls.replay.Goals as goal
 
 pub returns-clause-gives : goal.returns-clause-gives
-returns-clause-gives g c = record {
-  store = c.in_ok-store.store;
-  after = c.replay.new.store;
-  opened = search rules;
-  tells = search rules;
-  hands = search rules;
-}
+returns-clause-gives g c = closed_answers _ c.in_ok-store.store c.replay-done.new.store _ _ c.in_ok-store.ensures.opened c.replay-done.ensures.tells c.closed.ensures.answer
 
-pub returns-in_err-output-clause-refused : goal.returns-in_err-output-clause-refused
-returns-in_err-output-clause-refused g c =
-    let p = err_from_is_err_and c.from_residual-in_err-output.result c.from_residual-in_err-output.ensures.1 in rw (p.1, p.2) (memory_opening _ c.in_err-output.ensures.refused)
+pub returns-clause-refused : goal.returns-clause-refused
+returns-clause-refused g c = closed_refuses IsOpeningRefusal _ _ (memory_refuses _ c.replay-done.ensures.refused) c.closed.ensures.refused

@@ -1,27 +1,21 @@
-use Rattle.std.proofs.Common.{rules, List, Option, Ok, refl, subst, ℕ}
 use Rattle.std.proofs.lemmas.Result.{err_from_is_err_and}
-use Rattle.lsm_serve.specs.Serving.{IsServed}
-use Rattle.lsm_requests.proofs.ServingLaws.{served_to, no_reader}
+use Rattle.lsm_requests.proofs.ServingLaws.{no_reader, served_answers, served_refuses, served_to, unopened_serves}
 use Rattle.lsm_requests.proofs.calls.serve.Goals as goal
 
-pub returns-clause-answer : goal.returns-clause-answer
-returns-clause-answer g c = record {
-  store = c.in_ok-store.store;
-  after = c.serve.new.store;
-  opened = search rules;
-  tells = record {
-    serves = subst (λ (input : Option (List ℕ)). IsServed input (Ok tt) c.in_ok-store.store c.serve.new.store (g.O.Write.contents c.args.output.now) (g.O.Write.contents c.serve.new.output)) c.in_ok-lines.ensures.lines c.in_ok-serve.ensures;
-    told = c.of_store.ensures.output;
-  };
-  hands = search rules;
-}
+pub returns-in-Ok-clause-answer : goal.returns-in-Ok-clause-answer
+returns-in-Ok-clause-answer g c = served_answers c.in_ok-store.store c.serve.new.store _ _ _ _ _ c.in_ok-store.ensures.opened c.in_ok-lines.ensures.lines c.in-Ok.ensures c.served.ensures.answer
+
+pub returns-in-Ok-clause-fault : goal.returns-in-Ok-clause-fault
+returns-in-Ok-clause-fault g c = served_refuses c.in_ok-store.store c.serve.new.store _ _ _ _ _ c.in_ok-store.ensures.opened c.in_ok-lines.ensures.lines c.in-Ok.ensures c.served.ensures.fault
+
+pub returns-in_err-store-clause-fault : goal.returns-in_err-store-clause-fault
+returns-in_err-store-clause-fault g c =
+    let p = err_from_is_err_and c.from_residual.result c.from_residual.ensures.1 in rw (p.1, p.2) (unopened_serves _ _ _ c.in_err-store.ensures.refused)
 
 pub returns-in_err-lines-clause-fault : goal.returns-in_err-lines-clause-fault
 returns-in_err-lines-clause-fault g c =
     let p = err_from_is_err_and c.from_residual-in_err-lines.result c.from_residual-in_err-lines.ensures.1 in
-    rw (p.1, p.2) (no_reader _ _ _ _ _ c.in_err-lines.ensures.refused refl refl)
+    rw p.1 (no_reader _ _ _ _ c.in_err-lines.ensures.refused p.2)
 
-pub returns-in_err-serve-clause-fault : goal.returns-in_err-serve-clause-fault
-returns-in_err-serve-clause-fault g c =
-    let p = err_from_is_err_and c.from_residual-in_err-serve.result c.from_residual-in_err-serve.ensures.1 in
-    rw (p.1, p.2) (served_to _ _ _ _ _ _ _ (search rules) c.in_ok-lines.ensures.lines c.in_err-serve.ensures)
+pub returns-in-Err-clause-fault : goal.returns-in-Err-clause-fault
+returns-in-Err-clause-fault g c = served_to _ _ _ _ _ _ _ _ c.in_ok-store.ensures.opened c.in_ok-lines.ensures.lines c.in-Err.ensures c.with_error.ensures

@@ -1,17 +1,12 @@
-use Rattle.std.proofs.Common.{rules}
 use Rattle.std.proofs.lemmas.Result.{err_from_is_err_and}
-use Rattle.lsm_requests.proofs.RefusedLaws.{numbers_refused}
+use Rattle.lsm_open.specs.Recovering.{IsOpeningRefusal}
+use Rattle.lsm_requests.specs.Answers.{HasNumbers}
+use Rattle.lsm_requests.proofs.RefusedLaws.{closed_answers, closed_refuses, numbers_refuse}
 use Rattle.lsm_requests.proofs.calls.stat.Goals as goal
 
 pub returns-clause-gives : goal.returns-clause-gives
-returns-clause-gives g c = record {
-  store = c.in_ok-store.store;
-  after = c.in_ok-store.store;
-  opened = search rules;
-  tells = search rules;
-  hands = search rules;
-}
+returns-clause-gives g c = closed_answers HasNumbers c.in_ok-store.store c.in_ok-store.store _ _ c.in_ok-store.ensures.opened c.numbers-done.ensures.gives c.closed.ensures.answer
 
-pub returns-in_err-output-clause-refused : goal.returns-in_err-output-clause-refused
-returns-in_err-output-clause-refused g c =
-    let p = err_from_is_err_and c.from_residual-in_err-output.result c.from_residual-in_err-output.ensures.1 in rw (p.1, p.2) (numbers_refused c.in_ok-store.store _ c.in_ok-store.ensures.opened c.in_err-output.ensures.refused)
+pub returns-clause-refused : goal.returns-clause-refused
+returns-clause-refused g c =
+    closed_refuses IsOpeningRefusal _ _ (numbers_refuse c.in_ok-store.store _ c.in_ok-store.ensures.opened c.numbers-done.ensures.refused) c.closed.ensures.refused

@@ -1,5 +1,5 @@
 use Rattle.std.proofs.Common.{inl, inr, refl}
-use Rattle.lsm_language.proofs.row.unread.Goals as goal
+use Rattle.lsm_language.proofs.reading.unread.Goals as goal
 
 pub returns-then-eq : goal.returns-then-eq
 returns-then-eq c = inl refl
