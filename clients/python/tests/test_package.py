@@ -13,8 +13,9 @@ import time
 import unittest
 from typing import List, Tuple
 
+from base import HERE, SOURCES, Case, end, wait_for  # It makes the package known.
+
 import corwaphi
-from base import HERE, SOURCES, Case, end, wait_for
 from corwaphi import Store, texts
 
 PACKAGE = os.path.dirname(HERE)
