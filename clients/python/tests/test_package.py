@@ -133,7 +133,7 @@ class Shells(Case):
         """A Ctrl-C ends a call from the command line in few words."""
         fake = os.path.join(self.folder, "fake")
         with open(fake, "w", encoding="ascii") as file:
-            file.write("#!/bin/sh\nexec cat >/dev/null\n")
+            file.write("#!/bin/sh\ncat >/dev/null\n")
         os.chmod(fake, 0o700)
         errors = os.path.join(self.folder, "errors")
         with open(errors, "wb") as said:
