@@ -28,10 +28,9 @@ expect() {
     [[ $said == 'ok generation '*" batches $2 "* ]] || fail "$1: check prints $said"
 }
 
-# Calls, refusals and lines that are none. The last line has no newline.
+# Calls, refusals and lines that are none.
 printf '%s\n' 'commit +61=31' 'get 61' 'take' 'get 6' '' 'stat now' 'room' 'release 1' 'snapshot' 'commit -61' 'get 61 @1' 'sync' 'syncto 3' \
-    'if ?61=31 then +62=32' 'commit +empty=31' 'scan empty end 64 @1' >lines
-printf 'get 61' >>lines
+    'if ?61=31 then +62=32' 'commit +empty=31' 'scan empty end 64 @1' 'get 61' >lines
 hex='expected hex, two digits a byte, or empty for no bytes'
 names='expected commit, if, sync, syncto, get, scan, snapshot, release, room, stat, compact'
 printf '%s\n' 'batch 1' 'value 31' 'usage 3: the line is no call' "usage 4: KEY is \"6\": $hex" "usage 5: the first word is \"\": $names" \
@@ -39,6 +38,24 @@ printf '%s\n' 'batch 1' 'value 31' 'usage 3: the line is no call' "usage 4: KEY 
     'refused 09 NoSuchBatch' 'refused 30 GuardFailed 0' 'refused 16 BadKey' 'rows 61=31 end' 'absent' >wanted
 serve
 expect 'a session' 2
+
+# What no newline ends is not done, wherever it was cut off. It is told, and what stands before it was answered.
+cut='commit +61=31 +62=32'
+{
+    for ((size = 1; size <= ${#cut}; size++)); do echo "${cut:0:size}"; done
+    printf '%s\n' ' ' 'sync' '#1' '#1 get 60' compact "$(printf '%0300001d' 0)" "commit $(printf '%070000d' 0)"
+} >cuts
+while IFS= read -r begun; do
+    printf 'commit +60=30\n%s' "$begun" >lines
+    serve
+    [ "$status" = 1 ] || fail "a cut line: it ends with $status"
+    [ "$(cat err)" = 'error: the input could not be read: it ends within a line, which was not done' ] || fail "a cut line: it says $(cat err)"
+    [ "$(cat out)" = 'batch 1' ] || fail "a cut line: it prints $(head -c 200 out)"
+    [ "$("$program" dump F)" = '60 30' ] || fail "a cut line is done: ${begun:0:80}"
+done <cuts
+printf '%s' "$cut" >lines
+serve
+[ "$status" = 1 ] && [ ! -s out ] && [ -z "$("$program" dump F)" ] || fail 'a cut line alone is done'
 
 # Answers begin with the tags of their lines, whatever these are, and what is no tag is none.
 printf '%s\n' '#1 commit +61=31' '#00000000000000000001 get 61' 'get 61' '#3 take' '#4 get 6' '#5 ' '#5' '# get 61' '#x get 61' \

@@ -151,8 +151,6 @@ def serve(path: str) -> None:
     while True:
         data = os.read(0, 1 << 18)
         *lines, rest = (rest + data).split(b"\n")
-        if not data and rest:
-            lines, rest = [rest], b""
         answers = []
         for line in lines:
             number += 1
@@ -162,6 +160,8 @@ def serve(path: str) -> None:
             told = told[os.write(1, told):]
         if not data:
             model.sync()
+            if rest:
+                sys.exit("error: the input could not be read: it ends within a line, which was not done")
             return
 
 

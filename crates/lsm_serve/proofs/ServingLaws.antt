@@ -1,25 +1,25 @@
 -- How serving goes on.
 use Rattle.std.proofs.Common.{◌≡◌, ◌≤◌, ◌⊎◌, ◌∙◌, ◌+◌, ℕ, suc, Bool, true, false, true≢false, List, [], ◌∷◌, ◌++◌, length, Option, Some, None, Result, Ok, Err, refl, sym, ap, subst, arith, inl, inr, ne_eqb, ◌==◌, append_assoc, append-nil, length-append}
-use Rattle.std.specs.Prelude.{IfSome, MatchResult}
-use Rattle.std.specs.Io.KnownBytes.{Appends, Keeps, append_known}
+use Rattle.std.specs.Prelude.{All, IfSome, MatchResult}
+use Rattle.std.specs.Io.KnownBytes.{Appends, Consumes, Keeps, append_known}
 use Rattle.lsm_device.specs.declared.refusal.Refusal.{Refusal}
 use Rattle.lsm_device.specs.declared.refusal.Refusal.TheVariants.{Exhausted, NoMemory, Stopped}
 use Rattle.lsm_language.specs.declared.fault.Fault.{Fault}
 use Rattle.lsm_language.specs.Faults.{Reason, mistake, refusal, unopened, unread, unwritten, reason_of}
-use Rattle.lsm_language.specs.Rows.{lines_of}
 use Rattle.lsm_store.specs.Backing.{StoreView}
 use Rattle.lsm_store.specs.Calls.{Done, Refused, Sync, reply_of}
 use Rattle.lsm_store.specs.Serving.{Serves}
 use Rattle.lsm_serve.specs.Answering.{Answered, AnswersLine, AnswersLines, answer_text, answers_text}
-use Rattle.lsm_serve.specs.Reading.{IsInputFault, TakesLine}
-use Rattle.std.proofs.KnownBytes.{Appends-kept}
+use Rattle.lsm_serve.specs.Reading.{HasNoNewline, IsInputFault, TakesLine, lines_text}
+use Rattle.std.proofs.KnownBytes.{Appends-kept, Consumes-nil, Consumes-trans}
+use Rattle.std.proofs.lemmas.List.Elements.{All-nil, All-push}
 use Rattle.lsm_serve.specs.Holding.{AreHeld, KeepsHeld}
-use Rattle.lsm_serve.specs.Serving.{AreAll, AreFirst, AreServed, EndsEarly, HaveCome, IsServed, IsSynced, IsUnsynced, Told, ToldBefore, ToldMost, Untold, most_lines}
+use Rattle.lsm_serve.specs.Serving.{AreAll, AreFirst, AreServed, EndsEarly, HaveCome, IsAskedToSync, IsServed, IsSynced, IsUnsynced, Told, ToldBefore, ToldMost, Untold, most_lines}
 use Rattle.lsm_serve.proofs.AnsweringLaws.{answers-more, answers_kept, text-more}
 
 -- these lines are the first of an input, and this is left of it
 abbrev pub IsLeft : Option (List ℕ) → List (List ℕ) → Option (List ℕ) → Type 0
-IsLeft input lines left = IfSome input (λ all. (text : List ℕ) × (left ≡ Some text) × (lines_of all ≡ lines ++ lines_of text))
+IsLeft input lines left = All HasNoNewline lines × Consumes input left (lines_text lines)
 
 -- Lines were answered so far, and the next one is of this number.
 pub record IsServing (input left : Option (List ℕ)) (number : ℕ) (before now : StoreView) (output output_now : Option (List ℕ)) : Type 0 where
@@ -42,32 +42,37 @@ appends_more (Some xs) (Some ys) (Some zs) first second h k = k ∙ ap (λ (l : 
 
 -- at its begin
 pub serving-begins : (input : Option (List ℕ)) (s : StoreView) (output : Option (List ℕ)) → IsServing input input 1 s s output output
-serving-begins input s output = record { lines = []; answers = []; serves = refl; come = by input; told = appends_none output; next = refl }
-  where
-    by : (o : Option (List ℕ)) → IsLeft o [] o
-    by None = tt
-    by (Some all) = (all, refl, refl)
+serving-begins input s output = record { lines = []; answers = []; serves = refl; come = (All-nil HasNoNewline, Consumes-nil input); told = appends_none output; next = refl }
 
 -- ---- the lines
 
-left_known : (text : List ℕ) (left : Option (List ℕ)) (P : List ℕ → Type 0) → left ≡ Some text → IfSome left P → P text
-left_known text left P is h = subst (λ (o : Option (List ℕ)). IfSome o P) is h
+lines_text-more : (lines : List (List ℕ)) (line : List ℕ) → lines_text (lines ++ line ∷ []) ≡ lines_text lines ++ (line ++ 10 ∷ [])
+lines_text-more [] line = refl
+lines_text-more (first ∷ lines) line =
+    ap (λ (l : List ℕ). first ++ 10 ∷ l) (lines_text-more lines line) ∙ sym (append_assoc first (10 ∷ lines_text lines) (line ++ 10 ∷ []))
 
-left-more : (input left after : Option (List ℕ)) (lines : List (List ℕ)) (line : List ℕ) → IsLeft input lines left
-    → IfSome left (λ text. (rest : List ℕ) × (after ≡ Some rest) × (lines_of text ≡ line ∷ lines_of rest)) → IsLeft input (lines ++ line ∷ []) after
-left-more None left after lines line h takes = tt
-left-more (Some all) left after lines line (text, is, come) takes =
-    let t = left_known text left (λ text. (rest : List ℕ) × (after ≡ Some rest) × (lines_of text ≡ line ∷ lines_of rest)) is takes in
-    (t.0, t.1, come ∙ ap (λ (ls : List (List ℕ)). lines ++ ls) t.2 ∙ sym (append_assoc lines (line ∷ []) (lines_of t.0)))
+left-more : (input left after : Option (List ℕ)) (lines : List (List ℕ)) (line : List ℕ) → IsLeft input lines left → HasNoNewline line → Consumes left after (line ++ 10 ∷ [])
+    → IsLeft input (lines ++ line ∷ []) after
+left-more input left after lines line (none, come) whole takes = (
+  All-push HasNoNewline lines line none whole,
+  subst (Consumes input after) (sym (lines_text-more lines line)) (Consumes-trans input left after (lines_text lines) (line ++ 10 ∷ []) come takes),
+)
 
 left-first : (input left : Option (List ℕ)) (lines : List (List ℕ)) → IsLeft input lines left → AreFirst input lines
-left-first None left lines h = tt
-left-first (Some all) left lines (text, is, come) = (lines_of text, come)
+left-first input left lines (none, come) = (none, by input left come)
+  where
+    by : (o l : Option (List ℕ)) → Consumes o l (lines_text lines) → IfSome o (λ all. (rest : List ℕ) × (all ≡ lines_text lines ++ rest))
+    by None l takes = tt
+    by (Some all) None takes = absurd takes
+    by (Some all) (Some rest) takes = (rest, takes)
 
-left-all : (input left : Option (List ℕ)) (lines : List (List ℕ)) → IsLeft input lines left → IfSome left (λ text. lines_of text ≡ []) → AreAll input lines
-left-all None left lines h none = tt
-left-all (Some all) left lines (text, is, come) none =
-    come ∙ ap (λ (ls : List (List ℕ)). lines ++ ls) (left_known text left (λ text. lines_of text ≡ []) is none) ∙ append-nil lines
+left-all : (input left : Option (List ℕ)) (lines : List (List ℕ)) → IsLeft input lines left → IfSome left (λ text. text ≡ []) → AreAll input lines
+left-all input left lines (none, come) end = (none, by input left come end)
+  where
+    by : (o l : Option (List ℕ)) → Consumes o l (lines_text lines) → IfSome l (λ text. text ≡ []) → IfSome o (λ all. all ≡ lines_text lines)
+    by None l takes e = tt
+    by (Some all) None takes e = absurd takes
+    by (Some all) (Some rest) takes e = takes ∙ ap (λ (l : List ℕ). lines_text lines ++ l) e ∙ append-nil (lines_text lines)
 
 -- ---- a line more
 
@@ -76,11 +81,11 @@ module _ (input left after : Option (List ℕ)) (number : ℕ) (before now new :
       → TakesLine left found kept after → AnswersLine now kept answered new → Appends output_now output_new (answer_text number answered)
       → IsServing input after next before new output output_new
   serving-more false output_new next is none s takes answers appends = absurd (true≢false (sym none))
-  serving-more true output_new next is found s (line, cut, come) answers appends = record {
+  serving-more true output_new next is found s (line, whole, cut, come) answers appends = record {
     lines = s.lines ++ line ∷ [];
     answers = s.answers ++ answered ∷ [];
     serves = answers-more s.lines s.answers before now new line answered s.serves (answers_kept now new line kept answered cut answers);
-    come = left-more input left after s.lines line s.come come;
+    come = left-more input left after s.lines line s.come whole come;
     told = subst (Appends output output_new) (sym (text-more 1 s.answers answered number s.next)) (appends_more output output_now output_new _ _ s.told appends);
     next =
         let size : length (s.answers ++ answered ∷ []) ≡ length s.answers + 1 = length-append s.answers (answered ∷ []) in
@@ -92,12 +97,12 @@ module _ (input left after : Option (List ℕ)) (number : ℕ) (before now new :
       → TakesLine left found kept after → AnswersLine now kept answered new → Untold (reason_of fault) output_now output_new
       → (s : AreServed input (Err fault) before new output output_new) × (1 ≤ length s.lines)
   serving-untold false output_new fault none s takes answers untold = absurd (true≢false (sym none))
-  serving-untold true output_new fault found s (line, cut, come) answers untold = (
+  serving-untold true output_new fault found s (line, whole, cut, come) answers untold = (
     record {
       lines = s.lines ++ line ∷ [];
       answers = s.answers ++ answered ∷ [];
       serves = answers-more s.lines s.answers before now new line answered s.serves (answers_kept now new line kept answered cut answers);
-      come = left-first input after (s.lines ++ line ∷ []) (left-more input left after s.lines line s.come come);
+      come = left-first input after (s.lines ++ line ∷ []) (left-more input left after s.lines line s.come whole come);
       told = by (reason_of fault) untold;
       may = why (reason_of fault) untold;
     },
@@ -191,10 +196,15 @@ serving-exhausts input left number before now output output_now fault s is last 
 
 -- ---- a store that was served
 
-pub served-fails : (input : Option (List ℕ)) (fault : Fault) (before after : StoreView) (output output_now : Option (List ℕ))
-    → AreServed input (Err fault) before after output output_now → IsServed input (Err fault) before after output output_now
-served-fails input fault before after output output_now s =
-    record { lines = s.lines; answers = s.answers; last = after; serves = s.serves; come = s.come; told = s.told; ends = inl (refl, s.may) }
+-- however a sync ends, it was asked for
+sync_asked : (ended : Result (Unit {0}) Fault) (last after : StoreView) → MatchResult ended (λ _. IsSynced last after) (λ e. IsUnsynced e last after) → IsAskedToSync last after
+sync_asked (Ok done) last after synced = (synced.reply, synced.serves)
+sync_asked (Err fault) last after unsynced = (Refused unsynced.r, unsynced.serves)
+
+pub served-fails : (input : Option (List ℕ)) (fault : Fault) (before last after : StoreView) (output output_now : Option (List ℕ))
+    → AreServed input (Err fault) before last output output_now → IsAskedToSync last after → IsServed input (Err fault) before after output output_now
+served-fails input fault before last after output output_now s asked =
+    record { lines = s.lines; answers = s.answers; last = last; serves = s.serves; come = s.come; told = s.told; ends = inl (asked, s.may) }
 
 pub served-synced : (input : Option (List ℕ)) (before last after : StoreView) (output output_now : Option (List ℕ))
     → AreServed input (Ok tt) before last output output_now → IsSynced last after → IsServed input (Ok tt) before after output output_now
@@ -202,8 +212,11 @@ served-synced input before last after output output_now s synced =
     record { lines = s.lines; answers = s.answers; last = last; serves = s.serves; come = s.come; told = s.told; ends = synced }
 
 first_of_all : (input : Option (List ℕ)) (lines : List (List ℕ)) → AreAll input lines → AreFirst input lines
-first_of_all None lines all = tt
-first_of_all (Some text) lines all = ([], all ∙ sym (append-nil lines))
+first_of_all input lines (none, all) = (none, by input all)
+  where
+    by : (o : Option (List ℕ)) → IfSome o (λ text. text ≡ lines_text lines) → IfSome o (λ text. (rest : List ℕ) × (text ≡ lines_text lines ++ rest))
+    by None is = tt
+    by (Some text) is = ([], is ∙ sym (append-nil (lines_text lines)))
 
 pub served-unsynced : (input : Option (List ℕ)) (fault : Fault) (before last after : StoreView) (output output_now : Option (List ℕ))
     → AreServed input (Ok tt) before last output output_now → IsUnsynced fault last after → IsServed input (Err fault) before after output output_now
@@ -234,10 +247,12 @@ pub synced-stopped : (r : Result (Unit {0}) Refusal) (before after : StoreView) 
 synced-stopped r before after serves is =
     record { reply = Refused Stopped; serves = subst (λ (x : Result (Unit {0}) Refusal). Serves before Sync (reply_of (λ _. Done) x) after) is serves; synced = inr refl }
 
-pub served-fails-when : (input : Option (List ℕ)) (answered : Result (Unit {0}) Fault) (fault : Fault) (before after : StoreView) (output output_now : Option (List ℕ)) → answered ≡ Err fault
-    → AreServed input answered before after output output_now → IsServed input (Err fault) before after output output_now
-served-fails-when input answered fault before after output output_now is s =
-    served-fails input fault before after output output_now (subst (λ (r : Result (Unit {0}) Fault). AreServed input r before after output output_now) is s)
+pub served-fails-when : (input : Option (List ℕ)) (answered ended : Result (Unit {0}) Fault) (fault : Fault) (before last after : StoreView) (output output_now : Option (List ℕ))
+    → answered ≡ Err fault → AreServed input answered before last output output_now → MatchResult ended (λ _. IsSynced last after) (λ e. IsUnsynced e last after)
+    → IsServed input (Err fault) before after output output_now
+served-fails-when input answered ended fault before last after output output_now is s synced =
+    served-fails input fault before last after output output_now (subst (λ (r : Result (Unit {0}) Fault). AreServed input r before last output output_now) is s)
+    (sync_asked ended last after synced)
 
 -- ---- answers that are held
 

@@ -1,9 +1,8 @@
 -- Lines of an input, as they come.
-use Rattle.std.specs.Prelude.{◌≡◌, ◌≢◌, ◌⊎◌, ℕ, Bool, true, false, List, [], ◌∷◌, ◌++◌, All, take, Option, Some, IfSome}
+use Rattle.std.specs.Prelude.{◌≡◌, ◌≢◌, ◌⊎◌, ℕ, Bool, true, false, List, [], ◌∷◌, ◌++◌, All, take, Option, IfSome}
 use Rattle.std.specs.Io.KnownBytes.{Consumes, Keeps}
 use Rattle.lsm_device.specs.declared.refusal.Refusal.TheVariants.{NoMemory}
 use Rattle.lsm_language.specs.Faults.{Reason, refusal, unread}
-use Rattle.lsm_language.specs.Rows.{lines_of}
 use Rattle.lsm_serve.specs.declared.reading.Taken.{Taken}
 use Rattle.lsm_serve.specs.declared.reading.Taken.TheVariants.{Line, Part, Nothing, End}
 
@@ -25,11 +24,16 @@ Takes before line Part kept after = (part : List ℕ) × HasNoNewline part × (k
 Takes before line Nothing kept after = (kept ≡ line) × Keeps before after
 Takes before line End kept after = (kept ≡ line) × IfSome before (λ text. text ≡ []) × Keeps before after
 
--- A line was found, of which so much was kept: the first of what the input had left, as far as that is known. Or none was left.
+-- A line was found, of which so much was kept: it was the first of what the input had left, as far as that is known, with the newline
+-- that ends it. Or nothing was left.
 abbrev pub TakesLine : Option (List ℕ) → Bool → List ℕ → Option (List ℕ) → Type 0
-TakesLine before true kept after = (line : List ℕ) × (kept ≡ take most_kept line)
-    × IfSome before (λ text. (rest : List ℕ) × (after ≡ Some rest) × (lines_of text ≡ line ∷ lines_of rest))
-TakesLine before false kept after = IfSome before (λ text. lines_of text ≡ [])
+TakesLine before true kept after = (line : List ℕ) × HasNoNewline line × (kept ≡ take most_kept line) × Consumes before after (line ++ 10 ∷ [])
+TakesLine before false kept after = IfSome before (λ text. text ≡ [])
+
+-- the text of lines: a newline ends each
+abbrev pub lines_text : List (List ℕ) → List ℕ
+lines_text [] = []
+lines_text (line ∷ lines) = line ++ 10 ∷ lines_text lines
 
 -- a fault of a reading: it failed, or there was no memory for what it read
 abbrev pub IsInputFault : Reason → Type 0

@@ -1,22 +1,22 @@
 -- How a store is served, line by line.
-use Rattle.std.specs.Prelude.{◌≡◌, ◌≢◌, ◌⊎◌, ◌≤◌, ℕ, List, ◌++◌, length, Option, Result, Ok, Err, IfSome}
+use Rattle.std.specs.Prelude.{◌≡◌, ◌≢◌, ◌⊎◌, ◌≤◌, ℕ, List, ◌++◌, All, length, Option, Result, Ok, Err, IfSome}
 use Rattle.std.specs.Io.KnownBytes.{Appends}
 use Rattle.lsm_device.specs.declared.refusal.Refusal.{Refusal}
 use Rattle.lsm_device.specs.declared.refusal.Refusal.TheVariants.{Exhausted, NoMemory, Stopped}
 use Rattle.lsm_language.specs.declared.fault.Fault.{Fault}
 use Rattle.lsm_language.specs.Faults.{Reason, refusal, unread, unwritten, reason_of}
-use Rattle.lsm_language.specs.Rows.{lines_of}
 use Rattle.lsm_store.specs.Backing.{StoreView}
 use Rattle.lsm_store.specs.Calls.{Reply, Sync, Done, Refused}
 use Rattle.lsm_store.specs.Serving.{Serves}
 use Rattle.lsm_serve.specs.Answering.{Answered, AnswersLines, answers_text}
+use Rattle.lsm_serve.specs.Reading.{HasNoNewline, lines_text}
 
--- these lines are all of an input, or the first of it, as far as that is known
+-- these lines, each with the newline that ends it, are all of an input, or the first of it, as far as that is known
 abbrev pub AreAll : Option (List ℕ) → List (List ℕ) → Type 0
-AreAll input lines = IfSome input (λ all. lines_of all ≡ lines)
+AreAll input lines = All HasNoNewline lines × IfSome input (λ all. all ≡ lines_text lines)
 
 abbrev pub AreFirst : Option (List ℕ) → List (List ℕ) → Type 0
-AreFirst input lines = IfSome input (λ all. (rest : List (List ℕ)) × (lines_of all ≡ lines ++ rest))
+AreFirst input lines = All HasNoNewline lines × IfSome input (λ all. (rest : List ℕ) × (all ≡ lines_text lines ++ rest))
 
 -- Why an answer was not told, and what the output is then: memory for its text was refused, and the output is as it was; or the
 -- output failed, and nothing is known of it.
@@ -54,7 +54,7 @@ HaveCome (Err fault) input lines = AreFirst input lines
 abbrev pub most_lines : ℕ
 most_lines = 18446744073709551614
 
--- Why only so many lines were answered: the next one can't be read; the answer to the last can't be written; memory for the next one or
+-- Why only so many lines were answered: the next one can't be read, or no newline ends it; the answer to the last can't be written; memory for the next one or
 -- for the text of the last answer was refused; or they are the most.
 abbrev pub EndsEarly : Reason → List (List ℕ) → Type 0
 EndsEarly unread lines = Unit {0}
@@ -96,12 +96,16 @@ pub record EndsUnsynced (input : Option (List ℕ)) (fault : Fault) (lines : Lis
   pub told : Appends output output_after (answers_text 1 answers)
   pub unsynced : IsUnsynced fault last after
 
--- the store was synced; or it is as the last answer left it, since lines are answered no longer; or the sync was refused
+-- the store was asked for a sync
+abbrev pub IsAskedToSync : StoreView → StoreView → Type 0
+IsAskedToSync before after = (reply : Reply) × Serves before Sync reply after
+
+-- the store was synced; or it was asked for a sync, since lines are answered no longer; or the sync was refused
 abbrev pub Ends : Result (Unit {0}) Fault → Option (List ℕ) → List (List ℕ) → List Answered → StoreView → StoreView → Option (List ℕ) → Option (List ℕ) → Type 0
 Ends (Ok done) input lines answers last after output output_after = IsSynced last after
-Ends (Err fault) input lines answers last after output output_after = ((after ≡ last) × EndsEarly (reason_of fault) lines) ⊎ EndsUnsynced input fault lines answers last after output output_after
+Ends (Err fault) input lines answers last after output output_after = (IsAskedToSync last after × EndsEarly (reason_of fault) lines) ⊎ EndsUnsynced input fault lines answers last after output output_after
 
--- The lines of an input were answered so, and at its end the store was synced.
+-- The lines of an input were answered so, and at the end the store was synced.
 pub record IsServed (input : Option (List ℕ)) (result : Result (Unit {0}) Fault) (before after : StoreView) (output output_after : Option (List ℕ)) : Type 0 where
   pub lines : List (List ℕ)
   pub answers : List Answered

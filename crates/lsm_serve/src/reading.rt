@@ -1,11 +1,12 @@
 //! Lines of an input, of which no more is kept than the longest that is answered, and a byte.
 
-ghost use Rattle.std.specs.Prelude.{◌≡◌, ◌≢◌, ◌≤◌, ◌<◌, ◌==◌, ◌++◌, All, is_some, length, not, take, IfErr, IfOk, OnOk, slice_index};
+ghost use Rattle.std.specs.Prelude.{◌≡◌, ◌≢◌, ◌≤◌, ◌<◌, ◌++◌, All, is_some, None, length, take, IfErr, IfOk, OnOk, slice_index};
 ghost use Rattle.lsm_language.specs.Faults.{reason_of};
 ghost use Rattle.lsm_serve.specs.Reading.{Takes, TakesLine, IsInputFault, most_kept};
 
 use lsm_language::Fault;
 use std::alloc::{AllocError, Global};
+use std::io;
 use std::io::{BufRead, ErrorKind};
 
 /// The most bytes that a line may have.
@@ -13,6 +14,9 @@ pub const MOST_BYTES: usize = 300_000;
 
 /// So many bytes of a line are kept at most, by which it is seen that it is too long.
 const MOST_KEPT: usize = 300_001;
+
+/// What is said of an input that ends within a line.
+const CUT: &str = "it ends within a line, which was not done";
 
 /// What one look at an input took.
 #[derive(Clone, Copy)]
@@ -27,10 +31,11 @@ pub enum Taken {
     End,
 }
 
-/// Reads the next line of an input in the place of the one before it, without its newline, which may be missing after the
-/// last. Of a line that is too long one byte more than the most is kept, and the rest is passed over. If there is a line it tells
-/// whether another whole one was read behind it, so that the next call doesn't wait. An input of which 2^64 - 1 looks don't end a
-/// line can't be read.
+/// Reads the next line of an input in the place of the one before it, without its newline. Of a line that is too long one byte more
+/// than the most is kept, and the rest is passed over. If there is a line it tells whether another whole one was read behind it, so
+/// that the next call doesn't wait.
+///
+/// What no newline ends is no line: an input that ends so can't be read to its end. Nor can one of which 2^64 - 1 looks end no line.
 pub(crate) fn next_line<I: BufRead>(
     input: &mut I,
     line: &mut Vec<u8>,
@@ -42,21 +47,22 @@ pub(crate) fn next_line<I: BufRead>(
     for _ in 0..u64::MAX {
         match take_piece(input, line)? {
             Taken::Line(ahead) => return Ok(Some(ahead)),
-            Taken::End => return Ok(last_line(line)),
+            Taken::End => return ended(line),
             Taken::Part | Taken::Nothing => {}
         }
     }
     Err(Fault::Input(ErrorKind::Interrupted.into()))
 }
 
-// What stands at the end of an input, without a newline: a line, behind which none was read, if it has a byte.
-fn last_line(line: &[u8]) -> Option<bool>
-    ensures { is_some result ≡ not (length line.now == 0) }
+// There is no further line. What was begun of one is none: whoever wrote it may have been stopped within it.
+fn ended(begun: &[u8]) -> Result<Option<bool>, Fault>
+    ensures none { IfOk result (λ found. (found ≡ None) × (length begun.now ≡ 0)) }
+    ensures fails { IfErr result (λ e. IsInputFault (reason_of e)) }
 {
-    if line.is_empty() {
-        return None;
+    if begun.is_empty() {
+        return Ok(None);
     }
-    Some(false)
+    Err(Fault::Input(io::Error::new(ErrorKind::UnexpectedEof, CUT)))
 }
 
 // Takes what was read of a line, and keeps it behind what is kept of it.

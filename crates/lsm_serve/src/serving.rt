@@ -23,12 +23,14 @@ use std::thread::Threads;
 /// From so many bytes on answers are written, though another line was read already.
 const MOST_HELD: usize = 65_536;
 
-/// Answers the lines of an input, each before the next one is read, and syncs the store at the end of the input, unless it is stopped.
-/// What is refused is an answer, and so is what is wrong with a line. Answers are written at the latest where no other whole line was
-/// read behind theirs, or where they have 64 KiB, so that none is held while a read waits.
+/// Answers the lines of an input, each before the next one is read, and syncs the store at the end, unless it is stopped. What is refused
+/// is an answer, and so is what is wrong with a line. Answers are written at the latest where no other whole line was read behind
+/// theirs, or where they have 64 KiB, so that none is held while a read waits.
+///
+/// Only what a newline ends is done. An input that ends within a line counts as one that can't be read.
 ///
 /// It ends before where the input can't be read, an answer can't be written, there is no memory for a line or for the text of an answer,
-/// or the lines are more than have a number below 2^64 - 1.
+/// or the lines are more than have a number below 2^64 - 1. Then it tells that, and asks the store for a sync all the same.
 pub fn serve<R: Threads + Sync, D: Device, I: BufRead, O: Write>(
     rt: &R,
     alloc: Global,
@@ -38,8 +40,10 @@ pub fn serve<R: Threads + Sync, D: Device, I: BufRead, O: Write>(
 ) -> Result<(), Fault>
     ensures { IsServed (I.remaining input.old) result store.old store.new (O.contents output.old) (O.contents output.new) }
 {
-    answer_lines(rt, alloc, store, input, output)?;
-    sync(store)
+    let answered = answer_lines(rt, alloc, store, input, output);
+    let synced = sync(store);
+    answered?;
+    synced
 }
 
 // Syncs a store that is not stopped.

@@ -113,9 +113,8 @@ def start(words: Sequence[str], said: IO[bytes]) -> "subprocess.Popen[bytes]":
 class ProcessLink(Link):
     """The pipes of a process of `lsmctl serve`.
 
-    Lines are written into a pipe that has room for all of them, so that a line is in it whole or not at all, however the caller
-    ends. If a write is cut off all the same, the process is killed before its input is closed: it would take the beginning of a
-    line for a line.
+    The pipe to it has room for all that may be sent before an answer is read, so that a write doesn't wait for one. However the caller
+    ends, the beginning of a line is never done: what has no newline is no line.
     """
 
     def __init__(self, path: "str | os.PathLike[str]", program: Optional[str]) -> None:
@@ -128,7 +127,6 @@ class ProcessLink(Link):
             raise
         assert self._process.stdin is not None and self._process.stdout is not None
         self._input, self._output = self._process.stdin, self._process.stdout
-        self._cut = False
         self.window = _enlarge(self._input.fileno()) // 4
 
     @property
@@ -141,11 +139,9 @@ class ProcessLink(Link):
         return self._output.fileno()
 
     def write(self, data: bytes) -> None:
-        self._cut = True
         rest = memoryview(data)
         while rest:
             rest = rest[os.write(self._input.fileno(), rest):]
-        self._cut = False
 
     def offer(self, data: bytes) -> int:
         self.write(data)
@@ -158,8 +154,6 @@ class ProcessLink(Link):
         return os.read(self._output.fileno(), PIECE)
 
     def shut(self) -> None:
-        if self._cut:
-            self._process.kill()
         self._input.close()
 
     def end(self) -> str:
@@ -209,7 +203,6 @@ class ProcessLink(Link):
         self._input.close()
         self._output.close()
         self._said.close()
-        self._cut = False
         self._process.returncode = 0  # It is no child of this process, which so never signals it.
 
 
@@ -227,16 +220,23 @@ def _enlarge(pipe: int) -> int:
 
 
 class SocketLink(Link):
-    """A connection to a server. What it takes for a line has a newline: the beginning of a line is never done."""
+    """A connection to a server."""
 
-    def __init__(self, path: "str | os.PathLike[str]") -> None:
+    def __init__(self, path: "str | os.PathLike[str]", patience: float) -> None:
         super().__init__()
         self._socket = socket.socket(socket.AF_UNIX, socket.SOCK_STREAM)
-        try:
-            self._socket.connect(os.fspath(path))
-        except OSError as error:
-            self._socket.close()
-            raise Error(f"nobody answers at {os.fspath(path)}: {error.strerror or error}") from error
+        until = time.monotonic() + patience
+        while True:
+            try:
+                self._socket.connect(os.fspath(path))
+                return
+            except OSError as error:
+                # None, or one that was left: a server that begins makes its own.
+                if isinstance(error, (FileNotFoundError, ConnectionRefusedError)) and time.monotonic() < until:
+                    time.sleep(0.02)
+                    continue
+                self._socket.close()
+                raise Error(f"nobody answers at {os.fspath(path)}: {error.strerror or error}") from None
 
     def write(self, data: bytes) -> None:
         self._socket.sendall(data)

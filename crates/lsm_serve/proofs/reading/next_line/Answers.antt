@@ -1,4 +1,4 @@
-use Rattle.std.proofs.Common.{◌∙◌, ◌==◌, ℕ, List, length, not, ap, inl, inr}
+use Rattle.std.proofs.Common.{inl, inr}
 use Rattle.lsm_serve.proofs.ReadingLaws.{few_kept, reading-begins, reading-end, reading-line, reading-more, reading-same}
 use Rattle.lsm_serve.proofs.reading.next_line.Goals as goal
 
@@ -15,8 +15,7 @@ returns-in-Line-clause-line g c =
 
 pub returns-in-End-clause-line : goal.returns-in-End-clause-line
 returns-in-End-clause-line g c =
-    reading-end _ _ _ c.loop.line.items _ _ c.loop.invariant (rw c.in-End.is at c.in_ok-ahead.ensures.takes)
-    (c.last_line.ensures ∙ ap (λ (l : List ℕ). not (length l == 0)) c.deref.ensures.value)
+    reading-end _ _ _ c.loop.line.items _ _ _ c.loop.invariant (rw c.in-End.is at c.in_ok-ahead.ensures.takes) c.deref.ensures.value c.ended.ensures.none
 
 pub loop-preserved : goal.loop-preserved
 loop-preserved g c = elim c.in-Part.is [
