@@ -6,6 +6,8 @@ pub mod budget;
 mod cases;
 pub mod input;
 #[cfg(test)]
+mod many;
+#[cfg(test)]
 mod merges;
 #[cfg(test)]
 mod threads;

@@ -142,6 +142,22 @@ fn parts_are_merged_at_the_same_time(rt: HostRuntime) {
     assert!(rt; meets(&rt, &heap));
 }
 
+/// Whether so many threads ask for memory at the same time while a merge is built in so many parts.
+fn gathers<R: Abort + Threads + Sync>(rt: &R, heap: Lent<'_>, parts: u8) -> bool {
+    let input = Arc::new(heap, large(rt, heap)).ok().expect(rt, "memory");
+    heap.gather(u64::from(parts));
+    let built = build(rt, heap, input, parts);
+    heap.has_gathered() && built.expect(rt, "memory").images().len() == 2
+}
+
+#[test]
+fn a_merge_is_built_by_a_thread_for_each_part(rt: HostRuntime) {
+    let heap = Budget::new(rt.alloc(), 1_000_000);
+    for parts in [2, 3, 8] {
+        assert!(rt; gathers(&rt, &heap, parts), "{parts}");
+    }
+}
+
 /// Whether a merge in so many parts for which so many blocks are allowed gives the images of the whole. Else it is refused for
 /// want of memory.
 fn is_built<'h, R: Abort + Threads + Sync>(

@@ -5,14 +5,14 @@ use lsm_device::{Device, MemDevice};
 use std::alloc::{Allocator, Global};
 use std::process::Abort;
 
-/// The first sector of one of four blocks, counted from 0.
+/// The first sector of a block. There are four places, in which blocks lie in turn.
 fn sector_of(block: u8) -> u32 {
     16 + 8 * (block % 4) as u32
 }
 
-/// The byte of which a sector of a block is full.
+/// The byte of which a sector of a block is full, the same for each block of a place.
 fn byte_of(block: u8, sector: usize) -> u8 {
-    block.wrapping_mul(8).wrapping_add((sector % 8) as u8)
+    (block % 4).wrapping_mul(8).wrapping_add((sector % 8) as u8)
 }
 
 /// A device with all blocks of the table.

@@ -22,6 +22,8 @@ fn the_blocks_that_were_asked_for_last_are_kept(rt: HostRuntime) {
         (2, &[(1, 8), (2, 8), (1, 0), (3, 8), (2, 8)]),
         (3, &[(1, 8), (2, 8), (3, 8), (1, 0)]),
         (4_096, &[(1, 8), (2, 8), (3, 8), (1, 0)]),
+        // The last block that a table may have is kept as any other is.
+        (2, &[(63, 8), (63, 0), (62, 8), (63, 0), (3, 8), (63, 0)]),
     ] {
         assert!(rt; is_exact(&rt, rt.alloc(), capacity, asks), "{capacity}");
     }

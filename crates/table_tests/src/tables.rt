@@ -1,5 +1,4 @@
-//! The bytes of a table, its places, and what is read back. How entries are divided into tables is seen by the program's
-//! tests (`tests/runs.sh`, `tests/checked.sh`).
+//! The bytes of a table, its places, and what is read back.
 
 use crate::input::images_of_puts;
 use hex::decode_to_slice;
