@@ -25,8 +25,8 @@ use crate::answer::{Answer, Output};
 use crate::committing::{blocks_of_log, check_room, keep};
 use crate::dumping::dump_rows;
 use crate::exploring::explore;
-use crate::loading::{Loaded, load_rows};
 use crate::failing::{failed, with_error};
+use crate::loading::{Loaded, load_rows};
 use crate::opening::{create_beside, open, open_read_only, put_in_place};
 use crate::reply::{counts_text, push_page, report_text, table_text};
 use crate::steps::steps_of;
@@ -310,11 +310,7 @@ fn delete<R: Files<File = File> + AllocGlobal + Threads + Sync>(
     closed(rt.alloc(), store, done)
 }
 
-fn get<R: Files<File = File> + AllocGlobal>(
-    rt: &R,
-    file: &str,
-    key: &[u8],
-) -> Result<Answer, Fault>
+fn get<R: Files<File = File> + AllocGlobal>(rt: &R, file: &str, key: &[u8]) -> Result<Answer, Fault>
     ensures gives { IfOk result (OfOpened (HasFound key.now)) }
     ensures refused { IfErr result (λ e. IsRefusalBy (IsRefusedOpened (RefusesToTell (Get Now key.now))) (reason_of e)) }
 {

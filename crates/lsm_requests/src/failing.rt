@@ -67,9 +67,8 @@ pub(crate) fn unmade<R: Files<File = File> + AllocGlobal>(
         // A block device of another size.
         OpenError::Uneven => Fault::Refused(Refusal::Io),
         OpenError::NoMemory => Fault::Refused(Refusal::NoMemory),
-        OpenError::Failed(error) if error.kind() == ErrorKind::NotFound && !has_folder(rt, path) => {
-            Fault::Unopened(Cause::NoFolder)
-        }
+        OpenError::Failed(error) if error.kind() == ErrorKind::NotFound && !has_folder(rt, path) =>
+            { Fault::Unopened(Cause::NoFolder) }
         OpenError::Failed(error) => by_system(rt.alloc(), error),
     }
 }
