@@ -165,7 +165,7 @@ def unsynced(peer: "Corwaphi | Redis", part: float) -> None:
     names = keys(many)
     puts = [peer.put(key) for key in names]
     timed(peer.name, "puts together, a sync at the end", many, lambda: synced_after(peer, peer.peer.together, puts))
-    gets = [peer.get(key) for key in sorted(names, key=hash)]
+    gets = [peer.get(key) for key in random.Random(8).sample(names, many)]
     timed(peer.name, "gets together", many, lambda: peer.peer.together(gets))
     timed(peer.name, "gets one by one", few, lambda: peer.peer.one_by_one(gets[:few]))
     again = [peer.put(key) for key in names[:few]]

@@ -4,14 +4,17 @@ from __future__ import annotations
 import gc
 import os
 import random
+import signal
+import sys
 import threading
 import unittest
 import warnings
 from typing import Dict, List, Optional, Tuple
+from unittest import mock
 
 from base import SECTORS, Case, some, wait_for
 from corwaphi import (
-    Busy, Closed, Error, GuardFailed, IoError, LimitError, NoSpace, NoSuchSnapshot, Page, Refused, Snapshot, Store,
+    Busy, Closed, Ended, Error, GuardFailed, IoError, LimitError, NoSpace, NoSuchSnapshot, Page, Refused, Snapshot, Store,
     TooManySnapshots,
 )
 
@@ -137,6 +140,29 @@ class Calls(Case):
                 snapshot.release()
             with self.assertRaises(Closed):
                 taken[0].get(b"000")
+
+    def test_what_is_dropped_asks_nothing(self) -> None:
+        """Scans and snapshots that are dropped raise nothing, also where lsmctl has been killed: the next call tells that."""
+        store = self.store()
+        store.commit([(b"%03d" % place, b"") for place in range(200)])
+        rows, snapshot = store.scan(page=5), store.snapshot()
+        assert store.pid is not None
+        os.kill(store.pid, signal.SIGKILL)
+        unraisable: List[object] = []
+        with mock.patch.object(sys, "unraisablehook", unraisable.append), warnings.catch_warnings():
+            warnings.simplefilter("ignore")
+            del rows, snapshot
+            gc.collect()
+        self.assertEqual(unraisable, [])
+        with self.assertRaises(Ended):
+            store.get(b"000")
+        with self.assertRaisesRegex(Closed, "the other side has ended"):
+            store.get(b"000")
+
+    def test_a_log_fits_its_file(self) -> None:
+        """Without another word a small store has small logs."""
+        with Store.open(self.file, create=True, sectors=SECTORS) as store:
+            self.assertLessEqual(store.room(), SECTORS // 32)
 
     def test_limits(self) -> None:
         with self.store() as store:

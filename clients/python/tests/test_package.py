@@ -6,14 +6,16 @@ import pty
 import re
 import select
 import shutil
+import signal
 import subprocess
 import sys
 import time
 import unittest
 from typing import List, Tuple
 
+from base import HERE, SOURCES, Case, end, wait_for  # It makes the package known.
+
 import corwaphi
-from base import HERE, SOURCES, Case, end
 from corwaphi import Store, texts
 
 PACKAGE = os.path.dirname(HERE)
@@ -126,6 +128,24 @@ class Shells(Case):
         status, answer, said = self.once("get", "k")
         self.assertEqual((status, answer), (1, ""))
         self.assertIn("no such file; create makes a store", said)
+
+    def test_a_call_that_is_interrupted(self) -> None:
+        """A Ctrl-C ends a call from the command line in few words."""
+        fake = os.path.join(self.folder, "fake")
+        with open(fake, "w", encoding="ascii") as file:
+            file.write("#!/bin/sh\ncat >/dev/null\n")
+        os.chmod(fake, 0o700)
+        errors = os.path.join(self.folder, "errors")
+        with open(errors, "wb") as said:
+            shell = subprocess.Popen([sys.executable, "-m", "corwaphi", self.file, "get", "k"], env={**os.environ, "LSMCTL": fake},
+                                     stdout=subprocess.PIPE, stderr=said)
+        self.addCleanup(shell.wait)
+        self.assertTrue(wait_for(lambda: bool(subprocess.run(["ps", "-o", "pid=", "--ppid", str(shell.pid)], capture_output=True, check=False).stdout)))
+        time.sleep(0.5)
+        shell.send_signal(signal.SIGINT)
+        self.assertEqual((shell.wait(60), shell.communicate()[0]), (130, b""))
+        with open(errors, encoding="ascii") as file:
+            self.assertEqual(file.read(), "cut off: a change may have been made or not\n")
 
     def test_lines(self) -> None:
         """Lines that are no terminal's are answered one by one; a mistake ends nothing."""

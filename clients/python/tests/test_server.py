@@ -7,9 +7,10 @@ import signal
 import socket
 import subprocess
 import sys
+import threading
 import time
 import unittest
-from typing import List
+from typing import List, Optional
 
 from base import Case, end, run, some, wait_for, within
 from corwaphi import Closed, Ended, Error, Store, TooManySnapshots
@@ -237,6 +238,25 @@ class Servers(Case):
             store[b"k"] = b"v"
         with self.assertRaisesRegex(Error, "nobody answers"):
             Store.connect(other)
+
+    def test_a_server_that_is_waited_for(self) -> None:
+        """Who may wait finds a server that begins later, also where a socket was left from before."""
+        found: List[Optional[bytes]] = []
+
+        def connect() -> None:
+            with Store.connect(self.socket, wait=60) as store:
+                found.append(store.get(b"k"))
+
+        for number in (signal.SIGKILL, signal.SIGTERM):
+            with self.assertRaisesRegex(Error, "nobody answers"):
+                Store.connect(self.socket, wait=0.1)
+            waiting = threading.Thread(target=connect)
+            waiting.start()
+            time.sleep(0.1)
+            process = self.server()
+            waiting.join()
+            end(process, number)
+        self.assertEqual(found, [None, None])
 
     def test_backup(self) -> None:
         self.server()

@@ -134,9 +134,10 @@ class Channel:
 
     def _cut_off(self, error: BaseException) -> BaseException:
         """Closes for good, since the answer to a question may still come. Gives what the caller is told."""
-        self._closed = self._closed or f"a call was cut off by {type(error).__name__}"
+        ended = isinstance(error, (_NoMore, ConnectionError))
+        self._closed = self._closed or ("the other side has ended" if ended else f"a call was cut off by {type(error).__name__}")
         self._link.shut()
-        if isinstance(error, (_NoMore, ConnectionError)):
+        if ended:
             said = self._end()
             return refusal_of_end(said) or Ended(said or "it ended before it answered")
         return error

@@ -229,14 +229,21 @@ def _enlarge(pipe: int) -> int:
 class SocketLink(Link):
     """A connection to a server. What it takes for a line has a newline: the beginning of a line is never done."""
 
-    def __init__(self, path: "str | os.PathLike[str]") -> None:
+    def __init__(self, path: "str | os.PathLike[str]", patience: float) -> None:
         super().__init__()
         self._socket = socket.socket(socket.AF_UNIX, socket.SOCK_STREAM)
-        try:
-            self._socket.connect(os.fspath(path))
-        except OSError as error:
-            self._socket.close()
-            raise Error(f"nobody answers at {os.fspath(path)}: {error.strerror or error}") from error
+        until = time.monotonic() + patience
+        while True:
+            try:
+                self._socket.connect(os.fspath(path))
+                return
+            except OSError as error:
+                # None, or one that was left: a server that begins makes its own.
+                if isinstance(error, (FileNotFoundError, ConnectionRefusedError)) and time.monotonic() < until:
+                    time.sleep(0.02)
+                    continue
+                self._socket.close()
+                raise Error(f"nobody answers at {os.fspath(path)}: {error.strerror or error}") from None
 
     def write(self, data: bytes) -> None:
         self._socket.sendall(data)

@@ -398,6 +398,8 @@ def main(words: List[str]) -> int:
     except (Error, OSError) as error:
         print(f"corwaphi.server: {error}", file=sys.stderr)
         return 1
+    finally:  # A second signal changes the status no more.
+        signal.pthread_sigmask(signal.SIG_BLOCK, {signal.SIGTERM, signal.SIGINT})
     return 0
 
 

@@ -180,6 +180,9 @@ def once(file: str, words: List[str]) -> int:
     except BrokenPipeError:
         os.dup2(os.open(os.devnull, os.O_WRONLY), sys.stdout.fileno())
         return 1
+    except KeyboardInterrupt:
+        print("cut off: a change may have been made or not", file=sys.stderr)
+        return 130
     except (Error, OSError) as error:
         print(f"error: {told(error)}", file=sys.stderr)
         return 1

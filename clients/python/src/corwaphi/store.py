@@ -8,7 +8,7 @@ from . import files
 from .answers import Stat, Words
 from .channel import Channel
 from .errors import GuardFailed
-from .files import LOG_SECTORS, SECTORS, Path
+from .files import SECTORS, Path
 from .links import Link, ProcessLink, SocketLink
 from .pipeline import Pipeline
 from .views import Snapshot, View
@@ -38,25 +38,28 @@ class Store(View):
         path: Path,
         create: bool = False,
         sectors: int = SECTORS,
-        log_sectors: int = LOG_SECTORS,
+        log_sectors: Optional[int] = None,
         program: Optional[str] = None,
     ) -> "Store":
         """Opens the store in a file, and keeps others out of it. What lsmctl refuses is raised here: `Busy` if another has it.
 
-        With `create` a file that isn't there is made, of so many sectors of 512 bytes, with logs of `log_sectors` each. `program`
-        is the path of lsmctl; else `LSMCTL` says it, or it is found on the path.
+        With `create` a file that isn't there is made, of so many sectors of 512 bytes, with logs of `log_sectors` each, or of as
+        many as fit the file. `program` is the path of lsmctl; else `LSMCTL` says it, or it is found on the path.
         """
         if create:
             try:
-                files.create(path, sectors, log_sectors, program)
+                files.create(path, sectors, files.log_for(sectors) if log_sectors is None else log_sectors, program)
             except FileExistsError:
                 pass  # It is opened as it is.
         return cls(ProcessLink(path, program), path, program)
 
     @classmethod
-    def connect(cls, path: Path, program: Optional[str] = None) -> "Store":
-        """Connects to a store that `python -m corwaphi.server FILE SOCKET` holds, by the path of its socket."""
-        return cls(SocketLink(path), path, program)
+    def connect(cls, path: Path, wait: float = 0, program: Optional[str] = None) -> "Store":
+        """Connects to a store that `python -m corwaphi.server FILE SOCKET` holds, by the path of its socket.
+
+        Where nobody listens yet it waits up to so many seconds for that. `program` is the path of lsmctl, for `backup` alone.
+        """
+        return cls(SocketLink(path, wait), path, program)
 
     @property
     def closed(self) -> bool:

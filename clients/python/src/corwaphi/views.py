@@ -70,7 +70,9 @@ class View:
 
 
 class Scan(Iterator[Row]):
-    """The rows of a scan. If they don't fit a page it holds a snapshot until its end, or until it is closed or dropped."""
+    """The rows of a scan. If they don't fit a page it holds a snapshot until its end, or until it is closed. One that is dropped
+    before loses it before the next call of its store.
+    """
 
     def __init__(self, channel: Channel, at: str, start: bytes, end: Optional[bytes], limit: int) -> None:
         self._channel, self._at, self._end, self._limit = channel, at, end, limit
@@ -128,8 +130,9 @@ class Scan(Iterator[Row]):
         self.close()
 
     def __del__(self) -> None:
-        if getattr(self, "_snapshot", None) is not None:
-            self._release()
+        number: Optional[int] = getattr(self, "_snapshot", None)
+        if number is not None:  # Nothing is asked here: this may run at any moment, and what it raised would be lost.
+            self._channel.release_later(number)
 
 
 class Snapshot(View):
@@ -163,8 +166,9 @@ class Snapshot(View):
         self.release()
 
     def __del__(self) -> None:
-        if getattr(self, "_number", None) is not None and not self._channel.closed:
+        number: Optional[int] = getattr(self, "_number", None)
+        if number is not None and not self._channel.closed:
+            self._channel.release_later(number)
             warnings.warn(f"a snapshot was not released: {self!r}", ResourceWarning, source=self)
-            self.release()
 
 
