@@ -1,6 +1,7 @@
 pub mod LifeLaws
 pub mod EndingLaws
 pub mod RefusedLaws
+pub mod AnsweringLaws
 pub mod CommittingLaws
 pub mod DumpingLaws
 pub mod LoadingLaws

@@ -343,12 +343,12 @@ put-refused input ended fault e loading new before now next other r is (same, re
     ))
 
 -- what a reading that was refused has put
-put-as_read : (input : Option (List ℕ)) (fault : Fault) (e : Refusal) (loading : Loading) (before now : StoreView) → (r : AreRead input (Err fault) loading before now)
+put-from_reading : (input : Option (List ℕ)) (fault : Fault) (e : Refusal) (loading : Loading) (before now : StoreView) → (r : AreRead input (Err fault) loading before now)
     → EndsReadingFor (refusal e) input r.rows loading r.has now → (EndsFor (refusal e) input r.loads.put r.has now → EndsWith (Err fault) input r.loads.put r.has now)
     → ArePut input (Err fault) loading before now
-put-as_read input fault e loading before now r ends as =
+put-from_reading input fault e loading before now r ends is =
     let l = r.loads in
-    put input (Err fault) loading l.put l.batches before r.has now l.puts l.loaded (as (
+    put input (Err fault) loading l.put l.batches before r.has now l.puts l.loaded (is (
       ends-some input r.rows l.put (rows_waiting loading.batch) l.all ends.0,
       by ends.1,
     ))
@@ -359,8 +359,8 @@ put-as_read input fault e loading before now r ends as =
 
 pub put-if_refused : (input : Option (List ℕ)) (ended : Result (Unit {0}) Fault) (loading : Loading) (before now : StoreView) → is_refused ended ≡ true
     → AreRead input ended loading before now → ArePut input ended loading before now
-put-if_refused input (Err (Refused e)) loading before now is r = put-as_read input (Refused e) e loading before now r r.ends (λ ends. ends)
-put-if_refused input (Err (Failed failure)) loading before now is r = put-as_read input (Failed failure) failure.refusal loading before now r r.ends (λ ends. ends)
+put-if_refused input (Err (Refused e)) loading before now is r = put-from_reading input (Refused e) e loading before now r r.ends (λ ends. ends)
+put-if_refused input (Err (Failed failure)) loading before now is r = put-from_reading input (Failed failure) failure.refusal loading before now r r.ends (λ ends. ends)
 put-if_refused input (Ok done) loading before now is r = absurd (true≢false (sym is))
 put-if_refused input (Err (Usage usage)) loading before now is r = absurd (true≢false (sym is))
 put-if_refused input (Err (Unopened cause)) loading before now is r = absurd (true≢false (sym is))
@@ -440,7 +440,7 @@ pub tells_refused : (input lines output : Option (List ℕ)) (reason : Reason) (
 tells_refused input lines output reason e store is opened same refused =
     inl (
       told_as (IsRefusedOpened (RefusesToLoad input)) e reason is
-      (opened_refused (RefusesToLoad input) store e opened (subst (λ (i : Option (List ℕ)). RefusesToLoad i store e) same refused)),
+          (opened_refused (RefusesToLoad input) store e opened (subst (λ (i : Option (List ℕ)). RefusesToLoad i store e) same refused)),
       refl,
     )
 

@@ -49,8 +49,14 @@ fn status(answered: &Result<Answer, Fault>, written: &io::Result<()>) -> u8
     }
     match answered {
         Ok(answer) => answer_status(answer),
+        Err(
+            Fault::Refused(_)
+            | Fault::Failed(_)
+            | Fault::Unopened(_)
+            | Fault::Input(_)
+            | Fault::Output(_),
+        ) => REFUSED,
         Err(Fault::Usage(_)) => USAGE,
-        Err(_) => REFUSED,
     }
 }
 

@@ -1,6 +1,6 @@
-use Rattle.std.proofs.Common.{rules, refl, subst, sym}
+use Rattle.std.proofs.Common.{◌≡◌, ℕ, List, Option, rules, refl, subst, sym}
 use Rattle.std.proofs.lemmas.Result.{err_from_is_err_and}
-use Rattle.lsm_language.specs.Faults.{Reason}
+use Rattle.lsm_language.specs.Faults.{Reason, reason_of}
 use Rattle.lsm_requests.specs.Answers.{TellsDumped}
 use Rattle.lsm_requests.specs.Dumping.{pages_lines}
 use Rattle.lsm_requests.proofs.DumpingLaws.{tells_stopped, tells_unopened}
@@ -28,6 +28,13 @@ pub returns-in_err-store-clause-fault : goal.returns-in_err-store-clause-fault
 returns-in_err-store-clause-fault g c =
     let p = err_from_is_err_and c.from_residual.result c.from_residual.ensures.1 in rw (p.1, p.2) (tells_unopened _ _ c.in_err-store.ensures.refused)
 
+-- with what the system said, the reason is the same
+reason_told : (told why : Reason) (output output_after : Option (List ℕ)) → told ≡ why → TellsDumped why output output_after → TellsDumped told output output_after
+reason_told told why output output_after same tells = subst (λ (r : Reason). TellsDumped r output output_after) (sym same) tells
+
 pub returns-in-Err-clause-fault : goal.returns-in-Err-clause-fault
 returns-in-Err-clause-fault g c =
-    subst (λ (reason : Reason). TellsDumped reason _ _) (sym c.with_error.ensures) (tells_stopped _ c.in_ok-store.store _ _ (search rules) c.in-Err.ensures)
+    let before = g.O.Write.contents c.args.output.now in
+    let after = g.O.Write.contents c.dump_rows.new.output in
+    reason_told (reason_of c.with_error.result) (reason_of c.in-Err.fault) before after c.with_error.ensures
+    (tells_stopped (reason_of c.in-Err.fault) c.in_ok-store.store before after c.in_ok-store.ensures.opened c.in-Err.ensures)

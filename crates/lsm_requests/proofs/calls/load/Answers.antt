@@ -1,4 +1,5 @@
 use Rattle.std.proofs.lemmas.Result.{err_from_is_err_and}
+use Rattle.lsm_language.specs.Faults.{reason_of}
 use Rattle.lsm_open.specs.Recovering.{IsOpeningRefusal}
 use Rattle.lsm_requests.proofs.LoadingLaws.{loaded_answers, loaded_tells, tells_refused, tells_unopened}
 use Rattle.lsm_requests.proofs.RefusedLaws.{memory_opening, told_as}
@@ -22,6 +23,7 @@ returns-in_err-lines-clause-fault g c =
     let p = err_from_is_err_and c.from_residual-in_err-lines.result c.from_residual-in_err-lines.ensures.1 in
     rw p.1 (tells_unopened _ _ _ (told_as IsOpeningRefusal _ _ p.2 (memory_opening _ c.in_err-lines.ensures.refused)))
 
-pub returns-in-Err-clause-fault : goal.returns-in-Err-clause-fault
-returns-in-Err-clause-fault g c =
-    tells_refused _ _ _ _ _ c.in_ok-store.store c.failed.ensures c.in_ok-store.ensures.opened c.in_ok-lines.ensures.lines c.in-Err.ensures.refused
+pub returns-clause-fault : goal.returns-clause-fault
+returns-clause-fault g c =
+    tells_refused (g.I.Read.remaining c.args.input.now) _ (g.O.Write.contents c.args.output.now) (reason_of c.failed.result) c.in-Err.reason c.in_ok-store.store c.failed.ensures
+    c.in_ok-store.ensures.opened c.in_ok-lines.ensures.lines c.in-Err.ensures.refused

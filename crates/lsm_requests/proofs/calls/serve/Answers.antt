@@ -1,4 +1,5 @@
 use Rattle.std.proofs.lemmas.Result.{err_from_is_err_and}
+use Rattle.lsm_language.specs.Faults.{reason_of}
 use Rattle.lsm_requests.proofs.ServingLaws.{no_reader, served_answers, served_refuses, served_to, unopened_serves}
 use Rattle.lsm_requests.proofs.calls.serve.Goals as goal
 
@@ -17,5 +18,7 @@ returns-in_err-lines-clause-fault g c =
     let p = err_from_is_err_and c.from_residual-in_err-lines.result c.from_residual-in_err-lines.ensures.1 in
     rw p.1 (no_reader _ _ _ _ c.in_err-lines.ensures.refused p.2)
 
-pub returns-in-Err-clause-fault : goal.returns-in-Err-clause-fault
-returns-in-Err-clause-fault g c = served_to _ _ _ _ _ _ _ _ c.in_ok-store.ensures.opened c.in_ok-lines.ensures.lines c.in-Err.ensures c.with_error.ensures
+pub returns-clause-fault : goal.returns-clause-fault
+returns-clause-fault g c =
+    served_to c.in_ok-store.store c.serve.new.store c.in-Err.fault (reason_of c.with_error.result) _ _ (g.O.Write.contents c.args.output.now) (g.O.Write.contents c.serve.new.output)
+    c.in_ok-store.ensures.opened c.in_ok-lines.ensures.lines c.in-Err.ensures c.with_error.ensures
