@@ -1,24 +1,24 @@
 #!/usr/bin/env bash
 # Shows that an exploration looks at what it explores: with a wrong body in a layer below it has to tell `wrong` above 0.
 #
-#     tests/wrong.sh [NAME..]
+#     tests/wrong.sh [GROUP..]
 #
-# Each wrong body is made in a copy of the repository, where the program runs unproved (`rt try`) on a script that shows it. Some are
-# edits that the prover refuses, from a folder must-fail/; the others stand here. Each crash is opened once, without the crashes of the
-# opening behind it. The last wrong body shows at a third crash alone: with it a run of lives gives another answer. Without a name all
-# are tried.
+# The wrong bodies stand in two groups, `crashes` and `roots`. Those of a group are made together in one copy of the repository, where
+# the program runs unproved (`rt try`), on a script for each of them. No other body of its group shows on a script: LEFT_OUT=NAME
+# in the environment leaves out that one, which then has to be told as not found. Some are edits that the prover refuses, from a
+# folder must-fail/; the others stand here. Each crash is opened once, without the crashes of the opening behind it. One wrong body shows at
+# a third crash alone: with it a run of lives gives another answer.
 source "$(dirname "$(realpath "$0")")/common.sh"
 cd "$tests/.."
-folder=$room # Without a space, for what builds there.
+copy=$room/copy cases=$room/cases # Without a space, for what builds there.
 code=0
-wanted="$*"
 
 # Makes a wrong body in the copy, as it is read: each pair of texts, old and new, in its file.
 edit() {
     local line target='' old='' text
     while IFS= read -r line; do
         case $line in
-        file:*) target=$folder/copy/crates/${line#file: } ;;
+        file:*) target=$copy/crates/${line#file: } ;;
         old:*) old=${line#old: } ;;
         new:*)
             text=$(cat "$target" && echo .)
@@ -33,44 +33,69 @@ edit() {
     done
 }
 
-# A wrong body of a crate that the prover refuses.
-refused() {
-    sed "s|^file: |file: $1/|" "crates/$1/must-fail/$2.edit" >"$folder/body"
-}
-
-# Tries a wrong body on a script: what is printed must match, or must not.
-try() {
-    local name=$1 words=$2 matches=$3 pattern=$4 found=yes
-    case " $wanted " in "  " | *" $name "*) ;; *) cat >/dev/null && return ;; esac
-    rm -rf "$folder/copy" "$folder/cases"
-    mkdir "$folder/copy" "$folder/cases"
-    git ls-files -z crates crates.txt HANDLES | xargs -0 cp --parents -t "$folder/copy"
-    edit <"$folder/once"
-    edit <"$folder/body"
-    cat >"$folder/cases/$name"
-    tr ' ' '\n' <<<"$words" >"$folder/cases/$name.args"
-    (cd "$folder/copy/crates/lsmctl" && rt try --seconds 600 --cases "$folder/cases") >"$folder/answers" 2>"$folder/errors" || true
-    grep -q "^case=$name run=ended" "$folder/errors" || fail "$name: $(cat "$folder/answers" "$folder/errors")"
-    grep -Eq "$pattern" "$folder/answers" || found=no
-    if [ "$found" = "$matches" ]; then
-        echo "$name is found: $(grep -E '^(first|rows)' "$folder/answers" | tail -n 1)"
-    else
-        echo "wrong.sh: $name is not found:" >&2
-        cat "$folder/answers" >&2
-        code=1
-    fi
-}
-
-cat >"$folder/once" <<'EDIT'
+# A group begins: a copy in which each crash is opened once.
+begin() {
+    rm -rf "$copy" "$cases"
+    mkdir "$copy" "$cases"
+    git ls-files -z crates crates.txt HANDLES | xargs -0 cp --parents -t "$copy"
+    edit <<'EDIT'
 file: lsm_requests/src/exploring.rt
 old:         true,
 new:         false,
 EDIT
+}
+
+# body NAME: makes the wrong body that is read. refused CRATE NAME: makes one of a crate that the prover refuses.
+body() {
+    if [ "${LEFT_OUT:-}" = "$1" ]; then cat >/dev/null; else edit; fi
+}
+refused() {
+    sed "s|^file: |file: $1/|" "crates/$1/must-fail/$2.edit" | body "$2"
+}
+
+# shows NAME WORDS: the script that is read shows a wrong body of the group.
+shows() {
+    cat >"$cases/$1"
+    tr ' ' '\n' <<<"$2" >"$cases/$1.args"
+}
+
+# Runs the scripts of the group, and leaves in `explored` the line that each exploration prints, by the name of the wrong body.
+declare -A explored
+run() {
+    local name place=0 lines
+    (cd "$copy/crates/lsmctl" && rt try --seconds 600 --cases "$cases") >"$room/answers" 2>"$room/errors" || true
+    mapfile -t lines < <(grep '^first ' "$room/answers")
+    explored=()
+    while read -r name; do
+        grep -q explore "$cases/$name.args" || continue
+        explored[$name]=${lines[place]:-}
+        place=$((place + 1))
+    done < <(sed -n 's/^case=\([a-z_]*\) run=ended.*/\1/p' "$room/errors")
+}
+
+# told NAME MATCHES PATTERN LINE: what was printed for the script of a wrong body must match, or must not.
+told() {
+    local name=$1 matches=$2 pattern=$3 line=$4 found=yes
+    [ -n "$line" ] || fail "$name: it has not run: $(tail -n 20 "$room/answers" "$room/errors")"
+    grep -Eq "$pattern" <<<"$line" || found=no
+    if [ "$found" = "$matches" ]; then
+        echo "$name is found: ${line:0:200}"
+    else
+        echo "wrong.sh: $name is not found: $line" >&2
+        code=1
+    fi
+}
+
 wrong='^first [0-9]+ second 0 skipped [0-9]+ wrong [1-9]'
 long=$(printf '32%.0s' {1..600})
 
-# Operations that stand of a batch are applied though its last part is missing.
-cat >"$folder/body" <<'EDIT'
+# ---- what crashes leave of batches and of tables
+
+crashes() {
+    local name
+    begin
+    # Operations that stand of a batch are applied though its last part is missing.
+    body take_ends_a_batch_without_its_last_part <<'EDIT'
 file: lsm_codec/src/batch_text.rt
 old: None => return false,
 new: None => return true,
@@ -80,11 +105,11 @@ file: lsm_log/src/reading.rt
 old: let Some(sector) = LogSector::decode(bytes) else {
 new: let Some(sector) = LogSector::decode(bytes) else { if self.part > 0 { self.end_batch(alloc)?; }
 EDIT
-try take_ends_a_batch_without_its_last_part 'explore 8192 128' yes "$wrong" <<SCRIPT
+    shows take_ends_a_batch_without_its_last_part 'explore 8192 128' <<SCRIPT
 commit +61=31 +62=$long
 SCRIPT
-# A batch of which a part is missing is passed over, and the next one taken.
-cat >"$folder/body" <<'EDIT'
+    # A batch that is missing is passed over, and the next one taken.
+    body take_passes_over_a_missing_batch <<'EDIT'
 file: lsm_log/src/reading.rt
 old: && (sector.batch == self.number
 new: && (sector.batch >= self.number
@@ -93,23 +118,32 @@ new: if !self.is_awaited(&sector) { if self.part == 0 { return Ok(true); }
 old: let Some(sector) = LogSector::decode(bytes) else {
 new: let Some(sector) = LogSector::decode(bytes) else { if self.part == 0 { return Ok(true); }
 EDIT
-try take_passes_over_a_batch_without_its_first_part 'explore 8192 128' yes "$wrong" <<SCRIPT
-commit +62=$long
+    shows take_passes_over_a_missing_batch 'explore 8192 128' <<SCRIPT
+commit +62=32
 commit +61=31
 SCRIPT
-# The superblock is written before the manifest is synced.
-refused lsm_root install_writes_the_superblock_before_the_manifest_stands
-try install_writes_the_superblock_before_the_manifest_stands 'explore 8192 128' yes "$wrong" <<SCRIPT
-commit +61=31
-sync
-SCRIPT
-# A sync up to a batch is answered without one.
-refused lsm_store sync_to_answers_from_the_batch_count
-try sync_to_answers_from_the_batch_count 'explore 8192 128' yes "$wrong" <<SCRIPT
+    # A sync up to a batch is answered without one.
+    refused lsm_store sync_to_answers_from_the_batch_count
+    shows sync_to_answers_from_the_batch_count 'explore 8192 128' <<SCRIPT
 commit +61=31
 syncto 1
 SCRIPT
-# A merge's input blocks are given back as its result is accepted: the next flush writes over them before the merge is installed.
+    # A merge's input blocks are given back as its result is accepted: the next flush writes over them before the merge is installed. Of
+    # more than 4 writes not each subset is tried, so that it takes no minutes.
+    refused lsm_jobs accept_gives_inputs_back
+    edit <<'EDIT'
+file: lsm_explore/src/masks.rt
+old: const MOST_WRITES: usize = 12;
+new: const MOST_WRITES: usize = 4;
+EDIT
+    shows accept_gives_inputs_back 'explore 8192 128' < <(merges)
+    run
+    for name in take_ends_a_batch_without_its_last_part take_passes_over_a_missing_batch sync_to_answers_from_the_batch_count \
+        accept_gives_inputs_back; do
+        told "$name" yes "$wrong" "${explored[$name]:-}"
+    done
+}
+
 flush() {
     local job=$1
     printf 'commit +6%s=31\nrotate\ntake\nread %s\nbuild %s 1\naccept %s %s\nwrite %s\n' "$job" "$job" "$job" "$job" "$job" "$job"
@@ -122,22 +156,26 @@ merges() {
     printf 'take\nread 5\nbuild 5 1\naccept 5 5\n'
     flush 6
 }
-refused lsm_jobs accept_gives_inputs_back
-# Of more than 4 writes not each subset is tried, so that it takes no minutes.
-cat >>"$folder/body" <<'EDIT'
-file: lsm_explore/src/masks.rt
-old: const MOST_WRITES: usize = 12;
-new: const MOST_WRITES: usize = 4;
-EDIT
-try accept_gives_inputs_back 'explore 8192 128' yes "$wrong" < <(merges)
-# Each region is opened under the same epoch: what a first crash left behind a batch that it dropped is there again, once the region
-# is used anew.
-cat >"$folder/body" <<'EDIT'
+
+# ---- what they leave of roots and of regions
+
+roots() {
+    local name
+    begin
+    # The superblock is written before the manifest is synced.
+    refused lsm_root install_writes_the_superblock_before_the_manifest_stands
+    shows install_writes_the_superblock_before_the_manifest_stands 'explore 8192 128' <<SCRIPT
+commit +61=31
+sync
+SCRIPT
+    # Each region is opened under the same epoch: what a first crash left behind a batch that it dropped is there again, once the region
+    # is used anew.
+    body next_regions_keep_the_epoch <<'EDIT'
 file: lsm_open/src/reopened.rt
 old: &closed, generation, count);
 new: &closed, 1, count);
 EDIT
-try next_regions_keep_the_epoch 'lives 8192 128' no "^rows 61=31 62=$long end" <<SCRIPT
+    shows next_regions_keep_the_epoch 'lives 8192 128' <<SCRIPT
 commit +61=31
 commit +62=41
 commit +63=33
@@ -153,4 +191,18 @@ sync
 crash none
 scan empty end 64
 SCRIPT
+    run
+    name=install_writes_the_superblock_before_the_manifest_stands
+    told "$name" yes "$wrong" "${explored[$name]:-}"
+    told next_regions_keep_the_epoch no "^rows 61=31 62=$long end" "$(grep '^rows ' "$room/answers" || true)"
+}
+
+[ $# -gt 0 ] || set -- crashes roots
+for group; do
+    case $group in
+    crashes) crashes ;;
+    roots) roots ;;
+    *) fail "there is no group $group" ;;
+    esac
+done
 exit $code

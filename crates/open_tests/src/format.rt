@@ -63,6 +63,20 @@ fn a_worn_device(rt: HostRuntime) {
     assert!(rt; is_emptied(&rt, rt.alloc(), worn(&rt, rt.alloc())));
 }
 
+/// How many reads, writes and syncs a format makes.
+fn calls_of_a_format<R: Abort>(rt: &R, alloc: Global) -> (u64, u64, u64) {
+    match format_of(alloc, zeros(rt, alloc)) {
+        Ok(device) => (device.reads(), device.writes(), device.syncs()),
+        Err((refusal, _)) => rt.panic(refusal.name()),
+    }
+}
+
+#[test]
+fn a_format_makes_516_writes_and_3_syncs(rt: HostRuntime) {
+    let calls = calls_of_a_format(&rt, rt.alloc());
+    assert!(rt; calls == (0, 516, 3), "{calls:?}");
+}
+
 /// What a crash that keeps all leaves of a format that fails with Io behind so many writes and syncs.
 fn failed<R: Abort>(rt: &R, alloc: Global, fuse: u64) -> MemDevice {
     let mut device = worn(rt, alloc);

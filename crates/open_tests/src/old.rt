@@ -68,6 +68,20 @@ fn old_image<R: Abort>(rt: &R, alloc: Global, block: &str) -> MemDevice {
     crash(device, &[])
 }
 
+/// Whether the key 61 is absent where the filter lacks the bit of this sector.
+fn is_hidden<R: Abort>(rt: &R, alloc: Global, sector: u32) -> bool {
+    let mut device = old_image(rt, alloc, PUT);
+    put(rt, &mut device, sector, &[0; 512]);
+    finds(rt, alloc, device, None, None)
+}
+
+#[test]
+fn a_key_of_which_the_filter_lacks_a_bit_is_absent(rt: HostRuntime) {
+    for (sector, _, _) in FILTER {
+        assert!(rt; is_hidden(&rt, rt.alloc(), sector), "{sector}");
+    }
+}
+
 /// What a crash that keeps these pending writes leaves of a first opening that fails behind so many writes and syncs.
 fn stopped<R: Abort>(rt: &R, alloc: Global, fuse: u64, keep: &[bool]) -> MemDevice {
     let mut device = old_image(rt, alloc, PUT);

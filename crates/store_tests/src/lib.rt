@@ -1,5 +1,5 @@
-//! Tests of a store, of what scripts can't say: how many sectors a look-up reads, and that a store which is let go leaves its file. And
-//! of the libraries that do whole jobs (`lsm_upkeep`) and go over all rows (`lsm_walk`). What calls answer, jobs among them, and what
+//! Tests of a store, of what scripts can't say: how many sectors a look-up reads, what a write that fails leaves, and that a store which is
+//! let go leaves its file. And of the libraries that do whole jobs (`lsm_upkeep`) and go over all rows (`lsm_walk`). What calls answer, jobs among them, and what
 //! crashes leave is told by scripts (`tests/runs`); calls of the device that fail and growths that are refused are made by `hostile`.
 #![tactic(auto)]
 
@@ -9,6 +9,8 @@ mod example;
 mod letting_go;
 #[cfg(test)]
 mod reads;
+#[cfg(test)]
+mod stopping;
 #[cfg(test)]
 mod subject;
 #[cfg(test)]

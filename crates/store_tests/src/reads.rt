@@ -44,6 +44,34 @@ fn a_block_is_read_unless_the_cache_has_it(rt: HostRuntime) {
     }
 }
 
+/// A table of 64 data blocks, each of one key: those below 64.
+fn with_64_blocks<R: Threads + Sync + Abort>(rt: &R, alloc: Global) -> Subject {
+    let mut store = begun_with(rt, alloc, 512, CACHE);
+    for key in 0..64_u8 {
+        store.put(rt, &[key], &[key; 2_048]).expect(rt, "a batch");
+    }
+    store.rotate(rt);
+    store.settle(rt);
+    store
+}
+
+/// Whether each of these keys has its value, and so many sectors are read for it.
+fn are_read<R: Abort>(rt: &R, store: &mut Subject, reads: u64) -> bool {
+    for key in 0..64_u8 {
+        if store.look_up(rt, At::Now, key) != (Some(key), reads) {
+            return false;
+        }
+    }
+    true
+}
+
+#[test]
+fn each_of_64_blocks_is_read_once(rt: HostRuntime) {
+    let mut store = with_64_blocks(&rt, rt.alloc());
+    assert!(rt; store.shape() == [1, 0, 0, 0, 0]);
+    assert!(rt; are_read(&rt, &mut store, 8) && are_read(&rt, &mut store, 0));
+}
+
 /// Where a page begins, how many rows it may have, how many it has, and how many sectors are read for it. The key of the row that it
 /// leaves out may stand in the next block.
 const PAGES: [(&[u8], u64, (usize, u64)); 5] = [
@@ -140,7 +168,7 @@ const FAILING: [(u64, u8, u8, Result<u64, Refusal>); 5] = [
 fn only_a_write_that_fails_stops_the_store(rt: HostRuntime) {
     let mut store = with_a_table(&rt, rt.alloc());
     for (call, wanted, value, answer) in FAILING {
-        store.fail(call);
+        store.fail(call, false);
         let (found, _) = store.put_if(&rt, 0x61, Some(wanted), value);
         assert!(rt; found == answer, "{call}: {found:?}");
     }

@@ -50,10 +50,10 @@ impl Subject {
         }
     }
 
-    /// The store after a crash that keeps nothing that pends.
-    pub(crate) fn reopened<R: Abort>(self, rt: &R) -> Subject {
+    /// The store after a crash that keeps these of the writes that pend.
+    pub(crate) fn crashed<R: Abort>(self, rt: &R, keep: &[bool]) -> Subject {
         let Subject { alloc, store } = self;
-        Subject::open(rt, alloc, store.into_device().crash(&[]), CACHE)
+        Subject::open(rt, alloc, store.into_device().crash(keep), CACHE)
     }
 
     fn batch<R: Abort>(&self, rt: &R, key: &[u8], value: &[u8]) -> Batch {
@@ -131,9 +131,9 @@ impl Subject {
         At::Snap(self.store.snapshot().expect(rt, "a snapshot"))
     }
 
-    /// Lets the call of the device with this number fail, counted from now on.
-    pub(crate) fn fail(&mut self, n: u64) {
-        self.store.fail(n, false);
+    /// Lets the call of the device with this number fail, counted from now on. A write that fails is kept, or not.
+    pub(crate) fn fail(&mut self, n: u64, kept: bool) {
+        self.store.fail(n, kept);
     }
 
     /// Whether there are so many batches, and just their keys, where batch 1 put 61 = 31, batch 2 62 = 32, and so on.

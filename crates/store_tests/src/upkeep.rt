@@ -68,7 +68,7 @@ fn is_last<R: Abort>(rt: &R, store: &mut Subject) -> bool {
 fn all_tables_come_into_the_last_level(rt: HostRuntime) {
     let mut store = with_four_levels(&rt, rt.alloc());
     assert!(rt; store.compact_all(&rt) && is_last(&rt, &mut store));
-    let mut again = store.reopened(&rt);
+    let mut again = store.crashed(&rt, &[]);
     assert!(rt; is_last(&rt, &mut again));
 }
 
