@@ -40,6 +40,6 @@ returns g c =
     let words = map g.S.AsStr.text c.args.words.now in
     let input = g.I.Read.remaining c.args.input.now in
     let read : IsRead words input c.in_ok-asked.asked c.deref.result.now =
-        read_so words input c.in_ok-asked.asked c.in_ok-text.text.items c.deref.result.now c.in_ok-asked.ensures.asked c.in_ok-text.ensures.whole c.deref.ensures.value in
+    read_so words input c.in_ok-asked.asked c.in_ok-text.text.items c.deref.result.now c.in_ok-asked.ensures.asked c.in_ok-text.ensures.whole c.deref.ensures.value in
     answered_so words input _ _ _ c.in_ok-asked.asked c.deref.result.now c.in_ok-request.request c.answer_request.result read c.in_ok-request.ensures.0 c.in_ok-request.ensures.1
     (λ none. ap g.I.Read.remaining (c.in_ok-text.ensures.untouched none)) c.answer_request.ensures.comes c.answer_request.ensures.faults
