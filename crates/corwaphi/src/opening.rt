@@ -1,0 +1,30 @@
+//! A store that was just opened is made ready for writes.
+
+ghost use Rattle.std.specs.Prelude.{◌≡◌};
+ghost use Rattle.corwaphi.specs.Upkeep.{IsReadied, IsUpkept};
+ghost use Rattle.lsm_upkeep.specs.Upkeep.{OpensLog};
+
+use lsm_device::Device;
+use lsm_policy::Policy;
+use lsm_store::Store;
+use lsm_upkeep::compact;
+use std::alloc::Global;
+use std::thread::Threads;
+
+/// Finishes a flush that waits, compacts by the policy, and opens a log where the open one has no room, or none is open.
+pub(crate) fn ready<R: Threads + Sync, D: Device>(rt: &R, alloc: Global, store: &mut Store<D>)
+    ensures readied { IsReadied store.old store.new }
+    ensures upkept { IsUpkept store.old store.new }
+    ensures log { store.new.state.log_sectors ≡ store.old.state.log_sectors }
+{
+    compact(rt, alloc, store, &Policy::new());
+    open_log(store);
+}
+
+fn open_log<D: Device>(store: &mut Store<D>)
+    ensures { OpensLog store.old store.new }
+{
+    if let Ok(0) = store.log_room() {
+        let _ = store.rotate();
+    }
+}
