@@ -15,7 +15,6 @@ use std::thread::Threads;
 pub(crate) fn ready<R: Threads + Sync, D: Device>(rt: &R, alloc: Global, store: &mut Store<D>)
     ensures readied { IsReadied store.old store.new }
     ensures upkept { IsUpkept store.old store.new }
-    ensures log { store.new.state.log_sectors ≡ store.old.state.log_sectors }
 {
     compact(rt, alloc, store, &Policy::new());
     open_log(store);

@@ -1,12 +1,13 @@
 //! A commit that finds room.
 
-ghost use Rattle.std.specs.Prelude.{◌≡◌, ◌≤◌, not, option_map, MatchResult, true};
+ghost use Rattle.std.specs.Prelude.{◌≡◌, ◌≤◌, option_map, MatchResult};
+ghost use Rattle.lsm_codec.specs.BatchText.{sectors_of};
 ghost use Rattle.lsm_store.specs.Calls.{Number, reply_of};
-ghost use Rattle.lsm_upkeep.specs.Upkeep.{Compacts, CompactsIf};
+ghost use Rattle.lsm_upkeep.specs.Upkeep.{CompactsIf};
 ghost use Rattle.corwaphi.specs.Room.{FailsToRotate, Rotates, WritesBehind, is_log_full};
 ghost use Rattle.corwaphi.specs.Writing.{IsServed, Writes, as_no_space, commit_of, has_puts, lacks_room};
 
-use lsm_codec::{Batch, Guard, Operations};
+use lsm_codec::{Batch, Guard, Operations, batch_text_laws};
 use lsm_device::{Device, Refusal};
 use lsm_policy::Policy;
 use lsm_store::Store;
@@ -24,8 +25,8 @@ pub(crate) fn write<R: Threads + Sync, D: Device>(
 ) -> Result<u64, Refusal>
     requires { 128 ≤ store.old.state.log_sectors }
     ensures writes { Writes (option_map (λ g. g.now) guards.entry) batch.now store.old (reply_of Number result) store.new }
-    ensures log { store.new.state.log_sectors ≡ store.old.state.log_sectors }
 {
+    fits_an_empty_log(batch);
     ease(rt, alloc, store, batch);
     if lacks_room(store, batch) {
         return Err(Refusal::NoSpace);
@@ -35,6 +36,14 @@ pub(crate) fn write<R: Threads + Sync, D: Device>(
         return write_behind(rt, alloc, store, guards, batch);
     }
     told
+}
+
+// A batch takes no more sectors than the smallest log has.
+fn fits_an_empty_log(batch: &Batch)
+    ensures { sectors_of batch.now ≤ 128 }
+{
+    batch_text_laws();
+    let _operations = batch.operations();
 }
 
 // Compacts a store that has no room for the puts of a batch.

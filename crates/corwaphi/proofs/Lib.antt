@@ -1,0 +1,4 @@
+mod Jobs
+mod Logs
+mod Upkept
+mod WritingLaws
