@@ -1,5 +1,5 @@
 -- The log regions, and the open log, while a store works.
-use Rattle.std.proofs.Common.{◌≡◌, ◌∙◌, ℕ, zero, suc, Bool, true, false, nat_le, if◌then◌else◌, Option, Some, None, refl, sym, subst}
+use Rattle.std.proofs.Common.{◌≡◌, ◌≤◌, ◌∙◌, ℕ, zero, suc, Bool, true, false, nat_le, if◌then◌else◌, Option, Some, None, refl, sym, subst}
 use Rattle.lsm_device.specs.declared.refusal.Refusal.TheVariants.{Io}
 use Rattle.lsm_jobs.specs.Slots.{Slot}
 use Rattle.lsm_levels.specs.Pick.{is_flush}
@@ -17,7 +17,7 @@ use Rattle.lsm_store.specs.WorkEffects.{installed, state_after, work_use}
 use Rattle.lsm_store.specs.WorkRefusals.{held, of_slot}
 use Rattle.lsm_store.specs.WorkReplies.{after_work_fault, next_worked}
 use Rattle.lsm_store.specs.Working.{Works, ServesStep}
-use Rattle.corwaphi.specs.Upkeep.{UpkeepSteps}
+use Rattle.corwaphi.specs.Upkeep.{IsUpkept, UpkeepSteps}
 use Rattle.corwaphi.proofs.Jobs.{Goes}
 
 -- ---- the open log, at work on jobs
@@ -26,7 +26,7 @@ pub record IsSameLog (old new : State) : Type 0 where
   pub sectors : new.log_sectors ≡ old.log_sectors
   pub log : new.open_log ≡ old.open_log
 
-pub KeepsLog : StoreView → StoreView → Type 0
+abbrev pub KeepsLog : StoreView → StoreView → Type 0
 KeepsLog old new = IsSameLog old.state new.state
 
 same_log : (s : State) → IsSameLog s s
@@ -61,7 +61,7 @@ works_keep old new piece reply works = subst (IsSameLog old.state) (sym works.st
 pub log_goes : Goes KeepsLog
 log_goes = record {
   stays = λ old new e. subst (λ (s : StoreView). IsSameLog old.state s.state) (sym e) (same_log old.state);
-  then = λ old mid new first second. record { sectors = second.sectors ∙ first.sectors; log = second.log ∙ first.log };
+  onward = λ old mid new first second. record { sectors = second.sectors ∙ first.sectors; log = second.log ∙ first.log };
   works = works_keep;
 }
 
@@ -107,3 +107,13 @@ step_sectors old new (Worked piece) reply works = (works_keep old new piece repl
 pub steps_sectors : (n : ℕ) (old new : StoreView) → UpkeepSteps n old new → new.state.log_sectors ≡ old.state.log_sectors
 steps_sectors zero old new e = subst (λ (s : StoreView). s.state.log_sectors ≡ old.state.log_sectors) (sym e) refl
 steps_sectors (suc n) old new (mid, step, reply, is, serves, more) = steps_sectors n mid new more ∙ step_sectors old mid step reply serves
+
+low_then : (old new : StoreView) → new.state.log_sectors ≡ old.state.log_sectors → 128 ≤ old.state.log_sectors → 128 ≤ new.state.log_sectors
+low_then old new e low = subst (λ (n : ℕ). 128 ≤ n) (sym e) low
+
+-- a log region stays as large as the largest batch
+pub low_served : (old new : StoreView) (call : Call) (reply : Reply) → Serves old call reply new → 128 ≤ old.state.log_sectors → 128 ≤ new.state.log_sectors
+low_served old new call reply serves low = low_then old new (serves_sectors old new call reply serves) low
+
+pub low_upkept : (old new : StoreView) → IsUpkept old new → 128 ≤ old.state.log_sectors → 128 ≤ new.state.log_sectors
+low_upkept old new u low = low_then old new (steps_sectors u.count old new u.steps) low

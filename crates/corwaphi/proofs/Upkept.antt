@@ -1,5 +1,5 @@
 -- Upkeep, as steps.
-use Rattle.std.proofs.Common.{◌≡◌, ◌+◌, ◌⊎◌, ℕ, zero, suc, refl, sym, subst, inl, inr}
+use Rattle.std.proofs.Common.{◌≡◌, ℕ, zero, suc, refl, sym, subst}
 use Rattle.lsm_device.specs.declared.refusal.Refusal.TheVariants.{LogFull}
 use Rattle.lsm_store.specs.Backing.{StoreView}
 use Rattle.lsm_store.specs.Calls.{Call, Reply, Commit, CommitIf, Number, Refused, Rotate}
@@ -13,28 +13,29 @@ use Rattle.lsm_upkeep.proofs.KeptMaps.{onward, rotate_keeps, stays as stays_same
 use Rattle.corwaphi.specs.Upkeep.{IsUpkeepStep, IsUpkept, UpkeepSteps}
 use Rattle.corwaphi.proofs.Jobs.{Goes, compacts, compacts_all, eased, settled}
 
-appended : (m n : ℕ) (old mid new : StoreView) → UpkeepSteps m old mid → UpkeepSteps n mid new → UpkeepSteps (m + n) old new
-appended zero n old mid new e more = subst (λ (s : StoreView). UpkeepSteps n s new) e more
-appended (suc m) n old mid new (next, step, reply, is, serves, first) more = (next, step, reply, is, serves, appended m n next mid new first more)
+-- steps behind steps
+joined : (m n : ℕ) (old mid new : StoreView) → UpkeepSteps m old mid → UpkeepSteps n mid new → (k : ℕ) × UpkeepSteps k old new
+joined zero n old mid new e more = (n, subst (λ (s : StoreView). UpkeepSteps n s new) e more)
+joined (suc m) n old mid new (next, step, reply, is, serves, first) more =
+    let r = joined m n next mid new first more in
+    (suc r.0, (next, step, reply, is, serves, r.1))
 
-then : (old mid new : StoreView) → IsUpkept old mid → IsUpkept mid new → IsUpkept old new
-then old mid new first second = record {
-  count = first.count + second.count;
-  steps = appended first.count second.count old mid new first.steps second.steps;
-  keeps = onward old mid new first.keeps second.keeps;
-}
+pub then : (old mid new : StoreView) → IsUpkept old mid → IsUpkept mid new → IsUpkept old new
+then old mid new first second =
+    let r = joined first.count second.count old mid new first.steps second.steps in
+    record { count = r.0; steps = r.1; keeps = onward old mid new first.keeps second.keeps }
 
 stays : (old new : StoreView) → new ≡ old → IsUpkept old new
-stays old new e = record { count = 0; steps = e; keeps = stays_same old new e }
+stays old new e = record { count = zero; steps = e; keeps = stays_same old new e }
 
 one : (old new : StoreView) (step : Step) (reply : Reply) → IsUpkeepStep step reply → ServesStep old step reply new → KeepsMap old new → IsUpkept old new
-one old new step reply is serves keeps = record { count = 1; steps = (new, step, reply, is, serves, refl); keeps = keeps }
+one old new step reply is serves keeps = record { count = suc zero; steps = (new, step, reply, is, serves, refl); keeps = keeps }
 
 works : (old new : StoreView) (piece : Work) (reply : Reply) → Works old piece reply new → IsUpkept old new
 works old new piece reply w = one old new (Worked piece) reply tt w (works_keep old new piece reply w)
 
 pub upkept_goes : Goes IsUpkept
-upkept_goes = record { stays = stays; then = then; works = works }
+upkept_goes = record { stays = stays; onward = then; works = works }
 
 pub rotates : (old new : StoreView) (reply : Reply) → Serves old Rotate reply new → IsUpkept old new
 rotates old new reply serves = one old new (Called Rotate) reply tt serves (rotate_keeps old new reply serves)

@@ -1,5 +1,5 @@
 -- What a commit that finds room comes to.
-use Rattle.std.proofs.Common.{◌≡◌, ◌≢◌, ◌∙◌, ◌≤◌, ◌+◌, ◌⊎◌, ◌&&◌, ℕ, Bool, true, false, not, nat_le, true≢false, inl, inr, refl, sym, ap, subst, arith, List, [], ◌∷◌, Option, Some, None}
+use Rattle.std.proofs.Common.{◌≡◌, ◌≢◌, ◌∙◌, ◌≤◌, ◌+◌, ◌⊎◌, ◌&&◌, ℕ, Bool, true, false, not, nat_le, nat_lt, is_some, ◌==◌, length, true≢false, inl, inr, refl, sym, ap, subst, arith, List, [], ◌∷◌, Option, Some, None}
 use Rattle.std.proofs.lemmas.Bool.{le-leb}
 use Rattle.lsm_codec.specs.BatchText.{sectors_of}
 use Rattle.lsm_codec.specs.Guards.{Condition}
@@ -9,12 +9,14 @@ use Rattle.lsm_device.specs.declared.refusal.Refusal.TheVariants.{Exhausted, Log
 use Rattle.lsm_store.specs.Backing.{StoreView}
 use Rattle.lsm_store.specs.Calls.{Call, Reply, Commit, CommitIf, Number, Done, Value, Rows, Given, Handed, Refused, Rotate, Unread}
 use Rattle.lsm_store.specs.Effects.{reply_by}
-use Rattle.lsm_store.specs.Refusals.{first_refusal}
+use Rattle.lsm_open.specs.CrashState.{last_number}
+use Rattle.lsm_store.specs.RecoveryPoints.{batch_count}
+use Rattle.lsm_store.specs.Refusals.{first_refusal, most_guards}
 use Rattle.lsm_store.specs.Run.{next}
 use Rattle.lsm_store.specs.Serving.{Serves, reply_in}
-use Rattle.lsm_store.specs.State.{OpenLog, State, fits, fits_in}
+use Rattle.lsm_store.specs.State.{OpenLog, State, are_waiting, fits, fits_in, is_unused}
 use Rattle.lsm_upkeep.specs.Upkeep.{Compacts, CompactsIf}
-use Rattle.corwaphi.specs.Room.{FailsToRotate, Rotates, WritesAt, WritesBehind, is_log_full}
+use Rattle.corwaphi.specs.Room.{FailsToRotate, Rotates, WritesBehind, is_log_full}
 use Rattle.corwaphi.specs.Upkeep.{IsUpkept}
 use Rattle.corwaphi.specs.Writing.{CannotRotate, IsServed, IsWithoutRoom, LacksRoom, Writes, as_no_space, commit_of, finds_room, lacks_room}
 use Rattle.corwaphi.proofs.Jobs.{compacts, eased}
@@ -37,7 +39,7 @@ full_to Unread e = absurd (true≢false (sym e))
 not_full : (reply : Reply) → is_log_full reply ≡ false → reply ≢ Refused LogFull
 not_full reply e is = true≢false (sym (ap is_log_full is) ∙ e)
 
-pub served_full : (guards : Option (List Condition)) (batch : List Operation) (old new : StoreView) (told : Reply) → IsServed (commit_of guards batch) old told new → told ≡ Refused LogFull
+served_full : (guards : Option (List Condition)) (batch : List Operation) (old new : StoreView) (told : Reply) → IsServed (commit_of guards batch) old told new → told ≡ Refused LogFull
     → Serves old (commit_of guards batch) (Refused LogFull) new
 served_full None batch old new told s is = subst (λ (r : Reply). Serves old (Commit batch) (reply_in (Commit batch) new.state r) new) is s
 served_full (Some guards) batch old new told s is = subst (λ (r : Reply). Serves old (CommitIf guards batch) (reply_in (CommitIf guards batch) new.state r) new) is s
@@ -58,8 +60,8 @@ commit_if_full s guards batch false false false false e = refl
 
 -- a log that is full has no room for the batch
 doesnt_fit : (guards : Option (List Condition)) (batch : List Operation) (old new : StoreView) → Serves old (commit_of guards batch) (Refused LogFull) new → fits old.state batch ≡ false
-doesnt_fit None batch old new serves = commit_full old.state batch _ _ (fits old.state batch) serves.admitted
-doesnt_fit (Some guards) batch old new serves = commit_if_full old.state guards batch _ _ _ (fits old.state batch) serves.admitted
+doesnt_fit None batch old new serves = commit_full old.state batch (is_some old.state.stopped) (batch_count old.state.points == last_number) (fits old.state batch) serves.admitted
+doesnt_fit (Some guards) batch old new serves = commit_if_full old.state guards batch (is_some old.state.stopped) (nat_lt most_guards (length guards)) (batch_count old.state.points == last_number) (fits old.state batch) serves.admitted
 
 step_full : (guards : Option (List Condition)) (batch : List Operation) (old new : StoreView) → Serves old (commit_of guards batch) (Refused LogFull) new → IsUpkept old new
 step_full None batch old new serves = is_full (Commit batch) old new refl serves
@@ -75,7 +77,7 @@ rotate_full s false false false true e = true≢false (ap is_log_full e)
 rotate_full s false false false false e = true≢false (ap is_log_full e)
 
 rotates_not_full : (old new : StoreView) → Serves old Rotate (Refused LogFull) new → ⊥
-rotates_not_full old new serves = rotate_full old.state _ _ _ _ serves.admitted
+rotates_not_full old new serves = rotate_full old.state (is_some old.state.stopped) (are_waiting old.state) (is_unused old.state.open_log) (old.state.generation == last_number) serves.admitted
 
 told_full : (refusal : Refusal) → Refused (as_no_space refusal) ≡ Refused LogFull → Refused refusal ≡ Refused LogFull
 told_full SealedWaiting e = absurd (true≢false (sym (ap is_log_full e)))
@@ -85,6 +87,9 @@ told_full other e = e
 fails_not_full : (old new : StoreView) (refusal : Refusal) → Serves old Rotate (Refused refusal) new → Refused (as_no_space refusal) ≢ Refused LogFull
 fails_not_full old new refusal serves e = rotates_not_full old new (subst (λ (r : Reply). Serves old Rotate r new) (told_full refusal e) serves)
 
+low_fits : (b n : ℕ) → 128 ≤ n → b ≤ 128 → nat_le (0 + b) n ≡ true
+low_fits b n low high = le-leb (0 + b) n (omega (arith, low, high))
+
 -- a log that was just opened has room
 fresh_fits : (batch : List Operation) (flushed rotated kept : StoreView) → Serves flushed Rotate Done rotated → KeepsLog rotated kept → 128 ≤ flushed.state.log_sectors → sectors_of batch ≤ 128
     → fits kept.state batch ≡ true
@@ -92,7 +97,7 @@ fresh_fits batch flushed rotated kept serves keeps low high =
     let log : kept.state.open_log ≡ (next flushed.state Rotate Done).open_log = keeps.log ∙ ap (λ (s : State). s.open_log) serves.state in
     let sectors : kept.state.log_sectors ≡ flushed.state.log_sectors = keeps.sectors ∙ serves_sectors flushed rotated Rotate Done serves in
     subst (λ (o : Option OpenLog). fits_in kept.state.log_sectors batch o ≡ true) (sym log)
-    (subst (λ (n : ℕ). nat_le (0 + sectors_of batch) n ≡ true) (sym sectors) (le-leb (0 + sectors_of batch) flushed.state.log_sectors (omega arith)))
+    (subst (λ (n : ℕ). nat_le (0 + sectors_of batch) n ≡ true) (sym sectors) (low_fits (sectors_of batch) flushed.state.log_sectors low high))
 
 -- ---- room at once
 
@@ -130,7 +135,7 @@ module _ (guards : Option (List Condition)) (batch : List Operation) (old mid : 
     where
       by : (b : Bool) → lacks_room batch old ≡ b → CompactsIf b old mid → LacksRoom batch mid
       by true is c = record { before = old; compacts = c; lacks = lacks }
-      by false is e = absurd (true≢false (sym lacks ∙ ap (lacks_room batch) e ∙ is))
+      by false is e = absurd (true≢false (sym lacks ∙ ap (λ (s : StoreView). lacks_room batch s) e ∙ is))
 
   pub writes-lacking : lacks_room batch mid ≡ true → Writes guards batch old (Refused NoSpace) mid
   writes-lacking lacks = record {
@@ -138,7 +143,7 @@ module _ (guards : Option (List Condition)) (batch : List Operation) (old mid : 
     upkeep = upkept_eased;
     ends = inr (NoSpace, refl, inl (refl, lacks_eased lacks), refl);
     room = not_full (Refused NoSpace) refl;
-    plain = λ finds. absurd (true≢false (sym lacks ∙ ap (lacks_room batch) (plain_eased finds) ∙ room_lacks batch old finds));
+    plain = λ finds. absurd (true≢false (sym lacks ∙ ap (λ (s : StoreView). lacks_room batch s) (plain_eased finds) ∙ room_lacks batch old finds));
   }
 
   pub writes-plainly : (told : Reply) (new : StoreView) → IsServed (commit_of guards batch) mid told new → is_log_full told ≡ false → Writes guards batch old told new
@@ -174,14 +179,23 @@ module _ (guards : Option (List Condition)) (batch : List Operation) (old mid : 
     cannot e new f = record {
       kept = new;
       upkeep = then old full new upkept_full (then full f.flushed new (compacts IsUpkept upkept_goes full f.flushed f.before) (rotates f.flushed new (Refused f.refusal) f.rotates));
-      ends = inr (e, refl, inr (f.refusal, f.is, record {
-        before = full;
-        flushed = f.flushed;
-        compacts = f.before;
-        full = still_unfit;
-        rotates = f.rotates;
-      }), refl);
-      room = λ told. fails_not_full f.flushed new f.refusal f.rotates (sym (ap Refused f.is) ∙ told);
+      ends = inr (
+        e,
+        refl,
+        inr (
+          f.refusal,
+          f.is,
+          record {
+            before = full;
+            flushed = f.flushed;
+            compacts = f.before;
+            full = still_unfit;
+            rotates = f.rotates;
+          },
+        ),
+        refl,
+      );
+      room = λ told. fails_not_full f.flushed new f.refusal f.rotates (sym (ap (λ (r : Refusal). Refused r) f.is) ∙ told);
       plain = λ finds. not_plain finds;
     }
       where
@@ -189,7 +203,7 @@ module _ (guards : Option (List Condition)) (batch : List Operation) (old mid : 
         keeps = compacts KeepsLog log_goes full f.flushed f.before
 
         still_unfit : fits f.flushed.state batch ≡ false
-        still_unfit = ap (λ (n : ℕ). fits_in n batch f.flushed.state.open_log) keeps.sectors ∙ (ap (fits_in full.state.log_sectors batch) keeps.log ∙ (ap (λ (s : State). fits s batch) same_full ∙ unfit))
+        still_unfit = ap (λ (n : ℕ). fits_in n batch f.flushed.state.open_log) keeps.sectors ∙ (ap (λ (o : Option OpenLog). fits_in full.state.log_sectors batch o) keeps.log ∙ (ap (λ (s : State). fits s batch) same_full ∙ unfit))
 
     module _ (low : 128 ≤ old.state.log_sectors) (high : sectors_of batch ≤ 128) where
       -- behind another log
@@ -224,19 +238,19 @@ module _ (guards : Option (List Condition)) (batch : List Operation) (old mid : 
         }
 
       pub writes-behind : (told : Reply) (new : StoreView) → WritesBehind guards batch full told new → Writes guards batch old told new
-      writes-behind told new (inl w) = by w.ends
-        where
-          by : ((lacks_room batch w.kept ≡ false) × IsServed (commit_of guards batch) w.kept told new)
-              ⊎ ((lacks_room batch w.kept ≡ true) × (told ≡ Refused NoSpace) × (new ≡ w.kept)) → Writes guards batch old told new
-          by (inl (room, serves)) = at w.kept w.rotated told new serves
-          by (inr (lacks, so, same)) = lacks_then w.kept w.rotated told new lacks so same
+      writes-behind told new (inl (kept, r, inl (room, serves))) = at kept r told new serves
+      writes-behind told new (inl (kept, r, inr (lacks, so, same))) = lacks_then kept r told new lacks so same
       writes-behind told new (inr (e, so, f)) = subst (λ (r : Reply). Writes guards batch old r new) (sym so) (cannot e new f)
 
 -- the sectors of a log stay
-pub writes_sectors : (guards : Option (List Condition)) (batch : List Operation) (old : StoreView) (told : Reply) (new : StoreView) → Writes guards batch old told new
+writes_sectors : (guards : Option (List Condition)) (batch : List Operation) (old : StoreView) (told : Reply) (new : StoreView) → Writes guards batch old told new
     → new.state.log_sectors ≡ old.state.log_sectors
 writes_sectors guards batch old told new w = by w.ends ∙ steps_sectors w.upkeep.count old w.kept w.upkeep.steps
   where
     by : IsServed (commit_of guards batch) w.kept told new ⊎ ((refusal : Refusal) × (told ≡ Refused refusal) × IsWithoutRoom batch refusal w.kept × (new ≡ w.kept)) → new.state.log_sectors ≡ w.kept.state.log_sectors
     by (inl serves) = serves_sectors w.kept new (commit_of guards batch) (reply_in (commit_of guards batch) new.state told) serves
     by (inr (e, so, without, same)) = ap (λ (s : StoreView). s.state.log_sectors) same
+
+pub low_written : (guards : Option (List Condition)) (batch : List Operation) (old : StoreView) (told : Reply) (new : StoreView) → Writes guards batch old told new
+    → 128 ≤ old.state.log_sectors → 128 ≤ new.state.log_sectors
+low_written guards batch old told new w low = subst (λ (n : ℕ). 128 ≤ n) (sym (writes_sectors guards batch old told new w)) low

@@ -31,13 +31,12 @@ pub record FailsToRotate (told : Refusal) (old new : StoreView) : Type 0 where
   pub rotates : Serves flushed Rotate (Refused refusal) new
   pub is : told ≡ as_no_space refusal
 
--- A commit was made behind another log, if puts have room there.
-pub record WritesAt (guards : Option (List Condition)) (batch : List Operation) (old : StoreView) (told : Reply) (new : StoreView) : Type 0 where
-  pub kept : StoreView
-  pub rotated : Rotates old kept
-  pub ends : ((lacks_room batch kept ≡ false) × IsServed (commit_of guards batch) kept told new)
-      ⊎ ((lacks_room batch kept ≡ true) × (told ≡ Refused NoSpace) × (new ≡ kept))
+-- a commit was made, if puts have room
+abbrev pub CommitsThere : Option (List Condition) → List Operation → StoreView → Reply → StoreView → Type 0
+CommitsThere guards batch kept told new = ((lacks_room batch kept ≡ false) × IsServed (commit_of guards batch) kept told new)
+    ⊎ ((lacks_room batch kept ≡ true) × (told ≡ Refused NoSpace) × (new ≡ kept))
 
--- or none could be opened
+-- so it was behind another log, or none could be opened
 abbrev pub WritesBehind : Option (List Condition) → List Operation → StoreView → Reply → StoreView → Type 0
-WritesBehind guards batch old told new = WritesAt guards batch old told new ⊎ ((e : Refusal) × (told ≡ Refused e) × FailsToRotate e old new)
+WritesBehind guards batch old told new = ((kept : StoreView) × Rotates old kept × CommitsThere guards batch kept told new)
+    ⊎ ((e : Refusal) × (told ≡ Refused e) × FailsToRotate e old new)

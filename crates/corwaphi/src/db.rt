@@ -16,7 +16,7 @@ ghost use Rattle.lsm_store.specs.Stats.{stat_answer};
 ghost use Rattle.lsm_store.specs.declared.asked.At.TheVariants.{Now, Snap};
 ghost use Rattle.lsm_upkeep.specs.Upkeep.{is_compacted};
 ghost use Rattle.corwaphi.specs.Opening.{OpensDb};
-ghost use Rattle.corwaphi.specs.Upkeep.{CompactsWhole, IsUpkept};
+ghost use Rattle.corwaphi.specs.Upkeep.{CompactsWhole, IsReadied, IsUpkept};
 ghost use Rattle.corwaphi.specs.Writing.{Writes, WritesOne};
 
 use crate::Options;
@@ -86,15 +86,21 @@ impl<D: Device> Db<D> {
         ensures fails { IsTrue (is_cache_size options.cache) → (log_sectors : ℕ) (left : CrashState) → IsTrue (D.medium device).lasting.tells → StandFor log_sectors left (seen (disk (D.medium device)))
             → IfErr result (λ e. FailsToOpen (D.medium device) log_sectors left e.0 (D.medium e.1)) }
     {
-        let mut store = match Store::open(rt.alloc(), device, options.cache) {
-            Ok(store) => store,
-            Err(refused) => return Err(refused),
-        };
-        ready(rt, rt.alloc(), &mut store);
-        Ok(Db {
-            alloc: rt.alloc(),
-            store,
-        })
+        match Store::open(rt.alloc(), device, options.cache) {
+            Ok(store) => Ok(Db::of(rt, rt.alloc(), store)),
+            Err(refused) => Err(refused),
+        }
+    }
+
+    // Of a store that was just opened, which is readied.
+    fn of<R: Threads + Sync>(rt: &R, alloc: Global, store: Store<D>) -> Db<D>
+        requires { 128 ≤ store.state.log_sectors }
+        ensures readied { IsReadied store result }
+        ensures upkept { IsUpkept store result }
+    {
+        let mut store = store;
+        ready(rt, alloc, &mut store);
+        Db { alloc, store }
     }
 
     /// Adds a batch, whole or not at all, and answers its number. It outlasts a crash from the next sync on.

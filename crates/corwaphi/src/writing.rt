@@ -4,7 +4,7 @@ ghost use Rattle.std.specs.Prelude.{◌≡◌, ◌≤◌, option_map, MatchResul
 ghost use Rattle.lsm_codec.specs.BatchText.{sectors_of};
 ghost use Rattle.lsm_store.specs.Calls.{Number, reply_of};
 ghost use Rattle.lsm_upkeep.specs.Upkeep.{CompactsIf};
-ghost use Rattle.corwaphi.specs.Room.{FailsToRotate, Rotates, WritesBehind, is_log_full};
+ghost use Rattle.corwaphi.specs.Room.{CommitsThere, FailsToRotate, Rotates, WritesBehind, is_log_full};
 ghost use Rattle.corwaphi.specs.Writing.{IsServed, Writes, as_no_space, commit_of, has_puts, lacks_room};
 
 use lsm_codec::{Batch, Guard, Operations, batch_text_laws};
@@ -24,7 +24,7 @@ pub(crate) fn write<R: Threads + Sync, D: Device>(
     batch: &Batch,
 ) -> Result<u64, Refusal>
     requires { 128 ≤ store.old.state.log_sectors }
-    ensures writes { Writes (option_map (λ g. g.now) guards.entry) batch.now store.old (reply_of Number result) store.new }
+    ensures { Writes (option_map (λ g. g.now) guards.entry) batch.now store.old (reply_of Number result) store.new }
 {
     fits_an_empty_log(batch);
     ease(rt, alloc, store, batch);
@@ -102,7 +102,20 @@ fn write_behind<R: Threads + Sync, D: Device>(
 ) -> Result<u64, Refusal>
     ensures { WritesBehind (option_map (λ g. g.now) guards.entry) batch.now store.old (reply_of Number result) store.new }
 {
-    rotate(rt, alloc, store)?;
+    match rotate(rt, alloc, store) {
+        Ok(()) => commit_there(store, guards, batch),
+        Err(told) => Err(told),
+    }
+}
+
+// Commits a batch, unless its puts have no room.
+fn commit_there<D: Device>(
+    store: &mut Store<D>,
+    guards: Option<&[Guard]>,
+    batch: &Batch,
+) -> Result<u64, Refusal>
+    ensures { CommitsThere (option_map (λ g. g.now) guards.entry) batch.now store.old (reply_of Number result) store.new }
+{
     if lacks_room(store, batch) {
         return Err(Refusal::NoSpace);
     }
