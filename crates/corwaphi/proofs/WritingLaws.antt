@@ -5,7 +5,7 @@ use Rattle.lsm_codec.specs.BatchText.{sectors_of}
 use Rattle.lsm_codec.specs.Guards.{Condition}
 use Rattle.lsm_codec.specs.Map.{Operation}
 use Rattle.lsm_device.specs.declared.refusal.Refusal.{Refusal}
-use Rattle.lsm_device.specs.declared.refusal.Refusal.TheVariants.{Exhausted, LogFull, NoSpace, NothingToRotate, SealedWaiting, Stopped, TooManyGuards}
+use Rattle.lsm_device.specs.declared.refusal.Refusal.TheVariants.{Exhausted, LogFull, NoMemory, NoSpace, NothingToRotate, SealedWaiting, Stopped, TooManyGuards}
 use Rattle.lsm_store.specs.Backing.{StoreView}
 use Rattle.lsm_store.specs.Calls.{Call, Reply, Commit, CommitIf, Number, Done, Value, Rows, Given, Handed, Refused, Rotate, Unread}
 use Rattle.lsm_store.specs.Effects.{reply_by}
@@ -18,7 +18,7 @@ use Rattle.lsm_store.specs.State.{OpenLog, State, are_waiting, fits, fits_in, is
 use Rattle.lsm_upkeep.specs.Upkeep.{Compacts, CompactsIf}
 use Rattle.corwaphi.specs.Room.{FailsToRotate, Rotates, WritesBehind, is_log_full}
 use Rattle.corwaphi.specs.Upkeep.{IsUpkept}
-use Rattle.corwaphi.specs.Writing.{CannotRotate, IsServed, IsWithoutRoom, LacksRoom, Writes, as_no_space, commit_of, finds_room, lacks_room}
+use Rattle.corwaphi.specs.Writing.{CannotRotate, IsServed, IsWithoutRoom, LacksRoom, Writes, WritesOne, as_no_space, commit_of, finds_room, lacks_room}
 use Rattle.corwaphi.proofs.Jobs.{compacts, eased}
 use Rattle.corwaphi.proofs.Logs.{KeepsLog, log_goes, serves_sectors, steps_sectors}
 use Rattle.corwaphi.proofs.Upkept.{is_full, rotates, then, upkept_goes}
@@ -254,3 +254,12 @@ writes_sectors guards batch old told new w = by w.ends ∙ steps_sectors w.upkee
 pub low_written : (guards : Option (List Condition)) (batch : List Operation) (old : StoreView) (told : Reply) (new : StoreView) → Writes guards batch old told new
     → 128 ≤ old.state.log_sectors → 128 ≤ new.state.log_sectors
 low_written guards batch old told new w low = subst (λ (n : ℕ). 128 ≤ n) (sym (writes_sectors guards batch old told new w)) low
+
+-- ---- one operation
+
+pub one-refused : (refusal : Option Refusal) (operation : Operation) (old : StoreView) (e : Refusal) → (refusal ≡ Some e) ⊎ ((refusal ≡ None) × (e ≡ NoMemory)) → WritesOne refusal operation old (Refused e) old
+one-refused refusal operation old e (inl is) = subst (λ (o : Option Refusal). WritesOne o operation old (Refused e) old) (sym is) (refl, refl)
+one-refused refusal operation old e (inr (none, so)) = subst (λ (o : Option Refusal). WritesOne o operation old (Refused e) old) (sym none) (inr (ap (λ (r : Refusal). Refused r) so, refl))
+
+pub one-written : (refusal : Option Refusal) (operation : Operation) (old : StoreView) (told : Reply) (new : StoreView) → refusal ≡ None → WritesOne None operation old told new → WritesOne refusal operation old told new
+one-written refusal operation old told new none w = subst (λ (o : Option Refusal). WritesOne o operation old told new) (sym none) w

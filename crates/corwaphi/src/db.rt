@@ -1,5 +1,5 @@
 // A store that makes room by itself.
-ghost use Rattle.std.specs.Prelude.{◌≡◌, ◌⊎◌, ◌≤◌, false, None, Some, [], ◌∷◌, Err, MatchResult, IfErr, IsTrue, option_map};
+ghost use Rattle.std.specs.Prelude.{◌≡◌, ◌⊎◌, ◌≤◌, ℕ, false, None, Some, Err, MatchResult, IfErr, IfOk, IsTrue, option_map};
 ghost use Rattle.lsm_codec.specs.Answers.{or_then, key_refusal, value_refusal};
 ghost use Rattle.lsm_device.specs.Disk.{seen};
 ghost use Rattle.lsm_device.specs.Medium.{disk};
@@ -49,6 +49,7 @@ impl<D: Device + Drop> Drop for Db<D> {
 }
 
 impl<D: Device> Model for Db<D> {
+    ghost use Rattle.std.specs.Prelude.{◌≤◌};
     ghost use Rattle.std.specs.Coded.{codes};
     ghost use Rattle.lsm_codec.specs.Map.{map_code};
     ghost use Rattle.lsm_store.specs.Backing.{StoreView};
@@ -143,8 +144,10 @@ impl<D: Device> Db<D> {
     ) -> Result<u64, Refusal>
         ensures writes { WritesOne (or_then (key_refusal key.now) (value_refusal value.now)) (record { key = key.now; value = Some value.now }) self.old (reply_of Number result) self.new }
     {
-        let batch = Batch::new(self.alloc, Op::put(self.alloc, key, value)?)?;
-        self.write(rt, &batch)
+        match Op::put(self.alloc, key, value) {
+            Ok(operation) => self.write_one(rt, operation),
+            Err(refusal) => Err(refusal),
+        }
     }
 
     /// Deletes a key, and answers the number of the batch. It is refused with `BadKey` for a key outside 1 to 255 bytes, and as
@@ -152,8 +155,19 @@ impl<D: Device> Db<D> {
     pub fn delete<R: Threads + Sync>(&mut self, rt: &R, key: &[u8]) -> Result<u64, Refusal>
         ensures writes { WritesOne (key_refusal key.now) (record { key = key.now; value = None }) self.old (reply_of Number result) self.new }
     {
-        let batch = Batch::new(self.alloc, Op::delete(self.alloc, key)?)?;
-        self.write(rt, &batch)
+        match Op::delete(self.alloc, key) {
+            Ok(operation) => self.write_one(rt, operation),
+            Err(refusal) => Err(refusal),
+        }
+    }
+
+    fn write_one<R: Threads + Sync>(&mut self, rt: &R, operation: Op) -> Result<u64, Refusal>
+        ensures { WritesOne None operation.entry self.old (reply_of Number result) self.new }
+    {
+        match Batch::new(self.alloc, operation) {
+            Ok(batch) => self.write(rt, &batch),
+            Err(refusal) => Err(refusal),
+        }
     }
 
     /// The value of a key, or none where it has none.
