@@ -10,7 +10,7 @@ use Rattle.lsm_store.specs.Working.{Works, ServesStep}
 use Rattle.lsm_upkeep.specs.Keeping.{IsSameMap, KeepsMap}
 use Rattle.lsm_upkeep.specs.Upkeep.{Compacts, CompactsAll, IsRotatedAt, KeepsUp, OpensLog, Settles}
 use Rattle.lsm_upkeep.proofs.KeptMaps.{onward, rotate_keeps, stays as stays_same, works_keep}
-use Rattle.corwaphi.specs.Upkeep.{IsUpkeepStep, IsUpkept, UpkeepSteps}
+use Rattle.corwaphi.specs.Upkeep.{CompactsWhole, IsUpkeepStep, IsUpkept, UpkeepSteps}
 use Rattle.corwaphi.proofs.Jobs.{Goes, compacts, compacts_all, eased, settled}
 
 -- steps behind steps
@@ -62,3 +62,6 @@ whole old mid new (s, settles, eases) c = then old mid new (then old s mid (by s
   where
     by : Settles old s → IsUpkept old s
     by (t, finished, o) = then old t s (settled IsUpkept upkept_goes old t finished) (opens t s o)
+
+pub merged : (old mid new : StoreView) → KeepsUp 768 old mid → CompactsAll mid new → CompactsWhole old new
+merged old mid new k c = record { kept = mid; keeps_up = k; compacts = c }

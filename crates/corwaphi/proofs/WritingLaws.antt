@@ -118,8 +118,8 @@ room_fits batch s e = (both_true (not (lacks_room batch s)) (fits s.state batch)
 
 -- where puts have room nothing is compacted
 eased_not : (b : Bool) (old mid : StoreView) → b ≡ false → CompactsIf b old mid → mid ≡ old
-eased_not true old mid no c = absurd (true≢false no)
-eased_not false old mid no e = e
+eased_not true old mid lacks c = absurd (true≢false lacks)
+eased_not false old mid lacks e = e
 
 -- ---- a commit
 
@@ -219,8 +219,8 @@ module _ (guards : Option (List Condition)) (batch : List Operation) (old mid : 
         fits_then : fits kept.state batch ≡ true
         fits_then = fresh_fits batch r.flushed r.rotated kept r.rotates (compacts KeepsLog log_goes r.rotated kept r.behind) low_flushed high
 
-        at : (told : Reply) (new : StoreView) → IsServed (commit_of guards batch) kept told new → Writes guards batch old told new
-        at told new serves = record {
+        served_then : (told : Reply) (new : StoreView) → IsServed (commit_of guards batch) kept told new → Writes guards batch old told new
+        served_then told new serves = record {
           kept = kept;
           upkeep = upkept_rotated;
           ends = inl serves;
@@ -238,7 +238,7 @@ module _ (guards : Option (List Condition)) (batch : List Operation) (old mid : 
         }
 
       pub writes-behind : (told : Reply) (new : StoreView) → WritesBehind guards batch full told new → Writes guards batch old told new
-      writes-behind told new (inl (kept, r, inl (room, serves))) = at kept r told new serves
+      writes-behind told new (inl (kept, r, inl (room, serves))) = served_then kept r told new serves
       writes-behind told new (inl (kept, r, inr (lacks, so, same))) = lacks_then kept r told new lacks so same
       writes-behind told new (inr (e, so, f)) = subst (λ (r : Reply). Writes guards batch old r new) (sym so) (cannot e new f)
 
@@ -263,3 +263,9 @@ one-refused refusal operation old e (inr (none, so)) = subst (λ (o : Option Ref
 
 pub one-written : (refusal : Option Refusal) (operation : Operation) (old : StoreView) (told : Reply) (new : StoreView) → refusal ≡ None → WritesOne None operation old told new → WritesOne refusal operation old told new
 one-written refusal operation old told new none w = subst (λ (o : Option Refusal). WritesOne o operation old told new) (sym none) w
+
+pub low_one : (refusal : Option Refusal) (operation : Operation) (old : StoreView) (told : Reply) (new : StoreView) → WritesOne refusal operation old told new
+    → 128 ≤ old.state.log_sectors → 128 ≤ new.state.log_sectors
+low_one (Some e) operation old told new (so, same) low = subst (λ (s : StoreView). 128 ≤ s.state.log_sectors) (sym same) low
+low_one None operation old told new (inl w) low = low_written None (operation ∷ []) old told new w low
+low_one None operation old told new (inr (so, same)) low = subst (λ (s : StoreView). 128 ≤ s.state.log_sectors) (sym same) low

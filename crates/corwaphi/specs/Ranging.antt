@@ -9,50 +9,55 @@ use Rattle.lsm_store.specs.Calls.{Reply, Number, Rows, Refused, Release, Scan, S
 use Rattle.lsm_store.specs.Serving.{Serves}
 use Rattle.lsm_store.specs.declared.asked.At.TheVariants.{Snap}
 
--- rows of one map, that of the snapshot which is held: from the key with which the next page begins, up to this one, which is outside;
--- no snapshot is held behind the last page
+-- rows of one map, that of a snapshot: from the key with which the next page begins, none behind the last page, up to this one, which is
+-- outside. The snapshot is held up to the last page.
 pub record Range : Type 0 where
-  pub snapshot : Option ℕ
-  pub from : Bytes
+  pub snapshot : ℕ
+  pub from : Option Bytes
   pub to : Option Bytes
 
 -- A snapshot was taken for it.
 pub record Begins (from : Bytes) (to : Option Bytes) (range : Range) (before after : StoreView) : Type 0 where
   pub number : ℕ
   pub serves : Serves before Snapshot (Number number) after
-  pub is : range ≡ record { snapshot = Some number; from = from; to = to }
+  pub is : range ≡ record { snapshot = number; from = Some from; to = to }
 
 -- or that was refused, or before it memory for the keys
 abbrev pub DoesNotBegin : Refusal → StoreView → StoreView → Type 0
 DoesNotBegin e before after = Serves before Snapshot (Refused e) after ⊎ ((e ≡ NoMemory) × (after ≡ before))
 
--- behind a page it goes on with the first key that was left out; where none was, its snapshot was released
-abbrev pub GoesBehind : Option Bytes → ℕ → Range → Range → StoreView → StoreView → Type 0
-GoesBehind (Some key) number old new before after = (new ≡ record old { from = key }) × (after ≡ before)
-GoesBehind None number old new before after = (new ≡ record old { snapshot = None }) × (reply : Reply) × Serves before (Release number) reply after
+-- where no key is left, a snapshot was released, and else nothing was done
+abbrev pub ReleasesAtEnd : Option Bytes → ℕ → StoreView → StoreView → Type 0
+ReleasesAtEnd (Some key) number before after = after ≡ before
+ReleasesAtEnd None number before after = (reply : Reply) × Serves before (Release number) reply after
 
--- The next 64 rows were told, or as many as are left.
+-- The next 64 rows were told, or as many as are left. It goes on with the first key that was left out; where none was, its snapshot was
+-- released.
 pub record TellsPage (old : Range) (page : Page) (new : Range) (before after : StoreView) : Type 0 where
-  pub number : ℕ
-  pub held : old.snapshot ≡ Some number
+  pub key : Bytes
+  pub begins : old.from ≡ Some key
   pub mid : StoreView
-  pub serves : Serves before (Scan (Snap number) old.from old.to 64) (Rows page) mid
-  pub goes : GoesBehind page.next number old new mid after
+  pub serves : Serves before (Scan (Snap old.snapshot) key old.to 64) (Rows page) mid
+  pub releases : ReleasesAtEnd page.next old.snapshot mid after
+  pub becomes : new ≡ record { snapshot = old.snapshot; from = page.next; to = old.to }
 
 -- a page was told, or there is none
 abbrev pub TellsNext : Range → Option Page → Range → StoreView → StoreView → Type 0
 TellsNext old (Some page) new before after = TellsPage old page new before after
-TellsNext old None new before after = (old.snapshot ≡ None) × (new ≡ old) × (after ≡ before)
+TellsNext old None new before after = (old.from ≡ None) × (new ≡ old) × (after ≡ before)
 
 -- A page was refused, or there was no memory for the key behind it. It may be asked for again.
 pub record StaysThere (old : Range) (refusal : Refusal) (new : Range) (before after : StoreView) : Type 0 where
-  pub number : ℕ
-  pub held : old.snapshot ≡ Some number
+  pub key : Bytes
+  pub begins : old.from ≡ Some key
   pub same : new ≡ old
-  pub served : Serves before (Scan (Snap number) old.from old.to 64) (Refused refusal) after
-      ⊎ ((refusal ≡ NoMemory) × (page : Page) × Serves before (Scan (Snap number) old.from old.to 64) (Rows page) after)
+  pub served : Serves before (Scan (Snap old.snapshot) key old.to 64) (Refused refusal) after
+      ⊎ ((refusal ≡ NoMemory) × (page : Page) × Serves before (Scan (Snap old.snapshot) key old.to 64) (Rows page) after)
 
--- its snapshot was released, if it held one
-abbrev pub Ends : Option ℕ → StoreView → StoreView → Type 0
-Ends (Some number) before after = (reply : Reply) × Serves before (Release number) reply after
-Ends None before after = after ≡ before
+-- its snapshot was released, if it held one still
+abbrev pub EndsAt : Option Bytes → ℕ → StoreView → StoreView → Type 0
+EndsAt (Some key) number before after = (reply : Reply) × Serves before (Release number) reply after
+EndsAt None number before after = after ≡ before
+
+abbrev pub Ends : Range → StoreView → StoreView → Type 0
+Ends range before after = EndsAt range.from range.snapshot before after

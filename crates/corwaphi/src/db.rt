@@ -21,8 +21,9 @@ ghost use Rattle.corwaphi.specs.Writing.{Writes, WritesOne};
 
 use crate::Options;
 use crate::opening::ready;
+use crate::operating::{delete, put};
 use crate::writing::write;
-use lsm_codec::{Batch, Guard, Op};
+use lsm_codec::{Batch, Guard};
 use lsm_device::{Device, Refusal};
 use lsm_policy::Policy;
 use lsm_store::{At, Page, Stat, Store};
@@ -144,10 +145,7 @@ impl<D: Device> Db<D> {
     ) -> Result<u64, Refusal>
         ensures writes { WritesOne (or_then (key_refusal key.now) (value_refusal value.now)) (record { key = key.now; value = Some value.now }) self.old (reply_of Number result) self.new }
     {
-        match Op::put(self.alloc, key, value) {
-            Ok(operation) => self.write_one(rt, operation),
-            Err(refusal) => Err(refusal),
-        }
+        put(rt, self.alloc, &mut self.store, key, value)
     }
 
     /// Deletes a key, and answers the number of the batch. It is refused with `BadKey` for a key outside 1 to 255 bytes, and as
@@ -155,19 +153,7 @@ impl<D: Device> Db<D> {
     pub fn delete<R: Threads + Sync>(&mut self, rt: &R, key: &[u8]) -> Result<u64, Refusal>
         ensures writes { WritesOne (key_refusal key.now) (record { key = key.now; value = None }) self.old (reply_of Number result) self.new }
     {
-        match Op::delete(self.alloc, key) {
-            Ok(operation) => self.write_one(rt, operation),
-            Err(refusal) => Err(refusal),
-        }
-    }
-
-    fn write_one<R: Threads + Sync>(&mut self, rt: &R, operation: Op) -> Result<u64, Refusal>
-        ensures { WritesOne None operation.entry self.old (reply_of Number result) self.new }
-    {
-        match Batch::new(self.alloc, operation) {
-            Ok(batch) => self.write(rt, &batch),
-            Err(refusal) => Err(refusal),
-        }
+        delete(rt, self.alloc, &mut self.store, key)
     }
 
     /// The value of a key, or none where it has none.

@@ -22,11 +22,12 @@ impl Db<FileDevice> {
         path: &str,
         options: Options,
     ) -> Result<Db<FileDevice>, OpenDbError>
-        ensures opened { IfOk result (λ db. WasMade options.sectors options.cache db) }
+        ensures { IfOk result (λ db. WasMade options.sectors options.cache db) }
     {
-        let (device, replacement) = FileDevice::create_beside(rt, path, options.sectors)?;
-        let device = formatted(rt, device, options.log_sectors, replacement)?;
-        over(rt, device, options)
+        match made(rt, path, options) {
+            Ok(device) => over(rt, device, options),
+            Err(error) => Err(error),
+        }
     }
 
     /// Opens the store in a file, as [`on`](Db::on) does. Nobody else gets the file until the store is let go. The options for a new store
@@ -38,10 +39,12 @@ impl Db<FileDevice> {
         path: &str,
         options: Options,
     ) -> Result<Db<FileDevice>, OpenDbError>
-        ensures opened { IfOk result (λ db. WasOpened options.cache db) }
+        ensures { IfOk result (λ db. WasOpened options.cache db) }
     {
-        let device = FileDevice::try_open(rt, path)?;
-        over(rt, device, options)
+        match FileDevice::try_open(rt, path) {
+            Ok(device) => over(rt, device, options),
+            Err(error) => Err(OpenDbError::File(error)),
+        }
     }
 
     /// Opens the store in a file, or makes one where no file is: [`open`](Db::open), and where that finds no such file
@@ -54,13 +57,34 @@ impl Db<FileDevice> {
     ) -> Result<Db<FileDevice>, OpenDbError>
         ensures { IfOk result (λ db. WasOpened options.cache db ⊎ WasMade options.sectors options.cache db) }
     {
-        match FileDevice::try_open(rt, path) {
-            Ok(device) => over(rt, device, options),
-            Err(OpenError::Failed(error)) if error.kind() == ErrorKind::NotFound => {
-                Db::create(rt, path, options)
-            }
-            Err(error) => Err(OpenDbError::File(error)),
+        let opened = Db::open(rt, path, options);
+        if is_missing(&opened) {
+            return Db::create(rt, path, options);
         }
+        opened
+    }
+}
+
+// Whether there was no file to open.
+fn is_missing(opened: &Result<Db<FileDevice>, OpenDbError>) -> bool {
+    match opened {
+        Err(OpenDbError::File(OpenError::Failed(error))) => error.kind() == ErrorKind::NotFound,
+        _ => false,
+    }
+}
+
+// Makes an empty store in a file.
+fn made<R: Files<File = File> + AllocGlobal>(
+    rt: &R,
+    path: &str,
+    options: Options,
+) -> Result<FileDevice, OpenDbError>
+    ensures { IfOk result (λ device. (⟦<FileDevice as Device>⟧.medium device).size ≡ options.sectors) }
+{
+    let (device, replacement) = FileDevice::create_beside(rt, path, options.sectors)?;
+    match formatted(rt, device, options.log_sectors, replacement) {
+        Ok(device) => Ok(device),
+        Err(error) => Err(error),
     }
 }
 

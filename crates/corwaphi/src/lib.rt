@@ -19,6 +19,7 @@ mod db;
 mod files;
 mod open_error;
 mod opening;
+mod operating;
 mod options;
 mod range;
 mod writing;

@@ -1,7 +1,7 @@
 //! Rows of a range, page by page, of one map.
 
 ghost use Rattle.std.specs.Prelude.{◌≡◌, IfOk, MatchResult, option_map};
-ghost use Rattle.corwaphi.specs.Ranging.{Begins, DoesNotBegin, Ends, StaysThere, TellsNext};
+ghost use Rattle.corwaphi.specs.Ranging.{Begins, DoesNotBegin, Ends, ReleasesAtEnd, StaysThere, TellsNext};
 
 use crate::Db;
 use lsm_device::{Device, Refusal};
@@ -17,8 +17,8 @@ const PAGE: u64 = 64;
 #[derive(Drop)]
 pub struct Range {
     alloc: Global,
-    snapshot: Option<u64>,
-    from: Vec<u8>,
+    snapshot: u64,
+    from: Option<Vec<u8>>,
     to: Option<Vec<u8>>,
 }
 
@@ -28,7 +28,7 @@ impl Model for Range {
 
     ghost Value = { Range };
 
-    ghost view = { λ r. record { snapshot = r.snapshot; from = r.from.items; to = option_map (λ v. v.items) r.to } };
+    ghost view = { λ r. record { snapshot = r.snapshot; from = option_map (λ v. v.items) r.from; to = option_map (λ v. v.items) r.to } };
 }
 
 impl<D: Device> Db<D> {
@@ -46,8 +46,8 @@ impl<D: Device> Db<D> {
         let snapshot = self.snapshot()?;
         Ok(Range {
             alloc,
-            snapshot: Some(snapshot),
-            from,
+            snapshot,
+            from: Some(from),
             to,
         })
     }
@@ -59,27 +59,31 @@ impl Range {
     pub fn next_page<D: Device>(&mut self, db: &mut Db<D>) -> Result<Option<Page>, Refusal>
         ensures { MatchResult result (λ page. TellsNext self.old page self.new db.old db.new) (λ e. StaysThere self.old e self.new db.old db.new) }
     {
-        let Some(snapshot) = self.snapshot else {
+        let Some(from) = &self.from else {
             return Ok(None);
         };
-        let page = db.page(At::Snap(snapshot), &self.from, slice_of(&self.to), PAGE)?;
-        match copied(self.alloc, page.next_key())? {
-            Some(key) => self.from = key,
-            None => {
-                let _ = db.release(snapshot);
-                self.snapshot = None;
-            }
-        }
+        let page = db.page(At::Snap(self.snapshot), from, slice_of(&self.to), PAGE)?;
+        self.from = copied(self.alloc, page.next_key())?;
+        release_at_end(db, self.snapshot, &page);
         Ok(Some(page))
     }
 
     /// Releases its snapshot before the last page was told.
     pub fn end<D: Device>(self, db: &mut Db<D>)
-        ensures { Ends self.entry.snapshot db.old db.new }
+        ensures { Ends self db.old db.new }
     {
-        if let Some(snapshot) = self.snapshot {
-            let _ = db.release(snapshot);
+        if let Some(_) = &self.from {
+            let _ = db.release(self.snapshot);
         }
+    }
+}
+
+// Releases a snapshot behind the last page.
+fn release_at_end<D: Device>(db: &mut Db<D>, snapshot: u64, page: &Page)
+    ensures { ReleasesAtEnd page.now.next snapshot db.old db.new }
+{
+    if let None = page.next_key() {
+        let _ = db.release(snapshot);
     }
 }
 

@@ -1,11 +1,11 @@
 //! A commit that finds room.
 
-ghost use Rattle.std.specs.Prelude.{◌≡◌, ◌≤◌, option_map, MatchResult};
+ghost use Rattle.std.specs.Prelude.{◌≡◌, ◌≤◌, ◌&&◌, option_map, MatchResult};
 ghost use Rattle.lsm_codec.specs.BatchText.{sectors_of};
 ghost use Rattle.lsm_store.specs.Calls.{Number, reply_of};
 ghost use Rattle.lsm_upkeep.specs.Upkeep.{CompactsIf};
 ghost use Rattle.corwaphi.specs.Room.{CommitsThere, FailsToRotate, Rotates, WritesBehind, is_log_full};
-ghost use Rattle.corwaphi.specs.Writing.{IsServed, Writes, as_no_space, commit_of, has_puts, lacks_room};
+ghost use Rattle.corwaphi.specs.Writing.{IsServed, Writes, as_no_space, commit_of, has_puts, lacks_room, takes_no_puts};
 
 use lsm_codec::{Batch, Guard, Operations, batch_text_laws};
 use lsm_device::{Device, Refusal};
@@ -59,10 +59,23 @@ fn ease<R: Threads + Sync, D: Device>(rt: &R, alloc: Global, store: &mut Store<D
 fn lacks_room<D: Device>(store: &Store<D>, batch: &Batch) -> bool
     ensures { result ≡ lacks_room batch.now store.now }
 {
-    has_puts(batch.operations()) && !has_room(store, &Policy::new(), 0)
+    takes_no(store, has_puts(batch))
 }
 
-fn has_puts(operations: Operations<'_>) -> bool
+fn takes_no<D: Device>(store: &Store<D>, puts: bool) -> bool
+    ensures { result ≡ (puts && takes_no_puts store.now) }
+{
+    puts && !has_room(store, &Policy::new(), 0)
+}
+
+// Whether a batch puts a value.
+fn has_puts(batch: &Batch) -> bool
+    ensures { result ≡ has_puts batch.now }
+{
+    put_among(batch.operations())
+}
+
+fn put_among(operations: Operations<'_>) -> bool
     ensures { result ≡ has_puts operations.entry }
 {
     for operation in operations {
