@@ -16,11 +16,11 @@ ghost use Rattle.lsm_store.specs.Stats.{stat_answer};
 ghost use Rattle.lsm_store.specs.declared.asked.At.TheVariants.{Now, Snap};
 ghost use Rattle.lsm_upkeep.specs.Upkeep.{is_compacted};
 ghost use Rattle.corwaphi.specs.Opening.{OpensDb};
-ghost use Rattle.corwaphi.specs.Upkeep.{CompactsWhole, IsReadied, IsUpkept};
+ghost use Rattle.corwaphi.specs.Upkeep.{CompactsWhole, IsUpkept};
 ghost use Rattle.corwaphi.specs.Writing.{Writes, WritesOne};
 
 use crate::Options;
-use crate::opening::ready;
+use crate::opening::readied;
 use crate::operating::{delete, put};
 use crate::writing::write;
 use lsm_codec::{Batch, Guard};
@@ -89,19 +89,15 @@ impl<D: Device> Db<D> {
             → IfErr result (λ e. FailsToOpen (D.medium device) log_sectors left e.0 (D.medium e.1)) }
     {
         match Store::open(rt.alloc(), device, options.cache) {
-            Ok(store) => Ok(Db::of(rt, rt.alloc(), store)),
+            Ok(store) => Ok(Db::of(rt.alloc(), readied(rt, rt.alloc(), store))),
             Err(refused) => Err(refused),
         }
     }
 
-    // Of a store that was just opened, which is readied.
-    fn of<R: Threads + Sync>(rt: &R, alloc: Global, store: Store<D>) -> Db<D>
+    fn of(alloc: Global, store: Store<D>) -> Db<D>
         requires { 128 ≤ store.state.log_sectors }
-        ensures readied { IsReadied store result }
-        ensures upkept { IsUpkept store result }
+        ensures { result ≡ store }
     {
-        let mut store = store;
-        ready(rt, alloc, &mut store);
         Db { alloc, store }
     }
 

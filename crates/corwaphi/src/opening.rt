@@ -11,8 +11,22 @@ use lsm_upkeep::compact;
 use std::alloc::Global;
 use std::thread::Threads;
 
-/// Finishes a flush that waits, compacts by the policy, and opens a log where the open one has no room, or none is open.
-pub(crate) fn ready<R: Threads + Sync, D: Device>(rt: &R, alloc: Global, store: &mut Store<D>)
+/// The store, ready for writes.
+pub(crate) fn readied<R: Threads + Sync, D: Device>(
+    rt: &R,
+    alloc: Global,
+    store: Store<D>,
+) -> Store<D>
+    ensures readied { IsReadied store result }
+    ensures upkept { IsUpkept store result }
+{
+    let mut store = store;
+    ready(rt, alloc, &mut store);
+    store
+}
+
+// Finishes a flush that waits, compacts by the policy, and opens a log where the open one has no room, or none is open.
+fn ready<R: Threads + Sync, D: Device>(rt: &R, alloc: Global, store: &mut Store<D>)
     ensures readied { IsReadied store.old store.new }
     ensures upkept { IsUpkept store.old store.new }
 {
