@@ -11,7 +11,7 @@ use Rattle.lsm_store.specs.Machine.{Machine, Step, Called, Worked}
 use Rattle.lsm_store.specs.RecoveryPoints.{all_synced}
 use Rattle.lsm_store.specs.Run.{after_fault, next}
 use Rattle.lsm_store.specs.Serving.{Serves}
-use Rattle.lsm_store.specs.State.{OpenLog, State}
+use Rattle.lsm_store.specs.State.{State}
 use Rattle.lsm_store.specs.Work.{Work, Take, Read, Ask, Accept, Write, Install, Drop}
 use Rattle.lsm_store.specs.WorkEffects.{installed, state_after, work_use}
 use Rattle.lsm_store.specs.WorkRefusals.{held, of_slot}

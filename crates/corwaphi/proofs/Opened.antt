@@ -1,5 +1,5 @@
 -- What an opening comes to.
-use Rattle.std.proofs.Common.{◌≡◌, ◌≤◌, ◌⊎◌, ℕ, [], IfOk, IsTrue, Result, Ok, Err, sym, ap, subst, inl, inr}
+use Rattle.std.proofs.Common.{◌≡◌, ◌≤◌, ◌⊎◌, ℕ, [], IfOk, IsTrue, Result, Ok, Err, sym, subst, inl, inr}
 use Rattle.lsm_device.specs.Calls.{no_calls}
 use Rattle.lsm_device.specs.Disk.{seen}
 use Rattle.lsm_device.specs.Medium.{Medium, disk}

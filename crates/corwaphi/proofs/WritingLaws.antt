@@ -7,7 +7,7 @@ use Rattle.lsm_codec.specs.Map.{Operation}
 use Rattle.lsm_device.specs.declared.refusal.Refusal.{Refusal}
 use Rattle.lsm_device.specs.declared.refusal.Refusal.TheVariants.{Exhausted, LogFull, NoMemory, NoSpace, NothingToRotate, SealedWaiting, Stopped, TooManyGuards}
 use Rattle.lsm_store.specs.Backing.{StoreView}
-use Rattle.lsm_store.specs.Calls.{Call, Reply, Commit, CommitIf, Number, Done, Value, Rows, Given, Handed, Refused, Rotate, Unread}
+use Rattle.lsm_store.specs.Calls.{Reply, Commit, CommitIf, Number, Done, Value, Rows, Given, Handed, Refused, Rotate, Unread}
 use Rattle.lsm_store.specs.Effects.{reply_by}
 use Rattle.lsm_open.specs.CrashState.{last_number}
 use Rattle.lsm_store.specs.RecoveryPoints.{batch_count}
@@ -15,10 +15,10 @@ use Rattle.lsm_store.specs.Refusals.{first_refusal, most_guards}
 use Rattle.lsm_store.specs.Run.{next}
 use Rattle.lsm_store.specs.Serving.{Serves, reply_in}
 use Rattle.lsm_store.specs.State.{OpenLog, State, are_waiting, fits, fits_in, is_unused}
-use Rattle.lsm_upkeep.specs.Upkeep.{Compacts, CompactsIf}
+use Rattle.lsm_upkeep.specs.Upkeep.{CompactsIf}
 use Rattle.corwaphi.specs.Room.{FailsToRotate, Rotates, WritesBehind, is_log_full}
 use Rattle.corwaphi.specs.Upkeep.{IsUpkept}
-use Rattle.corwaphi.specs.Writing.{CannotRotate, IsServed, IsWithoutRoom, LacksRoom, Writes, WritesOne, as_no_space, commit_of, finds_room, lacks_room}
+use Rattle.corwaphi.specs.Writing.{IsServed, IsWithoutRoom, LacksRoom, Writes, WritesOne, as_no_space, commit_of, finds_room, lacks_room}
 use Rattle.corwaphi.proofs.Jobs.{compacts, eased}
 use Rattle.corwaphi.proofs.Logs.{KeepsLog, log_goes, serves_sectors, steps_sectors}
 use Rattle.corwaphi.proofs.Upkept.{is_full, rotates, then, upkept_goes}

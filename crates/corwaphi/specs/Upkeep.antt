@@ -2,7 +2,7 @@
 use Rattle.std.specs.Prelude.{◌≡◌, ℕ, zero, suc}
 use Rattle.lsm_device.specs.declared.refusal.Refusal.TheVariants.{LogFull}
 use Rattle.lsm_store.specs.Backing.{StoreView}
-use Rattle.lsm_store.specs.Calls.{Call, Reply, Commit, CommitIf, Rotate, Refused}
+use Rattle.lsm_store.specs.Calls.{Reply, Commit, CommitIf, Rotate, Refused}
 use Rattle.lsm_store.specs.Machine.{Step, Called, Worked}
 use Rattle.lsm_store.specs.Working.{ServesStep}
 use Rattle.lsm_upkeep.specs.Keeping.{KeepsMap}

@@ -1,4 +1,4 @@
-use Rattle.std.proofs.Common.{Some, None, subst}
+use Rattle.std.proofs.Common.{None, subst}
 use Rattle.lsm_codec.specs.Answers.{key_refusal}
 use Rattle.lsm_codec.specs.Map.{Operation}
 use Rattle.lsm_store.specs.Calls.{Number, reply_of}
