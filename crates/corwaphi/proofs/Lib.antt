@@ -1,0 +1,5 @@
+mod Jobs
+mod Logs
+mod Opened
+mod Upkept
+mod WritingLaws

@@ -1,0 +1,67 @@
+-- Upkeep, as steps.
+use Rattle.std.proofs.Common.{◌≡◌, ℕ, zero, suc, refl, sym, subst}
+use Rattle.lsm_device.specs.declared.refusal.Refusal.TheVariants.{LogFull}
+use Rattle.lsm_store.specs.Backing.{StoreView}
+use Rattle.lsm_store.specs.Calls.{Call, Reply, Number, Refused, Rotate}
+use Rattle.lsm_store.specs.Machine.{Step, Called, Worked}
+use Rattle.lsm_store.specs.Serving.{Serves}
+use Rattle.lsm_store.specs.Work.{Work}
+use Rattle.lsm_store.specs.Working.{Works, ServesStep}
+use Rattle.lsm_upkeep.specs.Keeping.{IsSameMap, KeepsMap}
+use Rattle.lsm_upkeep.specs.Upkeep.{Compacts, CompactsAll, IsRotatedAt, KeepsUp, OpensLog, Settles}
+use Rattle.lsm_upkeep.proofs.KeptMaps.{onward, rotate_keeps, stays as stays_same, works_keep}
+use Rattle.corwaphi.specs.Upkeep.{CompactsWhole, IsUpkeepStep, IsUpkept, UpkeepSteps}
+use Rattle.corwaphi.proofs.Jobs.{Goes, compacts, compacts_all, eased, settled}
+
+-- steps behind steps
+joined : (m n : ℕ) (old mid new : StoreView) → UpkeepSteps m old mid → UpkeepSteps n mid new → (k : ℕ) × UpkeepSteps k old new
+joined zero n old mid new e more = (n, subst (λ (s : StoreView). UpkeepSteps n s new) e more)
+joined (suc m) n old mid new (next, step, reply, is, serves, first) more =
+    let r = joined m n next mid new first more in
+    (suc r.0, (next, step, reply, is, serves, r.1))
+
+pub then : (old mid new : StoreView) → IsUpkept old mid → IsUpkept mid new → IsUpkept old new
+then old mid new first second =
+    let r = joined first.count second.count old mid new first.steps second.steps in
+    record { count = r.0; steps = r.1; keeps = onward old mid new first.keeps second.keeps }
+
+stays : (old new : StoreView) → new ≡ old → IsUpkept old new
+stays old new e = record { count = zero; steps = e; keeps = stays_same old new e }
+
+one : (old new : StoreView) (step : Step) (reply : Reply) → IsUpkeepStep step reply → ServesStep old step reply new → KeepsMap old new → IsUpkept old new
+one old new step reply is serves keeps = record { count = suc zero; steps = (new, step, reply, is, serves, refl); keeps = keeps }
+
+works : (old new : StoreView) (piece : Work) (reply : Reply) → Works old piece reply new → IsUpkept old new
+works old new piece reply w = one old new (Worked piece) reply tt w (works_keep old new piece reply w)
+
+pub upkept_goes : Goes IsUpkept
+upkept_goes = record { stays = stays; onward = then; works = works }
+
+pub rotates : (old new : StoreView) (reply : Reply) → Serves old Rotate reply new → IsUpkept old new
+rotates old new reply serves = one old new (Called Rotate) reply tt serves (rotate_keeps old new reply serves)
+
+-- a call that is refused with LogFull keeps the map
+full_keeps : (call : Call) (old new : StoreView) → Serves old call (Refused LogFull) new → KeepsMap old new
+full_keeps call old new serves = subst (IsSameMap old.state) (sym serves.state) (record { map = refl; count = refl; snapshots = refl })
+
+pub is_full : (call : Call) (old new : StoreView) → IsUpkeepStep (Called call) (Refused LogFull) → Serves old call (Refused LogFull) new → IsUpkept old new
+is_full call old new is serves = one old new (Called call) (Refused LogFull) is serves (full_keeps call old new serves)
+
+pub opens : (old new : StoreView) → OpensLog old new → IsUpkept old new
+opens old new o = by o.room o.rotated
+  where
+    by : (room : Reply) → IsRotatedAt room old new → IsUpkept old new
+    by (Number zero) (reply, serves) = rotates old new reply serves
+    by other e = stays old new e
+
+pub readied : (old mid new : StoreView) → Compacts old mid → OpensLog mid new → IsUpkept old new
+readied old mid new c o = then old mid new (compacts IsUpkept upkept_goes old mid c) (opens mid new o)
+
+pub whole : (old mid new : StoreView) → KeepsUp 768 old mid → CompactsAll mid new → IsUpkept old new
+whole old mid new (s, settles, eases) c = then old mid new (then old s mid (by settles) (eased IsUpkept upkept_goes _ s mid eases)) (compacts_all IsUpkept upkept_goes mid new c)
+  where
+    by : Settles old s → IsUpkept old s
+    by (t, finished, o) = then old t s (settled IsUpkept upkept_goes old t finished) (opens t s o)
+
+pub merged : (old mid new : StoreView) → KeepsUp 768 old mid → CompactsAll mid new → CompactsWhole old new
+merged old mid new k c = record { kept = mid; keeps_up = k; compacts = c }

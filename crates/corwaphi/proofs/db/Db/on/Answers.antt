@@ -1,0 +1,18 @@
+use Rattle.std.proofs.Common.{true≢false, ap, sym, subst, is_ok}
+use Rattle.lsm_store.specs.Backing.{StoreView}
+use Rattle.corwaphi.specs.Opening.{OpensDb}
+use Rattle.corwaphi.proofs.Logs.{low_upkept}
+use Rattle.corwaphi.proofs.Opened.{low_opened, opens_db}
+use Rattle.corwaphi.proofs.db.Db.on.Goals as goal
+
+pub of-requires : goal.of-requires
+of-requires g c = low_upkept c.in-Ok.store c.readied.result c.readied.ensures.upkept (low_opened (g.D.Device.medium c.args.device) c.in-Ok.store c.in-Ok.ensures.reopens)
+
+pub returns-in-Ok-clause-opens : goal.returns-in-Ok-clause-opens
+returns-in-Ok-clause-opens g c =
+    subst (λ (s : StoreView). OpensDb c.args.options.cache (g.D.Device.medium c.args.device) s) (sym c.of.ensures)
+    (opens_db c.args.options.cache (g.D.Device.medium c.args.device) c.in-Ok.store c.readied.result c.in-Ok.ensures.reopens
+    (λ log_sectors left tells is. c.in-Ok.ensures.opens log_sectors left tells is) c.in-Ok.ensures.blocks c.readied.ensures.readied c.readied.ensures.upkept)
+
+pub returns-in-Ok-clause-cache : goal.returns-in-Ok-clause-cache
+returns-in-Ok-clause-cache g c = λ outside. absurd (true≢false (ap is_ok (c.in-Ok.ensures.cache outside)))

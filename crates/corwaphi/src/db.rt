@@ -1,0 +1,251 @@
+// A store that makes room by itself.
+ghost use Rattle.std.specs.Prelude.{◌≡◌, ◌⊎◌, ◌≤◌, ℕ, false, None, Some, Err, MatchResult, IfErr, IfOk, IsTrue, option_map};
+ghost use Rattle.lsm_codec.specs.Answers.{or_then, key_refusal, value_refusal};
+ghost use Rattle.lsm_device.specs.Disk.{seen};
+ghost use Rattle.lsm_device.specs.Medium.{disk};
+ghost use Rattle.lsm_open.specs.CrashState.{CrashState};
+ghost use Rattle.lsm_open.specs.Image.{StandFor};
+ghost use Rattle.lsm_open.specs.Recovering.{FailsToOpen, IsOpeningRefusal};
+ghost use Rattle.lsm_open.specs.RefusedOpenings.{opening_refusal};
+ghost use Rattle.lsm_root.specs.Layout.{IsDeviceSize};
+ghost use Rattle.lsm_store.specs.Backing.{machine_of};
+ghost use Rattle.lsm_store.specs.Calls.{Get, Scan, Snapshot, Release, Sync, SyncTo, Number, Done, Value, Rows, reply_of};
+ghost use Rattle.lsm_store.specs.Memory.{is_cache_size};
+ghost use Rattle.lsm_store.specs.Serving.{Serves};
+ghost use Rattle.lsm_store.specs.Stats.{stat_answer};
+ghost use Rattle.lsm_store.specs.declared.asked.At.TheVariants.{Now, Snap};
+ghost use Rattle.lsm_upkeep.specs.Upkeep.{is_compacted};
+ghost use Rattle.corwaphi.specs.Opening.{OpensDb};
+ghost use Rattle.corwaphi.specs.Upkeep.{CompactsWhole, IsUpkept};
+ghost use Rattle.corwaphi.specs.Writing.{Writes, WritesOne};
+
+use crate::Options;
+use crate::opening::readied;
+use crate::operating::{delete, put};
+use crate::writing::write;
+use lsm_codec::{Batch, Guard};
+use lsm_device::{Device, Refusal};
+use lsm_policy::Policy;
+use lsm_store::{At, Page, Stat, Store};
+use lsm_upkeep::{compact_all, keep_up};
+use std::alloc::Global;
+use std::marker::Model;
+use std::thread::Threads;
+
+/// A store with no duties: an ordered map from keys to values on a device, that makes room by itself.
+///
+/// Keys have 1 to 255 bytes and values at most 2,048. What was written is durable from the next sync on. After a write or a sync of
+/// the device has failed every call that can be refused answers `Stopped`; the device ([`into_device`](Db::into_device)) is to be opened
+/// again. Contracts see it as the store that it is.
+pub struct Db<D: Device> {
+    alloc: Global,
+    store: Store<D>,
+}
+
+// One call at each exit of a caller.
+impl<D: Device + Drop> Drop for Db<D> {
+    fn drop(self) {
+        let Db { alloc: _, store: _ } = self;
+    }
+}
+
+impl<D: Device> Model for Db<D> {
+    ghost use Rattle.std.specs.Prelude.{◌≤◌};
+    ghost use Rattle.std.specs.Coded.{codes};
+    ghost use Rattle.lsm_codec.specs.Map.{map_code};
+    ghost use Rattle.lsm_store.specs.Backing.{StoreView};
+
+    ghost Value = { StoreView };
+
+    ghost coded = { Prim.hlevel (codes, map_code) };
+
+    ghost view = { λ d. d.store };
+
+    ghost invariant = { λ d. 128 ≤ d.store.state.log_sectors };
+}
+
+impl<D: Device> Db<D> {
+    /// Opens the store on a device, also after a crash, with the cache that the options say. A flush that waits is finished, and a log is
+    /// opened where none is open, as far as there is room and memory for it: so openings with writes between them go on for ever.
+    ///
+    /// It is refused as `Store::open` is, and then hands the device back: with `BadLimit` for a cache outside 1 to 4,096 blocks, with
+    /// `BadGeometry` for a device of another size than its store or outside the limits, with `NoMemory` and `Io`, and with `NotAStore`,
+    /// `BadSuper`, `BadManifest`, `BadTable` or `Exhausted` for what the device holds.
+    pub fn on<R: Threads + Sync + AllocGlobal>(
+        rt: &R,
+        device: D,
+        options: Options,
+    ) -> Result<Db<D>, (Refusal, D)>
+        ensures opens { IfOk result (λ db. OpensDb options.cache (D.medium device) db) }
+
+        // Where it is refused: with BadLimit for the cache before any device call, and else with what refuses an opening, which is what
+        // the device holds, or want of memory, or a fault. Nothing that a crash left is lost then.
+        ensures cache { is_cache_size options.cache ≡ false → result ≡ Err (Refusal.BadLimit, device) }
+        ensures refused { IsTrue (is_cache_size options.cache) → IfErr result (λ e. IsOpeningRefusal e.0) }
+        ensures refusal { IsTrue (is_cache_size options.cache) → IsDeviceSize (D.medium device).size → IsTrue (D.medium device).lasting.tells → MatchResult result
+            (λ db. opening_refusal (seen (disk (D.medium device))) ≡ None)
+            (λ e. (opening_refusal (seen (disk (D.medium device))) ≡ Some e.0) ⊎ ((e.0 ≡ Refusal.NoMemory) ⊎ (e.0 ≡ Refusal.Io))) }
+        ensures fails { IsTrue (is_cache_size options.cache) → (log_sectors : ℕ) (left : CrashState) → IsTrue (D.medium device).lasting.tells → StandFor log_sectors left (seen (disk (D.medium device)))
+            → IfErr result (λ e. FailsToOpen (D.medium device) log_sectors left e.0 (D.medium e.1)) }
+    {
+        match Store::open(rt.alloc(), device, options.cache) {
+            Ok(store) => Ok(Db::of(rt.alloc(), readied(rt, rt.alloc(), store))),
+            Err(refused) => Err(refused),
+        }
+    }
+
+    fn of(alloc: Global, store: Store<D>) -> Db<D>
+        requires { 128 ≤ store.state.log_sectors }
+        ensures { result ≡ store }
+    {
+        Db { alloc, store }
+    }
+
+    /// Adds a batch, whole or not at all, and answers its number. It outlasts a crash from the next sync on.
+    ///
+    /// Where puts have no room the store is compacted by the policy first, and where the log has none another one is opened; so it may
+    /// take longer, and sync. It is refused with `Stopped`; with `NoSpace` where puts find less than a third of the blocks free, or more
+    /// than 768 tables, or where the log is full and the flush that waits could not be finished; with `Exhausted` where 2^63 batches
+    /// were added; with `NoMemory`; and with `Io`. Of these only `Io` stops the store. A refused batch is not there, but after `Io` a
+    /// crash may leave it.
+    pub fn write<R: Threads + Sync>(&mut self, rt: &R, batch: &Batch) -> Result<u64, Refusal>
+        ensures writes { Writes None batch.now self.old (reply_of Number result) self.new }
+    {
+        write(rt, self.alloc, &mut self.store, None, batch)
+    }
+
+    /// Adds a batch where the present map meets each of these guards, and answers its number. They are asked in the commit that counts,
+    /// behind all that is done to make room.
+    ///
+    /// It is refused as [`write`](Db::write) is; with `TooManyGuards` for more than 16; with `GuardFailed` and the place of the first
+    /// guard that is false, counted from 0; and with `Io` or `BadTable` for a read, which leaves the store running. `NoSpace` comes
+    /// before the guards are asked.
+    pub fn write_if<R: Threads + Sync>(
+        &mut self,
+        rt: &R,
+        guards: &[Guard],
+        batch: &Batch,
+    ) -> Result<u64, Refusal>
+        ensures writes { Writes (Some guards.now) batch.now self.old (reply_of Number result) self.new }
+    {
+        write(rt, self.alloc, &mut self.store, Some(guards), batch)
+    }
+
+    /// Puts a value under a key, and answers the number of the batch. It is refused with `BadKey` for a key outside 1 to 255 bytes, with
+    /// `BadValue` for a value above 2,048 bytes, and as [`write`](Db::write) is.
+    pub fn put<R: Threads + Sync>(
+        &mut self,
+        rt: &R,
+        key: &[u8],
+        value: &[u8],
+    ) -> Result<u64, Refusal>
+        ensures writes { WritesOne (or_then (key_refusal key.now) (value_refusal value.now)) (record { key = key.now; value = Some value.now }) self.old (reply_of Number result) self.new }
+    {
+        put(rt, self.alloc, &mut self.store, key, value)
+    }
+
+    /// Deletes a key, and answers the number of the batch. It is refused with `BadKey` for a key outside 1 to 255 bytes, and as
+    /// [`write`](Db::write) is.
+    pub fn delete<R: Threads + Sync>(&mut self, rt: &R, key: &[u8]) -> Result<u64, Refusal>
+        ensures writes { WritesOne (key_refusal key.now) (record { key = key.now; value = None }) self.old (reply_of Number result) self.new }
+    {
+        delete(rt, self.alloc, &mut self.store, key)
+    }
+
+    /// The value of a key, or none where it has none.
+    ///
+    /// It is refused with `Stopped`, with `BadKey` where the key has no byte or more than 255, with `Io`, with `BadTable` where what the
+    /// device holds is no table, and, where the key has a value, with `NoMemory`. That changes nothing.
+    pub fn get(&mut self, key: &[u8]) -> Result<Option<Vec<u8>>, Refusal>
+        ensures serves { Serves self.old (Get Now key.now) (reply_of (λ value. Value (option_map (λ v. v.items) value)) result) self.new }
+    {
+        self.store.get(At::Now, key)
+    }
+
+    /// The value that a key had when a snapshot was taken. It is refused as [`get`](Db::get) is, and with `NoSuchSnapshot` behind
+    /// `BadKey`.
+    pub fn get_at(&mut self, snapshot: u64, key: &[u8]) -> Result<Option<Vec<u8>>, Refusal>
+        ensures serves { Serves self.old (Get (Snap snapshot) key.now) (reply_of (λ value. Value (option_map (λ v. v.items) value)) result) self.new }
+    {
+        self.store.get(At::Snap(snapshot), key)
+    }
+
+    /// The first `limit` rows in the order of keys, from the key `from` on, up to the key `to` where one is given, which is outside.
+    ///
+    /// It is refused with `Stopped`, with `BadLimit` for a `limit` outside 1 to 64, with `BadRange` where `from` is above `to`, with
+    /// `NoSuchSnapshot`, with `Io`, with `BadTable` where what the device holds is no table, and with `NoMemory`. That changes nothing.
+    pub fn page(
+        &mut self,
+        at: At,
+        from: &[u8],
+        to: Option<&[u8]>,
+        limit: u64,
+    ) -> Result<Page, Refusal>
+        ensures serves { Serves self.old (Scan at from.now (option_map (λ to. to.now) to.entry) limit) (reply_of Rows result) self.new }
+    {
+        self.store.scan(at, from, to, limit)
+    }
+
+    /// Takes a snapshot of the present map, and answers its number. It lives until it is released, or the store is closed.
+    ///
+    /// It is refused with `Stopped`, with `TooManySnapshots` where 32 are live, with `Exhausted` where 2^63 were taken, and with
+    /// `NoMemory`.
+    pub fn snapshot(&mut self) -> Result<u64, Refusal>
+        ensures serves { Serves self.old Snapshot (reply_of Number result) self.new }
+    {
+        self.store.snapshot()
+    }
+
+    /// Forgets the snapshot of a number, which is not given again. It is refused with `Stopped` and with `NoSuchSnapshot`.
+    pub fn release(&mut self, snapshot: u64) -> Result<(), Refusal>
+        ensures serves { Serves self.old (Release snapshot) (reply_of (λ _. Done) result) self.new }
+    {
+        self.store.release(snapshot)
+    }
+
+    /// Makes all batches outlast a crash, with one sync of the device. It is refused with `Stopped`, and with `Io`, which stops the store.
+    pub fn sync(&mut self) -> Result<(), Refusal>
+        ensures serves { Serves self.old Sync (reply_of (λ _. Done) result) self.new }
+    {
+        self.store.sync()
+    }
+
+    /// Makes the batches up to this number outlast a crash: with one sync of the device, or none where they do already. It is refused
+    /// with `Stopped`, with `NoSuchBatch` where the number is above the last batch's, and with `Io`, which stops the store.
+    pub fn sync_to(&mut self, number: u64) -> Result<(), Refusal>
+        ensures serves { Serves self.old (SyncTo number) (reply_of (λ _. Done) result) self.new }
+    {
+        self.store.sync_to(number)
+    }
+
+    /// The numbers of the store. It is refused with `Stopped`.
+    pub fn stat(&self) -> Result<Stat, Refusal>
+        ensures { result ≡ stat_answer (machine_of self.now) }
+    {
+        self.store.stat()
+    }
+
+    /// Brings all tables into the last level, where deletes have nothing more to delete and small tables are joined. It tells whether all
+    /// are there then. What is in memory stays there. What is refused is passed over: the store goes on as it then is.
+    pub fn compact<R: Threads + Sync>(&mut self, rt: &R) -> bool
+        ensures compacts { CompactsWhole self.old self.new }
+        ensures upkept { IsUpkept self.old self.new }
+        ensures compacted { result ≡ is_compacted (machine_of self.new) }
+    {
+        keep_up(rt, self.alloc, &mut self.store, &Policy::new());
+        compact_all(rt, self.alloc, &mut self.store)
+    }
+
+    // That of which keys are copied.
+    pub(crate) fn alloc(&self) -> Global {
+        self.alloc
+    }
+
+    /// Gives the device back, also of a stopped store. What was not synced may be lost in a crash.
+    pub fn into_device(self) -> D
+        ensures { D.medium result ≡ self.device }
+    {
+        let Db { alloc: _, store } = self;
+        store.into_device()
+    }
+}

@@ -1,0 +1,30 @@
+//! A store with no duties: it makes room by itself.
+//!
+//! A [`Db`] is a store and its upkeep. It is an ordered map from keys to values, whose batches are committed whole or not at all, outlast a
+//! crash from the next sync on, and are read at present or at a snapshot. Where a write finds no room it flushes, rotates and compacts
+//! by the policy first. That a log is full is never told.
+//!
+//! ```
+//! let mut db = Db::open_or_create(rt, "store.img", Options::default())?;
+//! db.put(rt, b"apple", b"red")?;
+//! let value = db.get(b"apple")?;
+//! db.sync()?;
+//! ```
+//!
+//! Each call's contract says that its reply is the store's (`Serves`), behind upkeep that changes no map, no snapshot and no count of batches
+//! (`IsUpkept`).
+#![tactic(auto)]
+
+mod db;
+mod files;
+mod open_error;
+mod opening;
+mod operating;
+mod options;
+mod range;
+mod writing;
+
+pub use db::Db;
+pub use open_error::OpenDbError;
+pub use options::Options;
+pub use range::Range;

@@ -1,0 +1,43 @@
+//! A store that was just opened is made ready for writes.
+
+ghost use Rattle.std.specs.Prelude.{◌≡◌};
+ghost use Rattle.corwaphi.specs.Upkeep.{IsReadied, IsUpkept};
+ghost use Rattle.lsm_upkeep.specs.Upkeep.{OpensLog};
+
+use lsm_device::Device;
+use lsm_policy::Policy;
+use lsm_store::Store;
+use lsm_upkeep::compact;
+use std::alloc::Global;
+use std::thread::Threads;
+
+/// The store, ready for writes.
+pub(crate) fn readied<R: Threads + Sync, D: Device>(
+    rt: &R,
+    alloc: Global,
+    store: Store<D>,
+) -> Store<D>
+    ensures readied { IsReadied store result }
+    ensures upkept { IsUpkept store result }
+{
+    let mut store = store;
+    ready(rt, alloc, &mut store);
+    store
+}
+
+// Finishes a flush that waits, compacts by the policy, and opens a log where the open one has no room, or none is open.
+fn ready<R: Threads + Sync, D: Device>(rt: &R, alloc: Global, store: &mut Store<D>)
+    ensures readied { IsReadied store.old store.new }
+    ensures upkept { IsUpkept store.old store.new }
+{
+    compact(rt, alloc, store, &Policy::new());
+    open_log(store);
+}
+
+fn open_log<D: Device>(store: &mut Store<D>)
+    ensures { OpensLog store.old store.new }
+{
+    if let Ok(0) = store.log_room() {
+        let _ = store.rotate();
+    }
+}
