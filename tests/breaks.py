@@ -22,7 +22,7 @@ REFUSED = "refused, as it must be"
 # The goal that the prover told first, with the file of its answer: proofs/MODULE/FUNCTION/Answers.antt:LINE:COLUMN: error: `GOAL`: TEXT.
 # One without an answer is told at its line of src/.
 GOAL = re.compile(r"(?:\./)?(?P<file>(?:proofs|src)/\S+?):\d+:\d+: error(?:\[[\w-]+\])?: (?:`(?P<goal>[^`]+)`)?")
-# What a function ensures and has no answer for is told at the line of its `fn`.
+# What a function ensures and has no answer for is told at the line of its `fn`, or at one of its body.
 NOTE = re.compile(r"note: (?P<file>src/\S+?):(?P<line>\d+):\d+: it is not proved that what the function ensures holds .*?\(`(?P<goal>[^`]+)`\)")
 
 
@@ -52,10 +52,11 @@ def is_of(goal: str, clause: str) -> bool:
     return not clause or goal.endswith(f"-clause-{clause}")
 
 
-def is_at(folder: Path, file: str, line: int, function: str) -> bool:
-    """Whether a function begins at this line of a file of the crate."""
-    lines = (folder / file).read_text(encoding="utf-8").splitlines()
-    return bool(re.search(rf"\bfn {function}\b", lines[line - 1])) if line <= len(lines) else False
+def is_in(folder: Path, file: str, line: int, function: str) -> bool:
+    """Whether this line of a file of the crate is one of a function: the last that begins there or before."""
+    lines = (folder / file).read_text(encoding="utf-8").splitlines()[:line]
+    begun = [found[1] for found in (re.search(r"\bfn (\w+)", text) for text in lines) if found]
+    return begun[-1:] == [function]
 
 
 def breaks(function: str, clause: str, reason: str, folder: Path) -> bool:
@@ -63,7 +64,7 @@ def breaks(function: str, clause: str, reason: str, folder: Path) -> bool:
     its own clause."""
     noted = NOTE.search(reason)
     if noted:
-        return is_at(folder, noted["file"], int(noted["line"]), function) and is_of(noted["goal"], clause)
+        return is_in(folder, noted["file"], int(noted["line"]), function) and is_of(noted["goal"], clause)
     found = GOAL.search(reason)
     if not found:
         return False

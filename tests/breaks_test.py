@@ -62,10 +62,13 @@ class Breaks(unittest.TestCase):
         note = "note: src/reader.rt:2:1: it is not proved that what the function ensures holds when it returns (`returns-in-One-later`); the facts"
         with tempfile.TemporaryDirectory() as room:
             (Path(room) / "src").mkdir()
-            (Path(room) / "src" / "reader.rt").write_text("// Whether.\nfn may_follow(a: u8) -> bool\n")
+            (Path(room) / "src" / "reader.rt").write_text("// Whether.\nfn may_follow(a: u8) -> bool\n{\n    true\n}\nfn newer() {}\n")
             self.assertTrue(breaks("may_follow", "ensures", note, Path(room)))
             self.assertFalse(breaks("newer", "ensures", note, Path(room)))
             self.assertFalse(breaks("may_follow", "later", note, Path(room)))
+            # A line of its body is one of it.
+            self.assertTrue(breaks("may_follow", "ensures", note.replace(":2:", ":4:"), Path(room)))
+            self.assertFalse(breaks("may_follow", "ensures", note.replace(":2:", ":6:"), Path(room)))
 
     def test_refusals_that_say_little(self) -> None:
         self.assertIn("a limit of the prover", self.told("limit") or "")
