@@ -183,6 +183,27 @@ traced=
 if traces 'counts of the calls of many puts'; then traced=yes; fi
 many_puts
 
+# ---- syncs that fail
+
+# No strace is needed: the kernel answers each sync of a run with an input/output error. A program that made none would go on.
+syncs_fail() {
+    local words status
+    "$program" format store 8192 128 >out
+    for words in 'put store 61 31' 'del store 61' 'get store 61' 'compact store' 'format other 8192 128' 'serve store'; do
+        what="$words without a sync" status=0
+        # shellcheck disable=SC2086 # They are words.
+        printf 'commit +61=31\nsync\n' | "$tests/unsynced.py" "$program" $words >out 2>err || status=$?
+        if [ "$status" = 77 ]; then skip 'syncs that fail' "$(cat err)" && return; fi
+        [ "$status" = 1 ] || fail "it ends with $status, and prints $(cat out err)"
+        [ "$(cat err)" = "$(printf 'refused 02 Io\nerror: Input/output error (os error 5)')" ] || fail "it prints $(cat err)"
+        [ ! -e other ] || fail "a format that is refused leaves a file"
+        [ "$("$program" get store 61)" = absent ] || fail "what was not synced is there"
+    done
+    what=
+    echo "files.sh: a sync that fails ends a run with 02 Io, and the system's error"
+}
+if has python3 'syncs that fail'; then syncs_fail; fi
+
 # ---- syncs
 
 # The calls of one run that write the file (w), sync its data (d), sync it whole (s) and print (p), in their order.
