@@ -1,0 +1,13 @@
+//! Tests of the library of one type, `corwaphi`: each call once with ample memory, and what no clause says, that there is room.
+#![tactic(auto)]
+
+#[cfg(test)]
+mod calls;
+#[cfg(test)]
+mod files;
+#[cfg(test)]
+mod ranges;
+#[cfg(test)]
+mod room;
+#[cfg(test)]
+mod subject;
