@@ -96,20 +96,20 @@ status=0
 # A line of which there is more than can be right is a mistake at once, though it never ends: little of it is kept, and 80 bytes are told.
 # `first` comes before it.
 endless() {
-    local words=$1 first=$2 said=$3 answer=$4 status=0 told wanted
+    local call=$1 first=$2 said=$3 answer=$4 status=0 told wanted
     # The words are parted by spaces.
     # shellcheck disable=SC2086
-    told=$(timeout 120 prlimit --data=$((100 << 20)) "$program" $words 2>&1 >"$folder/output" < <(printf "$first" && exec tr '\0' 6 </dev/zero)) || status=$?
+    told=$(timeout 120 prlimit --data=$((100 << 20)) "$program" $call 2>&1 >"$folder/output" < <(echo "$first" && exec tr '\0' 6 </dev/zero)) || status=$?
     wanted=$(printf 'error: line 2 of the %s: "%s"' "$said" "$(printf '%080d' 0 | tr 0 6)")
-    [ "$status" = 2 ] && [ "$told" = "$wanted" ] || fail "an endless line of $words ended with $status: $(head -c 300 <<<"$told")"
-    [ "$(cat "$folder/output")" = "$answer" ] || fail "an endless line of $words printed $(head -c 300 "$folder/output")"
+    [ "$status" = 2 ] && [ "$told" = "$wanted" ] || fail "an endless line of $call ended with $status: $(head -c 300 <<<"$told")"
+    [ "$(cat "$folder/output")" = "$answer" ] || fail "an endless line of $call printed $(head -c 300 "$folder/output")"
 }
 cd "$folder"
 if has prlimit 'lines that never end'; then
-    endless 'load F' '6101 31\n' 'input is no row KEY VALUE' 'loaded 1'
-    endless 'replay F' 'room\n' "script can't be read" ''
-    endless 'lives 8192 128' 'room\n' "script can't be read" ''
-    endless 'explore 8192 128' 'room\n' "script can't be read" ''
+    endless 'load F' '6101 31' 'input is no row KEY VALUE' 'loaded 1'
+    endless 'replay F' 'room' "script can't be read" ''
+    endless 'lives 8192 128' 'room' "script can't be read" ''
+    endless 'explore 8192 128' 'room' "script can't be read" ''
 fi
 # The longest row, and the longest line of a script, are read; those with a byte more are not.
 { printf '%0510d %04096d\n' 1 2 && printf '%0512d 32\n' 1; } >"$folder/rows"
