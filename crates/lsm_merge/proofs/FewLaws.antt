@@ -12,8 +12,8 @@ use Rattle.lsm_merge.proofs.OrderTests.{is_in_order, in_order_cons}
 use Rattle.lsm_merge.specs.Inputs.{MergeInput, IsCuts, joined, kept_of}
 use Rattle.lsm_merge.proofs.Orders.{older_number}
 use Rattle.lsm_merge.proofs.NewestLaws.{in_order_skip, first_less}
-use Rattle.lsm_merge.proofs.RangeLaws.{is_in_order-in_order, is_in_order-keep}
-use Rattle.lsm_merge.proofs.OrderTests.{ordered_tested}
+use Rattle.lsm_merge.proofs.RangeLaws.{is_in_order-in_order, is_in_order-keep, is_in_order-filter}
+use Rattle.lsm_merge.proofs.OrderTests.{tested, ordered_tested}
 use Rattle.lsm_table.proofs.Ends.{count-cons}
 
 abbrev of_key : Bytes → Version → Bool
@@ -148,4 +148,11 @@ pub kept-IsInput : (input : MergeInput) → IsCuts input.cuts → IsInput (kept_
 kept-IsInput input cuts = record {
   ordered = ordered_tested (kept_of input) (is_in_order-keep input.cuts input.bottom (joined input.runs));
   few = λ key. let few = few_kept key input.cuts input.bottom (joined input.runs) in let most = cuts.at_most in omega (arith, few, most);
+}
+
+-- so can what a test passes of it
+pub filtered-IsInput : (test : Version → Bool) (entries : List Version) → IsInput entries → IsInput (filter test entries)
+filtered-IsInput test entries is = record {
+  ordered = ordered_tested (filter test entries) (is_in_order-filter test entries (tested entries is.ordered));
+  few = λ key. let kept = counted key test entries in let less = fewer key test entries in let most = is.few key in omega (arith, kept, less, most);
 }

@@ -10,6 +10,7 @@ pub mod BorderLaws
 pub mod PartLaws
 pub mod Runs
 pub mod FewLaws
+pub mod DivisionLaws
 pub mod Steps
 pub mod Sameness
 pub mod MapLaws

@@ -21,7 +21,7 @@ lt_is_le Equal e = refl
 lt_is_le Greater e = e
 
 -- a key is from a border on exactly where it isn't before it
-from_or_until : (border key : Bytes) → is_le (byte_order border key) ≡ not (is_lt (byte_order key border))
+pub from_or_until : (border key : Bytes) → is_le (byte_order border key) ≡ not (is_lt (byte_order key border))
 from_or_until border key = ap is_le (nat_list_cmp_total.antisymm border key) ∙ turned (byte_order key border)
   where
     turned : (o : Ordering) → is_le (ordering_reverse o) ≡ not (is_lt o)
@@ -98,7 +98,7 @@ none_past [] (suc i) h = refl
 none_past (b ∷ rest) zero h = absurd (omega arith)
 none_past (b ∷ rest) (suc i) h = none_past rest i (omega arith)
 
-all_pass : (versions : List Version) → filter (λ v. true) versions ≡ versions
+pub all_pass : (versions : List Version) → filter (λ v. true) versions ≡ versions
 all_pass [] = refl
 all_pass (v ∷ rest) = ap (λ xs. v ∷ xs) (all_pass rest)
 

@@ -1,7 +1,8 @@
 //! A merge, each of its parts on a thread of its own.
 
-ghost use Rattle.std.specs.Prelude.{ℕ, ◌≡◌, ◌<◌, ◌≤◌, ◌+◌, ◌⊎◌, length, IfOk, IfErr, Err, slice_index_or};
+ghost use Rattle.std.specs.Prelude.{ℕ, ◌≡◌, ◌<◌, ◌≤◌, ◌+◌, ◌⊎◌, [], length, IfOk, IfErr, Err, slice_index_or};
 ghost use Rattle.std.specs.Arc.{arc_value};
+ghost use Rattle.lsm_merge.specs.Divisions.{AreTablesAt};
 ghost use Rattle.lsm_merge.specs.Inputs.{kept_of};
 ghost use Rattle.lsm_merge.specs.Parts.{part_of, start_of, end_of, Ascending};
 ghost use Rattle.lsm_merge.specs.Ranges.{shown_key};
@@ -9,37 +10,39 @@ ghost use Rattle.lsm_device.specs.declared.refusal.Refusal.TheVariants.{BadLimit
 ghost use Rattle.lsm_table.specs.Division.{IsInput, IsTables};
 
 use crate::cutting::border_keys;
+use crate::dividing::divided;
 use crate::gates::{Gate, OpenGate};
 use crate::input::Input;
 use crate::parts::kept_part;
 use lsm_codec::{Entry, Key};
 use lsm_device::Refusal;
-use lsm_table::{Image, images};
+use lsm_table::Image;
 use std::alloc::{AllocError, Allocator, Global};
 use std::marker::Model;
 use std::sync::Arc;
 use std::thread;
 use std::thread::Threads;
 
-/// The result of a merge: its input, and the tables of what is kept of it. Both are shared, so that a job holds them without
-/// a copy. Contracts see the input and the tables.
+/// The result of a merge: its input, the keys at which what is kept of it is divided, and the tables of that. Input and tables
+/// are shared, so that a job holds them without a copy. Contracts see all three.
 #[derive(Drop)]
 pub struct Built<A: Allocator = Global> {
     input: Arc<Input<A>, A>,
+    divisions: Vec<Key<A>, A>,
     images: Arc<Vec<Image<A>, A>, A>,
 }
 
 impl<A: Allocator> Model for Built<A> {
     ghost use Rattle.std.specs.Arc.{arc_value};
-    ghost use Rattle.lsm_table.specs.Division.{IsTables};
+    ghost use Rattle.lsm_merge.specs.Divisions.{AreTablesAt};
     ghost use Rattle.lsm_merge.specs.Inputs.{kept_of};
     ghost use Rattle.lsm_merge.specs.Results.{MergeResult};
 
     ghost Value = { MergeResult };
 
-    ghost view = { λ b. record { input = arc_value b.input; images = (arc_value b.images).items } };
+    ghost view = { λ b. record { input = arc_value b.input; divisions = b.divisions.items; images = (arc_value b.images).items } };
 
-    ghost invariant = { λ b. IsTables (kept_of (arc_value b.input)) (arc_value b.images).items };
+    ghost invariant = { λ b. AreTablesAt b.divisions.items (kept_of (arc_value b.input)) (arc_value b.images).items };
 }
 
 impl<A: Allocator> Built<A> {
@@ -50,10 +53,17 @@ impl<A: Allocator> Built<A> {
         &self.input
     }
 
-    /// The tables of what is kept of the input.
+    /// The keys at which what is kept of the input is divided; none where it was built whole.
+    pub fn divisions(&self) -> &[Key<A>]
+        ensures { result.now ≡ self.now.divisions }
+    {
+        &self.divisions
+    }
+
+    /// The tables of what is kept of the input, divided at these keys.
     pub fn images(&self) -> &Arc<Vec<Image<A>, A>, A>
         ensures same { (arc_value result.now).items ≡ self.now.images }
-        ensures kept { IsTables (kept_of self.now.input) self.now.images }
+        ensures kept { AreTablesAt self.now.divisions (kept_of self.now.input) self.now.images }
     {
         &self.images
     }
@@ -140,6 +150,38 @@ fn merge_parts<R: Threads + Sync, A: Allocator + Clone + Send + Sync, G: Gate>(
     Ok(joined(alloc.clone()?, input, cuts, merged)?)
 }
 
+/// What the merge keeps of all keys.
+fn whole<A: Allocator + Clone>(alloc: A, input: &Input<A>) -> Result<Vec<Entry<A>, A>, AllocError>
+    ensures value { IfOk result (λ v. v.items ≡ kept_of input.now) }
+    ensures divides { IfOk result (λ v. IsInput v.items) }
+{
+    // So many cuts are the most entries of a key.
+    let _ = input.cuts();
+    Ok(kept_part(alloc, input, None, None)?)
+}
+
+/// The result of a merge that keeps these entries.
+fn built_of<A: Allocator + Clone>(
+    alloc: A,
+    input: Arc<Input<A>, A>,
+    entries: Vec<Entry<A>, A>,
+    divisions: Vec<Key<A>, A>,
+) -> Result<Built<A>, AllocError>
+    requires kept { entries.items ≡ kept_of (arc_value input) }
+    requires divides { IsInput entries.items }
+    ensures input { IfOk result (λ b. b.input ≡ arc_value input) }
+    ensures divisions { IfOk result (λ b. b.divisions ≡ divisions.items) }
+    ensures tables { IfOk result (λ b. AreTablesAt divisions.items (kept_of (arc_value input)) b.images) }
+{
+    let images = divided(&alloc, entries, &divisions)?;
+    let images = Arc::new(alloc, images)?;
+    Ok(Built {
+        input,
+        divisions,
+        images,
+    })
+}
+
 /// As `build`, but the thread of each part enters the gate before it merges, with the number of the part, counted from 0.
 pub fn build_gated<R: Threads + Sync, A: Allocator + Clone + Send + Sync, G: Gate>(
     rt: &R,
@@ -151,17 +193,17 @@ pub fn build_gated<R: Threads + Sync, A: Allocator + Clone + Send + Sync, G: Gat
     ensures limit { (parts < 1) ⊎ (8 < parts) → result ≡ Err BadLimit }
     ensures memory { 1 ≤ parts → parts ≤ 8 → IfErr result (λ refusal. refusal ≡ NoMemory) }
     ensures input { IfOk result (λ b. b.input ≡ arc_value input) }
+    ensures divisions { IfOk result (λ b. b.divisions ≡ []) }
     ensures tables { IfOk result (λ b. IsTables (kept_of (arc_value input)) b.images) }
 {
     let entries = merge_parts(rt, &alloc, &input, parts, gate)?;
-    let images = images(alloc.clone()?, entries)?;
-    let images = Arc::new(alloc, images)?;
-    Ok(Built { input, images })
+    let none = Vec::new(alloc.clone()?);
+    Ok(built_of(alloc, input, entries, none)?)
 }
 
 /// The tables of what a merge keeps, with its input, merged in 1 to 8 parts, each on a thread of its own, or by the caller
-/// where no thread can be started. The tables are the same for every number of parts. Refused with BadLimit for another
-/// number, and with NoMemory where memory runs out. What is kept is copied once.
+/// where no thread can be started. The tables are the same for every number of parts, and divided at no key. Refused with
+/// BadLimit for another number, and with NoMemory where memory runs out. What is kept is copied once.
 pub fn build<R: Threads + Sync, A: Allocator + Clone + Send + Sync>(
     rt: &R,
     alloc: A,
@@ -171,7 +213,43 @@ pub fn build<R: Threads + Sync, A: Allocator + Clone + Send + Sync>(
     ensures limit { (parts < 1) ⊎ (8 < parts) → result ≡ Err BadLimit }
     ensures memory { 1 ≤ parts → parts ≤ 8 → IfErr result (λ refusal. refusal ≡ NoMemory) }
     ensures input { IfOk result (λ b. b.input ≡ arc_value input) }
+    ensures divisions { IfOk result (λ b. b.divisions ≡ []) }
     ensures tables { IfOk result (λ b. IsTables (kept_of (arc_value input)) b.images) }
 {
     build_gated(rt, alloc, input, parts, &OpenGate)
+}
+
+/// As `build`, but what the merge keeps is divided at keys: the entries before the first key have tables of their own, and so
+/// have those from each key to the next, and those from the last one on. A key that is not above the one before it divides
+/// nothing, nor does one that all entries are before, or none. Refused as `build` is.
+pub fn build_divided<R: Threads + Sync, A: Allocator + Clone + Send + Sync>(
+    rt: &R,
+    alloc: A,
+    input: Arc<Input<A>, A>,
+    parts: u8,
+    divisions: Vec<Key<A>, A>,
+) -> Result<Built<A>, Refusal>
+    ensures limit { (parts < 1) ⊎ (8 < parts) → result ≡ Err BadLimit }
+    ensures memory { 1 ≤ parts → parts ≤ 8 → IfErr result (λ refusal. refusal ≡ NoMemory) }
+    ensures input { IfOk result (λ b. b.input ≡ arc_value input) }
+    ensures divisions { IfOk result (λ b. b.divisions ≡ divisions.items) }
+    ensures tables { IfOk result (λ b. AreTablesAt divisions.items (kept_of (arc_value input)) b.images) }
+{
+    let entries = merge_parts(rt, &alloc, &input, parts, &OpenGate)?;
+    Ok(built_of(alloc, input, entries, divisions)?)
+}
+
+/// What `build_divided` answers, merged in one part by the caller, with no thread. Refused with NoMemory alone.
+pub fn build_here<A: Allocator + Clone>(
+    alloc: A,
+    input: Arc<Input<A>, A>,
+    divisions: Vec<Key<A>, A>,
+) -> Result<Built<A>, Refusal>
+    ensures memory { IfErr result (λ refusal. refusal ≡ NoMemory) }
+    ensures input { IfOk result (λ b. b.input ≡ arc_value input) }
+    ensures divisions { IfOk result (λ b. b.divisions ≡ divisions.items) }
+    ensures tables { IfOk result (λ b. AreTablesAt divisions.items (kept_of (arc_value input)) b.images) }
+{
+    let entries = whole(alloc.clone()?, &input)?;
+    Ok(built_of(alloc, input, entries, divisions)?)
 }

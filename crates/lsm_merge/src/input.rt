@@ -124,7 +124,10 @@ fn entries_from<'e, A: Allocator>(entries: &'e [Entry<A>], from: Option<&[u8]>) 
 }
 
 /// The entries until a key.
-fn entries_until<'e, A: Allocator>(entries: &'e [Entry<A>], to: Option<&[u8]>) -> &'e [Entry<A>]
+pub(crate) fn entries_until<'e, A: Allocator>(
+    entries: &'e [Entry<A>],
+    to: Option<&[u8]>,
+) -> &'e [Entry<A>]
     requires { AreOrdered entries.now }
     ensures { result.now ≡ filter (λ v. is_until (shown_key to.entry) v.key) entries.now }
 {
