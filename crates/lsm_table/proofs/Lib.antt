@@ -3,6 +3,8 @@ pub mod Orders
 pub mod Blocks
 pub mod OneDivision
 pub mod Counts
+pub mod Adding
+pub mod Borders
 pub mod Ends
 pub mod Laying
 pub mod Tables
