@@ -1,5 +1,5 @@
 -- The data blocks of tables, and those that their entries take.
-use Rattle.std.proofs.Common.{◌≡◌, ℕ, ◌+◌, ◌<◌, ◌≤◌, List, [], ◌∷◌, ◌++◌, length, refl, ap, arith}
+use Rattle.std.proofs.Common.{◌≡◌, ◌+◌, ◌<◌, ◌≤◌, List, [], ◌∷◌, length, ap, arith}
 use Rattle.std.specs.List.{flat_map}
 use Rattle.lsm_table.specs.Division.{TableBlocks, entries_of}
 use Rattle.lsm_table.specs.BlockCounts.{block_count, data_blocks, AreInBlocks, DataBlockLaws}

@@ -68,7 +68,7 @@ pub record ByteLaws : Type 0 where
 -- filter, index and footer.
 pub record TableCountLaws : Type 0 where
   pub few : (entries : List Version) (tables : List TableBlocks) (group : ℕ) → IsTables entries tables → group ≤ 33 → ((key : Bytes) → count_by (λ v. is_same_key key v.key) entries ≤ group)
-    → length tables ≤ (data_blocks tables / (65 - group)) + ((length entries / (3201 - group)) + 1)
+      → length tables ≤ (data_blocks tables / (65 - group)) + ((length entries / (3201 - group)) + 1)
   pub largest : (table : TableBlocks) → IsTable table → extent_size table ≤ 71
   pub one : (table : TableBlocks) → IsTable table → extent_size table ≤ length table + (div_ceil (264 * length table) 4096 + 2)
   pub all : (tables : List TableBlocks) → AllByRecursion IsTable tables → extent_blocks tables ≤ data_blocks tables + (div_ceil (264 * data_blocks tables) 4096 + 3 * length tables)
