@@ -1,5 +1,5 @@
 -- How the blocks change that entries take, with some of the entries or with more.
-use Rattle.std.proofs.Common.{◌≡◌, ℕ, ◌+◌, ◌<◌, ◌≤◌, cond, leb, true, false, List, [], ◌∷◌, ◌++◌, length, refl, sym, ap, subst, ◌∙◌, arith, inl, inr}
+use Rattle.std.proofs.Common.{◌≡◌, ℕ, ◌+◌, ◌<◌, ◌≤◌, cond, leb, List, [], ◌∷◌, ◌++◌, length, refl, sym, ap, subst, arith, inl, inr}
 use Rattle.std.specs.Prelude.{sum_by}
 use Rattle.std.specs.List.{fold}
 use Rattle.std.proofs.lemmas.List.Sums.{sum_by-cons, fold-append}
@@ -18,7 +18,7 @@ pub record IsWithin (more : ℕ) (s t : Layout) : Type 0 where
   pub used : t.blocks + more ≤ s.blocks → s.used ≤ t.used
 
 -- what an entry leaves used: its count and itself at least
-used_some : (t : Layout) (size : ℕ) → 2 ≤ t.used → 2 ≤ (with_entry t size).used
+pub used_some : (t : Layout) (size : ℕ) → 2 ≤ t.used → 2 ≤ (with_entry t size).used
 used_some t size some = elim (cases_lt 4096 (t.used + size)) [
   | inl over ↦ rw (full_entry t.blocks t.used size over) (omega arith)
   | inr fits ↦ rw (fit_entry t.blocks t.used size fits) (omega arith)
@@ -68,7 +68,7 @@ same_within : (s : Layout) → IsWithin 0 s s
 same_within s = record { blocks = omega arith; used = λ last. omega arith }
 
 -- entry after entry
-abbrev after : Layout → List Version → Layout
+abbrev pub after : Layout → List Version → Layout
 after s entries = fold counting s entries
 
 part_within : (s t : Layout) (some all : List Version) → IsWithin 0 s t → 2 ≤ t.used → IsPart some all → IsWithin 0 (after s some) (after t all)
@@ -130,7 +130,7 @@ within_after : (more : ℕ) (s t : Layout) (entries : List Version) → IsWithin
 within_after more s t [] within used = within
 within_after more s t (v ∷ entries) within used = within_after more (counting s v) (counting t v) entries (keeps more (entry_size v) s t within used) (used_some t (entry_size v) used)
 
-counted_used : (s : Layout) (entries : List Version) → 2 ≤ s.used → 2 ≤ (after s entries).used
+pub counted_used : (s : Layout) (entries : List Version) → 2 ≤ s.used → 2 ≤ (after s entries).used
 counted_used s [] used = used
 counted_used s (v ∷ entries) used = counted_used (counting s v) entries (used_some s (entry_size v) used)
 

@@ -1,5 +1,5 @@
 -- The data blocks of tables, and those that their entries take.
-use Rattle.std.proofs.Common.{◌≡◌, ℕ, ◌+◌, ◌<◌, ◌≤◌, List, [], ◌∷◌, ◌++◌, length, refl, ap, arith}
+use Rattle.std.proofs.Common.{◌≡◌, ◌+◌, ◌<◌, ◌≤◌, List, [], ◌∷◌, length, ap, arith}
 use Rattle.std.specs.List.{flat_map}
 use Rattle.lsm_table.specs.Division.{TableBlocks, entries_of}
 use Rattle.lsm_table.specs.BlockCounts.{block_count, data_blocks, AreInBlocks, DataBlockLaws}
@@ -9,7 +9,7 @@ use Rattle.lsm_table.proofs.Adding.{block_laws}
 later : (table : TableBlocks) (tables : List TableBlocks) → AreInBlocks (table ∷ tables) → AreInBlocks tables
 later table tables are = record { nonempty = are.nonempty.1; in_blocks = are.in_blocks.1 }
 
-own_blocks : (table : TableBlocks) (tables : List TableBlocks) → AreInBlocks (table ∷ tables) → length table ≡ block_count (entries_of table)
+pub own_blocks : (table : TableBlocks) (tables : List TableBlocks) → AreInBlocks (table ∷ tables) → length table ≡ block_count (entries_of table)
 own_blocks table tables are = ap (λ (t : TableBlocks). length t) (only_blocks (entries_of table) table are.nonempty.0 are.in_blocks.0)
 
 least : (tables : List TableBlocks) → AreInBlocks tables → 0 < length tables → block_count (flat_map entries_of tables) ≤ data_blocks tables

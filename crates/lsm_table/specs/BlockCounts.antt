@@ -1,10 +1,11 @@
 -- How many blocks entries and tables take, and bounds on them.
-use Rattle.std.specs.Prelude.{◌≡◌, ℕ, ◌+◌, ◌-◌, ◌*◌, ◌<◌, ◌≤◌, ◌⊎◌, cond, leb, List, [], ◌∷◌, ◌++◌, length, sum_by}
+use Rattle.std.specs.Prelude.{◌≡◌, ℕ, ◌+◌, ◌-◌, ◌*◌, ◌/◌, ◌<◌, ◌≤◌, ◌⊎◌, cond, leb, List, [], ◌∷◌, ◌++◌, length, sum_by, count_by}
 use Rattle.std.specs.List.{AllByRecursion, flat_map}
 use Rattle.std.specs.Int.{div_ceil}
-use Rattle.lsm_codec.specs.Versions.{Version}
+use Rattle.lsm_codec.specs.Keys.{Bytes}
+use Rattle.lsm_codec.specs.Versions.{Version, is_same_key}
 use Rattle.lsm_codec.specs.Entries.{entry_size}
-use Rattle.lsm_table.specs.Division.{TableBlocks, IsBlocks, IsTable, IsTables, blocks, entries_of, first_group}
+use Rattle.lsm_table.specs.Division.{TableBlocks, IsBlocks, IsTable, IsTables, blocks, entries_of}
 use Rattle.lsm_table.specs.Extents.{extent_size}
 
 -- how many data blocks entries take that are laid down as one table, at least 1
@@ -55,3 +56,19 @@ pub record BlockLaws : Type 0 where
 pub record DataBlockLaws : Type 0 where
   pub least : (tables : List TableBlocks) → AreInBlocks tables → 0 < length tables → block_count (flat_map entries_of tables) ≤ data_blocks tables
   pub most : (tables : List TableBlocks) → AreInBlocks tables → data_blocks tables + 1 ≤ block_count (flat_map entries_of tables) + length tables
+
+-- What entries take by their bytes: where none is larger than so many, each block but the last has at most as many bytes
+-- free; whatever their sizes, any two neighbours have more bytes than one holds; and no block has more than it holds.
+pub record ByteLaws : Type 0 where
+  pub small : (entries : List Version) (most : ℕ) → AllByRecursion (λ v. entry_size v ≤ most) entries → (block_count entries - 1) * (4095 - most) ≤ sum_by entry_size entries
+  pub any : (entries : List Version) → block_count entries ≤ 2 * (sum_by entry_size entries / 4095) + 1
+  pub held : (tables : List TableBlocks) → AreInBlocks tables → sum_by entry_size (flat_map entries_of tables) ≤ 4094 * data_blocks tables
+
+-- How many tables entries are divided into that have so many of a key at most, and what their extents take: data blocks,
+-- filter, index and footer.
+pub record TableCountLaws : Type 0 where
+  pub few : (entries : List Version) (tables : List TableBlocks) (group : ℕ) → IsTables entries tables → group ≤ 33 → ((key : Bytes) → count_by (λ v. is_same_key key v.key) entries ≤ group)
+      → length tables ≤ (data_blocks tables / (65 - group)) + ((length entries / (3201 - group)) + 1)
+  pub largest : (table : TableBlocks) → IsTable table → extent_size table ≤ 71
+  pub one : (table : TableBlocks) → IsTable table → extent_size table ≤ length table + (div_ceil (264 * length table) 4096 + 2)
+  pub all : (tables : List TableBlocks) → AllByRecursion IsTable tables → extent_blocks tables ≤ data_blocks tables + (div_ceil (264 * data_blocks tables) 4096 + 3 * length tables)
