@@ -56,7 +56,9 @@ impl MemSize {
     fn with_operation(self, operation: OpRef<'_>) -> MemSize {
         let key = operation.key.len() as u64;
         match operation.value {
-            Some(value) => self.with_put(FRAME.saturating_add(key).saturating_add(value.len() as u64)),
+            Some(value) => self.with_put(
+                FRAME.saturating_add(key).saturating_add(value.len() as u64),
+            ),
             None => self.with_delete(FRAME.saturating_add(key)),
         }
     }
