@@ -9,7 +9,7 @@ use Rattle.lsm_levels.proofs.Ranges.{of_all}
 
 -- whatever they are
 pub entries_small : (versions : List Version) → AreAtMost 2315 versions
-entries_small versions v there entry = omega (arith, entry.key.low, entry.key.high, entry.value)
+entries_small versions v there entry = omega (arith, entry.key.1, entry.value)
 
 -- and of an image
 pub image_small : (entries : List Version) → AreAtMost (largest_entry entries) entries
