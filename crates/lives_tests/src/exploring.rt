@@ -126,3 +126,38 @@ fn a_merge_of_three_runs_is_explored(rt: HostRuntime) {
     let once = explored(&rt, rt.alloc(), THREE_RUNS);
     assert!(rt; once.first > 10_000 && once.skipped > 0);
 }
+
+// Two flushes, each of which goes down and becomes a table of level 1, 2 and 4. The second is rewritten, and then both, which become
+// one, beside a flush.
+const REWRITES: &[Line] = &[
+    Line::Put(0x61, 0x31),
+    Line::Rotate,
+    Line::Take,
+    Line::End(1),
+    Line::TakeRuns(1),
+    Line::Read(2),
+    Line::End(2),
+    Line::Put(0x62, 0x32),
+    Line::Rotate,
+    Line::Take,
+    Line::End(3),
+    Line::TakeRuns(1),
+    Line::Read(4),
+    Line::End(4),
+    Line::Rewrite(4, 4),
+    Line::Read(5),
+    Line::End(5),
+    Line::Put(0x61, 0x33),
+    Line::Rotate,
+    Line::Rewrite(2, 5),
+    Line::Take,
+    Line::Read(6),
+    Line::End(6),
+    Line::End(7),
+];
+
+#[test]
+fn rewrites_are_explored(rt: HostRuntime) {
+    let once = explored(&rt, rt.alloc(), REWRITES);
+    assert!(rt; once.first > 40_000 && once.skipped > 0);
+}

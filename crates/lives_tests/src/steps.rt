@@ -21,6 +21,8 @@ pub enum Line {
     Take,
     /// A job of so many of the oldest runs is taken.
     TakeRuns(usize),
+    /// A job that rewrites neighbouring tables is taken: from that of one number to that of another.
+    Rewrite(u64, u64),
     /// A job's data blocks are read.
     Read(u64),
     /// The result of a job is built, accepted, written and installed, where it has the number of the job.
@@ -66,6 +68,7 @@ fn add(alloc: Global, steps: &mut Vec<Step>, line: Line) -> Result<(), Refusal> 
         Line::Rotate => Step::Call(Call::Rotate),
         Line::Take => Step::Work(Work::Take),
         Line::TakeRuns(count) => Step::Work(Work::TakeOf(Choice::OldestRuns { count })),
+        Line::Rewrite(first, last) => Step::Work(Work::TakeOf(Choice::Rewrite { first, last })),
         Line::Read(job) => Step::Work(Work::Read(job)),
         Line::End(job) => return end(steps, job),
     };

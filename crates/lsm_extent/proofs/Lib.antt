@@ -3,3 +3,5 @@ pub mod Handing
 pub mod Counting
 pub mod Searching
 pub mod ExtentLaws
+pub mod FirstFit
+pub mod GapWalks

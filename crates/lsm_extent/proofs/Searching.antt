@@ -65,7 +65,7 @@ end_of-got from e (x ∷ y ∷ ys) last = end_of-got (x.first + x.blocks) e (y �
     one_less n = omega arith
 
 -- extents in front of a place, and those from there on
-laid_split : (from to place : ℕ) (es : List Extent) → IsLaid from to es
+pub laid_split : (from to place : ℕ) (es : List Extent) → IsLaid from to es
     → IsLaid from (end_of from (take place es)) (take place es) × IsLaid (end_of from (take place es)) to (drop place es)
 laid_split from to zero es laid = (omega arith, laid)
 laid_split from to (suc place) [] laid = (omega arith, laid)

@@ -1,12 +1,14 @@
 //! A data area, and the extents of it that are handed out.
 
-ghost use Rattle.std.specs.Prelude.{◌≡◌, ◌<◌, ◌↔◌, ◌⊎◌, [], IfOk, IfErr, OnErr, SomeIff, MatchOption, Contains, Err};
+ghost use Rattle.std.specs.Prelude.{◌≡◌, ◌<◌, ◌↔◌, ◌⊎◌, ℕ, true, [], length, slice_get, IfOk, IfErr, OnErr, SomeIff, MatchOption, Contains, Err};
 ghost use Rattle.lsm_device.specs.declared.refusal.Refusal.TheVariants.{NoMemory, NoSpace};
 ghost use Rattle.lsm_extent.specs.Area.{IsFreeRun, IsLowestFit, HasNoFit, IsPartition, handed_out, given_back, free_count};
+ghost use Rattle.lsm_extent.specs.Gaps.{IsLongestGap, SurelyFit, gaps, has_sure_room};
 ghost use Rattle.lsm_extent.specs.Laws.{Frees};
 
 use crate::Extent;
-use crate::gaps::{begun_before, free_among, lowest_gap, place_of};
+use crate::gaps::{begun_before, free_among, gap_at, lowest_gap, place_of};
+use crate::room::{count_gaps, is_sure, longest_gap, starts_among};
 use lsm_device::Refusal;
 use std::alloc::{Allocator, Global};
 use std::marker::Model;
@@ -96,6 +98,46 @@ impl<A: Allocator> Extents<A> {
         ensures { result ≡ free_count self.now }
     {
         free_among(&self.held, self.blocks)
+    }
+
+    /// The gap in front of the extent at this place, from 0 on, or behind the last one: `None` at any place beyond. Its blocks
+    /// are free, and the ones beside it are not; between neighbours it has no blocks. It takes no memory.
+    pub fn gap(&self, place: usize) -> Option<Extent>
+        ensures { result ≡ slice_get (gaps self.now) place }
+    {
+        gap_at(&self.held, self.blocks, place)
+    }
+
+    /// How many gaps there are: one in front of each extent, and one behind the last. It takes no memory.
+    pub fn gap_count(&self) -> usize
+        ensures { result ≡ length (gaps self.now) }
+    {
+        count_gaps(&self.held, self.blocks)
+    }
+
+    /// How many blocks the longest gap has. It takes no memory.
+    pub fn longest_gap(&self) -> u32
+        ensures { IsLongestGap self.now result }
+    {
+        longest_gap(&self.held, self.blocks)
+    }
+
+    /// Whether runs of at most `largest` blocks each, and `total` in all, are sure to find room one after the other, each in
+    /// the lowest free run of its blocks, whatever their sizes and their order: some gap has `largest` blocks, and there are
+    /// `total` besides those that may stay free where none has as many. It takes no memory.
+    pub fn surely_places(&self, total: u64, largest: u32) -> bool
+        ensures test { result ≡ has_sure_room self.now total largest }
+        ensures sure { result ≡ true → SurelyFit self.now total largest }
+    {
+        let starts = starts_among(&self.held, self.blocks, largest);
+        is_sure(starts, total, largest)
+    }
+
+    /// States for proofs of callers that what has sure room surely fits.
+    pub fn sure_room(&self)
+        ensures { (total largest : ℕ) → has_sure_room self.now total largest ≡ true → SurelyFit self.now total largest }
+    {
+        let _blocks = self.blocks;
     }
 
     /// States for proofs of callers that each block of the area is free or in just one extent that is handed out.

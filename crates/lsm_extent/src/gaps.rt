@@ -1,8 +1,9 @@
 //! The gaps between the extents that are handed out, which stand by their first blocks.
 
-ghost use Rattle.std.specs.Prelude.{◌≡◌, ◌<◌, ◌≤◌, ◌+◌, length, take, drop, MatchOption, MatchBool};
+ghost use Rattle.std.specs.Prelude.{◌≡◌, ◌<◌, ◌≤◌, ◌+◌, length, take, drop, slice_get, MatchOption, MatchBool};
 ghost use Rattle.std.specs.List.Sorted.{IsNonDecreasingBy, IsPartitionPoint};
 ghost use Rattle.lsm_extent.specs.Area.{IsFreeRun, IsLowestFit, HasNoFit, free_count};
+ghost use Rattle.lsm_extent.specs.Gaps.{gaps_between};
 ghost use Rattle.lsm_extent.specs.Laid.{IsLaid, IsGap, end_of, start_of};
 
 use crate::Extent;
@@ -73,6 +74,19 @@ fn next_from(held: &[Extent], area: u32, place: usize) -> u32
         Some(extent) => extent.first,
         None => area,
     }
+}
+
+/// The gap in front of the extent at this place, or behind the last one.
+pub(crate) fn gap_at(held: &[Extent], area: u32, place: usize) -> Option<Extent>
+    requires laid { IsLaid 0 area held.now }
+    ensures { result ≡ slice_get (gaps_between 0 area held.now) place }
+{
+    if place > held.len() {
+        return None;
+    }
+    let first = end_before(held, area, place);
+    let blocks = next_from(held, area, place) - first;
+    Some(Extent { first, blocks })
 }
 
 /// The place among the extents of one with these blocks, where they are free.

@@ -5,6 +5,7 @@ mod extent;
 mod extents;
 mod gaps;
 mod laws;
+mod room;
 
 pub use extent::Extent;
 pub use extents::Extents;

@@ -19,7 +19,7 @@ asked_job waiting (Some choice) levels jobs = chosen levels jobs choice
 abbrev pub given_job : Bool → Option Choice → Levels → Slots → Option Job
 given_job waiting asked levels slots = if has_free slots then asked_job waiting asked levels (held_jobs slots) else None
 
--- the level of a job's upper tables, none of a flush
+-- the level above that of a job's outputs, none of a flush
 abbrev pub level_of : Job → Option ℕ
 level_of Flush = None
 level_of (Merge i upper lower) = Some i

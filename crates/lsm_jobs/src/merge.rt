@@ -112,11 +112,11 @@ impl<A: Allocator> MergeTables<A> {
         self.level == 0
     }
 
-    /// Whether it takes several tables of a level from 1 to 3.
+    /// Whether it is a rewrite, or takes several tables of a level from 1 to 3.
     pub(crate) fn is_several(&self) -> bool
         ensures { result ≡ is_several (merge_of self.now) }
     {
-        self.level > 0 && self.uppers > 1
+        self.uppers == 0 || (self.level > 0 && self.uppers > 1)
     }
 
     /// Whether it takes in the table of this number.

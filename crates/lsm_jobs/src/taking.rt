@@ -24,14 +24,15 @@ use lsm_merge::Input;
 use std::alloc::{AllocError, Allocator};
 use std::sync::Arc;
 
-/// What is told of a job that was taken: its number, and the level of its upper tables, none of a flush.
+/// What is told of a job that was taken: its number, and the level above that of its outputs, none of a flush. Where a merge has
+/// upper tables, these are of that level.
 #[derive(Clone, Copy, Debug, PartialEq, Eq)]
 pub struct TakenJob {
     pub number: u64,
     pub level: Option<usize>,
 }
 
-/// The level of a job's upper tables, none of a flush.
+/// The level above that of a job's outputs, none of a flush.
 fn level_of<A: Allocator>(job: &Pick<'_, A>) -> Option<usize>
     ensures { result ≡ level_of (job_of job.now) }
 {
@@ -48,6 +49,7 @@ fn level_of<A: Allocator>(job: &Pick<'_, A>) -> Option<usize>
             upper: _,
             lower: _,
         } => Some(*level),
+        Pick::Rewrite { above, tables: _ } => Some(*above),
     }
 }
 
@@ -161,6 +163,10 @@ fn job_for<A: Allocator + Clone>(
             let upper = share_all(alloc.clone()?, upper)?;
             merge_of(alloc, number, *level, upper, lower, cuts, bottom)
         }
+        Pick::Rewrite { above, tables } => {
+            let none = Vec::new(alloc.clone()?);
+            merge_of(alloc, number, *above, none, tables, cuts, bottom)
+        }
     }
 }
 
@@ -234,7 +240,7 @@ impl<A: Allocator> Slots<A> {
     }
 
     /// Takes the job that is chosen, or where none is the one that comes next: it goes into the least free slot, with these
-    /// cuts and under a number of its own. It answers that number, and the level of the job's upper tables. None where all
+    /// cuts and under a number of its own. It answers that number, and the level above that of the job's outputs. None where all
     /// slots are held or there is no such job. It is refused with `Exhausted` exactly where there is such a job and the number
     /// 2^63 was given out, or else with `NoMemory`; then nothing has changed.
     pub fn take(

@@ -1,10 +1,10 @@
 -- What holds of a job from its taking to its install, whatever other jobs install meanwhile.
-use Rattle.std.specs.Prelude.{◌≡◌, ◌≢◌, ◌⊎◌, ℕ, zero, suc, ◌<◌, ◌≤◌, Bool, true, false, List, ◌++◌, length, map, Some}
+use Rattle.std.specs.Prelude.{◌≡◌, ◌≢◌, ◌⊎◌, ℕ, zero, suc, ◌<◌, ◌≤◌, Bool, true, false, List, [], ◌∷◌, ◌++◌, length, map, Some}
 use Rattle.std.specs.List.{AllByRecursion}
 use Rattle.lsm_codec.specs.Versions.{Version}
 use Rattle.lsm_levels.specs.Among.{IsAmong}
 use Rattle.lsm_levels.specs.Tables.{Table, KeyRange, at_most, hull, meets, meeting, IsRun, versions_of}
-use Rattle.lsm_levels.specs.Levels.{Levels, all_tables, level, places}
+use Rattle.lsm_levels.specs.Levels.{Levels, all_tables, level, places, reach}
 use Rattle.lsm_levels.specs.Orders.{IsNewerPlace, IsVersionOrder}
 use Rattle.lsm_levels.specs.Pick.{Job, Flush, Merge, inputs, is_flush, is_several, pick, is_bottom, installed_levels}
 use Rattle.lsm_levels.specs.Choices.{chosen}
@@ -25,17 +25,19 @@ pub record AreOldest (runs : List (List Table)) (tables : List Table) : Type 0 w
   pub one : 1 ≤ length oldest
   pub all : tables ≡ all_tables oldest
 
--- where the upper tables stand: they are the oldest runs of level 0, or all of another level that meet their hull
+-- where the upper tables stand, if there are any: they are the oldest runs of level 0, or all of another level that meet their hull
 abbrev pub IsUpper : Levels → ℕ → List Table → Type 0
-IsUpper levels zero upper = AreOldest levels.runs upper
+IsUpper levels zero [] = Unit {0}
+IsUpper levels zero (t ∷ rest) = AreOldest levels.runs (t ∷ rest)
 IsUpper levels (suc i) upper = upper ≡ meeting (hull upper) (level levels (suc i))
 
 -- A merge still has what it was taken with: its upper tables in their level, its lower ones in the next, a run, which are all
--- there that meet the hull of the upper ones; and with the bottom flag nothing below meets the hull of all its inputs.
+-- there that meet the hull of the upper ones, or their own where there are no upper ones; and with the bottom flag nothing below
+-- meets the hull of all its inputs.
 pub record HasItsTables (levels : Levels) (bottom : Bool) (i : ℕ) (upper lower : List Table) : Type 0 where
   pub known : i ≤ 3
   pub range : KeyRange
-  pub hull_is : hull upper ≡ Some range
+  pub hull_is : reach upper lower ≡ Some range
   pub uppers : IsUpper levels i upper
   pub lowers : (t : Table) → IsAmong t lower → IsAmong t (level levels (suc i))
   pub lower_run : IsRun lower
@@ -48,7 +50,7 @@ IsHeld levels bottom Flush = bottom ≡ false
 IsHeld levels bottom (Merge i upper lower) = HasItsTables levels bottom i upper lower
 
 -- Two jobs share no input, and only one is a flush. Beside a merge of several tables stands no other merge: its outputs could
--- come between these, and be taken out with them.
+-- come between these, and be taken out with them. Nor does one stand beside a rewrite.
 pub record AreApart (a b : Job) : Type 0 where
   pub tables : (t u : Table) → IsAmong t (inputs a) → IsAmong u (inputs b) → t.number ≢ u.number
   pub one_flush : is_flush a ≡ true → is_flush b ≡ true → ⊥

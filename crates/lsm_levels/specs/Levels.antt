@@ -45,16 +45,28 @@ abbrev pub with_level : ℕ → KeyRange → List Table → Levels → Levels
 with_level zero range new levels = levels
 with_level (suc i) range new levels = record levels { deeper = slice_set levels.deeper i (put_at range new (slice_index_or levels.deeper i [])) }
 
--- A merge of so many tables of a level with this hull: the oldest runs of level 0 that hold so many are gone, or the tables of
--- the level that meet the hull, and the outputs stand one level down, in the place of the tables that meet it.
+-- With outputs one level down, in the place of the tables that meet the range: so many tables of the oldest runs of level 0 are
+-- gone, or those of the level that meet it.
+abbrev pub lowered : ℕ → KeyRange → ℕ → List Table → Levels → Levels
+lowered zero range tables new levels = with_level (suc zero) range new (record levels { runs = newer_runs tables levels.runs })
+lowered (suc i) range tables new levels = with_level (suc i) range [] (with_level (suc (suc i)) range new levels)
+
+-- A merge of so many upper tables with this hull lowers them. Where it has none, its outputs come into the place of the tables of
+-- the next level that meet the hull, and no other level changes.
 abbrev pub replaced : ℕ → KeyRange → ℕ → List Table → Levels → Levels
-replaced zero range tables new levels = with_level (suc zero) range new (record levels { runs = newer_runs tables levels.runs })
-replaced (suc i) range tables new levels = with_level (suc i) range [] (with_level (suc (suc i)) range new levels)
+replaced i range zero new levels = with_level (suc i) range new levels
+replaced i range (suc n) new levels = lowered i range (suc n) new levels
 
 abbrev pub merged_at : ℕ → Option KeyRange → ℕ → List Table → Levels → Levels
 merged_at i (Some range) tables new levels = replaced i range tables new levels
 merged_at i None tables new levels = levels
 
--- the levels after a merge of these tables of a level, with its outputs
-abbrev pub merged : ℕ → List Table → List Table → Levels → Levels
-merged i upper new levels = merged_at i (hull upper) (length upper) new levels
+-- The keys in which a merge replaces tables of its output level: the hull of the upper tables, or where there are none that of the
+-- lower ones.
+abbrev pub reach : List Table → List Table → Option KeyRange
+reach [] lower = hull lower
+reach (t ∷ rest) lower = hull (t ∷ rest)
+
+-- the levels after a merge of these tables of a level and of the next, with its outputs
+abbrev pub merged : ℕ → List Table → List Table → List Table → Levels → Levels
+merged i upper lower new levels = merged_at i (reach upper lower) (length upper) new levels

@@ -1,7 +1,7 @@
 -- That an install moves tables: those of the job go, its outputs come, and each other one stays.
 use Rattle.std.specs.Prelude.{◌≡◌, ◌≤◌, ℕ, ◌+◌, Bool, List, length, filter, if◌then◌else◌}
-use Rattle.lsm_levels.specs.Tables.{Table, hull, meeting}
-use Rattle.lsm_levels.specs.Levels.{Levels, all_tables, level, places}
+use Rattle.lsm_levels.specs.Tables.{Table, meeting}
+use Rattle.lsm_levels.specs.Levels.{Levels, all_tables, level, places, reach}
 use Rattle.lsm_levels.specs.Pick.{Job, Merge, inputs, is_flush, installed_levels}
 use Rattle.lsm_levels.specs.Held.{AreRuns, IsHeld}
 
@@ -23,6 +23,7 @@ pub record MovesTables (levels : Levels) (job : Job) (new : List Table) : Type 0
 abbrev pub MovingLaw : Type 0
 MovingLaw = (levels : Levels) (flag : Bool) (job : Job) (new : List Table) → AreRuns levels → IsHeld levels flag job → MovesTables levels job new
 
--- The lower tables of a merge are those of their level that meet the hull of the upper ones, in the level's order.
+-- The lower tables of a merge are those of their level that meet the hull of the upper ones, or their own where there are none, in
+-- the level's order.
 abbrev pub LowerLaw : Type 0
-LowerLaw = (levels : Levels) (flag : Bool) (i : ℕ) (upper lower : List Table) → AreRuns levels → IsHeld levels flag (Merge i upper lower) → lower ≡ meeting (hull upper) (level levels (i + 1))
+LowerLaw = (levels : Levels) (flag : Bool) (i : ℕ) (upper lower : List Table) → AreRuns levels → IsHeld levels flag (Merge i upper lower) → lower ≡ meeting (reach upper lower) (level levels (i + 1))

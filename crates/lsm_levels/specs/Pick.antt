@@ -1,11 +1,11 @@
 -- Which job comes next.
-use Rattle.std.specs.Prelude.{ℕ, zero, suc, ◌*◌, Bool, true, false, not, ◌&&◌, nat_le, nat_lt, ◌==◌, List, [], ◌∷◌, ◌++◌, filter, sum_by, length, Option, Some, None, option_map, if◌then◌else◌}
+use Rattle.std.specs.Prelude.{ℕ, zero, suc, ◌*◌, Bool, true, false, not, ◌&&◌, ◌||◌, nat_le, nat_lt, ◌==◌, List, [], ◌∷◌, ◌++◌, filter, sum_by, length, Option, Some, None, option_map, if◌then◌else◌}
 use Rattle.std.specs.List.{list_any, list_all}
 use Rattle.lsm_levels.specs.Tables.{Table, KeyRange, hull, meets, meeting}
 use Rattle.lsm_levels.specs.Levels.{Levels, all_tables, level, oldest_runs, flushed, merged}
 
 -- A job: a flush of the sealed versions into level 0, or a merge of tables of a level with those of the next level that
--- they meet.
+-- they meet. A merge of no upper tables is a rewrite: neighbours of the next level become new tables in their own place.
 pub data Job : Type 0 where
   Flush : Job
   Merge : ℕ → List Table → List Table → Job
@@ -23,9 +23,10 @@ abbrev pub is_of_level_0 : Job → Bool
 is_of_level_0 Flush = false
 is_of_level_0 (Merge i upper lower) = i == 0
 
--- whether a merge takes several tables of a level from 1 to 3, which may leave room for others between them
+-- Whether a merge is a rewrite, or takes several tables of a level from 1 to 3, which may leave room for others between them. So
+-- no other merge stands beside it.
 abbrev pub are_several : ℕ → List Table → Bool
-are_several i upper = nat_lt 0 i && nat_lt 1 (length upper)
+are_several i upper = (length upper == 0) || (nat_lt 0 i && nat_lt 1 (length upper))
 
 abbrev pub is_several : Job → Bool
 is_several Flush = false
@@ -112,7 +113,7 @@ next_merge levels jobs =
     (or_next (of_least_level (λ i. delete_job (level levels i) (level levels (suc i)) jobs i))
     (of_least_level (λ i. level_job (level levels i) (level levels (suc i)) jobs i (limit_of i))))
 
--- The job that comes next: the first of these that there is. Beside a merge of several tables no other merge does.
+-- The job that comes next: the first of these that there is. Beside a rewrite or a merge of several tables no other merge does.
 abbrev pub pick : Bool → Levels → List Job → Option Job
 pick waiting levels jobs = or_next (flush_job waiting jobs) (if list_any is_several jobs then None else next_merge levels jobs)
 
@@ -135,4 +136,4 @@ is_bottom levels (Merge i upper lower) = meets_none (hull (upper ++ lower)) (bel
 -- the levels after an install of a job with these outputs
 abbrev pub installed_levels : Levels → Job → List Table → Levels
 installed_levels levels Flush new = flushed new levels
-installed_levels levels (Merge i upper lower) new = merged i upper new levels
+installed_levels levels (Merge i upper lower) new = merged i upper lower new levels

@@ -9,7 +9,7 @@ use Rattle.lsm_levels.specs.declared.picking.Rule.{Rule}
 use Rattle.lsm_levels.specs.declared.picking.Rule.TheVariants.{ManyDeletes, OverLimit}
 use Rattle.lsm_levels.specs.declared.picking.Wanted.{Wanted}
 use Rattle.lsm_levels.specs.declared.picking.Wanted.TheVariants.{EachTable, MostlyDeletes}
-use Rattle.lsm_levels.specs.declared.picking.Pick.TheVariants.{Flush, OldestRuns, OneTable, Neighbours}
+use Rattle.lsm_levels.specs.declared.picking.Pick.TheVariants.{Flush, OldestRuns, OneTable, Neighbours, Rewrite}
 
 -- the job that it says
 abbrev pub job_of : {A : Type 0} → Pick A → Job
@@ -17,6 +17,7 @@ job_of Flush = job.Flush
 job_of (OldestRuns runs lower) = job.Merge 0 (all_tables runs.now) lower.now
 job_of (OneTable level upper lower) = job.Merge level (upper.now ∷ []) lower.now
 job_of (Neighbours level upper lower) = job.Merge level upper.now lower.now
+job_of (Rewrite above tables) = job.Merge above [] tables.now
 
 -- whether a choice wants a table
 abbrev pub is_wanted : Wanted → Table → Bool

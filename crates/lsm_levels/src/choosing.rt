@@ -5,7 +5,7 @@ ghost use Rattle.std.specs.List.{find, list_all};
 ghost use Rattle.std.specs.Option.{option_copied};
 ghost use Rattle.lsm_levels.specs.Tables.{IsRun};
 ghost use Rattle.lsm_levels.specs.Pick.{is_free};
-ghost use Rattle.lsm_levels.specs.Choices.{neighbours, may_stand, run_job, tables_job};
+ghost use Rattle.lsm_levels.specs.Choices.{neighbours, may_stand, rewrite_job, run_job, tables_job};
 ghost use Rattle.lsm_levels.specs.Picks.{job_of};
 
 use crate::picking::{HeldJobs, Pick, are_all_free, are_free, lower_of, lower_of_runs, oldest};
@@ -13,13 +13,17 @@ use crate::run::Run;
 use crate::table::PlacedTable;
 use std::alloc::Allocator;
 
-/// What a job takes in, with the tables of the next level that meet its hull.
+/// What a job takes in.
 #[derive(Clone, Copy, Debug, PartialEq, Eq)]
 pub enum Choice {
-    /// So many of the oldest runs of level 0.
+    /// So many of the oldest runs of level 0, with the tables of level 1 that meet their hull.
     OldestRuns { count: usize },
-    /// Neighbouring tables of a level from 1 to 3: from the table of one number to that of another, which may be the same.
+    /// Neighbouring tables of a level from 1 to 3, from the table of one number to that of another, which may be the same; with the
+    /// tables of the next level that meet their hull.
     Tables { first: u64, last: u64 },
+    /// Neighbouring tables of a level from 1 to 4, from the table of one number to that of another, which may be the same. They are
+    /// written anew in their own place, and no other level changes.
+    Rewrite { first: u64, last: u64 },
 }
 
 /// The table of a number.
@@ -48,11 +52,11 @@ fn neighbours<A: Allocator>(tables: &Run<A>, first: u64, last: u64) -> &[PlacedT
     tables.meeting(first.first(), last.last())
 }
 
-/// Whether a merge of so many tables of a level may stand beside others: where one of them is of several tables, none may.
+/// Whether a merge of these tables of a level may stand beside others: where one of them is of several tables or a rewrite, none may.
 fn may_stand<H: HeldJobs, A: Allocator>(held: &H, level: usize, upper: &[PlacedTable<A>]) -> bool
     ensures { result ≡ may_stand (H.jobs held.now) level upper.now }
 {
-    let are_several = level > 0 && upper.len() > 1;
+    let are_several = upper.is_empty() || (level > 0 && upper.len() > 1);
     !held.has_several() && (!are_several || !held.has_merge())
 }
 
@@ -92,6 +96,23 @@ pub(crate) fn tables_job<'a, H: HeldJobs, A: Allocator>(
         });
     }
     None
+}
+
+/// The rewrite of the tables from one to another, if no merge holds a slot. `above` is the level above theirs.
+pub(crate) fn rewrite_job<'a, H: HeldJobs, A: Allocator>(
+    first: u64,
+    last: u64,
+    above: usize,
+    tables: &'a Run<A>,
+    held: &H,
+) -> Option<Pick<'a, A>>
+    ensures { option_map job_of result ≡ rewrite_job first last above tables.now (H.jobs held.now) }
+{
+    let tables = neighbours(tables, first, last);
+    if tables.is_empty() || held.has_merge() {
+        return None;
+    }
+    Some(Pick::Rewrite { above, tables })
 }
 
 /// So many of the oldest runs of level 0 with the tables of level 1 that meet their hull, if there are so many runs, all of these

@@ -3,7 +3,7 @@
 ghost use Rattle.std.specs.Prelude.{◌≡◌, Option, option_map};
 ghost use Rattle.std.specs.List.{list_any};
 ghost use Rattle.lsm_levels.specs.Tables.{IsRun, least, greatest, spanned, hull, meets};
-ghost use Rattle.lsm_levels.specs.Levels.{all_tables};
+ghost use Rattle.lsm_levels.specs.Levels.{all_tables, reach};
 ghost use Rattle.lsm_levels.specs.Hulls.{range_shown, hull_onto};
 
 use crate::run::Run;
@@ -68,6 +68,19 @@ pub(crate) fn hull_of<A: Allocator>(tables: &[PlacedTable<A>]) -> Option<KeyRang
     ensures { option_map range_shown result ≡ hull tables.now }
 {
     hull_onto(tables, None)
+}
+
+/// The keys in which a merge replaces tables: the hull of the upper tables, or where there are none that of the lower ones.
+pub(crate) fn reach<'a, A: Allocator>(
+    upper: &'a [PlacedTable<A>],
+    lower: &'a [PlacedTable<A>],
+) -> Option<KeyRange<'a>>
+    ensures { option_map range_shown result ≡ reach upper.now lower.now }
+{
+    match upper {
+        [] => hull_of(lower),
+        [_, ..] => hull_of(upper),
+    }
 }
 
 /// The hull of the tables of a run and of a range, by the run's ends.

@@ -1,17 +1,17 @@
 //! The levels of tables.
 
-ghost use Rattle.std.specs.Prelude.{◌≡◌, ◌≤◌, ◌<◌, ◌-◌, [], take, true, slice_set, suc, Bool, List, length, is_ok, if◌then◌else◌, IfOk, IfErr, IfSome, OnOk, OnErr, option_map};
-ghost use Rattle.lsm_levels.specs.Tables.{IsRun, at_most, hull, put_at};
-ghost use Rattle.lsm_levels.specs.Levels.{level as level_of, newer_runs, no_tables, flushed, merged};
+ghost use Rattle.std.specs.Prelude.{◌≡◌, ◌≤◌, ◌<◌, ◌-◌, [], take, true, slice_set, suc, Bool, length, is_ok, is_some, if◌then◌else◌, IfOk, IfErr, IfSome, OnOk, OnErr, option_map};
+ghost use Rattle.lsm_levels.specs.Tables.{IsRun, at_most, put_at};
+ghost use Rattle.lsm_levels.specs.Levels.{level as level_of, newer_runs, no_tables, flushed, merged, reach};
 ghost use Rattle.lsm_levels.specs.Pick.{Merge, below_output, is_bottom, meets_none, of_least_level, next_merge, pick};
 ghost use Rattle.lsm_levels.specs.Choices.{chosen};
 ghost use Rattle.lsm_levels.specs.Picks.{job_of, rule_job};
 ghost use Rattle.lsm_levels.specs.Hulls.{range_shown};
 ghost use Rattle.lsm_levels.specs.Held.{AreRuns, HasItsTables, AreOutputs};
-ghost use Rattle.lsm_levels.specs.declared.choosing.Choice.TheVariants.{OldestRuns, Tables};
+ghost use Rattle.lsm_levels.specs.declared.choosing.Choice.TheVariants.{OldestRuns, Rewrite, Tables};
 
-use crate::choosing::{Choice, run_job, tables_job};
-use crate::hulls::{KeyRange, hull_of, hull_of_runs, hull_onto, is_met, spanned};
+use crate::choosing::{Choice, rewrite_job, run_job, tables_job};
+use crate::hulls::{KeyRange, hull_of, hull_of_runs, hull_onto, is_met, reach, spanned};
 use crate::picking::{HeldJobs, Pick, Rule, level_0_job, rule_job};
 use crate::run::Run;
 use crate::table::PlacedTable;
@@ -121,43 +121,49 @@ impl<A: Allocator> Levels<A> {
         &mut self,
         level: usize,
         upper: &[PlacedTable<A>],
+        lower: &[PlacedTable<A>],
         outputs: &mut Vec<PlacedTable<A>, A>,
     ) -> Result<(), AllocError>
         requires level { level ≤ 3 }
-        requires range { IfSome (hull upper.now) (λ range. at_most range.first range.last ≡ true) }
-        requires some { 0 < length upper.now }
-        requires fits { IfSome (hull upper.now) (λ range. IsRun (put_at range outputs.old.items (level_of self.old (suc level)))) }
-        ensures replaced { self.new ≡ (if is_ok result then merged level upper.now outputs.old.items self.old else self.old) }
+        requires range { IfSome (reach upper.now lower.now) (λ range. at_most range.first range.last ≡ true) }
+        requires some { is_some (reach upper.now lower.now) ≡ true }
+        requires fits { IfSome (reach upper.now lower.now) (λ range. IsRun (put_at range outputs.old.items (level_of self.old (suc level)))) }
+        ensures replaced { self.new ≡ (if is_ok result then merged level upper.now lower.now outputs.old.items self.old else self.old) }
         ensures moved { outputs.new.items ≡ (if is_ok result then [] else outputs.old.items) }
     {
-        let Some(hull) = hull_of(upper) else {
+        let Some(range) = reach(upper, lower) else {
             return Ok(());
         };
-        self.deeper[level].replace(hull.first, hull.last, outputs)?;
+        self.deeper[level].replace(range.first, range.last, outputs)?;
+        if upper.is_empty() {
+            return Ok(());
+        }
         if level == 0 {
             drop_oldest(&mut self.runs, upper.len());
         } else {
-            self.deeper[level - 1].remove(hull.first, hull.last);
+            self.deeper[level - 1].remove(range.first, range.last);
         }
         Ok(())
     }
 
     /// Replaces the inputs of a merge by its outputs: the upper tables of the level, from 0 to 3, and those of the next level
     /// that they meet go, and the outputs come into the next level in their place. Of level 0 the upper tables are those of the
-    /// oldest runs, and these runs go. Where memory is refused, levels and outputs are as they were.
+    /// oldest runs, and these runs go. Of a rewrite, which has no upper tables, those of the next level alone go. Where memory is
+    /// refused, levels and outputs are as they were.
     pub fn replace(
         &mut self,
         level: usize,
         upper: &[PlacedTable<A>],
+        lower: &[PlacedTable<A>],
         outputs: &mut Vec<PlacedTable<A>, A>,
     ) -> Result<(), AllocError>
         // Levels have the inputs of the merge, and its outputs lie within them.
-        requires merge { (bottom : Bool) × (lower : List _) × HasItsTables self.old bottom level upper.now lower × AreOutputs (Merge level upper.now lower) outputs.old.items }
-        ensures replaced { self.new ≡ (if is_ok result then merged level upper.now outputs.old.items self.old else self.old) }
+        requires merge { (bottom : Bool) × HasItsTables self.old bottom level upper.now lower.now × AreOutputs (Merge level upper.now lower.now) outputs.old.items }
+        ensures replaced { self.new ≡ (if is_ok result then merged level upper.now lower.now outputs.old.items self.old else self.old) }
         ensures moved { outputs.new.items ≡ (if is_ok result then [] else outputs.old.items) }
     {
         let _runs = self.runs();
-        let put = self.put(level, upper, outputs);
+        let put = self.put(level, upper, lower, outputs);
         put
     }
 
@@ -180,8 +186,8 @@ impl<A: Allocator> Levels<A> {
     /// The job that comes next, where sealed versions wait or not, and slots are held by these jobs: the first of these that
     /// there is.
     ///
-    /// 1. A flush, where sealed versions wait and no flush holds a slot. Beside a merge of several tables of a level from 1 to 3
-    ///    nothing else comes.
+    /// 1. A flush, where sealed versions wait and no flush holds a slot. Beside a rewrite, or a merge of several tables of a level
+    ///    from 1 to 3, nothing else comes.
     /// 2. With 4 or more runs of level 0 and no job of it: the oldest run with the tables of level 1 that meet its hull, if
     ///    all of them are free. A table is free where no job has it as input.
     /// 3. Of the least level from 1 to 3 that has such a table: the least-numbered table of which half the entries or more are
@@ -234,6 +240,25 @@ impl<A: Allocator> Levels<A> {
         tables_job(first, last, 3, level_3, level_4, held)
     }
 
+    /// The rewrite of the tables from one to another, of a level from 1 to 4.
+    fn choose_rewrite<H: HeldJobs>(&self, first: u64, last: u64, held: &H) -> Option<Pick<'_, A>>
+        ensures { option_map job_of result ≡ chosen self.now (H.jobs held.now) (Rewrite first last) }
+    {
+        let [level_1, level_2, level_3, level_4] = self.deeper() else {
+            return None;
+        };
+        if let Some(job) = rewrite_job(first, last, 0, level_1, held) {
+            return Some(job);
+        }
+        if let Some(job) = rewrite_job(first, last, 1, level_2, held) {
+            return Some(job);
+        }
+        if let Some(job) = rewrite_job(first, last, 2, level_3, held) {
+            return Some(job);
+        }
+        rewrite_job(first, last, 3, level_4, held)
+    }
+
     /// The job of so many of the oldest runs of level 0.
     fn choose_runs<H: HeldJobs>(&self, count: usize, held: &H) -> Option<Pick<'_, A>>
         ensures { option_map job_of result ≡ chosen self.now (H.jobs held.now) (OldestRuns count) }
@@ -245,9 +270,10 @@ impl<A: Allocator> Levels<A> {
     }
 
     /// The job of a caller's choice, where slots are held by these jobs: the tables that are chosen, with those of the next
-    /// level that meet their hull. None where there are no such tables or no runs are asked for, where one of all these is not
-    /// free, where a job of level 0 holds a slot and runs of it are chosen, or where it or a job that holds a slot is a merge of
-    /// several tables of a level from 1 to 3, and the other a merge. Whether a level is over its limit doesn't matter.
+    /// level that meet their hull unless they are rewritten. None where there are no such tables or no runs are asked for, where one
+    /// of all these is not free, where a job of level 0 holds a slot and runs of it are chosen, or where it or a job that holds a
+    /// slot is a rewrite or a merge of several tables of a level from 1 to 3, and the other a merge. Whether a level is over its
+    /// limit doesn't matter.
     ///
     /// It takes no memory.
     pub fn choose<H: HeldJobs>(&self, choice: Choice, held: &H) -> Option<Pick<'_, A>>
@@ -256,6 +282,7 @@ impl<A: Allocator> Levels<A> {
         match choice {
             Choice::OldestRuns { count } => self.choose_runs(count, held),
             Choice::Tables { first, last } => self.choose_tables(first, last, held),
+            Choice::Rewrite { first, last } => self.choose_rewrite(first, last, held),
         }
     }
 
@@ -292,6 +319,7 @@ impl<A: Allocator> Levels<A> {
                 upper,
                 lower,
             } => self.meets_none_below(*level, hull_onto(upper, hull_onto(lower, None))),
+            Pick::Rewrite { above, tables } => self.meets_none_below(*above, hull_of(tables)),
         }
     }
 }

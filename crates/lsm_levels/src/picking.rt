@@ -32,7 +32,7 @@ pub trait HeldJobs {
     fn has_merge(&self) -> bool
         ensures { result ≡ list_any is_merge (jobs self.now) };
 
-    /// Whether a merge of several tables of a level from 1 to 3 is among them.
+    /// Whether a rewrite, or a merge of several tables of a level from 1 to 3, is among them.
     fn has_several(&self) -> bool
         ensures { result ≡ list_any is_several (jobs self.now) };
 
@@ -63,6 +63,11 @@ pub enum Pick<'a, A: Allocator = Global> {
         level: usize,
         upper: &'a [PlacedTable<A>],
         lower: &'a [PlacedTable<A>],
+    },
+    /// Neighbours of a level from 1 to 4, which are written anew in their own place. `above` is the level above theirs.
+    Rewrite {
+        above: usize,
+        tables: &'a [PlacedTable<A>],
     },
 }
 

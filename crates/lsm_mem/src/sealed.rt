@@ -13,6 +13,7 @@ ghost use Rattle.lsm_mem.specs.Ranges.{newest_each, from_key, put_pair, HaveAsce
 
 use crate::iter::Range;
 use crate::mem::Mem;
+use crate::size::MemSize;
 use crate::walk::AllVersions;
 use lsm_codec::{Entry, VersionRef};
 use std::alloc::{AllocError, Allocator, Global};
@@ -83,6 +84,11 @@ impl<A: Allocator> Sealed<A> {
         ensures ordered { AreOrdered self.now }
     {
         self.mem.versions()
+    }
+
+    /// How large the versions are at most.
+    pub fn size(&self) -> MemSize {
+        self.mem.size()
     }
 
     /// Copies of all versions, in the order of entries: the run that a flush is made of.

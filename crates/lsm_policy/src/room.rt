@@ -96,6 +96,7 @@ fn takes_in_at_most<A: Allocator>(job: &Pick<'_, A>, blocks: u64) -> bool
         Pick::OldestRuns { runs, lower } => runs_have_at_most(runs, lower, blocks),
         Pick::Neighbours { upper, lower, .. } => have_at_most(upper, lower, blocks),
         Pick::OneTable { upper, lower, .. } => has_at_most_with(upper, lower, blocks),
+        Pick::Rewrite { tables, .. } => without_tables(blocks, tables).is_some(),
     }
 }
 

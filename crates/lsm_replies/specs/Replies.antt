@@ -52,7 +52,7 @@ stat_line stat = codes "generation " ++ decimal stat.generation ++ codes " batch
     ++ codes " room " ++ decimal stat.room ++ codes " waiting " ++ decimal (digit_of stat.waiting) ++ codes " runs " ++ decimal stat.runs
     ++ codes " tables " ++ decimal stat.tables ++ codes " free " ++ decimal stat.free_blocks ++ 10 ∷ []
 
--- a job that was taken, if there was one: a flush, or by the level of its upper tables
+-- a job that was taken, if there was one: a flush, or by the level above that of its outputs
 abbrev pub job_line : Option (ℕ × Option ℕ) → List ℕ
 job_line None = codes "none" ++ 10 ∷ []
 job_line (Some (number, None)) = codes "job " ++ decimal number ++ codes " flush" ++ 10 ∷ []

@@ -44,7 +44,7 @@ pub fn push_reply(
     Ok(())
 }
 
-// A job that was taken, if there was one: a flush, or by the level of its upper tables.
+// A job that was taken, if there was one: a flush, or by the level above that of its outputs.
 fn push_job(text: &mut String, job: Option<TakenJob>) -> Result<(), Refusal>
     ensures text { OnOk result (string_bytes text.new ≡ string_bytes text.old ++ job_line (option_map (λ j. (j.number, j.level)) job)) }
     ensures refused { IfErr result (λ e. e ≡ NoMemory) }

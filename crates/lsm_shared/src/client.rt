@@ -138,8 +138,9 @@ impl<A: Allocator + Clone, B: SessionName> Client<A, B> {
     }
 
     /// Takes the job of a choice, in one hold of the lock: neighbouring tables of a level from 1 to 3, or so many of the oldest
-    /// runs of level 0, with the tables of the next level that meet their hull. None where the store has no such job to give, which
-    /// is no entry. What the store refuses is a reply too. Turns of whatever clients do the rest of the job.
+    /// runs of level 0, with the tables of the next level that meet their hull; or neighbouring tables of a level from 1 to 4, which
+    /// are written anew in their own place. None where the store has no such job to give, which is no entry. What the store refuses
+    /// is a reply too. Turns of whatever clients do the rest of the job.
     ///
     /// It is refused with `TrailFull` where there is something to enter and the trail has no place for it, and with `NoMemory`.
     pub fn take<D: Device, R: Wait>(

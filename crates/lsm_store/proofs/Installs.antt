@@ -85,7 +85,7 @@ same_sectors l count next_table (Merge i upper lower) = refl
 -- the outputs of a job may be put in
 abbrev MayBePutOn : Placement → Levels → Disk → List Table → Job → Type 0
 MayBePutOn p levels d new Flush = AreFlushed p (seen d) (output_records Flush new)
-MayBePutOn p levels d new (Merge i upper lower) = AreMerged p (seen d) (parts_of levels i upper) (output_records (Merge i upper lower) new)
+MayBePutOn p levels d new (Merge i upper lower) = AreMerged p (seen d) (parts_of levels i upper lower) (output_records (Merge i upper lower) new)
 
 module _ (p : Placement) (s : State) (d : Disk) (levels : Levels) (next_table : ℕ) (new : List Table) where
   module _ (stored : IsStoredIn p s d) where
@@ -112,7 +112,7 @@ module _ (p : Placement) (s : State) (d : Disk) (levels : Levels) (next_table : 
     job_goes_on : (job : Job) → MayBePutOn p levels d new job → MayGoOn (installed_in p d levels job next_table new) (installed (is_flush job) s) d
     job_goes_on Flush are = flush_goes_on p s d stored next_table (output_records Flush new) are
     job_goes_on (Merge i upper lower) are =
-        merge_goes_on p s d stored next_table (length (installed_levels levels (Merge i upper lower) new).runs) (parts_of levels i upper) (output_records (Merge i upper lower) new) are
+        merge_goes_on p s d stored next_table (length (installed_levels levels (Merge i upper lower) new).runs) (parts_of levels i upper lower) (output_records (Merge i upper lower) new) are
 
   -- the install takes over what the job has placed
   module _ (xs own ys : List PlacedTable) (stored : IsStoredWithJobs p (xs ++ (own ++ ys)) s d) (then : Disk) where
@@ -125,7 +125,7 @@ module _ (p : Placement) (s : State) (d : Disk) (levels : Levels) (next_table : 
         (subst (λ (ts : List TableRecord). IsInstalled d (Stands p.logs.log_sectors (contents_for (flushed p count next_table ts))) then) (sym same) is))
     job_taken (Merge i upper lower) same are is =
         let runs = length (installed_levels levels (Merge i upper lower) new).runs in
-        let x = parts_of levels i upper in
+        let x = parts_of levels i upper lower in
         subst (λ (ts : List TableRecord). IsStoredWithJobs (merged p next_table runs (with_outputs x ts)) (xs ++ ys) (installed false s) then) same
         (merge_taken p xs own ys s d then next_table runs x stored (subst (AreMerged p (seen d) x) (sym same) are)
         (subst (λ (ts : List TableRecord). IsInstalled d (Stands p.logs.log_sectors (contents_for (merged p next_table runs (with_outputs x ts)))) then) (sym same) is))

@@ -10,7 +10,7 @@ use Rattle.lsm_levels.proofs.Runs.{run_at, upper_is}
 use Rattle.lsm_levels.proofs.Taking.{covers_meets}
 use Rattle.lsm_levels.specs.Among.{IsAmong}
 use Rattle.lsm_levels.specs.Held.{AreRuns, IsUpper, HasItsTables}
-use Rattle.lsm_levels.specs.Levels.{Levels, all_tables, level}
+use Rattle.lsm_levels.specs.Levels.{Levels, all_tables, level, reach}
 use Rattle.lsm_levels.specs.Tables.{Table, KeyRange, range_of, at_most, spanned, hull, meets}
 use Rattle.lsm_store.proofs.NewestAmong.{key_of, newest_is, none_is}
 use Rattle.lsm_store.proofs.UpperRuns.{holding_tables}
@@ -40,8 +40,9 @@ module _ (all xs ys : List Version) (unique : IsUnique all) (there : (v : Versio
 
 -- the upper inputs in the list of a manifest
 abbrev pub uppers_at : Levels → ℕ → KeyRange → ℕ → List Table
-uppers_at levels zero r tables = all_tables (runs_holding tables levels.runs)
-uppers_at levels (suc i) r tables = that_meet r (level levels (suc i))
+uppers_at levels i r zero = []
+uppers_at levels zero r (suc more) = all_tables (runs_holding (suc more) levels.runs)
+uppers_at levels (suc i) r (suc more) = that_meet r (level levels (suc i))
 
 -- a table whose range has a key in common with none of these
 abbrev pub IsBeside : List Table → Table → Type 0
@@ -52,15 +53,16 @@ module _ (levels : Levels) (bottom : Bool) (i : ℕ) (upper lower : List Table) 
   r = held.range
 
   -- the upper tables are those
-  uppers_are : (j : ℕ) → IsUpper levels j upper → uppers_at levels j held.range (length upper) ≡ upper
-  uppers_are zero is = holding_tables levels.runs upper runs.some is
-  uppers_are (suc j) is = sym (upper_is levels j upper r held.hull_is is)
+  uppers_are : (us : List Table) (j : ℕ) → reach us lower ≡ Some held.range → IsUpper levels j us → uppers_at levels j held.range (length us) ≡ us
+  uppers_are [] j reached is = refl
+  uppers_are (u ∷ us) zero reached is = holding_tables levels.runs (u ∷ us) runs.some is
+  uppers_are (u ∷ us) (suc j) reached is = sym (upper_is levels j (u ∷ us) r reached is)
 
   pub upper_in : (t : Table) → IsAmong t (uppers_at levels i held.range (length upper)) → IsAmong t upper
-  upper_in t a = subst (λ (ts : List Table). IsAmong t ts) (uppers_are i held.uppers) a
+  upper_in t a = subst (λ (ts : List Table). IsAmong t ts) (uppers_are upper i held.hull_is held.uppers) a
 
   pub in_upper : (t : Table) → IsAmong t upper → IsAmong t (uppers_at levels i held.range (length upper))
-  in_upper t a = subst (λ (ts : List Table). IsAmong t ts) (sym (uppers_are i held.uppers)) a
+  in_upper t a = subst (λ (ts : List Table). IsAmong t ts) (sym (uppers_are upper i held.hull_is held.uppers)) a
 
   -- and the lower ones those that meet the range
   pub lower_in : (t : Table) → IsAmong t (that_meet held.range (level levels (suc i))) → IsAmong t lower
@@ -71,9 +73,13 @@ module _ (levels : Levels) (bottom : Bool) (i : ℕ) (upper lower : List Table) 
 
   -- a table that doesn't meet the range is beside the upper ones
   pub beside_upper : (t : Table) → meets held.range t ≡ false → IsBeside upper t
-  beside_upper t apart a b k low high first last =
-      let whole = hull_covers upper r held.hull_is a b in
-      no (sym (covers_meets r t k (at_most_trans r.first a.first k whole.0 low) (at_most_trans k a.last r.last high whole.1) first last) ∙ apart)
+  beside_upper t apart = by upper held.hull_is
+    where
+      by : (us : List Table) → reach us lower ≡ Some held.range → IsBeside us t
+      by [] reached a b k low high first last = absurd b
+      by (u ∷ us) reached a b k low high first last =
+          let whole = hull_covers (u ∷ us) r reached a b in
+          no (sym (covers_meets r t k (at_most_trans r.first a.first k whole.0 low) (at_most_trans k a.last r.last high whole.1) first last) ∙ apart)
 
   -- another table of the lower level is beside the lower ones too
   beside_lower : (t : Table) → meets held.range t ≡ false → IsAmong t (level levels (suc i)) → IsBeside lower t
@@ -86,13 +92,13 @@ module _ (levels : Levels) (bottom : Bool) (i : ℕ) (upper lower : List Table) 
 
   -- at the bottom, so is each table of a lower level
   pub beside_bottom : bottom ≡ true → (k : ℕ) (t : Table) → suc i < k → IsAmong t (level levels k) → IsBeside (upper ++ lower) t
-  beside_bottom flag k t below there = by upper held.hull_is (λ whole is. held.lowest flag k t whole below there is)
+  beside_bottom flag k t below there = by (upper ++ lower) (λ whole is. held.lowest flag k t whole below there is)
     where
-      by : (us : List Table) → hull us ≡ Some held.range → ((whole : KeyRange) → hull (us ++ lower) ≡ Some whole → meets whole t ≡ false) → IsBeside (us ++ lower) t
-      by [] none apart a b key low high first last = absurd cc
-      by (u ∷ us) some apart a b key low high first last =
-          let w = spanned u (hull (us ++ lower)) in
-          let whole = hull_covers (u ∷ (us ++ lower)) w refl a b in
+      by : (us : List Table) → ((whole : KeyRange) → hull us ≡ Some whole → meets whole t ≡ false) → IsBeside us t
+      by [] apart a b key low high first last = absurd b
+      by (u ∷ us) apart a b key low high first last =
+          let w = spanned u (hull us) in
+          let whole = hull_covers (u ∷ us) w refl a b in
           no (sym (covers_meets w t key (at_most_trans w.first a.first key whole.0 low) (at_most_trans key a.last w.last high whole.1) first last) ∙ apart w refl)
 
 -- a table of the lists from one on stands in one of these

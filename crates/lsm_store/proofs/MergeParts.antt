@@ -1,20 +1,19 @@
 -- The versions of the parts around a merge, where the tables stand.
-use Rattle.std.proofs.Common.{◌≡◌, ◌⊎◌, inl, inr, ⊎_elim, ℕ, zero, suc, ◌<◌, true, false, List, [], ◌∷◌, ◌++◌, length, map, drop, set, get_or, refl, sym, ap, ◌∙◌, subst, arith}
+use Rattle.std.proofs.Common.{◌≡◌, ◌⊎◌, inl, inr, ⊎_elim, ℕ, zero, suc, ◌<◌, true, false, List, [], ◌∷◌, ◌++◌, length, map, drop, refl, sym, ap, ◌∙◌, subst, arith}
 use Rattle.std.specs.List.{AllByRecursion}
 use Rattle.lsm_codec.specs.Keys.{Bytes}
 use Rattle.lsm_codec.specs.Versions.{Version}
 use Rattle.lsm_codec.specs.declared.table_record.TableRecord.{TableRecord}
 use Rattle.lsm_levels.proofs.Members.{among_left, among_right, among_either, passed_among}
-use Rattle.lsm_codec.proofs.Lists.{all_append, all_left, all_right}
-use Rattle.lsm_levels.proofs.OldestRuns.{all_newer}
+use Rattle.lsm_codec.proofs.Lists.{all_left, all_right}
 use Rattle.lsm_levels.proofs.Ranges.{all_of, of_all, apart_left, apart_right}
 use Rattle.lsm_levels.proofs.RunOrders.{stored_ranged}
-use Rattle.lsm_levels.proofs.Runs.{all_or, all_set, all_filter}
+use Rattle.lsm_levels.proofs.Runs.{all_or, all_filter}
 use Rattle.lsm_levels.proofs.Taking.{in_tables}
 use Rattle.lsm_levels.specs.Among.{IsAmong}
-use Rattle.lsm_levels.specs.Levels.{Levels, all_tables, level, places, newer_runs, replaced}
+use Rattle.lsm_levels.specs.Levels.{Levels, all_tables, level, places, newer_runs}
 use Rattle.lsm_levels.specs.Stored.{IsStored, AreStored}
-use Rattle.lsm_levels.specs.Tables.{Table, KeyRange, record_of, at_most, is_below, meets, put_at, versions_of}
+use Rattle.lsm_levels.specs.Tables.{Table, KeyRange, record_of, at_most, is_below, meets, versions_of}
 use Rattle.lsm_open.proofs.Flushing.{table_versions-append}
 use Rattle.lsm_open.specs.Tables.{first_data, table_versions}
 use Rattle.lsm_merge.specs.Inputs.{joined}
@@ -80,30 +79,34 @@ module _ (n : ℕ) (s : List (List ℕ)) where
       ∙ ap (λ (vs : Versions). vs ++ table_versions n s (records_of_runs (suc k) rest)) (versions_run n s 0 k run all.0)
       ∙ ap (λ (vs : Versions). versions_of run ++ vs) (versions_runs (suc k) rest all.1)
 
-  module _ (levels : Levels) (stored : AreStored s (first_data n) (places levels)) (r : KeyRange) (tables : ℕ) where
+  module _ (levels : Levels) (stored : AreStored s (first_data n) (places levels)) (r : KeyRange) where
     level_stored : (k : ℕ) → AllByRecursion (IsStored s (first_data n)) (level levels (suc k))
     level_stored k = all_or (AllByRecursion S) levels.deeper k [] (all_right (AllByRecursion S) levels.runs levels.deeper stored) tt
 
     runs_stored : AreStored s (first_data n) levels.runs
     runs_stored = all_left (AllByRecursion S) levels.runs levels.deeper stored
 
-    holding_stored : AreStored s (first_data n) (runs_holding tables levels.runs)
-    holding_stored = all_dropped (AllByRecursion S) (length (newer_runs tables levels.runs)) levels.runs runs_stored
+    holding_stored : (tables : ℕ) → AreStored s (first_data n) (runs_holding tables levels.runs)
+    holding_stored tables = all_dropped (AllByRecursion S) (length (newer_runs tables levels.runs)) levels.runs runs_stored
 
-    pub upper_is : (i : ℕ) → table_versions n s (parts_at levels i r tables).upper ≡ versions_of (uppers_at levels i r tables)
-    upper_is zero = versions_runs (length (newer_runs tables levels.runs)) (runs_holding tables levels.runs) holding_stored ∙ sym (all_versions (runs_holding tables levels.runs))
-    upper_is (suc i) = versions_run n s (suc i) 0 (that_meet r (level levels (suc i))) (all_filter S (meets r) (level levels (suc i)) (level_stored i))
+    pub upper_is : (tables i : ℕ) → table_versions n s (parts_at levels i r tables).upper ≡ versions_of (uppers_at levels i r tables)
+    upper_is zero i = refl
+    upper_is (suc more) zero =
+        versions_runs (length (newer_runs (suc more) levels.runs)) (runs_holding (suc more) levels.runs) (holding_stored (suc more)) ∙ sym (all_versions (runs_holding (suc more) levels.runs))
+    upper_is (suc more) (suc i) = versions_run n s (suc i) 0 (that_meet r (level levels (suc i))) (all_filter S (meets r) (level levels (suc i)) (level_stored i))
 
-    pub upper_stored : (i : ℕ) → AllByRecursion (IsStored s (first_data n)) (uppers_at levels i r tables)
-    upper_stored zero = all_in_runs S (runs_holding tables levels.runs) holding_stored
-    upper_stored (suc i) = all_filter S (meets r) (level levels (suc i)) (level_stored i)
+    pub upper_stored : (tables i : ℕ) → AllByRecursion (IsStored s (first_data n)) (uppers_at levels i r tables)
+    upper_stored zero i = tt
+    upper_stored (suc more) zero = all_in_runs S (runs_holding (suc more) levels.runs) (holding_stored (suc more))
+    upper_stored (suc more) (suc i) = all_filter S (meets r) (level levels (suc i)) (level_stored i)
 
     pub lower_stored : (i : ℕ) → AllByRecursion (IsStored s (first_data n)) (that_meet r (level levels (suc i)))
     lower_stored i = all_filter S (meets r) (level levels (suc i)) (level_stored i)
 
-    pub lower_is : (i : ℕ) → table_versions n s (parts_at levels i r tables).lower ≡ versions_of (that_meet r (level levels (suc i)))
-    lower_is zero = versions_run n s 1 0 (that_meet r (level levels 1)) (lower_stored 0)
-    lower_is (suc i) = versions_run n s (suc (suc i)) 0 (that_meet r (level levels (suc (suc i)))) (lower_stored (suc i))
+    pub lower_is : (tables i : ℕ) → table_versions n s (parts_at levels i r tables).lower ≡ versions_of (that_meet r (level levels (suc i)))
+    lower_is zero i = versions_run n s (suc i) 0 (that_meet r (level levels (suc i))) (lower_stored i)
+    lower_is (suc more) zero = versions_run n s 1 0 (that_meet r (level levels 1)) (lower_stored 0)
+    lower_is (suc more) (suc i) = versions_run n s (suc (suc i)) 0 (that_meet r (level levels (suc (suc i)))) (lower_stored (suc i))
 
     abbrev IsApart : Table → Type 0
     IsApart t = meets r t ≡ false
@@ -116,9 +119,10 @@ module _ (n : ℕ) (s : List (List ℕ)) where
     behind_apart k = from_run (λ t. (meets r t ≡ false) × IsAmong t (level levels (suc k))) (suc k) 0 (beginning_behind r (level levels (suc k))) (all_filter S (λ t. is_below r.last t.first) (level levels (suc k)) (level_stored k))
         (λ t a. let p = passed_among (λ u. is_below r.last u.first) t (level levels (suc k)) a in (apart_right r t p.1, p.0))
 
-    pub between_apart : (i : ℕ) → FromTables (λ t. meets r t ≡ false) (parts_at levels i r tables).between
-    between_apart zero = before_apart 0
-    between_apart (suc i) =
+    pub between_apart : (tables i : ℕ) → FromTables (λ t. meets r t ≡ false) (parts_at levels i r tables).between
+    between_apart zero i v a = absurd a
+    between_apart (suc more) zero = before_apart 0
+    between_apart (suc more) (suc i) =
         from_both IsApart (map (record_of (suc i) 0) (beginning_behind r (level levels (suc i)))) (map (record_of (suc (suc i)) 0) (ending_before r (level levels (suc (suc i)))))
         (from_weaker (λ t. IsApart t × IsAmong t (level levels (suc i))) IsApart (map (record_of (suc i) 0) (beginning_behind r (level levels (suc i)))) (λ t p. p.0) (behind_apart i)) (before_apart (suc i))
 
@@ -133,25 +137,7 @@ module _ (n : ℕ) (s : List (List ℕ)) where
         (from_levels (IsBehind j) (suc (suc j)) (drop (suc j) levels.deeper) (all_dropped (AllByRecursion S) (suc j) levels.deeper (all_right (AllByRecursion S) levels.runs levels.deeper stored))
         (λ t a. let l = in_dropped t (suc j) levels.deeper a in let le = l.1 in inr (suc l.0, omega (arith, le), l.2)))
 
-    pub behind_from : (i : ℕ) → FromTables (IsBehind i) (parts_at levels i r tables).behind
-    behind_from zero = behind_at 0
-    behind_from (suc i) = behind_at (suc i)
-
-    -- with outputs that stand in their place the tables stand
-    module _ (new : List Table) (made : AllByRecursion (IsStored s (first_data n)) new) where
-      put_stored : (ts us : List Table) → AllByRecursion (IsStored s (first_data n)) ts → AllByRecursion (IsStored s (first_data n)) us → AllByRecursion (IsStored s (first_data n)) (put_at r us ts)
-      put_stored ts us one two =
-          all_append S (ending_before r ts) (us ++ beginning_behind r ts) (all_filter S (λ t. is_below t.last r.first) ts one) (all_append S us (beginning_behind r ts) two (all_filter S (λ t. is_below r.last t.first) ts one))
-
-      pub replaced_stored : (i : ℕ) → AreStored s (first_data n) (places (replaced i r tables new levels))
-      replaced_stored zero =
-          let deeper = all_right (AllByRecursion S) levels.runs levels.deeper stored in
-          all_append (AllByRecursion S) (replaced 0 r tables new levels).runs (replaced 0 r tables new levels).deeper (all_newer (AllByRecursion S) tables levels.runs runs_stored)
-          (all_set (AllByRecursion S) levels.deeper 0 (put_at r new (get_or levels.deeper 0 [])) deeper (put_stored (get_or levels.deeper 0 []) new (level_stored 0) made))
-      replaced_stored (suc i) =
-          let deeper = all_right (AllByRecursion S) levels.runs levels.deeper stored in
-          let lowered = put_at r new (get_or levels.deeper (suc i) []) in
-          let mid : List (List Table) = set levels.deeper (suc i) lowered in
-          let mids : AllByRecursion (AllByRecursion S) mid = all_set (AllByRecursion S) levels.deeper (suc i) lowered deeper (put_stored (get_or levels.deeper (suc i) []) new (level_stored (suc i)) made) in
-          all_append (AllByRecursion S) levels.runs (replaced (suc i) r tables new levels).deeper runs_stored
-          (all_set (AllByRecursion S) mid i (put_at r [] (get_or mid i [])) mids (put_stored (get_or mid i []) [] (all_or (AllByRecursion S) mid i [] mids tt) tt))
+    pub behind_from : (tables i : ℕ) → FromTables (IsBehind i) (parts_at levels i r tables).behind
+    behind_from zero i = behind_at i
+    behind_from (suc more) zero = behind_at 0
+    behind_from (suc more) (suc i) = behind_at (suc i)

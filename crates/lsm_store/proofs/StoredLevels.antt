@@ -9,11 +9,11 @@ use Rattle.lsm_device.specs.Disk.{Disk, seen}
 use Rattle.lsm_levels.specs.Among.{IsAmong}
 use Rattle.lsm_levels.specs.Asking.{sector_of}
 use Rattle.lsm_levels.specs.Held.{IsHeld, IsUpper}
-use Rattle.lsm_levels.specs.Levels.{Levels, all_tables, level, places, newer_runs, with_level, replaced, merged_at}
+use Rattle.lsm_levels.specs.Levels.{Levels, all_tables, level, places, newer_runs, with_level, replaced, merged_at, reach}
 use Rattle.lsm_levels.specs.NamedBlocks.{HasSameBlocks}
 use Rattle.lsm_levels.specs.Pick.{Job, Flush, Merge, inputs, installed_levels}
 use Rattle.lsm_levels.specs.Stored.{blocks_from, IsStored, AreStored}
-use Rattle.lsm_levels.specs.Tables.{Table, KeyRange, hull, is_below, put_at, record_of}
+use Rattle.lsm_levels.specs.Tables.{Table, KeyRange, is_below, put_at, record_of}
 use Rattle.lsm_levels.proofs.OldestRuns.{all_newer, oldest_all}
 use Rattle.lsm_levels.proofs.Ranges.{all_of, of_all}
 use Rattle.lsm_levels.proofs.Runs.{all_or, all_set, upper_among}
@@ -131,8 +131,9 @@ module _ (P : Table → Type 0) (levels : Levels) (all : AllByRecursion (AllByRe
 
   -- holds of what a merge takes in
   pub uppers_have : (i : ℕ) (upper : List Table) → IsUpper levels i upper → AllByRecursion P upper
-  uppers_have zero upper is = subst (AllByRecursion P) (sym is.all) (all_in_runs P is.oldest (oldest_all (AllByRecursion P) levels.runs upper is newer).1)
-  uppers_have (suc i) upper is = all_of P upper (λ t a. of_all P (level levels (suc i)) (all_or (AllByRecursion P) levels.deeper i [] deeper tt) t (upper_among levels i upper is t a))
+  uppers_have i [] is = tt
+  uppers_have zero (u ∷ us) is = subst (AllByRecursion P) (sym is.all) (all_in_runs P is.oldest (oldest_all (AllByRecursion P) levels.runs (u ∷ us) is newer).1)
+  uppers_have (suc i) (u ∷ us) is = all_of P (u ∷ us) (λ t a. of_all P (level levels (suc i)) (all_or (AllByRecursion P) levels.deeper i [] deeper tt) t (upper_among levels i (u ∷ us) is t a))
 
   pub lowers_have : (i : ℕ) (lower : List Table) → ((t : Table) → IsAmong t lower → IsAmong t (level levels (suc i))) → AllByRecursion P lower
   lowers_have i lower among = all_of P lower (λ t a. of_all P (level levels (suc i)) (all_or (AllByRecursion P) levels.deeper i [] deeper tt) t (among t a))
@@ -152,11 +153,12 @@ module _ (P : Table → Type 0) (new : List Table) (made : AllByRecursion P new)
       all_append (AllByRecursion P) levels.runs _ (newer P levels all)
       (all_set (AllByRecursion P) levels.deeper i (put_at r put (get_or levels.deeper i [])) below (put_have r put (get_or levels.deeper i []) those (all_or (AllByRecursion P) levels.deeper i [] below tt)))
 
-  replaced_have : (i : ℕ) (r : KeyRange) (tables : ℕ) (levels : Levels) → Have levels → Have (replaced i r tables new levels)
-  replaced_have zero r tables levels all =
-      level_have 1 r new (record levels { runs = newer_runs tables levels.runs }) made
-      (all_append (AllByRecursion P) _ levels.deeper (all_newer (AllByRecursion P) tables levels.runs (newer P levels all)) (deeper P levels all))
-  replaced_have (suc i) r tables levels all = level_have (suc i) r [] (with_level (suc (suc i)) r new levels) tt (level_have (suc (suc i)) r new levels made all)
+  pub replaced_have : (i : ℕ) (r : KeyRange) (tables : ℕ) (levels : Levels) → Have levels → Have (replaced i r tables new levels)
+  replaced_have i r zero levels all = level_have (suc i) r new levels made all
+  replaced_have zero r (suc more) levels all =
+      level_have 1 r new (record levels { runs = newer_runs (suc more) levels.runs }) made
+      (all_append (AllByRecursion P) _ levels.deeper (all_newer (AllByRecursion P) (suc more) levels.runs (newer P levels all)) (deeper P levels all))
+  replaced_have (suc i) r (suc more) levels all = level_have (suc i) r [] (with_level (suc (suc i)) r new levels) tt (level_have (suc (suc i)) r new levels made all)
 
   merged_have : (i : ℕ) (o : Option KeyRange) (tables : ℕ) (levels : Levels) → Have levels → Have (merged_at i o tables new levels)
   merged_have i (Some r) tables levels all = replaced_have i r tables levels all
@@ -165,7 +167,7 @@ module _ (P : Table → Type 0) (new : List Table) (made : AllByRecursion P new)
   -- holds of each after an install, where it holds of the outputs
   pub installed_have : (levels : Levels) (job : Job) → Have levels → Have (installed_levels levels job new)
   installed_have levels Flush all = (made, all)
-  installed_have levels (Merge i upper lower) all = merged_have i (hull upper) (length upper) levels all
+  installed_have levels (Merge i upper lower) all = merged_have i (reach upper lower) (length upper) levels all
 
 pub levels_installed : (sectors : Sectors) (area : ℕ) (levels : Levels) (job : Job) (new : List Table) → AreStored sectors area (places levels) → AllByRecursion (IsStored sectors area) new → AreStored sectors area (places (installed_levels levels job new))
 levels_installed sectors area levels job new stored made = installed_have (IsStored sectors area) new made levels job stored

@@ -40,6 +40,7 @@ use Rattle.lsm_store.proofs.InstalledMaps.{merge_versions, in_has}
 use Rattle.lsm_store.proofs.MergedRecords.{merge_order, merge_inputs, after_parts}
 use Rattle.lsm_store.proofs.MergeInputs.{same_newest, uppers_at, IsBeside, upper_in, in_upper, lower_in, in_lower, beside_upper, beside_inputs, beside_bottom}
 use Rattle.lsm_open.proofs.StoredRecords.{versions_run, run_order, records_ascend}
+use Rattle.lsm_store.proofs.StoredLevels.{replaced_have}
 use Rattle.lsm_store.proofs.WorkSounds.{there}
 use Rattle.lsm_store.proofs.WrittenOutputs.{outputs_stored, outputs_named}
 use Rattle.lsm_store.specs.InstalledJobs.{output_records, placed_for, that_meet, parts_at, parts_if, parts_of}
@@ -50,7 +51,7 @@ use Rattle.lsm_store.specs.WorkRefusals.{held}
 use Rattle.lsm_store.specs.WorkSound.{IsSound}
 use Rattle.lsm_store.specs.Machine.{Machine}
 use Rattle.lsm_table.specs.Division.{ShareNoKey}
-use Rattle.lsm_store.proofs.MergeParts.{share_none, upper_is, lower_is, upper_stored, lower_stored, between_apart, behind_from, replaced_stored, from_weaker, IsBehind}
+use Rattle.lsm_store.proofs.MergeParts.{share_none, upper_is, lower_is, upper_stored, lower_stored, between_apart, behind_from, from_weaker, IsBehind}
 
 abbrev Versions : Type 0
 Versions = List Version
@@ -120,7 +121,7 @@ module _ (m : Machine) (p : Placement) (xs ys : List PlacedTable) (d : Disk) (jo
       (λ b. let t = in_tables v (uppers_at levels i r (length upper)) (subst (IsAmong v) is_upper b) in
       (t.0, among_left t.0 upper lower (upper_in levels slot.input.bottom i upper lower runs has t.0 t.1), of_all (IsStored (seen d) (first_data n)) (uppers_at levels i r (length upper)) (upper_stored n (seen d) levels tables r (length upper) i) t.0 t.1, t.2))
       (λ b. let t = in_tables v (that_meet r (level levels (suc i))) (subst (IsAmong v) is_lower b) in
-      (t.0, among_right t.0 upper lower (lower_in levels slot.input.bottom i upper lower runs has t.0 t.1), of_all (IsStored (seen d) (first_data n)) (that_meet r (level levels (suc i))) (lower_stored n (seen d) levels tables r (length upper) i) t.0 t.1, t.2))
+      (t.0, among_right t.0 upper lower (lower_in levels slot.input.bottom i upper lower runs has t.0 t.1), of_all (IsStored (seen d) (first_data n)) (that_meet r (level levels (suc i))) (lower_stored n (seen d) levels tables r i) t.0 t.1, t.2))
       (among_either v (table_versions n (seen d) x.upper) (table_versions n (seen d) x.lower) a)
 
   from_upper : (v : Version) → IsAmong v (table_versions p.logs.log_sectors (seen d) (parts_at m.work.levels i has.range (length upper)).upper) → (a : Table) × IsAmong a upper × IsStored (seen d) (first_data p.logs.log_sectors) a × IsAmong v a.versions
@@ -191,7 +192,7 @@ module _ (m : Machine) (p : Placement) (xs ys : List PlacedTable) (d : Disk) (jo
       (table_versions p.logs.log_sectors (seen d) (parts_at m.work.levels i has.range (length upper)).behind)
   none_behind flag =
       share_none n (seen d) (upper ++ lower) there_versions x.behind from_inputs
-      (from_weaker n (seen d) (IsBehind n (seen d) levels tables r (length upper) i) (IsBeside (upper ++ lower)) x.behind
+      (from_weaker n (seen d) (IsBehind n (seen d) levels tables r i) (IsBeside (upper ++ lower)) x.behind
       (λ t. ⊎_elim (λ here. beside_inputs levels slot.input.bottom i upper lower runs has t here.0 here.1) (λ below. beside_bottom levels slot.input.bottom i upper lower runs has flag below.0 t below.1 below.2)) (behind_from n (seen d) levels tables r (length upper) i))
 
   abbrev new_versions : List Version
@@ -229,9 +230,9 @@ module _ (m : Machine) (p : Placement) (xs ys : List PlacedTable) (d : Disk) (jo
       subst (λ (o : Option KeyRange). AreRuns (merged_at i o (length upper) outputs levels)) has.hull_is (runs_law levels slot.input.bottom (Merge i upper lower) outputs runs has fit)
 
   ascend : Pairwise (AscendInRun p.logs.log_sectors (seen d)) (with_outputs (parts_at m.work.levels i has.range (length upper)) (map (record_of (suc i) 0) outputs))
-  ascend = subst (Pairwise (AscendInRun n (seen d))) (after_parts levels runs r order (length upper) outputs i has.known) (records_ascend n (seen d) (replaced i r (length upper) outputs levels) runs_after (replaced_stored n (seen d) levels tables r (length upper) outputs they_stand i))
+  ascend = subst (Pairwise (AscendInRun n (seen d))) (after_parts levels runs r order outputs (length upper) i has.known) (records_ascend n (seen d) (replaced i r (length upper) outputs levels) runs_after (replaced_have (IsStored (seen d) (first_data n)) outputs they_stand i r (length upper) levels tables))
 
-  pub merge_written : AreMerged p (seen d) (parts_of m.work.levels i upper) (output_records (Merge i upper lower) outputs)
+  pub merge_written : AreMerged p (seen d) (parts_of m.work.levels i upper lower) (output_records (Merge i upper lower) outputs)
   merge_written = subst (λ (o : Option KeyRange). AreMerged p (seen d) (parts_if levels i o (length upper)) (map (record_of (suc i) 0) outputs)) (sym has.hull_is) (record {
     was = was;
     each = subst (λ (j : Job). All (IsTableAt n base (seen d)) (output_records j outputs)) merge (outputs_named p xs ys m.state d slot outputs stored stage made numbers base low);

@@ -40,7 +40,7 @@ pub data Reply : Type 0 where
   Value : Option Bytes → Reply
   -- of a range
   Rows : Page → Reply
-  -- of a job that was taken, its number and the level of its upper tables, none of a flush; none where there was none
+  -- of a job that was taken, its number and the level above that of its outputs, none of a flush; none where there was none
   Given : Option (ℕ × Option ℕ) → Reply
   -- of a job, what its merge is given
   Handed : MergeInput → Reply

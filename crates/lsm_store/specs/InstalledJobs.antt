@@ -3,9 +3,9 @@ use Rattle.std.specs.Prelude.{◌≡◌, ℕ, zero, suc, ◌+◌, ◌-◌, min, 
 use Rattle.lsm_codec.specs.Versions.{Version}
 use Rattle.lsm_codec.specs.declared.table_record.TableRecord.{TableRecord}
 use Rattle.lsm_device.specs.Disk.{Disk, seen}
-use Rattle.lsm_levels.specs.Levels.{Levels, level, newer_runs}
+use Rattle.lsm_levels.specs.Levels.{Levels, level, newer_runs, reach}
 use Rattle.lsm_levels.specs.Pick.{Job, Flush, Merge, is_flush, installed_levels}
-use Rattle.lsm_levels.specs.Tables.{Table, KeyRange, record_of, hull, is_below, meets}
+use Rattle.lsm_levels.specs.Tables.{Table, KeyRange, record_of, is_below, meets}
 use Rattle.lsm_jobs.specs.Pieces.{sectors_of, sector_count, written_of}
 use Rattle.lsm_jobs.specs.Slots.{Slot, Slots, with_held, outputs_at, left_at}
 use Rattle.lsm_mem.specs.EntryOrder.{with_batches}
@@ -75,17 +75,25 @@ beginning_behind range tables = filter (λ t. is_below range.last t.first) table
 abbrev pub runs_holding : ℕ → List (List Table) → List (List Table)
 runs_holding tables runs = drop (length (newer_runs tables runs)) runs
 
--- The records of tables around a merge of so many tables of a level with this hull: in level 0 the oldest runs that hold so
--- many, in others those that meet it; and below those that meet it.
+-- The records of tables around a merge of so many tables of a level with this range. Of none it rewrites those of the next level
+-- that meet the range; else in level 0 the oldest runs that hold so many are above, in others those that meet it; and below those
+-- that meet it.
 abbrev pub parts_at : Levels → ℕ → KeyRange → ℕ → Parts
-parts_at levels zero range tables = record {
-  before = records_of_runs 0 (newer_runs tables levels.runs);
-  upper = records_of_runs (length (newer_runs tables levels.runs)) (runs_holding tables levels.runs);
+parts_at levels i range zero = record {
+  before = records_of_runs 0 levels.runs ++ (records_of_levels 1 (take i levels.deeper) ++ map (record_of (suc i) 0) (ending_before range (level levels (suc i))));
+  upper = [];
+  between = [];
+  lower = map (record_of (suc i) 0) (that_meet range (level levels (suc i)));
+  behind = map (record_of (suc i) 0) (beginning_behind range (level levels (suc i))) ++ records_of_levels (suc (suc i)) (drop (suc i) levels.deeper);
+}
+parts_at levels zero range (suc more) = record {
+  before = records_of_runs 0 (newer_runs (suc more) levels.runs);
+  upper = records_of_runs (length (newer_runs (suc more) levels.runs)) (runs_holding (suc more) levels.runs);
   between = map (record_of 1 0) (ending_before range (level levels 1));
   lower = map (record_of 1 0) (that_meet range (level levels 1));
   behind = map (record_of 1 0) (beginning_behind range (level levels 1)) ++ records_of_levels 2 (drop 1 levels.deeper);
 }
-parts_at levels (suc i) range tables = record {
+parts_at levels (suc i) range (suc more) = record {
   before = records_of_runs 0 levels.runs ++ (records_of_levels 1 (take i levels.deeper) ++ map (record_of (suc i) 0) (ending_before range (level levels (suc i))));
   upper = map (record_of (suc i) 0) (that_meet range (level levels (suc i)));
   between = map (record_of (suc i) 0) (beginning_behind range (level levels (suc i))) ++ map (record_of (suc (suc i)) 0) (ending_before range (level levels (suc (suc i))));
@@ -97,9 +105,9 @@ abbrev pub parts_if : Levels → ℕ → Option KeyRange → ℕ → Parts
 parts_if levels i (Some range) tables = parts_at levels i range tables
 parts_if levels i None tables = record { before = []; upper = []; between = []; lower = []; behind = [] }
 
--- The parts around a merge of these tables of a level.
-abbrev pub parts_of : Levels → ℕ → List Table → Parts
-parts_of levels i upper = parts_if levels i (hull upper) (length upper)
+-- the parts around a merge of these tables of a level with these of the next one
+abbrev pub parts_of : Levels → ℕ → List Table → List Table → Parts
+parts_of levels i upper lower = parts_if levels i (reach upper lower) (length upper)
 
 -- ---- the placement after an install
 
@@ -108,7 +116,7 @@ parts_of levels i upper = parts_if levels i (hull upper) (length upper)
 abbrev pub installed_in : Placement → Disk → Levels → Job → ℕ → List Table → Placement
 installed_in p d levels Flush next_table new = flushed p (length (closed_in p (seen d))) next_table (output_records Flush new)
 installed_in p d levels (Merge i upper lower) next_table new =
-    merged p next_table (length (installed_levels levels (Merge i upper lower) new).runs) (with_outputs (parts_of levels i upper) (output_records (Merge i upper lower) new))
+    merged p next_table (length (installed_levels levels (Merge i upper lower) new).runs) (with_outputs (parts_of levels i upper lower) (output_records (Merge i upper lower) new))
 
 -- the first batch of the open log, or the next batch where no log is open
 abbrev pub first_open : ℕ → Option OpenRegion → ℕ

@@ -65,7 +65,7 @@ pub fn written_merges_are_merged()
     ensures { (m : Machine) (p : Placement) (xs ys : List PlacedTable) (d : Disk) (job : ℕ) (slot : Slot) (outputs : List Table) (i : ℕ) (upper lower : List Table) → IsSound m
         → IsStoredWithJobs p (xs ++ (placed_for slot ++ ys)) m.state d → records_of m.work.levels ≡ p.tables → AreStored (seen d) (first_data p.logs.log_sectors) (places m.work.levels)
         → held m job ≡ Some slot → slot.job ≡ Merge i upper lower → slot.stage ≡ Writing outputs 0 → AreMadeOf slot.input outputs → AllByRecursion (λ t. t.number ≤ 2 ^ 63) outputs
-        → AreMerged p (seen d) (parts_of m.work.levels i upper) (output_records (Merge i upper lower) outputs) }
+        → AreMerged p (seen d) (parts_of m.work.levels i upper lower) (output_records (Merge i upper lower) outputs) }
 {}
 
 /// What the next manifest says after an install is within the limits, whatever the device holds: where there are at most 12

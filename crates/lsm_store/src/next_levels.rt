@@ -102,11 +102,11 @@ fn put<A: Allocator + Clone>(
         Written::Merge {
             level,
             upper,
+            lower,
             outputs,
-            ..
         } => {
             let mut handles = share_all(alloc.clone()?, outputs)?;
-            levels.replace(*level, upper, &mut handles)?;
+            levels.replace(*level, upper, lower, &mut handles)?;
             Ok(())
         }
     }

@@ -20,16 +20,16 @@ layout n used = record { blocks = n; used = used }
 abbrev pub counted : List Version → Layout
 counted entries = fold counting (layout 1 2) entries
 
-full_entry : (n used size : ℕ) → 4096 < used + size → with_entry (layout n used) size ≡ layout (n + 1) (2 + size)
+pub full_entry : (n used size : ℕ) → 4096 < used + size → with_entry (layout n used) size ≡ layout (n + 1) (2 + size)
 full_entry n used size lt = rw (lt-leb (used + size) 4096 lt) refl
 
-fit_entry : (n used size : ℕ) → used + size ≤ 4096 → with_entry (layout n used) size ≡ layout n (used + size)
+pub fit_entry : (n used size : ℕ) → used + size ≤ 4096 → with_entry (layout n used) size ≡ layout n (used + size)
 fit_entry n used size le = rw (le-leb (used + size) 4096 le) refl
 
-abbrev blocks_after : List Version → Layout → ℕ
+abbrev pub blocks_after : List Version → Layout → ℕ
 blocks_after rest s = (fold counting s rest).blocks + 1
 
-counted_laid : (n : ℕ) (b : Block) (rest : List Version) → blocks_after rest (layout n (block_size b)) ≡ n + length (laid b rest)
+pub counted_laid : (n : ℕ) (b : Block) (rest : List Version) → blocks_after rest (layout n (block_size b)) ≡ n + length (laid b rest)
 unfolding laid
 counted_laid n b [] = refl
 counted_laid n b (v ∷ rest) = elim (cases_lt 4096 (block_size b + entry_size v)) [

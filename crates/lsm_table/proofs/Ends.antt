@@ -20,16 +20,16 @@ use Rattle.lsm_table.proofs.Groups.{first_group_split}
 use Rattle.lsm_table.proofs.OneDivision.{more_is_too_much}
 use Rattle.lsm_table.proofs.Orders.{Before, apart_here}
 
-abbrev with_key : Bytes → Version → Bool
+abbrev pub with_key : Bytes → Version → Bool
 with_key key w = is_same_key key w.key
 
-group_length : (v : Version) (rest : List Version) → length (first_group (v ∷ rest)) ≡ 1 + prefix_len (with_key v.key) rest
+pub group_length : (v : Version) (rest : List Version) → length (first_group (v ∷ rest)) ≡ 1 + prefix_len (with_key v.key) rest
 group_length v rest = omega (arith, length-prefix_len (with_key v.key) rest)
 
 pub count-cons : (p : Version → Bool) (v : Version) (rest : List Version) → count_by p (v ∷ rest) ≡ cond (p v) 1 0 + count_by p rest
 count-cons p v rest = omega (arith, sum_by-append (λ x. cond (p x) 1 0) (v ∷ []) rest)
 
-prefix_counts : (p : Version → Bool) (xs : List Version) → prefix_len p xs ≤ count_by p xs
+pub prefix_counts : (p : Version → Bool) (xs : List Version) → prefix_len p xs ≤ count_by p xs
 prefix_counts p [] = omega arith
 prefix_counts p (v ∷ rest) = elim (p v) as (λ b. p v ≡ b → cond b (1 + prefix_len p rest) 0 ≤ count_by p (v ∷ rest)) [
   | true ↦ λ e. let c : count_by p (v ∷ rest) ≡ 1 + count_by p rest = count-cons p v rest ∙ ap (λ (b : Bool). cond b 1 0 + count_by p rest) e in omega (arith, prefix_counts p rest)

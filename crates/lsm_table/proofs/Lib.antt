@@ -3,6 +3,9 @@ pub mod Orders
 pub mod Blocks
 pub mod OneDivision
 pub mod Counts
+pub mod Adding
+pub mod Borders
+pub mod ByteCounts
 pub mod Ends
 pub mod Laying
 pub mod Tables
@@ -11,6 +14,7 @@ pub mod Searching
 pub mod Rising
 pub mod LastEdges
 pub mod Outlines
+pub mod TableCounts
 pub mod Reading
 pub mod Filters
 pub mod Deletes

@@ -5,6 +5,7 @@ pub mod BlockEdges
 pub mod Places
 pub mod Outlines
 pub mod Extents
+pub mod BlockCounts
 pub mod Stored
 pub mod Laws
 pub mod Items

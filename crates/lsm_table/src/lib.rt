@@ -19,5 +19,8 @@ pub use entries::Entries;
 pub use entry_place::EntryPlace;
 pub use entry_span::EntrySpan;
 pub use image::Image;
-pub use laws::{one_division_law, one_layout_law, outline_law, stored_law};
+pub use laws::{
+    block_law, byte_law, data_block_law, one_division_law, one_layout_law, outline_law, stored_law,
+    table_count_law,
+};
 pub use table::Table;

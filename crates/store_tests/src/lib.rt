@@ -10,6 +10,8 @@ mod letting_go;
 #[cfg(test)]
 mod reads;
 #[cfg(test)]
+mod rewriting;
+#[cfg(test)]
 mod stopping;
 #[cfg(test)]
 mod subject;

@@ -3,9 +3,10 @@
 
 use lsm_codec::{Batch, Guard, Op};
 use lsm_device::{MemDevice, Refusal};
+use lsm_merge::build;
 use lsm_open::format;
 use lsm_policy::Policy;
-use lsm_store::{At, Page, Store};
+use lsm_store::{At, Choice, Page, Store};
 use lsm_upkeep::{compact, compact_all, keep_up, settle};
 use lsm_walk::Walk;
 use std::alloc::Global;
@@ -156,6 +157,40 @@ impl Subject {
             *count = run.tables().len();
         }
         shape
+    }
+
+    /// How many tables the store tells that it has.
+    pub(crate) fn tables<R: Abort>(&self, rt: &R) -> usize {
+        self.store.stat().expect(rt, "numbers").tables
+    }
+
+    /// The numbers of the first and of the last table of a level from 1 to 4, of which it has one at least.
+    pub(crate) fn ends<R: Abort>(&self, rt: &R, level: usize) -> (u64, u64) {
+        let run = self.store.levels().deeper().get(level.wrapping_sub(1));
+        let tables = run.expect(rt, "a level").tables();
+        let first = tables.first().expect(rt, "a table").number();
+        (first, tables.last().expect(rt, "a table").number())
+    }
+
+    /// Writes tables of a level anew in their own place, from that of one number to that of another, of at most eight blocks together.
+    /// It tells the level above theirs, none where no job is given.
+    pub(crate) fn rewrite<R: Threads + Sync + Abort>(
+        &mut self,
+        rt: &R,
+        first: u64,
+        last: u64,
+    ) -> Option<usize> {
+        let choice = Choice::Rewrite { first, last };
+        let taken = self.store.job_take_of(choice).expect(rt, "an answer")?;
+        let job = taken.number;
+        let unread = self.store.job_read(job).expect(rt, "a read");
+        let input = self.store.job_input(job).expect(rt, "an input");
+        let built = build(rt, self.alloc, input, 1).expect(rt, "a result");
+        self.store.job_accept(job, &built).expect(rt, "room");
+        let unwritten = self.store.job_write(job).expect(rt, "a write");
+        assert!(rt; (unread, unwritten) == (0, 0), "{job}: blocks are left");
+        self.store.job_install(job).expect(rt, "an install");
+        taken.level
     }
 
     pub(crate) fn settle<R: Threads + Sync>(&mut self, rt: &R) {

@@ -30,7 +30,7 @@ const DOWN: [(u8, [u64; 3]); 3] = [
 ];
 
 /// A table in each of levels 3, 2 and 1, a run of level 0, and a put that waits for its flush.
-fn with_four_levels<R: Threads + Sync + Abort>(rt: &R, alloc: Global) -> Subject {
+pub(crate) fn with_four_levels<R: Threads + Sync + Abort>(rt: &R, alloc: Global) -> Subject {
     let mut store = begun(rt, alloc);
     for (key, limits) in DOWN {
         // Each run goes down, and of levels 1 to 3 those tables that are over these limits.

@@ -65,6 +65,82 @@ fn gives_back(heap: &LocalHeap, bytes: usize) -> Result<bool, Refusal> {
     Ok(stay && rest.is_some() && again && extents.free_blocks() == 4)
 }
 
+/// Whether an area has these gaps, each told as its first block and how many there are.
+fn has_gaps<A: Allocator>(extents: &Extents<A>, gaps: &[(u32, u32)]) -> bool {
+    let each = gaps.iter().enumerate().all(|(place, (first, blocks))| {
+        extents.gap(place)
+            == Some(Extent {
+                first: *first,
+                blocks: *blocks,
+            })
+    });
+    each && extents.gap_count() == gaps.len() && extents.gap(gaps.len()).is_none()
+}
+
+#[test]
+fn gaps_are_told_in_order(rt: HostRuntime) {
+    let mut extents = Extents::new(rt.alloc(), 20);
+    assert!(rt; has_gaps(&extents, &[(0, 20)]) && extents.longest_gap() == 20);
+    assert!(rt; claims(&mut extents, 5, 2, true) && claims(&mut extents, 10, 2, true));
+    assert!(rt; has_gaps(&extents, &[(0, 5), (7, 3), (12, 8)]) && extents.longest_gap() == 8);
+    assert!(rt; claims(&mut extents, 12, 8, true) && claims(&mut extents, 0, 4, true));
+    assert!(rt; has_gaps(&extents, &[(0, 0), (4, 1), (7, 3), (12, 0), (20, 0)]));
+    assert!(rt; extents.longest_gap() == 3);
+}
+
+#[test]
+fn what_surely_finds_room(rt: HostRuntime) {
+    let mut extents = Extents::new(rt.alloc(), 20);
+    assert!(rt;
+        extents.surely_places(20, 20)
+            && extents.surely_places(20, 1)
+            && !extents.surely_places(21, 7)
+    );
+    assert!(rt; claims(&mut extents, 5, 2, true) && claims(&mut extents, 10, 2, true));
+    // Gaps of 5, 3 and 8 blocks: a run of 4 begins at 2 + 0 + 5 of them, so 3 more are sure.
+    for (total, largest, sure) in [
+        (0, 4, true),
+        (10, 4, true),
+        (11, 4, false),
+        (16, 1, true),
+        (17, 1, false),
+        (8, 8, true),
+        (9, 8, false),
+        (1, 9, false), // No gap has as many.
+        (12, 3, true), // 3 + 1 + 6, and 2 more.
+        (13, 3, false),
+        (u64::MAX, u32::MAX, false),
+    ] {
+        assert!(rt;
+            extents.surely_places(total, largest) == sure,
+            "{total} {largest}"
+        );
+    }
+}
+
+/// Whether runs of these sizes are sure to find room, and each is taken at the first block beside it.
+fn are_taken<A: Allocator>(extents: &mut Extents<A>, runs: &[(u32, u32)]) -> bool {
+    let total: u64 = runs.iter().map(|(blocks, _)| u64::from(*blocks)).sum();
+    let largest = runs.iter().map(|(blocks, _)| *blocks).max();
+    if !extents.surely_places(total, largest.unwrap_or(0)) {
+        return false;
+    }
+    for (blocks, first) in runs {
+        if *blocks == 0 || !takes(extents, *blocks, Some(*first)) {
+            return false;
+        }
+    }
+    true
+}
+
+#[test]
+fn runs_that_surely_find_room_are_taken(rt: HostRuntime) {
+    let mut extents = Extents::new(rt.alloc(), 20);
+    assert!(rt; claims(&mut extents, 5, 2, true) && claims(&mut extents, 10, 2, true));
+    assert!(rt; are_taken(&mut extents, &[(3, 0), (4, 12), (1, 3), (2, 7)]));
+    assert!(rt; extents.free_blocks() == 6);
+}
+
 #[test]
 fn the_room_of_an_extent_is_used_again(rt: HostRuntime) {
     let heap = LocalHeap::new(rt.alloc(), 256).expect(&rt, "a heap");
