@@ -2,13 +2,14 @@
 
 ghost use Rattle.std.specs.Prelude.{◌≡◌, ◌∷◌, []};
 
-use lsm_codec::Entry;
+use lsm_codec::{Entry, Key};
 use lsm_device::{Device, MemDevice, Refusal};
+use lsm_extent::Extents;
 use lsm_jobs::{Slots, TakenJob};
 use lsm_levels::{Choice, Levels, PlacedTable, Run, is_run};
-use lsm_merge::Input;
+use lsm_merge::{Input, build_here};
 use lsm_table::Image;
-use merge_tests::input::input_of;
+use merge_tests::input::{input_of, key};
 use std::alloc::Global;
 use std::process::Abort;
 use table_tests::input::{entry, images_of};
@@ -98,6 +99,16 @@ fn cuts<R: Abort>(rt: &R, alloc: Global) -> Vec<u64>
     cuts
 }
 
+/// Keys of one byte each.
+fn keys_of<R: Abort>(rt: &R, alloc: Global, bytes: &[u8]) -> Vec<Key> {
+    let mut keys = Vec::new(alloc);
+    for byte in bytes {
+        let made = key(alloc, &[*byte]).expect(rt, "memory");
+        keys.push(made.expect(rt, "a key")).expect(rt, "memory");
+    }
+    keys
+}
+
 /// What a block is overwritten with.
 #[derive(Clone, Copy)]
 pub(crate) enum By {
@@ -163,6 +174,16 @@ impl Subject {
             By::Zeros => [0; 4_096],
         };
         write_block(rt, &mut self.device, first_block(3).wrapping_add(1), &block);
+    }
+
+    /// Accepts the result of the job, divided at these keys of one byte each, with tables that are numbered from 6 on. It answers
+    /// the number behind them, and how many blocks of an area of 100 are free then.
+    pub(crate) fn accept<R: Abort>(&mut self, rt: &R, keys: &[u8]) -> Result<(u64, u32), Refusal> {
+        let input = self.slots.input(1)?;
+        let built = build_here(self.alloc, input, keys_of(rt, self.alloc, keys))?;
+        let mut area = Extents::new(self.alloc, 100);
+        let next = self.slots.accept(&self.alloc, 1, &built, &mut area, 6)?;
+        Ok((next, area.free_blocks()))
     }
 
     /// Whether the input of the job is this.

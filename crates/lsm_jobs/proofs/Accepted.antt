@@ -15,14 +15,17 @@ use Rattle.lsm_extent.specs.declared.extent.Extent.{Extent}
 use Rattle.lsm_extent.specs.Area.{Area, is_held, handed_out, free_count, IsPartition}
 use Rattle.lsm_extent.proofs.ExtentLaws.{blocks-with}
 use Rattle.lsm_filter.specs.Bits.{filter_of}
-use Rattle.lsm_table.specs.Division.{TableBlocks, IsTables, entries_of, blocks}
+use Rattle.lsm_table.specs.Division.{TableBlocks, entries_of, blocks}
 use Rattle.lsm_table.specs.BlockEdges.{edges_of}
 use Rattle.lsm_table.specs.Extents.{extent_size, index_in_blocks, footer_in, keys_of}
 use Rattle.lsm_table.specs.Extents as laid
 use Rattle.lsm_table.proofs.Blocks.{only_blocks}
 use Rattle.lsm_table.proofs.Blocked.{length-in_pieces}
 use Rattle.lsm_table.proofs.Outlines.{edge_count}
+use Rattle.lsm_merge.specs.Divisions.{AreTables, AreTablesAt}
 use Rattle.lsm_merge.specs.Inputs.{MergeInput, kept_of}
+use Rattle.lsm_merge.specs.Results.{MergeResult}
+use Rattle.lsm_merge.proofs.DivisionLaws.{result_tables}
 use Rattle.lsm_levels.specs.Tables.{Table}
 use Rattle.lsm_jobs.specs.Slots.{Slot, Slots, slot_of}
 use Rattle.lsm_jobs.specs.Outputs.{IsTableOf, AreTablesOf, blocks_of, placed_blocks}
@@ -139,8 +142,8 @@ same_input b x y own given t is p q = sym p ∙ is.0 t ∙ q
 pub found_input : (job place : ℕ) (slots : Slots) (own given : MergeInput) → IsFrozenAt job slots place own → own ≡ given → HasInput given (slot_of job slots)
 found_input job place slots own given at same = subst (HasInput given) (sym at.at.is) (at.frozen, at.own ∙ same)
 
-pub kept_same : (own given : MergeInput) (images told : List TableBlocks) → own ≡ given → images ≡ told → IsTables (kept_of given) told → IsTables (kept_of own) images
-kept_same own given images told same list kept = subst (λ (i : MergeInput). IsTables (kept_of i) images) (sym same) (subst (IsTables (kept_of given)) (sym list) kept)
+pub kept_same : (own : MergeInput) (result : MergeResult) (images : List TableBlocks) → own ≡ result.input → images ≡ result.images → AreTablesAt result.divisions (kept_of result.input) result.images → AreTables (kept_of own) images
+kept_same own result images same list kept = subst (λ (i : MergeInput). AreTables (kept_of i) images) (sym same) (subst (AreTables (kept_of result.input)) (sym list) (result_tables result kept))
 
 -- why it is refused once the input is known
 pub refused_so : (next : ℕ) (input : MergeInput) (images told : List TableBlocks) (area : Area) (held : Option Slot) (refusal : Refusal) → HasInput input held → next + length images ≤ 2 ^ 63 + 1 → told ≡ images → (refusal ≡ NoSpace → FindNoRoom area told) → (refusal ≡ NoSpace) ⊎ (refusal ≡ NoMemory) → RefusesResult next input images area held refusal

@@ -12,9 +12,10 @@ use Rattle.lsm_codec.specs.Pairs.{Pairwise}
 use Rattle.lsm_codec.specs.Versions.{Version, newest, AreOrdered}
 use Rattle.lsm_codec.proofs.KeyOrder.{same_key, key_itself}
 use Rattle.lsm_codec.proofs.Lists.{all_right}
-use Rattle.lsm_table.specs.Division.{Block, TableBlocks, IsTables, ShareNoKey, entries_of}
+use Rattle.lsm_table.specs.Division.{Block, TableBlocks, ShareNoKey, entries_of}
 use Rattle.lsm_table.specs.BlockEdges.{last_edge, edges_of, last_key}
 use Rattle.lsm_table.proofs.Orders.{Before, befores, later_pairs, next_before, keys_rise}
+use Rattle.lsm_merge.specs.Divisions.{AreTables}
 use Rattle.lsm_merge.specs.Inputs.{MergeInput, joined, kept_of}
 use Rattle.lsm_merge.specs.Keeping.{keep}
 use Rattle.lsm_merge.specs.Laws.{IsKeptAt, KeepsMaps}
@@ -273,7 +274,7 @@ pub outputs_law : OutputsLaw
 outputs_law = record {
   accepted = λ job next_table input images area area_then old new a kept. record {
     images = images;
-    kept = subst (λ (i : MergeInput). IsTables (kept_of i) images) (sym a.own) kept;
+    kept = subst (λ (i : MergeInput). AreTables (kept_of i) images) (sym a.own) kept;
     placed = tables_of next_table area images a.tables a.placing.placed;
   };
   versions = made_versions;

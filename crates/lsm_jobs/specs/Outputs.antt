@@ -5,8 +5,9 @@ use Rattle.lsm_device.specs.Disk.{Write}
 use Rattle.lsm_device.specs.Runs.{run_at}
 pub use Rattle.lsm_device.specs.Runs.{pieces as in_sectors}
 use Rattle.lsm_table.specs.Division as division
-use Rattle.lsm_table.specs.Division.{TableBlocks, IsTable, IsTables}
+use Rattle.lsm_table.specs.Division.{TableBlocks, IsTable}
 use Rattle.lsm_table.specs.Extents.{extent_in_blocks, extent_size}
+use Rattle.lsm_merge.specs.Divisions.{AreTables}
 use Rattle.lsm_merge.specs.Inputs.{MergeInput, kept_of}
 use Rattle.lsm_levels.specs.Tables.{Table, table_of}
 
@@ -22,10 +23,10 @@ AreTablesOf (image ∷ images) (t ∷ tables) = IsTableOf image t × AreTablesOf
 AreTablesOf [] (t ∷ tables) = ⊥
 AreTablesOf (image ∷ images) [] = ⊥
 
--- Tables are those that a merge makes of this input.
+-- Tables are those that a merge makes of this input, wherever it is divided.
 pub record AreMadeOf (input : MergeInput) (tables : List Table) : Type 0 where
   pub images : List TableBlocks
-  pub kept : IsTables (kept_of input) images
+  pub kept : AreTables (kept_of input) images
   pub placed : AreTablesOf images tables
 
 -- the blocks of a table's extent: its data blocks, which its versions fill in order, filter, index and footer
@@ -65,7 +66,7 @@ pub record Placed : Type 0 where
 
 -- The images are those that a merge makes of the input, the tables are theirs, and so many of their blocks are written and left.
 pub record AreOutputsOf (input : MergeInput) (images : List TableBlocks) (tables : List Table) (written left : ℕ) : Type 0 where
-  pub kept : IsTables (kept_of input) images
+  pub kept : AreTables (kept_of input) images
   pub placed : AreTablesOf images tables
   pub counted : written + left ≡ length (placed_blocks tables)
   pub fits : written + left < 2 ^ 32

@@ -3,7 +3,7 @@
 ghost use Rattle.std.specs.Prelude.{◌≡◌, ◌≤◌, ◌+◌, ◌^◌, ◌⊎◌, length, IfOk, IfErr, OnOk, OnErr, Err};
 ghost use Rattle.std.specs.Arc.{arc_value};
 ghost use Rattle.lsm_device.specs.declared.refusal.Refusal.TheVariants.{NoMemory, NoSpace};
-ghost use Rattle.lsm_table.specs.Division.{IsTables};
+ghost use Rattle.lsm_merge.specs.Divisions.{AreTables};
 ghost use Rattle.lsm_merge.specs.Inputs.{kept_of};
 ghost use Rattle.lsm_jobs.specs.Slots.{slot_of};
 ghost use Rattle.lsm_jobs.specs.Holding.{IsFrozenAt};
@@ -32,7 +32,7 @@ fn outputs_of<A: Allocator + Clone>(
     number: u64,
     extents: &mut Extents<A>,
 ) -> Result<Outputs<A>, Refusal>
-    requires kept { IsTables (kept_of (arc_value input.now)) (arc_value images.now).items }
+    requires kept { AreTables (kept_of (arc_value input.now)) (arc_value images.now).items }
     requires numbers { number + length (arc_value images.now).items ≤ 2 ^ 63 + 1 }
     ensures placing { IfOk result (λ o. IsPlacing number (arc_value images.now).items extents.old extents.new o.tables) }
     ensures shown { IfOk result (λ o. (o.input ≡ arc_value input.now) × (o.left ≡ length (placed_blocks o.tables))) }

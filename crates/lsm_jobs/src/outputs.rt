@@ -4,7 +4,7 @@ ghost use Rattle.std.specs.Prelude.{◌≡◌, ◌<◌, ◌≤◌, ◌+◌, ◌-
 ghost use Rattle.std.specs.Arc.{arc_value};
 ghost use Rattle.std.specs.List.{AllByRecursion};
 ghost use Rattle.lsm_device.specs.Calls.{AtMost};
-ghost use Rattle.lsm_table.specs.Division.{IsTables};
+ghost use Rattle.lsm_merge.specs.Divisions.{AreTables};
 ghost use Rattle.lsm_merge.specs.Inputs.{kept_of};
 ghost use Rattle.lsm_jobs.specs.Outputs.{AreMadeOf, AreTablesOf, placed_blocks, place_in, EndsWithin, next_blocks};
 ghost use Rattle.lsm_jobs.specs.Writing.{WritesBlocks};
@@ -115,7 +115,7 @@ impl<A: Allocator> Outputs<A> {
         tables: Vec<PlacedTable<A>, A>,
         left: u32,
     ) -> Outputs<A>
-        requires kept { IsTables (kept_of (arc_value input)) (arc_value images).items }
+        requires kept { AreTables (kept_of (arc_value input)) (arc_value images).items }
         requires placed { AreTablesOf (arc_value images).items tables.items }
         requires left { left ≡ length (placed_blocks tables.items) }
         ensures { result ≡ record { input = arc_value input; tables = tables.items; left = left } }

@@ -10,7 +10,7 @@ use Rattle.lsm_store.specs.Calls.{Call, Reply}
 use Rattle.lsm_store.specs.Calls.{Handed}
 use Rattle.lsm_store.specs.Machine.{Worked}
 use Rattle.lsm_store.specs.Work.{Accept}
-use Rattle.lsm_table.specs.Division.{IsTables}
+use Rattle.lsm_merge.specs.Divisions.{AreTablesAt}
 use Rattle.lsm_trail.specs.Begins.{Begin}
 use Rattle.lsm_trail.specs.History.{Event, lent_to, handed, inputs_of, input_of, IsMadeOf, IsNextNumber, TakesResult, AreNumbered, IsLegal, entries_by}
 use Rattle.lsm_trail.specs.Knowledge.{SessionId, Known}
@@ -62,7 +62,7 @@ lent_found inputs (x ∷ log) e input (next, takes, rest) lent found = ⊎_elim
     (first_or x log e found)
 
 -- so an accept may take what was built of it
-pub may_take : (b : Begin) (log : List Event) (number job result : ℕ) (mine : List Event) (made : MergeResult) → IsLegal b log → entries_by number log ≡ mine → WasLent mine job result made.input → IsTables (kept_of made.input) made.images
+pub may_take : (b : Begin) (log : List Event) (number job result : ℕ) (mine : List Event) (made : MergeResult) → IsLegal b log → entries_by number log ≡ mine → WasLent mine job result made.input → AreTablesAt made.divisions (kept_of made.input) made.images
     → TakesResult (inputs_of log) (Worked (Accept job (Some made))) result
 may_take b log number job result mine made legal own lent tables =
     let e = lent_to lent.client job made.input result lent.machine in
@@ -70,7 +70,7 @@ may_take b log number job result mine made legal own lent tables =
     subst (λ (o : Option MergeInput). IsMadeOf o (Some made)) (sym (lent_found [] log e made.input legal.numbered refl found)) (refl, tables)
 
 -- the same where the parts of the session are known
-pub may_take_was : (id : SessionId) (store : StoreView) (log : List Event) (old : SessionView) (c : Known) → record { store = store; log = log } ≡ old → IsLegal id.begin log → HasSeen id old c → {job result : ℕ} {made : MergeResult} → WasLent c.mine job result made.input → IsTables (kept_of made.input) made.images
+pub may_take_was : (id : SessionId) (store : StoreView) (log : List Event) (old : SessionView) (c : Known) → record { store = store; log = log } ≡ old → IsLegal id.begin log → HasSeen id old c → {job result : ℕ} {made : MergeResult} → WasLent c.mine job result made.input → AreTablesAt made.divisions (kept_of made.input) made.images
     → TakesResult (inputs_of log) (Worked (Accept job (Some made))) result
 may_take_was id store log old c was legal seen {job} {result} {made} lent tables =
     may_take id.begin log c.number job result c.mine made legal (ap (λ (v : SessionView). entries_by c.number v.log) was ∙ seen.finds.knows.own) lent tables

@@ -3,7 +3,7 @@ ghost use Rattle.std.specs.Prelude.{◌≡◌, ◌≢◌, ◌∷◌, ℕ, [], So
 ghost use Rattle.lsm_device.specs.declared.refusal.Refusal.TheVariants.{NoMemory};
 ghost use Rattle.std.specs.Arc.{arc_value};
 ghost use Rattle.lsm_merge.specs.Inputs.{kept_of};
-ghost use Rattle.lsm_table.specs.Division.{IsTables};
+ghost use Rattle.lsm_merge.specs.Divisions.{AreTablesAt};
 ghost use Rattle.lsm_lives.specs.Calls.{told_of};
 ghost use Rattle.lsm_store.specs.Backing.{machine_of};
 ghost use Rattle.lsm_store.specs.Calls.{Given, Handed, Refused};
@@ -390,9 +390,9 @@ fn is_without_room<A: Allocator>(reply: &Reply<A>) -> bool
     matches!(reply, Reply::Refused(Refusal::NoSpace))
 }
 
-// What was built are the tables that a merge makes of its input.
+// What was built are the tables that a merge makes of its input, divided at its keys.
 fn are_tables<A: Allocator>(built: &Built<A>)
-    ensures { IsTables (kept_of built.now.input) built.now.images }
+    ensures { AreTablesAt built.now.divisions (kept_of built.now.input) built.now.images }
 {
     let _images = built.images();
 }

@@ -6,9 +6,10 @@ use Rattle.lsm_device.specs.declared.refusal.Refusal.{Refusal}
 use Rattle.lsm_device.specs.declared.refusal.Refusal.TheVariants.{NoMemory, NoSpace}
 use Rattle.lsm_extent.specs.Area.{Area}
 use Rattle.lsm_cache.specs.Recency.{Cached}
-use Rattle.lsm_table.specs.Division.{IsTables}
+use Rattle.lsm_merge.specs.Divisions.{AreTablesAt}
 use Rattle.lsm_merge.specs.Inputs.{kept_of}
 use Rattle.lsm_merge.specs.Results.{MergeResult}
+use Rattle.lsm_merge.proofs.DivisionLaws.{result_tables}
 use Rattle.lsm_levels.specs.Tables.{Table}
 use Rattle.lsm_jobs.specs.Placing.{IsAccepted}
 use Rattle.lsm_jobs.specs.Refusing.{RefusesResult}
@@ -91,7 +92,7 @@ module _ {A : Type 0} (m : Memory A) (medium : Medium) (cache : Cached) (running
 
   -- ---- its tables were placed
 
-  module _ (js : JobSlots) (area : Area) (is : IsAccepted job m.next_table result.input result.images m.extents area m.jobs js) (whole : IsTables (kept_of result.input) result.images) where
+  module _ (js : JobSlots) (area : Area) (is : IsAccepted job m.next_table result.input result.images m.extents area m.jobs js) (divided : AreTablesAt result.divisions (kept_of result.input) result.images) where
     none : running_refusal w piece ≡ None
     none = (accept_answers w job result).unrefused area js is
 
@@ -100,7 +101,7 @@ module _ {A : Type 0} (m : Memory A) (medium : Medium) (cache : Cached) (running
     is_served runs slot new found placed =
         let one : is.slot ≡ slot = same_slot is.slot slot (sym is.found ∙ found) in
         let tables : is.tables ≡ new = same_tables is.tables new (sym (all_placed m.next_table m.extents result.images is.tables is.placing.placed) ∙ placed) in
-        let made = outputs_law.accepted job m.next_table result.input result.images m.extents area m.jobs js is whole in
+        let made = outputs_law.accepted job m.next_table result.input result.images m.extents area m.jobs js is (result_tables result divided) in
         subst (λ (s : Slot). MayBePutIn s.job s.input new) one
         (subst (MayBePutIn is.slot.job is.slot.input) tables (served v runs job is.slot is.found is.tables made))
 
@@ -109,7 +110,7 @@ module _ {A : Type 0} (m : Memory A) (medium : Medium) (cache : Cached) (running
     now = record is.slot { stage = Writing is.tables (length (placed_blocks is.tables)) }
 
     made : AreMadeOf is.slot.input is.tables
-    made = outputs_law.accepted job m.next_table result.input result.images m.extents area m.jobs js is whole
+    made = outputs_law.accepted job m.next_table result.input result.images m.extents area m.jobs js is (result_tables result divided)
 
     -- ---- the device carries what is placed now
 

@@ -5,9 +5,10 @@ use Rattle.lsm_device.specs.declared.refusal.Refusal.{Refusal}
 use Rattle.lsm_device.specs.declared.refusal.Refusal.TheVariants.{NoMemory, Io, NoSpace}
 use Rattle.lsm_device.specs.Medium.{Medium}
 use Rattle.lsm_extent.specs.Area.{Area}
+use Rattle.lsm_merge.specs.Divisions.{AreTables}
 use Rattle.lsm_merge.specs.Inputs.{MergeInput, IsCuts, kept_of}
 use Rattle.lsm_merge.specs.Results.{MergeResult}
-use Rattle.lsm_table.specs.Division.{TableBlocks, IsTables}
+use Rattle.lsm_table.specs.Division.{TableBlocks}
 use Rattle.lsm_levels.specs.Tables.{Table, versions_of}
 use Rattle.lsm_jobs.specs.Slots.{JobSlots}
 use Rattle.lsm_jobs.specs.Reading.{JobReadsOn}
@@ -27,9 +28,9 @@ pub record PlacingLaw : Type 0 where
   pub placed : (number : ℕ) (area : Area) (images : List TableBlocks) (tables : List Table) → ArePlaced number area images tables → place_all number area images ≡ Some tables
   pub none : (number : ℕ) (area : Area) (images : List TableBlocks) → FindNoRoom area images → place_all number area images ≡ None
 
--- The tables that are placed of a result have just the versions that its merge keeps.
+-- The tables that are placed of a result have just the versions that its merge keeps, wherever it is divided.
 abbrev pub PlacedVersionsLaw : Type 0
-PlacedVersionsLaw = (number : ℕ) (area : Area) (result : MergeResult) (tables : List Table) → IsTables (kept_of result.input) result.images → place_all number area result.images ≡ Some tables → versions_of tables ≡ kept_of result.input
+PlacedVersionsLaw = (number : ℕ) (area : Area) (result : MergeResult) (tables : List Table) → AreTables (kept_of result.input) result.images → place_all number area result.images ≡ Some tables → versions_of tables ≡ kept_of result.input
 
 -- a piece of work is refused so: by the refusal that decides, or where none does by another
 abbrev pub IsRefusedOr : Refusal → Machine → Work → Refusal → Type 0

@@ -19,7 +19,7 @@ use Rattle.lsm_trail.specs.History.{is_lent}
 
 -- an input with no tables, and none at all
 abbrev pub lent : MergeInput → MergeResult
-lent input = record { input = input; images = [] }
+lent input = record { input = input; divisions = []; images = [] }
 
 abbrev pub no_result : MergeResult
 no_result = lent (record { runs = []; cuts = []; bottom = false })

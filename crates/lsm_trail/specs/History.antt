@@ -3,7 +3,7 @@ use Rattle.std.specs.Prelude.{◌≡◌, ◌≢◌, ℕ, zero, suc, ◌+◌, ◌
 use Rattle.lsm_device.specs.declared.refusal.Refusal.TheVariants.{NoMemory}
 use Rattle.lsm_merge.specs.Inputs.{MergeInput, kept_of}
 use Rattle.lsm_merge.specs.Results.{MergeResult}
-use Rattle.lsm_table.specs.Division.{IsTables}
+use Rattle.lsm_merge.specs.Divisions.{AreTablesAt}
 use Rattle.lsm_store.specs.RecoveryPoints.{batch_count}
 use Rattle.lsm_store.specs.State.{State}
 use Rattle.lsm_store.specs.Backing.{IsBacked}
@@ -85,9 +85,9 @@ abbrev pub input_of : ℕ → List MergeInput → Option MergeInput
 input_of zero inputs = None
 input_of (suc n) inputs = slice_get inputs n
 
--- the tables that a merge makes of this input
+-- the tables that a merge makes of this input, divided at the keys of the result
 abbrev pub IsMadeOf : Option MergeInput → Option MergeResult → Type 0
-IsMadeOf (Some input) (Some made) = (made.input ≡ input) × IsTables (kept_of made.input) made.images
+IsMadeOf (Some input) (Some made) = (made.input ≡ input) × AreTablesAt made.divisions (kept_of made.input) made.images
 IsMadeOf input made = ⊥
 
 -- a build has the next number

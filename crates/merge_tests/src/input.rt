@@ -5,7 +5,7 @@ ghost use Rattle.lsm_codec.specs.Versions.{entry_order, AreOrdered};
 ghost use Rattle.lsm_merge.specs.Inputs.{AreRuns, IsCuts, items_of, is_below_first, is_ascending};
 ghost use Rattle.lsm_merge.proofs.OrderTests.{is_before, is_in_order};
 
-use lsm_codec::{Entry, VersionRef};
+use lsm_codec::{Entry, Key, VersionRef};
 use lsm_merge::Input;
 use std::alloc::{AllocError, Allocator};
 use std::cmp::Ordering;
@@ -112,4 +112,12 @@ pub fn entry<A: Allocator + Clone>(
         return Ok(None);
     }
     Ok(Some(Entry::from_ref(alloc, VersionRef { key, number, value })?))
+}
+
+/// A key, or none where it is empty or has more than 255 bytes.
+pub fn key<A: Allocator>(alloc: A, bytes: &[u8]) -> Result<Option<Key<A>>, AllocError> {
+    if !(1..=255).contains(&bytes.len()) {
+        return Ok(None);
+    }
+    Ok(Some(Key::from_slice(alloc, bytes)?))
 }

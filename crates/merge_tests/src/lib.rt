@@ -4,6 +4,8 @@
 pub mod budget;
 #[cfg(test)]
 mod cases;
+#[cfg(test)]
+mod divisions;
 pub mod input;
 #[cfg(test)]
 mod many;

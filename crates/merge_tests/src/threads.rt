@@ -24,7 +24,7 @@ fn large_run<R: Abort, A: Allocator + Copy>(rt: &R, alloc: A, number: u64) -> Ve
 }
 
 /// Two such runs, of which two tables are kept.
-fn large<R: Abort, A: Allocator + Copy>(rt: &R, alloc: A) -> Input<A> {
+pub(crate) fn large<R: Abort, A: Allocator + Copy>(rt: &R, alloc: A) -> Input<A> {
     let mut runs = Vec::new(alloc);
     runs.push(large_run(rt, alloc, 2)).expect(rt, "memory");
     runs.push(large_run(rt, alloc, 1)).expect(rt, "memory");
@@ -33,7 +33,7 @@ fn large<R: Abort, A: Allocator + Copy>(rt: &R, alloc: A) -> Input<A> {
 }
 
 /// Whether both images have the same blocks under number 1.
-fn is_same_image<A: Allocator>(image: &Image<A>, other: &Image<A>) -> bool {
+pub(crate) fn is_same_image<A: Allocator>(image: &Image<A>, other: &Image<A>) -> bool {
     let blocks = image.extent_blocks();
     if other.extent_blocks() != blocks {
         return false;
@@ -87,7 +87,7 @@ fn any_number_of_parts_gives_the_same_bytes(rt: HostRuntime) {
 }
 
 /// An allocator that each thread may use, which may refuse.
-type Lent<'h> = &'h Budget<Global>;
+pub(crate) type Lent<'h> = &'h Budget<Global>;
 
 /// Lets a part on once each of three was seen to come, or after a thousand million turns, and has memory given from then on.
 #[derive(Drop)]

@@ -16,7 +16,7 @@ returns-then-count-next_table-clause-refused g c =
 pub outputs_of-requires-clause-kept : goal.outputs_of-requires-clause-kept
 outputs_of-requires-clause-kept g c =
     let same = same_input c.is_same.result c.deref.result.now c.input.result.now (arc_value c.in_ok-place.input.now) c.args.built.now.input c.if-not-is_same.false c.is_same.ensures c.deref.ensures c.input.ensures in
-    kept_same (arc_value c.in_ok-place.input.now) c.args.built.now.input (arc_value c.images-images.result.now).items c.args.built.now.images same c.images-images.ensures.same c.images-images.ensures.kept
+    kept_same (arc_value c.in_ok-place.input.now) c.args.built.now (arc_value c.images-images.result.now).items same c.images-images.ensures.same c.images-images.ensures.kept
 
 pub returns-in_err-outputs-clause-refused : goal.returns-in_err-outputs-clause-refused
 returns-in_err-outputs-clause-refused g c =
