@@ -13,4 +13,4 @@ entries_small versions v there entry = omega (arith, entry.key.1, entry.value)
 
 -- and of an image
 pub image_small : (entries : List Version) → AreAtMost (largest_entry entries) entries
-image_small entries v there entry = of_all entries (none_larger entries) v there
+image_small entries v there entry = of_all (λ w. entry_size w ≤ largest_entry entries) entries (none_larger entries) v there
