@@ -1,5 +1,5 @@
 -- How many bytes entries take at most.
-use Rattle.std.proofs.Common.{ℕ, ◌≤◌, List, arith}
+use Rattle.std.proofs.Common.{◌≤◌, List, arith}
 use Rattle.lsm_codec.specs.Versions.{Version}
 use Rattle.lsm_codec.specs.Entries.{entry_size}
 use Rattle.lsm_table.specs.Sizes.{largest_entry}
