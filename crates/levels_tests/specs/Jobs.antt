@@ -4,7 +4,7 @@ use Rattle.lsm_levels.specs.Tables.{Table, table_at}
 use Rattle.lsm_levels.specs.Pick.{Job}
 use Rattle.lsm_levels.specs.Pick as job
 use Rattle.levels_tests.specs.declared.jobs.Slots.{Slots}
-use Rattle.levels_tests.specs.declared.jobs.Slots.TheVariants.{Free, Flush, Merge, Several}
+use Rattle.levels_tests.specs.declared.jobs.Slots.TheVariants.{Free, Flush, Merge, Several, Rewrite}
 
 abbrev table : ℕ → Table
 table number = table_at (record { number = number; entries = 0; first = []; edges = []; filter = [] }) 0 0 []
@@ -19,3 +19,4 @@ jobs_of Free = []
 jobs_of Flush = job.Flush ∷ []
 jobs_of (Merge level number) = merge_of_table level number ∷ []
 jobs_of Several = job.Merge 1 (table 90 ∷ table 91 ∷ []) [] ∷ []
+jobs_of Rewrite = job.Merge 1 [] (table 90 ∷ []) ∷ []

@@ -13,6 +13,8 @@ pub enum Slots {
     Merge { level: u8, table: u64 },
     /// A merge of the tables 90 and 91 of level 1.
     Several,
+    /// A rewrite of the table 90 of level 2.
+    Rewrite,
 }
 
 impl HeldJobs for Slots {
@@ -26,7 +28,7 @@ impl HeldJobs for Slots {
 
     fn has_level_0(&self) -> bool {
         match self {
-            Slots::Free | Slots::Flush | Slots::Several => false,
+            Slots::Free | Slots::Flush | Slots::Several | Slots::Rewrite => false,
             Slots::Merge { level, table: _ } => *level == 0,
         }
     }
@@ -34,12 +36,12 @@ impl HeldJobs for Slots {
     fn has_merge(&self) -> bool {
         match self {
             Slots::Free | Slots::Flush => false,
-            Slots::Merge { level: _, table: _ } | Slots::Several => true,
+            Slots::Merge { level: _, table: _ } | Slots::Several | Slots::Rewrite => true,
         }
     }
 
     fn has_several(&self) -> bool {
-        matches!(self, Slots::Several)
+        matches!(self, Slots::Several | Slots::Rewrite)
     }
 
     fn takes_in(&self, number: u64) -> bool {
@@ -47,6 +49,7 @@ impl HeldJobs for Slots {
             Slots::Free | Slots::Flush => false,
             Slots::Merge { level: _, table } => *table == number,
             Slots::Several => number == 90 || number == 91,
+            Slots::Rewrite => number == 90,
         }
     }
 }

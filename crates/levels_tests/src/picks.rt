@@ -1,7 +1,7 @@
 //! Which job comes next, and which may be chosen.
 
-use self::Asked::{Next, Runs, Tables, Waiting};
-use self::Wanted::{Flush, Merge, Nothing};
+use self::Asked::{Anew, Next, Runs, Tables, Waiting};
+use self::Wanted::{Flush, Merge, Nothing, Rewrite};
 use crate::jobs::Slots;
 use crate::tables::{Put, have_numbers, levels_of, runs_have_numbers};
 use lsm_levels::{Choice, Levels, Pick};
@@ -18,14 +18,18 @@ enum Asked {
     Runs(usize),
     /// That of the tables from one to another.
     Tables(u64, u64),
+    /// The rewrite of the tables from one to another.
+    Anew(u64, u64),
 }
 
-/// A job that is wanted: a flush, or a merge of a level with the numbers of its upper and lower tables.
+/// A job that is wanted: a flush, a merge of a level with the numbers of its upper and lower tables, or a rewrite of the level below
+/// one with the numbers of its tables.
 #[derive(Clone, Copy)]
 enum Wanted<'a> {
     Nothing,
     Flush,
     Merge(usize, &'a [u64], &'a [u64]),
+    Rewrite(usize, &'a [u64]),
 }
 
 /// What is asked where slots are held so, and the job that is wanted.
@@ -61,6 +65,9 @@ fn is_wanted(job: &Pick<'_>, wanted: Wanted<'_>) -> bool {
             },
             Merge(from, above, below),
         ) => *level == from && have_numbers(upper, above) && have_numbers(lower, below),
+        (Pick::Rewrite { above, tables }, Rewrite(from, numbers)) => {
+            *above == from && have_numbers(tables, numbers)
+        }
         _ => false,
     }
 }
@@ -72,6 +79,7 @@ fn answer(levels: &Levels, asked: Asked, held: Slots) -> Option<Pick<'_>> {
         Waiting => levels.pick(true, &held),
         Runs(count) => levels.choose(Choice::OldestRuns { count }, &held),
         Tables(first, last) => levels.choose(Choice::Tables { first, last }, &held),
+        Anew(first, last) => levels.choose(Choice::Rewrite { first, last }, &held),
     }
 }
 
@@ -121,6 +129,9 @@ const FOUR: Shape = (
         // A merge of several tables bars all but a flush.
         (Next, Slots::Several, Nothing),
         (Waiting, Slots::Several, Flush),
+        // And so does a rewrite.
+        (Next, Slots::Rewrite, Nothing),
+        (Waiting, Slots::Rewrite, Flush),
     ],
 );
 
@@ -227,9 +238,45 @@ const FIVE: Shape = (
     ],
 );
 
+/// A run of level 0, and tables in each other level.
+const ALL_LEVELS: Shape = (
+    &[&[(2, 0x61)]],
+    &[
+        &[(5, 0x61), (4, 0x62), (7, 0x63)],
+        &[(6, 0x62), (8, 0x63)],
+        &[(10, 0x61)],
+        &[(12, 0x60), (13, 0x62), (14, 0x64)],
+    ],
+    &[
+        // A table of each level from 1 to 4, without what it meets in the next.
+        (Anew(4, 4), Slots::Free, Rewrite(0, &[4])),
+        (Anew(8, 8), Slots::Free, Rewrite(1, &[8])),
+        (Anew(10, 10), Slots::Free, Rewrite(2, &[10])),
+        (Anew(12, 12), Slots::Free, Rewrite(3, &[12])),
+        // Neighbours from one to another with those between.
+        (Anew(5, 7), Slots::Free, Rewrite(0, &[5, 4, 7])),
+        (Anew(6, 8), Slots::Free, Rewrite(1, &[6, 8])),
+        (Anew(12, 14), Slots::Free, Rewrite(3, &[12, 13, 14])),
+        (Anew(4, 7), Slots::Flush, Rewrite(0, &[4, 7])),
+        // From behind to before, over two levels, a table of level 0, and none.
+        (Anew(7, 5), Slots::Free, Nothing),
+        (Anew(5, 8), Slots::Free, Nothing),
+        (Anew(2, 2), Slots::Free, Nothing),
+        (Anew(1, 1), Slots::Free, Nothing),
+        // It stands beside no merge, whatever that takes in, and no merge beside it.
+        (Anew(4, 4), TAKES_23, Nothing),
+        (Anew(12, 12), OF_LEVEL_0, Nothing),
+        (Anew(4, 4), OF_LEVEL_3, Nothing),
+        (Anew(4, 4), Slots::Several, Nothing),
+        (Anew(4, 4), Slots::Rewrite, Nothing),
+        (Tables(5, 5), Slots::Rewrite, Nothing),
+        (Runs(1), Slots::Rewrite, Nothing),
+    ],
+);
+
 #[test]
 fn jobs_of_small_levels(rt: HostRuntime) {
-    for (runs, deeper, cases) in [FOUR, THREE, WIDE, ALONE, NEIGHBOURS, FIVE] {
+    for (runs, deeper, cases) in [FOUR, THREE, WIDE, ALONE, NEIGHBOURS, FIVE, ALL_LEVELS] {
         let levels = levels_of(&rt, rt.alloc(), runs, deeper);
         for case in cases {
             assert!(rt; is_answered(&levels, *case), "{runs:?} {:?}", case.0);

@@ -10,6 +10,8 @@ pub mod Surviving
 pub mod PickLaws
 pub mod ChoiceLaws
 pub mod LevelVersions
+pub mod PlaceOrders
+pub mod Rewriting
 pub mod Taking
 pub mod Moving
 pub mod Parts

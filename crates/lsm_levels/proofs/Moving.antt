@@ -3,8 +3,8 @@ use Rattle.std.proofs.Common.{◌≡◌, ⊎_elim, ℕ, zero, suc, ◌+◌, ◌<
 use Rattle.std.specs.List.{AllByRecursion}
 use Rattle.std.proofs.lemmas.List.{length-append, get_or-set_other}
 use Rattle.std.proofs.lemmas.List.Elements.{filter-append}
-use Rattle.lsm_levels.specs.Tables.{Table, KeyRange, at_most, is_below, hull, meets, meeting, put_at, IsRun}
-use Rattle.lsm_levels.specs.Levels.{Levels, all_tables, level, places, newer_runs, merged_at, replaced}
+use Rattle.lsm_levels.specs.Tables.{Table, KeyRange, at_most, is_below, meets, meeting, put_at, IsRun}
+use Rattle.lsm_levels.specs.Levels.{Levels, all_tables, level, places, newer_runs, merged_at, replaced, reach}
 use Rattle.lsm_levels.specs.Pick.{Flush, Merge}
 use Rattle.lsm_levels.specs.Held.{AreRuns, AreOldest, HasItsTables}
 use Rattle.lsm_levels.specs.Moving.{MovingLaw, LowerLaw}
@@ -143,12 +143,29 @@ length_set (x ∷ xs) (suc i) y = ap suc (length_set xs i y)
 each_own : (run : List Table) → IsRun run → AllByRecursion (λ t. at_most t.first t.last ≡ true) run
 each_own run r = all_of (λ t. at_most t.first t.last ≡ true) run (run_order run r)
 
-module _ (levels : Levels) (runs : AreRuns levels) (flag : Bool) (upper lower new : List Table) where
-  module _ (p : Table → Bool) where
-    abbrev Moved : Levels → Type 0
-    Moved after = length (filter p (all_tables (places after))) + length (filter p (upper ++ lower)) ≡ length (filter p (all_tables (places levels))) + length (filter p new)
+-- how many pass a test
+abbrev Moved : Levels → List Table → List Table → (Table → Bool) → Levels → Type 0
+Moved levels tables new p after = length (filter p (all_tables (places after))) + length (filter p tables) ≡ length (filter p (all_tables (places levels))) + length (filter p new)
 
-    moved : (i : ℕ) (h : HasItsTables levels flag i upper lower) → Moved (replaced i h.range (length upper) new levels)
+module _ (levels : Levels) (runs : AreRuns levels) (flag : Bool) (lower new : List Table) (p : Table → Bool) where
+  rewritten : (i : ℕ) (h : HasItsTables levels flag i [] lower) → Moved levels lower new p (replaced i h.range 0 new levels)
+  rewritten i h =
+      let below = get_or levels.deeper i [] in
+      let put = put_at h.range new below in
+      omega (
+        arith,
+        count_places p levels.runs (set levels.deeper i put),
+        count_places p levels.runs levels.deeper,
+        count_set p levels.deeper i put (omega (arith, runs.four, h.known)),
+        count_put p h.range (upper_order levels flag i [] lower runs h) new below (each_own below (run_at levels runs i)),
+        ap (λ (l : List Table). length (filter p l)) (lower_met levels runs flag i [] lower h),
+      )
+
+  module _ (first : Table) (others : List Table) where
+    abbrev upper : List Table
+    upper = first ∷ others
+
+    moved : (i : ℕ) (h : HasItsTables levels flag i upper lower) → Moved levels (upper ++ lower) new p (replaced i h.range (length upper) new levels)
     moved zero h =
         let r = h.range in
         let below = get_or levels.deeper 0 [] in
@@ -189,10 +206,16 @@ module _ (levels : Levels) (runs : AreRuns levels) (flag : Bool) (upper lower ne
           count_append p upper lower,
         )
 
-  -- no run is added
-  kept_runs : (i : ℕ) (r : KeyRange) → length (replaced i r (length upper) new levels).runs ≤ length levels.runs + 0
-  kept_runs zero r = omega (arith, newer_few (length upper) levels.runs)
-  kept_runs (suc i) r = omega arith
+all_moved : (levels : Levels) → AreRuns levels → (flag : Bool) (i : ℕ) (upper lower new : List Table) (h : HasItsTables levels flag i upper lower) (p : Table → Bool)
+    → Moved levels (upper ++ lower) new p (replaced i h.range (length upper) new levels)
+all_moved levels runs flag i [] lower new h p = rewritten levels runs flag lower new p i h
+all_moved levels runs flag i (first ∷ others) lower new h p = moved levels runs flag lower new p first others i h
+
+-- no run is added
+kept_runs : (levels : Levels) (tables : ℕ) (new : List Table) (i : ℕ) (r : KeyRange) → length (replaced i r tables new levels).runs ≤ length levels.runs + 0
+kept_runs levels zero new i r = omega arith
+kept_runs levels (suc n) new zero r = omega (arith, newer_few (suc n) levels.runs)
+kept_runs levels (suc n) new (suc i) r = omega arith
 
 -- the tables in all
 all_pass : (xs : List Table) → length (filter (λ t. true) xs) ≡ length xs
@@ -206,10 +229,10 @@ moving_law levels flag Flush new runs h = record {
   runs = omega arith;
 }
 moving_law levels flag (Merge i upper lower) new runs h =
-    let counted : (test : Table → Bool) → Moved levels runs flag upper lower new test (merged_at i (hull upper) (length upper) new levels) =
-    λ test. subst (λ (o : Option KeyRange). Moved levels runs flag upper lower new test (merged_at i o (length upper) new levels)) (sym h.hull_is) (moved levels runs flag upper lower new test i h) in
+    let counted : (test : Table → Bool) → Moved levels (upper ++ lower) new test (merged_at i (reach upper lower) (length upper) new levels) =
+    λ test. subst (λ (o : Option KeyRange). Moved levels (upper ++ lower) new test (merged_at i o (length upper) new levels)) (sym h.hull_is) (all_moved levels runs flag i upper lower new h test) in
     record {
       passed = counted;
-      number = omega (arith, counted (λ t. true), all_pass (all_tables (places (merged_at i (hull upper) (length upper) new levels))), all_pass (upper ++ lower), all_pass (all_tables (places levels)), all_pass new);
-      runs = subst (λ (o : Option KeyRange). length (merged_at i o (length upper) new levels).runs ≤ length levels.runs + 0) (sym h.hull_is) (kept_runs levels runs flag upper lower new i h.range);
+      number = omega (arith, counted (λ t. true), all_pass (all_tables (places (merged_at i (reach upper lower) (length upper) new levels))), all_pass (upper ++ lower), all_pass (all_tables (places levels)), all_pass new);
+      runs = subst (λ (o : Option KeyRange). length (merged_at i o (length upper) new levels).runs ≤ length levels.runs + 0) (sym h.hull_is) (kept_runs levels (length upper) new i h.range);
     }

@@ -1,13 +1,13 @@
 -- A job that is picked has its tables, and no other job has them as input.
-use Rattle.std.proofs.Common.{◌≡◌, ◌≢◌, inl, inr, ⊎_elim, ℕ, zero, suc, ◌<◌, ◌≤◌, Bool, true, false, cond, not, ◌&&◌, ◌==◌, leb, ltb, List, [], ◌∷◌, ◌++◌, length, get_or, filter, sum_by, Option, Some, None, option_map, refl, sym, ap, ◌∙◌, subst, arith}
-use Rattle.std.proofs.lemmas.Bool.{leb-true, eq-eqb}
+use Rattle.std.proofs.Common.{◌≡◌, ◌≢◌, inl, inr, ⊎_elim, ℕ, zero, suc, ◌<◌, ◌≤◌, Bool, true, false, cond, not, ◌&&◌, ◌||◌, ◌==◌, leb, ltb, List, [], ◌∷◌, ◌++◌, length, get_or, filter, sum_by, Option, Some, None, option_map, refl, sym, ap, ◌∙◌, subst, arith}
+use Rattle.std.proofs.lemmas.Bool.{leb-true, eq-eqb, ne_eqb}
 use Rattle.std.specs.List.{list_any, list_all}
 use Rattle.lsm_levels.specs.Among.{IsAmong}
 use Rattle.lsm_levels.proofs.Members.{among_left, among_right, among_either, among_passed, passed_among, any_of}
 use Rattle.lsm_levels.specs.Tables.{Table, KeyRange, range_of, spanned, hull, meets, meeting, IsRun}
-use Rattle.lsm_levels.specs.Levels.{Levels, all_tables, level, oldest_runs}
-use Rattle.lsm_levels.specs.Pick.{Job, Flush, inputs, is_flush, is_merge, is_several, are_several, is_of_level_0, is_input, is_free, lower_of, can_merge, merge_of, least_numbered, lesser, flush_job, level_0_job, is_mostly_deletes, least_job, delete_job, level_job, limit_of, or_next, of_least_level, next_merge, pick, below_output, meets_none, is_bottom}
-use Rattle.lsm_levels.specs.Held.{AreRuns, IsUpper, HasItsTables, AreApart, MayTake, PickLaw}
+use Rattle.lsm_levels.specs.Levels.{Levels, all_tables, level, oldest_runs, reach}
+use Rattle.lsm_levels.specs.Pick.{Job, Flush, Merge, inputs, is_flush, is_merge, is_several, are_several, is_of_level_0, is_input, is_free, lower_of, can_merge, merge_of, least_numbered, lesser, flush_job, level_0_job, is_mostly_deletes, least_job, delete_job, level_job, limit_of, or_next, of_least_level, next_merge, pick, below_output, meets_none, is_bottom}
+use Rattle.lsm_levels.specs.Held.{AreRuns, AreOldest, IsUpper, HasItsTables, AreApart, MayTake, PickLaw}
 use Rattle.lsm_levels.proofs.Ranges.{no}
 use Rattle.lsm_levels.proofs.OldestRuns.{oldest_are, oldest_some}
 use Rattle.lsm_levels.proofs.Runs.{run_at, run_filter}
@@ -17,7 +17,7 @@ pub in_both : (a b : Bool) → (a && b) ≡ true → (a ≡ true) × (b ≡ true
 in_both true b h = (refl, h)
 in_both false b h = absurd cc
 
-not_true : (b : Bool) → not b ≡ true → b ≡ false
+pub not_true : (b : Bool) → not b ≡ true → b ≡ false
 not_true true h = absurd cc
 not_true false h = refl
 
@@ -207,23 +207,30 @@ module _ (levels : Levels) (runs : AreRuns levels) where
       by false f = refl
       by true f = absurd (no (sym (any_of (meets w) t tables a (ap (λ (r : KeyRange). meets r t) (some_range w whole e) ∙ f)) ∙ not_true (list_any (meets w) tables) h))
 
-  -- a merge of upper tables whose hull there is
+  -- a merge of the tables of a level that meet what it reaches
+  pub held_where : (i : ℕ) (upper lower : List Table) (range : KeyRange) → i ≤ 3 → reach upper lower ≡ Some range → IsUpper levels i upper → lower ≡ filter (meets range) (level levels (suc i))
+      → HasItsTables levels (is_bottom levels (Merge i upper lower)) i upper lower
+  held_where i upper lower range small is uppers lower_is = record {
+    known = small;
+    range = range;
+    hull_is = is;
+    uppers = uppers;
+    lower_run = subst IsRun (sym lower_is) (run_filter (meets range) (level levels (suc i)) (run_at levels runs i));
+    lowers = λ t a. (passed_among (meets range) t (level levels (suc i)) (subst (IsAmong t) lower_is a)).0;
+    meet = λ t a. (passed_among (meets range) t (level levels (suc i)) (subst (IsAmong t) lower_is a)).1;
+    all = λ t a met. subst (IsAmong t) (sym lower_is) (among_passed (meets range) t (level levels (suc i)) a met);
+    lowest = λ bottom k t whole deep a whole_is. lowest_met (hull (upper ++ lower)) whole (below_output levels i) t whole_is bottom (below_is i k t small deep a);
+  }
+
+  -- one of upper tables whose hull there is
   pub held_merge : (i : ℕ) (upper : List Table) (range : KeyRange) → i ≤ 3 → hull upper ≡ Some range → IsUpper levels i upper
       → HasItsTables levels (is_bottom levels (merge_of i upper (level levels (suc i)))) i upper (lower_of upper (level levels (suc i)))
   held_merge i upper range small is uppers =
-      let lower_is : lower_of upper (level levels (suc i)) ≡ filter (meets range) (level levels (suc i)) = ap (λ (o : Option KeyRange). meeting o (level levels (suc i))) is in
-      record {
-        known = small;
-        range = range;
-        hull_is = is;
-        uppers = uppers;
-        lower_run = subst IsRun (sym lower_is) (run_filter (meets range) (level levels (suc i)) (run_at levels runs i));
-        lowers = λ t a. (passed_among (meets range) t (level levels (suc i)) (subst (IsAmong t) lower_is a)).0;
-        meet = λ t a. (passed_among (meets range) t (level levels (suc i)) (subst (IsAmong t) lower_is a)).1;
-        all = λ t a met. subst (IsAmong t) (sym lower_is) (among_passed (meets range) t (level levels (suc i)) a met);
-        lowest = λ bottom k t whole deep a whole_is.
-            lowest_met (hull (upper ++ lower_of upper (level levels (suc i)))) whole (below_output levels i) t whole_is bottom (below_is i k t small deep a);
-      }
+      held_where i upper (lower_of upper (level levels (suc i))) range small (reached upper is) uppers (ap (λ (o : Option KeyRange). meeting o (level levels (suc i))) is)
+    where
+      reached : (tables : List Table) → hull tables ≡ Some range → reach tables (lower_of upper (level levels (suc i))) ≡ Some range
+      reached [] e = absurd cc
+      reached (t ∷ rest) e = e
 
 -- ---- the rules
 
@@ -245,6 +252,18 @@ pub hull_there : (upper : List Table) → 0 < length upper → (range : KeyRange
 hull_there [] some = absurd (omega (arith, some))
 hull_there (t ∷ rest) some = (spanned t (hull rest), refl)
 
+-- the oldest runs are upper tables
+pub oldest_upper : (levels : Levels) (upper : List Table) → AreOldest levels.runs upper → IsUpper levels 0 upper
+oldest_upper levels [] o = tt
+oldest_upper levels (t ∷ rest) o = o
+
+-- beside which other merges may stand
+pub not_several : (upper : List Table) → 0 < length upper → are_several 0 upper ≡ true → ⊥
+not_several [] some e = omega (arith, some)
+not_several (t ∷ rest) some e =
+    let few : are_several 0 (t ∷ rest) ≡ false = ap (λ b. b || (ltb 0 0 && ltb 1 (length (t ∷ rest)))) (ne_eqb (length (t ∷ rest)) 0 (λ f. omega (arith, f))) in
+    no (sym e ∙ few)
+
 level_0_rule : (levels : Levels) (jobs : List Job) (job : Job) → AreRuns levels → list_any is_several jobs ≡ false → level_0_job levels.runs (level levels 1) jobs ≡ Some job → MayTake levels jobs job
 level_0_rule levels jobs job runs none e =
     let oldest = all_tables (oldest_runs 1 levels.runs) in
@@ -254,10 +273,11 @@ level_0_rule levels jobs job runs none e =
     let then = in_both (not (list_any is_of_level_0 jobs)) can first.1 in
     let many = leb-true 4 (length levels.runs) first.0 in
     let uppers = oldest_are 1 levels.runs (omega arith) (omega (arith, many)) in
-    let there = hull_there oldest (oldest_some levels.runs oldest runs.some uppers) in
+    let some = oldest_some levels.runs oldest runs.some uppers in
+    let there = hull_there oldest some in
     subst (MayTake levels jobs) (some_job (merge_of 0 oldest (level levels 1)) job test.1) (record {
-      held = held_merge levels runs 0 oldest there.0 (omega arith) there.1 uppers;
-      apart = merge_apart jobs 0 oldest (level levels 1) then.1 none (λ f. absurd (no (sym f)));
+      held = held_merge levels runs 0 oldest there.0 (omega arith) there.1 (oldest_upper levels oldest uppers);
+      apart = merge_apart jobs 0 oldest (level levels 1) then.1 none (λ f. absurd (not_several oldest some f));
     })
 
 least_among : (tables : List Table) (t : Table) → least_numbered tables ≡ Some t → IsAmong t tables

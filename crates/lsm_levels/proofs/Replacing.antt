@@ -5,7 +5,7 @@ use Rattle.std.proofs.lemmas.List.{get_or-set_same, get_or-set_other}
 use Rattle.lsm_levels.specs.Among.{IsAmong}
 use Rattle.lsm_levels.proofs.Members.{among_left, among_right, among_either, among_passed, passed_among}
 use Rattle.lsm_levels.specs.Tables.{Table, KeyRange, is_below, meets, put_at}
-use Rattle.lsm_levels.specs.Levels.{Levels, all_tables, level, newer_runs, replaced}
+use Rattle.lsm_levels.specs.Levels.{Levels, all_tables, level, newer_runs, lowered, replaced}
 use Rattle.lsm_levels.proofs.Ranges.{sides, apart_left, apart_right}
 use Rattle.lsm_levels.proofs.OldestRuns.{newer_among}
 
@@ -81,15 +81,15 @@ module _ (r : KeyRange) (n : ℕ) (new : List Table) (levels : Levels) (four : l
       go (x ∷ xs) (suc j) = ap suc (go xs j)
 
   -- a table of a level was there, and stays; or it is an output
-  pub after_cases : (j : ℕ) → j ≤ 3 → (k : ℕ) (t : Table) → IsAmong t (level (replaced j r n new levels) k)
+  lowered_cases : (j : ℕ) → j ≤ 3 → (k : ℕ) (t : Table) → IsAmong t (level (lowered j r n new levels) k)
       → IsAmong t (level levels k) ⊎ ((k ≡ suc j) × IsAmong t new)
-  after_cases zero small zero t a = inl (newer_among n levels.runs t a)
-  after_cases zero small (suc zero) t a =
+  lowered_cases zero small zero t a = inl (newer_among n levels.runs t a)
+  lowered_cases zero small (suc zero) t a =
       ⊎_elim (λ old. inl old.0) (λ n. inr (refl, n))
       (put_cases r new (get_or levels.deeper 0 []) t (subst (IsAmong t) (get_or-set_same levels.deeper 0 (put_at r new (get_or levels.deeper 0 [])) [] (omega (arith, four))) a))
-  after_cases zero small (suc (suc m)) t a = inl (subst (IsAmong t) (get_or-set_other levels.deeper 0 (suc m) (put_at r new (get_or levels.deeper 0 [])) [] (λ e. omega (arith, e))) a)
-  after_cases (suc i) small zero t a = inl a
-  after_cases (suc i) small (suc m) t a = ⊎_elim
+  lowered_cases zero small (suc (suc m)) t a = inl (subst (IsAmong t) (get_or-set_other levels.deeper 0 (suc m) (put_at r new (get_or levels.deeper 0 [])) [] (λ e. omega (arith, e))) a)
+  lowered_cases (suc i) small zero t a = inl a
+  lowered_cases (suc i) small (suc m) t a = ⊎_elim
       (λ (e : m ≡ i).
       ⊎_elim (λ old. inl (subst (λ n. IsAmong t (get_or levels.deeper n [])) (sym e) old.0)) (λ none. absurd none)
       (put_cases r [] (get_or levels.deeper i []) t
@@ -104,14 +104,14 @@ module _ (r : KeyRange) (n : ℕ) (new : List Table) (levels : Levels) (four : l
       (same_or_not m i)
 
   -- one that isn't taken stays
-  pub stays_after : (j : ℕ) → j ≤ 3 → (k : ℕ) (t : Table) → IsAmong t (level levels k) → (k ≡ suc j → meets r t ≡ false) → (k ≡ j → 1 ≤ j → meets r t ≡ false) → (k ≡ 0 → j ≡ 0 → IsAmong t (all_tables (newer_runs n levels.runs)))
-      → IsAmong t (level (replaced j r n new levels) k)
-  stays_after zero small zero t a low up newer = newer refl refl
-  stays_after zero small (suc zero) t a low up newer =
+  lowered_stays : (j : ℕ) → j ≤ 3 → (k : ℕ) (t : Table) → IsAmong t (level levels k) → (k ≡ suc j → meets r t ≡ false) → (k ≡ j → 1 ≤ j → meets r t ≡ false) → (k ≡ 0 → j ≡ 0 → IsAmong t (all_tables (newer_runs n levels.runs)))
+      → IsAmong t (level (lowered j r n new levels) k)
+  lowered_stays zero small zero t a low up newer = newer refl refl
+  lowered_stays zero small (suc zero) t a low up newer =
       subst (IsAmong t) (sym (get_or-set_same levels.deeper 0 (put_at r new (get_or levels.deeper 0 [])) [] (omega (arith, four)))) (put_stays r new (get_or levels.deeper 0 []) t a (low refl))
-  stays_after zero small (suc (suc m)) t a low up newer = subst (IsAmong t) (sym (get_or-set_other levels.deeper 0 (suc m) (put_at r new (get_or levels.deeper 0 [])) [] (λ e. omega (arith, e)))) a
-  stays_after (suc i) small zero t a low up newer = a
-  stays_after (suc i) small (suc m) t a low up newer = ⊎_elim
+  lowered_stays zero small (suc (suc m)) t a low up newer = subst (IsAmong t) (sym (get_or-set_other levels.deeper 0 (suc m) (put_at r new (get_or levels.deeper 0 [])) [] (λ e. omega (arith, e)))) a
+  lowered_stays (suc i) small zero t a low up newer = a
+  lowered_stays (suc i) small (suc m) t a low up newer = ⊎_elim
       (λ (e : m ≡ i).
       subst (λ n. IsAmong t (get_or (deeper_after r new levels.deeper i) n [])) (sym e)
       (subst (IsAmong t) (sym (at_upper r new levels.deeper i (omega (arith, four, small)) (omega (arith, four, small, length_set (suc i) (put_at r new (get_or levels.deeper (suc i) []))))))
@@ -124,3 +124,27 @@ module _ (r : KeyRange) (n : ℕ) (new : List Table) (levels : Levels) (four : l
       (λ (also : m ≢ suc i). subst (IsAmong t) (sym (at_other r new levels.deeper i (omega (arith, four, small)) m other also)) a)
       (same_or_not m (suc i)))
       (same_or_not m i)
+
+-- ---- a merge of so many upper tables
+
+pub after_cases : (r : KeyRange) (n : ℕ) (new : List Table) (levels : Levels) → length levels.deeper ≡ 4 → (j : ℕ) → j ≤ 3 → (k : ℕ) (t : Table) → IsAmong t (level (replaced j r n new levels) k)
+    → IsAmong t (level levels k) ⊎ ((k ≡ suc j) × IsAmong t new)
+after_cases r zero new levels four j small zero t a = inl a
+after_cases r zero new levels four j small (suc m) t a = ⊎_elim
+    (λ (e : m ≡ j). ⊎_elim (λ old. inl (subst (λ n. IsAmong t (get_or levels.deeper n [])) (sym e) old.0)) (λ n. inr (ap suc e, n))
+    (put_cases r new (get_or levels.deeper j []) t
+    (subst (IsAmong t) (get_or-set_same levels.deeper j (put_at r new (get_or levels.deeper j [])) [] (omega (arith, four, small))) (subst (λ n. IsAmong t (get_or (set levels.deeper j (put_at r new (get_or levels.deeper j []))) n [])) e a))))
+    (λ (other : m ≢ j). inl (subst (IsAmong t) (get_or-set_other levels.deeper j m (put_at r new (get_or levels.deeper j [])) [] other) a))
+    (same_or_not m j)
+after_cases r (suc n) new levels four j small k t a = lowered_cases r (suc n) new levels four j small k t a
+
+pub stays_after : (r : KeyRange) (n : ℕ) (new : List Table) (levels : Levels) → length levels.deeper ≡ 4 → (j : ℕ) → j ≤ 3 → (k : ℕ) (t : Table) → IsAmong t (level levels k)
+    → (k ≡ suc j → meets r t ≡ false) → (k ≡ j → 1 ≤ j → meets r t ≡ false) → (k ≡ 0 → j ≡ 0 → IsAmong t (all_tables (newer_runs n levels.runs))) → IsAmong t (level (replaced j r n new levels) k)
+stays_after r zero new levels four j small zero t a low up newer = a
+stays_after r zero new levels four j small (suc m) t a low up newer = ⊎_elim
+    (λ (e : m ≡ j). subst (λ n. IsAmong t (get_or (set levels.deeper j (put_at r new (get_or levels.deeper j []))) n [])) (sym e)
+    (subst (IsAmong t) (sym (get_or-set_same levels.deeper j (put_at r new (get_or levels.deeper j [])) [] (omega (arith, four, small))))
+    (put_stays r new (get_or levels.deeper j []) t (subst (λ n. IsAmong t (get_or levels.deeper n [])) e a) (low (ap suc e)))))
+    (λ (other : m ≢ j). subst (IsAmong t) (sym (get_or-set_other levels.deeper j m (put_at r new (get_or levels.deeper j [])) [] other)) a)
+    (same_or_not m j)
+stays_after r (suc n) new levels four j small k t a low up newer = lowered_stays r (suc n) new levels four j small k t a low up newer

@@ -1,10 +1,10 @@
 -- The levels stay runs.
-use Rattle.std.proofs.Common.{◌≡◌, inl, inr, ⊎_elim, ℕ, zero, suc, ◌<◌, Bool, true, false, cond, List, [], ◌∷◌, ◌++◌, length, take, get_or, set, filter, Option, Some, None, refl, sym, ap, ◌∙◌, subst}
+use Rattle.std.proofs.Common.{◌≡◌, inl, inr, ⊎_elim, ℕ, zero, suc, ◌<◌, Bool, true, false, cond, List, [], ◌∷◌, ◌++◌, length, take, get_or, set, filter, Option, Some, None, refl, sym, ap, ◌∙◌, subst, append-nil}
 use Rattle.std.specs.List.{AllByRecursion}
 use Rattle.lsm_levels.specs.Among.{IsAmong}
 use Rattle.lsm_levels.proofs.Members.{passed_among, among_either}
 use Rattle.lsm_levels.specs.Tables.{Table, KeyRange, range_of, at_most, is_below, hull, meets, meeting, put_at, IsRun}
-use Rattle.lsm_levels.specs.Levels.{Levels, all_tables, level, merged_at, replaced}
+use Rattle.lsm_levels.specs.Levels.{Levels, all_tables, level, with_level, merged_at, lowered, replaced, reach}
 use Rattle.lsm_levels.specs.Pick.{Flush, Merge}
 use Rattle.lsm_levels.specs.Held.{AreRuns, IsUpper, HasItsTables, IsWithin, RunsLaw}
 use Rattle.lsm_levels.proofs.KeyOrder.{below_then, below_at_most, at_most_trans}
@@ -74,7 +74,7 @@ module _ (r : KeyRange) (order : at_most r.first r.last ≡ true) (xs : List Tab
   run_without = run_append (before r xs) (behind r xs) (run_filter (λ t. is_below t.last r.first) xs run) (run_filter (λ t. is_below r.last t.first) xs run) across
 
   -- with outputs in their place
-  pub run_with : (upper lower new : List Table) → hull upper ≡ Some r → ((l : Table) → IsAmong l lower → meets r l ≡ true) → ((l : Table) → IsAmong l lower → IsAmong l xs)
+  run_with : (upper lower new : List Table) → hull upper ≡ Some r → ((l : Table) → IsAmong l lower → meets r l ≡ true) → ((l : Table) → IsAmong l lower → IsAmong l xs)
       → IsRun new → AllByRecursion (IsWithin (upper ++ lower)) new → IsRun (put_at r new xs)
   run_with upper lower new is meet among made within =
       run_append (before r xs) (new ++ behind r xs) (run_filter (λ t. is_below t.last r.first) xs run)
@@ -97,6 +97,13 @@ module _ (r : KeyRange) (order : at_most r.first r.last ≡ true) (xs : List Tab
           within_right (range_of y) (upper ++ lower) n (of_all (IsWithin (upper ++ lower)) new within n a)
           (all_left upper lower r (range_of y) is meet (run_order xs run y p.0) (λ l b. lone y l p.0 (apart_right r y p.1) b) p.1)
 
+  -- the same, where a merge reaches that range
+  pub run_reached : (upper lower new : List Table) → reach upper lower ≡ Some r → ((l : Table) → IsAmong l lower → meets r l ≡ true) → ((l : Table) → IsAmong l lower → IsAmong l xs)
+      → IsRun new → AllByRecursion (IsWithin (upper ++ lower)) new → IsRun (put_at r new xs)
+  run_reached [] lower new is meet among made within =
+      run_with lower [] new is (λ l a. absurd a) (λ l a. absurd a) made (subst (λ (tables : List Table). AllByRecursion (IsWithin tables) new) (sym (append-nil lower)) within)
+  run_reached (t ∷ rest) lower new is meet among made within = run_with (t ∷ rest) lower new is meet among made within
+
 -- ---- the upper tables of a level from 1 to 3
 
 in_meeting : (o : Option KeyRange) (tables : List Table) (x : Table) → IsAmong x (meeting o tables) → IsAmong x tables
@@ -113,7 +120,8 @@ upper_is levels i upper r is u = u ∙ ap (λ (o : Option KeyRange). meeting o (
 
 -- the upper tables stand in their level
 pub upper_there : (levels : Levels) (i : ℕ) (upper : List Table) → IsUpper levels i upper → (x : Table) → IsAmong x upper → IsAmong x (level levels i)
-upper_there levels zero upper u x a = oldest_among levels.runs upper u x a
+upper_there levels zero [] u x a = absurd a
+upper_there levels zero (t ∷ rest) u x a = oldest_among levels.runs (t ∷ rest) u x a
 upper_there levels (suc i) upper u x a = upper_among levels i upper u x a
 
 -- a table's range is not empty
@@ -125,9 +133,10 @@ table_order levels runs zero x a = by levels.runs runs.runs a
     by (run ∷ rest) h b = ⊎_elim (λ c. run_order run h.0 x c) (λ c. by rest h.1 c) (among_either x run (all_tables rest) b)
 table_order levels runs (suc i) x a = run_order (level levels (suc i)) (run_at levels runs i) x a
 
--- nor is the hull of upper tables
+-- nor is what a merge reaches
 pub upper_order : (levels : Levels) (bottom : Bool) (i : ℕ) (upper lower : List Table) → AreRuns levels → (h : HasItsTables levels bottom i upper lower) → at_most h.range.first h.range.last ≡ true
-upper_order levels bottom i upper lower runs h = hull_order upper h.range h.hull_is (λ x a. table_order levels runs i x (upper_there levels i upper h.uppers x a))
+upper_order levels bottom i [] lower runs h = hull_order lower h.range h.hull_is (λ x a. table_order levels runs (suc i) x (h.lowers x a))
+upper_order levels bottom i (t ∷ rest) lower runs h = hull_order (t ∷ rest) h.range h.hull_is (λ x a. table_order levels runs i x (upper_there levels i (t ∷ rest) h.uppers x a))
 
 length_set : {X : Type 0} (xs : List X) (i : ℕ) (y : X) → length (set xs i y) ≡ length xs
 length_set [] i y = refl
@@ -135,27 +144,41 @@ length_set (x ∷ xs) zero y = refl
 length_set (x ∷ xs) (suc i) y = ap suc (length_set xs i y)
 
 module _ (levels : Levels) (bottom : Bool) (upper lower new : List Table) (runs : AreRuns levels) (made : IsRun new) (within : AllByRecursion (IsWithin (upper ++ lower)) new) where
-  pub replaced_runs : (i : ℕ) (h : HasItsTables levels bottom i upper lower) → AreRuns (replaced i h.range (length upper) new levels)
-  replaced_runs zero h = record {
+  rewritten_runs : (i : ℕ) (h : HasItsTables levels bottom i upper lower) → AreRuns (with_level (suc i) h.range new levels)
+  rewritten_runs i h = record {
+    four = length_set levels.deeper i (put_at h.range new (get_or levels.deeper i [])) ∙ runs.four;
+    runs = runs.runs;
+    deeper = all_set IsRun levels.deeper i (put_at h.range new (get_or levels.deeper i [])) runs.deeper
+        (run_reached h.range (upper_order levels bottom i upper lower runs h) (level levels (suc i)) (run_at levels runs i) upper lower new h.hull_is h.meet h.lowers made within);
+    some = runs.some;
+  }
+
+  lowered_runs : (i : ℕ) (h : HasItsTables levels bottom i upper lower) → AreRuns (lowered i h.range (length upper) new levels)
+  lowered_runs zero h = record {
     four = length_set levels.deeper 0 (put_at h.range new (get_or levels.deeper 0 [])) ∙ runs.four;
     runs = all_newer IsRun (length upper) levels.runs runs.runs;
     deeper = all_set IsRun levels.deeper 0 (put_at h.range new (get_or levels.deeper 0 [])) runs.deeper
-        (run_with h.range (upper_order levels bottom zero upper lower runs h) (level levels 1) (run_at levels runs 0) upper lower new h.hull_is h.meet h.lowers made within);
+        (run_reached h.range (upper_order levels bottom zero upper lower runs h) (level levels 1) (run_at levels runs 0) upper lower new h.hull_is h.meet h.lowers made within);
     some = all_newer (λ run. 0 < length run) (length upper) levels.runs runs.some;
   }
-  replaced_runs (suc i) h =
+  lowered_runs (suc i) h =
       let r = h.range in
       let order = upper_order levels bottom (suc i) upper lower runs h in
       let lowered = put_at r new (get_or levels.deeper (suc i) []) in
       let mid : List (List Table) = set levels.deeper (suc i) lowered in
       let mids : AllByRecursion IsRun mid = all_set IsRun levels.deeper (suc i) lowered runs.deeper
-      (run_with r order (level levels (suc (suc i))) (run_at levels runs (suc i)) upper lower new h.hull_is h.meet h.lowers made within) in
+      (run_reached r order (level levels (suc (suc i))) (run_at levels runs (suc i)) upper lower new h.hull_is h.meet h.lowers made within) in
       record {
         four = length_set mid i (put_at r [] (get_or mid i [])) ∙ length_set levels.deeper (suc i) lowered ∙ runs.four;
         runs = runs.runs;
         deeper = all_set IsRun mid i (put_at r [] (get_or mid i [])) mids (run_without r order (get_or mid i []) (all_or IsRun mid i [] mids tt));
         some = runs.some;
       }
+
+pub replaced_runs : (levels : Levels) (bottom : Bool) (upper lower new : List Table) → AreRuns levels → IsRun new → AllByRecursion (IsWithin (upper ++ lower)) new
+    → (i : ℕ) (h : HasItsTables levels bottom i upper lower) → AreRuns (replaced i h.range (length upper) new levels)
+replaced_runs levels bottom [] lower new runs made within i h = rewritten_runs levels bottom [] lower new runs made within i h
+replaced_runs levels bottom (t ∷ rest) lower new runs made within i h = lowered_runs levels bottom (t ∷ rest) lower new runs made within i h
 
 pub runs_law : RunsLaw
 runs_law levels flag Flush new runs held outputs = record { four = runs.four; runs = (outputs.0, runs.runs); deeper = runs.deeper; some = (outputs.1, runs.some) }

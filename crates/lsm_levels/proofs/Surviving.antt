@@ -1,11 +1,11 @@
 -- A job keeps its tables while others install.
-use Rattle.std.proofs.Common.{◌≡◌, ◌⊎◌, inl, inr, ⊎_elim, ℕ, zero, suc, ◌<◌, ◌≤◌, Bool, true, false, ◌&&◌, ltb, List, [], ◌∷◌, ◌++◌, length, Option, Some, None, refl, sym, ap, ◌∙◌, subst, arith}
+use Rattle.std.proofs.Common.{◌≡◌, ◌⊎◌, inl, inr, ⊎_elim, ℕ, zero, suc, ◌<◌, ◌≤◌, ◌==◌, Bool, true, false, ◌&&◌, ◌||◌, ltb, List, [], ◌∷◌, ◌++◌, length, Option, Some, None, refl, sym, ap, ◌∙◌, subst, arith}
 use Rattle.std.specs.List.{AllByRecursion}
 use Rattle.std.proofs.lemmas.Bool.{cases_lt, lt-ltb}
 use Rattle.lsm_levels.specs.Among.{IsAmong}
 use Rattle.lsm_levels.proofs.Members.{among_left, among_right, among_either}
 use Rattle.lsm_levels.specs.Tables.{Table, KeyRange, range_of, at_most, is_below, hull, meets, meeting, IsRun}
-use Rattle.lsm_levels.specs.Levels.{Levels, level, flushed, merged_at, replaced}
+use Rattle.lsm_levels.specs.Levels.{Levels, level, flushed, merged_at, replaced, reach}
 use Rattle.lsm_levels.specs.Pick.{Flush, Merge, are_several}
 use Rattle.lsm_levels.specs.Held.{AreOldest, AreRuns, IsUpper, HasItsTables, AreApart, IsWithin, SurvivalLaw}
 use Rattle.lsm_levels.proofs.Ranges.{no, of_all, sides, run_order, other_apart}
@@ -36,27 +36,50 @@ IsSingle levels zero upper = AreOldest levels.runs upper
 IsSingle levels (suc i) upper = (t : Table) × (upper ≡ t ∷ []) × IsAmong t (level levels (suc i))
 
 to_single : (levels : Levels) (i : ℕ) (upper : List Table) (r : KeyRange) → hull upper ≡ Some r → are_several i upper ≡ false → IsUpper levels i upper → IsSingle levels i upper
-to_single levels zero upper r is few u = u
+to_single levels zero [] r is few u = absurd (none_some r is)
+to_single levels zero (t ∷ rest) r is few u = u
 to_single levels (suc i) [] r is few u = absurd (none_some r is)
 to_single levels (suc i) (t ∷ []) r is few u = (t, refl, upper_among levels i (t ∷ []) u t (inl refl))
-to_single levels (suc i) (t ∷ v ∷ rest) r is few u = absurd (no (sym (both (ltb 0 (suc i)) (ltb 1 (length (t ∷ v ∷ rest))) (lt-ltb 0 (suc i) (omega arith)) (lt-ltb 1 (length (t ∷ v ∷ rest)) (omega arith))) ∙ few))
+to_single levels (suc i) (t ∷ v ∷ rest) r is few u = absurd (no (sym (either (length (t ∷ v ∷ rest) == 0) _ (both (ltb 0 (suc i)) (ltb 1 (length (t ∷ v ∷ rest))) (lt-ltb 0 (suc i) (omega arith)) (lt-ltb 1 (length (t ∷ v ∷ rest)) (omega arith)))) ∙ few))
   where
     both : (a b : Bool) → a ≡ true → b ≡ true → (a && b) ≡ true
     both a b e f = ap (λ x. x && b) e ∙ f
 
+    either : (a b : Bool) → b ≡ true → (a || b) ≡ true
+    either true b e = refl
+    either false b e = e
+
+-- a merge beside which another may stand has upper tables
+has_upper : (i : ℕ) (upper lower : List Table) (r : KeyRange) → are_several i upper ≡ false → reach upper lower ≡ Some r → hull upper ≡ Some r
+has_upper i [] lower r few is = absurd (no few)
+has_upper i (t ∷ rest) lower r few is = is
+
 from_single : (levels : Levels) → AreRuns levels → (i : ℕ) (upper : List Table) → IsSingle levels i upper → IsUpper levels i upper
-from_single levels runs zero upper u = u
+from_single levels runs zero [] u = tt
+from_single levels runs zero (t ∷ rest) u = u
 from_single levels runs (suc i) upper u =
     subst (λ (l : List Table). l ≡ meeting (hull l) (level levels (suc i))) (sym u.1) (one_met (level levels (suc i)) u.0 (run_at levels runs i) u.2)
 
 module _ (levels : Levels) (runs : AreRuns levels) (bottom flag : Bool) (i j : ℕ) (upper lower other_upper other_lower : List Table)
     (h : HasItsTables levels bottom i upper lower) (c : HasItsTables levels flag j other_upper other_lower) (apart : AreApart (Merge i upper lower) (Merge j other_upper other_lower)) where
-  -- neither takes several tables
+  -- neither takes several tables, or none
+  mine_few : are_several i upper ≡ false
+  mine_few = not_met (are_several i upper) (λ e. no (sym (apart.alone e)))
+
+  theirs_few : are_several j other_upper ≡ false
+  theirs_few = not_met (are_several j other_upper) (λ e. no (sym (apart.others_alone e)))
+
+  mine_hull : hull upper ≡ Some h.range
+  mine_hull = has_upper i upper lower h.range mine_few h.hull_is
+
+  theirs_hull : hull other_upper ≡ Some c.range
+  theirs_hull = has_upper j other_upper other_lower c.range theirs_few c.hull_is
+
   mine_at : IsSingle levels i upper
-  mine_at = to_single levels i upper h.range h.hull_is (not_met (are_several i upper) (λ e. no (sym (apart.alone e)))) h.uppers
+  mine_at = to_single levels i upper h.range mine_hull mine_few h.uppers
 
   theirs_at : IsSingle levels j other_upper
-  theirs_at = to_single levels j other_upper c.range c.hull_is (not_met (are_several j other_upper) (λ e. no (sym (apart.others_alone e)))) c.uppers
+  theirs_at = to_single levels j other_upper c.range theirs_hull theirs_few c.uppers
 
   -- no input of the one is an input of the other
   abbrev Mine : Table → Type 0
@@ -106,7 +129,7 @@ module _ (levels : Levels) (runs : AreRuns levels) (bottom flag : Bool) (i j : �
     it = theirs.0
 
     its_range : c.range ≡ range_of it
-    its_range = single_range it other_upper c.range theirs.1.0 c.hull_is
+    its_range = single_range it other_upper c.range theirs.1.0 theirs_hull
 
     it_in : Others it
     it_in = among_left it other_upper other_lower (in_one it other_upper theirs.1.0)
@@ -134,14 +157,15 @@ module _ (levels : Levels) (runs : AreRuns levels) (bottom flag : Bool) (i j : �
     abbrev after : Levels
     after = replaced j c.range (length other_upper) new levels
 
-    runs_same : (n : ℕ) → 1 ≤ n → (r : KeyRange) → (replaced n r (length other_upper) new levels).runs ≡ levels.runs
-    runs_same zero le r = absurd (omega (arith, le))
-    runs_same (suc n) le r = refl
+    runs_same : (n : ℕ) → 1 ≤ n → (r : KeyRange) (tables : ℕ) → (replaced n r tables new levels).runs ≡ levels.runs
+    runs_same zero le r tables = absurd (omega (arith, le))
+    runs_same (suc n) le r zero = refl
+    runs_same (suc n) le r (suc tables) = refl
 
     uppers_after : (n : ℕ) → n ≡ i → IsSingle levels n upper → IsSingle after n upper
     uppers_after zero e u = ⊎_elim
         (λ (none : j ≡ 0). absurd (not_both (sym e) none))
-        (λ (deep : 1 ≤ j). subst (λ (rs : List (List Table)). AreOldest rs upper) (sym (runs_same j deep c.range)) u)
+        (λ (deep : 1 ≤ j). subst (λ (rs : List (List Table)). AreOldest rs upper) (sym (runs_same j deep c.range (length other_upper))) u)
         (zero_or_more j)
       where
         zero_or_more : (n : ℕ) → (n ≡ 0) ⊎ (1 ≤ n)
@@ -153,7 +177,7 @@ module _ (levels : Levels) (runs : AreRuns levels) (bottom flag : Bool) (i j : �
     outputs_beside : (q : KeyRange) → at_most q.first q.last ≡ true → (is_below q.last c.range.first ≡ true) ⊎ (is_below c.range.last q.first ≡ true) → ((l : Table) → IsAmong l other_lower → meets q l ≡ false)
         → (n : Table) → IsAmong n new → meets q n ≡ false
     outputs_beside q order side lone n a =
-        beside_output other_upper other_lower c.range q c.hull_is c.meet order lone side n (of_all (IsWithin (other_upper ++ other_lower)) new within n a)
+        beside_output other_upper other_lower c.range q theirs_hull c.meet order lone side n (of_all (IsWithin (other_upper ++ other_lower)) new within n a)
 
     -- an output in my output level: my upper table lies in the other's upper level, beside its own
     beside_mine : i ≡ j → (n : Table) → IsAmong n new → meets h.range n ≡ false
@@ -161,7 +185,7 @@ module _ (levels : Levels) (runs : AreRuns levels) (bottom flag : Bool) (i j : �
         let deep : 1 ≤ j = nonzero j (λ f. not_both (e ∙ f) f) in
         let mine = one_table i (subst (λ m. 1 ≤ m) (sym e) deep) upper mine_at in
         let t = mine.0 in
-        let range : h.range ≡ range_of t = single_range t upper h.range mine.1.0 h.hull_is in
+        let range : h.range ≡ range_of t = single_range t upper h.range mine.1.0 mine_hull in
         let at : IsAmong t (level levels j) = subst (λ m. IsAmong t (level levels m)) e mine.1.1 in
         let own : Mine t = among_left t upper lower (in_one t upper mine.1.0) in
         subst (λ (r : KeyRange). meets r n ≡ false) (sym range)
@@ -198,7 +222,7 @@ module _ (levels : Levels) (runs : AreRuns levels) (bottom flag : Bool) (i j : �
             let at : IsAmong t (level levels (suc i)) = subst (λ m. IsAmong t (level levels m)) e (theirs deep).1.1 in
             let run = run_at levels runs i in
             let lone : meets h.range t ≡ false = not_met (meets h.range t) (λ met. shared t (among_right t upper lower (h.all t at met)) (it_in deep)) in
-            turn deep (beside_hull upper lower h.range (range_of t) h.hull_is h.meet (run_order (level levels (suc i)) run t at)
+            turn deep (beside_hull upper lower h.range (range_of t) mine_hull h.meet (run_order (level levels (suc i)) run t at)
             (λ l b. other_apart (level levels (suc i)) run t l at (h.lowers l b) (λ s. distinct l t (among_right l upper lower b) (it_in deep) (sym s)))
             (sides h.range t lone) whole is))
             -- or below it
@@ -254,8 +278,12 @@ flush_survives levels bottom i upper lower new h = record {
   lowest = λ lowest k t whole deeper a is. below k t whole deeper a lowest is;
 }
   where
+    oldest : (tables : List Table) → IsUpper levels zero tables → IsUpper (flushed new levels) zero tables
+    oldest [] u = tt
+    oldest (t ∷ rest) u = record { newer = new ∷ u.newer; oldest = u.oldest; split = ap (λ (rs : List (List Table)). new ∷ rs) u.split; one = u.one; all = u.all }
+
     by : (n : ℕ) → IsUpper levels n upper → IsUpper (flushed new levels) n upper
-    by zero u = record { newer = new ∷ u.newer; oldest = u.oldest; split = ap (λ (rs : List (List Table)). new ∷ rs) u.split; one = u.one; all = u.all }
+    by zero u = oldest upper u
     by (suc n) u = u
 
     below : (k : ℕ) (t : Table) (whole : KeyRange) → suc i < k → IsAmong t (level (flushed new levels) k) → bottom ≡ true → hull (upper ++ lower) ≡ Some whole → meets whole t ≡ false

@@ -17,11 +17,17 @@ use Rattle.lsm_levels.proofs.OldestRuns.{newer_among, newer_oldest, newer_or_old
 use Rattle.lsm_levels.proofs.Replacing.{put_cases, put_new, deeper_after, at_upper, at_lower, at_other, same_or_not, stays_after}
 use Rattle.lsm_levels.proofs.Runs.{run_at, upper_there, upper_is}
 use Rattle.lsm_levels.proofs.LevelVersions.{older_level, newer_runs_order}
+use Rattle.lsm_levels.proofs.Rewriting.{hull_some, rewriting, rewritten_order, rewritten_ranges}
+use Rattle.lsm_levels.proofs.PlaceOrders.{AreNewer, order_front, order_from, order_join}
+pub use Rattle.lsm_levels.proofs.PlaceOrders.{newer_from}
 pub use Rattle.lsm_levels.proofs.LevelVersions.{in_tables, of_table, level_of_place, place_of_level, covers_meets, newer_than}
 
 -- ---- a merge
 
-module _ (levels : Levels) (runs : AreRuns levels) (flag : Bool) (i : ℕ) (upper lower new : List Table) (h : HasItsTables levels flag i upper lower) where
+module _ (levels : Levels) (runs : AreRuns levels) (flag : Bool) (i : ℕ) (first : Table) (others lower new : List Table) (h : HasItsTables levels flag i (first ∷ others) lower) where
+  abbrev upper : List Table
+  upper = first ∷ others
+
   abbrev after : Levels
   after = replaced i h.range (length upper) new levels
 
@@ -233,49 +239,10 @@ module _ (levels : Levels) (runs : AreRuns levels) (flag : Bool) (i : ℕ) (uppe
 
 -- ---- the order of versions
 
-pub newer_from : (newer older : List Version) → ((v w : Version) → IsAmong v newer → IsAmong w older → v.key ≡ w.key → w.number < v.number) → IsNewerPlace newer older
-newer_from newer older f = all_of (λ v. AllByRecursion (λ w. v.key ≡ w.key → w.number < v.number) older) newer (λ v a. all_of (λ w. v.key ≡ w.key → w.number < v.number) older (λ w b. f v w a b))
-
--- the tables of the one are newer than those of the other
-abbrev AreNewer : List Table → List Table → Type 0
-AreNewer ts us = (t u : Table) (v w : Version) → IsAmong t ts → IsAmong u us → IsAmong v t.versions → IsAmong w u.versions → v.key ≡ w.key → w.number < v.number
-
-newer_tables : (ts us : List Table) → AreNewer ts us → IsNewerPlace (versions_of ts) (versions_of us)
-newer_tables ts us f = newer_from (versions_of ts) (versions_of us) (λ v w a b same. let t = in_tables v ts a in let u = in_tables w us b in f t.0 u.0 v w t.1 u.1 t.2 u.2 same)
-
--- runs of which each is newer than those behind it
-order_from : (xs : List (List Table)) → ((k l : ℕ) → k < l → AreNewer (get_or xs k []) (get_or xs l [])) → IsVersionOrder (map versions_of xs)
-order_from [] f = tt
-order_from (x ∷ xs) f = (behind xs (λ l. f 0 (suc l) (omega arith)), order_from xs (λ k l lt. f (suc k) (suc l) (omega (arith, lt))))
-  where
-    behind : (ps : List (List Table)) → ((l : ℕ) → AreNewer x (get_or ps l [])) → AllByRecursion (IsNewerPlace (versions_of x)) (map versions_of ps)
-    behind [] g = tt
-    behind (p ∷ ps) g = (newer_tables x p (g 0), behind ps (λ l. g (suc l)))
-
-order_front : (xs ys : List (List Table)) → IsVersionOrder (map versions_of (xs ++ ys)) → IsVersionOrder (map versions_of xs)
-order_front [] ys h = tt
-order_front (x ∷ xs) ys h = (front xs h.0, order_front xs ys h.1)
-  where
-    front : (ps : List (List Table)) → AllByRecursion (IsNewerPlace (versions_of x)) (map versions_of (ps ++ ys)) → AllByRecursion (IsNewerPlace (versions_of x)) (map versions_of ps)
-    front [] k = tt
-    front (p ∷ ps) k = (k.0, front ps k.1)
-
-order_join : (xs ys : List (List Table)) → IsVersionOrder (map versions_of xs) → IsVersionOrder (map versions_of ys) → ((l : ℕ) → AreNewer (all_tables xs) (get_or ys l [])) → IsVersionOrder (map versions_of (xs ++ ys))
-order_join [] ys h k f = k
-order_join (x ∷ xs) ys h k f = (join xs h.0, order_join xs ys h.1 k (λ l t u v w a. f l t u v w (among_right t x (all_tables xs) a)))
-  where
-    behind : (ps : List (List Table)) → ((l : ℕ) → AreNewer x (get_or ps l [])) → AllByRecursion (IsNewerPlace (versions_of x)) (map versions_of ps)
-    behind [] g = tt
-    behind (p ∷ ps) g = (newer_tables x p (g 0), behind ps (λ l. g (suc l)))
-
-    join : (ps : List (List Table)) → AllByRecursion (IsNewerPlace (versions_of x)) (map versions_of ps) → AllByRecursion (IsNewerPlace (versions_of x)) (map versions_of (ps ++ ys))
-    join [] k2 = behind ys (λ l t u v w a. f l t u v w (among_left t x (all_tables xs) a))
-    join (p ∷ ps) k2 = (k2.0, join ps k2.1)
-
-module _ (levels : Levels) (runs : AreRuns levels) (flag : Bool) (i : ℕ) (upper lower new : List Table) (h : HasItsTables levels flag i upper lower)
-    (order : IsVersionOrder (map versions_of (places levels))) (ranged : (k : ℕ) (t : Table) → IsAmong t (level levels k) → IsRanged t) (from_inputs : (v : Version) → IsAmong v (versions_of new) → IsAmong v (versions_of (upper ++ lower))) where
+module _ (levels : Levels) (runs : AreRuns levels) (flag : Bool) (i : ℕ) (first : Table) (others lower new : List Table) (h : HasItsTables levels flag i (first ∷ others) lower)
+    (order : IsVersionOrder (map versions_of (places levels))) (ranged : (k : ℕ) (t : Table) → IsAmong t (level levels k) → IsRanged t) (from_inputs : (v : Version) → IsAmong v (versions_of new) → IsAmong v (versions_of ((first ∷ others) ++ lower))) where
   abbrev merged_levels : Levels
-  merged_levels = replaced i h.range (length upper) new levels
+  merged_levels = replaced i h.range (length (first ∷ others)) new levels
 
   -- an output's version stood in an upper table or a lower one
   record From (v : Version) : Type 0 where
@@ -283,28 +250,28 @@ module _ (levels : Levels) (runs : AreRuns levels) (flag : Bool) (i : ℕ) (uppe
     pub has : IsAmong v source.versions
     pub place : ℕ
     pub there : IsAmong source (level levels place)
-    pub upper_or_lower : ((place ≡ i) × IsAmong source upper) ⊎ ((place ≡ suc i) × IsAmong source lower)
+    pub upper_or_lower : ((place ≡ i) × IsAmong source (first ∷ others)) ⊎ ((place ≡ suc i) × IsAmong source lower)
 
   from : (t : Table) (v : Version) → IsAmong t new → IsAmong v t.versions → From v
   from t v a b =
-      let s = in_tables v (upper ++ lower) (from_inputs v (of_table v t new a b)) in
+      let s = in_tables v ((first ∷ others) ++ lower) (from_inputs v (of_table v t new a b)) in
       ⊎_elim
-      (λ c. record { source = s.0; has = s.2; place = i; there = upper_there levels i upper h.uppers s.0 c; upper_or_lower = inl (refl, c) })
+      (λ c. record { source = s.0; has = s.2; place = i; there = upper_there levels i (first ∷ others) h.uppers s.0 c; upper_or_lower = inl (refl, c) })
       (λ c. record { source = s.0; has = s.2; place = suc i; there = h.lowers s.0 c; upper_or_lower = inr (refl, c) })
-      (among_either s.0 upper lower s.1)
+      (among_either s.0 (first ∷ others) lower s.1)
 
   -- what stood above the output level, or in the upper one, is newer than the outputs
-  newer_than_output : (k : ℕ) (t u : Table) (v w : Version) → Stood levels runs flag i upper lower new h k t → k < suc i → IsAmong u new → IsAmong v t.versions → IsAmong w u.versions → v.key ≡ w.key → w.number < v.number
+  newer_than_output : (k : ℕ) (t u : Table) (v w : Version) → Stood levels runs flag i first others lower new h k t → k < suc i → IsAmong u new → IsAmong v t.versions → IsAmong w u.versions → v.key ≡ w.key → w.number < v.number
   newer_than_output k t u v w s lt b c d same = by (from u w b d)
     where
-      same_level : (f : From w) → IsAmong f.source upper → k ≡ i → w.number < v.number
+      same_level : (f : From w) → IsAmong f.source (first ∷ others) → k ≡ i → w.number < v.number
       same_level f a e = upper_at i refl h.uppers
         where
-          upper_at : (n : ℕ) → n ≡ i → IsUpper levels n upper → w.number < v.number
+          upper_at : (n : ℕ) → n ≡ i → IsUpper levels n (first ∷ others) → w.number < v.number
           upper_at zero g q =
-              before_oldest levels runs flag i upper lower new h q t f.source v w order (s.newer (let z : k ≡ 0 = omega (arith, e, g) in z) (sym g)) a c f.has same
+              before_oldest levels runs flag i first others lower new h q t f.source v w order (s.newer (let z : k ≡ 0 = omega (arith, e, g) in z) (sym g)) a c f.has same
           upper_at (suc n) g q =
-              let cover = hull_covers upper h.range h.hull_is f.source a in
+              let cover = hull_covers (first ∷ others) h.range h.hull_is f.source a in
               let theirs = (ranged f.place f.source f.there).within w f.has in
               let mine = (ranged k t s.old).within v c in
               let met = covers_meets h.range t w.key (at_most_trans h.range.first f.source.first w.key cover.0 theirs.0) (at_most_trans w.key f.source.last h.range.last theirs.1 cover.1)
@@ -321,7 +288,7 @@ module _ (levels : Levels) (runs : AreRuns levels) (flag : Bool) (i : ℕ) (uppe
           f.upper_or_lower
 
   -- and the outputs than what stood below
-  output_newer : (l : ℕ) (t u : Table) (v w : Version) → IsAmong t new → Stood levels runs flag i upper lower new h l u → suc i < l → IsAmong v t.versions → IsAmong w u.versions → v.key ≡ w.key → w.number < v.number
+  output_newer : (l : ℕ) (t u : Table) (v w : Version) → IsAmong t new → Stood levels runs flag i first others lower new h l u → suc i < l → IsAmong v t.versions → IsAmong w u.versions → v.key ≡ w.key → w.number < v.number
   output_newer l t u v w a s lt c d same = by (from t v a c)
     where
       by : From v → w.number < v.number
@@ -332,16 +299,16 @@ module _ (levels : Levels) (runs : AreRuns levels) (flag : Bool) (i : ℕ) (uppe
       (λ s. ⊎_elim
       (λ z. older_level levels k l t u v w lt order s.old z.old c d same)
       (λ made. newer_than_output k t u v w s (omega (arith, lt, made.0)) made.1 c d same)
-      (stood levels runs flag i upper lower new h l u b))
+      (stood levels runs flag i first others lower new h l u b))
       (λ made. ⊎_elim
       (λ z. output_newer l t u v w made.1 z (omega (arith, lt, made.0)) c d same)
       (λ also. absurd (omega (arith, lt, made.0, also.0)))
-      (stood levels runs flag i upper lower new h l u b))
-      (stood levels runs flag i upper lower new h k t a)
+      (stood levels runs flag i first others lower new h l u b))
+      (stood levels runs flag i first others lower new h k t a)
 
-  runs_order : (n : ℕ) → IsUpper levels n upper → IsVersionOrder (map versions_of (replaced n h.range (length upper) new levels).runs)
+  runs_order : (n : ℕ) → IsUpper levels n (first ∷ others) → IsVersionOrder (map versions_of (replaced n h.range (length (first ∷ others)) new levels).runs)
   runs_order zero u =
-      subst (λ (rs : List (List Table)). IsVersionOrder (map versions_of rs)) (sym (newer_oldest levels.runs upper runs.some u))
+      subst (λ (rs : List (List Table)). IsVersionOrder (map versions_of rs)) (sym (newer_oldest levels.runs (first ∷ others) runs.some u))
       (order_front u.newer u.oldest (subst (λ (rs : List (List Table)). IsVersionOrder (map versions_of rs)) u.split (order_front levels.runs levels.deeper order)))
   runs_order (suc n) u = order_front levels.runs levels.deeper order
 
@@ -352,19 +319,20 @@ module _ (levels : Levels) (runs : AreRuns levels) (flag : Bool) (i : ℕ) (uppe
       (λ l. newer_level 0 (suc l) (omega arith))
 
   pub merged_ranges : ((t : Table) → IsAmong t new → IsRanged t) → (k : ℕ) (t : Table) → IsAmong t (level merged_levels k) → IsRanged t
-  merged_ranges made k t a = ⊎_elim (λ s. ranged k t s.old) (λ n. made t n.1) (stood levels runs flag i upper lower new h k t a)
+  merged_ranges made k t a = ⊎_elim (λ s. ranged k t s.old) (λ n. made t n.1) (stood levels runs flag i first others lower new h k t a)
 
 -- ---- the law
 
-hull_some : (xs : List Table) (t : Table) → IsAmong t xs → (w : KeyRange) × (hull xs ≡ Some w)
-hull_some [] t a = absurd a
-hull_some (x ∷ rest) t a = (spanned x (hull rest), refl)
-
 pub order_law : OrderLaw
-order_law levels flag i upper lower new runs h ordered from_inputs made =
-    subst (λ (o : Option KeyRange). AreOrdered (merged_at i o (length upper) new levels)) (sym h.hull_is) (record {
-      order = merged_order levels runs flag i upper lower new h ordered.order ordered.ranges from_inputs;
-      ranges = merged_ranges levels runs flag i upper lower new h ordered.order ordered.ranges from_inputs made;
+order_law levels flag i [] lower new runs h ordered from_inputs made =
+    subst (λ (o : Option KeyRange). AreOrdered (merged_at i o 0 new levels)) (sym h.hull_is) (record {
+      order = rewritten_order levels runs flag i lower new h ordered.order ordered.ranges from_inputs;
+      ranges = rewritten_ranges levels runs flag i lower new h ordered.order ordered.ranges from_inputs made;
+    })
+order_law levels flag i (first ∷ others) lower new runs h ordered from_inputs made =
+    subst (λ (o : Option KeyRange). AreOrdered (merged_at i o (length (first ∷ others)) new levels)) (sym h.hull_is) (record {
+      order = merged_order levels runs flag i first others lower new h ordered.order ordered.ranges from_inputs;
+      ranges = merged_ranges levels runs flag i first others lower new h ordered.order ordered.ranges from_inputs made;
     })
 
 pub flush_law : FlushLaw
@@ -375,14 +343,17 @@ flush_law levels new ordered newer made = record { order = (newer, ordered.order
     ranges (suc i) t a = ordered.ranges (suc i) t a
 
 pub merging_law : MergingLaw
-merging_law levels flag i upper lower new runs h =
+merging_law levels flag i [] lower new runs h =
+    subst (λ (o : Option KeyRange). MergesVersions levels (merged_at i o 0 new levels) flag lower new) (sym h.hull_is) (rewriting levels runs flag i lower new h)
+merging_law levels flag i (first ∷ others) lower new runs h =
+    let upper : List Table = first ∷ others in
     subst (λ (o : Option KeyRange). MergesVersions levels (merged_at i o (length upper) new levels) flag (upper ++ lower) new) (sym h.hull_is) (record {
-      stays = version_stays levels runs flag i upper lower new h;
-      made = version_new levels runs flag i upper lower new h;
-      nothing_else = version_else levels runs flag i upper lower new h;
-      inputs_there = input_there levels runs flag i upper lower new h;
+      stays = version_stays levels runs flag i first others lower new h;
+      made = version_new levels runs flag i first others lower new h;
+      nothing_else = version_else levels runs flag i first others lower new h;
+      inputs_there = input_there levels runs flag i first others lower new h;
       lowest = λ ordered bottom v w a b same older.
           let t = in_tables v (upper ++ lower) a in
           let whole = hull_some (upper ++ lower) t.0 t.1 in
-          version_lowest levels runs flag i upper lower new h ordered.order ordered.ranges bottom whole.0 whole.1 v w a b same older;
+          version_lowest levels runs flag i first others lower new h ordered.order ordered.ranges bottom whole.0 whole.1 v w a b same older;
     })

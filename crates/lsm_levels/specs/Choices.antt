@@ -11,14 +11,19 @@ use Rattle.lsm_levels.specs.declared.choosing.Choice.TheVariants as choice
 abbrev pub may_stand : List Job → ℕ → List Table → Bool
 may_stand jobs i upper = not (list_any is_several jobs) && (not (are_several i upper) || not (list_any is_merge jobs))
 
--- the merge of upper tables with those of the next level that they meet, if it may stand and all of them are free
-abbrev pub free_merge : ℕ → List Table → List Table → List Job → Option Job
-free_merge i upper below jobs = if may_stand jobs i upper && can_merge jobs upper below then Some (merge_of i upper below) else None
+-- the merge of upper tables with those of the next level that they meet, if it stands and all of them are free
+abbrev pub merge_if : Bool → ℕ → List Table → List Table → List Job → Option Job
+merge_if stands i upper below jobs = if stands && can_merge jobs upper below then Some (merge_of i upper below) else None
 
--- that of so many of the oldest runs of level 0, if there are so many, one at least, and no job of level 0
+-- the same, if it may stand beside the others
+abbrev pub free_merge : ℕ → List Table → List Table → List Job → Option Job
+free_merge i upper below jobs = merge_if (may_stand jobs i upper) i upper below jobs
+
+-- that of so many of the oldest runs of level 0, if there are so many, one at least, and no job of level 0, no rewrite and no merge of
+-- several tables of another level
 abbrev pub run_job : ℕ → List (List Table) → List Table → List Job → Option Job
 run_job count runs below jobs =
-    if (nat_le 1 count && nat_le count (length runs)) && not (list_any is_of_level_0 jobs) then free_merge 0 (all_tables (oldest_runs count runs)) below jobs else None
+    if (nat_le 1 count && nat_le count (length runs)) && not (list_any is_of_level_0 jobs) then merge_if (not (list_any is_several jobs)) 0 (all_tables (oldest_runs count runs)) below jobs else None
 
 -- the tables from one to another, if there are both
 abbrev pub tables_from : List Table → Option Table → Option Table → List Table

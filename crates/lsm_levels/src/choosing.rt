@@ -1,7 +1,7 @@
 //! Which job a caller may choose, beside the one that comes next.
 
-ghost use Rattle.std.specs.Prelude.{◌≡◌, ◌<◌, ◌==◌, ◌&&◌, length, option_map};
-ghost use Rattle.std.specs.List.{AllByRecursion, find, list_all};
+ghost use Rattle.std.specs.Prelude.{◌≡◌, ◌==◌, ◌&&◌, option_map};
+ghost use Rattle.std.specs.List.{find, list_all};
 ghost use Rattle.std.specs.Option.{option_copied};
 ghost use Rattle.lsm_levels.specs.Tables.{IsRun};
 ghost use Rattle.lsm_levels.specs.Pick.{is_free};
@@ -123,7 +123,6 @@ pub(crate) fn run_job<'a, H: HeldJobs, A: Allocator>(
     below: &'a Run<A>,
     held: &H,
 ) -> Option<Pick<'a, A>>
-    requires { AllByRecursion (λ run. 0 < length run) runs.now }
     ensures { option_map job_of result ≡ run_job count runs.now below.now (H.jobs held.now) }
 {
     if count == 0 || runs.len() < count || held.has_level_0() {

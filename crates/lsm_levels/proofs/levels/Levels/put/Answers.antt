@@ -3,20 +3,20 @@ use Rattle.std.proofs.lemmas.List.{length-set}
 use Rattle.std.specs.List.{AllByRecursion}
 use Rattle.lsm_levels.specs.Tables.{IsRun}
 use Rattle.lsm_levels.specs.Hulls.{range_shown}
-use Rattle.lsm_levels.proofs.Merging.{hull_in_order}
+use Rattle.lsm_levels.specs.Levels.{reach}
+use Rattle.lsm_levels.proofs.Merging.{hull_in_order, no_reach}
 use Rattle.lsm_levels.proofs.OldestRuns.{all_newer}
-use Rattle.lsm_levels.proofs.RunHulls.{run_hull_some}
 use Rattle.lsm_levels.proofs.Runs.{all_set}
 use Rattle.lsm_levels.proofs.levels.Levels.put.Goals as goal
 
 pub returns-in_default-clause-moved : goal.returns-in_default-clause-moved
-returns-in_default-clause-moved g c = absurd (run_hull_some c.args.upper.now c.in_default.ensures c.requires.some)
+returns-in_default-clause-moved g c = absurd (no_reach (reach c.args.upper.now c.args.lower.now) c.in_default.ensures c.requires.some)
 
 pub replace-requires-clause-range : goal.replace-requires-clause-range
-replace-requires-clause-range g c = hull_in_order c.args.upper.now (range_shown c.in-Some.hull) c.in-Some.ensures c.requires.range
+replace-requires-clause-range g c = hull_in_order (reach c.args.upper.now c.args.lower.now) (range_shown c.in-Some.range) c.in-Some.ensures c.requires.range
 
 pub remove-requires : goal.remove-requires
-remove-requires g c = hull_in_order c.args.upper.now (range_shown c.in-Some.hull) c.in-Some.ensures c.requires.range
+remove-requires g c = hull_in_order (reach c.args.upper.now c.args.lower.now) (range_shown c.in-Some.range) c.in-Some.ensures c.requires.range
 
 pub invariant_of-self-then-level-eq0 : goal.invariant_of-self-then-level-eq0
 invariant_of-self-then-level-eq0 g c = record {
