@@ -23,6 +23,7 @@ pub mod Merging
 pub mod Least
 pub mod Sweeping
 pub mod RunTests
+pub mod EntrySizes
 pub mod BottomLaws
 mod Walks
 pub mod CoveringLaws

@@ -1,4 +1,5 @@
 pub mod Among
+pub mod Sizes
 pub mod Contents
 pub mod Tables
 pub mod Hulls

@@ -8,6 +8,7 @@ ghost use Rattle.lsm_table.specs.Outlines.{IsRecordOf, Opens, outline_in, outlin
 ghost use Rattle.lsm_table.specs.Division.{entries_of};
 ghost use Rattle.lsm_table.specs.Extents.{keys_of};
 ghost use Rattle.lsm_levels.specs.Pick.{is_mostly_deletes};
+ghost use Rattle.lsm_levels.specs.Sizes.{AreAtMost};
 ghost use Rattle.lsm_levels.specs.Tables.{at_most, is_below, meets, table_at, table_of, record_of, outline_opened};
 
 use crate::contents::Contents;
@@ -18,24 +19,29 @@ use std::alloc::{AllocError, Allocator, Global};
 use std::marker::Model;
 use std::sync::Arc;
 
+/// The bytes that an entry has at most.
+const LARGEST: usize = 2_315;
+
 /// What all handles of a table share.
 #[derive(Drop)]
 struct Placed<A: Allocator> {
     table: Table<A>,
     listed: TableRecord,
     deletes: u16,
+    largest: usize,
     contents: Contents,
 }
 
 impl<A: Allocator> Model for Placed<A> {
     ghost use Rattle.lsm_table.specs.Outlines.{IsRecordOf};
+    ghost use Rattle.lsm_levels.specs.Sizes.{AreAtMost};
     ghost use Rattle.lsm_levels.specs.Tables.{Table, table_at};
 
     ghost Value = { Table };
 
     ghost view = { λ t. table_at t.table t.listed.first_block t.deletes t.contents.versions };
 
-    ghost invariant = { λ t. IsRecordOf t.listed t.table };
+    ghost invariant = { λ t. IsRecordOf t.listed t.table × AreAtMost t.largest t.contents.versions };
 }
 
 /// A table that stands in an extent of the device. Levels and jobs share it: each has a handle of its own. Contracts see
@@ -94,18 +100,26 @@ impl<A: Allocator> Placed<A> {
     {
         self.deletes
     }
+
+    fn largest_entry(&self) -> usize
+        ensures { AreAtMost result self.now.versions }
+    {
+        self.largest
+    }
 }
 
 impl<A: Allocator> PlacedTable<A> {
-    /// A table with these versions, of which so many are deletes, in the extent that its record lists.
+    /// A table with these versions, of which so many are deletes and none takes more than so many bytes, in the extent that its
+    /// record lists.
     fn new(
         alloc: A,
         table: Table<A>,
         listed: TableRecord,
         deletes: u16,
+        largest: usize,
     ) -> Result<PlacedTable<A>, AllocError>
         ghost versions: { List Version }
-        requires { IsRecordOf listed table }
+        requires { IsRecordOf listed table × AreAtMost largest versions }
         ensures { IfOk result (λ t. t ≡ table_at table listed.first_block deletes versions) }
     {
         let contents = Contents::of();
@@ -113,6 +127,7 @@ impl<A: Allocator> PlacedTable<A> {
             table,
             listed,
             deletes,
+            largest,
             contents,
         };
         let shared = Arc::new(alloc, placed)?;
@@ -136,22 +151,44 @@ impl<A: Allocator> PlacedTable<A> {
         ensures opened { IfOk result (λ t. t ≡ table_at t.outline listed.first_block deletes versions) }
         ensures told { Opens (outline_of listed footer.now index.now filter.now) (outline_opened result) }
     {
-        outline_law();
-        let table = Table::open(alloc.clone()?, listed, footer, index, filter)?;
-        Ok(PlacedTable::new(alloc, table, listed, deletes)?)
+        PlacedTable::open_sized(alloc, listed, deletes, LARGEST, footer, index, filter)
     }
 
-    /// Opens an image as a table with these versions.
+    /// As `open`, where no version takes more than so many bytes.
+    fn open_sized(
+        alloc: A,
+        listed: TableRecord,
+        deletes: u16,
+        largest: usize,
+        footer: &[u8; 4_096],
+        index: &[u8],
+        filter: &[u8; 4_096],
+    ) -> Result<PlacedTable<A>, Refusal>
+    where
+        A: Clone,
+        ghost versions: { List Version }
+        requires { AreAtMost largest versions }
+        ensures opened { IfOk result (λ t. t ≡ table_at t.outline listed.first_block deletes versions) }
+        ensures told { Opens (outline_of listed footer.now index.now filter.now) (outline_opened result) }
+    {
+        outline_law();
+        let table = Table::open(alloc.clone()?, listed, footer, index, filter)?;
+        Ok(PlacedTable::new(alloc, table, listed, deletes, largest)?)
+    }
+
+    /// Opens an image as a table with these versions, none of which takes more than so many bytes.
     fn open_image(
         alloc: A,
         image: &Image<A>,
+        largest: usize,
         number: u64,
         first_block: u32,
     ) -> Result<PlacedTable<A>, Refusal>
     where
         A: Clone,
         ghost versions: { List Version }
-        requires { number ≤ 2 ^ 63 }
+        requires number { number ≤ 2 ^ 63 }
+        requires largest { AreAtMost largest versions }
         ensures placed { IfOk result (λ t. t ≡ table_at (outline_in number (filter_of (keys_of image.now)) image.now) first_block (deletes_in (entries_of image.now)) versions) }
         ensures memory { IfErr result (λ refusal. refusal ≡ NoMemory) }
     {
@@ -160,10 +197,11 @@ impl<A: Allocator> PlacedTable<A> {
         let _blocks = image.data_blocks();
         let mut filter = [0; 4_096];
         filter.copy_from_slice(image.filter().block());
-        PlacedTable::open(
+        PlacedTable::open_sized(
             alloc,
             listed,
             image.deletes(),
+            largest,
             &image.footer(number),
             image.index(),
             &filter,
@@ -184,7 +222,8 @@ impl<A: Allocator> PlacedTable<A> {
         ensures placed { IfOk result (λ t. t ≡ table_of number first_block image.now) }
         ensures memory { IfErr result (λ refusal. refusal ≡ NoMemory) }
     {
-        PlacedTable::open_image(alloc, image, number, first_block)
+        let largest = image.largest_entry();
+        PlacedTable::open_image(alloc, image, largest, number, first_block)
     }
 
     /// Another handle of the table. It copies nothing; `AllocError` only where there are 2^63 handles.
@@ -257,6 +296,14 @@ impl<A: Allocator> PlacedTable<A> {
         ensures { result ≡ self.now.outline.entries }
     {
         self.table().entries()
+    }
+
+    /// No entry of it takes more bytes in a block: those that its largest takes, where the table was made since the store was
+    /// opened, and else 2,315, which is the most that an entry takes.
+    pub fn largest_entry(&self) -> usize
+        ensures { AreAtMost result self.now.versions }
+    {
+        self.shared.largest_entry()
     }
 
     /// Whether half of its entries or more are deletes.

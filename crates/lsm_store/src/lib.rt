@@ -54,7 +54,7 @@ pub use law::{
 };
 pub use lsm_jobs::TakenJob;
 pub use lsm_levels::Choice;
-pub use lsm_mem::{Page, RowRef, Rows};
+pub use lsm_mem::{MemSize, Page, RowRef, Rows};
 pub use opened_law::{opened_work_is_sound, openings_are_opened};
 pub use pieces::Piece;
 pub use stat::Stat;

@@ -18,6 +18,7 @@ pub mod TableCounts
 pub mod Reading
 pub mod Filters
 pub mod Deletes
+pub mod Largest
 pub mod Blocked
 pub mod StoredTables
 pub mod Spanning

@@ -6,6 +6,7 @@ pub mod Places
 pub mod Outlines
 pub mod Extents
 pub mod BlockCounts
+pub mod Sizes
 pub mod Stored
 pub mod Laws
 pub mod Items

@@ -9,6 +9,7 @@ ghost use Rattle.lsm_filter.specs.Bits.{filter_of, with_key, is_perhaps};
 ghost use Rattle.lsm_table.specs.Division.{IsTable, entries_of};
 ghost use Rattle.lsm_table.specs.BlockEdges.{edges_of, first_key_of};
 ghost use Rattle.lsm_table.specs.Outlines.{outline_in, IsRecordOf};
+ghost use Rattle.lsm_table.specs.Sizes.{larger, largest_from, largest_entry};
 ghost use Rattle.lsm_table.specs.Extents.{keys_of, footer_in, extent_size, extent_in_blocks};
 
 use crate::edges::edges_of;
@@ -112,6 +113,36 @@ fn first_key<A: Allocator>(blocks: &[Vec<Entry<A>, A>]) -> &[u8]
     entry.key()
 }
 
+/// The size of an entry where it is above a number, or else the number.
+fn larger<A: Allocator>(so_far: usize, entry: &Entry<A>) -> usize
+    ensures { result ≡ larger so_far entry.now }
+{
+    let size = entry.size();
+    if so_far < size { size } else { so_far }
+}
+
+/// The greatest of a number and the sizes of entries.
+fn largest_from<A: Allocator>(so_far: usize, entries: &[Entry<A>]) -> usize
+    ensures { result ≡ largest_from so_far entries.now }
+{
+    let mut largest = so_far;
+    for entry in entries {
+        largest = larger(largest, entry);
+    }
+    largest
+}
+
+/// The bytes that the largest entry of blocks takes.
+fn largest_of<A: Allocator>(blocks: &[Vec<Entry<A>, A>]) -> usize
+    ensures { result ≡ largest_entry (entries_of (map (λ b. b.items) blocks.now)) }
+{
+    let mut largest = 0;
+    for block in blocks {
+        largest = largest_from(largest, block);
+    }
+    largest
+}
+
 /// A table that is not yet written. Contracts see its data blocks, each a list of versions.
 #[derive(Drop)]
 pub struct Image<A: Allocator = Global> {
@@ -183,6 +214,13 @@ impl<A: Allocator> Image<A> {
         ensures among { result ≤ length (entries_of self.now) }
     {
         self.deletes
+    }
+
+    /// The bytes that its largest entry takes in a block.
+    pub fn largest_entry(&self) -> usize
+        ensures { result ≡ largest_entry (entries_of self.now) }
+    {
+        largest_of(&self.blocks)
     }
 
     /// How many blocks the index takes, from 1 to 5.

@@ -1,4 +1,4 @@
 use Rattle.lsm_levels.proofs.table.PlacedTable.open.Given as goal
 
-abbrev pub ghost-new : goal.ghost-new
-ghost-new g a = g.versions
+abbrev pub ghost-open_sized : goal.ghost-open_sized
+ghost-open_sized g a = g.versions
