@@ -29,7 +29,10 @@ fn is_rewritten<R: Abort>(
 fn a_table_is_rewritten_in_its_level(rt: HostRuntime) {
     let mut store = with_four_levels(&rt, rt.alloc());
     for level in 1..4_usize {
-        assert!(rt; is_rewritten(&rt, &mut store, level, &[], 5), "level {level}");
+        assert!(rt;
+            is_rewritten(&rt, &mut store, level, &[], 5),
+            "level {level}"
+        );
     }
     assert!(rt; store.compact_all(&rt) && is_rewritten(&rt, &mut store, 4, &[], 5));
     let mut again = store.crashed(&rt, &[]);
