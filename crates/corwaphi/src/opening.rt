@@ -7,7 +7,7 @@ ghost use Rattle.lsm_upkeep.specs.Upkeep.{OpensLog};
 use lsm_device::Device;
 use lsm_policy::Policy;
 use lsm_store::Store;
-use lsm_upkeep::compact;
+use lsm_upkeep::{compact, open_log};
 use std::alloc::Global;
 use std::thread::Threads;
 
@@ -31,13 +31,5 @@ fn ready<R: Threads + Sync, D: Device>(rt: &R, alloc: Global, store: &mut Store<
     ensures upkept { IsUpkept store.old store.new }
 {
     compact(rt, alloc, store, &Policy::new());
-    open_log(store);
-}
-
-fn open_log<D: Device>(store: &mut Store<D>)
-    ensures { OpensLog store.old store.new }
-{
-    if let Ok(0) = store.log_room() {
-        let _ = store.rotate();
-    }
+    open_log(rt, alloc, store);
 }

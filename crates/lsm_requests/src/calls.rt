@@ -22,7 +22,7 @@ ghost use Rattle.lsm_requests.specs.Answers.{Comes, Hands, HasCompacted, HasForm
 ghost use Rattle.lsm_requests.specs.Refusing.{FaultsWith, RefusesToCommit, RefusesToCompact, RefusesToTell};
 
 use crate::answer::{Answer, Output};
-use crate::committing::{blocks_of_log, check_room, keep};
+use crate::committing::keep;
 use crate::dumping::dump_rows;
 use crate::exploring::explore;
 use crate::failing::{failed, with_error};
@@ -230,7 +230,6 @@ fn keep_and_load<R: Threads + Sync, D: Device, I: BufRead, P: Progress>(
     ensures refused { IfErr result (RefusesToLoad (I.remaining lines.old) store.old) }
 {
     keep(rt, alloc, store);
-    check_room(store, blocks_of_log(store)?)?;
     load_rows(rt, alloc, store, lines, progress)
 }
 

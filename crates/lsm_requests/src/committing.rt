@@ -14,7 +14,7 @@ use lsm_codec::{Batch, Guard};
 use lsm_device::{Device, Refusal};
 use lsm_policy::Policy;
 use lsm_store::Store;
-use lsm_upkeep::{compact, has_room, keep_up};
+use lsm_upkeep::{admit, keep_up};
 use std::alloc::Global;
 use std::thread::Threads;
 
@@ -30,7 +30,7 @@ pub fn put<R: Threads + Sync, D: Device>(
     ensures refused { IfErr result (RefusesToCommit true (Commit batch.now) store.old) }
 {
     keep(rt, alloc, store);
-    check_room(store, 0)?;
+    admit(rt, alloc, store, batch)?;
     let number = store.commit(batch)?;
     store.sync()?;
     Ok(Output::Batch(number))
@@ -48,7 +48,7 @@ pub fn put_if<R: Threads + Sync, D: Device>(
     ensures refused { IfErr result (RefusesToCommit true (CommitIf guards.now batch.now) store.old) }
 {
     keep(rt, alloc, store);
-    check_room(store, 0)?;
+    admit(rt, alloc, store, batch)?;
     let number = store.commit_if(guards, batch)?;
     store.sync()?;
     Ok(Output::Batch(number))
@@ -65,6 +65,7 @@ pub fn delete<R: Threads + Sync, D: Device>(
     ensures refused { IfErr result (RefusesToCommit false (Commit batch.now) store.old) }
 {
     keep(rt, alloc, store);
+    admit(rt, alloc, store, batch)?;
     let number = store.commit(batch)?;
     store.sync()?;
     Ok(Output::Batch(number))
@@ -78,20 +79,7 @@ pub fn keep<R: Threads + Sync, D: Device>(rt: &R, alloc: Global, store: &mut Sto
     keep_up(rt, alloc, store, &Policy::new());
 }
 
-/// Refuses puts with `NoSpace` where less than a third of the blocks is free, beside so many that are to be filled, or more than 768
-/// tables live.
-pub fn check_room<D: Device>(store: &Store<D>, beside: u32) -> Result<(), Refusal>
-    ensures { MatchResult result (λ _. takes_puts beside store.now ≡ true) (λ e. (e ≡ NoSpace) × (takes_puts beside store.now ≡ false)) }
-{
-    if has_room(store, &Policy::new(), beside) {
-        return Ok(());
-    }
-    Err(Refusal::NoSpace)
-}
-
-/// Commits a batch of puts. Where the open log has no room for it, another one is opened, and the store is compacted; it is
-/// refused with `NoSpace` if puts find no room then, beside the blocks that a full log fills. With `LogFull` it is
-/// refused only behind another log. What is refused leaves the map as it was.
+/// Commits a batch of puts that is admitted. What is refused leaves the map as it was.
 pub fn add<R: Threads + Sync, D: Device>(
     rt: &R,
     alloc: Global,
@@ -100,33 +88,6 @@ pub fn add<R: Threads + Sync, D: Device>(
 ) -> Result<u64, Refusal>
     ensures adds { MatchResult result (λ _. Adds batch.now store.old store.new) (λ e. AddsNot batch.now store.old e store.new) }
 {
-    match store.commit(batch) {
-        Ok(number) => Ok(number),
-        Err(Refusal::LogFull) => add_behind(rt, alloc, store, batch),
-        Err(refusal) => Err(refusal),
-    }
-}
-
-// Commits a batch to another log, behind a commit that found no room in the open one.
-fn add_behind<R: Threads + Sync, D: Device>(
-    rt: &R,
-    alloc: Global,
-    store: &mut Store<D>,
-    batch: &Batch,
-) -> Result<u64, Refusal>
-    ensures adds { (before : StoreView) → Serves before (Commit batch.now) (Refused LogFull) store.old
-        → MatchResult result (λ _. Adds batch.now before store.new) (λ e. AddsNot batch.now before e store.new) }
-{
-    store.rotate()?;
-    compact(rt, alloc, store, &Policy::new());
-    check_room(store, blocks_of_log(store)?)?;
+    admit(rt, alloc, store, batch)?;
     store.commit(batch)
-}
-
-/// The blocks that tables of the entries fill for which the open log has room.
-pub fn blocks_of_log<D: Device>(store: &Store<D>) -> Result<u32, Refusal>
-    ensures blocks { IfOk result (FillsWithLog store.now) }
-    ensures refused { IfErr result (λ e. Serves store.now LogRoom (Refused e) store.now) }
-{
-    Ok(store.log_room()? / 8)
 }

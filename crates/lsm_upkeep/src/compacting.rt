@@ -3,25 +3,31 @@
 ghost use Rattle.std.specs.Prelude.{◌≡◌};
 ghost use Rattle.lsm_store.specs.Backing.{machine_of};
 ghost use Rattle.lsm_upkeep.specs.Choosing.{are_in_last, is_nil};
-ghost use Rattle.lsm_upkeep.specs.Keeping.{KeepsMap};
-ghost use Rattle.lsm_upkeep.specs.Upkeep.{Compacts, CompactsAll, is_compacted};
-ghost use Rattle.lsm_upkeep.specs.Wanting.{Finishes};
+ghost use Rattle.lsm_upkeep.specs.Upkeep.{is_compacted};
 
-use crate::finishing::finish_asked;
-use crate::wanting::{Wanted, wanted_by, wanted_down};
+use crate::finishing::finish_step;
+use crate::flushing::{flush, is_waiting};
+use crate::pushing::join_all;
+use crate::stepping::{Went, step_down, step_to_the_last};
+use crate::wanting::{Wanted, wanted_by};
 use lsm_device::Device;
-use lsm_levels::{Levels, Run};
+use lsm_levels::{Choice, Levels, Run};
 use lsm_policy::Policy;
 use lsm_progress::{Milestone, Progress, Silent};
+use lsm_room::Step;
 use lsm_store::Store;
 use std::alloc::{Allocator, Global};
 use std::thread::Threads;
 
-/// The most jobs that are finished at once: each takes a table down, and 1,024 tables can go down four levels.
+/// The most jobs that are finished at once.
 const MOST_JOBS: u32 = 4_096;
 
+/// The most steps that bring all tables into the last level: each of 1,024 tables goes down four levels, and may be cut before.
+const MOST_STEPS: u32 = 16_384;
+
 /// Finishes jobs, one after another, until there is no more to do, one can't be finished, or 4,096 are: a flush where one
-/// waits, and else the merge that the policy chooses. One that can't be finished is given up.
+/// waits, and else the merge that the policy chooses, or where that isn't sure to find room a step down. One that can't be finished is
+/// given up.
 ///
 /// What is refused is passed over: the store goes on as it then is, and its map is the same.
 pub fn compact<R: Threads + Sync, D: Device>(
@@ -29,46 +35,66 @@ pub fn compact<R: Threads + Sync, D: Device>(
     alloc: Global,
     store: &mut Store<D>,
     policy: &Policy,
-)
-    ensures compacts { Compacts store.old store.new }
-    ensures map { KeepsMap store.old store.new }
-{
+) {
     for _ in 0..MOST_JOBS {
-        let wanted = wanted_by(policy, store);
-        if !finish_wanted(rt, alloc, store, wanted) {
+        if is_waiting(store) && !flush(rt, alloc, store) {
+            return;
+        }
+        if !finish_wanted(rt, alloc, store, policy) {
             return;
         }
     }
 }
 
-/// Brings all tables into the last level, where deletes have nothing more to delete and small tables are joined: it finishes
-/// jobs as [`compact`] does, but takes down whatever can go down, the upper levels first. A merge of neighbours takes in 512
-/// blocks at most, and none takes in more than are free. It tells whether all tables are in the last level then. What is in memory
-/// stays there.
+// Finishes what the policy wants next. It tells whether it did.
+fn finish_wanted<R: Threads + Sync, D: Device>(
+    rt: &R,
+    alloc: Global,
+    store: &mut Store<D>,
+    policy: &Policy,
+) -> bool {
+    match wanted_by(policy, store) {
+        Wanted::Nothing => false,
+        Wanted::Step => matches!(step_down(rt, alloc, store), Went::On),
+        Wanted::Merge(choice) => finish_merge(rt, alloc, store, choice),
+    }
+}
+
+fn finish_merge<R: Threads + Sync, D: Device>(
+    rt: &R,
+    alloc: Global,
+    store: &mut Store<D>,
+    choice: Choice,
+) -> bool {
+    match Step::whole(&alloc, choice) {
+        Ok(step) => finish_step(rt, alloc, store, step),
+        Err(_) => false,
+    }
+}
+
+/// Brings all tables into the last level, where deletes have nothing more to delete and small tables are joined, by steps of which
+/// each is sure to find room. It tells whether all tables are in the last level then. What is in memory stays there.
 pub fn compact_all<R: Threads + Sync, D: Device>(
     rt: &R,
     alloc: Global,
     store: &mut Store<D>,
 ) -> bool
-    ensures compacts { CompactsAll store.old store.new }
     ensures compacted { result ≡ is_compacted (machine_of store.new) }
-    ensures map { KeepsMap store.old store.new }
 {
     compact_all_showing(rt, alloc, store, &mut Silent)
 }
 
-/// Does as [`compact_all`], and tells `progress` of each job that it has finished.
+/// Does as [`compact_all`], and tells `progress` of each step that it has finished.
 pub fn compact_all_showing<R: Threads + Sync, D: Device, P: Progress>(
     rt: &R,
     alloc: Global,
     store: &mut Store<D>,
     progress: &mut P,
 ) -> bool
-    ensures compacts { CompactsAll store.old store.new }
     ensures compacted { result ≡ is_compacted (machine_of store.new) }
-    ensures map { KeepsMap store.old store.new }
 {
     take_down(rt, alloc, store, progress);
+    join_all(rt, alloc, store);
     is_compacted(store)
 }
 
@@ -77,31 +103,16 @@ fn take_down<R: Threads + Sync, D: Device, P: Progress>(
     alloc: Global,
     store: &mut Store<D>,
     progress: &mut P,
-)
-    ensures { CompactsAll store.old store.new }
-{
-    for jobs in 0..MOST_JOBS {
+) {
+    for jobs in 0..MOST_STEPS {
         progress.reached(Milestone::Compacted { jobs });
-        let wanted = wanted_down(store);
-        if !finish_wanted(rt, alloc, store, wanted) {
+        if is_waiting(store) && !flush(rt, alloc, store) {
             return;
         }
-    }
-}
-
-// Finishes the job that is wanted, if one is. It tells whether it did.
-fn finish_wanted<R: Threads + Sync, D: Device>(
-    rt: &R,
-    alloc: Global,
-    store: &mut Store<D>,
-    wanted: Wanted,
-) -> bool
-    ensures { Finishes result wanted store.old store.new }
-{
-    match wanted {
-        Wanted::Nothing => false,
-        Wanted::Flush => finish_asked(rt, alloc, store, None),
-        Wanted::Merge(choice) => finish_asked(rt, alloc, store, Some(choice)),
+        match step_to_the_last(rt, alloc, store) {
+            Went::On => {}
+            Went::ToTheEnd | Went::Nowhere => return,
+        }
     }
 }
 

@@ -1,40 +1,46 @@
 //! One job, taken and finished.
 
-ghost use Rattle.std.specs.Prelude.{◌≡◌, true, false, MatchResult};
-ghost use Rattle.lsm_store.specs.Calls.{Done, reply_of};
-ghost use Rattle.lsm_store.specs.Work.{Take, Read, Write};
-ghost use Rattle.lsm_store.specs.Working.{Works, taken_reply};
+ghost use Rattle.std.specs.Prelude.{◌≡◌, true, false, Some, None, MatchResult};
+ghost use Rattle.lsm_store.specs.Calls.{Done};
+ghost use Rattle.lsm_store.specs.Work.{Read, Write};
 ghost use Rattle.lsm_upkeep.specs.Finishing.{GoesThrough, IsFinished, IsGivenUp, DoesNotGoThrough, IsOffered, IsReadWhole, IsStuck, IsUndone, IsUnmerged, IsUnread, Taken};
 
+use lsm_codec::Key;
 use lsm_device::{Device, Refusal};
-use lsm_merge::build;
-use lsm_store::{Choice, Store, TakenJob};
+use lsm_merge::build_divided;
+use lsm_room::Step;
+use lsm_store::{Store, TakenJob};
 use std::alloc::Global;
 use std::thread::Threads;
 
-/// Takes the job that is asked for and finishes it. It tells whether it did.
-pub(crate) fn finish_asked<R: Threads + Sync, D: Device>(
+/// Takes the job that comes next and finishes it. It tells whether it did.
+pub(crate) fn finish_next<R: Threads + Sync, D: Device>(
     rt: &R,
     alloc: Global,
     store: &mut Store<D>,
-    asked: Option<Choice>,
 ) -> bool
-    ensures finished { result ≡ true → Taken IsFinished asked store.old store.new }
-    ensures undone { result ≡ false → IsUndone asked store.old store.new }
+    ensures finished { result ≡ true → Taken IsFinished None store.old store.new }
+    ensures undone { result ≡ false → IsUndone None store.old store.new }
 {
-    match take(store, asked) {
-        Ok(Some(taken)) => finish_or_drop(rt, alloc, store, taken),
+    match store.job_take() {
+        Ok(Some(taken)) => finish_or_drop(rt, alloc, store, taken, Vec::new(alloc)),
         Ok(None) | Err(_) => false,
     }
 }
 
-// Takes the job of a choice, or where none is made the one that comes next.
-fn take<D: Device>(store: &mut Store<D>, asked: Option<Choice>) -> Result<Option<TakenJob>, Refusal>
-    ensures { Works store.old (Take asked) (reply_of taken_reply result) store.new }
+/// Takes a step and finishes it. It tells whether it did.
+pub(crate) fn finish_step<R: Threads + Sync, D: Device>(
+    rt: &R,
+    alloc: Global,
+    store: &mut Store<D>,
+    step: Step,
+) -> bool
+    ensures finished { result ≡ true → Taken IsFinished (Some step.choice) store.old store.new }
+    ensures undone { result ≡ false → IsUndone (Some step.choice) store.old store.new }
 {
-    match asked {
-        Some(choice) => store.job_take_of(choice),
-        None => store.job_take(),
+    match store.job_take_of(step.choice) {
+        Ok(Some(taken)) => finish_or_drop(rt, alloc, store, taken, step.divisions),
+        Ok(None) | Err(_) => false,
     }
 }
 
@@ -44,11 +50,12 @@ fn finish_or_drop<R: Threads + Sync, D: Device>(
     alloc: Global,
     store: &mut Store<D>,
     taken: TakenJob,
+    divisions: Vec<Key>,
 ) -> bool
     ensures finished { result ≡ true → IsFinished taken.number taken.level store.old store.new }
     ensures given_up { result ≡ false → IsGivenUp taken.number taken.level store.old store.new }
 {
-    match finish(rt, alloc, store, taken) {
+    match finish(rt, alloc, store, taken, divisions) {
         Ok(()) => true,
         Err(_) => {
             let _ = store.job_drop(taken.number);
@@ -63,11 +70,12 @@ fn finish<R: Threads + Sync, D: Device>(
     alloc: Global,
     store: &mut Store<D>,
     taken: TakenJob,
+    divisions: Vec<Key>,
 ) -> Result<(), Refusal>
     ensures { MatchResult result (λ _. IsFinished taken.number taken.level store.old store.new) (λ _. IsStuck taken.number taken.level store.old store.new) }
 {
     read(store, taken)?;
-    merge(rt, alloc, store, taken.number)?;
+    merge(rt, alloc, store, taken.number, divisions)?;
     write(store, taken.number)?;
     store.job_install(taken.number)
 }
@@ -96,17 +104,18 @@ fn read_tables<D: Device>(store: &mut Store<D>, job: u64) -> Result<(), Refusal>
     Ok(())
 }
 
-// Merges what was read, on the caller's thread.
+// Merges what was read, on the caller's thread, and divides it.
 fn merge<R: Threads + Sync, D: Device>(
     rt: &R,
     alloc: Global,
     store: &mut Store<D>,
     job: u64,
+    divisions: Vec<Key>,
 ) -> Result<(), Refusal>
     ensures { MatchResult result (λ _. IsOffered job Done store.old store.new) (λ _. IsUnmerged job store.old store.new) }
 {
     let input = store.job_input(job)?;
-    let built = build(rt, alloc, input, 1)?;
+    let built = build_divided(rt, alloc, input, 1, divisions)?;
     store.job_accept(job, &built)
 }
 

@@ -2,6 +2,8 @@
 //!
 //! | call | what it does |
 //! |---|---|
+//! | [`admit`] | what a batch wants: it finds room in tables, and the open log has room for it |
+//! | [`open_log`] | the flush that waits; then a log with room is opened |
 //! | [`settle`] | the jobs that come next, until none does; then a log with room is opened |
 //! | [`compact`] | a flush where one waits, and the merges that `lsm_policy` chooses, until it chooses none |
 //! | [`compact_all`] | merges until all tables are in the last level, or nothing more can go down; [`compact_all_showing`] tells how far it is |
@@ -13,20 +15,23 @@
 //! ```
 //! let policy = Policy::new();
 //! keep_up(rt, alloc, &mut store, &policy);
-//! if !has_room(&store, &policy, 0) {
-//!     return Err(Refusal::NoSpace);
-//! }
+//! admit(rt, alloc, &mut store, &batch)?;
 //! store.commit(&batch)?;
 //! ```
 #![tactic(auto)]
 
-mod choosing;
+mod admitting;
 mod compacting;
+mod demand;
 mod finishing;
+mod flushing;
 mod keeping;
+mod pushing;
 mod settling;
+mod stepping;
 mod wanting;
 
+pub use admitting::{admit, open_log};
 pub use compacting::{compact, compact_all, compact_all_showing};
 pub use keeping::{has_room, keep_up};
 pub use settling::settle;

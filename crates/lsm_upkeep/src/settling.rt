@@ -3,7 +3,7 @@
 ghost use Rattle.lsm_upkeep.specs.Keeping.{KeepsMap};
 ghost use Rattle.lsm_upkeep.specs.Upkeep.{AsksNext, FinishesJobs, NeverNone, OpensLog, Settles};
 
-use crate::finishing::finish_asked;
+use crate::finishing::finish_next;
 use lsm_device::Device;
 use lsm_store::Store;
 use std::alloc::Global;
@@ -28,7 +28,7 @@ fn finish_jobs<R: Threads + Sync, D: Device>(rt: &R, alloc: Global, store: &mut 
     ensures { FinishesJobs AsksNext NeverNone 64 store.old store.new }
 {
     for _ in 0..MOST_JOBS {
-        if !finish_asked(rt, alloc, store, None) {
+        if !finish_next(rt, alloc, store) {
             return;
         }
     }

@@ -1,53 +1,37 @@
 //! What is to be done next.
 
-ghost use Rattle.std.specs.Prelude.{◌≡◌};
-ghost use Rattle.lsm_upkeep.specs.Upkeep.{IsAtEnd, IsIdle};
-ghost use Rattle.lsm_upkeep.specs.Wanting.{IsWanted, merge_of};
-
-use crate::choosing::choice_down;
+use crate::stepping::standing;
 use lsm_device::Device;
+use lsm_levels::Choice;
 use lsm_policy::Policy;
-use lsm_store::{Choice, Store};
+use lsm_store::Store;
+
+/// From so many runs of level 0 on they go down in steps where what the policy chooses isn't sure to find room.
+const SOME_RUNS: usize = 4;
+
+/// From so many on they go down in steps where the policy chooses nothing.
+const MANY_RUNS: usize = 8;
 
 /// What is to be done next.
 #[derive(Clone, Copy)]
 pub(crate) enum Wanted {
     /// Nothing.
     Nothing,
-    /// The job that comes next, a flush.
-    Flush,
+    /// A step down.
+    Step,
     /// The merge of a choice.
     Merge(Choice),
 }
 
-/// What the policy wants: a flush where one waits, and else the merge that it chooses.
-pub(crate) fn wanted_by<D: Device>(policy: &Policy, store: &Store<D>) -> Wanted
-    ensures { IsWanted IsIdle store.now result }
-{
-    match store.stat() {
-        Ok(stat) if stat.waiting => Wanted::Flush,
-        Ok(stat) => { merge_of(policy.next_choice(store.levels(), stat.free_blocks, store.jobs())) }
-        Err(_) => Wanted::Nothing,
-    }
-}
-
-/// What brings all tables into the last level: a flush where one waits, and else the merge of the first level that has tables
-/// which can go down.
-pub(crate) fn wanted_down<D: Device>(store: &Store<D>) -> Wanted
-    ensures { IsWanted IsAtEnd store.now result }
-{
-    match store.stat() {
-        Ok(stat) if stat.waiting => Wanted::Flush,
-        Ok(stat) => merge_of(choice_down(store.levels(), stat.free_blocks, store.jobs())),
-        Err(_) => Wanted::Nothing,
-    }
-}
-
-fn merge_of(choice: Option<Choice>) -> Wanted
-    ensures { result ≡ merge_of choice }
-{
-    match choice {
-        Some(choice) => Wanted::Merge(choice),
-        None => Wanted::Nothing,
+/// What the policy wants: the merge that it chooses, where that is sure to find room; or else a step down, where level 0 has some runs.
+pub(crate) fn wanted_by<D: Device>(policy: &Policy, store: &Store<D>) -> Wanted {
+    let Ok(stat) = store.stat() else {
+        return Wanted::Nothing;
+    };
+    match policy.next_choice(store.levels(), stat.free_blocks, store.jobs()) {
+        Some(choice) if standing(store).is_sure(choice, u64::MAX) => Wanted::Merge(choice),
+        Some(_) if stat.runs >= SOME_RUNS => Wanted::Step,
+        _ if stat.runs >= MANY_RUNS => Wanted::Step,
+        _ => Wanted::Nothing,
     }
 }

@@ -1,0 +1,221 @@
+//! Whether a batch may be taken: what it makes of its keys will find room, in a flush and in the last level.
+
+use crate::bounds::{Sizes, blocks_with, packed, tables_of};
+use crate::standing::Standing;
+use lsm_levels::HeldJobs;
+use lsm_mem::MemSize;
+use std::alloc::Allocator;
+
+/// Deletes in memory come to so many blocks of tables at most.
+const DELETE_BLOCKS: u64 = 80;
+
+/// Puts are taken with so many tables at most.
+const TABLES_FOR_PUTS: u64 = 795;
+
+/// Deletes are taken with so many tables at most without a step before.
+const TABLES_FOR_DELETES: u64 = 900;
+
+/// Deletes are taken with fewer runs of level 0 than so many without a step before.
+const RUNS_FOR_DELETES: usize = 10;
+
+/// An area of so many blocks or more takes what a full log holds, however much that is.
+const LARGE_AREA: u64 = 8_192;
+
+/// The bytes that a block of deletes has at least: one of the largest has no room in it.
+const DELETE_ROOM: u64 = 3_828;
+
+/// The blocks that a store keeps free, by the size of its area.
+#[derive(Clone, Copy)]
+pub struct Reserve {
+    area: u64,
+}
+
+impl Reserve {
+    /// Those of an area of so many blocks.
+    pub fn of(area: u64) -> Reserve {
+        Reserve { area }
+    }
+
+    /// What steps want: one table is cut, or one goes down.
+    pub fn for_steps(self) -> u64 {
+        if self.area < 400 {
+            100
+        } else if self.area < 1_000 {
+            160
+        } else {
+            200
+        }
+    }
+
+    /// What puts leave: for steps, and for deletes that come after them; and at least a sixth of the area.
+    pub fn for_puts(self) -> u64 {
+        self.for_steps()
+            .saturating_add(DELETE_BLOCKS)
+            .max(self.area / 6)
+    }
+
+    /// What is free besides behind steps that are taken for puts, so that each few puts don't ask for them again.
+    pub fn to_spare(self) -> u64 {
+        self.area / 24
+    }
+
+    /// The blocks of deletes in memory from which on another log is opened.
+    fn deletes(self) -> u64 {
+        (self.area / 16).max(20)
+    }
+
+    /// The blocks of all that is in memory from which on another log is opened, if the area is small.
+    fn flush(self) -> u64 {
+        if self.area >= LARGE_AREA {
+            return u64::MAX;
+        }
+        (self.area / 8).max(30)
+    }
+}
+
+/// The blocks of tables of so many data blocks and entries.
+fn blocks_of(data: u64, entries: u64) -> u64 {
+    if entries == 0 {
+        return 0;
+    }
+    blocks_with(data, tables_of(data, entries))
+}
+
+/// The data blocks that entries of so many bytes take at most.
+fn data_of(bytes: u64, largest: u64) -> u64 {
+    packed(bytes.div_ceil(4_094), largest)
+}
+
+/// The blocks that the deletes in memory come to.
+fn delete_blocks(memory: MemSize) -> u64 {
+    let data = (memory.delete_bytes / DELETE_ROOM)
+        .saturating_add(1)
+        .min(memory.deletes);
+    blocks_of(data.saturating_add(memory.deletes / 3_200), memory.deletes)
+}
+
+/// The blocks that a flush of memory takes at most.
+pub fn flush_blocks(memory: MemSize) -> u64 {
+    let data = data_of(memory.bytes, memory.largest).saturating_add(memory.entries / 3_200);
+    blocks_of(data.min(memory.entries), memory.entries)
+}
+
+/// What is in memory, where a live snapshot keeps each delete.
+fn counted(memory: MemSize, live: bool) -> MemSize {
+    if !live {
+        return memory;
+    }
+    MemSize {
+        deletes: 0,
+        delete_bytes: 0,
+        ..memory
+    }
+}
+
+/// The charge of what is in memory: the blocks by which its puts may make the last level larger.
+fn charge_of(memory: MemSize) -> u64 {
+    memory
+        .entries
+        .saturating_sub(memory.deletes)
+        .saturating_add(memory.large)
+}
+
+/// Whether memory is small enough that more may come into it, where there is some.
+pub fn is_small(reserve: Reserve, memory: MemSize) -> bool {
+    delete_blocks(memory) <= reserve.deletes() && flush_blocks(memory) <= reserve.flush()
+}
+
+impl<'a, H: HeldJobs, A: Allocator> Standing<'a, H, A> {
+    /// The blocks that the store keeps free.
+    pub fn reserve(&self) -> Reserve {
+        Reserve::of(self.area())
+    }
+
+    /// Whether memory may become so much, of which `before` was there: its flush will find room, and so will what it makes of the last
+    /// level. Of deletes alone less is asked.
+    pub fn admits(&self, before: MemSize, after: MemSize, puts: bool) -> bool {
+        let memory = counted(after, self.live);
+        let reserve = self.reserve();
+        if delete_blocks(memory) > DELETE_BLOCKS {
+            return false;
+        }
+        if before.entries > 0 && !is_small(reserve, memory) {
+            return false;
+        }
+        if !puts && charge_of(memory) == 0 {
+            return self.admits_deletes(memory, reserve);
+        }
+        self.is_a_third_free()
+            && self.tables() <= TABLES_FOR_PUTS
+            && self.leaves(memory, reserve.for_puts())
+    }
+
+    /// Whether it admits so much with some blocks to spare, and few runs are in level 0.
+    pub fn admits_easily(&self, before: MemSize, after: MemSize, puts: bool) -> bool {
+        let memory = counted(after, self.live);
+        let reserve = self.reserve();
+        let spare = reserve.for_puts().saturating_add(reserve.to_spare());
+        self.admits(before, after, puts)
+            && self.levels.runs().len() < 4
+            && self.has_spare()
+            && ((!puts && charge_of(memory) == 0) || self.leaves(memory, spare))
+    }
+
+    /// Whether besides the reserve of puts some blocks are free to spare.
+    pub fn has_spare(&self) -> bool {
+        let reserve = self.reserve();
+        self.free() >= reserve.for_puts().saturating_add(reserve.to_spare())
+    }
+
+    fn admits_deletes(&self, memory: MemSize, reserve: Reserve) -> bool {
+        delete_blocks(memory).saturating_add(reserve.for_steps()) <= self.free()
+            && self.tables() <= TABLES_FOR_DELETES
+            && self.levels.runs().len() < RUNS_FOR_DELETES
+    }
+
+    fn is_a_third_free(&self) -> bool {
+        self.taken() <= self.free().saturating_mul(2)
+    }
+
+    // Whether so many blocks are left where all that stands and memory has come to the last level.
+    fn leaves(&self, memory: MemSize, blocks: u64) -> bool {
+        self.growth(memory).saturating_add(blocks) <= self.free()
+    }
+
+    // By how many blocks all tables and memory grow at most until all is in the last level.
+    fn growth(&self, memory: MemSize) -> u64 {
+        let last = self.last_level();
+        let mut above = Sizes::none().with_runs(self.levels.runs());
+        let mut below = Sizes::none();
+        for (place, run) in self.levels.deeper().iter().enumerate() {
+            if place.saturating_add(1) == last {
+                below = below.with_all(run.tables());
+            } else {
+                above = above.with_all(run.tables());
+            }
+        }
+        grown(above, below, memory)
+    }
+}
+
+// By how many blocks tables above the last level, those in it and memory grow at most.
+fn grown(above: Sizes, below: Sizes, memory: MemSize) -> u64 {
+    let charge = charge_of(memory);
+    if charge == 0 && above.entries == 0 {
+        return 0;
+    }
+    let all = above.data.saturating_add(below.data);
+    let largest = above.largest.max(below.largest).max(memory.largest);
+    let entries = above.entries.saturating_add(memory.entries);
+    let by_entries = below
+        .data
+        .saturating_add(above.entries)
+        .saturating_add(above.large)
+        .saturating_add(charge);
+    let in_memory = memory.bytes.div_ceil(4_094);
+    let by_bytes = packed(all.saturating_add(in_memory), largest)
+        .saturating_add(entries / 3_200)
+        .saturating_add(1);
+    let growth = by_entries.min(by_bytes).saturating_sub(all);
+    blocks_with(growth, tables_of(growth, entries))
+}

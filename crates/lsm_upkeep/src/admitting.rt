@@ -1,0 +1,79 @@
+//! A store is made ready for a batch.
+
+use crate::compacting::compact;
+use crate::demand::Demand;
+use crate::flushing::{flush, is_waiting};
+use crate::pushing::push;
+use lsm_codec::Batch;
+use lsm_device::{Device, Refusal};
+use lsm_policy::Policy;
+use lsm_store::Store;
+use std::alloc::Global;
+use std::thread::Threads;
+
+/// Makes a store ready for a batch: what the batch makes of its keys will find room in tables, and the open log has room for it. Where
+/// that is so at once, nothing is done.
+///
+/// It is refused with `NoSpace` where a batch that puts values finds no room, though all tables were brought down as far as they go. A
+/// batch of deletes is not, unless a snapshot is live. What else is refused is passed over: the store goes on as it then is, and its map
+/// is the same. A stopped store is left as it is, since it refuses the batch itself.
+pub fn admit<R: Threads + Sync, D: Device>(
+    rt: &R,
+    alloc: Global,
+    store: &mut Store<D>,
+    batch: &Batch,
+) -> Result<(), Refusal> {
+    if store.stat().is_err() {
+        return Ok(());
+    }
+    open_log(rt, alloc, store);
+    let demand = Demand::of(store, batch);
+    let has_log = demand.has_log(store);
+    if has_log && demand.is_met(store) {
+        return Ok(());
+    }
+    if has_log && !demand.puts && demand.joins(store) {
+        push(rt, alloc, store, Some(demand));
+        return Ok(());
+    }
+    next_log(rt, alloc, store);
+    if !has_log {
+        compact(rt, alloc, store, &Policy::new());
+    }
+    make_room(rt, alloc, store, Demand::of(store, batch))
+}
+
+/// Finishes the flush that waits, and opens a log where the open one has no room, or none is open.
+pub fn open_log<R: Threads + Sync, D: Device>(rt: &R, alloc: Global, store: &mut Store<D>) {
+    if is_waiting(store) {
+        flush(rt, alloc, store);
+    }
+    if let Ok(0) = store.log_room() {
+        next_log(rt, alloc, store);
+    }
+}
+
+// Opens another log, and flushes what was in the one before.
+fn next_log<R: Threads + Sync, D: Device>(rt: &R, alloc: Global, store: &mut Store<D>) {
+    if flush(rt, alloc, store) {
+        let _ = store.rotate();
+        flush(rt, alloc, store);
+    }
+}
+
+// Brings tables down until what is demanded is admitted. It is refused where puts are not.
+fn make_room<R: Threads + Sync, D: Device>(
+    rt: &R,
+    alloc: Global,
+    store: &mut Store<D>,
+    demand: Demand,
+) -> Result<(), Refusal> {
+    if demand.is_met(store) {
+        return Ok(());
+    }
+    push(rt, alloc, store, Some(demand));
+    if demand.puts && !(demand.is_met(store) && Demand::has_spare(store)) {
+        return Err(Refusal::NoSpace);
+    }
+    Ok(())
+}

@@ -1,0 +1,72 @@
+//! What a batch demands of a store.
+
+use crate::stepping::standing;
+use lsm_codec::{Batch, Operations};
+use lsm_device::Device;
+use lsm_mem::MemSize;
+use lsm_room::is_small;
+use lsm_store::Store;
+
+/// The bytes of a batch that a sector of the log takes.
+const SECTOR_ROOM: usize = 480;
+
+/// What a batch demands of a store: that memory becomes so large, and so many sectors of the log.
+#[derive(Clone, Copy)]
+pub(crate) struct Demand {
+    before: MemSize,
+    after: MemSize,
+    sectors: u32,
+    /// Whether it has puts, or a snapshot keeps its deletes.
+    pub puts: bool,
+}
+
+impl Demand {
+    /// That of a batch, of a store as it now is.
+    pub fn of<D: Device>(store: &Store<D>, batch: &Batch) -> Demand {
+        let before = store.memtable_size();
+        Demand {
+            before,
+            after: before.with_batch(batch),
+            sectors: batch.text_len().div_ceil(SECTOR_ROOM) as u32,
+            puts: store.has_snapshots() || puts_some(batch.operations()),
+        }
+    }
+
+    /// Whether the open log has room for it.
+    pub fn has_log<D: Device>(&self, store: &Store<D>) -> bool {
+        match store.log_room() {
+            Ok(room) => self.sectors <= room,
+            Err(_) => false,
+        }
+    }
+
+    /// Whether it is admitted.
+    pub fn is_met<D: Device>(&self, store: &Store<D>) -> bool {
+        standing(store).admits(self.before, self.after, self.puts)
+    }
+
+    /// Whether it is admitted with blocks to spare.
+    pub fn is_met_easily<D: Device>(&self, store: &Store<D>) -> bool {
+        standing(store).admits_easily(self.before, self.after, self.puts)
+    }
+
+    /// Whether blocks are free to spare.
+    pub fn has_spare<D: Device>(store: &Store<D>) -> bool {
+        standing(store).has_spare()
+    }
+
+    /// Whether it may come into the memory that is there, which is small enough still.
+    pub fn joins<D: Device>(&self, store: &Store<D>) -> bool {
+        self.before.entries > 0 && is_small(standing(store).reserve(), self.after)
+    }
+}
+
+// Whether one of these operations puts a value.
+fn puts_some(operations: Operations<'_>) -> bool {
+    for operation in operations {
+        if operation.value.is_some() {
+            return true;
+        }
+    }
+    false
+}

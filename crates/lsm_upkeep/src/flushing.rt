@@ -1,0 +1,58 @@
+//! What waits for a flush is flushed, and room is made for it where it lacks.
+
+use crate::finishing::finish_next;
+use crate::pushing::push;
+use crate::stepping::{Went, join, step_aside, step_down};
+use lsm_device::Device;
+use lsm_store::Store;
+use std::alloc::Global;
+use std::thread::Threads;
+
+/// A flush is tried so often at most.
+const MOST_TRIES: u32 = 60;
+
+/// From so many runs of level 0 on they go down before a flush.
+const MANY_RUNS: usize = 11;
+
+/// The runs that level 0 has at most.
+const MOST_RUNS: usize = 12;
+
+/// Finishes the flush that waits, if one does. It tells whether none waits then.
+pub(crate) fn flush<R: Threads + Sync, D: Device>(
+    rt: &R,
+    alloc: Global,
+    store: &mut Store<D>,
+) -> bool {
+    for _ in 0..MOST_TRIES {
+        if !is_waiting(store) {
+            return true;
+        }
+        if store.levels().runs().len() >= MANY_RUNS {
+            push(rt, alloc, store, None);
+        }
+        if !finish_next(rt, alloc, store) && !make_room(rt, alloc, store) {
+            return false;
+        }
+    }
+    !is_waiting(store)
+}
+
+/// Whether a store runs, and a flush waits.
+pub(crate) fn is_waiting<D: Device>(store: &Store<D>) -> bool {
+    match store.stat() {
+        Ok(stat) => stat.waiting,
+        Err(_) => false,
+    }
+}
+
+// Takes a step that makes room for a flush: where level 0 is full its oldest run goes down, and else a table is moved, or goes down, or
+// neighbours are joined.
+fn make_room<R: Threads + Sync, D: Device>(rt: &R, alloc: Global, store: &mut Store<D>) -> bool {
+    if store.levels().runs().len() < MOST_RUNS && step_aside(rt, alloc, store) {
+        return true;
+    }
+    match step_down(rt, alloc, store) {
+        Went::On => true,
+        Went::ToTheEnd | Went::Nowhere => join(rt, alloc, store),
+    }
+}

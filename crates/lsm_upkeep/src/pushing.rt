@@ -1,0 +1,67 @@
+//! Tables are brought down until a batch is admitted, or as far as they go.
+
+use crate::demand::Demand;
+use crate::stepping::{Went, join, step_down};
+use lsm_device::Device;
+use lsm_store::Store;
+use std::alloc::Global;
+use std::thread::Threads;
+
+/// The most steps that are taken at once.
+const MOST_STEPS: u32 = 20_000;
+
+/// The most joins that are made behind the last step.
+const MOST_JOINS: u32 = 200;
+
+/// With more tables than so many, neighbours are joined first.
+const MANY_TABLES: usize = 780;
+
+/// Takes steps down until none is left, none can be taken, or what is demanded is admitted with blocks to spare.
+pub(crate) fn push<R: Threads + Sync, D: Device>(
+    rt: &R,
+    alloc: Global,
+    store: &mut Store<D>,
+    demand: Option<Demand>,
+) {
+    for taken in 0..MOST_STEPS {
+        if taken > 0 && is_met(store, demand) {
+            return;
+        }
+        if has_many_tables(store) && join(rt, alloc, store) {
+            continue;
+        }
+        match step_down(rt, alloc, store) {
+            Went::On => {}
+            Went::ToTheEnd => return join_all(rt, alloc, store),
+            Went::Nowhere => {
+                if !join(rt, alloc, store) {
+                    return;
+                }
+            }
+        }
+    }
+}
+
+// Whether what is demanded, if anything is, is admitted with blocks to spare.
+fn is_met<D: Device>(store: &Store<D>, demand: Option<Demand>) -> bool {
+    match demand {
+        Some(demand) => demand.is_met_easily(store),
+        None => false,
+    }
+}
+
+fn has_many_tables<D: Device>(store: &Store<D>) -> bool {
+    match store.stat() {
+        Ok(stat) => stat.tables > MANY_TABLES,
+        Err(_) => false,
+    }
+}
+
+/// Joins neighbours as long as a level has many small tables.
+pub(crate) fn join_all<R: Threads + Sync, D: Device>(rt: &R, alloc: Global, store: &mut Store<D>) {
+    for _ in 0..MOST_JOINS {
+        if !join(rt, alloc, store) {
+            return;
+        }
+    }
+}
