@@ -1,5 +1,10 @@
 //! What waits for a flush is flushed, and room is made for it where it lacks.
 
+ghost use Rattle.std.specs.Prelude.{◌≡◌, ◌&&◌, not, is_some, true, false};
+ghost use Rattle.lsm_store.specs.State.{are_waiting};
+ghost use Rattle.lsm_upkeep.specs.Flushing.{IsIdle, TriesNext};
+ghost use Rattle.lsm_upkeep.specs.Steps.{IsUpkept};
+
 use crate::finishing::finish_next;
 use crate::pushing::push;
 use crate::stepping::{Went, join, step_aside, step_down};
@@ -22,7 +27,11 @@ pub(crate) fn flush<R: Threads + Sync, D: Device>(
     rt: &R,
     alloc: Global,
     store: &mut Store<D>,
-) -> bool {
+) -> bool
+    ensures upkept { IsUpkept store.old store.new }
+    ensures finished { result ≡ true → IsIdle store.new }
+    ensures tried { result ≡ false → TriesNext store.old store.new }
+{
     for _ in 0..MOST_TRIES {
         if !is_waiting(store) {
             return true;
@@ -38,7 +47,9 @@ pub(crate) fn flush<R: Threads + Sync, D: Device>(
 }
 
 /// Whether a store runs, and a flush waits.
-pub(crate) fn is_waiting<D: Device>(store: &Store<D>) -> bool {
+pub(crate) fn is_waiting<D: Device>(store: &Store<D>) -> bool
+    ensures { result ≡ (not (is_some store.now.state.stopped) && are_waiting store.now.state) }
+{
     match store.stat() {
         Ok(stat) => stat.waiting,
         Err(_) => false,
@@ -47,7 +58,9 @@ pub(crate) fn is_waiting<D: Device>(store: &Store<D>) -> bool {
 
 // Takes a step that makes room for a flush: where level 0 is full its oldest run goes down, and else a table is moved, or goes down, or
 // neighbours are joined.
-fn make_room<R: Threads + Sync, D: Device>(rt: &R, alloc: Global, store: &mut Store<D>) -> bool {
+fn make_room<R: Threads + Sync, D: Device>(rt: &R, alloc: Global, store: &mut Store<D>) -> bool
+    ensures { IsUpkept store.old store.new }
+{
     if store.levels().runs().len() < MOST_RUNS && step_aside(rt, alloc, store) {
         return true;
     }

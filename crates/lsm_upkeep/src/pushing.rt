@@ -1,5 +1,7 @@
 //! Tables are brought down until a batch is admitted, or as far as they go.
 
+ghost use Rattle.lsm_upkeep.specs.Steps.{IsUpkept};
+
 use crate::demand::Demand;
 use crate::stepping::{Went, join, step_down};
 use lsm_device::Device;
@@ -22,7 +24,9 @@ pub(crate) fn push<R: Threads + Sync, D: Device>(
     alloc: Global,
     store: &mut Store<D>,
     demand: Option<Demand>,
-) {
+)
+    ensures { IsUpkept store.old store.new }
+{
     for taken in 0..MOST_STEPS {
         if taken > 0 && is_met(store, demand) {
             return;
@@ -58,7 +62,9 @@ fn has_many_tables<D: Device>(store: &Store<D>) -> bool {
 }
 
 /// Joins neighbours as long as a level has many small tables.
-pub(crate) fn join_all<R: Threads + Sync, D: Device>(rt: &R, alloc: Global, store: &mut Store<D>) {
+pub(crate) fn join_all<R: Threads + Sync, D: Device>(rt: &R, alloc: Global, store: &mut Store<D>)
+    ensures { IsUpkept store.old store.new }
+{
     for _ in 0..MOST_JOINS {
         if !join(rt, alloc, store) {
             return;
