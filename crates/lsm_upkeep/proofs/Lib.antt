@@ -1,3 +1,4 @@
-pub mod CompactingLaws
 pub mod FinishingLaws
+pub mod Jobs
 pub mod KeptMaps
+pub mod Upkept

@@ -8,7 +8,7 @@ ghost use Rattle.lsm_upkeep.specs.Writing.{wants_room};
 
 use crate::compacting::compact;
 use crate::demand::Demand;
-use crate::flushing::{flush, is_waiting};
+use crate::flushing::flush;
 use crate::pushing::push;
 use lsm_codec::Batch;
 use lsm_device::{Device, Refusal};
@@ -46,10 +46,7 @@ pub fn admit<R: Threads + Sync, D: Device>(
         push(rt, alloc, store, Some(demand));
         return Ok(());
     }
-    next_log(rt, alloc, store);
-    if !has_log {
-        compact(rt, alloc, store, &Policy::new());
-    }
+    change_log(rt, alloc, store, has_log);
     make_room(rt, alloc, store, Demand::of(store, batch))
 }
 
@@ -58,9 +55,7 @@ pub fn open_log<R: Threads + Sync, D: Device>(rt: &R, alloc: Global, store: &mut
     ensures upkept { IsUpkept store.old store.new }
     ensures readies { ReadiesLog store.old store.new }
 {
-    if is_waiting(store) {
-        flush(rt, alloc, store);
-    }
+    flush(rt, alloc, store);
     if let Ok(0) = store.log_room() {
         next_log(rt, alloc, store);
     }
@@ -74,6 +69,21 @@ fn next_log<R: Threads + Sync, D: Device>(rt: &R, alloc: Global, store: &mut Sto
     if flush(rt, alloc, store) {
         let _ = store.rotate();
         flush(rt, alloc, store);
+    }
+}
+
+// Opens another log. Where the one before had no room for a batch, that is the time to compact by the policy.
+fn change_log<R: Threads + Sync, D: Device>(
+    rt: &R,
+    alloc: Global,
+    store: &mut Store<D>,
+    had_room: bool,
+)
+    ensures { IsUpkept store.old store.new }
+{
+    next_log(rt, alloc, store);
+    if !had_room {
+        compact(rt, alloc, store, &Policy::new());
     }
 }
 

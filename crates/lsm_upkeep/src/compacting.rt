@@ -7,7 +7,7 @@ ghost use Rattle.lsm_upkeep.specs.Flushing.{FlushesFirst};
 ghost use Rattle.lsm_upkeep.specs.Steps.{IsUpkept};
 
 use crate::finishing::finish_step;
-use crate::flushing::{flush, is_waiting};
+use crate::flushing::flush;
 use crate::pushing::join_all;
 use crate::stepping::{Went, step_down, step_to_the_last};
 use crate::wanting::{Wanted, wanted_by};
@@ -41,7 +41,7 @@ pub fn compact<R: Threads + Sync, D: Device>(
     ensures flushes { FlushesFirst store.old store.new }
 {
     for _ in 0..MOST_JOBS {
-        if is_waiting(store) && !flush(rt, alloc, store) {
+        if !flush(rt, alloc, store) {
             return;
         }
         if !finish_wanted(rt, alloc, store, policy) {
@@ -121,7 +121,7 @@ fn take_down<R: Threads + Sync, D: Device, P: Progress>(
 {
     for jobs in 0..MOST_STEPS {
         progress.reached(Milestone::Compacted { jobs });
-        if is_waiting(store) && !flush(rt, alloc, store) {
+        if !flush(rt, alloc, store) {
             return;
         }
         match step_to_the_last(rt, alloc, store) {

@@ -36,10 +36,7 @@ pub(crate) fn flush<R: Threads + Sync, D: Device>(
         if !is_waiting(store) {
             return true;
         }
-        if store.levels().runs().len() >= MANY_RUNS {
-            push(rt, alloc, store, None);
-        }
-        if !finish_next(rt, alloc, store) && !make_room(rt, alloc, store) {
+        if !try_next(rt, alloc, store) {
             return false;
         }
     }
@@ -56,14 +53,50 @@ pub(crate) fn is_waiting<D: Device>(store: &Store<D>) -> bool
     }
 }
 
+// Tries to finish the job that comes next, and makes room where it can't be. It tells whether it did one of both.
+fn try_next<R: Threads + Sync, D: Device>(rt: &R, alloc: Global, store: &mut Store<D>) -> bool
+    ensures { TriesNext store.old store.new }
+{
+    push_runs(rt, alloc, store);
+    if finish_next(rt, alloc, store) {
+        return true;
+    }
+    make_room(rt, alloc, store)
+}
+
+// Brings tables down where level 0 has many runs.
+fn push_runs<R: Threads + Sync, D: Device>(rt: &R, alloc: Global, store: &mut Store<D>)
+    ensures { IsUpkept store.old store.new }
+{
+    if store.levels().runs().len() >= MANY_RUNS {
+        push(rt, alloc, store, None);
+    }
+}
+
 // Takes a step that makes room for a flush: where level 0 is full its oldest run goes down, and else a table is moved, or goes down, or
-// neighbours are joined.
+// neighbours are joined. It tells whether it did.
 fn make_room<R: Threads + Sync, D: Device>(rt: &R, alloc: Global, store: &mut Store<D>) -> bool
     ensures { IsUpkept store.old store.new }
 {
-    if store.levels().runs().len() < MOST_RUNS && step_aside(rt, alloc, store) {
+    if store.levels().runs().len() < MOST_RUNS {
+        move_or_sink(rt, alloc, store)
+    } else {
+        sink_or_join(rt, alloc, store)
+    }
+}
+
+fn move_or_sink<R: Threads + Sync, D: Device>(rt: &R, alloc: Global, store: &mut Store<D>) -> bool
+    ensures { IsUpkept store.old store.new }
+{
+    if step_aside(rt, alloc, store) {
         return true;
     }
+    sink_or_join(rt, alloc, store)
+}
+
+fn sink_or_join<R: Threads + Sync, D: Device>(rt: &R, alloc: Global, store: &mut Store<D>) -> bool
+    ensures { IsUpkept store.old store.new }
+{
     match step_down(rt, alloc, store) {
         Went::On => true,
         Went::ToTheEnd | Went::Nowhere => join(rt, alloc, store),

@@ -3,7 +3,7 @@
 ghost use Rattle.lsm_upkeep.specs.Steps.{IsUpkept};
 
 use crate::demand::Demand;
-use crate::stepping::{Went, join, step_down};
+use crate::stepping::{Went, join, step_down, told};
 use lsm_device::Device;
 use lsm_store::Store;
 use std::alloc::Global;
@@ -31,18 +31,40 @@ pub(crate) fn push<R: Threads + Sync, D: Device>(
         if taken > 0 && is_met(store, demand) {
             return;
         }
-        if has_many_tables(store) && join(rt, alloc, store) {
-            continue;
-        }
-        match step_down(rt, alloc, store) {
+        match step_on(rt, alloc, store) {
             Went::On => {}
             Went::ToTheEnd => return join_all(rt, alloc, store),
-            Went::Nowhere => {
-                if !join(rt, alloc, store) {
-                    return;
-                }
-            }
+            Went::Nowhere => return,
         }
+    }
+}
+
+// Takes the next step down, or joins neighbours where none can be taken. Where there are many tables, neighbours are joined first.
+fn step_on<R: Threads + Sync, D: Device>(rt: &R, alloc: Global, store: &mut Store<D>) -> Went
+    ensures { IsUpkept store.old store.new }
+{
+    if has_many_tables(store) {
+        join_or_step(rt, alloc, store)
+    } else {
+        step_or_join(rt, alloc, store)
+    }
+}
+
+fn join_or_step<R: Threads + Sync, D: Device>(rt: &R, alloc: Global, store: &mut Store<D>) -> Went
+    ensures { IsUpkept store.old store.new }
+{
+    if join(rt, alloc, store) {
+        return Went::On;
+    }
+    step_or_join(rt, alloc, store)
+}
+
+fn step_or_join<R: Threads + Sync, D: Device>(rt: &R, alloc: Global, store: &mut Store<D>) -> Went
+    ensures { IsUpkept store.old store.new }
+{
+    match step_down(rt, alloc, store) {
+        Went::Nowhere => told(join(rt, alloc, store)),
+        went => went,
     }
 }
 

@@ -78,7 +78,8 @@ fn follow<R: Threads + Sync, D: Device>(
     }
 }
 
-fn told(finished: bool) -> Went {
+/// How a step went that was finished or not.
+pub(crate) fn told(finished: bool) -> Went {
     if finished { Went::On } else { Went::Nowhere }
 }
 
