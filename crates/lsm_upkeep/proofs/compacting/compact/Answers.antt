@@ -1,35 +1,35 @@
 use Rattle.std.proofs.Common.{inl, inr, refl, arith}
-use Rattle.lsm_upkeep.specs.Upkeep.{AsksChosen, IsIdle}
-use Rattle.lsm_upkeep.proofs.CompactingLaws.{done-wanted, no_more-wanted}
-use Rattle.lsm_upkeep.proofs.FinishingLaws.{are_done-more}
-use Rattle.lsm_upkeep.proofs.KeptMaps.{jobs_keep}
+use Rattle.lsm_upkeep.proofs.FlushingLaws.{first-again, first-behind, first-some}
+use Rattle.lsm_upkeep.proofs.Upkept.{stays, then}
 use Rattle.lsm_upkeep.proofs.compacting.compact.Goals as goal
 
-pub returns-then-not-finish_wanted-clause-compacts : goal.returns-then-not-finish_wanted-clause-compacts
-returns-then-not-finish_wanted-clause-compacts g c = record {
-  count = c.loop.counter;
-  last = c.loop.store;
-  finished = c.loop.invariant;
-  ends = inr (
-    omega (arith, c.loop-test.true),
-    no_more-wanted IsIdle c.wanted_by-wanted.result c.finish_wanted.result c.loop.store c.finish_wanted.new.store c.if-not-finish_wanted.true c.wanted_by-wanted.ensures c.finish_wanted.ensures,
-  );
-}
+pub loop-init : goal.loop-init
+loop-init g c = (stays c.args.store.now c.args.store.now refl, inl (refl, refl))
 
-pub returns-then-not-finish_wanted-clause-map : goal.returns-then-not-finish_wanted-clause-map
-returns-then-not-finish_wanted-clause-map g c = jobs_keep AsksChosen IsIdle 4096 c.args.store.now c.finish_wanted.new.store (returns-then-not-finish_wanted-clause-compacts g c)
+pub returns-then-not-flush-clause-upkept : goal.returns-then-not-flush-clause-upkept
+returns-then-not-flush-clause-upkept g c = then c.args.store.now c.loop.store c.flush.new.store c.loop.invariant.0 c.flush.ensures.upkept
+
+pub returns-then-not-flush-clause-flushes : goal.returns-then-not-flush-clause-flushes
+returns-then-not-flush-clause-flushes g c =
+    first-again c.loop.counter c.flush.result c.args.store.now c.loop.store c.flush.new.store c.loop.invariant.1 c.flush.ensures.upkept c.flush.ensures.finished c.flush.ensures.tried
+
+pub returns-then-not-finish_wanted-clause-upkept : goal.returns-then-not-finish_wanted-clause-upkept
+returns-then-not-finish_wanted-clause-upkept g c =
+    then c.args.store.now c.flush.new.store c.finish_wanted.new.store (then c.args.store.now c.loop.store c.flush.new.store c.loop.invariant.0 c.flush.ensures.upkept) c.finish_wanted.ensures
+
+pub returns-then-not-finish_wanted-clause-flushes : goal.returns-then-not-finish_wanted-clause-flushes
+returns-then-not-finish_wanted-clause-flushes g c = first-behind c.args.store.now c.flush.new.store c.finish_wanted.new.store
+    (first-again c.loop.counter c.flush.result c.args.store.now c.loop.store c.flush.new.store c.loop.invariant.1 c.flush.ensures.upkept c.flush.ensures.finished c.flush.ensures.tried) c.finish_wanted.ensures
 
 pub loop-preserved : goal.loop-preserved
-loop-preserved g c = are_done-more AsksChosen c.loop.counter c.args.store.now c.loop.store c.finish_wanted.new.store c.loop.invariant
-    (done-wanted IsIdle c.wanted_by-wanted.result c.finish_wanted.result c.loop.store c.finish_wanted.new.store c.if-not-finish_wanted.false c.wanted_by-wanted.ensures c.finish_wanted.ensures)
+loop-preserved g c = (
+  then c.args.store.now c.flush.new.store c.finish_wanted.new.store (then c.args.store.now c.loop.store c.flush.new.store c.loop.invariant.0 c.flush.ensures.upkept) c.finish_wanted.ensures,
+  inr (first-behind c.args.store.now c.flush.new.store c.finish_wanted.new.store
+      (first-again c.loop.counter c.flush.result c.args.store.now c.loop.store c.flush.new.store c.loop.invariant.1 c.flush.ensures.upkept c.flush.ensures.finished c.flush.ensures.tried) c.finish_wanted.ensures),
+)
 
-pub returns-clause-compacts : goal.returns-clause-compacts
-returns-clause-compacts g c = record {
-  count = c.loop.counter;
-  last = c.loop.store;
-  finished = c.loop.invariant;
-  ends = inl (omega (arith, c.loop-test.false, c.loop.auto.counter-end), refl);
-}
+pub returns-clause-upkept : goal.returns-clause-upkept
+returns-clause-upkept g c = c.loop.invariant.0
 
-pub returns-clause-map : goal.returns-clause-map
-returns-clause-map g c = jobs_keep AsksChosen IsIdle 4096 c.args.store.now c.loop.store (returns-clause-compacts g c)
+pub returns-clause-flushes : goal.returns-clause-flushes
+returns-clause-flushes g c = first-some c.loop.counter c.args.store.now c.loop.store (omega (arith, c.loop-test.false, c.loop.auto.counter-end)) c.loop.invariant.1

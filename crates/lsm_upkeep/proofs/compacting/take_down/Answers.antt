@@ -1,28 +1,27 @@
 use Rattle.std.proofs.Common.{inl, inr, refl, arith}
-use Rattle.lsm_upkeep.specs.Upkeep.{AsksChosen, IsAtEnd}
-use Rattle.lsm_upkeep.proofs.CompactingLaws.{done-wanted, no_more-wanted}
-use Rattle.lsm_upkeep.proofs.FinishingLaws.{are_done-more}
+use Rattle.lsm_upkeep.proofs.FlushingLaws.{first-again, first-behind, first-some}
+use Rattle.lsm_upkeep.proofs.Upkept.{stays, then}
 use Rattle.lsm_upkeep.proofs.compacting.take_down.Goals as goal
 
-pub returns-then-not-finish_wanted : goal.returns-then-not-finish_wanted
-returns-then-not-finish_wanted g c = record {
-  count = c.loop-jobs.jobs;
-  last = c.loop-jobs.store;
-  finished = c.loop-jobs.invariant;
-  ends = inr (
-    omega (arith, c.loop-jobs-test.true),
-    no_more-wanted IsAtEnd c.wanted_down-wanted.result c.finish_wanted.result c.loop-jobs.store c.finish_wanted.new.store c.if-not-finish_wanted.true c.wanted_down-wanted.ensures c.finish_wanted.ensures,
-  );
-}
+pub loop-jobs-init : goal.loop-jobs-init
+loop-jobs-init g c = (stays c.args.store.now c.args.store.now refl, inl (refl, refl))
+
+pub returns-then-not-flush-clause-upkept : goal.returns-then-not-flush-clause-upkept
+returns-then-not-flush-clause-upkept g c = then c.args.store.now c.loop-jobs.store c.flush.new.store c.loop-jobs.invariant.0 c.flush.ensures.upkept
+
+pub returns-then-not-flush-clause-flushes : goal.returns-then-not-flush-clause-flushes
+returns-then-not-flush-clause-flushes g c =
+    first-again c.loop-jobs.jobs c.flush.result c.args.store.now c.loop-jobs.store c.flush.new.store c.loop-jobs.invariant.1 c.flush.ensures.upkept c.flush.ensures.finished c.flush.ensures.tried
 
 pub loop-jobs-preserved : goal.loop-jobs-preserved
-loop-jobs-preserved g c = are_done-more AsksChosen c.loop-jobs.jobs c.args.store.now c.loop-jobs.store c.finish_wanted.new.store c.loop-jobs.invariant
-    (done-wanted IsAtEnd c.wanted_down-wanted.result c.finish_wanted.result c.loop-jobs.store c.finish_wanted.new.store c.if-not-finish_wanted.false c.wanted_down-wanted.ensures c.finish_wanted.ensures)
+loop-jobs-preserved g c = (
+  then c.args.store.now c.flush.new.store c.step_to_the_last.new.store (then c.args.store.now c.loop-jobs.store c.flush.new.store c.loop-jobs.invariant.0 c.flush.ensures.upkept) c.step_to_the_last.ensures,
+  inr (first-behind c.args.store.now c.flush.new.store c.step_to_the_last.new.store
+      (first-again c.loop-jobs.jobs c.flush.result c.args.store.now c.loop-jobs.store c.flush.new.store c.loop-jobs.invariant.1 c.flush.ensures.upkept c.flush.ensures.finished c.flush.ensures.tried) c.step_to_the_last.ensures),
+)
 
-pub returns : goal.returns
-returns g c = record {
-  count = c.loop-jobs.jobs;
-  last = c.loop-jobs.store;
-  finished = c.loop-jobs.invariant;
-  ends = inl (omega (arith, c.loop-jobs-test.false, c.loop-jobs.auto.jobs-end), refl);
-}
+pub returns-clause-upkept : goal.returns-clause-upkept
+returns-clause-upkept g c = c.loop-jobs.invariant.0
+
+pub returns-clause-flushes : goal.returns-clause-flushes
+returns-clause-flushes g c = first-some c.loop-jobs.jobs c.args.store.now c.loop-jobs.store (omega (arith, c.loop-jobs-test.false, c.loop-jobs.auto.jobs-end)) c.loop-jobs.invariant.1
