@@ -1,18 +1,22 @@
--- What a commit makes of the map.
-use Rattle.std.proofs.Common.{◌≡◌, ◌∙◌, ℕ, true, List, [], ◌∷◌, ◌++◌, Result, Ok, Err, MatchResult, refl, ap, subst, sym}
+-- What a write makes of the map, and what a compaction comes to.
+use Rattle.std.proofs.Common.{◌≡◌, ◌∙◌, ℕ, Bool, true, false, true≢false, List, [], ◌∷◌, ◌++◌, None, inl, inr, refl, ap, subst, sym}
 use Rattle.lsm_codec.specs.Map.{Map, Operation, apply}
 use Rattle.lsm_device.specs.declared.refusal.Refusal.{Refusal}
-use Rattle.lsm_device.specs.declared.refusal.Refusal.TheVariants.{Io, LogFull}
+use Rattle.lsm_device.specs.declared.refusal.Refusal.TheVariants.{Io, LogFull, NoSpace}
 use Rattle.lsm_store.specs.Backing.{StoreView}
-use Rattle.lsm_store.specs.Calls.{Commit, Number, Refused, Done, reply_of}
+use Rattle.lsm_store.specs.Calls.{Reply, Commit, Number, Done, Value, Rows, Given, Handed, Refused, Unread}
 use Rattle.lsm_store.specs.RecoveryPoints.{last_map}
 use Rattle.lsm_store.specs.Run.{next}
 use Rattle.lsm_store.specs.Serving.{Serves}
 use Rattle.lsm_store.specs.State.{State}
+use Rattle.lsm_upkeep.specs.Flushing.{FlushesFirst}
 use Rattle.lsm_upkeep.specs.Keeping.{IsSameMap, KeepsMap}
-use Rattle.lsm_upkeep.specs.Upkeep.{AsksChosen, IsIdle}
-use Rattle.lsm_upkeep.proofs.KeptMaps.{jobs_keep, onward, rotate_keeps}
-use Rattle.lsm_requests.specs.Commits.{Adds, AddsNot, ChangesLog, HasRoomForLog, Puts, added_at_once, added_behind, lacks_room, map_in, not_accepted, not_accepted_behind, not_asked, not_rotated}
+use Rattle.lsm_upkeep.specs.Steps.{IsUpkept}
+use Rattle.lsm_upkeep.specs.Writing.{EndsWith, without_log_full}
+use Rattle.lsm_upkeep.proofs.KeptMaps.{onward, stays}
+use Rattle.lsm_upkeep.proofs.Upkept.{then}
+use Rattle.lsm_serve.specs.Committing.{CompactsWhole}
+use Rattle.lsm_requests.specs.Commits.{Adds, AddsNot, IsKeptUp, Puts, map_in}
 
 -- the last of some maps
 last_map-append : (m : Map) (later : List Map) (last : Map) → last_map m (later ++ last ∷ []) ≡ last
@@ -33,32 +37,62 @@ refused_state s batch other = record { map = refl; count = refl; snapshots = ref
 keeps-refused : (batch : List Operation) (e : Refusal) (old new : StoreView) → Serves old (Commit batch) (Refused e) new → KeepsMap old new
 keeps-refused batch e old new serves = subst (IsSameMap old.state) (sym serves.state) (refused_state old.state batch e)
 
--- ---- with another log
+-- ---- of which reply it was told
 
-changed_keeps : (batch : List Operation) (old new : StoreView) → ChangesLog batch old new → KeepsMap old new
-changed_keeps batch old new c =
-    onward old c.full new (keeps-refused batch LogFull old c.full c.asked)
-    (onward c.full c.rotated new (rotate_keeps c.full c.rotated Done c.rotates) (jobs_keep AsksChosen IsIdle 4096 c.rotated new c.compacts))
+is_number : Reply → Bool
+is_number (Number n) = true
+is_number other = false
+
+number_told : (reply : Reply) (number : ℕ) → Number number ≡ without_log_full reply → reply ≡ Number number
+number_told (Number n) number is = sym is
+number_told (Refused LogFull) number is = absurd (true≢false (ap is_number is))
+number_told (Refused other) number is = absurd (true≢false (ap is_number is))
+number_told Done number is = absurd (true≢false (ap is_number is))
+number_told (Value v) number is = absurd (true≢false (ap is_number is))
+number_told (Rows page) number is = absurd (true≢false (ap is_number is))
+number_told (Given job) number is = absurd (true≢false (ap is_number is))
+number_told (Handed input) number is = absurd (true≢false (ap is_number is))
+number_told Unread number is = absurd (true≢false (ap is_number is))
+
+is_refusal : Reply → Bool
+is_refusal (Refused e) = true
+is_refusal other = false
+
+refusal_told : (reply : Reply) (e : Refusal) → Refused e ≡ without_log_full reply → (r : Refusal) × (reply ≡ Refused r)
+refusal_told (Refused r) e is = (r, refl)
+refusal_told (Number n) e is = absurd (true≢false (ap is_refusal is))
+refusal_told Done e is = absurd (true≢false (ap is_refusal is))
+refusal_told (Value v) e is = absurd (true≢false (ap is_refusal is))
+refusal_told (Rows page) e is = absurd (true≢false (ap is_refusal is))
+refusal_told (Given job) e is = absurd (true≢false (ap is_refusal is))
+refusal_told (Handed input) e is = absurd (true≢false (ap is_refusal is))
+refusal_told Unread e is = absurd (true≢false (ap is_refusal is))
+
+-- ---- a write
 
 puts-behind : (batch : List Operation) (old mid new : StoreView) → KeepsMap old mid → Puts batch mid new → Puts batch old new
 puts-behind batch old mid new keeps puts = puts ∙ ap (λ (m : Map). apply m batch) keeps.map
 
 pub adds-puts : (batch : List Operation) (old new : StoreView) → Adds batch old new → Puts batch old new
-adds-puts batch old new (added_at_once number serves) = puts-accepted batch number old new serves
-adds-puts batch old new (added_behind number changed c room serves) =
-    puts-behind batch old changed new (changed_keeps batch old changed c) (puts-accepted batch number changed new serves)
+adds-puts batch old new (number, w) = by w.ends
+  where
+    by : EndsWith None batch w.kept (Number number) new → Puts batch old new
+    by (inl (reply, serves, is)) =
+        puts-behind batch old w.kept new w.upkeep.keeps
+        (puts-accepted batch number w.kept new (subst (λ (r : Reply). Serves w.kept (Commit batch) r new) (number_told reply number is) serves))
+    by (inr (so, wants, same)) = absurd (true≢false (ap is_number so))
 
+-- one that is refused leaves the map as it was
 pub adds_not-keeps : (batch : List Operation) (e : Refusal) (old new : StoreView) → AddsNot batch old e new → KeepsMap old new
-adds_not-keeps batch e old new (not_accepted other serves) = keeps-refused batch e old new serves
-adds_not-keeps batch e old new (not_rotated full serves rotates) =
-    onward old full new (keeps-refused batch LogFull old full serves) (rotate_keeps full new (Refused e) rotates)
-adds_not-keeps batch e old new (not_asked c room) = changed_keeps batch old new c
-adds_not-keeps batch e old new (lacks_room c room is) = changed_keeps batch old new c
-adds_not-keeps batch e old new (not_accepted_behind changed c room serves) =
-    onward old changed new (changed_keeps batch old changed c) (keeps-refused batch e changed new serves)
+adds_not-keeps batch e old new w = onward old w.kept new w.upkeep.keeps (by w.ends)
+  where
+    by : EndsWith None batch w.kept (Refused e) new → KeepsMap w.kept new
+    by (inl (reply, serves, is)) =
+        let told = refusal_told reply e is in
+        keeps-refused batch told.0 w.kept new (subst (λ (r : Reply). Serves w.kept (Commit batch) r new) told.1 serves)
+    by (inr (so, wants, same)) = stays w.kept new same
 
--- by what was answered behind it
-pub answered_behind : (batch : List Operation) (r : Result ℕ Refusal) (old changed new : StoreView) → ChangesLog batch old changed → HasRoomForLog true changed
-    → Serves changed (Commit batch) (reply_of Number r) new → MatchResult r (λ _. Adds batch old new) (λ e. AddsNot batch old e new)
-answered_behind batch (Ok number) old changed new c room serves = added_behind number changed c room serves
-answered_behind batch (Err e) old changed new c room serves = not_accepted_behind changed c room serves
+-- ---- a compaction
+
+pub compacts : (old kept new : StoreView) → IsKeptUp old kept → IsUpkept old kept → FlushesFirst kept new → IsUpkept kept new → CompactsWhole old new
+compacts old kept new keeps first flushes rest = record { kept = kept; keeps_up = keeps; compacts = flushes; upkeep = then old kept new first rest }

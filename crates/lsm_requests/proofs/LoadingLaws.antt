@@ -6,7 +6,6 @@ use Rattle.std.specs.Io.KnownBytes.{prepend_known}
 use Rattle.std.specs.declared.io.buffered.BufReader.{BufReader}
 use Rattle.lsm_codec.specs.Map.{Map, Operation, apply, changed}
 use Rattle.lsm_device.specs.declared.refusal.Refusal.{Refusal}
-use Rattle.lsm_device.specs.declared.refusal.Refusal.TheVariants.{NoSpace}
 use Rattle.lsm_language.specs.declared.fault.Fault.{Fault}
 use Rattle.lsm_language.specs.declared.fault.Fault.TheVariants.{Failed, Input as InputFault, Output as OutputFault, Refused, Unopened, Usage}
 use Rattle.lsm_language.specs.Faults.{IsRefusalBy, Reason, mistake, refusal, unopened, unread, unwritten, reason_of}
@@ -23,10 +22,10 @@ use Rattle.lsm_requests.specs.declared.loading.Loading.{Loading}
 use Rattle.lsm_requests.specs.declared.loading.Loaded.{Loaded}
 use Rattle.lsm_requests.specs.declared.answer.Answer.{Answer}
 use Rattle.lsm_requests.specs.Answers.{Hands, IsRefusedOpened, OfOpened, TellsLoaded, TellsNumber, WasOpened}
-use Rattle.lsm_requests.specs.Commits.{AddsNot, FillsWithLog, IsKeptUp, map_in, takes_puts}
+use Rattle.lsm_requests.specs.Commits.{AddsNot, IsKeptUp, map_in}
 use Rattle.lsm_requests.specs.declared.answer.Output.{Output}
 use Rattle.lsm_requests.specs.declared.answer.Output.TheVariants.{Loaded as LoadedRows}
-use Rattle.lsm_requests.specs.Loading.{AddsWaiting, AreFirstRows, ArePut, AreRead, AreRowsOf, BeginsWith, CommitsWaiting, EndsFor, EndsReading, EndsReadingFor, EndsWith, FitsIf, HasLoaded, HasRead, IsLoaded, IsLoading, IsReady, IsShort, KeepsAndLoads, PutsRows, RefusesLastSync, RefusesToLoad, StaysLoaded, StopsAt, StopsReading, Takes, TakesNoRows, TakesNot, WaitingRefused, is_refused, none_loaded, none_waits, rows_waiting}
+use Rattle.lsm_requests.specs.Loading.{AddsWaiting, AreFirstRows, ArePut, AreRead, AreRowsOf, BeginsWith, CommitsWaiting, EndsFor, EndsReading, EndsReadingFor, EndsWith, FitsIf, HasLoaded, HasRead, IsLoaded, IsLoading, IsShort, KeepsAndLoads, PutsRows, RefusesLastSync, RefusesToLoad, StaysLoaded, StopsAt, StopsReading, Takes, TakesNot, WaitingRefused, is_refused, none_loaded, none_waits, rows_waiting}
 use Rattle.lsm_requests.proofs.CommittingLaws.{adds-puts, adds_not-keeps}
 use Rattle.lsm_requests.proofs.RefusedLaws.{not_opened, opened_refused, refuses, told_as}
 
@@ -381,33 +380,23 @@ refuses_synced input ended loading before now after e put serves =
 
 -- ---- the answer
 
--- a store that was kept up, and had room
-pub is_ready : (before kept : StoreView) (beside : ℕ) → IsKeptUp before kept → FillsWithLog kept beside → takes_puts beside kept ≡ true → IsReady before kept
-is_ready before kept beside keeps fills room = record { keeps = keeps; room = record { beside = beside; fills = fills; room = room } }
-
-loaded_behind : (input : Option (List ℕ)) (loaded : Loaded) (before kept after : StoreView) → IsReady before kept → KeepsMap before kept → IsLoaded input loaded kept after
+-- a store that was kept up before
+loaded_behind : (input : Option (List ℕ)) (loaded : Loaded) (before kept after : StoreView) → IsKeptUp before kept → KeepsMap before kept → IsLoaded input loaded kept after
     → KeepsAndLoads input loaded before after
-loaded_behind input loaded before kept after ready keeps l =
+loaded_behind input loaded before kept after keeps same l =
     let synced : map_in after ≡ map_in l.between = ap (λ (s : State). present_map s.points) l.syncs.state in
-    record { kept = kept; ready = ready; loads = l; map = synced ∙ l.loads.map ∙ ap (λ (m : Map). apply m l.loads.rows) keeps.map }
+    record { kept = kept; keeps = keeps; loads = l; map = synced ∙ l.loads.map ∙ ap (λ (m : Map). apply m l.loads.rows) same.map }
 
-pub loads_behind : (input : Option (List ℕ)) (r : Result Loaded Refusal) (before kept after : StoreView) → IsReady before kept → KeepsMap before kept
+pub loads_behind : (input : Option (List ℕ)) (r : Result Loaded Refusal) (before kept after : StoreView) → IsKeptUp before kept → KeepsMap before kept
     → IfOk r (λ loaded. IsLoaded input loaded kept after) → IfOk r (λ loaded. KeepsAndLoads input loaded before after)
-loads_behind input (Ok loaded) before kept after ready keeps loads = loaded_behind input loaded before kept after ready keeps loads
-loads_behind input (Err e) before kept after ready keeps loads = tt
+loads_behind input (Ok loaded) before kept after keeps same loads = loaded_behind input loaded before kept after keeps same loads
+loads_behind input (Err e) before kept after keeps same loads = tt
 
--- or it was refused
-pub refuses_none : (input : Option (List ℕ)) (before kept : StoreView) (e : Refusal) → IsKeptUp before kept → TakesNoRows kept e → RefusesToLoad input before e
-refuses_none input before kept e keeps none = inl (kept, keeps, none)
-
-pub no_room : (kept : StoreView) (beside : ℕ) (e : Refusal) → FillsWithLog kept beside → e ≡ NoSpace → takes_puts beside kept ≡ false → TakesNoRows kept e
-no_room kept beside e fills is lacks = inr (is, record { beside = beside; fills = fills; room = lacks })
-
--- or the sync behind them
-pub refuses_behind : (input : Option (List ℕ)) (r : Result Loaded Refusal) (before kept : StoreView) → IsReady before kept → IfErr r (RefusesLastSync input kept)
+-- or the sync behind them was refused
+pub refuses_behind : (input : Option (List ℕ)) (r : Result Loaded Refusal) (before kept : StoreView) → IsKeptUp before kept → IfErr r (RefusesLastSync input kept)
     → IfErr r (RefusesToLoad input before)
-refuses_behind input (Ok loaded) before kept ready refused = tt
-refuses_behind input (Err e) before kept ready refused = inr (kept, ready, refused)
+refuses_behind input (Ok loaded) before kept keeps refused = tt
+refuses_behind input (Err e) before kept keeps refused = record { kept = kept; keeps = keeps; refused = refused }
 
 -- all rows of the input
 pub has_loaded : (input : Option (List ℕ)) (loaded : Loaded) (before after : StoreView) (output : Output) → KeepsAndLoads input loaded before after → loaded.ended ≡ Ok tt

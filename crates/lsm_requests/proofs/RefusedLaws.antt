@@ -1,33 +1,25 @@
 -- Calls of a store that were refused.
-use Rattle.std.proofs.Common.{◌≡◌, ◌⊎◌, ℕ, Bool, true, false, List, Result, Ok, Err, refl, sym, ap, subst, inl, inr}
+use Rattle.std.proofs.Common.{◌≡◌, ◌⊎◌, ℕ, Bool, true, false, List, Option, Result, Ok, Err, refl, sym, ap, subst, inl, inr}
 use Rattle.std.specs.Prelude.{IfErr, IfOk, is_some, if◌then◌else◌}
 use Rattle.lsm_codec.specs.Guards.{Condition}
 use Rattle.lsm_codec.specs.Map.{Operation}
 use Rattle.lsm_device.specs.declared.refusal.Refusal.{Refusal}
-use Rattle.lsm_device.specs.declared.refusal.Refusal.TheVariants.{NoMemory, Io, Stopped, NoSpace}
+use Rattle.lsm_device.specs.declared.refusal.Refusal.TheVariants.{NoMemory, Io, Stopped}
 use Rattle.lsm_open.specs.Recovering.{IsOpeningRefusal}
 use Rattle.lsm_store.specs.Backing.{StoreView, machine_of}
-use Rattle.lsm_store.specs.Calls.{Call, CommitIf, Sync, Number, Refused, Unread, as_told}
-use Rattle.lsm_store.specs.Serving.{Serves, reply_in}
+use Rattle.lsm_store.specs.Calls.{Call, Sync, Number, Refused}
+use Rattle.lsm_store.specs.Serving.{Serves}
 use Rattle.lsm_store.specs.State.{State}
 use Rattle.lsm_store.specs.Stats.{stat_answer, stat_of}
+use Rattle.lsm_upkeep.specs.Writing.{Writes}
 use Rattle.lsm_check.specs.Images.{IsCheckRefusal}
 use Rattle.lsm_language.specs.declared.fault.Fault.{Fault}
 use Rattle.lsm_language.specs.Faults.{IsRefusalBy, Reason, mistake, refusal, unopened, unread, unwritten, reason_of}
 use Rattle.lsm_requests.specs.declared.answer.Answer.{Answer}
 use Rattle.lsm_requests.specs.declared.answer.Output.{Output}
 use Rattle.lsm_requests.specs.Answers.{Hands, IsRefusedOpened, OfOpened, WasOpened}
-use Rattle.lsm_requests.specs.Commits.{IsKeptUp, Refuses, takes_puts}
+use Rattle.lsm_requests.specs.Commits.{IsKeptUp, Refuses}
 use Rattle.lsm_requests.specs.Refusing.{RefusesToCommit, RefusesToTell}
-
--- what is told of a batch under guards that was refused, whether a read or a write faulted
-told_refused : (guards : List Condition) (batch : List Operation) (s : State) (e : Refusal) → as_told (reply_in (CommitIf guards batch) s (Refused e)) ≡ Refused e
-told_refused guards batch s Io = by (is_some s.stopped)
-  where
-    by : (b : Bool) → as_told (if b then Refused Io else Unread) ≡ Refused Io
-    by true = refl
-    by false = refl
-told_refused guards batch s e = refl
 
 -- a call whose refusal is told as it is
 pub refuses : (call : Call) (before after : StoreView) (e : Refusal) → Serves before call (Refused e) after → Refuses call before e
@@ -37,27 +29,18 @@ refuses call before after e serves = record { reply = Refused e; after = after; 
 pub tell_refused : (call : Call) (before after : StoreView) (e : Refusal) → Serves before call (Refused e) after → RefusesToTell call before e
 tell_refused call before after e serves = inr (refuses call before after e serves)
 
--- a batch under guards
-pub refuses_if : (guards : List Condition) (batch : List Operation) (before after : StoreView) (e : Refusal)
-    → Serves before (CommitIf guards batch) (reply_in (CommitIf guards batch) after.state (Refused e)) after → Refuses (CommitIf guards batch) before e
-refuses_if guards batch before after e serves =
-    record { reply = reply_in (CommitIf guards batch) after.state (Refused e); after = after; serves = serves; told = told_refused guards batch after.state e }
-
--- there was no room for puts behind a keeping up
-pub room_refused : (call : Call) (before kept : StoreView) (e : Refusal) → IsKeptUp before kept → e ≡ NoSpace → takes_puts 0 kept ≡ false → RefusesToCommit true call before e
-room_refused call before kept e keeps is lacks = record { kept = kept; keeps = keeps; refused = inl (refl, is, lacks) }
-
--- or the commit was refused
-pub commit_refused : (puts : Bool) (call : Call) (before kept : StoreView) (e : Refusal) → IsKeptUp before kept → Refuses call kept e → RefusesToCommit puts call before e
-commit_refused puts call before kept e keeps refused = record { kept = kept; keeps = keeps; refused = inr (inl refused) }
+-- a batch was refused behind a keeping up
+pub write_refused : (guards : Option (List Condition)) (batch : List Operation) (before kept after : StoreView) (e : Refusal) → IsKeptUp before kept → Writes guards batch kept (Refused e) after
+    → RefusesToCommit guards batch before e
+write_refused guards batch before kept after e keeps writes = record { kept = kept; keeps = keeps; refused = inl (after, writes) }
 
 -- or the sync behind it
-pub sync_refused : (puts : Bool) (call : Call) (before kept between after : StoreView) (number : ℕ) (e : Refusal) → IsKeptUp before kept → Serves kept call (Number number) between
-    → Serves between Sync (Refused e) after → RefusesToCommit puts call before e
-sync_refused puts call before kept between after number e keeps commits refused = record {
+pub sync_refused : (guards : Option (List Condition)) (batch : List Operation) (before kept between after : StoreView) (number : ℕ) (e : Refusal) → IsKeptUp before kept
+    → Writes guards batch kept (Number number) between → Serves between Sync (Refused e) after → RefusesToCommit guards batch before e
+sync_refused guards batch before kept between after number e keeps writes refused = record {
   kept = kept;
   keeps = keeps;
-  refused = inr (inr record { number = number; between = between; commits = commits; refused = refuses Sync between after e refused });
+  refused = inr record { number = number; between = between; writes = writes; refused = refuses Sync between after e refused };
 }
 
 -- ---- a store that was opened

@@ -25,7 +25,7 @@ use Rattle.lsm_check.specs.declared.finding.Finding.{Finding}
 use Rattle.lsm_check.specs.declared.finding.Finding.TheVariants as finding
 use Rattle.lsm_check.specs.declared.report.Report.{Report}
 use Rattle.lsm_store.specs.declared.asked.At.TheVariants.{Now}
-use Rattle.lsm_store.specs.Calls.{Commit, CommitIf, Get, Scan, Rows, Value as Found}
+use Rattle.lsm_store.specs.Calls.{Get, Scan, Rows, Value as Found}
 use Rattle.lsm_store.specs.Backing.{StoreView, machine_of}
 use Rattle.lsm_store.specs.Serving.{Serves, ReopensTo}
 use Rattle.lsm_store.specs.Stats.{stat_answer}
@@ -38,14 +38,14 @@ use Rattle.lsm_explore.specs.declared.exploring.Explored.{Explored}
 use Rattle.lsm_lives.specs.Leading.{AreLed, HasNewCache, LifeView}
 use Rattle.lsm_lives.specs.Living.{KeepPromise, asked_in}
 use Rattle.lsm_requests.specs.Steps.{steps_after, told_after, lives_said, told_lives}
-use Rattle.lsm_upkeep.specs.Upkeep.{CompactsAll}
-use Rattle.lsm_requests.specs.Commits.{HasCommitted, IsKeptUp}
+use Rattle.lsm_requests.specs.Commits.{HasCommitted}
 use Rattle.lsm_requests.specs.Dumping.{HasDumped, StopsDumping}
 use Rattle.lsm_requests.specs.Loading.{HasLoaded, KeepsAndLoads, RefusesToLoad, loaded_line}
 use Rattle.lsm_replies.specs.Replies.{stat_line}
 use Rattle.lsm_requests.specs.Replies.{page_lines, report_line, table_line, counts_lines, replies_text, lives_text}
 use Rattle.lsm_requests.specs.declared.loading.Loaded.{Loaded as LoadedUpTo}
 use Rattle.lsm_requests.specs.declared.steps.Told.{Told}
+use Rattle.lsm_serve.specs.Committing.{CompactsWhole}
 use Rattle.lsm_serve.specs.Serving.{IsServed}
 use Rattle.lsm_storm.specs.Storms.{HasStormed}
 use Rattle.lsm_storm.specs.Tallies.{HasTallied}
@@ -156,9 +156,7 @@ pub record HasNumbers (before after : StoreView) (output : Output) : Type 0 wher
 
 -- the store was kept up, then its tables were taken down as far as they go, and its numbers are told
 pub record HasCompacted (before after : StoreView) (output : Output) : Type 0 where
-  pub kept : StoreView
-  pub keeps : IsKeptUp before kept
-  pub compacts : CompactsAll kept after
+  pub compacts : CompactsWhole before after
   pub numbers : HasNumbers after after output
 
 -- this line tells what was found wrong
@@ -233,9 +231,9 @@ pub record HasCountedTogether (clients : ℕ) (output : Output) : Type 0 where
 -- what answers a request, where no line was printed before the answer, and no input was read
 abbrev pub Gives : Request → Answer → Type 0
 Gives (request.Format file geometry) = HasFormatted geometry.sectors geometry.log_sectors
-Gives (request.Put file batch) = OfOpened (HasCommitted true (Commit batch))
-Gives (request.PutIf file guards batch) = OfOpened (HasCommitted true (CommitIf guards.items batch))
-Gives (request.Delete file batch) = OfOpened (HasCommitted false (Commit batch))
+Gives (request.Put file batch) = OfOpened (HasCommitted None batch)
+Gives (request.PutIf file guards batch) = OfOpened (HasCommitted (Some guards.items) batch)
+Gives (request.Delete file batch) = OfOpened (HasCommitted None batch)
 Gives (request.Get file key) = OfOpened (HasFound key.items)
 Gives (request.Scan file from limit) = OfOpened (HasRows from.items limit)
 Gives (request.Stat file) = OfOpened HasNumbers

@@ -2,15 +2,15 @@
 use Rattle.std.specs.Prelude.{◌≡◌, ◌≤◌, ◌⊎◌, ℕ, zero, suc, Bool, true, false, List, [], ◌∷◌, ◌++◌, length, Option, Some, None, Result, Ok, Err, IfSome, codes, decimal}
 use Rattle.lsm_codec.specs.Map.{Operation, apply}
 use Rattle.lsm_device.specs.declared.refusal.Refusal.{Refusal}
-use Rattle.lsm_device.specs.declared.refusal.Refusal.TheVariants.{Exhausted, NoMemory, NoSpace}
+use Rattle.lsm_device.specs.declared.refusal.Refusal.TheVariants.{Exhausted, NoMemory}
 use Rattle.lsm_store.specs.Backing.{StoreView}
-use Rattle.lsm_store.specs.Calls.{Done, LogRoom, Refused, Sync}
+use Rattle.lsm_store.specs.Calls.{Done, Sync}
 use Rattle.lsm_store.specs.Serving.{Serves}
 use Rattle.lsm_language.specs.declared.fault.Fault.{Fault}
 use Rattle.lsm_language.specs.declared.fault.Fault.TheVariants as fault
 use Rattle.lsm_language.specs.Faults.{Reason, mistake, refusal, unread, reason_of}
 use Rattle.lsm_language.specs.Rows.{are_rows, lines_of, rows_of}
-use Rattle.lsm_requests.specs.Commits.{Adds, AddsNot, HasRoomForLog, IsKeptUp, Refuses, map_in}
+use Rattle.lsm_requests.specs.Commits.{Adds, AddsNot, IsKeptUp, Refuses, map_in}
 use Rattle.lsm_requests.specs.declared.loading.Loading.{Loading}
 use Rattle.lsm_requests.specs.declared.loading.Loaded.{Loaded}
 use Rattle.lsm_requests.specs.declared.answer.Output.{Output}
@@ -89,26 +89,18 @@ pub record RefusesLastSync (input : Option (List ℕ)) (before : StoreView) (e :
 
 -- ---- of a store that is kept up before
 
--- A store was kept up, and puts had room beside the blocks that its log fills.
-pub record IsReady (before kept : StoreView) : Type 0 where
-  pub keeps : IsKeptUp before kept
-  pub room : HasRoomForLog true kept
-
--- Then rows were loaded.
+-- A store was kept up, and rows were loaded.
 pub record KeepsAndLoads (input : Option (List ℕ)) (loaded : Loaded) (before after : StoreView) : Type 0 where
   pub kept : StoreView
-  pub ready : IsReady before kept
+  pub keeps : IsKeptUp before kept
   pub loads : IsLoaded input loaded kept after
   pub map : map_in after ≡ apply (map_in before) loads.loads.rows
 
--- A store that was kept up didn't take rows: it was refused when it was asked for the room of its log, or puts had no room.
-abbrev pub TakesNoRows : StoreView → Refusal → Type 0
-TakesNoRows kept e = Serves kept LogRoom (Refused e) kept ⊎ ((e ≡ NoSpace) × HasRoomForLog false kept)
-
--- A loading was refused that tells no number: before any row was put, or by the last sync.
-abbrev pub RefusesToLoad : Option (List ℕ) → StoreView → Refusal → Type 0
-RefusesToLoad input before e = ((kept : StoreView) × IsKeptUp before kept × TakesNoRows kept e)
-    ⊎ ((kept : StoreView) × IsReady before kept × RefusesLastSync input kept e)
+-- So they were, but the last sync was refused, so that no number is told.
+pub record RefusesToLoad (input : Option (List ℕ)) (before : StoreView) (e : Refusal) : Type 0 where
+  pub kept : StoreView
+  pub keeps : IsKeptUp before kept
+  pub refused : RefusesLastSync input kept e
 
 -- the line that tells how many
 abbrev pub loaded_line : ℕ → List ℕ

@@ -1,58 +1,54 @@
 -- With what a request may be refused, on any file: whatever it holds, and whichever of its device calls fault.
-use Rattle.std.specs.Prelude.{◌≡◌, ◌⊎◌, ℕ, Bool, true, false, List, Option, None, Err, IsTrue}
+use Rattle.std.specs.Prelude.{◌≡◌, ◌⊎◌, ℕ, List, Option, Some, None, Err}
 use Rattle.lsm_check.specs.Images.{IsCheckRefusal}
+use Rattle.lsm_codec.specs.Guards.{Condition}
+use Rattle.lsm_codec.specs.Map.{Operation}
 use Rattle.lsm_device.specs.declared.refusal.Refusal.{Refusal}
-use Rattle.lsm_device.specs.declared.refusal.Refusal.TheVariants.{NoMemory, Io, NoSpace}
+use Rattle.lsm_device.specs.declared.refusal.Refusal.TheVariants.{NoMemory, Io}
 use Rattle.lsm_language.specs.Faults.{IsRefusalBy, Reason}
 use Rattle.lsm_language.specs.declared.request.Request.{Request}
 use Rattle.lsm_language.specs.declared.request.Request.TheVariants as request
 use Rattle.lsm_open.specs.Recovering.{IsOpeningRefusal}
 use Rattle.lsm_store.specs.declared.asked.At.TheVariants.{Now}
 use Rattle.lsm_store.specs.Backing.{StoreView, machine_of}
-use Rattle.lsm_store.specs.Calls.{Call, Commit, CommitIf, Get, Scan, Sync, Number}
-use Rattle.lsm_store.specs.Serving.{Serves}
+use Rattle.lsm_store.specs.Calls.{Call, Get, Scan, Sync, Number, Refused}
 use Rattle.lsm_store.specs.Stats.{stat_answer}
-use Rattle.lsm_upkeep.specs.Upkeep.{CompactsAll}
+use Rattle.lsm_upkeep.specs.Writing.{Writes}
+use Rattle.lsm_serve.specs.Committing.{CompactsWhole}
 use Rattle.lsm_storm.specs.Storms.{IsSessionRefusal, IsStormRefusal}
 use Rattle.lsm_requests.specs.Answers.{IsRefusedOpened, TellsDumped, TellsLoaded, TellsServed}
-use Rattle.lsm_requests.specs.Commits.{IsKeptUp, Refuses, takes_puts}
+use Rattle.lsm_requests.specs.Commits.{IsKeptUp, Refuses}
 
 -- a call that reads was refused, or there was no memory for the text of its answer
 abbrev pub RefusesToTell : Call → StoreView → Refusal → Type 0
 RefusesToTell call before e = (e ≡ NoMemory) ⊎ Refuses call before e
 
--- The batch was added, and the sync behind it was refused.
-pub record RefusesToSync (call : Call) (before : StoreView) (e : Refusal) : Type 0 where
+-- The batch was written, and the sync behind it was refused.
+pub record RefusesToSync (guards : Option (List Condition)) (batch : List Operation) (before : StoreView) (e : Refusal) : Type 0 where
   pub number : ℕ
   pub between : StoreView
-  pub commits : Serves before call (Number number) between
+  pub writes : Writes guards batch before (Number number) between
   pub refused : Refuses Sync between e
 
--- There was no room for puts.
-abbrev pub LacksRoom : Bool → StoreView → Refusal → Type 0
-LacksRoom puts kept e = IsTrue puts × (e ≡ NoSpace) × (takes_puts 0 kept ≡ false)
-
--- The store was kept up; then there was no room for puts, or the call that adds the batch was refused, or the sync behind it.
-pub record RefusesToCommit (puts : Bool) (call : Call) (before : StoreView) (e : Refusal) : Type 0 where
+-- The store was kept up; then the batch was refused, or the sync behind it.
+pub record RefusesToCommit (guards : Option (List Condition)) (batch : List Operation) (before : StoreView) (e : Refusal) : Type 0 where
   pub kept : StoreView
   pub keeps : IsKeptUp before kept
-  pub refused : LacksRoom puts kept e ⊎ (Refuses call kept e ⊎ RefusesToSync call kept e)
+  pub refused : ((after : StoreView) × Writes guards batch kept (Refused e) after) ⊎ RefusesToSync guards batch kept e
 
 -- The store was kept up, and its tables were taken down as far as they go. Then there was no memory for the line of its numbers, or it was
 -- stopped, and so does not tell them.
 pub record RefusesToCompact (before : StoreView) (e : Refusal) : Type 0 where
-  pub kept : StoreView
   pub after : StoreView
-  pub keeps : IsKeptUp before kept
-  pub compacts : CompactsAll kept after
+  pub compacts : CompactsWhole before after
   pub untold : (e ≡ NoMemory) ⊎ (stat_answer (machine_of after) ≡ Err e)
 
 -- With what a request may be refused that prints nothing before its answer.
 abbrev pub MayRefuse : Request → Refusal → Type 0
 MayRefuse (request.Format file geometry) e = (e ≡ NoMemory) ⊎ (e ≡ Io)
-MayRefuse (request.Put file batch) e = IsRefusedOpened (RefusesToCommit true (Commit batch)) e
-MayRefuse (request.PutIf file guards batch) e = IsRefusedOpened (RefusesToCommit true (CommitIf guards.items batch)) e
-MayRefuse (request.Delete file batch) e = IsRefusedOpened (RefusesToCommit false (Commit batch)) e
+MayRefuse (request.Put file batch) e = IsRefusedOpened (RefusesToCommit None batch) e
+MayRefuse (request.PutIf file guards batch) e = IsRefusedOpened (RefusesToCommit (Some guards.items) batch) e
+MayRefuse (request.Delete file batch) e = IsRefusedOpened (RefusesToCommit None batch) e
 MayRefuse (request.Get file key) e = IsRefusedOpened (RefusesToTell (Get Now key.items)) e
 MayRefuse (request.Scan file from limit) e = IsRefusedOpened (RefusesToTell (Scan Now from.items None limit)) e
 MayRefuse (request.Stat file) e = IsOpeningRefusal e

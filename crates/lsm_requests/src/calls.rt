@@ -1,6 +1,6 @@
 //! The calls of the store that a request makes, on a store in a file.
 
-ghost use Rattle.std.specs.Prelude.{◌≡◌, ◌⊎◌, [], ◌+◌, true, false, map, is_some, None, Ok, Err, IfErr, IfOk};
+ghost use Rattle.std.specs.Prelude.{◌≡◌, ◌⊎◌, [], ◌+◌, true, false, map, is_some, option_map, None, Ok, Err, IfErr, IfOk};
 ghost use Rattle.lsm_check.specs.Images.{IsCheckRefusal};
 ghost use Rattle.lsm_device.specs.declared.refusal.Refusal.TheVariants.{NoMemory, Io, Stopped};
 ghost use Rattle.lsm_device.specs.declared.refusal.Refusal.{Refusal};
@@ -8,7 +8,7 @@ ghost use Rattle.lsm_language.specs.declared.fault.Fault.{Fault};
 ghost use Rattle.lsm_requests.specs.declared.answer.Output.TheVariants.{Loaded as LoadedRows, Served};
 ghost use Rattle.lsm_open.specs.Recovering.{IsOpeningRefusal};
 ghost use Rattle.lsm_store.specs.Backing.{machine_of};
-ghost use Rattle.lsm_store.specs.Calls.{Commit, CommitIf, Get, Scan};
+ghost use Rattle.lsm_store.specs.Calls.{Get, Scan};
 ghost use Rattle.lsm_store.specs.Stats.{stat_answer};
 ghost use Rattle.lsm_store.specs.declared.asked.At.TheVariants.{Now};
 ghost use Rattle.lsm_storm.specs.Storms.{IsStormRefusal};
@@ -65,13 +65,13 @@ pub fn answer_request<
 {
     match request {
         Request::Format { file, geometry } => format(rt, file, geometry),
-        Request::Put { file, batch } => put(rt, file, &batch),
+        Request::Put { file, batch } => commit(rt, file, None, &batch),
         Request::PutIf {
             file,
             guards,
             batch,
-        } => put_if(rt, file, &guards, &batch),
-        Request::Delete { file, batch } => delete(rt, file, &batch),
+        } => commit(rt, file, Some(&guards), &batch),
+        Request::Delete { file, batch } => commit(rt, file, None, &batch),
         Request::Get { file, key } => get(rt, file, &key),
         Request::Scan { file, from, limit } => scan(rt, file, &from, limit),
         Request::Stat { file } => stat(rt, file),
@@ -269,43 +269,17 @@ fn format<R: Files<File = File> + AllocGlobal>(
     }
 }
 
-fn put<R: Files<File = File> + AllocGlobal + Threads + Sync>(
+fn commit<R: Files<File = File> + AllocGlobal + Threads + Sync>(
     rt: &R,
     file: &str,
+    guards: Option<&[Guard]>,
     batch: &Batch,
 ) -> Result<Answer, Fault>
-    ensures gives { IfOk result (OfOpened (HasCommitted true (Commit batch.now))) }
-    ensures refused { IfErr result (λ e. IsRefusalBy (IsRefusedOpened (RefusesToCommit true (Commit batch.now))) (reason_of e)) }
+    ensures gives { IfOk result (OfOpened (HasCommitted (option_map (λ g. g.now) guards.entry) batch.now)) }
+    ensures refused { IfErr result (λ e. IsRefusalBy (IsRefusedOpened (RefusesToCommit (option_map (λ g. g.now) guards.entry) batch.now)) (reason_of e)) }
 {
     let mut store = open(rt, file)?;
-    let done = committing::put(rt, rt.alloc(), &mut store, batch);
-    closed(rt.alloc(), store, done)
-}
-
-fn put_if<R: Files<File = File> + AllocGlobal + Threads + Sync>(
-    rt: &R,
-    file: &str,
-    guards: &[Guard],
-    batch: &Batch,
-) -> Result<Answer, Fault>
-    ensures gives { IfOk result (OfOpened (HasCommitted true (CommitIf guards.now batch.now))) }
-    ensures refused { IfErr result (λ e. IsRefusalBy (IsRefusedOpened (RefusesToCommit true (CommitIf guards.now batch.now))) (reason_of e)) }
-{
-    let mut store = open(rt, file)?;
-    let done = committing::put_if(rt, rt.alloc(), &mut store, guards, batch);
-    closed(rt.alloc(), store, done)
-}
-
-fn delete<R: Files<File = File> + AllocGlobal + Threads + Sync>(
-    rt: &R,
-    file: &str,
-    batch: &Batch,
-) -> Result<Answer, Fault>
-    ensures gives { IfOk result (OfOpened (HasCommitted false (Commit batch.now))) }
-    ensures refused { IfErr result (λ e. IsRefusalBy (IsRefusedOpened (RefusesToCommit false (Commit batch.now))) (reason_of e)) }
-{
-    let mut store = open(rt, file)?;
-    let done = committing::delete(rt, rt.alloc(), &mut store, batch);
+    let done = committing::commit(rt, rt.alloc(), &mut store, guards, batch);
     closed(rt.alloc(), store, done)
 }
 

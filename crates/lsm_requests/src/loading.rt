@@ -7,12 +7,12 @@ ghost use Rattle.lsm_language.specs.Rows.{row_said};
 ghost use Rattle.lsm_requests.specs.Commits.{AddsNot};
 ghost use Rattle.lsm_requests.specs.Loading.{AddsWaiting, ArePut, AreRead, CommitsWaiting, Fits, IsLoaded, RefusesLastSync, Takes, TakesNot, WaitingRefused, is_refused, none_loaded, rows_waiting};
 
-use crate::committing::add;
 use lsm_codec::{Batch, Op};
 use lsm_device::{Device, Refusal};
 use lsm_language::{Fault, MOST_ROW, Unread, Usage, beginning, next_line, read_row};
 use lsm_progress::{Milestone, Progress};
 use lsm_store::Store;
+use lsm_upkeep::write;
 use std::alloc::Global;
 use std::io::BufRead;
 use std::thread::Threads;
@@ -208,7 +208,7 @@ fn commit_batch<R: Threads + Sync, D: Device>(
 {
     match waiting {
         Some(batch) => {
-            add(rt, alloc, store, batch)?;
+            write(rt, alloc, store, None, batch)?;
             Ok(())
         }
         None => Ok(()),

@@ -1,17 +1,17 @@
--- What a call that commits comes to.
-use Rattle.std.proofs.Common.{◌≡◌, ◌∙◌, Bool, true, false, not, true≢false, inl, inr, refl, sym, ap, subst}
-use Rattle.lsm_device.specs.declared.refusal.Refusal.TheVariants.{LogFull, NoSpace}
+-- What a call that is made comes to.
+use Rattle.std.proofs.Common.{◌≡◌, ◌∙◌, Option, Some, None, List, Result, Ok, Err, ℕ, refl, sym, ap, subst}
+use Rattle.lsm_codec.specs.Guards.{Condition}
+use Rattle.lsm_codec.specs.Map.{Operation}
+use Rattle.lsm_device.specs.declared.refusal.Refusal.{Refusal}
 use Rattle.lsm_lives.specs.Asked.{Replied}
 use Rattle.lsm_lives.specs.Calls.{reply_of, told_of}
 use Rattle.lsm_lives.specs.declared.calls.Reply.{Reply as GivenReply}
 use Rattle.lsm_lives.proofs.Made.{called_told}
 use Rattle.lsm_store.specs.Backing.{StoreView}
-use Rattle.lsm_store.specs.Calls.{Call, Reply, Number, Done, Value, Rows, Given, Handed, Refused, Unread, as_told}
+use Rattle.lsm_store.specs.Calls.{Call, Reply, Number, as_told, reply_of as reply_by}
 use Rattle.lsm_store.specs.Serving.{Serves, reply_in}
-use Rattle.lsm_upkeep.specs.Keeping.{KeepsMap}
-use Rattle.lsm_upkeep.specs.Upkeep.{CompactsIf}
-use Rattle.lsm_serve.specs.Committing.{Commits, CommitsBehind, Eases, IsTried, MakesRoom, ServesTold, is_log_full, lacks_room}
-use Rattle.lsm_serve.proofs.Passing.{Passes, compacts, makes_room, passes_keep, stays}
+use Rattle.lsm_upkeep.specs.Writing.{Writes}
+use Rattle.lsm_serve.specs.Committing.{ServesTold, WritesTold}
 
 -- ---- a call that was served
 
@@ -26,65 +26,18 @@ serves_told answer call old new is serves = record {
   is = replied_same (reply_of answer) (as_told (reply_in call new.state (reply_of answer))) (sym is ∙ called_told answer call new.state is);
 }
 
--- ---- a full log
+-- ---- a batch that was written
 
-full_told : (reply : Reply) → is_log_full (as_told reply) ≡ true → reply ≡ Refused LogFull
-full_told (Refused LogFull) e = refl
-full_told (Refused other) e = absurd (true≢false (sym e))
-full_told (Number n) e = absurd (true≢false (sym e))
-full_told Done e = absurd (true≢false (sym e))
-full_told (Value v) e = absurd (true≢false (sym e))
-full_told (Rows page) e = absurd (true≢false (sym e))
-full_told (Given job) e = absurd (true≢false (sym e))
-full_told (Handed input) e = absurd (true≢false (sym e))
-full_told Unread e = absurd (true≢false (sym e))
+written_plain : (r : Result ℕ Refusal) → reply_by (λ n. Number n) r ≡ as_told (reply_by (λ n. Number n) r)
+written_plain (Ok n) = refl
+written_plain (Err e) = refl
 
-full_served : (call : Call) (told : Reply) (old new : StoreView) → ServesTold call old told new → is_log_full told ≡ true → Serves old call (Refused LogFull) new
-full_served call told old new s is = subst (λ (r : Reply). Serves old call r new) (full_told s.reply (ap is_log_full (sym s.is) ∙ is)) s.serves
+pub writes_told : (guards : Option (List Condition)) (batch : List Operation) (old new : StoreView) (r : Result ℕ Refusal) (told : Reply) → told ≡ reply_by (λ n. Number n) r
+    → Writes guards batch old (reply_by (λ n. Number n) r) new → WritesTold guards batch old told new
+writes_told guards batch old new r told is writes = record { reply = reply_by (λ n. Number n) r; writes = writes; is = is ∙ written_plain r }
 
--- ---- room for puts
-
--- what was asked for the other way
-pub negated : (b asked is : Bool) → asked ≡ not b → asked ≡ is → b ≡ not is
-negated true asked is e f = ap not (sym e ∙ f)
-negated false asked is e f = ap not (sym e ∙ f)
-
-pub eases_passes : (puts : Bool) (call : Call) (old new : StoreView) → Eases puts old new → Passes call old new
-eases_passes puts call old new eases = by (lacks_room puts old) eases
-  where
-    by : (b : Bool) → CompactsIf b old new → Passes call old new
-    by true c = compacts call old new c
-    by false e = stays call old new e
-
--- ---- a commit
-
-module _ (puts : Bool) (call : Call) (old mid : StoreView) (eases : Eases puts old mid) where
-  keeps_eased : KeepsMap old mid
-  keeps_eased = passes_keep call old mid (eases_passes puts call old mid eases)
-
-  pub commits-lacking : lacks_room puts mid ≡ true → Commits puts call old (Refused NoSpace) mid
-  commits-lacking lacks = record { kept = mid; eases = eases; keeps = keeps_eased; ends = inl (refl, inr (lacks, refl, refl)) }
-
-  module _ (room : lacks_room puts mid ≡ false) where
-    pub commits-plainly : (told : Reply) (new : StoreView) → ServesTold call mid told new → is_log_full told ≡ false → Commits puts call old told new
-    commits-plainly told new serves other = record { kept = mid; eases = eases; keeps = keeps_eased; ends = inl (other, inl (room, serves)) }
-
-    pub commits-behind : (first told : Reply) (full new : StoreView) → ServesTold call mid first full → is_log_full first ≡ true → CommitsBehind puts call full told new → Commits puts call old told new
-    commits-behind first told full new serves is behind = record {
-      kept = mid;
-      eases = eases;
-      keeps = keeps_eased;
-      ends = inr (record { full = full; room = room; serves = full_served call first mid full serves is; behind = behind });
-    }
-
--- ---- behind another log
-
-module _ (puts : Bool) (call : Call) (old kept : StoreView) (makes : MakesRoom old kept) where
-  behind-tried : (told : Reply) (new : StoreView) → IsTried puts call kept told new → CommitsBehind puts call old told new
-  behind-tried told new tried = record { kept = kept; makes = makes; keeps = passes_keep call old kept (makes_room call old kept makes); tried = tried }
-
-  pub behind-lacks : lacks_room puts kept ≡ true → CommitsBehind puts call old (Refused NoSpace) kept
-  behind-lacks lacks = behind-tried (Refused NoSpace) kept (inr (lacks, refl, refl))
-
-  pub behind-serves : (told : Reply) (new : StoreView) → lacks_room puts kept ≡ false → ServesTold call kept told new → CommitsBehind puts call old told new
-  behind-serves told new room serves = behind-tried told new (inl (room, serves))
+-- with guards that are the same
+pub writes_guarded : (guards given : List Condition) (batch : List Operation) (old new : StoreView) (r : Result ℕ Refusal) (told : Reply) → given ≡ guards → told ≡ reply_by (λ n. Number n) r
+    → Writes (Some given) batch old (reply_by (λ n. Number n) r) new → WritesTold (Some guards) batch old told new
+writes_guarded guards given batch old new r told same is writes =
+    writes_told (Some guards) batch old new r told is (subst (λ (g : List Condition). Writes (Some g) batch old (reply_by (λ n. Number n) r) new) same writes)

@@ -1,17 +1,22 @@
 -- Answers to lines are a run.
-use Rattle.std.proofs.Common.{◌≡◌, ◌∙◌, ◌⊎◌, ℕ, Bool, false, List, [], ◌∷◌, ◌++◌, inl, inr, refl, sym, ap, subst}
-use Rattle.lsm_device.specs.declared.refusal.Refusal.TheVariants.{NoSpace}
+use Rattle.std.proofs.Common.{◌≡◌, ◌∙◌, ◌⊎◌, ℕ, Bool, true, false, List, [], ◌∷◌, ◌++◌, Option, Some, None, inl, inr, refl, sym, ap, subst}
+use Rattle.std.specs.Prelude.{is_some}
+use Rattle.lsm_codec.specs.Guards.{Condition}
+use Rattle.lsm_codec.specs.Map.{Operation}
+use Rattle.lsm_device.specs.declared.refusal.Refusal.TheVariants.{Io, LogFull, NoSpace}
 use Rattle.lsm_lives.specs.Replaying.{GoOn, Replays}
 use Rattle.lsm_replies.specs.Replies.{counted_by}
 use Rattle.lsm_store.specs.Backing.{StoreView}
-use Rattle.lsm_store.specs.Calls.{Call, Reply, Commit, CommitIf, Sync, SyncTo, Get, Scan, Snapshot, Release, Rotate, LogRoom, Refused}
+use Rattle.lsm_store.specs.Calls.{Call, Reply, Commit, CommitIf, Sync, SyncTo, Get, Scan, Snapshot, Release, Rotate, LogRoom, Number, Done, Value, Rows, Given, Handed, Refused, Unread, as_told}
 use Rattle.lsm_store.specs.Machine.{Step, Called}
+use Rattle.lsm_store.specs.Serving.{Serves, reply_in}
+use Rattle.lsm_store.specs.State.{State}
+use Rattle.lsm_upkeep.specs.Writing.{EndsWith, commit_of, without_log_full}
 use Rattle.lsm_serve.specs.Asking.{Meaning, asks_call, asks_no_batch, asks_numbers, asks_compaction, asks_nothing, meaning_of}
-use Rattle.lsm_serve.specs.Committing.{Commits, CommitsAgain, IsTried, MakesCall, ServesTold, is_log_full, puts_in}
+use Rattle.lsm_serve.specs.Committing.{MakesCall, ServesTold, WritesTold}
 use Rattle.lsm_serve.specs.Answering.{Answered, Answers, AnswersLine, AnswersLines, Outcome, tells}
-use Rattle.lsm_serve.specs.Course.{AreFor, AreForLine, AreForLines, IsCourse}
-use Rattle.lsm_serve.proofs.CommittingLaws.{eases_passes}
-use Rattle.lsm_serve.proofs.Passing.{Passes, compacts_whole, full, makes_room, replays-append, stays, then}
+use Rattle.lsm_serve.specs.Course.{AreFor, AreForLine, AreForLines, IsCourse, told_as}
+use Rattle.lsm_serve.proofs.Passing.{Passes, passes, replays-append}
 
 -- the steps of one line
 record IsLine (Of : List Step → List Reply → Type 0) (before after : StoreView) : Type 0 where
@@ -23,61 +28,93 @@ record IsLine (Of : List Step → List Reply → Type 0) (before after : StoreVi
 -- ---- a call
 
 module _ (call : Call) (told : Reply) (outcome : Outcome) (tell : outcome ≡ tells (counted_by call) told) where
-  served_behind : (before kept after : StoreView) → Passes call before kept → ServesTold call kept told after → IsLine (AreFor (asks_call call) outcome) before after
-  served_behind before kept after p s = record {
+  called : (before kept after : StoreView) → Passes before kept → (reply : Reply) → Serves kept call reply after → told ≡ told_as call reply → IsLine (AreFor (asks_call call) outcome) before after
+  called before kept after p reply serves is = record {
     steps = p.steps ++ Called call ∷ [];
-    replies = p.replies ++ s.reply ∷ [];
+    replies = p.replies ++ reply ∷ [];
     of_line = inl (record {
       before = p.steps;
       earlier = p.replies;
-      reply = s.reply;
+      reply = reply;
       all = refl;
       replied = refl;
       upkeep = p.upkeep;
-      told = tell ∙ ap (tells (counted_by call)) s.is;
+      told = tell ∙ ap (tells (counted_by call)) is;
     });
-    replays = replays-append p.steps p.replies before kept after (Called call ∷ []) (s.reply ∷ []) p.replays (after, s.serves, refl);
+    replays = replays-append p.steps p.replies before kept after (Called call ∷ []) (reply ∷ []) p.replays (after, serves, refl);
   }
 
-  refused_behind : (before kept after : StoreView) → Passes call before kept → told ≡ Refused NoSpace → after ≡ kept → IsLine (AreFor (asks_call call) outcome) before after
-  refused_behind before kept after p so same = record {
+  not_called : (before kept after : StoreView) → Passes before kept → told ≡ Refused NoSpace → after ≡ kept → IsLine (AreFor (asks_call call) outcome) before after
+  not_called before kept after p so same = record {
     steps = p.steps;
     replies = p.replies;
     of_line = inr (p.upkeep, tell ∙ ap (tells (counted_by call)) so);
     replays = subst (λ (s : StoreView). Replays before p.steps p.replies s) (sym same) p.replays;
   }
 
-  tried : (puts : Bool) (before kept after : StoreView) → Passes call before kept → IsTried puts call kept told after → IsLine (AreFor (asks_call call) outcome) before after
-  tried puts before kept after p (inl (room, s)) = served_behind before kept after p s
-  tried puts before kept after p (inr (lacks, so, same)) = refused_behind before kept after p so same
+  -- with no upkeep before
+  served : (before after : StoreView) (s : ServesTold call before told after) → told_as call s.reply ≡ as_told s.reply → IsLine (AreFor (asks_call call) outcome) before after
+  served before after s plain = called before before after (record { steps = []; replies = []; upkeep = tt; replays = refl }) s.reply s.serves (s.is ∙ sym plain)
 
-  committed : (puts : Bool) (before after : StoreView) → Commits puts call before told after → IsLine (AreFor (asks_call call) outcome) before after
-  committed puts before after c = by c.ends
-    where
-      eased : Passes call before c.kept
-      eased = eases_passes puts call before c.kept c.eases
+-- ---- a commit
 
-      by : ((is_log_full told ≡ false) × IsTried puts call c.kept told after) ⊎ CommitsAgain puts call c.kept told after → IsLine (AreFor (asks_call call) outcome) before after
-      by (inl (other, t)) = tried puts before c.kept after eased t
-      by (inr a) =
-          let refused : Passes call before a.full = then call before c.kept a.full eased (full call c.kept a.full a.serves) in
-          tried puts before a.behind.kept after (then call before a.full a.behind.kept refused (makes_room call a.full a.behind.kept a.behind.makes)) a.behind.tried
+-- what is told of a commit is told of its reply
+told_full : (reply : Reply) → as_told (without_log_full reply) ≡ without_log_full (as_told reply)
+told_full (Refused LogFull) = refl
+told_full (Refused other) = refl
+told_full (Number n) = refl
+told_full Done = refl
+told_full (Value v) = refl
+told_full (Rows page) = refl
+told_full (Given job) = refl
+told_full (Handed input) = refl
+told_full Unread = refl
 
-  served : (before after : StoreView) → ServesTold call before told after → IsLine (AreFor (asks_call call) outcome) before after
-  served before after s = served_behind before before after (stays call before before refl) s
+told_unread : (guards : List Condition) (batch : List Operation) (s : State) (reply : Reply) → as_told (reply_in (CommitIf guards batch) s reply) ≡ as_told reply
+told_unread guards batch s (Refused Io) = by (is_some s.stopped)
+  where
+    by : (b : Bool) → as_told (if b then Refused Io else Unread) ≡ Refused Io
+    by true = refl
+    by false = refl
+told_unread guards batch s (Refused other) = refl
+told_unread guards batch s (Number n) = refl
+told_unread guards batch s Done = refl
+told_unread guards batch s (Value v) = refl
+told_unread guards batch s (Rows page) = refl
+told_unread guards batch s (Given job) = refl
+told_unread guards batch s (Handed input) = refl
+told_unread guards batch s Unread = refl
+
+told_commit : (guards : Option (List Condition)) (batch : List Operation) (s : State) (reply : Reply)
+    → as_told (without_log_full reply) ≡ told_as (commit_of guards batch) (reply_in (commit_of guards batch) s reply)
+told_commit None batch s reply = told_full reply
+told_commit (Some guards) batch s reply = told_full reply ∙ ap without_log_full (sym (told_unread guards batch s reply))
+
+written : (guards : Option (List Condition)) (batch : List Operation) (told : Reply) (outcome : Outcome) → outcome ≡ tells (counted_by (commit_of guards batch)) told → (before after : StoreView)
+    → WritesTold guards batch before told after → IsLine (AreFor (asks_call (commit_of guards batch)) outcome) before after
+written guards batch told outcome tell before after w = by w.writes.ends
+  where
+    upkeep : Passes before w.writes.kept
+    upkeep = passes before w.writes.kept w.writes.upkeep
+
+    by : EndsWith guards batch w.writes.kept w.reply after → IsLine (AreFor (asks_call (commit_of guards batch)) outcome) before after
+    by (inl (reply, serves, is)) =
+        called (commit_of guards batch) told outcome tell before w.writes.kept after upkeep (reply_in (commit_of guards batch) after.state reply) serves
+        (w.is ∙ ap as_told is ∙ told_commit guards batch after.state reply)
+    by (inr (so, wants, same)) = not_called (commit_of guards batch) told outcome tell before w.writes.kept after upkeep (w.is ∙ ap as_told so) same
 
 made : (call : Call) (told : Reply) (outcome : Outcome) → outcome ≡ tells (counted_by call) told → (before after : StoreView) → MakesCall call before told after
     → IsLine (AreFor (asks_call call) outcome) before after
-made (Commit batch) told outcome tell before after c = committed (Commit batch) told outcome tell (puts_in batch) before after c
-made (CommitIf guards batch) told outcome tell before after c = committed (CommitIf guards batch) told outcome tell (puts_in batch) before after c
-made Sync told outcome tell before after s = served Sync told outcome tell before after s
-made (SyncTo number) told outcome tell before after s = served (SyncTo number) told outcome tell before after s
-made (Get at key) told outcome tell before after s = served (Get at key) told outcome tell before after s
-made (Scan at from to limit) told outcome tell before after s = served (Scan at from to limit) told outcome tell before after s
-made Snapshot told outcome tell before after s = served Snapshot told outcome tell before after s
-made (Release number) told outcome tell before after s = served (Release number) told outcome tell before after s
-made Rotate told outcome tell before after s = served Rotate told outcome tell before after s
-made LogRoom told outcome tell before after s = served LogRoom told outcome tell before after s
+made (Commit batch) told outcome tell before after w = written None batch told outcome tell before after w
+made (CommitIf guards batch) told outcome tell before after w = written (Some guards) batch told outcome tell before after w
+made Sync told outcome tell before after s = served Sync told outcome tell before after s refl
+made (SyncTo number) told outcome tell before after s = served (SyncTo number) told outcome tell before after s refl
+made (Get at key) told outcome tell before after s = served (Get at key) told outcome tell before after s refl
+made (Scan at from to limit) told outcome tell before after s = served (Scan at from to limit) told outcome tell before after s refl
+made Snapshot told outcome tell before after s = served Snapshot told outcome tell before after s refl
+made (Release number) told outcome tell before after s = served (Release number) told outcome tell before after s refl
+made Rotate told outcome tell before after s = served Rotate told outcome tell before after s refl
+made LogRoom told outcome tell before after s = served LogRoom told outcome tell before after s refl
 
 -- ---- a line
 
@@ -88,8 +125,8 @@ answered_for : (m : Meaning) (before : StoreView) (outcome : Outcome) (after : S
 answered_for (asks_call call) before outcome after (told, makes, tell) = made call told outcome tell before after makes
 answered_for (asks_no_batch refusal) before outcome after (tell, same) = nothing_made (AreFor (asks_no_batch refusal) outcome) before after (refl, refl) same
 answered_for asks_numbers before outcome after (tell, same) = nothing_made (AreFor asks_numbers outcome) before after (refl, refl) same
-answered_for asks_compaction before outcome after (whole, keeps, tell) =
-    let p = compacts_whole Rotate before after whole in
+answered_for asks_compaction before outcome after (whole, tell) =
+    let p = passes before after whole.upkeep in
     record { steps = p.steps; replies = p.replies; of_line = p.upkeep; replays = p.replays }
 answered_for (asks_nothing flaw) before outcome after (text, says, tell, same) = nothing_made (AreFor (asks_nothing flaw) outcome) before after (refl, refl) same
 

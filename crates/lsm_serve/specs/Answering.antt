@@ -11,7 +11,6 @@ use Rattle.lsm_store.specs.declared.stat.Stat.{Stat}
 use Rattle.lsm_replies.specs.Replies.{counted_by, reply_line, stat_line}
 use Rattle.lsm_replies.specs.declared.counted.Counted.{Counted}
 use Rattle.lsm_replies.specs.declared.counted.Counted.TheVariants.{Batch}
-use Rattle.lsm_upkeep.specs.Keeping.{KeepsMap}
 use Rattle.lsm_serve.specs.Asking.{Meaning, Says, asks_call, asks_no_batch, asks_numbers, asks_compaction, asks_nothing, meaning_of, wrong_text}
 use Rattle.lsm_serve.specs.Committing.{CompactsWhole, MakesCall}
 use Rattle.lsm_serve.specs.Tagging.{tag_in}
@@ -54,7 +53,7 @@ abbrev pub Answers : Meaning → StoreView → Outcome → StoreView → Type 0
 Answers (asks_call call) before outcome after = (told : Reply) × MakesCall call before told after × (outcome ≡ tells (counted_by call) told)
 Answers (asks_no_batch refusal) before outcome after = (outcome ≡ refuses refusal) × (after ≡ before)
 Answers asks_numbers before outcome after = (outcome ≡ numbers_in (stat_answer (machine_of before))) × (after ≡ before)
-Answers asks_compaction before outcome after = CompactsWhole before after × KeepsMap before after × (outcome ≡ numbers_in (stat_answer (machine_of after)))
+Answers asks_compaction before outcome after = CompactsWhole before after × (outcome ≡ numbers_in (stat_answer (machine_of after)))
 Answers (asks_nothing flaw) before outcome after = (text : List ℕ) × Says flaw text × (outcome ≡ wrongs text) × (after ≡ before)
 
 -- or memory for reading it was refused

@@ -1,15 +1,15 @@
-//! Calls that are made for a line. A commit finds room: where the log has none for it, another log is opened.
+//! Calls that are made for a line. A commit finds room: the store is made ready for it.
 
-ghost use Rattle.std.specs.Prelude.{◌≡◌, not};
+ghost use Rattle.std.specs.Prelude.{◌≡◌};
 ghost use Rattle.lsm_lives.specs.Asked.{Replied};
 ghost use Rattle.lsm_lives.specs.Calls.{call_of, reply_of, told_of};
-ghost use Rattle.lsm_serve.specs.Committing.{Commits, CommitsBehind, Eases, MakesCall, MakesRoom, ServesTold, is_log_full, lacks_room, puts_in};
+ghost use Rattle.lsm_store.specs.Calls.{Number, reply_of as reply_by};
+ghost use Rattle.lsm_serve.specs.Committing.{MakesCall};
 
-use lsm_codec::Batch;
 use lsm_device::{Device, Refusal};
 use lsm_lives::{Call, Reply, serve};
 use lsm_store::Store;
-use lsm_upkeep::admit;
+use lsm_upkeep::write;
 use std::alloc::Global;
 use std::thread::Threads;
 
@@ -24,31 +24,19 @@ pub(crate) fn make<R: Threads + Sync, D: Device>(
     ensures told { told_of result ≡ Replied (reply_of result) }
 {
     match call {
-        Call::Commit(batch) | Call::CommitIf(_, batch) => {
-            commit(rt, alloc, store, call, batch)
-        }
+        Call::Commit(batch) => number(write(rt, alloc, store, None, batch)),
+        Call::CommitIf(guards, batch) => number(write(rt, alloc, store, Some(guards), batch)),
         _ => serve(store, call),
     }
 }
 
-// Makes a call that commits, where its batch is admitted.
-fn commit<R: Threads + Sync, D: Device>(
-    rt: &R,
-    alloc: Global,
-    store: &mut Store<D>,
-    call: &Call,
-    batch: &Batch,
-) -> Reply {
-    match admit(rt, alloc, store, batch) {
-        Ok(()) => without_log_full(serve(store, call)),
+// The reply to a commit.
+fn number(answered: Result<u64, Refusal>) -> Reply
+    ensures reply { reply_of result ≡ reply_by Number answered }
+    ensures told { told_of result ≡ Replied (reply_of result) }
+{
+    match answered {
+        Ok(n) => Reply::Number(n),
         Err(refusal) => Reply::Refused(refusal),
-    }
-}
-
-// What is told of a commit: where the log has no room for it, though it was made ready, that there is none.
-fn without_log_full(reply: Reply) -> Reply {
-    match reply {
-        Reply::Refused(Refusal::LogFull) => Reply::Refused(Refusal::NoSpace),
-        other => other,
     }
 }

@@ -1,9 +1,9 @@
-use Rattle.std.proofs.Common.{ℕ, List, None, subst, true}
+use Rattle.std.proofs.Common.{ℕ, List, Some, None, subst}
 use Rattle.std.specs.Prelude.{IfErr, IfOk}
 use Rattle.lsm_codec.specs.Guards.{Condition}
 use Rattle.lsm_language.specs.Faults.{IsRefusalBy, reason_of}
 use Rattle.lsm_language.specs.declared.request.Request.TheVariants as request
-use Rattle.lsm_store.specs.Calls.{CommitIf, Get, Scan}
+use Rattle.lsm_store.specs.Calls.{Get, Scan}
 use Rattle.lsm_store.specs.declared.asked.At.TheVariants.{Now}
 use Rattle.lsm_requests.specs.Answers.{HasFound, HasRows, IsRefusedOpened, OfOpened}
 use Rattle.lsm_requests.specs.Commits.{HasCommitted}
@@ -23,33 +23,33 @@ returns-in-Format-clause-faults g c =
 
 pub returns-in-Put-clause-comes : goal.returns-in-Put-clause-comes
 returns-in-Put-clause-comes g c =
-    comes_when c.args.request (request.Put c.in-Put.file c.in-Put.batch) (g.I.Read.remaining c.args.input.now) (g.O.Write.contents c.args.output.now) c.put.result c.in-Put.is
-    (comes_silent _ (g.O.Write.contents c.args.output.now) c.put.result c.put.ensures.gives)
+    comes_when c.args.request (request.Put c.in-Put.file c.in-Put.batch) (g.I.Read.remaining c.args.input.now) (g.O.Write.contents c.args.output.now) c.commit.result c.in-Put.is
+    (comes_silent _ (g.O.Write.contents c.args.output.now) c.commit.result c.commit.ensures.gives)
 
 pub returns-in-Put-clause-faults : goal.returns-in-Put-clause-faults
 returns-in-Put-clause-faults g c =
-    faults_when c.args.request (request.Put c.in-Put.file c.in-Put.batch) (g.I.Read.remaining c.args.input.now) (g.O.Write.contents c.args.output.now) c.put.result c.in-Put.is
-    (faults_silent _ (g.O.Write.contents c.args.output.now) c.put.result c.put.ensures.refused)
+    faults_when c.args.request (request.Put c.in-Put.file c.in-Put.batch) (g.I.Read.remaining c.args.input.now) (g.O.Write.contents c.args.output.now) c.commit.result c.in-Put.is
+    (faults_silent _ (g.O.Write.contents c.args.output.now) c.commit.result c.commit.ensures.refused)
 
 pub returns-in-PutIf-clause-comes : goal.returns-in-PutIf-clause-comes
 returns-in-PutIf-clause-comes g c =
-    comes_when c.args.request (request.PutIf c.in-PutIf.file c.in-PutIf.guards c.in-PutIf.batch) (g.I.Read.remaining c.args.input.now) (g.O.Write.contents c.args.output.now) c.put_if.result c.in-PutIf.is
-    (comes_silent _ (g.O.Write.contents c.args.output.now) c.put_if.result (subst (λ (gs : List Condition). IfOk c.put_if.result (OfOpened (HasCommitted true (CommitIf gs c.in-PutIf.batch)))) c.deref.ensures.value c.put_if.ensures.gives))
+    comes_when c.args.request (request.PutIf c.in-PutIf.file c.in-PutIf.guards c.in-PutIf.batch) (g.I.Read.remaining c.args.input.now) (g.O.Write.contents c.args.output.now) c.commit-in-PutIf.result c.in-PutIf.is
+    (comes_silent _ (g.O.Write.contents c.args.output.now) c.commit-in-PutIf.result (subst (λ (gs : List Condition). IfOk c.commit-in-PutIf.result (OfOpened (HasCommitted (Some gs) c.in-PutIf.batch))) c.deref.ensures.value c.commit-in-PutIf.ensures.gives))
 
 pub returns-in-PutIf-clause-faults : goal.returns-in-PutIf-clause-faults
 returns-in-PutIf-clause-faults g c =
-    faults_when c.args.request (request.PutIf c.in-PutIf.file c.in-PutIf.guards c.in-PutIf.batch) (g.I.Read.remaining c.args.input.now) (g.O.Write.contents c.args.output.now) c.put_if.result c.in-PutIf.is
-    (faults_silent _ (g.O.Write.contents c.args.output.now) c.put_if.result (subst (λ (gs : List Condition). IfErr c.put_if.result (λ e. IsRefusalBy (IsRefusedOpened (RefusesToCommit true (CommitIf gs c.in-PutIf.batch))) (reason_of e))) c.deref.ensures.value c.put_if.ensures.refused))
+    faults_when c.args.request (request.PutIf c.in-PutIf.file c.in-PutIf.guards c.in-PutIf.batch) (g.I.Read.remaining c.args.input.now) (g.O.Write.contents c.args.output.now) c.commit-in-PutIf.result c.in-PutIf.is
+    (faults_silent _ (g.O.Write.contents c.args.output.now) c.commit-in-PutIf.result (subst (λ (gs : List Condition). IfErr c.commit-in-PutIf.result (λ e. IsRefusalBy (IsRefusedOpened (RefusesToCommit (Some gs) c.in-PutIf.batch)) (reason_of e))) c.deref.ensures.value c.commit-in-PutIf.ensures.refused))
 
 pub returns-in-Delete-clause-comes : goal.returns-in-Delete-clause-comes
 returns-in-Delete-clause-comes g c =
-    comes_when c.args.request (request.Delete c.in-Delete.file c.in-Delete.batch) (g.I.Read.remaining c.args.input.now) (g.O.Write.contents c.args.output.now) c.delete.result c.in-Delete.is
-    (comes_silent _ (g.O.Write.contents c.args.output.now) c.delete.result c.delete.ensures.gives)
+    comes_when c.args.request (request.Delete c.in-Delete.file c.in-Delete.batch) (g.I.Read.remaining c.args.input.now) (g.O.Write.contents c.args.output.now) c.commit-in-Delete.result c.in-Delete.is
+    (comes_silent _ (g.O.Write.contents c.args.output.now) c.commit-in-Delete.result c.commit-in-Delete.ensures.gives)
 
 pub returns-in-Delete-clause-faults : goal.returns-in-Delete-clause-faults
 returns-in-Delete-clause-faults g c =
-    faults_when c.args.request (request.Delete c.in-Delete.file c.in-Delete.batch) (g.I.Read.remaining c.args.input.now) (g.O.Write.contents c.args.output.now) c.delete.result c.in-Delete.is
-    (faults_silent _ (g.O.Write.contents c.args.output.now) c.delete.result c.delete.ensures.refused)
+    faults_when c.args.request (request.Delete c.in-Delete.file c.in-Delete.batch) (g.I.Read.remaining c.args.input.now) (g.O.Write.contents c.args.output.now) c.commit-in-Delete.result c.in-Delete.is
+    (faults_silent _ (g.O.Write.contents c.args.output.now) c.commit-in-Delete.result c.commit-in-Delete.ensures.refused)
 
 pub returns-in-Get-clause-comes : goal.returns-in-Get-clause-comes
 returns-in-Get-clause-comes g c =

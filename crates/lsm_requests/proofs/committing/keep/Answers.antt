@@ -3,4 +3,4 @@ use Rattle.lsm_upkeep.specs.Upkeep.{KeepsUp}
 use Rattle.lsm_requests.proofs.committing.keep.Goals as goal
 
 pub returns-clause-keeps : goal.returns-clause-keeps
-returns-clause-keeps g c = subst (λ (n : ℕ). KeepsUp n c.args.store.now c.keep_up.new.store) c.new.ensures.tables c.keep_up.ensures.keeps_up
+returns-clause-keeps g c = subst (λ (n : ℕ). KeepsUp n c.args.store.now c.keep_up.new.store) c.new.ensures.tables c.keep_up.ensures.settles

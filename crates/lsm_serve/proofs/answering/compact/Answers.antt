@@ -1,15 +1,15 @@
 use Rattle.std.proofs.Common.{ℕ, subst}
 use Rattle.lsm_upkeep.specs.Upkeep.{KeepsUp}
-use Rattle.lsm_upkeep.proofs.KeptMaps.{onward}
+use Rattle.lsm_upkeep.proofs.Upkept.{then}
 use Rattle.lsm_serve.proofs.answering.compact.Goals as goal
 
 pub returns-clause-answers : goal.returns-clause-answers
 returns-clause-answers g c = (
   record {
     kept = c.keep_up.new.store;
-    keeps_up = subst (λ (n : ℕ). KeepsUp n c.args.store.now c.keep_up.new.store) c.new.ensures.tables c.keep_up.ensures.keeps_up;
-    compacts = c.compact_all.ensures.compacts;
+    keeps_up = subst (λ (n : ℕ). KeepsUp n c.args.store.now c.keep_up.new.store) c.new.ensures.tables c.keep_up.ensures.settles;
+    compacts = c.compact_all.ensures.flushes;
+    upkeep = then c.args.store.now c.keep_up.new.store c.compact_all.new.store c.keep_up.ensures.upkept c.compact_all.ensures.upkept;
   },
-  onward c.args.store.now c.keep_up.new.store c.compact_all.new.store c.keep_up.ensures.map c.compact_all.ensures.map,
   c.numbers.ensures.answers,
 )
