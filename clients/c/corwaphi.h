@@ -34,6 +34,10 @@
 extern "C" {
 #endif
 
+#ifdef __GNUC__
+#pragma GCC visibility push(default)
+#endif
+
 /* Codes. Those from 1 to 31 are the store's own refusals. corwaphi_name and corwaphi_remedy tell them in words. */
 enum {
     CORWAPHI_OK = 0,
@@ -243,6 +247,10 @@ struct corwaphi_numbers {
 
 /* Tells the numbers of a store. Returns STOPPED, CLOSED, FORKED. */
 uint32_t corwaphi_stat(corwaphi store, struct corwaphi_numbers *numbers);
+
+#ifdef __GNUC__
+#pragma GCC visibility pop
+#endif
 
 #ifdef __cplusplus
 }
