@@ -181,11 +181,12 @@ static void check_many(const char *path)
     }
 }
 
-/* Puts until there is no room: then deletes and a compaction make some. */
+/* Puts until there is no room: what is there stays, and deletes are taken. */
 static void check_full(const char *path)
 {
-    uint8_t value[2048];
+    uint8_t value[2048], got[2048];
     char key[32];
+    size_t length;
     uint32_t count = 0, code;
     memset(value, 7, sizeof value);
     unlink(path);
@@ -194,10 +195,13 @@ static void check_full(const char *path)
         count++;
     EXPECT(CORWAPHI_NO_SPACE, code);
     CHECK(count > 400);
-    for (uint32_t place = 0; place < count; place += place % 4 ? 1 : 2)
-        EXPECT(CORWAPHI_OK, corwaphi_delete(store, key, (size_t)snprintf(key, sizeof key, "full%06u", place), NULL));
+    for (uint32_t place = 0; place < count; place++) {
+        EXPECT(CORWAPHI_OK, corwaphi_get(store, CORWAPHI_NOW, key, (size_t)snprintf(key, sizeof key, "full%06u", place), got, sizeof got,
+                                         &length));
+        CHECK(length == sizeof value && !memcmp(value, got, length));
+        EXPECT(CORWAPHI_OK, corwaphi_delete(store, key, strlen(key), NULL));
+    }
     EXPECT(CORWAPHI_OK, corwaphi_compact(store));
-    EXPECT(CORWAPHI_OK, corwaphi_put(store, "again", 5, value, sizeof value, NULL));
     EXPECT(CORWAPHI_OK, corwaphi_close(store));
 }
 

@@ -4,12 +4,14 @@
 
 #include <pthread.h>
 #include <signal.h>
+#include <stdatomic.h>
 #include <sys/wait.h>
 #include <unistd.h>
 
 static const struct corwaphi_options options = {32, 16384, 256};
 static corwaphi store;
 static int told_to;
+static atomic_ullong taken; /* how many tasks were taken in this life */
 
 static size_t name_of(const char *kind, uint64_t task, char name[32]) { return (size_t)snprintf(name, 32, "%s/%010llu", kind, (unsigned long long)task); }
 
@@ -38,8 +40,12 @@ static void *add(void *unused)
     struct corwaphi_batch batch = CORWAPHI_BATCH;
     char number[32], name[32], text[400];
     memset(text, 't', sizeof text);
-    for (uint64_t task = number_at("last") + 1;; task++) {
+    uint64_t begun = number_at("last");
+    for (uint64_t task = begun + 1;; task++) {
         uint64_t written;
+        /* The store has room for so many. */
+        while (task - begun > 200 + atomic_load(&taken) || task - begun > 2000)
+            usleep(200);
         corwaphi_batch_clear(&batch);
         size_t length = (size_t)snprintf(number, sizeof number, "%llu", (unsigned long long)task);
         EXPECT(CORWAPHI_OK, corwaphi_batch_put(&batch, "last", 4, number, length));
@@ -72,6 +78,7 @@ static void *take(void *unused)
             EXPECT(CORWAPHI_OK, corwaphi_batch_put(&batch, name, name_of("done", task, name), row.value, row.value_length));
             EXPECT(CORWAPHI_OK, corwaphi_write_if(store, guards.text, guards.length, batch.text, batch.length, &written, NULL));
             EXPECT(CORWAPHI_OK, corwaphi_sync_to(store, written));
+            atomic_fetch_add(&taken, 1);
             tell('d', task);
         }
     }
