@@ -138,9 +138,8 @@ impl Db {
         let mut value = vec![0; sys::MOST_VALUE];
         let mut length = 0;
         // SAFETY: as above; the value has the room that is told.
-        let code = unsafe {
-            sys::corwaphi_get(self.store, snapshot, key.as_ptr(), key.len(), value.as_mut_ptr(), value.len(), &mut length)
-        };
+        let code =
+            unsafe { sys::corwaphi_get(self.store, snapshot, key.as_ptr(), key.len(), value.as_mut_ptr(), value.len(), &mut length) };
         if code == 32 {
             return Ok(None);
         }

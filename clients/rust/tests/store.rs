@@ -135,7 +135,8 @@ fn ranges_have_the_ends_that_they_say() -> Result<(), Error> {
     let place = Place::new("ranges");
     let db = Db::open_or_create(&place.0, &SMALL)?;
     let longest = [vec![b'k'; 254], vec![0xff]].concat();
-    let keys: Vec<Vec<u8>> = vec![b"a".to_vec(), b"a\0".to_vec(), b"b".to_vec(), vec![b'k'; 254], longest.clone(), b"l".to_vec(), vec![0xff; 255]];
+    let keys: Vec<Vec<u8>> =
+        vec![b"a".to_vec(), b"a\0".to_vec(), b"b".to_vec(), vec![b'k'; 254], longest.clone(), b"l".to_vec(), vec![0xff; 255]];
     for key in &keys {
         db.put(key, key)?;
     }

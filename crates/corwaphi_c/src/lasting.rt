@@ -15,7 +15,7 @@ pub extern "C" fn corwaphi_store_sync(
     used: &mut usize,
 ) -> u32 {
     let mut kept = handle.into_box();
-    let answer = change(&mut kept, image, journal, used, Change::Sync);
+    let answer = make(&mut kept, image, journal, used, Change::Sync);
     slot.put(kept);
     answer
 }
@@ -32,7 +32,7 @@ pub extern "C" fn corwaphi_store_sync_to(
     number: u64,
 ) -> u32 {
     let mut kept = handle.into_box();
-    let answer = change(&mut kept, image, journal, used, Change::SyncTo(number));
+    let answer = make(&mut kept, image, journal, used, Change::SyncTo(number));
     slot.put(kept);
     answer
 }
@@ -47,7 +47,7 @@ pub extern "C" fn corwaphi_store_rotate(
     used: &mut usize,
 ) -> u32 {
     let mut kept = handle.into_box();
-    let answer = change(&mut kept, image, journal, used, Change::Rotate);
+    let answer = make(&mut kept, image, journal, used, Change::Rotate);
     slot.put(kept);
     answer
 }
@@ -59,7 +59,7 @@ enum Change {
     Rotate,
 }
 
-fn change(
+fn make(
     kept: &mut Kept,
     image: &[u8],
     journal: &mut [u8],
