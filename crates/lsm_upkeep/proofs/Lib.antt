@@ -1,4 +1,6 @@
 pub mod FinishingLaws
+pub mod FlushingLaws
 pub mod Jobs
 pub mod KeptMaps
 pub mod Upkept
+pub mod WritingLaws
