@@ -17,6 +17,13 @@ neither false waiting e = inr e
 pub idle-not_waiting : (s : StoreView) (b c : Bool) → b ≡ (not (is_some s.state.stopped) && c) → b ≡ false → (is_some s.state.stopped ≡ true) ⊎ (c ≡ false)
 idle-not_waiting s b c is e = neither (is_some s.state.stopped) c (sym is ∙ e)
 
+not_true : (b : Bool) → not b ≡ true → b ≡ false
+not_true true e = absurd (true≢false (sym e))
+not_true false e = refl
+
+pub idle-not_true : (s : StoreView) (b c : Bool) → b ≡ (not (is_some s.state.stopped) && c) → not b ≡ true → (is_some s.state.stopped ≡ true) ⊎ (c ≡ false)
+idle-not_true s b c is e = idle-not_waiting s b c is (not_true b e)
+
 -- ---- the job that comes next
 
 -- it was tried, between upkeep and upkeep
@@ -58,6 +65,11 @@ pub first-again : (n : ℕ) (done : Bool) (old mid new : StoreView) → ((n ≡ 
 first-again n done old mid new (inl (none, same)) u finished tried =
     subst (λ (s : StoreView). FlushesFirst s new) same (first done mid new new u finished tried (stays new new refl))
 first-again n done old mid new (inr f) u finished tried = first-behind old mid new f u
+
+-- some were before
+pub first-some : (n : ℕ) (old new : StoreView) → 0 < n → ((n ≡ 0) × (new ≡ old)) ⊎ FlushesFirst old new → FlushesFirst old new
+first-some n old new some (inl (none, same)) = absurd (omega (arith, some, none))
+first-some n old new some (inr f) = f
 
 -- ---- a log
 

@@ -1,8 +1,8 @@
-use Rattle.lsm_upkeep.specs.Upkeep.{AsksNext, NeverNone}
-use Rattle.lsm_upkeep.proofs.KeptMaps.{jobs_keep, log_keeps, onward}
+use Rattle.lsm_upkeep.proofs.Upkept.{settles}
 use Rattle.lsm_upkeep.proofs.settling.settle.Goals as goal
 
+pub returns-clause-upkept : goal.returns-clause-upkept
+returns-clause-upkept g c = settles c.args.store.now c.open_log.new.store (c.finish_jobs.new.store, c.finish_jobs.ensures, c.open_log.ensures)
+
 pub returns-clause-map : goal.returns-clause-map
-returns-clause-map g c = onward c.args.store.now c.finish_jobs.new.store c.open_log.new.store
-    (jobs_keep AsksNext NeverNone 64 c.args.store.now c.finish_jobs.new.store c.finish_jobs.ensures)
-    (log_keeps c.finish_jobs.new.store c.open_log.new.store c.open_log.ensures)
+returns-clause-map g c = (settles c.args.store.now c.open_log.new.store (c.finish_jobs.new.store, c.finish_jobs.ensures, c.open_log.ensures)).keeps
