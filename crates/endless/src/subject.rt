@@ -61,7 +61,7 @@ impl Drop for Subject {
 fn value_of(alloc: Global, length: u32, byte: u32) -> Result<Vec<u8>, Refusal> {
     let mut value = Vec::new(alloc);
     for _ in 0..length {
-        value.push(byte as u8)?;
+        value.push((byte % 256) as u8)?;
     }
     Ok(value)
 }
