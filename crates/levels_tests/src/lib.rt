@@ -7,4 +7,7 @@ mod picks;
 #[cfg(test)]
 mod policies;
 #[cfg(test)]
+mod rewrites;
+pub mod rewriting;
+#[cfg(test)]
 mod tables;

@@ -9,7 +9,7 @@ use table_tests::input::images_of_puts;
 pub type Put = (u32, u8);
 
 /// The table of a put, which has four blocks: data, filter, index and footer. Its extent begins at the block of its number.
-fn table_of<R: Abort>(rt: &R, alloc: Global, (number, key): Put) -> PlacedTable {
+pub fn table_of<R: Abort>(rt: &R, alloc: Global, (number, key): Put) -> PlacedTable {
     let images = images_of_puts(alloc, &[&[key]], b"1").expect(rt, "an image");
     let image = images.first().expect(rt, "an image");
     PlacedTable::of_image(alloc, image, number as u64, number).expect(rt, "a table")

@@ -19,3 +19,5 @@ pub mod StoredTakings
 pub mod StoredJobs
 pub mod Outcomes
 pub mod Installs
+pub mod SureRoom
+pub mod MergedBlocks

@@ -16,3 +16,5 @@ pub mod Installing
 pub mod StoredJobs
 pub mod Outcomes
 pub mod Installs
+pub mod SureRoom
+pub mod MergedBlocks

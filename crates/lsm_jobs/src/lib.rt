@@ -14,6 +14,7 @@ mod placing;
 mod reading;
 mod runs;
 mod slots;
+mod sure;
 mod taking;
 mod turns;
 mod writing;
@@ -23,5 +24,6 @@ pub use law::{
     outputs_may_be_installed, pieces_stay_in_outputs, slots_stay_apart, stored_tables_are_read,
 };
 pub use slots::Slots;
+pub use sure::{merged_blocks_are_few, sure_room_is_found};
 pub use taking::TakenJob;
 pub use turns::{JobTurn, NextPiece};

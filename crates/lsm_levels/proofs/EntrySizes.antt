@@ -1,5 +1,5 @@
 -- How many bytes entries take at most.
-use Rattle.std.proofs.Common.{ℕ, ◌≤◌, List, arith}
+use Rattle.std.proofs.Common.{◌≤◌, List, arith}
 use Rattle.lsm_codec.specs.Versions.{Version}
 use Rattle.lsm_codec.specs.Entries.{entry_size}
 use Rattle.lsm_table.specs.Sizes.{largest_entry}
@@ -13,4 +13,4 @@ entries_small versions v there entry = omega (arith, entry.key.1, entry.value)
 
 -- and of an image
 pub image_small : (entries : List Version) → AreAtMost (largest_entry entries) entries
-image_small entries v there entry = of_all entries (none_larger entries) v there
+image_small entries v there entry = of_all (λ w. entry_size w ≤ largest_entry entries) entries (none_larger entries) v there

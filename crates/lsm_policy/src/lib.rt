@@ -18,22 +18,9 @@
 //! and count exactly; how little is written is measured.
 #![tactic(auto)]
 
-mod admission;
-mod bounds;
-mod cutting;
-mod gaps;
-mod joining;
-mod moving;
 mod neighbours;
 mod policy;
 mod room;
-mod standing;
-mod stepping;
-mod sure;
 
-pub use admission::{Reserve, flush_blocks, is_small};
-pub use bounds::Outputs;
 pub use policy::Policy;
 pub use room::fits;
-pub use standing::Standing;
-pub use stepping::{Advice, Step};

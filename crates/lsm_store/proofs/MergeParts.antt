@@ -120,7 +120,7 @@ module _ (n : ℕ) (s : List (List ℕ)) where
         (λ t a. let p = passed_among (λ u. is_below r.last u.first) t (level levels (suc k)) a in (apart_right r t p.1, p.0))
 
     pub between_apart : (tables i : ℕ) → FromTables (λ t. meets r t ≡ false) (parts_at levels i r tables).between
-    between_apart zero i v a = absurd a
+    between_apart zero i = λ v a. absurd a
     between_apart (suc more) zero = before_apart 0
     between_apart (suc more) (suc i) =
         from_both IsApart (map (record_of (suc i) 0) (beginning_behind r (level levels (suc i)))) (map (record_of (suc (suc i)) 0) (ending_before r (level levels (suc (suc i)))))

@@ -4,7 +4,7 @@ use crate::stepping::standing;
 use lsm_codec::{Batch, Operations};
 use lsm_device::Device;
 use lsm_mem::MemSize;
-use lsm_policy::is_small;
+use lsm_room::is_small;
 use lsm_store::Store;
 
 /// The bytes of a batch that a sector of the log takes.

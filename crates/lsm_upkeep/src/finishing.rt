@@ -8,7 +8,7 @@ ghost use Rattle.lsm_upkeep.specs.Finishing.{GoesThrough, IsFinished, IsGivenUp,
 use lsm_codec::Key;
 use lsm_device::{Device, Refusal};
 use lsm_merge::build_divided;
-use lsm_policy::Step;
+use lsm_room::Step;
 use lsm_store::{Store, TakenJob};
 use std::alloc::Global;
 use std::thread::Threads;

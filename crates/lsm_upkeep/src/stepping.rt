@@ -3,7 +3,7 @@
 use crate::finishing::finish_step;
 use lsm_device::Device;
 use lsm_jobs::Slots;
-use lsm_policy::{Advice, Standing, Step};
+use lsm_room::{Advice, Standing, Step};
 use lsm_store::Store;
 use std::alloc::Global;
 use std::thread::Threads;

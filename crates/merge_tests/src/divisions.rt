@@ -137,7 +137,7 @@ fn a_part_has_as_many_tables_as_it_needs(rt: HostRuntime) {
 }
 
 /// Whether both merges have just one image, the same.
-fn have_one_image(built: &Built<Lent<'_>>, other: &Built<Lent<'_>>) -> bool {
+fn have_one_image<A: Allocator>(built: &Built<A>, other: &Built<A>) -> bool {
     let (Some(image), Some(other)) = (built.images().first(), other.images().first()) else {
         return false;
     };

@@ -4,5 +4,5 @@ use Rattle.lsm_levels.proofs.EntrySizes.{image_small}
 use Rattle.lsm_table.specs.Division.{entries_of}
 use Rattle.lsm_levels.proofs.table.PlacedTable.of_image.Goals as goal
 
-pub open_image-requires-largest : goal.open_image-requires-largest
-open_image-requires-largest g c = subst (λ (n : ℕ). AreAtMost n (entries_of c.args.image.now)) (sym c.largest_entry-largest.ensures) (image_small (entries_of c.args.image.now))
+pub open_image-requires : goal.open_image-requires
+open_image-requires g c κs within = (within, (c.requires, subst (λ (n : ℕ). AreAtMost n (entries_of c.args.image.now)) (sym c.largest_entry-largest.ensures) (image_small (entries_of c.args.image.now))))

@@ -73,14 +73,10 @@ impl<'a, H: HeldJobs, A: Allocator + Clone> Standing<'a, H, A> {
     }
 
     // A step of the tables of a level from 1 to 3.
-    fn step_of_level(
-        &self,
-        alloc: &A,
-        level: usize,
-        last: usize,
-    ) -> Result<Advice<A>, AllocError> {
+    fn step_of_level(&self, alloc: &A, level: usize, last: usize) -> Result<Advice<A>, AllocError> {
         let deeper = self.levels.deeper();
-        let (Some(run), Some(next)) = (deeper.get(level.saturating_sub(1)), deeper.get(level)) else {
+        let (Some(run), Some(next)) = (deeper.get(level.saturating_sub(1)), deeper.get(level))
+        else {
             return Ok(Advice::Nothing);
         };
         let drops = !self.live && level.saturating_add(1) >= last;
@@ -160,7 +156,11 @@ fn halved<'t, A: Allocator + Clone>(
     table: &'t PlacedTable<A>,
 ) -> Result<(&'t PlacedTable<A>, Vec<Key<A>, A>, Outputs), AllocError> {
     let half = table.table().data_blocks().div_ceil(2);
-    Ok((table, cuts_behind(alloc, table, half)?, pieces_of(table, half)))
+    Ok((
+        table,
+        cuts_behind(alloc, table, half)?,
+        pieces_of(table, half),
+    ))
 }
 
 // The first key of the middle one of these tables.

@@ -1,6 +1,6 @@
 //! What a choice is made over.
 
-use crate::bounds::{Outputs, count_in, outputs_of, taken_in};
+use crate::bounds::{Outputs, blocks_of, count_in, outputs_of, taken_in};
 use lsm_extent::Extents;
 use lsm_levels::{Choice, HeldJobs, Levels};
 use std::alloc::{Allocator, Global};
@@ -42,10 +42,10 @@ impl<'a, H: HeldJobs, A: Allocator> Standing<'a, H, A> {
     pub(crate) fn taken(&self) -> u64 {
         let mut blocks: u64 = 0;
         for run in self.levels.runs() {
-            blocks = blocks.saturating_add(crate::neighbours::blocks_of(run.tables()));
+            blocks = blocks.saturating_add(blocks_of(run.tables()));
         }
         for run in self.levels.deeper() {
-            blocks = blocks.saturating_add(crate::neighbours::blocks_of(run.tables()));
+            blocks = blocks.saturating_add(blocks_of(run.tables()));
         }
         blocks
     }

@@ -49,7 +49,9 @@ impl Reserve {
 
     /// What puts leave: for steps, and for deletes that come after them; and at least a sixth of the area.
     pub fn for_puts(self) -> u64 {
-        self.for_steps().saturating_add(DELETE_BLOCKS).max(self.area / 6)
+        self.for_steps()
+            .saturating_add(DELETE_BLOCKS)
+            .max(self.area / 6)
     }
 
     /// What is free besides behind steps that are taken for puts, so that each few puts don't ask for them again.
@@ -86,11 +88,10 @@ fn data_of(bytes: u64, largest: u64) -> u64 {
 
 /// The blocks that the deletes in memory come to.
 fn delete_blocks(memory: MemSize) -> u64 {
-    let data = (memory.delete_bytes / DELETE_ROOM).saturating_add(1).min(memory.deletes);
-    blocks_of(
-        data.saturating_add(memory.deletes / 3_200),
-        memory.deletes,
-    )
+    let data = (memory.delete_bytes / DELETE_ROOM)
+        .saturating_add(1)
+        .min(memory.deletes);
+    blocks_of(data.saturating_add(memory.deletes / 3_200), memory.deletes)
 }
 
 /// The blocks that a flush of memory takes at most.
@@ -113,7 +114,10 @@ fn counted(memory: MemSize, live: bool) -> MemSize {
 
 /// The charge of what is in memory: the blocks by which its puts may make the last level larger.
 fn charge_of(memory: MemSize) -> u64 {
-    memory.entries.saturating_sub(memory.deletes).saturating_add(memory.large)
+    memory
+        .entries
+        .saturating_sub(memory.deletes)
+        .saturating_add(memory.large)
 }
 
 /// Whether memory is small enough that more may come into it, where there is some.
@@ -141,7 +145,9 @@ impl<'a, H: HeldJobs, A: Allocator> Standing<'a, H, A> {
         if !puts && charge_of(memory) == 0 {
             return self.admits_deletes(memory, reserve);
         }
-        self.is_a_third_free() && self.tables() <= TABLES_FOR_PUTS && self.leaves(memory, reserve.for_puts())
+        self.is_a_third_free()
+            && self.tables() <= TABLES_FOR_PUTS
+            && self.leaves(memory, reserve.for_puts())
     }
 
     /// Whether it admits so much with some blocks to spare, and few runs are in level 0.

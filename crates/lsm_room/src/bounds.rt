@@ -1,6 +1,5 @@
 //! How many blocks the outputs of a merge take at most.
 
-use crate::neighbours::blocks_of;
 use lsm_levels::{Levels, Pick, PlacedTable, Run};
 use std::alloc::Allocator;
 
@@ -92,6 +91,15 @@ impl Sizes {
     }
 }
 
+/// The blocks of some tables.
+pub(crate) fn blocks_of<A: Allocator>(tables: &[PlacedTable<A>]) -> u64 {
+    let mut blocks: u64 = 0;
+    for table in tables {
+        blocks = blocks.saturating_add(u64::from(table.blocks()));
+    }
+    blocks
+}
+
 /// The data blocks of a table.
 pub(crate) fn data_of<A: Allocator>(table: &PlacedTable<A>) -> u64 {
     table.table().data_blocks() as u64
@@ -100,12 +108,15 @@ pub(crate) fn data_of<A: Allocator>(table: &PlacedTable<A>) -> u64 {
 /// The blocks of images of so many data blocks, each with an index, a filter and a footer.
 pub(crate) fn blocks_with(data: u64, tables: u64) -> u64 {
     let index = data.saturating_mul(INDEX_BYTES).div_ceil(BLOCK);
-    data.saturating_add(index).saturating_add(tables.saturating_mul(3))
+    data.saturating_add(index)
+        .saturating_add(tables.saturating_mul(3))
 }
 
 /// How many images there are at most of so many data blocks and entries.
 pub(crate) fn tables_of(data: u64, entries: u64) -> u64 {
-    (data / MOST_DATA).saturating_add(entries / MOST_ENTRIES).saturating_add(1)
+    (data / MOST_DATA)
+        .saturating_add(entries / MOST_ENTRIES)
+        .saturating_add(1)
 }
 
 /// The data blocks that entries take at most in any division, where they take so many in one, and none has more bytes.
@@ -115,7 +126,10 @@ pub(crate) fn packed(data: u64, largest: u64) -> u64 {
     }
     let bytes = data.saturating_mul(BLOCK - 2);
     let least = (BLOCK - 1).saturating_sub(largest);
-    bytes.checked_div(least).unwrap_or(u64::MAX).saturating_add(1)
+    bytes
+        .checked_div(least)
+        .unwrap_or(u64::MAX)
+        .saturating_add(1)
 }
 
 /// The outputs of so many data blocks and entries.
@@ -146,7 +160,10 @@ fn mixed(upper: Sizes, lower: Sizes, drops: bool) -> Outputs {
         upper.entries
     };
     let by_entries = lower.data.saturating_add(kept).saturating_add(upper.large);
-    let by_bytes = packed(upper.data.saturating_add(lower.data), upper.largest.max(lower.largest));
+    let by_bytes = packed(
+        upper.data.saturating_add(lower.data),
+        upper.largest.max(lower.largest),
+    );
     outputs_with(
         by_entries.min(by_bytes),
         upper.entries.saturating_add(lower.entries),
@@ -183,7 +200,11 @@ fn of_runs<A: Allocator>(runs: &[Run<A>], lower: &[PlacedTable<A>], drops: bool)
 }
 
 /// The outputs of a job, undivided, where a snapshot is live or none is.
-pub(crate) fn outputs_of<A: Allocator>(levels: &Levels<A>, job: &Pick<'_, A>, live: bool) -> Outputs {
+pub(crate) fn outputs_of<A: Allocator>(
+    levels: &Levels<A>,
+    job: &Pick<'_, A>,
+    live: bool,
+) -> Outputs {
     let drops = !live && levels.is_bottom(job);
     match job {
         Pick::Flush => outputs_with(0, 0),
@@ -198,7 +219,11 @@ pub(crate) fn outputs_of<A: Allocator>(levels: &Levels<A>, job: &Pick<'_, A>, li
             Sizes::none().with_all(lower),
             drops,
         ),
-        Pick::Rewrite { tables, .. } => merged(Sizes::none().with_all(tables), Sizes::none(), false),
+        Pick::Rewrite { tables, .. } => merged(
+            Sizes::none().with_all(tables),
+            Sizes::none(),
+            false,
+        ),
     }
 }
 

@@ -72,7 +72,9 @@ fn has_many<A: Allocator>(run: &Run<A>) -> bool {
     for table in run.tables() {
         all = all.with(table);
     }
-    let wanted = (all.data / MOST_DATA).max(all.entries / MOST_ENTRIES).saturating_add(1);
+    let wanted = (all.data / MOST_DATA)
+        .max(all.entries / MOST_ENTRIES)
+        .saturating_add(1);
     all.count > wanted.saturating_mul(2).saturating_add(2)
 }
 

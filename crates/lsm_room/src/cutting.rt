@@ -12,9 +12,13 @@ const EDGE: u64 = 9;
 fn blocks_between<A: Allocator>(edges: &[Edge<A>], more: u64) -> u64 {
     let mut index = more;
     for edge in edges {
-        index = index.saturating_add(EDGE).saturating_add(edge.key().len() as u64);
+        index = index
+            .saturating_add(EDGE)
+            .saturating_add(edge.key().len() as u64);
     }
-    (edges.len() as u64).saturating_add(index.div_ceil(BLOCK)).saturating_add(2)
+    (edges.len() as u64)
+        .saturating_add(index.div_ceil(BLOCK))
+        .saturating_add(2)
 }
 
 /// The blocks of each piece of a table that is cut behind each so many of its data blocks, from the first on.

@@ -1,0 +1,26 @@
+//! What a store has to know so that it never gets stuck: whether a batch may be taken, and which step comes next where room is scarce.
+//!
+//! A store that takes batches until no block is free can't make room any more, since each merge wants free blocks for what it
+//! makes. So [`Standing::admits`] says whether a batch may be taken: what is in memory will find room, in a flush and in the last level,
+//! and some blocks stay free, the [`Reserve`]. Where room is scarce, [`Standing::step_down`] advises a step that is sure to find room:
+//! a merge, or one of the small steps that make it possible. A table is cut at the first key of one that it meets, or halved; or
+//! one is written anew where free blocks lie lower, so that they come to lie side by side; or small neighbours are joined.
+//!
+//! What the outputs of a merge take at most is reckoned from the numbers of its tables (`Outputs`), and whether so much surely finds room from
+//! the gaps between extents ([`Extents::surely_places`](lsm_extent::Extents::surely_places)).
+#![tactic(auto)]
+
+mod admission;
+mod bounds;
+mod cutting;
+mod gaps;
+mod joining;
+mod moving;
+mod standing;
+mod stepping;
+mod sure;
+
+pub use admission::{Reserve, flush_blocks, is_small};
+pub use bounds::Outputs;
+pub use standing::Standing;
+pub use stepping::{Advice, Step};
