@@ -29,6 +29,17 @@ pub struct Outputs {
     pub tables: u64,
 }
 
+impl Outputs {
+    /// Those of no image.
+    pub(crate) fn none() -> Outputs {
+        Outputs {
+            blocks: 0,
+            largest: 0,
+            tables: 0,
+        }
+    }
+}
+
 /// How large tables are together.
 #[derive(Clone, Copy)]
 pub(crate) struct Sizes {
@@ -135,7 +146,7 @@ pub(crate) fn packed(data: u64, largest: u64) -> u64 {
 /// The outputs of so many data blocks and entries.
 fn outputs_with(data: u64, entries: u64) -> Outputs {
     let tables = tables_of(data, entries);
-    let data = data.saturating_add(tables - 1);
+    let data = data.saturating_add(tables.saturating_sub(1));
     Outputs {
         blocks: blocks_with(data, tables),
         largest: blocks_with(data.min(MOST_DATA), 1),
@@ -172,11 +183,7 @@ fn mixed(upper: Sizes, lower: Sizes, drops: bool) -> Outputs {
 
 /// The outputs of one run that goes into an empty level: each table is at most a block larger.
 fn moved<A: Allocator>(tables: &[PlacedTable<A>]) -> Outputs {
-    let mut outputs = Outputs {
-        blocks: 0,
-        largest: 0,
-        tables: 0,
-    };
+    let mut outputs = Outputs::none();
     for table in tables {
         let blocks = u64::from(table.blocks()).saturating_add(1);
         outputs = Outputs {

@@ -21,43 +21,16 @@ fn blocks_between<A: Allocator>(edges: &[Edge<A>], more: u64) -> u64 {
         .saturating_add(2)
 }
 
-/// The blocks of each piece of a table that is cut behind each so many of its data blocks, from the first on.
-#[derive(Drop)]
-pub(crate) struct Pieces<'a, A: Allocator> {
-    edges: &'a [Edge<A>],
-    length: usize,
+/// The blocks of an image of a table's data blocks with these edges.
+pub(crate) fn blocks_of_piece<A: Allocator>(piece: &[Edge<A>]) -> u64 {
+    blocks_between(piece, 0)
 }
 
-impl<'a, A: Allocator> Pieces<'a, A> {
-    /// Those of a table, where each piece has so many data blocks.
-    pub fn of(table: &'a PlacedTable<A>, length: usize) -> Pieces<'a, A> {
-        Pieces {
-            edges: table.table().edges(),
-            length,
-        }
-    }
-
-    /// The blocks of the next piece, if one is left.
-    pub fn next(&mut self) -> Option<u64> {
-        if self.edges.is_empty() {
-            return None;
-        }
-        let length = self.length.max(1).min(self.edges.len());
-        let (piece, rest) = self.edges.split_at(length);
-        self.edges = rest;
-        Some(blocks_between(piece, 0))
-    }
-}
-
-/// What the pieces of a table take.
+/// What the pieces of a table take, where each has so many of its data blocks.
 pub(crate) fn pieces_of<A: Allocator>(table: &PlacedTable<A>, length: usize) -> Outputs {
-    let mut outputs = Outputs {
-        blocks: 0,
-        largest: 0,
-        tables: 0,
-    };
-    let mut pieces = Pieces::of(table, length);
-    while let Some(blocks) = pieces.next() {
+    let mut outputs = Outputs::none();
+    for piece in table.table().edges().chunks(length.max(1)) {
+        let blocks = blocks_of_piece(piece);
         outputs = Outputs {
             blocks: outputs.blocks.saturating_add(blocks),
             largest: outputs.largest.max(blocks),
@@ -88,19 +61,31 @@ pub(crate) fn cuts_behind<A: Allocator + Clone>(
     table: &PlacedTable<A>,
     length: usize,
 ) -> Result<Vec<Key<A>, A>, AllocError> {
+    let edges = table.table().edges();
     let mut cuts = Vec::new(alloc.clone()?);
-    let mut left = table.table().edges();
-    let length = length.max(1);
-    while left.len() > length {
-        let (piece, rest) = left.split_at(length);
-        if let Some(edge) = piece.last() {
-            if let Some(key) = key_after(alloc, edge.key())? {
-                cuts.push(key)?;
-            }
+    let mut left = edges.len();
+    for piece in edges.chunks(length.max(1)) {
+        left = left.saturating_sub(piece.len());
+        if left > 0 {
+            push_cut(alloc, &mut cuts, piece)?;
         }
-        left = rest;
     }
     Ok(cuts)
+}
+
+// Adds the cut behind a piece.
+fn push_cut<A: Allocator + Clone>(
+    alloc: &A,
+    cuts: &mut Vec<Key<A>, A>,
+    piece: &[Edge<A>],
+) -> Result<(), AllocError> {
+    let Some(edge) = piece.last() else {
+        return Ok(());
+    };
+    if let Some(key) = key_after(alloc, edge.key())? {
+        cuts.push(key)?;
+    }
+    Ok(())
 }
 
 /// The least key above another one, if there is one.

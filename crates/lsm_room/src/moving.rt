@@ -1,6 +1,6 @@
 //! Tables that are moved so that free blocks come to lie side by side.
 
-use crate::cutting::{Pieces, cuts_behind};
+use crate::cutting::{blocks_of_piece, cuts_behind};
 use crate::gaps::{gaps_of, take_lowest};
 use crate::standing::Standing;
 use crate::stepping::{Step, rewrite_of};
@@ -85,10 +85,9 @@ fn fits_below<H: HeldJobs, A: Allocator + Clone>(
 ) -> Result<bool, AllocError> {
     let mut gaps = gaps_of(alloc, standing.extents)?;
     let mut tables = standing.tables();
-    let mut pieces = Pieces::of(table, length);
-    while let Some(blocks) = pieces.next() {
+    for piece in table.table().edges().chunks(length.max(1)) {
         tables = tables.saturating_add(1);
-        match take_lowest(&mut gaps, blocks) {
+        match take_lowest(&mut gaps, blocks_of_piece(piece)) {
             Some(first) if first < table.first_block() => {}
             _ => return Ok(false),
         }

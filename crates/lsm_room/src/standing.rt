@@ -1,8 +1,15 @@
 //! What a choice is made over.
 
+ghost use Rattle.std.specs.Prelude.{◌≡◌, ◌+◌, ◌≤◌, ◌<◌, true, length, is_some};
+ghost use Prim.Native.Nat.{min};
+ghost use Rattle.lsm_extent.specs.Gaps.{SurelyFit};
+ghost use Rattle.lsm_levels.specs.Levels.{all_tables};
+ghost use Rattle.lsm_levels.specs.Moving.{table_count};
+ghost use Rattle.lsm_room.specs.Taking.{may_take};
+
 use crate::bounds::{Outputs, blocks_of, count_in, outputs_of, taken_in};
 use lsm_extent::Extents;
-use lsm_levels::{Choice, HeldJobs, Levels};
+use lsm_levels::{Choice, HeldJobs, Levels, Run};
 use std::alloc::{Allocator, Global};
 
 /// A merge of several tables takes in so many blocks at most.
@@ -51,15 +58,10 @@ impl<'a, H: HeldJobs, A: Allocator> Standing<'a, H, A> {
     }
 
     /// The number of all tables.
-    pub(crate) fn tables(&self) -> u64 {
-        let mut count: u64 = 0;
-        for run in self.levels.runs() {
-            count = count.saturating_add(run.tables().len() as u64);
-        }
-        for run in self.levels.deeper() {
-            count = count.saturating_add(run.tables().len() as u64);
-        }
-        count
+    pub(crate) fn tables(&self) -> u64
+        ensures { result ≡ min (table_count self.now.levels.now) 18446744073709551615 }
+    {
+        count_with(count_with(0, self.levels.runs()), self.levels.deeper())
     }
 
     /// The level that all tables come to: the deepest that has some, or by the size of the area a deeper one.
@@ -88,22 +90,50 @@ impl<'a, H: HeldJobs, A: Allocator> Standing<'a, H, A> {
     }
 
     /// Whether outputs of so many blocks are sure to find room, where so many tables go.
-    pub(crate) fn places(&self, outputs: Outputs, gone: u64) -> bool {
-        let largest = outputs.largest.min(outputs.blocks);
-        let left = self.tables().saturating_sub(gone);
-        outputs.blocks == 0
-            || (left.saturating_add(outputs.tables) <= MOST_TABLES
-                && self.extents.surely_places(outputs.blocks, largest as u32))
+    pub(crate) fn places(&self, outputs: Outputs, gone: u64) -> bool
+        ensures room { result ≡ true → SurelyFit self.now.extents.now outputs.blocks outputs.largest }
+        ensures number { result ≡ true → 0 < outputs.blocks → table_count self.now.levels.now + outputs.tables ≤ gone + 1024 }
+    {
+        outputs.blocks == 0 || (self.has_tables(outputs, gone) && self.has_room(outputs))
+    }
+
+    // Whether there are not too many tables with the outputs, where so many go.
+    fn has_tables(&self, outputs: Outputs, gone: u64) -> bool
+        ensures { result ≡ true → table_count self.now.levels.now + outputs.tables ≤ gone + 1024 }
+    {
+        let all = self.tables();
+        all < u64::MAX && all.saturating_sub(gone).saturating_add(outputs.tables) <= MOST_TABLES
+    }
+
+    // Whether images of so many blocks are sure to find room, whatever the size of each.
+    fn has_room(&self, outputs: Outputs) -> bool
+        ensures { result ≡ true → SurelyFit self.now.extents.now outputs.blocks outputs.largest }
+    {
+        match u32::try_from(outputs.largest.min(outputs.blocks)) {
+            Ok(largest) => self.extents.surely_places(outputs.blocks, largest),
+            Err(_) => false,
+        }
+    }
+
+    /// Whether a choice may be taken.
+    pub(crate) fn may_take(&self, choice: Choice) -> bool
+        ensures { result ≡ may_take self.now.levels.now (H.jobs self.now.held.now) choice }
+    {
+        self.levels.choose(choice, self.held).is_some()
     }
 
     /// What the outputs of a choice take at most, where it may be taken.
-    pub(crate) fn outputs(&self, choice: Choice) -> Option<Outputs> {
+    pub(crate) fn outputs(&self, choice: Choice) -> Option<Outputs>
+        ensures { is_some result ≡ may_take self.now.levels.now (H.jobs self.now.held.now) choice }
+    {
         let job = self.levels.choose(choice, self.held)?;
         Some(outputs_of(self.levels, &job, self.live))
     }
 
     /// Whether a choice may be taken, and its outputs are sure to find room. Several tables take in so many blocks at most.
-    pub fn is_sure(&self, choice: Choice, most_blocks: u64) -> bool {
+    pub fn is_sure(&self, choice: Choice, most_blocks: u64) -> bool
+        ensures { result ≡ true → may_take self.now.levels.now (H.jobs self.now.held.now) choice ≡ true }
+    {
         match self.levels.choose(choice, self.held) {
             Some(job) => {
                 taken_in(&job) <= most_blocks
@@ -112,4 +142,15 @@ impl<'a, H: HeldJobs, A: Allocator> Standing<'a, H, A> {
             None => false,
         }
     }
+}
+
+/// So many tables and those of runs.
+fn count_with<A: Allocator>(before: u64, runs: &[Run<A>]) -> u64
+    ensures { result ≡ min (before + length (all_tables runs.now)) 18446744073709551615 }
+{
+    let mut count = before;
+    for run in runs {
+        count = count.saturating_add(run.tables().len() as u64);
+    }
+    count
 }

@@ -1,5 +1,8 @@
 //! The next step down, where room is scarce.
 
+ghost use Rattle.std.specs.Prelude.{◌≡◌, true, IfOk, IfSome};
+ghost use Rattle.lsm_room.specs.Taking.{may_take, MayFollow};
+
 use crate::bounds::{Outputs, data_of};
 use crate::cutting::{cut_at, cuts_behind, parts_at, pieces_of};
 use crate::joining::join_of;
@@ -24,13 +27,16 @@ pub enum Advice<A: Allocator = Global> {
     Nothing,
     /// A step, whose outputs are sure to find room.
     Take(Step<A>),
-    /// No step is sure to find room, not even one that makes room: what is to go down first wants so much.
+    /// No step is sure to find room, not even one that makes room: what is to go down first wants so much. Or a job that holds a slot
+    /// stands in the way of the step; then nothing is wanted.
     Lacks { choice: Choice, wanted: Outputs },
 }
 
 impl<A: Allocator + Clone> Step<A> {
     /// A merge with its result in one division.
-    pub fn whole(alloc: &A, choice: Choice) -> Result<Step<A>, AllocError> {
+    pub fn whole(alloc: &A, choice: Choice) -> Result<Step<A>, AllocError>
+        ensures { IfOk result (λ step. step.choice ≡ choice) }
+    {
         let divisions = Vec::new(alloc.clone()?);
         Ok(Step { choice, divisions })
     }
@@ -42,12 +48,55 @@ impl<'a, H: HeldJobs, A: Allocator + Clone> Standing<'a, H, A> {
     /// It is a merge that is sure to find room, if there is one. Else of the table that meets the fewest of the next level it is one of
     /// these that is: the table is cut at one of those it meets; or the larger of the two is halved. Else a table is moved so that free
     /// blocks come to lie side by side.
-    pub fn step_down(&self, alloc: &A) -> Result<Advice<A>, AllocError> {
-        self.step_down_to(alloc, self.last_level())
+    pub fn step_down(&self, alloc: &A) -> Result<Advice<A>, AllocError>
+        ensures { IfOk result (λ advice. MayFollow self.now.levels.now (H.jobs self.now.held.now) advice) }
+    {
+        let last = self.last_level();
+        Ok(self.step_down_to(alloc, last)?)
     }
 
     /// The next step of those that bring all tables into a level.
-    pub fn step_down_to(&self, alloc: &A, last: usize) -> Result<Advice<A>, AllocError> {
+    pub fn step_down_to(&self, alloc: &A, last: usize) -> Result<Advice<A>, AllocError>
+        ensures { IfOk result (λ advice. MayFollow self.now.levels.now (H.jobs self.now.held.now) advice) }
+    {
+        let advice = self.next_step(alloc, last)?;
+        Ok(self.unless_held(advice))
+    }
+
+    // A step, where no job that holds a slot stands in its way.
+    fn if_free(&self, step: Step<A>) -> Option<Step<A>>
+        ensures { IfSome result (λ s. may_take self.now.levels.now (H.jobs self.now.held.now) s.choice ≡ true) }
+    {
+        if self.may_take(step.choice) {
+            return Some(step);
+        }
+        None
+    }
+
+    // The advice, where no job that holds a slot stands in its way.
+    fn unless_held(&self, advice: Advice<A>) -> Advice<A>
+        ensures { MayFollow self.now.levels.now (H.jobs self.now.held.now) result }
+    {
+        match advice {
+            Advice::Take(step) => self.take_if_free(step),
+            Advice::Nothing => Advice::Nothing,
+            Advice::Lacks { choice, wanted } => Advice::Lacks { choice, wanted },
+        }
+    }
+
+    fn take_if_free(&self, step: Step<A>) -> Advice<A>
+        ensures { MayFollow self.now.levels.now (H.jobs self.now.held.now) result }
+    {
+        let choice = step.choice;
+        let wanted = Outputs::none();
+        match self.if_free(step) {
+            Some(step) => Advice::Take(step),
+            None => Advice::Lacks { choice, wanted },
+        }
+    }
+
+    // The next step, whatever holds slots.
+    fn next_step(&self, alloc: &A, last: usize) -> Result<Advice<A>, AllocError> {
         match self.deepest(last) {
             0 => self.step_of_runs(alloc),
             level => self.step_of_level(alloc, level, last),
@@ -129,14 +178,24 @@ impl<'a, H: HeldJobs, A: Allocator + Clone> Standing<'a, H, A> {
     }
 
     /// The next step that makes free blocks lie side by side, if there is one.
-    pub fn step_aside(&self, alloc: &A) -> Result<Option<Step<A>>, AllocError> {
-        move_of(self, alloc)
+    pub fn step_aside(&self, alloc: &A) -> Result<Option<Step<A>>, AllocError>
+        ensures { IfOk result (λ step. IfSome step (λ s. may_take self.now.levels.now (H.jobs self.now.held.now) s.choice ≡ true)) }
+    {
+        match move_of(self, alloc)? {
+            Some(step) => Ok(self.if_free(step)),
+            None => Ok(None),
+        }
     }
 
     /// The next step that joins neighbours, of a level that has more than twice the tables that its entries want.
-    pub fn step_together(&self, alloc: &A) -> Result<Option<Step<A>>, AllocError> {
+    pub fn step_together(&self, alloc: &A) -> Result<Option<Step<A>>, AllocError>
+        ensures { IfOk result (λ step. IfSome step (λ s. may_take self.now.levels.now (H.jobs self.now.held.now) s.choice ≡ true)) }
+    {
         match join_of(self) {
-            Some(choice) => Ok(Some(Step::whole(alloc, choice)?)),
+            Some(choice) => {
+                let step = Step::whole(alloc, choice)?;
+                Ok(self.if_free(step))
+            }
             None => Ok(None),
         }
     }

@@ -141,8 +141,9 @@ pub(crate) fn cheapest<H: HeldJobs, A: Allocator>(
     let mut found: Option<Group> = None;
     let mut rest = below;
     for (i, table) in tables.iter().enumerate() {
-        let ended = ended_before(rest, table.first());
-        rest = &rest[ended.min(rest.len())..];
+        let ended = ended_before(rest, table.first()).min(rest.len());
+        let (_, left) = rest.split_at(ended);
+        rest = left;
         if let Some(next) = cheapest_from(standing, &tables[i..], rest, drops) {
             found = cheaper(found, next);
         }
