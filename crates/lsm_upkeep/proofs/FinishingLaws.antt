@@ -1,6 +1,7 @@
 -- How a job goes on.
-use Rattle.std.proofs.Common.{◌≡◌, ◌+◌, ◌<◌, ◌≤◌, ◌-◌, ℕ, suc, Option, Some, Result, Ok, Err, MatchResult, inl, inr, refl, subst, arith}
+use Rattle.std.proofs.Common.{◌≡◌, ◌+◌, ◌<◌, ◌≤◌, ◌-◌, ℕ, suc, Option, Some, None, Result, Ok, Err, MatchResult, inl, inr, refl, subst, arith}
 use Rattle.lsm_device.specs.declared.refusal.Refusal.{Refusal}
+use Rattle.lsm_merge.specs.Divisions.{AreTablesAt}
 use Rattle.lsm_merge.specs.Inputs.{MergeInput, kept_of}
 use Rattle.lsm_merge.specs.Results.{MergeResult}
 use Rattle.lsm_store.specs.Backing.{StoreView}
@@ -9,9 +10,8 @@ use Rattle.lsm_store.specs.Work.{Work, Take, Ask, Accept, Write, Install}
 use Rattle.lsm_store.specs.Working.{Works, taken_reply}
 use Rattle.lsm_jobs.specs.declared.taking.TakenJob.{TakenJob}
 use Rattle.lsm_levels.specs.declared.choosing.Choice.{Choice}
-use Rattle.lsm_table.specs.Division.{IsTables}
-use Rattle.lsm_upkeep.specs.Finishing.{LeavesBlocksEachTime, HasLeft, GoesThrough, DoesNotGoThrough, IsReadWhole, IsOffered, IsUnmerged, IsFinished, IsStuck}
-use Rattle.lsm_upkeep.specs.Upkeep.{AreDone, IsDone}
+use Rattle.lsm_upkeep.specs.Finishing.{LeavesBlocksEachTime, HasLeft, GoesThrough, DoesNotGoThrough, IsReadWhole, IsOffered, IsUnmerged, IsFinished, IsStuck, Taken}
+use Rattle.lsm_upkeep.specs.Upkeep.{AreDone}
 
 -- ---- a piece that is done again and again
 
@@ -49,7 +49,7 @@ none-left piece left old new none h = let zero_left : left ≡ 0 = omega (arith,
 
 -- what an accept answers of a result that was built of the input that was lent
 pub offered-answered : (job : ℕ) (old mid new : StoreView) (input : MergeInput) (result : MergeResult) (r : Result (Unit {0}) Refusal) → Works old (Ask job) (Handed input) mid
-    → result.input ≡ input → IsTables (kept_of input) result.images → Works mid (Accept job (Some result)) (reply_of (λ _. Done) r) new
+    → result.input ≡ input → AreTablesAt result.divisions (kept_of input) result.images → Works mid (Accept job (Some result)) (reply_of (λ _. Done) r) new
     → MatchResult r (λ _. IsOffered job Done old new) (λ _. IsUnmerged job old new)
 offered-answered job old mid new input result (Ok done) lent own made works = record { input = input; mid = mid; result = result; lent = lent; own = own; made = made; offered = works }
 offered-answered job old mid new input result (Err e) lent own made works = inr (inr (e, record { input = input; mid = mid; result = result; lent = lent; own = own; made = made; offered = works }))
@@ -76,8 +76,7 @@ given-job asked old new taken t is works = subst (λ (j : Option TakenJob). Work
 
 -- ---- jobs, one after another
 
-module _ (Asks : StoreView → Option Choice → Type 0) where
-  -- one more was done
-  pub are_done-more : (n : ℕ) (old mid new : StoreView) → AreDone Asks n old mid → IsDone Asks mid new → AreDone Asks (n + 1) old new
-  are_done-more n old mid new before next = let one : suc n ≡ n + 1 = grind arith in
-      subst (λ (k : ℕ). AreDone Asks k old new) one (mid, before, next)
+-- one more was done
+pub are_done-more : (n : ℕ) (old mid new : StoreView) → AreDone n old mid → Taken IsFinished None mid new → AreDone (n + 1) old new
+are_done-more n old mid new before next = let one : suc n ≡ n + 1 = grind arith in
+    subst (λ (k : ℕ). AreDone k old new) one (mid, before, next)

@@ -1,11 +1,10 @@
--- What stays at each piece of work, and so while a store is kept up.
-use Rattle.std.proofs.Common.{◌≡◌, ◌∙◌, ◌⊎◌, ◌<◌, ℕ, zero, suc, Option, Some, None, inl, inr, refl, ap, sym, subst}
+-- What stays at each piece of work, and at a rotation.
+use Rattle.std.proofs.Common.{◌≡◌, ◌∙◌, Option, Some, None, refl, ap, sym, subst}
 use Rattle.lsm_device.specs.declared.refusal.Refusal.TheVariants.{Io}
 use Rattle.lsm_jobs.specs.Slots.{Slot}
 use Rattle.lsm_levels.specs.Pick.{is_flush}
-use Rattle.lsm_levels.specs.declared.choosing.Choice.{Choice}
 use Rattle.lsm_store.specs.Backing.{StoreView, machine_of}
-use Rattle.lsm_store.specs.Calls.{Reply, Refused, Rotate, Number, Unread}
+use Rattle.lsm_store.specs.Calls.{Reply, Refused, Rotate, Unread}
 use Rattle.lsm_store.specs.Effects.{Use, use_of}
 use Rattle.lsm_store.specs.Effects.{Untouched, Reads, Changes}
 use Rattle.lsm_store.specs.Machine.{Machine}
@@ -20,8 +19,6 @@ use Rattle.lsm_store.specs.WorkReplies.{after_work_fault, next_worked}
 use Rattle.lsm_store.specs.Working.{Works}
 use Rattle.lsm_store.proofs.Points.{present_synced}
 use Rattle.lsm_upkeep.specs.Keeping.{IsSameMap, KeepsMap}
-use Rattle.lsm_upkeep.specs.Finishing.{HasLeft, IsFinished, IsGivenUp, DoesNotGoThrough, IsOffered, IsReadWhole, IsStuck, IsUndone, IsUnfinished, IsUnmerged, IsUnread, LeavesBlocksEachTime, Taken}
-use Rattle.lsm_upkeep.specs.Upkeep.{AreDone, FinishesJobs, IsNoMore, IsRotatedAt, OpensLog}
 
 -- ---- states
 
@@ -82,83 +79,3 @@ stays old new e = subst (λ (s : StoreView). KeepsMap old s) (sym e) (same old.s
 
 pub onward : (old mid new : StoreView) → KeepsMap old mid → KeepsMap mid new → KeepsMap old new
 onward old mid new first second = then old.state mid.state new.state first second
-
-some_left : (piece : Work) (n : ℕ) (old new : StoreView) → LeavesBlocksEachTime piece n old new → KeepsMap old new
-some_left piece zero old new e = stays old new e
-some_left piece (suc n) old new (mid, before, left, works) = onward old mid new (some_left piece n old mid before) (works_keep mid new piece _ works)
-
-left_keeps : (piece : Work) (left : ℕ) (old new : StoreView) → HasLeft piece left old new → KeepsMap old new
-left_keeps piece left old new h = onward old h.last new (some_left piece h.count old h.last h.some) (works_keep h.last new piece _ h.told)
-
-held_up_keeps : (piece : Work) (old new : StoreView) → DoesNotGoThrough piece old new → KeepsMap old new
-held_up_keeps piece old new (inl (count, last, before, (e, works))) = onward old last new (some_left piece count old last before) (works_keep last new piece _ works)
-held_up_keeps piece old new (inr (mid, before, now, h, works, le)) = onward old mid new (left_keeps piece (suc before) old mid h) (works_keep mid new piece _ works)
-
-read_keeps : (job : ℕ) (level : Option ℕ) (old new : StoreView) → IsReadWhole job level old new → KeepsMap old new
-read_keeps job None old new e = stays old new e
-read_keeps job (Some level) old new h = left_keeps (Read job) 0 old new h
-
-unread_keeps : (job : ℕ) (level : Option ℕ) (old new : StoreView) → IsUnread job level old new → KeepsMap old new
-unread_keeps job None old new none = absurd none
-unread_keeps job (Some level) old new h = held_up_keeps (Read job) old new h
-
-offered_keeps : (job : ℕ) (reply : Reply) (old new : StoreView) → IsOffered job reply old new → KeepsMap old new
-offered_keeps job reply old new o = onward old o.mid new (works_keep old o.mid (Ask job) _ o.lent) (works_keep o.mid new (Accept job (Some o.result)) reply o.offered)
-
-unmerged_keeps : (job : ℕ) (old new : StoreView) → IsUnmerged job old new → KeepsMap old new
-unmerged_keeps job old new (inl (e, works)) = works_keep old new (Ask job) _ works
-unmerged_keeps job old new (inr (inl (input, works))) = works_keep old new (Ask job) _ works
-unmerged_keeps job old new (inr (inr (e, offered))) = offered_keeps job (Refused e) old new offered
-
-finished_keeps : (job : ℕ) (level : Option ℕ) (old new : StoreView) → IsFinished job level old new → KeepsMap old new
-finished_keeps job level old new f =
-    onward old f.whole new (read_keeps job level old f.whole f.reads)
-    (onward f.whole f.merged new (offered_keeps job _ f.whole f.merged f.merges)
-    (onward f.merged f.written new (left_keeps (Write job) 0 f.merged f.written f.writes) (works_keep f.written new (Install job) _ f.installs)))
-
-unfinished_keeps : (job : ℕ) (old new : StoreView) → IsUnfinished job old new → KeepsMap old new
-unfinished_keeps job old new (inl unmerged) = unmerged_keeps job old new unmerged
-unfinished_keeps job old new (inr (merged, offered, inl held_up)) = onward old merged new (offered_keeps job _ old merged offered) (held_up_keeps (Write job) merged new held_up)
-unfinished_keeps job old new (inr (merged, offered, inr (written, writes, (e, works)))) =
-    onward old merged new (offered_keeps job _ old merged offered)
-    (onward merged written new (left_keeps (Write job) 0 merged written writes) (works_keep written new (Install job) _ works))
-
-stuck_keeps : (job : ℕ) (level : Option ℕ) (old new : StoreView) → IsStuck job level old new → KeepsMap old new
-stuck_keeps job level old new (inl unread) = unread_keeps job level old new unread
-stuck_keeps job level old new (inr (whole, reads, unfinished)) = onward old whole new (read_keeps job level old whole reads) (unfinished_keeps job whole new unfinished)
-
-given_up_keeps : (job : ℕ) (level : Option ℕ) (old new : StoreView) → IsGivenUp job level old new → KeepsMap old new
-given_up_keeps job level old new g = onward old g.late new (stuck_keeps job level old g.late g.stuck) (works_keep g.late new (Drop job) g.reply g.dropped)
-
-taken_keeps : (asked : Option Choice) (old new : StoreView) → Taken IsFinished asked old new → KeepsMap old new
-taken_keeps asked old new t = onward old t.begun new (works_keep old t.begun (Take asked) _ t.taken) (finished_keeps t.job t.level t.begun new t.goes)
-
-undone_keeps : (asked : Option Choice) (old new : StoreView) → IsUndone asked old new → KeepsMap old new
-undone_keeps asked old new (inl works) = works_keep old new (Take asked) _ works
-undone_keeps asked old new (inr (inl (e, works))) = works_keep old new (Take asked) _ works
-undone_keeps asked old new (inr (inr t)) = onward old t.begun new (works_keep old t.begun (Take asked) _ t.taken) (given_up_keeps t.job t.level t.begun new t.goes)
-
--- ---- jobs
-
-module _ (Asks : StoreView → Option Choice → Type 0) (AsksNone : StoreView → Type 0) where
-  done_keep : (n : ℕ) (old new : StoreView) → AreDone Asks n old new → KeepsMap old new
-  done_keep zero old new e = stays old new e
-  done_keep (suc n) old new (mid, before, (asked, may, taken)) = onward old mid new (done_keep n old mid before) (taken_keeps asked mid new taken)
-
-  no_more_keeps : (old new : StoreView) → IsNoMore Asks AsksNone old new → KeepsMap old new
-  no_more_keeps old new (inl (asked, may, undone)) = undone_keeps asked old new undone
-  no_more_keeps old new (inr (none, e)) = stays old new e
-
-  pub jobs_keep : (most : ℕ) (old new : StoreView) → FinishesJobs Asks AsksNone most old new → KeepsMap old new
-  jobs_keep most old new f = onward old f.last new (done_keep f.count old f.last f.finished) (by f.ends)
-    where
-      by : ((f.count ≡ most) × (new ≡ f.last)) ⊎ ((f.count < most) × IsNoMore Asks AsksNone f.last new) → KeepsMap f.last new
-      by (inl (all, e)) = stays f.last new e
-      by (inr (few, no_more)) = no_more_keeps f.last new no_more
-
-rotated_at_keeps : (room : Reply) (old new : StoreView) → IsRotatedAt room old new → KeepsMap old new
-rotated_at_keeps (Number zero) old new (reply, serves) = rotate_keeps old new reply serves
-rotated_at_keeps room old new e = stays old new e
-
-pub log_keeps : (old new : StoreView) → OpensLog old new → KeepsMap old new
-log_keeps old new o = rotated_at_keeps o.room old new o.rotated

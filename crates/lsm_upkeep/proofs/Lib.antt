@@ -1,3 +1,6 @@
-pub mod CompactingLaws
 pub mod FinishingLaws
+pub mod FlushingLaws
+pub mod Jobs
 pub mod KeptMaps
+pub mod Upkept
+pub mod WritingLaws

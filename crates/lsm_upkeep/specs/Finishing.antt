@@ -1,6 +1,7 @@
 -- How a job is taken and finished.
 use Rattle.std.specs.Prelude.{◌≡◌, ◌≤◌, ◌⊎◌, ℕ, zero, suc, Option, Some, None}
 use Rattle.lsm_device.specs.declared.refusal.Refusal.{Refusal}
+use Rattle.lsm_merge.specs.Divisions.{AreTablesAt}
 use Rattle.lsm_merge.specs.Inputs.{MergeInput, kept_of}
 use Rattle.lsm_merge.specs.Results.{MergeResult}
 use Rattle.lsm_store.specs.Backing.{StoreView}
@@ -8,7 +9,6 @@ use Rattle.lsm_levels.specs.declared.choosing.Choice.{Choice}
 use Rattle.lsm_store.specs.Calls.{Reply, Number, Done, Given, Handed, Refused}
 use Rattle.lsm_store.specs.Work.{Work, Take, Read, Ask, Accept, Write, Install, Drop}
 use Rattle.lsm_store.specs.Working.{Works}
-use Rattle.lsm_table.specs.Division.{IsTables}
 
 -- a piece of work was refused
 abbrev pub IsRefused : Work → StoreView → StoreView → Type 0
@@ -63,7 +63,7 @@ pub record IsOffered (job : ℕ) (reply : Reply) (old new : StoreView) : Type 0 
   pub result : MergeResult
   pub lent : Works old (Ask job) (Handed input) mid
   pub own : result.input ≡ input
-  pub made : IsTables (kept_of input) result.images
+  pub made : AreTablesAt result.divisions (kept_of input) result.images
   pub offered : Works mid (Accept job (Some result)) reply new
 
 -- no result was accepted: the input was not lent, or no result was made of it, which comes of want of memory, or it was refused

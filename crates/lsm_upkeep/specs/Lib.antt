@@ -1,5 +1,7 @@
-pub mod Choosing
+pub mod Compacting
 pub mod Finishing
+pub mod Flushing
 pub mod Keeping
+pub mod Steps
 pub mod Upkeep
-pub mod Wanting
+pub mod Writing

@@ -1,8 +1,14 @@
 //! A store is made ready for a batch.
 
+ghost use Rattle.std.specs.Prelude.{◌≡◌, true, IfErr};
+ghost use Rattle.lsm_device.specs.declared.refusal.Refusal.TheVariants.{NoSpace};
+ghost use Rattle.lsm_upkeep.specs.Flushing.{BeginsLog, IsMadeReady, ReadiesLog};
+ghost use Rattle.lsm_upkeep.specs.Steps.{IsUpkept};
+ghost use Rattle.lsm_upkeep.specs.Writing.{wants_room};
+
 use crate::compacting::compact;
 use crate::demand::Demand;
-use crate::flushing::{flush, is_waiting};
+use crate::flushing::flush;
 use crate::pushing::push;
 use lsm_codec::Batch;
 use lsm_device::{Device, Refusal};
@@ -22,7 +28,11 @@ pub fn admit<R: Threads + Sync, D: Device>(
     alloc: Global,
     store: &mut Store<D>,
     batch: &Batch,
-) -> Result<(), Refusal> {
+) -> Result<(), Refusal>
+    ensures upkept { IsUpkept store.old store.new }
+    ensures ready { IsMadeReady store.old store.new }
+    ensures refused { IfErr result (λ e. (e ≡ NoSpace) × (wants_room batch.now store.new.state ≡ true)) }
+{
     if store.stat().is_err() {
         return Ok(());
     }
@@ -36,28 +46,44 @@ pub fn admit<R: Threads + Sync, D: Device>(
         push(rt, alloc, store, Some(demand));
         return Ok(());
     }
-    next_log(rt, alloc, store);
-    if !has_log {
-        compact(rt, alloc, store, &Policy::new());
-    }
+    change_log(rt, alloc, store, has_log);
     make_room(rt, alloc, store, Demand::of(store, batch))
 }
 
 /// Finishes the flush that waits, and opens a log where the open one has no room, or none is open.
-pub fn open_log<R: Threads + Sync, D: Device>(rt: &R, alloc: Global, store: &mut Store<D>) {
-    if is_waiting(store) {
-        flush(rt, alloc, store);
-    }
+pub fn open_log<R: Threads + Sync, D: Device>(rt: &R, alloc: Global, store: &mut Store<D>)
+    ensures upkept { IsUpkept store.old store.new }
+    ensures readies { ReadiesLog store.old store.new }
+{
+    flush(rt, alloc, store);
     if let Ok(0) = store.log_room() {
         next_log(rt, alloc, store);
     }
 }
 
 // Opens another log, and flushes what was in the one before.
-fn next_log<R: Threads + Sync, D: Device>(rt: &R, alloc: Global, store: &mut Store<D>) {
+fn next_log<R: Threads + Sync, D: Device>(rt: &R, alloc: Global, store: &mut Store<D>)
+    ensures upkept { IsUpkept store.old store.new }
+    ensures begins { BeginsLog store.old store.new }
+{
     if flush(rt, alloc, store) {
         let _ = store.rotate();
         flush(rt, alloc, store);
+    }
+}
+
+// Opens another log. Where the one before had no room for a batch, that is the time to compact by the policy.
+fn change_log<R: Threads + Sync, D: Device>(
+    rt: &R,
+    alloc: Global,
+    store: &mut Store<D>,
+    had_room: bool,
+)
+    ensures { IsUpkept store.old store.new }
+{
+    next_log(rt, alloc, store);
+    if !had_room {
+        compact(rt, alloc, store, &Policy::new());
     }
 }
 
@@ -67,7 +93,10 @@ fn make_room<R: Threads + Sync, D: Device>(
     alloc: Global,
     store: &mut Store<D>,
     demand: Demand,
-) -> Result<(), Refusal> {
+) -> Result<(), Refusal>
+    ensures upkept { IsUpkept store.old store.new }
+    ensures refused { IfErr result (λ e. (e ≡ NoSpace) × (demand.puts ≡ true)) }
+{
     if demand.is_met(store) {
         return Ok(());
     }

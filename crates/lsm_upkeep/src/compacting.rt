@@ -2,11 +2,12 @@
 
 ghost use Rattle.std.specs.Prelude.{◌≡◌};
 ghost use Rattle.lsm_store.specs.Backing.{machine_of};
-ghost use Rattle.lsm_upkeep.specs.Choosing.{are_in_last, is_nil};
-ghost use Rattle.lsm_upkeep.specs.Upkeep.{is_compacted};
+ghost use Rattle.lsm_upkeep.specs.Compacting.{are_in_last, is_compacted, is_nil};
+ghost use Rattle.lsm_upkeep.specs.Flushing.{FlushesFirst};
+ghost use Rattle.lsm_upkeep.specs.Steps.{IsUpkept};
 
 use crate::finishing::finish_step;
-use crate::flushing::{flush, is_waiting};
+use crate::flushing::flush;
 use crate::pushing::join_all;
 use crate::stepping::{Went, step_down, step_to_the_last};
 use crate::wanting::{Wanted, wanted_by};
@@ -35,9 +36,12 @@ pub fn compact<R: Threads + Sync, D: Device>(
     alloc: Global,
     store: &mut Store<D>,
     policy: &Policy,
-) {
+)
+    ensures upkept { IsUpkept store.old store.new }
+    ensures flushes { FlushesFirst store.old store.new }
+{
     for _ in 0..MOST_JOBS {
-        if is_waiting(store) && !flush(rt, alloc, store) {
+        if !flush(rt, alloc, store) {
             return;
         }
         if !finish_wanted(rt, alloc, store, policy) {
@@ -52,7 +56,9 @@ fn finish_wanted<R: Threads + Sync, D: Device>(
     alloc: Global,
     store: &mut Store<D>,
     policy: &Policy,
-) -> bool {
+) -> bool
+    ensures { IsUpkept store.old store.new }
+{
     match wanted_by(policy, store) {
         Wanted::Nothing => false,
         Wanted::Step => matches!(step_down(rt, alloc, store), Went::On),
@@ -65,7 +71,9 @@ fn finish_merge<R: Threads + Sync, D: Device>(
     alloc: Global,
     store: &mut Store<D>,
     choice: Choice,
-) -> bool {
+) -> bool
+    ensures { IsUpkept store.old store.new }
+{
     match Step::whole(&alloc, choice) {
         Ok(step) => finish_step(rt, alloc, store, step),
         Err(_) => false,
@@ -79,6 +87,8 @@ pub fn compact_all<R: Threads + Sync, D: Device>(
     alloc: Global,
     store: &mut Store<D>,
 ) -> bool
+    ensures upkept { IsUpkept store.old store.new }
+    ensures flushes { FlushesFirst store.old store.new }
     ensures compacted { result ≡ is_compacted (machine_of store.new) }
 {
     compact_all_showing(rt, alloc, store, &mut Silent)
@@ -91,6 +101,8 @@ pub fn compact_all_showing<R: Threads + Sync, D: Device, P: Progress>(
     store: &mut Store<D>,
     progress: &mut P,
 ) -> bool
+    ensures upkept { IsUpkept store.old store.new }
+    ensures flushes { FlushesFirst store.old store.new }
     ensures compacted { result ≡ is_compacted (machine_of store.new) }
 {
     take_down(rt, alloc, store, progress);
@@ -103,10 +115,13 @@ fn take_down<R: Threads + Sync, D: Device, P: Progress>(
     alloc: Global,
     store: &mut Store<D>,
     progress: &mut P,
-) {
+)
+    ensures upkept { IsUpkept store.old store.new }
+    ensures flushes { FlushesFirst store.old store.new }
+{
     for jobs in 0..MOST_STEPS {
         progress.reached(Milestone::Compacted { jobs });
-        if is_waiting(store) && !flush(rt, alloc, store) {
+        if !flush(rt, alloc, store) {
             return;
         }
         match step_to_the_last(rt, alloc, store) {

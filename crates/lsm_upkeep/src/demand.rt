@@ -1,5 +1,8 @@
 //! What a batch demands of a store.
 
+ghost use Rattle.std.specs.Prelude.{◌≡◌, ◌||◌};
+ghost use Rattle.lsm_upkeep.specs.Writing.{has_puts, wants_room};
+
 use crate::stepping::standing;
 use lsm_codec::{Batch, Operations};
 use lsm_device::Device;
@@ -22,13 +25,15 @@ pub(crate) struct Demand {
 
 impl Demand {
     /// That of a batch, of a store as it now is.
-    pub fn of<D: Device>(store: &Store<D>, batch: &Batch) -> Demand {
+    pub fn of<D: Device>(store: &Store<D>, batch: &Batch) -> Demand
+        ensures { result.puts ≡ wants_room batch.now store.now.state }
+    {
         let before = store.memtable_size();
         Demand {
             before,
             after: before.with_batch(batch),
             sectors: batch.text_len().div_ceil(SECTOR_ROOM) as u32,
-            puts: store.has_snapshots() || puts_some(batch.operations()),
+            puts: puts_some(batch.operations()) || store.has_snapshots(),
         }
     }
 
@@ -62,7 +67,9 @@ impl Demand {
 }
 
 // Whether one of these operations puts a value.
-fn puts_some(operations: Operations<'_>) -> bool {
+fn puts_some(operations: Operations<'_>) -> bool
+    ensures { result ≡ has_puts operations.entry }
+{
     for operation in operations {
         if operation.value.is_some() {
             return true;

@@ -1,5 +1,10 @@
 //! What waits for a flush is flushed, and room is made for it where it lacks.
 
+ghost use Rattle.std.specs.Prelude.{◌≡◌, ◌&&◌, not, is_some, true, false};
+ghost use Rattle.lsm_store.specs.State.{are_waiting};
+ghost use Rattle.lsm_upkeep.specs.Flushing.{IsIdle, TriesNext};
+ghost use Rattle.lsm_upkeep.specs.Steps.{IsUpkept};
+
 use crate::finishing::finish_next;
 use crate::pushing::push;
 use crate::stepping::{Went, join, step_aside, step_down};
@@ -22,15 +27,16 @@ pub(crate) fn flush<R: Threads + Sync, D: Device>(
     rt: &R,
     alloc: Global,
     store: &mut Store<D>,
-) -> bool {
+) -> bool
+    ensures upkept { IsUpkept store.old store.new }
+    ensures finished { result ≡ true → IsIdle store.new }
+    ensures tried { result ≡ false → TriesNext store.old store.new }
+{
     for _ in 0..MOST_TRIES {
         if !is_waiting(store) {
             return true;
         }
-        if store.levels().runs().len() >= MANY_RUNS {
-            push(rt, alloc, store, None);
-        }
-        if !finish_next(rt, alloc, store) && !make_room(rt, alloc, store) {
+        if !try_next(rt, alloc, store) {
             return false;
         }
     }
@@ -38,19 +44,59 @@ pub(crate) fn flush<R: Threads + Sync, D: Device>(
 }
 
 /// Whether a store runs, and a flush waits.
-pub(crate) fn is_waiting<D: Device>(store: &Store<D>) -> bool {
+pub(crate) fn is_waiting<D: Device>(store: &Store<D>) -> bool
+    ensures { result ≡ (not (is_some store.now.state.stopped) && are_waiting store.now.state) }
+{
     match store.stat() {
         Ok(stat) => stat.waiting,
         Err(_) => false,
     }
 }
 
-// Takes a step that makes room for a flush: where level 0 is full its oldest run goes down, and else a table is moved, or goes down, or
-// neighbours are joined.
-fn make_room<R: Threads + Sync, D: Device>(rt: &R, alloc: Global, store: &mut Store<D>) -> bool {
-    if store.levels().runs().len() < MOST_RUNS && step_aside(rt, alloc, store) {
+// Tries to finish the job that comes next, and makes room where it can't be. It tells whether it did one of both.
+fn try_next<R: Threads + Sync, D: Device>(rt: &R, alloc: Global, store: &mut Store<D>) -> bool
+    ensures { TriesNext store.old store.new }
+{
+    push_runs(rt, alloc, store);
+    if finish_next(rt, alloc, store) {
         return true;
     }
+    make_room(rt, alloc, store)
+}
+
+// Brings tables down where level 0 has many runs.
+fn push_runs<R: Threads + Sync, D: Device>(rt: &R, alloc: Global, store: &mut Store<D>)
+    ensures { IsUpkept store.old store.new }
+{
+    if store.levels().runs().len() >= MANY_RUNS {
+        push(rt, alloc, store, None);
+    }
+}
+
+// Takes a step that makes room for a flush: where level 0 is full its oldest run goes down, and else a table is moved, or goes down, or
+// neighbours are joined. It tells whether it did.
+fn make_room<R: Threads + Sync, D: Device>(rt: &R, alloc: Global, store: &mut Store<D>) -> bool
+    ensures { IsUpkept store.old store.new }
+{
+    if store.levels().runs().len() < MOST_RUNS {
+        move_or_sink(rt, alloc, store)
+    } else {
+        sink_or_join(rt, alloc, store)
+    }
+}
+
+fn move_or_sink<R: Threads + Sync, D: Device>(rt: &R, alloc: Global, store: &mut Store<D>) -> bool
+    ensures { IsUpkept store.old store.new }
+{
+    if step_aside(rt, alloc, store) {
+        return true;
+    }
+    sink_or_join(rt, alloc, store)
+}
+
+fn sink_or_join<R: Threads + Sync, D: Device>(rt: &R, alloc: Global, store: &mut Store<D>) -> bool
+    ensures { IsUpkept store.old store.new }
+{
     match step_down(rt, alloc, store) {
         Went::On => true,
         Went::ToTheEnd | Went::Nowhere => join(rt, alloc, store),

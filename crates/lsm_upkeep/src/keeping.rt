@@ -2,6 +2,7 @@
 
 ghost use Rattle.std.specs.Prelude.{◌≡◌, ◌&&◌, ◌||◌, not, is_some};
 ghost use Rattle.lsm_upkeep.specs.Keeping.{KeepsMap};
+ghost use Rattle.lsm_upkeep.specs.Steps.{IsUpkept};
 ghost use Rattle.lsm_upkeep.specs.Upkeep.{IsEased, KeepsUp, has_room, is_scarce};
 
 use crate::compacting::compact;
@@ -22,7 +23,8 @@ pub fn keep_up<R: Threads + Sync, D: Device>(
     store: &mut Store<D>,
     policy: &Policy,
 )
-    ensures keeps_up { KeepsUp policy.now.most_tables store.old store.new }
+    ensures settles { KeepsUp policy.now.most_tables store.old store.new }
+    ensures upkept { IsUpkept store.old store.new }
     ensures map { KeepsMap store.old store.new }
 {
     settle(rt, alloc, store);
@@ -32,7 +34,7 @@ pub fn keep_up<R: Threads + Sync, D: Device>(
 // Compacts a store where room is scarce.
 fn ease<R: Threads + Sync, D: Device>(rt: &R, alloc: Global, store: &mut Store<D>, policy: &Policy)
     ensures eases { IsEased policy.now.most_tables store.old store.new }
-    ensures map { KeepsMap store.old store.new }
+    ensures upkept { IsUpkept store.old store.new }
 {
     if is_scarce(policy, store) {
         compact(rt, alloc, store, policy);

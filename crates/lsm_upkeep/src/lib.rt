@@ -2,6 +2,7 @@
 //!
 //! | call | what it does |
 //! |---|---|
+//! | [`write`] | a commit that finds room: what `admit` does, and then the commit |
 //! | [`admit`] | what a batch wants: it finds room in tables, and the open log has room for it |
 //! | [`open_log`] | the flush that waits; then a log with room is opened |
 //! | [`settle`] | the jobs that come next, until none does; then a log with room is opened |
@@ -15,8 +16,7 @@
 //! ```
 //! let policy = Policy::new();
 //! keep_up(rt, alloc, &mut store, &policy);
-//! admit(rt, alloc, &mut store, &batch)?;
-//! store.commit(&batch)?;
+//! let number = write(rt, alloc, &mut store, None, &batch)?;
 //! ```
 #![tactic(auto)]
 
@@ -30,8 +30,10 @@ mod pushing;
 mod settling;
 mod stepping;
 mod wanting;
+mod writing;
 
 pub use admitting::{admit, open_log};
 pub use compacting::{compact, compact_all, compact_all_showing};
 pub use keeping::{has_room, keep_up};
 pub use settling::settle;
+pub use writing::write;

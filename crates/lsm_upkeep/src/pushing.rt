@@ -1,7 +1,9 @@
 //! Tables are brought down until a batch is admitted, or as far as they go.
 
+ghost use Rattle.lsm_upkeep.specs.Steps.{IsUpkept};
+
 use crate::demand::Demand;
-use crate::stepping::{Went, join, step_down};
+use crate::stepping::{Went, join, step_down, told};
 use lsm_device::Device;
 use lsm_store::Store;
 use std::alloc::Global;
@@ -22,23 +24,47 @@ pub(crate) fn push<R: Threads + Sync, D: Device>(
     alloc: Global,
     store: &mut Store<D>,
     demand: Option<Demand>,
-) {
+)
+    ensures { IsUpkept store.old store.new }
+{
     for taken in 0..MOST_STEPS {
         if taken > 0 && is_met(store, demand) {
             return;
         }
-        if has_many_tables(store) && join(rt, alloc, store) {
-            continue;
-        }
-        match step_down(rt, alloc, store) {
+        match step_on(rt, alloc, store) {
             Went::On => {}
             Went::ToTheEnd => return join_all(rt, alloc, store),
-            Went::Nowhere => {
-                if !join(rt, alloc, store) {
-                    return;
-                }
-            }
+            Went::Nowhere => return,
         }
+    }
+}
+
+// Takes the next step down, or joins neighbours where none can be taken. Where there are many tables, neighbours are joined first.
+fn step_on<R: Threads + Sync, D: Device>(rt: &R, alloc: Global, store: &mut Store<D>) -> Went
+    ensures { IsUpkept store.old store.new }
+{
+    if has_many_tables(store) {
+        join_or_step(rt, alloc, store)
+    } else {
+        step_or_join(rt, alloc, store)
+    }
+}
+
+fn join_or_step<R: Threads + Sync, D: Device>(rt: &R, alloc: Global, store: &mut Store<D>) -> Went
+    ensures { IsUpkept store.old store.new }
+{
+    if join(rt, alloc, store) {
+        return Went::On;
+    }
+    step_or_join(rt, alloc, store)
+}
+
+fn step_or_join<R: Threads + Sync, D: Device>(rt: &R, alloc: Global, store: &mut Store<D>) -> Went
+    ensures { IsUpkept store.old store.new }
+{
+    match step_down(rt, alloc, store) {
+        Went::Nowhere => told(join(rt, alloc, store)),
+        went => went,
     }
 }
 
@@ -58,7 +84,9 @@ fn has_many_tables<D: Device>(store: &Store<D>) -> bool {
 }
 
 /// Joins neighbours as long as a level has many small tables.
-pub(crate) fn join_all<R: Threads + Sync, D: Device>(rt: &R, alloc: Global, store: &mut Store<D>) {
+pub(crate) fn join_all<R: Threads + Sync, D: Device>(rt: &R, alloc: Global, store: &mut Store<D>)
+    ensures { IsUpkept store.old store.new }
+{
     for _ in 0..MOST_JOINS {
         if !join(rt, alloc, store) {
             return;

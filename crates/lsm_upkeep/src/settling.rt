@@ -1,7 +1,8 @@
 //! A store is settled: its jobs are taken and finished, one after another.
 
 ghost use Rattle.lsm_upkeep.specs.Keeping.{KeepsMap};
-ghost use Rattle.lsm_upkeep.specs.Upkeep.{AsksNext, FinishesJobs, NeverNone, OpensLog, Settles};
+ghost use Rattle.lsm_upkeep.specs.Steps.{IsUpkept};
+ghost use Rattle.lsm_upkeep.specs.Upkeep.{FinishesJobs, OpensLog, Settles};
 
 use crate::finishing::finish_next;
 use lsm_device::Device;
@@ -18,6 +19,7 @@ const MOST_JOBS: u32 = 64;
 /// What is refused is passed over: the store goes on as it then is, and its map is the same.
 pub fn settle<R: Threads + Sync, D: Device>(rt: &R, alloc: Global, store: &mut Store<D>)
     ensures settles { Settles store.old store.new }
+    ensures upkept { IsUpkept store.old store.new }
     ensures map { KeepsMap store.old store.new }
 {
     finish_jobs(rt, alloc, store);
@@ -25,7 +27,7 @@ pub fn settle<R: Threads + Sync, D: Device>(rt: &R, alloc: Global, store: &mut S
 }
 
 fn finish_jobs<R: Threads + Sync, D: Device>(rt: &R, alloc: Global, store: &mut Store<D>)
-    ensures { FinishesJobs AsksNext NeverNone 64 store.old store.new }
+    ensures { FinishesJobs 64 store.old store.new }
 {
     for _ in 0..MOST_JOBS {
         if !finish_next(rt, alloc, store) {

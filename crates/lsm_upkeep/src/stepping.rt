@@ -1,5 +1,7 @@
 //! Steps by which tables go down where room is scarce.
 
+ghost use Rattle.lsm_upkeep.specs.Steps.{IsUpkept};
+
 use crate::finishing::finish_step;
 use lsm_device::Device;
 use lsm_jobs::Slots;
@@ -34,7 +36,9 @@ pub(crate) fn step_down<R: Threads + Sync, D: Device>(
     rt: &R,
     alloc: Global,
     store: &mut Store<D>,
-) -> Went {
+) -> Went
+    ensures { IsUpkept store.old store.new }
+{
     match standing(store).step_down(&alloc) {
         Ok(advice) => follow(rt, alloc, store, advice),
         Err(_) => Went::Nowhere,
@@ -46,7 +50,9 @@ pub(crate) fn step_to_the_last<R: Threads + Sync, D: Device>(
     rt: &R,
     alloc: Global,
     store: &mut Store<D>,
-) -> Went {
+) -> Went
+    ensures { IsUpkept store.old store.new }
+{
     match standing(store).step_down_to(&alloc, 4) {
         Ok(advice) => follow(rt, alloc, store, advice),
         Err(_) => Went::Nowhere,
@@ -59,7 +65,9 @@ fn follow<R: Threads + Sync, D: Device>(
     alloc: Global,
     store: &mut Store<D>,
     advice: Advice,
-) -> Went {
+) -> Went
+    ensures { IsUpkept store.old store.new }
+{
     match advice {
         Advice::Nothing => Went::ToTheEnd,
         Advice::Take(step) => told(finish_step(rt, alloc, store, step)),
@@ -70,7 +78,8 @@ fn follow<R: Threads + Sync, D: Device>(
     }
 }
 
-fn told(finished: bool) -> Went {
+/// How a step went that was finished or not.
+pub(crate) fn told(finished: bool) -> Went {
     if finished { Went::On } else { Went::Nowhere }
 }
 
@@ -79,7 +88,9 @@ pub(crate) fn join<R: Threads + Sync, D: Device>(
     rt: &R,
     alloc: Global,
     store: &mut Store<D>,
-) -> bool {
+) -> bool
+    ensures { IsUpkept store.old store.new }
+{
     match standing(store).step_together(&alloc) {
         Ok(Some(step)) => finish_step(rt, alloc, store, step),
         Ok(None) | Err(_) => false,
@@ -91,7 +102,9 @@ pub(crate) fn step_aside<R: Threads + Sync, D: Device>(
     rt: &R,
     alloc: Global,
     store: &mut Store<D>,
-) -> bool {
+) -> bool
+    ensures { IsUpkept store.old store.new }
+{
     match standing(store).step_aside(&alloc) {
         Ok(Some(step)) => finish_step(rt, alloc, store, step),
         Ok(None) | Err(_) => false,

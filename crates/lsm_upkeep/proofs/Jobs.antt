@@ -1,12 +1,12 @@
 -- What each piece of work keeps, jobs keep, one after another.
-use Rattle.std.proofs.Common.{◌≡◌, ◌⊎◌, ◌<◌, ℕ, zero, suc, Bool, true, false, Option, Some, None, inl, inr}
+use Rattle.std.proofs.Common.{◌≡◌, ◌⊎◌, ◌<◌, ℕ, zero, suc, Option, Some, None, inl, inr}
 use Rattle.lsm_levels.specs.declared.choosing.Choice.{Choice}
 use Rattle.lsm_store.specs.Backing.{StoreView}
 use Rattle.lsm_store.specs.Calls.{Reply, Refused}
 use Rattle.lsm_store.specs.Work.{Work, Take, Read, Ask, Accept, Write, Install, Drop}
 use Rattle.lsm_store.specs.Working.{Works}
 use Rattle.lsm_upkeep.specs.Finishing.{HasLeft, IsFinished, IsGivenUp, DoesNotGoThrough, IsOffered, IsReadWhole, IsStuck, IsUndone, IsUnfinished, IsUnmerged, IsUnread, LeavesBlocksEachTime, Taken}
-use Rattle.lsm_upkeep.specs.Upkeep.{AreDone, AsksChosen, AsksNext, Compacts, CompactsAll, CompactsIf, FinishesJobs, IsAtEnd, IsIdle, IsNoMore, NeverNone}
+use Rattle.lsm_upkeep.specs.Upkeep.{AreDone, FinishesJobs}
 
 -- what stands where nothing was done, behind one another, and at each piece of work
 pub record Goes (R : StoreView → StoreView → Type 0) : Type 0 where
@@ -61,39 +61,21 @@ module _ (R : StoreView → StoreView → Type 0) (r : Goes R) where
   given_up : (job : ℕ) (level : Option ℕ) (old new : StoreView) → IsGivenUp job level old new → R old new
   given_up job level old new g = r.onward old g.late new (stuck job level old g.late g.stuck) (r.works g.late new (Drop job) g.reply g.dropped)
 
-  taken : (asked : Option Choice) (old new : StoreView) → Taken IsFinished asked old new → R old new
+  pub taken : (asked : Option Choice) (old new : StoreView) → Taken IsFinished asked old new → R old new
   taken asked old new t = r.onward old t.begun new (r.works old t.begun (Take asked) _ t.taken) (finished t.job t.level t.begun new t.goes)
 
-  undone : (asked : Option Choice) (old new : StoreView) → IsUndone asked old new → R old new
+  pub undone : (asked : Option Choice) (old new : StoreView) → IsUndone asked old new → R old new
   undone asked old new (inl w) = r.works old new (Take asked) _ w
   undone asked old new (inr (inl (e, w))) = r.works old new (Take asked) _ w
   undone asked old new (inr (inr t)) = r.onward old t.begun new (r.works old t.begun (Take asked) _ t.taken) (given_up t.job t.level t.begun new t.goes)
 
-  module _ (Asks : StoreView → Option Choice → Type 0) (AsksNone : StoreView → Type 0) where
-    done : (n : ℕ) (old new : StoreView) → AreDone Asks n old new → R old new
-    done zero old new e = r.stays old new e
-    done (suc n) old new (mid, before, (asked, may, t)) = r.onward old mid new (done n old mid before) (taken asked mid new t)
+  done : (n : ℕ) (old new : StoreView) → AreDone n old new → R old new
+  done zero old new e = r.stays old new e
+  done (suc n) old new (mid, before, t) = r.onward old mid new (done n old mid before) (taken None mid new t)
 
-    no_more : (old new : StoreView) → IsNoMore Asks AsksNone old new → R old new
-    no_more old new (inl (asked, may, u)) = undone asked old new u
-    no_more old new (inr (none, e)) = r.stays old new e
-
-    jobs : (most : ℕ) (old new : StoreView) → FinishesJobs Asks AsksNone most old new → R old new
-    jobs most old new f = r.onward old f.last new (done f.count old f.last f.finished) (by f.ends)
-      where
-        by : ((f.count ≡ most) × (new ≡ f.last)) ⊎ ((f.count < most) × IsNoMore Asks AsksNone f.last new) → R f.last new
-        by (inl (all, e)) = r.stays f.last new e
-        by (inr (few, more)) = no_more f.last new more
-
-  pub compacts : (old new : StoreView) → Compacts old new → R old new
-  compacts old new f = jobs AsksChosen IsIdle 4096 old new f
-
-  pub compacts_all : (old new : StoreView) → CompactsAll old new → R old new
-  compacts_all old new f = jobs AsksChosen IsAtEnd 4096 old new f
-
-  pub settled : (old new : StoreView) → FinishesJobs AsksNext NeverNone 64 old new → R old new
-  settled old new f = jobs AsksNext NeverNone 64 old new f
-
-  pub eased : (b : Bool) (old new : StoreView) → CompactsIf b old new → R old new
-  eased true old new c = compacts old new c
-  eased false old new e = r.stays old new e
+  pub jobs : (most : ℕ) (old new : StoreView) → FinishesJobs most old new → R old new
+  jobs most old new f = r.onward old f.last new (done f.count old f.last f.finished) (by f.ends)
+    where
+      by : ((f.count ≡ most) × (new ≡ f.last)) ⊎ ((f.count < most) × IsUndone None f.last new) → R f.last new
+      by (inl (all, e)) = r.stays f.last new e
+      by (inr (few, u)) = undone None f.last new u

@@ -1,6 +1,7 @@
 -- Upkeep, as steps.
-use Rattle.std.proofs.Common.{◌≡◌, ℕ, zero, suc, refl, sym, subst}
+use Rattle.std.proofs.Common.{◌≡◌, ℕ, zero, suc, Bool, true, false, Option, refl, sym, subst}
 use Rattle.lsm_device.specs.declared.refusal.Refusal.TheVariants.{LogFull}
+use Rattle.lsm_levels.specs.declared.choosing.Choice.{Choice}
 use Rattle.lsm_store.specs.Backing.{StoreView}
 use Rattle.lsm_store.specs.Calls.{Call, Reply, Number, Refused, Rotate}
 use Rattle.lsm_store.specs.Machine.{Step, Called, Worked}
@@ -8,10 +9,11 @@ use Rattle.lsm_store.specs.Serving.{Serves}
 use Rattle.lsm_store.specs.Work.{Work}
 use Rattle.lsm_store.specs.Working.{Works, ServesStep}
 use Rattle.lsm_upkeep.specs.Keeping.{IsSameMap, KeepsMap}
-use Rattle.lsm_upkeep.specs.Upkeep.{Compacts, CompactsAll, IsRotatedAt, KeepsUp, OpensLog, Settles}
+use Rattle.lsm_upkeep.specs.Finishing.{IsFinished, IsUndone, Taken}
+use Rattle.lsm_upkeep.specs.Steps.{IsUpkeepStep, IsUpkept, UpkeepSteps}
+use Rattle.lsm_upkeep.specs.Upkeep.{FinishesJobs, IsEasedIf, IsRotatedAt, KeepsUp, OpensLog, Settles}
+use Rattle.lsm_upkeep.proofs.Jobs.{Goes, jobs, taken, undone}
 use Rattle.lsm_upkeep.proofs.KeptMaps.{onward, rotate_keeps, stays as stays_same, works_keep}
-use Rattle.corwaphi.specs.Upkeep.{CompactsWhole, IsUpkeepStep, IsUpkept, UpkeepSteps}
-use Rattle.corwaphi.proofs.Jobs.{Goes, compacts, compacts_all, eased, settled}
 
 -- steps behind steps
 joined : (m n : ℕ) (old mid new : StoreView) → UpkeepSteps m old mid → UpkeepSteps n mid new → (k : ℕ) × UpkeepSteps k old new
@@ -25,13 +27,13 @@ then old mid new first second =
     let r = joined first.count second.count old mid new first.steps second.steps in
     record { count = r.0; steps = r.1; keeps = onward old mid new first.keeps second.keeps }
 
-stays : (old new : StoreView) → new ≡ old → IsUpkept old new
+pub stays : (old new : StoreView) → new ≡ old → IsUpkept old new
 stays old new e = record { count = zero; steps = e; keeps = stays_same old new e }
 
-one : (old new : StoreView) (step : Step) (reply : Reply) → IsUpkeepStep step reply → ServesStep old step reply new → KeepsMap old new → IsUpkept old new
+pub one : (old new : StoreView) (step : Step) (reply : Reply) → IsUpkeepStep step reply → ServesStep old step reply new → KeepsMap old new → IsUpkept old new
 one old new step reply is serves keeps = record { count = suc zero; steps = (new, step, reply, is, serves, refl); keeps = keeps }
 
-works : (old new : StoreView) (piece : Work) (reply : Reply) → Works old piece reply new → IsUpkept old new
+pub works : (old new : StoreView) (piece : Work) (reply : Reply) → Works old piece reply new → IsUpkept old new
 works old new piece reply w = one old new (Worked piece) reply tt w (works_keep old new piece reply w)
 
 pub upkept_goes : Goes IsUpkept
@@ -47,6 +49,21 @@ full_keeps call old new serves = subst (IsSameMap old.state) (sym serves.state) 
 pub is_full : (call : Call) (old new : StoreView) → IsUpkeepStep (Called call) (Refused LogFull) → Serves old call (Refused LogFull) new → IsUpkept old new
 is_full call old new is serves = one old new (Called call) (Refused LogFull) is serves (full_keeps call old new serves)
 
+-- ---- jobs
+
+pub one_more : (asked : Option Choice) (old new : StoreView) → Taken IsFinished asked old new → IsUpkept old new
+one_more asked old new t = taken IsUpkept upkept_goes asked old new t
+
+pub one_less : (asked : Option Choice) (old new : StoreView) → IsUndone asked old new → IsUpkept old new
+one_less asked old new u = undone IsUpkept upkept_goes asked old new u
+
+-- one that was asked for, finished or not
+pub asked_for : (asked : Option Choice) (done : Bool) (old new : StoreView) → (done ≡ true → Taken IsFinished asked old new) → (done ≡ false → IsUndone asked old new) → IsUpkept old new
+asked_for asked true old new finished failed = one_more asked old new (finished refl)
+asked_for asked false old new finished failed = one_less asked old new (failed refl)
+
+-- ---- a store that is settled and kept up
+
 pub opens : (old new : StoreView) → OpensLog old new → IsUpkept old new
 opens old new o = by o.room o.rotated
   where
@@ -54,14 +71,9 @@ opens old new o = by o.room o.rotated
     by (Number zero) (reply, serves) = rotates old new reply serves
     by other e = stays old new e
 
-pub readied : (old mid new : StoreView) → Compacts old mid → OpensLog mid new → IsUpkept old new
-readied old mid new c o = then old mid new (compacts IsUpkept upkept_goes old mid c) (opens mid new o)
+pub settles : (old new : StoreView) → Settles old new → IsUpkept old new
+settles old new (mid, finished, o) = then old mid new (jobs IsUpkept upkept_goes 64 old mid finished) (opens mid new o)
 
-pub whole : (old mid new : StoreView) → KeepsUp 768 old mid → CompactsAll mid new → IsUpkept old new
-whole old mid new (s, settles, eases) c = then old mid new (then old s mid (by settles) (eased IsUpkept upkept_goes _ s mid eases)) (compacts_all IsUpkept upkept_goes mid new c)
-  where
-    by : Settles old s → IsUpkept old s
-    by (t, finished, o) = then old t s (settled IsUpkept upkept_goes old t finished) (opens t s o)
-
-pub merged : (old mid new : StoreView) → KeepsUp 768 old mid → CompactsAll mid new → CompactsWhole old new
-merged old mid new k c = record { kept = mid; keeps_up = k; compacts = c }
+pub eased_if : (b : Bool) (old new : StoreView) → IsEasedIf b old new → IsUpkept old new
+eased_if true old new u = u
+eased_if false old new e = stays old new e

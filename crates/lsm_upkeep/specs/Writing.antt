@@ -1,0 +1,48 @@
+-- What a commit does that finds room.
+use Rattle.std.specs.Prelude.{◌≡◌, ◌≢◌, ◌⊎◌, ◌||◌, Bool, true, is_some, nat_lt, length, List, Option, Some, None}
+use Rattle.std.specs.List.{list_any}
+use Rattle.lsm_codec.specs.Guards.{Condition}
+use Rattle.lsm_codec.specs.Map.{Operation}
+use Rattle.lsm_device.specs.declared.refusal.Refusal.TheVariants.{LogFull, NoSpace}
+use Rattle.lsm_store.specs.Backing.{StoreView}
+use Rattle.lsm_store.specs.Calls.{Call, Reply, Commit, CommitIf, Refused}
+use Rattle.lsm_store.specs.Serving.{Serves, reply_in}
+use Rattle.lsm_store.specs.State.{State}
+use Rattle.lsm_upkeep.specs.Flushing.{IsMadeReady}
+use Rattle.lsm_upkeep.specs.Steps.{IsUpkept}
+
+-- the call that commits a batch, where guards are given under them
+abbrev pub commit_of : Option (List Condition) → List Operation → Call
+commit_of None batch = Commit batch
+commit_of (Some guards) batch = CommitIf guards batch
+
+-- the store served a call, and this is told of its reply
+abbrev pub IsServed : Call → StoreView → Reply → StoreView → Type 0
+IsServed call old told new = Serves old call (reply_in call new.state told) new
+
+-- whether a batch puts a value
+abbrev pub has_puts : List Operation → Bool
+has_puts batch = list_any (λ operation. is_some operation.value) batch
+
+-- whether a batch may be refused for want of room in tables: it puts a value, or a snapshot keeps what it deletes
+abbrev pub wants_room : List Operation → State → Bool
+wants_room batch s = has_puts batch || nat_lt 0 (length s.snapshots)
+
+-- what is told in place of a reply: of a log that has no room, that there is none
+abbrev pub without_log_full : Reply → Reply
+without_log_full (Refused LogFull) = Refused NoSpace
+without_log_full other = other
+
+-- how a commit ended: the store served it, or it was refused for want of room in tables, which only a batch is that wants it
+abbrev pub EndsWith : Option (List Condition) → List Operation → StoreView → Reply → StoreView → Type 0
+EndsWith guards batch kept told new = ((reply : Reply) × IsServed (commit_of guards batch) kept reply new × (told ≡ without_log_full reply))
+    ⊎ ((told ≡ Refused NoSpace) × (wants_room batch kept.state ≡ true) × (new ≡ kept))
+
+-- The store was made ready for a commit, which is upkeep, and served it then; or there was no room for its batch, and that is told.
+pub record Writes (guards : Option (List Condition)) (batch : List Operation) (old : StoreView) (told : Reply) (new : StoreView) : Type 0 where
+  pub kept : StoreView
+  pub upkeep : IsUpkept old kept
+  pub ready : IsMadeReady old kept
+  pub ends : EndsWith guards batch kept told new
+  -- that the log is full is never told
+  pub room : told ≢ Refused LogFull

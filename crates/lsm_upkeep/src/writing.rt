@@ -1,0 +1,56 @@
+//! A commit that finds room.
+
+ghost use Rattle.std.specs.Prelude.{◌≡◌, option_map};
+ghost use Rattle.lsm_store.specs.Calls.{Number, reply_of};
+ghost use Rattle.lsm_upkeep.specs.Writing.{IsServed, Writes, commit_of, without_log_full};
+
+use crate::admitting::admit;
+use lsm_codec::{Batch, Guard};
+use lsm_device::{Device, Refusal};
+use lsm_store::Store;
+use std::alloc::Global;
+use std::thread::Threads;
+
+/// Commits a batch, where guards are given under them, and tells its number. Before that the store is made ready for it
+/// ([`admit`]).
+///
+/// It is refused as a commit of the store is ([`Store::commit`], [`Store::commit_if`]), and with `NoSpace` where a batch that puts
+/// values finds no room in tables, though all were brought down as far as they go; a batch of deletes is so only where a snapshot
+/// is live. That the log is full is never told: where no log can be opened that has room, it is refused with `NoSpace`.
+pub fn write<R: Threads + Sync, D: Device>(
+    rt: &R,
+    alloc: Global,
+    store: &mut Store<D>,
+    guards: Option<&[Guard]>,
+    batch: &Batch,
+) -> Result<u64, Refusal>
+    ensures { Writes (option_map (λ g. g.now) guards.entry) batch.now store.old (reply_of Number result) store.new }
+{
+    match admit(rt, alloc, store, batch) {
+        Ok(()) => without_log_full(commit(store, guards, batch)),
+        Err(refusal) => Err(refusal),
+    }
+}
+
+fn commit<D: Device>(
+    store: &mut Store<D>,
+    guards: Option<&[Guard]>,
+    batch: &Batch,
+) -> Result<u64, Refusal>
+    ensures { IsServed (commit_of (option_map (λ g. g.now) guards.entry) batch.now) store.old (reply_of Number result) store.new }
+{
+    match guards {
+        Some(guards) => store.commit_if(guards, batch),
+        None => store.commit(batch),
+    }
+}
+
+// What is told of a commit: where the log has no room for it, though it was made ready, that there is none.
+fn without_log_full(told: Result<u64, Refusal>) -> Result<u64, Refusal>
+    ensures { reply_of Number result ≡ without_log_full (reply_of Number told) }
+{
+    match told {
+        Err(Refusal::LogFull) => Err(Refusal::NoSpace),
+        other => other,
+    }
+}
