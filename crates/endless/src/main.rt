@@ -4,9 +4,11 @@
 mod draws;
 mod stream;
 mod subject;
+mod tries;
 
 use crate::stream::{Deed, Stream};
 use crate::subject::{Subject, Trouble, Went};
+use crate::tries::{Filled, TRIES, between, replace, run};
 use anyhow::Result;
 use std::env;
 use std::process::ExitCode;
@@ -88,6 +90,39 @@ fn main(rt: HostRuntime) -> Result<ExitCode> {
         }
     }
     let [seed, stores, lines, sectors, log] = numbers;
+    if stores == 0 {
+        let mut wedged = 0_u64;
+        for it in TRIES {
+            match run(&rt, it) {
+                Ok(Filled { rows, taken, free }) => println!(rt;
+                    "{} / {}, {} + {}: {rows} rows, then {taken}; {free} blocks free", it.sectors, it.log_sectors, it.key, it.value
+                )?,
+                Err(trouble) => {
+                    wedged = wedged.saturating_add(1);
+                    println!(rt; "{} / {}, {} + {}: {trouble:?}", it.sectors, it.log_sectors, it.key, it.value)?;
+                }
+            }
+        }
+        match between(&rt) {
+            Ok(rows) => println!(rt; "between: {rows} rows")?,
+            Err(trouble) => {
+                wedged = wedged.saturating_add(1);
+                println!(rt; "between: {trouble:?}")?;
+            }
+        }
+        let [first, ..] = TRIES;
+        match replace(&rt, first, 45_000, lines as u32) {
+            Ok(free) => println!(rt; "replaced: {free} blocks free")?,
+            Err(trouble) => {
+                wedged = wedged.saturating_add(1);
+                println!(rt; "replaced: {trouble:?}")?;
+            }
+        }
+        if wedged > 0 {
+            return Ok(ExitCode::FAILURE);
+        }
+        return Ok(ExitCode::SUCCESS);
+    }
     let mut wedged = 0_u64;
     let mut refusals = 0_u64;
     for i in 0..stores {

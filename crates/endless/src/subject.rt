@@ -20,6 +20,10 @@ pub(crate) enum Trouble {
     Put(Refusal),
     /// Its rows are others.
     Rows,
+    /// Tables were left above the last level.
+    Compaction,
+    /// It took fewer rows than before it was emptied.
+    Room,
     /// Another call was refused, or there is no memory for the test.
     Call(Refusal),
 }
@@ -61,7 +65,7 @@ impl Drop for Subject {
 fn value_of(alloc: Global, length: u32, byte: u32) -> Result<Vec<u8>, Refusal> {
     let mut value = Vec::new(alloc);
     for _ in 0..length {
-        value.push(byte as u8)?;
+        value.push((byte % 256) as u8)?;
     }
     Ok(value)
 }
@@ -194,6 +198,28 @@ impl Subject {
             Err(refusal) if puts => Err(Trouble::Put(refusal)),
             Err(refusal) => Err(Trouble::Delete(refusal)),
         }
+    }
+
+    /// No operation yet.
+    pub fn deeds(&self) -> Vec<Deed> {
+        Vec::new(self.alloc)
+    }
+
+    /// Merges all tables down.
+    pub fn compact<R: Threads + Sync>(&mut self, rt: &R) -> bool {
+        self.db.compact(rt)
+    }
+
+    /// Commits operations as one batch.
+    pub fn make_all<R: Threads + Sync>(&mut self, rt: &R, deeds: &[Deed]) -> Result<Went, Trouble> {
+        let [first, rest @ ..] = deeds else {
+            return Ok(Went::Taken);
+        };
+        let mut batch = Batch::new(self.alloc, self.op(*first, self.count)?)?;
+        for deed in rest {
+            self.add(&mut batch, *deed, self.count)?;
+        }
+        self.commit(rt, &batch, deeds)
     }
 
     /// Makes one operation, which is to be taken.

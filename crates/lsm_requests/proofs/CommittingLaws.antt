@@ -39,7 +39,7 @@ keeps-refused batch e old new serves = subst (IsSameMap old.state) (sym serves.s
 
 -- ---- of which reply it was told
 
-is_number : Reply → Bool
+abbrev is_number : Reply → Bool
 is_number (Number n) = true
 is_number other = false
 
@@ -54,7 +54,7 @@ number_told (Given job) number is = absurd (true≢false (ap is_number is))
 number_told (Handed input) number is = absurd (true≢false (ap is_number is))
 number_told Unread number is = absurd (true≢false (ap is_number is))
 
-is_refusal : Reply → Bool
+abbrev is_refusal : Reply → Bool
 is_refusal (Refused e) = true
 is_refusal other = false
 

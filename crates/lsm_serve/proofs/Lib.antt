@@ -3,7 +3,6 @@ pub mod ReadingLaws
 pub mod TaggingLaws
 pub mod MistakeLaws
 pub mod Passing
-pub mod CommittingLaws
 pub mod AnsweringLaws
 pub mod ServingLaws
 pub mod CourseLaws

@@ -53,11 +53,11 @@ class Stopped(Refused):
 
 
 class LogFull(Refused):
-    """The log has no room for the batch, and no other could be opened."""
+    """The log has no room for the batch, and no other could be opened. Only earlier programs tell it."""
 
 
 class NoSpace(Refused):
-    """Less than a third of the blocks is free. Delete keys and `compact`, or move to a larger file."""
+    """There is no room for puts, or no log with room could be opened. Delete keys, or move to a larger file."""
 
 
 class NoSuchSnapshot(Refused):
