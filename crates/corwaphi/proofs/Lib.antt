@@ -1,5 +1,2 @@
-mod Jobs
-mod Logs
 mod Opened
-mod Upkept
 mod WritingLaws

@@ -1,5 +1,5 @@
 -- What an opening comes to.
-use Rattle.std.proofs.Common.{◌≡◌, ◌≤◌, ◌⊎◌, ℕ, [], IfOk, IsTrue, Result, Ok, Err, sym, subst, inl, inr}
+use Rattle.std.proofs.Common.{◌≡◌, ◌⊎◌, ℕ, [], IfOk, IsTrue, Result, Ok, Err, inl, inr}
 use Rattle.lsm_device.specs.Calls.{no_calls}
 use Rattle.lsm_device.specs.Disk.{seen}
 use Rattle.lsm_device.specs.Medium.{Medium, disk}
@@ -7,13 +7,9 @@ use Rattle.lsm_open.specs.CrashState.{CrashState}
 use Rattle.lsm_open.specs.Image.{StandFor}
 use Rattle.lsm_store.specs.Backing.{StoreView}
 use Rattle.lsm_store.specs.Serving.{OpensTo, ReopensTo}
-use Rattle.lsm_store.specs.State.{State}
 use Rattle.corwaphi.specs.Opening.{OpensDb, WasMade, WasOpened}
-use Rattle.corwaphi.specs.Upkeep.{IsReadied, IsUpkept}
-
--- a log region has 128 sectors at least
-pub low_opened : (before : Medium) (s : StoreView) → ReopensTo before s → 128 ≤ s.state.log_sectors
-low_opened before s r = subst (λ (t : State). 128 ≤ t.log_sectors) (sym r.state) r.within.geometry.log_low
+use Rattle.lsm_upkeep.specs.Steps.{IsUpkept}
+use Rattle.corwaphi.specs.Upkeep.{IsReadied}
 
 pub opens_db : (cache : ℕ) (before : Medium) (opened new : StoreView) → ReopensTo before opened
     → ((log_sectors : ℕ) (left : CrashState) → IsTrue before.lasting.tells → StandFor log_sectors left (seen (disk before)) → OpensTo before log_sectors left opened)

@@ -7,7 +7,8 @@ use Rattle.lsm_open.specs.CrashState.{CrashState}
 use Rattle.lsm_open.specs.Image.{StandFor}
 use Rattle.lsm_store.specs.Backing.{StoreView}
 use Rattle.lsm_store.specs.Serving.{OpensTo, ReopensTo}
-use Rattle.corwaphi.specs.Upkeep.{IsReadied, IsUpkept}
+use Rattle.lsm_upkeep.specs.Steps.{IsUpkept}
+use Rattle.corwaphi.specs.Upkeep.{IsReadied}
 
 -- The store on a device was opened, with a cache of so many blocks: of what a crash left it is the one that was. Then it was readied, which
 -- is upkeep.

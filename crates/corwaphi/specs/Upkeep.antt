@@ -1,40 +1,18 @@
 -- What is done to a store besides a call.
-use Rattle.std.specs.Prelude.{◌≡◌, ℕ, zero, suc}
-use Rattle.lsm_device.specs.declared.refusal.Refusal.TheVariants.{LogFull}
 use Rattle.lsm_store.specs.Backing.{StoreView}
-use Rattle.lsm_store.specs.Calls.{Reply, Commit, CommitIf, Rotate, Refused}
-use Rattle.lsm_store.specs.Machine.{Step, Called, Worked}
-use Rattle.lsm_store.specs.Working.{ServesStep}
-use Rattle.lsm_upkeep.specs.Keeping.{KeepsMap}
-use Rattle.lsm_upkeep.specs.Upkeep.{Compacts, CompactsAll, KeepsUp, OpensLog}
+use Rattle.lsm_upkeep.specs.Flushing.{ReadiesLog}
+use Rattle.lsm_upkeep.specs.Steps.{IsUpkept}
+use Rattle.lsm_upkeep.specs.Upkeep.{KeepsUp}
 
--- a step of upkeep: a piece of work on a job, a rotation, or a commit for which the log had no room
-abbrev pub IsUpkeepStep : Step → Reply → Type 0
-IsUpkeepStep (Worked piece) reply = Unit {0}
-IsUpkeepStep (Called Rotate) reply = Unit {0}
-IsUpkeepStep (Called (Commit batch)) reply = reply ≡ Refused LogFull
-IsUpkeepStep (Called (CommitIf guards batch)) reply = reply ≡ Refused LogFull
-IsUpkeepStep (Called other) reply = ⊥
-
--- so many of them, each served by the store that the one before it left
-abbrev pub UpkeepSteps : ℕ → StoreView → StoreView → Type 0
-UpkeepSteps zero old new = new ≡ old
-UpkeepSteps (suc n) old new = (mid : StoreView) × (step : Step) × (reply : Reply) × IsUpkeepStep step reply × ServesStep old step reply mid × UpkeepSteps n mid new
-
--- Upkeep was done, which changes no map, no snapshot and no count of batches.
-pub record IsUpkept (old new : StoreView) : Type 0 where
-  pub count : ℕ
-  pub steps : UpkeepSteps count old new
-  pub keeps : KeepsMap old new
-
--- It was compacted by the policy, and then a log was opened where the open one had no room, or none was open.
+-- It was compacted by the policy, and then the flush that waited was finished, or at least tried, and a log was opened where the open one had
+-- no room, or none was open.
 pub record IsReadied (old new : StoreView) : Type 0 where
   pub compacted : StoreView
-  pub compacts : Compacts old compacted
-  pub opens : OpensLog compacted new
+  pub compacts : IsUpkept old compacted
+  pub opens : ReadiesLog compacted new
 
--- A store was kept up, and all its tables were merged down.
+-- A store was kept up, and then its tables were brought down.
 pub record CompactsWhole (old new : StoreView) : Type 0 where
   pub kept : StoreView
   pub keeps_up : KeepsUp 768 old kept
-  pub compacts : CompactsAll kept new
+  pub compacts : IsUpkept kept new

@@ -1,5 +1,5 @@
 // A store that makes room by itself.
-ghost use Rattle.std.specs.Prelude.{◌≡◌, ◌⊎◌, ◌≤◌, ℕ, false, None, Some, Err, MatchResult, IfErr, IfOk, IsTrue, option_map};
+ghost use Rattle.std.specs.Prelude.{◌≡◌, ◌⊎◌, ℕ, false, None, Some, Err, MatchResult, IfErr, IfOk, IsTrue, option_map};
 ghost use Rattle.lsm_codec.specs.Answers.{or_then, key_refusal, value_refusal};
 ghost use Rattle.lsm_device.specs.Disk.{seen};
 ghost use Rattle.lsm_device.specs.Medium.{disk};
@@ -14,20 +14,21 @@ ghost use Rattle.lsm_store.specs.Memory.{is_cache_size};
 ghost use Rattle.lsm_store.specs.Serving.{Serves};
 ghost use Rattle.lsm_store.specs.Stats.{stat_answer};
 ghost use Rattle.lsm_store.specs.declared.asked.At.TheVariants.{Now, Snap};
-ghost use Rattle.lsm_upkeep.specs.Upkeep.{is_compacted};
+ghost use Rattle.lsm_upkeep.specs.Compacting.{is_compacted};
+ghost use Rattle.lsm_upkeep.specs.Steps.{IsUpkept};
+ghost use Rattle.lsm_upkeep.specs.Writing.{Writes};
 ghost use Rattle.corwaphi.specs.Opening.{OpensDb};
-ghost use Rattle.corwaphi.specs.Upkeep.{CompactsWhole, IsUpkept};
-ghost use Rattle.corwaphi.specs.Writing.{Writes, WritesOne};
+ghost use Rattle.corwaphi.specs.Upkeep.{CompactsWhole};
+ghost use Rattle.corwaphi.specs.Writing.{WritesOne};
 
 use crate::Options;
 use crate::opening::readied;
 use crate::operating::{delete, put};
-use crate::writing::write;
 use lsm_codec::{Batch, Guard};
 use lsm_device::{Device, Refusal};
 use lsm_policy::Policy;
 use lsm_store::{At, Page, Stat, Store};
-use lsm_upkeep::{compact_all, keep_up};
+use lsm_upkeep::{compact_all, keep_up, write};
 use std::alloc::Global;
 use std::marker::Model;
 use std::thread::Threads;
@@ -50,7 +51,6 @@ impl<D: Device + Drop> Drop for Db<D> {
 }
 
 impl<D: Device> Model for Db<D> {
-    ghost use Rattle.std.specs.Prelude.{◌≤◌};
     ghost use Rattle.std.specs.Coded.{codes};
     ghost use Rattle.lsm_codec.specs.Map.{map_code};
     ghost use Rattle.lsm_store.specs.Backing.{StoreView};
@@ -60,8 +60,6 @@ impl<D: Device> Model for Db<D> {
     ghost coded = { Prim.hlevel (codes, map_code) };
 
     ghost view = { λ d. d.store };
-
-    ghost invariant = { λ d. 128 ≤ d.store.state.log_sectors };
 }
 
 impl<D: Device> Db<D> {
@@ -95,7 +93,6 @@ impl<D: Device> Db<D> {
     }
 
     fn of(alloc: Global, store: Store<D>) -> Db<D>
-        requires { 128 ≤ store.state.log_sectors }
         ensures { result ≡ store }
     {
         Db { alloc, store }
@@ -103,11 +100,11 @@ impl<D: Device> Db<D> {
 
     /// Adds a batch, whole or not at all, and answers its number. It outlasts a crash from the next sync on.
     ///
-    /// Where puts have no room the store is compacted by the policy first, and where the log has none another one is opened; so it may
-    /// take longer, and sync. It is refused with `Stopped`; with `NoSpace` where puts find less than a third of the blocks free, or more
-    /// than 768 tables, or where the log is full and the flush that waits could not be finished; with `Exhausted` where 2^63 batches
-    /// were added; with `NoMemory`; and with `Io`. Of these only `Io` stops the store. A refused batch is not there, but after `Io` a
-    /// crash may leave it.
+    /// A batch is taken only where what it makes of its keys will find room in tables. Where it lacks, tables are brought down first, and where
+    /// the log has no room another one is opened; so it may take longer, and sync. It is refused with `Stopped`; with `NoSpace` where it
+    /// puts values that find no room though all tables were brought down as far as they go, or where no log with room could be opened; with
+    /// `Exhausted` where 2^63 batches were added; with `NoMemory`; and with `Io`. Of these only `Io` stops the store. A refused batch is not
+    /// there, but after `Io` a crash may leave it. A batch of deletes finds room, unless a snapshot is live.
     pub fn write<R: Threads + Sync>(&mut self, rt: &R, batch: &Batch) -> Result<u64, Refusal>
         ensures writes { Writes None batch.now self.old (reply_of Number result) self.new }
     {

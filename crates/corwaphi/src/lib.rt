@@ -1,8 +1,8 @@
 //! A store with no duties: it makes room by itself.
 //!
 //! A [`Db`] is a store and its upkeep. It is an ordered map from keys to values, whose batches are committed whole or not at all, outlast a
-//! crash from the next sync on, and are read at present or at a snapshot. Where a write finds no room it flushes, rotates and compacts
-//! by the policy first. That a log is full is never told.
+//! crash from the next sync on, and are read at present or at a snapshot. Where a write finds no room it flushes, rotates and brings
+//! tables down first. That a log is full is never told.
 //!
 //! ```
 //! let mut db = Db::open_or_create(rt, "store.img", Options::default())?;
@@ -22,7 +22,6 @@ mod opening;
 mod operating;
 mod options;
 mod range;
-mod writing;
 
 pub use db::Db;
 pub use open_error::OpenDbError;

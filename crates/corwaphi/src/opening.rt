@@ -1,8 +1,7 @@
 //! A store that was just opened is made ready for writes.
 
-ghost use Rattle.std.specs.Prelude.{◌≡◌};
-ghost use Rattle.corwaphi.specs.Upkeep.{IsReadied, IsUpkept};
-ghost use Rattle.lsm_upkeep.specs.Upkeep.{OpensLog};
+ghost use Rattle.lsm_upkeep.specs.Steps.{IsUpkept};
+ghost use Rattle.corwaphi.specs.Upkeep.{IsReadied};
 
 use lsm_device::Device;
 use lsm_policy::Policy;

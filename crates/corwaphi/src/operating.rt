@@ -1,14 +1,14 @@
 //! A batch of one operation.
 
-ghost use Rattle.std.specs.Prelude.{◌≡◌, ◌≤◌, None, Some};
+ghost use Rattle.std.specs.Prelude.{◌≡◌, None, Some};
 ghost use Rattle.lsm_codec.specs.Answers.{key_refusal, or_then, value_refusal};
 ghost use Rattle.lsm_store.specs.Calls.{Number, reply_of};
 ghost use Rattle.corwaphi.specs.Writing.{WritesOne};
 
-use crate::writing::write;
 use lsm_codec::{Batch, Op};
 use lsm_device::{Device, Refusal};
 use lsm_store::Store;
+use lsm_upkeep::write;
 use std::alloc::Global;
 use std::thread::Threads;
 
@@ -20,7 +20,6 @@ pub(crate) fn put<R: Threads + Sync, D: Device>(
     key: &[u8],
     value: &[u8],
 ) -> Result<u64, Refusal>
-    requires { 128 ≤ store.old.state.log_sectors }
     ensures { WritesOne (or_then (key_refusal key.now) (value_refusal value.now)) (record { key = key.now; value = Some value.now }) store.old (reply_of Number result) store.new }
 {
     match Op::put(alloc, key, value) {
@@ -36,7 +35,6 @@ pub(crate) fn delete<R: Threads + Sync, D: Device>(
     store: &mut Store<D>,
     key: &[u8],
 ) -> Result<u64, Refusal>
-    requires { 128 ≤ store.old.state.log_sectors }
     ensures { WritesOne (key_refusal key.now) (record { key = key.now; value = None }) store.old (reply_of Number result) store.new }
 {
     match Op::delete(alloc, key) {
@@ -51,7 +49,6 @@ fn write_one<R: Threads + Sync, D: Device>(
     store: &mut Store<D>,
     operation: Op,
 ) -> Result<u64, Refusal>
-    requires { 128 ≤ store.old.state.log_sectors }
     ensures { WritesOne None operation store.old (reply_of Number result) store.new }
 {
     match Batch::new(alloc, operation) {

@@ -1,8 +1,9 @@
 //! Explorations of which the openings behind a crash are not explored in turn.
 
-use crate::setup::{LOG_SECTORS, SECTORS};
+use crate::setup::{LOG_SECTORS, SECTORS, formatted, led};
 use crate::steps::{Line, steps_of};
 use lsm_explore::{Explored, explore};
+use lsm_lives::{Life, Reply};
 use lsm_progress::{Milestone, Progress};
 use std::alloc::Global;
 use std::process::Abort;
@@ -156,8 +157,30 @@ const REWRITES: &[Line] = &[
     Line::End(7),
 ];
 
+// Whether no step is refused, so that each job that is ended was taken.
+fn are_served<R: Threads + Sync + Abort>(rt: &R, alloc: Global, lines: &[Line]) -> bool {
+    let life = Life {
+        fuse: None,
+        steps: steps_of(rt, alloc, lines),
+        mask: Vec::new(alloc),
+    };
+    match led(rt, alloc, formatted(rt, alloc), &[life]) {
+        Ok((lives, _device)) => {
+            let mut served = true;
+            for replies in lives.iter() {
+                for reply in replies.iter() {
+                    served = served && !matches!(reply, Reply::Refused(_));
+                }
+            }
+            served
+        }
+        Err((refusal, _)) => rt.panic(refusal.name()),
+    }
+}
+
 #[test]
 fn rewrites_are_explored(rt: HostRuntime) {
+    assert!(rt; are_served(&rt, rt.alloc(), REWRITES));
     let once = explored(&rt, rt.alloc(), REWRITES);
-    assert!(rt; once.first > 40_000 && once.skipped > 0);
+    assert!(rt; once.first > 10_000 && once.skipped > 0);
 }

@@ -70,9 +70,9 @@ may_take b log number job result mine made legal own lent tables =
     subst (λ (o : Option MergeInput). IsMadeOf o (Some made)) (sym (lent_found [] log e made.input legal.numbered refl found)) (refl, tables)
 
 -- the same where the parts of the session are known
-pub may_take_was : (id : SessionId) (store : StoreView) (log : List Event) (old : SessionView) (c : Known) → record { store = store; log = log } ≡ old → IsLegal id.begin log → HasSeen id old c → {job result : ℕ} {made : MergeResult} → WasLent c.mine job result made.input → AreTablesAt made.divisions (kept_of made.input) made.images
+pub may_take_was : (id : SessionId) (store : StoreView) (log : List Event) (old : SessionView) (c : Known) → record { store = store; log = log } ≡ old → IsLegal id.begin log → HasSeen id old c → (made : MergeResult) {job result : ℕ} → WasLent c.mine job result made.input → AreTablesAt made.divisions (kept_of made.input) made.images
     → TakesResult (inputs_of log) (Worked (Accept job (Some made))) result
-may_take_was id store log old c was legal seen {job} {result} {made} lent tables =
+may_take_was id store log old c was legal seen made {job} {result} lent tables =
     may_take id.begin log c.number job result c.mine made legal (ap (λ (v : SessionView). entries_by c.number v.log) was ∙ seen.finds.knows.own) lent tables
 
 -- what was lent may be brought also after a call

@@ -1,9 +1,9 @@
 //! A store on a device in memory, whose calls tell the prover nothing, so that it has nothing to carry from one line of a test to the
 //! next.
 
-use lsm_codec::{Batch, Guard, Op};
+use lsm_codec::{Batch, Guard, Key, Op};
 use lsm_device::{MemDevice, Refusal};
-use lsm_merge::build;
+use lsm_merge::build_here;
 use lsm_open::format;
 use lsm_policy::Policy;
 use lsm_store::{At, Choice, Page, Store};
@@ -41,6 +41,16 @@ pub(crate) fn begun_with<R: Abort>(rt: &R, alloc: Global, log_sectors: u16, cach
 /// The store on a formatted device, with log regions of 128 sectors.
 pub(crate) fn begun<R: Abort>(rt: &R, alloc: Global) -> Subject {
     begun_with(rt, alloc, 128, CACHE)
+}
+
+/// Keys of one byte each.
+fn keys_of<R: Abort>(rt: &R, alloc: Global, bytes: &[u8]) -> Vec<Key> {
+    let mut keys = Vec::new(alloc);
+    for byte in bytes {
+        let key = Key::from_slice(alloc, &[*byte]).expect(rt, "memory");
+        keys.push(key).expect(rt, "memory");
+    }
+    keys
 }
 
 impl Subject {
@@ -172,20 +182,22 @@ impl Subject {
         (first, tables.last().expect(rt, "a table").number())
     }
 
-    /// Writes tables of a level anew in their own place, from that of one number to that of another, of at most eight blocks together.
-    /// It tells the level above theirs, none where no job is given.
-    pub(crate) fn rewrite<R: Threads + Sync + Abort>(
+    /// Writes tables of a level anew in their own place, from that of one number to that of another, divided at these keys. They have,
+    /// and become, at most eight blocks. It tells the level above theirs, none where no job is given.
+    pub(crate) fn rewrite<R: Abort>(
         &mut self,
         rt: &R,
         first: u64,
         last: u64,
+        keys: &[u8],
     ) -> Option<usize> {
         let choice = Choice::Rewrite { first, last };
         let taken = self.store.job_take_of(choice).expect(rt, "an answer")?;
         let job = taken.number;
         let unread = self.store.job_read(job).expect(rt, "a read");
         let input = self.store.job_input(job).expect(rt, "an input");
-        let built = build(rt, self.alloc, input, 1).expect(rt, "a result");
+        let divisions = keys_of(rt, self.alloc, keys);
+        let built = build_here(self.alloc, input, divisions).expect(rt, "a result");
         self.store.job_accept(job, &built).expect(rt, "room");
         let unwritten = self.store.job_write(job).expect(rt, "a write");
         assert!(rt; (unread, unwritten) == (0, 0), "{job}: blocks are left");

@@ -65,39 +65,48 @@ fn gives_back(heap: &LocalHeap, bytes: usize) -> Result<bool, Refusal> {
     Ok(stay && rest.is_some() && again && extents.free_blocks() == 4)
 }
 
-/// Whether an area has these gaps, each told as its first block and how many there are.
-fn has_gaps<A: Allocator>(extents: &Extents<A>, gaps: &[(u32, u32)]) -> bool {
-    let each = gaps.iter().enumerate().all(|(place, (first, blocks))| {
-        extents.gap(place)
-            == Some(Extent {
-                first: *first,
-                blocks: *blocks,
-            })
-    });
-    each && extents.gap_count() == gaps.len() && extents.gap(gaps.len()).is_none()
+/// Whether a gap with these blocks stands at a place.
+fn has_gap<A: Allocator>(extents: &Extents<A>, place: usize, first: u32, blocks: u32) -> bool {
+    match extents.gap(place) {
+        Some(gap) => gap == Extent { first, blocks },
+        None => false,
+    }
+}
+
+/// Whether an area has so many gaps, the longest of which has these blocks.
+fn has_gaps<A: Allocator>(extents: &Extents<A>, count: usize, longest: u32) -> bool {
+    extents.gap(count).is_none() && extents.gap_count() == count && extents.longest_gap() == longest
 }
 
 #[test]
 fn gaps_are_told_in_order(rt: HostRuntime) {
     let mut extents = Extents::new(rt.alloc(), 20);
-    assert!(rt; has_gaps(&extents, &[(0, 20)]) && extents.longest_gap() == 20);
-    assert!(rt; claims(&mut extents, 5, 2, true) && claims(&mut extents, 10, 2, true));
-    assert!(rt; has_gaps(&extents, &[(0, 5), (7, 3), (12, 8)]) && extents.longest_gap() == 8);
-    assert!(rt; claims(&mut extents, 12, 8, true) && claims(&mut extents, 0, 4, true));
-    assert!(rt; has_gaps(&extents, &[(0, 0), (4, 1), (7, 3), (12, 0), (20, 0)]));
-    assert!(rt; extents.longest_gap() == 3);
+    for (first, blocks) in [(5, 2), (10, 2), (12, 2)] {
+        assert!(rt;
+            blocks > 0 && claims(&mut extents, first, blocks, true),
+            "{first}"
+        );
+    }
+    for (place, first, blocks) in [(0, 0, 5), (1, 7, 3), (2, 12, 0), (3, 14, 6)] {
+        assert!(rt; has_gap(&extents, place, first, blocks), "{place}");
+    }
+    assert!(rt; has_gaps(&extents, 4, 6));
+}
+
+/// An area of 20 blocks, with gaps of 5, 3 and 8 blocks.
+fn three_gaps<A: Allocator>(alloc: A) -> Option<Extents<A>> {
+    let mut extents = Extents::new(alloc, 20);
+    if claims(&mut extents, 5, 2, true) && claims(&mut extents, 10, 2, true) {
+        Some(extents)
+    } else {
+        None
+    }
 }
 
 #[test]
 fn what_surely_finds_room(rt: HostRuntime) {
-    let mut extents = Extents::new(rt.alloc(), 20);
-    assert!(rt;
-        extents.surely_places(20, 20)
-            && extents.surely_places(20, 1)
-            && !extents.surely_places(21, 7)
-    );
-    assert!(rt; claims(&mut extents, 5, 2, true) && claims(&mut extents, 10, 2, true));
-    // Gaps of 5, 3 and 8 blocks: a run of 4 begins at 2 + 0 + 5 of them, so 3 more are sure.
+    let extents = three_gaps(rt.alloc()).expect(&rt, "gaps");
+    // A run of 4 blocks may begin at 2 + 0 + 5 of them, so 3 more are sure.
     for (total, largest, sure) in [
         (0, 4, true),
         (10, 4, true),
@@ -118,27 +127,16 @@ fn what_surely_finds_room(rt: HostRuntime) {
     }
 }
 
-/// Whether runs of these sizes are sure to find room, and each is taken at the first block beside it.
-fn are_taken<A: Allocator>(extents: &mut Extents<A>, runs: &[(u32, u32)]) -> bool {
-    let total: u64 = runs.iter().map(|(blocks, _)| u64::from(*blocks)).sum();
-    let largest = runs.iter().map(|(blocks, _)| *blocks).max();
-    if !extents.surely_places(total, largest.unwrap_or(0)) {
-        return false;
-    }
-    for (blocks, first) in runs {
-        if *blocks == 0 || !takes(extents, *blocks, Some(*first)) {
-            return false;
-        }
-    }
-    true
-}
-
 #[test]
 fn runs_that_surely_find_room_are_taken(rt: HostRuntime) {
-    let mut extents = Extents::new(rt.alloc(), 20);
-    assert!(rt; claims(&mut extents, 5, 2, true) && claims(&mut extents, 10, 2, true));
-    assert!(rt; are_taken(&mut extents, &[(3, 0), (4, 12), (1, 3), (2, 7)]));
-    assert!(rt; extents.free_blocks() == 6);
+    let mut extents = three_gaps(rt.alloc()).expect(&rt, "gaps");
+    assert!(rt; extents.surely_places(10, 4));
+    for (blocks, first) in [(3, 0), (4, 12), (1, 3), (2, 7)] {
+        assert!(rt;
+            blocks > 0 && takes(&mut extents, blocks, Some(first)),
+            "{first}"
+        );
+    }
 }
 
 #[test]

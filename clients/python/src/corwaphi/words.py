@@ -78,8 +78,8 @@ def guarded_line(guards: Pairs, changes: Pairs) -> str:
     return " ".join(["if", *words, "then", _operations(changes)])
 
 
-def _operations(changes: Pairs) -> str:
-    batch = pairs_of(changes)
+def check_batch(batch: list[tuple[bytes, Optional[bytes]]]) -> list[tuple[bytes, Optional[bytes]]]:
+    """A batch, which has an operation and isn't too long."""
     if not batch:
         raise LimitError("a batch has at least one operation")
     size = 2 + sum(2 + len(key) if value is None else 4 + len(key) + len(value) for key, value in batch)
@@ -88,6 +88,11 @@ def _operations(changes: Pairs) -> str:
             f"a batch has at most {MOST_BATCH} bytes of text (2, for each put 4 with its key and value, "
             f"for each delete 2 with its key), and this one has {size}"
         )
+    return batch
+
+
+def _operations(changes: Pairs) -> str:
+    batch = check_batch(pairs_of(changes))
     return " ".join(f"-{word(key)}" if value is None else f"+{word(key)}={word(value)}" for key, value in batch)
 
 

@@ -1,12 +1,8 @@
 use Rattle.std.proofs.Common.{true≢false, ap, sym, subst, is_ok}
 use Rattle.lsm_store.specs.Backing.{StoreView}
 use Rattle.corwaphi.specs.Opening.{OpensDb}
-use Rattle.corwaphi.proofs.Logs.{low_upkept}
-use Rattle.corwaphi.proofs.Opened.{low_opened, opens_db}
+use Rattle.corwaphi.proofs.Opened.{opens_db}
 use Rattle.corwaphi.proofs.db.Db.on.Goals as goal
-
-pub of-requires : goal.of-requires
-of-requires g c = low_upkept c.in-Ok.store c.readied.result c.readied.ensures.upkept (low_opened (g.D.Device.medium c.args.device) c.in-Ok.store c.in-Ok.ensures.reopens)
 
 pub returns-in-Ok-clause-opens : goal.returns-in-Ok-clause-opens
 returns-in-Ok-clause-opens g c =

@@ -22,7 +22,7 @@ pub enter-requires-clause-may : goal.enter-requires-clause-may
 enter-requires-clause-may g c =
     let works = subst (λ (r : Reply). Works c.self.inside.store (Accept c.args.job (Some c.args.built.now)) r c.job_accept.new.self) (sym c.done-reply.ensures.reply) c.job_accept.ensures.works in
     may_follow _ _ _ _ _ c.self.invariant (Worked (Accept c.args.job (Some c.args.built.now))) _ works _ _ _ c.of_accept-entry.ensures c.in_ok-answer.ensures.1 (work_gives _ _ _ _ works (accept_gives (machine_of c.self.inside.store) c.args.job (Some c.args.built.now))) (λ same. cc) (no_number _ c.done-reply.result _)
-    (may_take_was _ _ _ _ _ c.self.view_is c.self.invariant.legal c.requires.seen c.requires.lent c.are_tables.ensures)
+    (may_take_was _ _ _ _ _ c.self.view_is c.self.invariant.legal c.requires.seen c.args.built.now c.requires.lent c.are_tables.ensures)
 
 pub invariant_of-self-2 : goal.invariant_of-self-2
 invariant_of-self-2 g c =

@@ -1,0 +1,418 @@
+/* Stores that are open, in slots, and their calls. Each call makes on the file what it wrote (told) before it tells its answer.
+ *
+ * A slot's `writing` is held by the one that writes, compacts or closes, through all its calls of the store; `calling` for each single
+ * call. They are taken in this order, and the table last. */
+#define _GNU_SOURCE
+#include "files.h"
+
+#include <errno.h>
+#include <stdatomic.h>
+#include <string.h>
+#include <time.h>
+#include <unistd.h>
+
+/* The most jobs that one compaction finishes: each takes a table down, and 1,024 tables can go down four levels. */
+#define MOST_JOBS 4096
+
+struct slot {
+    pthread_mutex_t writing, calling;
+    atomic_uint waiting; /* how many wait for `calling` */
+    bool taken;          /* whether there is a store in it, or is to be one */
+    uint64_t number;     /* the store's number; 0 while there is none */
+    uint64_t last;       /* the last number that was given out here */
+    uint64_t forked;     /* the number that a store of this process's parent had here */
+    struct file file;
+    struct corwaphi_store_handle handle; /* nothing once a write or a sync of the file has failed */
+};
+
+static struct slot slots[CORWAPHI_MOST_STORES];
+static pthread_once_t once = PTHREAD_ONCE_INIT;
+
+/* ---- slots, and forks */
+
+static void before_fork(void) { pthread_mutex_lock(&corwaphi_table); }
+
+static void in_parent(void) { pthread_mutex_unlock(&corwaphi_table); }
+
+/* A child lets go of the descriptors, so that it holds no lock of a file, and never touches the stores: another thread may have been in
+ * the midst of a call. */
+static void in_child(void)
+{
+    for (size_t place = 0; place < CORWAPHI_MOST_STORES; place++) {
+        struct slot *slot = &slots[place];
+        struct slot fresh = {.last = slot->last, .forked = slot->number ? slot->number : slot->forked, .file = {.descriptor = -1}};
+        if (slot->file.descriptor >= 0)
+            close(slot->file.descriptor);
+        memcpy(slot, &fresh, sizeof fresh);
+        pthread_mutex_init(&slot->writing, NULL);
+        pthread_mutex_init(&slot->calling, NULL);
+    }
+    pthread_mutex_unlock(&corwaphi_table);
+}
+
+static void begin(void)
+{
+    for (size_t place = 0; place < CORWAPHI_MOST_STORES; place++) {
+        slots[place].file.descriptor = -1;
+        pthread_mutex_init(&slots[place].writing, NULL);
+        pthread_mutex_init(&slots[place].calling, NULL);
+    }
+    pthread_atfork(before_fork, in_parent, in_child);
+}
+
+static struct slot *reserved(void)
+{
+    struct slot *slot = NULL;
+    pthread_once(&once, begin);
+    pthread_mutex_lock(&corwaphi_table);
+    for (size_t place = 0; place < CORWAPHI_MOST_STORES && !slot; place++)
+        if (!slots[place].taken)
+            slot = &slots[place];
+    if (slot)
+        slot->taken = true;
+    pthread_mutex_unlock(&corwaphi_table);
+    return slot;
+}
+
+/* Gives back what a slot has. The caller holds its mutexes, or is the only one who knows it. errno stays. */
+static void given_back(struct slot *slot)
+{
+    int error = errno;
+    if (slot->handle.at)
+        corwaphi_store_close(slot->handle);
+    slot->handle.at = NULL;
+    pthread_mutex_lock(&corwaphi_table);
+    corwaphi_file_close(&slot->file);
+    slot->number = 0;
+    slot->taken = false;
+    pthread_mutex_unlock(&corwaphi_table);
+    errno = error;
+}
+
+/* Waits for the right to call the store of a slot. */
+static void called(struct slot *slot)
+{
+    if (!pthread_mutex_trylock(&slot->calling))
+        return;
+    atomic_fetch_add(&slot->waiting, 1);
+    pthread_mutex_lock(&slot->calling);
+    atomic_fetch_sub(&slot->waiting, 1);
+}
+
+static void left(struct slot *slot, bool writes)
+{
+    pthread_mutex_unlock(&slot->calling);
+    if (writes)
+        pthread_mutex_unlock(&slot->writing);
+}
+
+/* Finds the slot of a store, and waits for the right to call it; where it writes, for the right to write before. */
+static uint32_t entered(corwaphi store, bool writes, struct slot **found)
+{
+    struct slot *slot = &slots[store.number % CORWAPHI_MOST_STORES];
+    pthread_once(&once, begin);
+    if (writes)
+        pthread_mutex_lock(&slot->writing);
+    called(slot);
+    *found = slot;
+    if (store.number && slot->number == store.number)
+        return CORWAPHI_OK;
+    uint32_t answer = store.number && slot->forked == store.number ? CORWAPHI_FORKED : CORWAPHI_CLOSED;
+    left(slot, writes);
+    return answer;
+}
+
+/* Between pieces of a compaction the calls of other threads come in. */
+static void let_others(struct slot *slot)
+{
+    if (!atomic_load(&slot->waiting))
+        return;
+    left(slot, false);
+    nanosleep(&(struct timespec){0, 50000}, NULL);
+    called(slot);
+}
+
+/* ---- calls of the store */
+
+#define HANDLE slot->handle, &slot->handle
+#define IMAGE slot->file.image, slot->file.length
+#define JOURNAL slot->file.journal, CORWAPHI_STORE_JOURNAL, &slot->file.used
+#define RUNS(call) (slot->handle.at ? (call) : CORWAPHI_STOPPED)
+
+/* The answer of a call, once what it wrote is made. Where that fails the store is let go: an opening finds out what the file has. */
+static uint32_t told(struct slot *slot, uint32_t answer)
+{
+    if (corwaphi_file_make(&slot->file, slot->file.journal, slot->file.used))
+        return answer;
+    corwaphi_store_close(slot->handle);
+    slot->handle.at = NULL;
+    return CORWAPHI_IO;
+}
+
+/* Does all the work that waits, piece by piece; whole work takes all tables down. What is refused is passed over: the store goes on as it
+ * then is. */
+static void worked(struct slot *slot, bool whole)
+{
+    uint32_t did = CORWAPHI_STORE_PIECE;
+    for (int jobs = 0; jobs < MOST_JOBS && did; jobs += did == CORWAPHI_STORE_JOB) {
+        if (RUNS(told(slot, corwaphi_store_work(HANDLE, IMAGE, JOURNAL, whole, &did))))
+            return;
+        let_others(slot);
+    }
+}
+
+/* Opens another log: a flush that waits comes before, since a log waits for it else, and the next one behind. */
+static uint32_t rotated(struct slot *slot)
+{
+    worked(slot, false);
+    uint32_t answer = RUNS(told(slot, corwaphi_store_rotate(HANDLE, IMAGE, JOURNAL)));
+    worked(slot, false);
+    return answer;
+}
+
+/* What is to be written: a put, a delete, a batch, or a batch under guards. */
+struct change {
+    enum { PUT, DELETE, WRITE, WRITE_IF } kind;
+    const uint8_t *first, *second;
+    size_t first_length, second_length;
+    uint64_t number;
+    uint8_t place;
+};
+
+static uint32_t tried(struct slot *slot, struct change *it)
+{
+    switch (it->kind) {
+    case PUT:
+        return RUNS(told(slot, corwaphi_store_put(HANDLE, IMAGE, JOURNAL, it->first, it->first_length, it->second, it->second_length,
+                                                  &it->number)));
+    case DELETE:
+        return RUNS(told(slot, corwaphi_store_delete(HANDLE, IMAGE, JOURNAL, it->first, it->first_length, &it->number)));
+    case WRITE:
+        return RUNS(told(slot, corwaphi_store_write(HANDLE, IMAGE, JOURNAL, it->first, it->first_length, &it->number)));
+    default:
+        return RUNS(told(slot, corwaphi_store_write_if(HANDLE, IMAGE, JOURNAL, it->first, it->first_length, it->second,
+                                                       it->second_length, &it->number, &it->place)));
+    }
+}
+
+/* Writes, and makes room for it where there is none. */
+static uint32_t changed(corwaphi store, struct change it, uint64_t *number, uint8_t *place)
+{
+    static const uint8_t none[1];
+    struct slot *slot;
+    if ((!it.first && it.first_length) || (!it.second && it.second_length))
+        return CORWAPHI_NULL;
+    it.first = it.first ? it.first : none;
+    it.second = it.second ? it.second : none;
+    uint32_t answer = entered(store, true, &slot);
+    if (answer)
+        return answer;
+    bool ran = slot->handle.at;
+    answer = tried(slot, &it);
+    for (int whole = 0; whole <= 1 && answer == CORWAPHI_NO_SPACE; whole++) {
+        worked(slot, whole);
+        answer = tried(slot, &it);
+    }
+    if (answer == CORWAPHI_LOG_FULL) {
+        answer = rotated(slot);
+        if (answer == CORWAPHI_OK)
+            answer = tried(slot, &it);
+        else if (answer == CORWAPHI_SEALED_WAITING)
+            answer = CORWAPHI_NO_SPACE;
+    }
+    if (ran && !slot->handle.at)
+        answer = CORWAPHI_IO;
+    left(slot, true);
+    if (answer == CORWAPHI_OK && number)
+        *number = it.number;
+    if (answer == CORWAPHI_GUARD_FAILED && place)
+        *place = it.place;
+    return answer;
+}
+
+uint32_t corwaphi_put(corwaphi store, const void *key, size_t key_length, const void *value, size_t value_length, uint64_t *number)
+{
+    return changed(store, (struct change){PUT, key, value, key_length, value_length, 0, 0}, number, NULL);
+}
+
+uint32_t corwaphi_delete(corwaphi store, const void *key, size_t key_length, uint64_t *number)
+{
+    return changed(store, (struct change){DELETE, key, NULL, key_length, 0, 0, 0}, number, NULL);
+}
+
+uint32_t corwaphi_write(corwaphi store, const uint8_t *text, size_t text_length, uint64_t *number)
+{
+    return changed(store, (struct change){WRITE, text, NULL, text_length, 0, 0, 0}, number, NULL);
+}
+
+uint32_t corwaphi_write_if(corwaphi store, const uint8_t *guards, size_t guards_length, const uint8_t *text, size_t text_length,
+                           uint64_t *number, uint8_t *place)
+{
+    return changed(store, (struct change){WRITE_IF, guards, text, guards_length, text_length, 0, 0}, number, place);
+}
+
+uint32_t corwaphi_compact(corwaphi store)
+{
+    struct slot *slot;
+    uint32_t answer = entered(store, true, &slot);
+    if (answer)
+        return answer;
+    answer = CORWAPHI_STOPPED;
+    if (slot->handle.at) {
+        rotated(slot);
+        worked(slot, true);
+        /* A refusal leaves the store as it is, and only a failure of the file lets it go. */
+        answer = slot->handle.at ? CORWAPHI_OK : CORWAPHI_IO;
+    }
+    left(slot, true);
+    return answer;
+}
+
+/* A whole function of one call. */
+#define CALLS(call)                                     \
+    do {                                                \
+        struct slot *slot;                              \
+        uint32_t answer = entered(store, false, &slot); \
+        if (answer)                                     \
+            return answer;                              \
+        answer = RUNS(call);                            \
+        left(slot, false);                              \
+        return answer;                                  \
+    } while (0)
+
+uint32_t corwaphi_sync(corwaphi store) { CALLS(told(slot, corwaphi_store_sync(HANDLE, IMAGE, JOURNAL))); }
+
+uint32_t corwaphi_sync_to(corwaphi store, uint64_t number) { CALLS(told(slot, corwaphi_store_sync_to(HANDLE, IMAGE, JOURNAL, number))); }
+
+uint32_t corwaphi_get(corwaphi store, uint64_t snapshot, const void *key, size_t key_length, void *value, size_t room, size_t *length)
+{
+    uint8_t none[1] = {0};
+    if ((!key && key_length) || (!value && room) || !length)
+        return CORWAPHI_NULL;
+    CALLS(corwaphi_store_get(HANDLE, IMAGE, snapshot, key ? key : none, key_length, value ? value : none, room, length));
+}
+
+static uint32_t rows_copied(corwaphi store, uint64_t snapshot, const uint8_t *from, size_t from_length, const uint8_t *to,
+                            size_t to_length, uint64_t limit, uint8_t *buffer, size_t room, struct corwaphi_store_page *page)
+{
+    static const uint8_t none[1];
+    CALLS(corwaphi_store_rows(HANDLE, IMAGE, snapshot, from ? from : none, from_length, to ? to : none, to ? to_length : 0, to != NULL, limit,
+                              buffer, room, page));
+}
+
+uint32_t corwaphi_rows(corwaphi store, uint64_t snapshot, const void *from, size_t from_length, const void *to, size_t to_length,
+                       uint64_t limit, uint8_t *buffer, size_t room, struct corwaphi_page *page)
+{
+    struct corwaphi_store_page copied;
+    if ((!from && from_length) || !buffer || !page)
+        return CORWAPHI_NULL;
+    uint32_t answer = rows_copied(store, snapshot, from, from_length, to, to_length, limit, buffer, room, &copied);
+    if (answer)
+        return answer;
+    *page = (struct corwaphi_page){.bytes = buffer, .length = copied.length, .rows = copied.rows, .has_next = copied.has_next};
+    if (copied.has_next) {
+        struct corwaphi_page rest = *page;
+        while (corwaphi_page_row(&rest, &page->next))
+            ;
+        rest.rows = 1;
+        corwaphi_page_row(&rest, &page->next);
+    }
+    return CORWAPHI_OK;
+}
+
+uint32_t corwaphi_snapshot(corwaphi store, uint64_t *snapshot)
+{
+    if (!snapshot)
+        return CORWAPHI_NULL;
+    CALLS(corwaphi_store_snapshot(HANDLE, snapshot));
+}
+
+uint32_t corwaphi_release(corwaphi store, uint64_t snapshot) { CALLS(corwaphi_store_release(HANDLE, snapshot)); }
+
+uint32_t corwaphi_stat(corwaphi store, struct corwaphi_numbers *numbers)
+{
+    if (!numbers)
+        return CORWAPHI_NULL;
+    CALLS(corwaphi_store_stat(HANDLE, numbers));
+}
+
+/* ---- opening, making, closing */
+
+static const struct corwaphi_options usual = CORWAPHI_OPTIONS;
+
+/* The store in the file of a slot, ready for writes. */
+static uint32_t readied(struct slot *slot, uint32_t cache)
+{
+    struct corwaphi_numbers numbers = {0};
+    uint32_t answer = corwaphi_file_map(&slot->file);
+    if (answer)
+        return answer;
+    answer = corwaphi_store_open(&slot->handle, IMAGE, JOURNAL, (uint32_t)(slot->file.length / 512), cache);
+    if (!corwaphi_file_make(&slot->file, slot->file.journal, slot->file.used))
+        return CORWAPHI_IO;
+    if (answer)
+        return answer;
+    worked(slot, false);
+    if (!RUNS(corwaphi_store_stat(HANDLE, &numbers)) && !numbers.log_room)
+        rotated(slot);
+    return slot->handle.at ? CORWAPHI_OK : CORWAPHI_IO;
+}
+
+uint32_t corwaphi_open(const char *path, const struct corwaphi_options *options, corwaphi *store)
+{
+    if (!path || !store)
+        return CORWAPHI_NULL;
+    *store = (corwaphi){0};
+    struct slot *slot = reserved();
+    if (!slot)
+        return CORWAPHI_TOO_MANY_STORES;
+    called(slot);
+    uint32_t answer = corwaphi_file_open(&slot->file, path, 0);
+    if (!answer)
+        answer = readied(slot, options ? options->cache : usual.cache);
+    if (answer) {
+        given_back(slot);
+    } else {
+        pthread_mutex_lock(&corwaphi_table);
+        slot->last = slot->last ? slot->last + CORWAPHI_MOST_STORES : CORWAPHI_MOST_STORES + (uint64_t)(slot - slots);
+        slot->number = slot->last;
+        store->number = slot->last;
+        pthread_mutex_unlock(&corwaphi_table);
+    }
+    left(slot, false);
+    return answer;
+}
+
+uint32_t corwaphi_create(const char *path, const struct corwaphi_options *options)
+{
+    if (!path)
+        return CORWAPHI_NULL;
+    struct slot *slot = reserved();
+    if (!slot)
+        return CORWAPHI_TOO_MANY_STORES;
+    uint32_t answer = corwaphi_file_create(&slot->file, path, options ? options : &usual);
+    given_back(slot);
+    return answer;
+}
+
+uint32_t corwaphi_open_or_create(const char *path, const struct corwaphi_options *options, corwaphi *store)
+{
+    uint32_t answer = corwaphi_open(path, options, store);
+    if (answer != CORWAPHI_FILE || errno != ENOENT)
+        return answer;
+    answer = corwaphi_create(path, options);
+    if (answer && !(answer == CORWAPHI_FILE && errno == EEXIST))
+        return answer;
+    return corwaphi_open(path, options, store);
+}
+
+uint32_t corwaphi_close(corwaphi store)
+{
+    struct slot *slot;
+    uint32_t answer = entered(store, true, &slot);
+    if (answer)
+        return answer;
+    given_back(slot);
+    left(slot, true);
+    return CORWAPHI_OK;
+}

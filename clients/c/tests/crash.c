@@ -1,0 +1,215 @@
+/* Crashes of journals: `crash CRASHES SEED`. The disk is a model: sectors that stand, and writes that pend. A crash comes at any write or sync
+ * of any journal, of openings too, keeps any of the writes that pend and drops the others; then the store is opened again, and its map has
+ * to be that of some batch between the last one that was synced and the last one that was written. */
+#include "model.h"
+#include "../store.h"
+
+#define SECTORS 8192
+#define NAMES 24
+#define MOST_BATCHES 400000
+#define MOST_PENDING 8192
+
+typedef uint8_t sector[512];
+
+static sector *stands, *image;
+static struct {
+    uint32_t at;
+    sector bytes;
+} pending[MOST_PENDING];
+static int pending_count;
+static uint8_t journal[CORWAPHI_STORE_JOURNAL];
+static uint16_t (*maps)[NAMES]; /* by the number of batches; 0 for no value */
+static struct corwaphi_store_handle handle;
+static uint64_t crashes, within_openings, openings, operations, jobs, tables_most;
+static uint32_t one_in = 60;
+
+#define HANDLE handle, &handle
+#define IMAGE image[0], (size_t)SECTORS * 512
+#define JOURNAL journal, sizeof journal, &used
+
+static void crash(void)
+{
+    uint32_t mode = below(3);
+    for (int place = 0; place < pending_count; place++)
+        if (mode == 0 || (mode == 1 && below(2)))
+            memcpy(stands[pending[place].at], pending[place].bytes, 512);
+    pending_count = 0;
+    memcpy(image, stands, (size_t)SECTORS * 512);
+    crashes++;
+}
+
+static uint32_t number_in(const uint8_t *at) { return (uint32_t)(at[0] | at[1] << 8 | at[2] << 16) | (uint32_t)at[3] << 24; }
+
+/* Makes a journal on the disk; false if a crash comes. BAD is a host that leaves syncs out, of which this test has to find out. */
+static bool make(size_t used)
+{
+    for (size_t at = 0; at < used;) {
+        uint32_t first = number_in(journal + at), count = number_in(journal + at + 4);
+        at += 8;
+        CHECK(at + 512 * (size_t)count <= used && first + count <= SECTORS);
+        if (!count) {
+            if (!below(one_in)) {
+                crash();
+                return false;
+            }
+#ifndef BAD
+            for (int place = 0; place < pending_count; place++)
+                memcpy(stands[pending[place].at], pending[place].bytes, 512);
+            pending_count = 0;
+#endif
+            operations++;
+        }
+        for (; count; count--, first++, at += 512) {
+            if (!below(one_in * 10)) {
+                crash();
+                return false;
+            }
+            CHECK(pending_count < MOST_PENDING);
+            pending[pending_count].at = first;
+            memcpy(pending[pending_count++].bytes, journal + at, 512);
+            memcpy(image[first], journal + at, 512);
+            operations++;
+        }
+    }
+    if (!below(one_in * 10)) {
+        crash();
+        return false;
+    }
+    return true;
+}
+
+static void open_store(void)
+{
+    for (;;) {
+        size_t used = 0;
+        EXPECT(CORWAPHI_OK, corwaphi_store_open(&handle, IMAGE, JOURNAL, SECTORS, 16));
+        openings++;
+        if (make(used))
+            return;
+        within_openings++;
+        corwaphi_store_close(handle);
+    }
+}
+
+static void begin(void)
+{
+    size_t used, room = CORWAPHI_STORE_FORMAT(128);
+    uint8_t *format = malloc(room);
+    EXPECT(CORWAPHI_OK, corwaphi_store_format(format, room, &used, SECTORS, 128));
+    for (size_t at = 0; at < used;) {
+        uint32_t first = number_in(format + at), count = number_in(format + at + 4);
+        at += 8;
+        for (; count; count--, first++, at += 512)
+            memcpy(stands[first], format + at, 512);
+    }
+    free(format);
+    memcpy(image, stands, (size_t)SECTORS * 512);
+    open_store();
+}
+
+static uint16_t value_at(uint32_t name)
+{
+    char key[8];
+    uint8_t value[1024];
+    size_t length;
+    snprintf(key, sizeof key, "k%02u", name);
+    uint32_t code = corwaphi_store_get(HANDLE, IMAGE, CORWAPHI_NOW, (uint8_t *)key, 3, value, sizeof value, &length);
+    if (code == CORWAPHI_NO_VALUE)
+        return 0;
+    EXPECT(CORWAPHI_OK, code);
+    CHECK(length >= 2);
+    return (uint16_t)(value[0] | value[1] << 8);
+}
+
+/* Whether there is a batch more now, and no crash. */
+static bool write_some(uint64_t *count, bool *is_up)
+{
+    struct corwaphi_batch batch = CORWAPHI_BATCH;
+    size_t used = 0;
+    uint64_t number = 0;
+    uint16_t *next = maps[*count + 1];
+    memcpy(next, maps[*count], sizeof maps[0]);
+    for (uint32_t left = 1 + below(12); left; left--) {
+        uint8_t value[1024] = {0};
+        char key[8];
+        uint32_t name = below(NAMES);
+        snprintf(key, sizeof key, "k%02u", name);
+        next[name] = (uint16_t)(below(5) ? 1 + below(65535) : 0);
+        value[0] = (uint8_t)next[name];
+        value[1] = (uint8_t)(next[name] >> 8);
+        EXPECT(CORWAPHI_OK, next[name] ? corwaphi_batch_put(&batch, key, 3, value, 2 + below(1000)) : corwaphi_batch_delete(&batch, key, 3));
+    }
+    uint32_t code = corwaphi_store_write(HANDLE, IMAGE, JOURNAL, batch.text, batch.length, &number);
+    corwaphi_batch_free(&batch);
+    CHECK(code == CORWAPHI_OK || code == CORWAPHI_LOG_FULL || code == CORWAPHI_NO_SPACE);
+    if (code == CORWAPHI_OK)
+        CHECK(number == ++*count);
+    *is_up = make(used);
+    if (code == CORWAPHI_LOG_FULL && *is_up) {
+        code = corwaphi_store_rotate(HANDLE, IMAGE, JOURNAL);
+        CHECK(code == CORWAPHI_OK || code == CORWAPHI_SEALED_WAITING);
+        *is_up = make(used);
+    }
+    return *is_up;
+}
+
+static bool work(void)
+{
+    size_t used;
+    uint32_t did;
+    uint32_t code = corwaphi_store_work(HANDLE, IMAGE, JOURNAL, !below(3), &did);
+    if (code == CORWAPHI_OK && did == CORWAPHI_STORE_JOB)
+        jobs++;
+    CHECK(code == CORWAPHI_OK || code == CORWAPHI_NO_SPACE || code == CORWAPHI_TOO_MANY_RUNS);
+    return make(used);
+}
+
+int main(int argument_count, char **words)
+{
+    CHECK(argument_count == 3);
+    uint64_t wanted = strtoull(words[1], NULL, 10), synced = 0, count = 0, at_disk, lost = 0;
+    seed += strtoull(words[2], NULL, 10);
+    stands = calloc(SECTORS, 512);
+    image = calloc(SECTORS, 512);
+    maps = calloc(MOST_BATCHES, sizeof *maps);
+    begin();
+    while (crashes < wanted && count + 2 < MOST_BATCHES) {
+        bool is_up = true;
+        size_t used = 0;
+        uint32_t what = below(20);
+        if (what < 8) {
+            write_some(&count, &is_up);
+        } else if (what < 10) {
+            EXPECT(CORWAPHI_OK, corwaphi_store_sync(HANDLE, IMAGE, JOURNAL));
+            is_up = make(used);
+        } else if (what < 19) {
+            is_up = work();
+        } else {
+            for (uint32_t name = 0; name < NAMES; name++)
+                CHECK(value_at(name) == maps[count][name]);
+        }
+        uint64_t batches;
+        struct corwaphi_numbers numbers;
+        if (is_up) {
+            EXPECT(CORWAPHI_OK, corwaphi_store_counts(HANDLE, &batches, &synced));
+            CHECK(batches == count && synced <= count);
+            EXPECT(CORWAPHI_OK, corwaphi_store_stat(HANDLE, &numbers));
+            tables_most = numbers.tables > tables_most ? numbers.tables : tables_most;
+            continue;
+        }
+        corwaphi_store_close(handle);
+        open_store();
+        EXPECT(CORWAPHI_OK, corwaphi_store_counts(HANDLE, &batches, &at_disk));
+        CHECK(batches >= synced && batches <= count);
+        for (uint32_t name = 0; name < NAMES; name++)
+            CHECK(value_at(name) == maps[batches][name]);
+        lost += count - batches;
+        count = synced = batches;
+    }
+    corwaphi_store_close(handle);
+    printf("%llu crashes, %llu of them within openings, %llu writes and syncs, %llu batches kept, %llu unsynced ones lost, %llu jobs, at most "
+           "%llu tables: each map right\n",
+           (unsigned long long)crashes, (unsigned long long)within_openings, (unsigned long long)operations, (unsigned long long)count,
+           (unsigned long long)lost, (unsigned long long)jobs, (unsigned long long)tables_most);
+    return 0;
+}

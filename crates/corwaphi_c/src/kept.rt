@@ -1,0 +1,35 @@
+// What a handle of C's leads to.
+
+use lsm_mapped::{MappedDevice, ParkedDevice};
+use lsm_store::Store;
+
+/// The room that a journal needs for any call but a format: 128 sectors, and 16 heads.
+pub(crate) const JOURNAL_BYTES: usize = 65_664;
+
+/// A store between two calls. There is none while a call has it.
+#[derive(Drop)]
+pub struct Kept {
+    pub(crate) store: Option<Store<ParkedDevice>>,
+}
+
+impl Kept {
+    /// The store on the device of a call.
+    pub(crate) fn lend<'a>(
+        &mut self,
+        image: &'a [u8],
+        journal: &'a mut [u8],
+    ) -> Option<Store<MappedDevice<'a>>> {
+        let store = self.store.take()?;
+        let mapped = MappedDevice::new(image, journal, store.sectors());
+        let (store, _) = store.on(mapped);
+        Some(store)
+    }
+
+    /// Keeps a store, and answers how many bytes of the journal its call filled.
+    pub(crate) fn park(&mut self, store: Store<MappedDevice<'_>>) -> usize {
+        let parked = ParkedDevice::new(store.sectors());
+        let (store, mapped) = store.on(parked);
+        self.store = Some(store);
+        mapped.used()
+    }
+}

@@ -1,0 +1,103 @@
+//! Values and rows are read, now or at a snapshot. That writes nothing.
+
+use crate::answers::{NO_VALUE, PageTold, at, code, copy, done, number, put_page};
+use crate::handle::{Handle, Slot};
+use crate::kept::Kept;
+use lsm_device::Refusal;
+use lsm_store::At;
+
+/// Copies the value of a key into the room, and tells its length, also where the room is too short for it (ShortBuffer). Where the key
+/// has no value that is NoValue. The snapshot is a number, or the last of 64 bits for the present map. It is refused as `Store::get`.
+#[unsafe(no_mangle)]
+pub extern "C" fn corwaphi_store_get(
+    handle: Handle,
+    slot: &mut Slot,
+    image: &[u8],
+    snapshot: u64,
+    key: &[u8],
+    room: &mut [u8],
+    length: &mut usize,
+) -> u32 {
+    let mut kept = handle.into_box();
+    let answer = get(&mut kept, image, at(snapshot), key, room, length);
+    slot.put(kept);
+    answer
+}
+
+fn get(
+    kept: &mut Kept,
+    image: &[u8],
+    at: At,
+    key: &[u8],
+    room: &mut [u8],
+    length: &mut usize,
+) -> u32 {
+    let mut journal = [0; 8];
+    let Some(mut store) = kept.lend(image, &mut journal) else {
+        return code(Refusal::Stopped);
+    };
+    let answer = match store.get(at, key) {
+        Ok(Some(value)) => copy(&value, room, length),
+        Ok(None) => NO_VALUE,
+        Err(refusal) => code(refusal),
+    };
+    kept.park(store);
+    answer
+}
+
+/// Copies the first rows from a key on, up to another one where that is given, into the room, and tells of them. With ShortBuffer the
+/// page doesn't fit the room: ask for fewer rows. It is refused as `Store::scan`.
+#[unsafe(no_mangle)]
+pub extern "C" fn corwaphi_store_rows(
+    handle: Handle,
+    slot: &mut Slot,
+    image: &[u8],
+    snapshot: u64,
+    from: &[u8],
+    to: &[u8],
+    has_to: bool,
+    limit: u64,
+    room: &mut [u8],
+    told: &mut PageTold,
+) -> u32 {
+    let mut kept = handle.into_box();
+    let mut journal = [0; 8];
+    let answer = match kept.lend(image, &mut journal) {
+        None => code(Refusal::Stopped),
+        Some(mut store) => {
+            let to = if has_to { Some(to) } else { None };
+            let page = store.scan(at(snapshot), from, to, limit);
+            kept.park(store);
+            match page {
+                Ok(page) => put_page(&page, room, told),
+                Err(refusal) => code(refusal),
+            }
+        }
+    };
+    slot.put(kept);
+    answer
+}
+
+/// Takes a snapshot of the present map, and tells its number. It is refused as `Store::snapshot`.
+#[unsafe(no_mangle)]
+pub extern "C" fn corwaphi_store_snapshot(handle: Handle, slot: &mut Slot, out: &mut u64) -> u32 {
+    let mut kept = handle.into_box();
+    let answer = match &mut kept.store {
+        Some(store) => number(store.snapshot(), out),
+        None => code(Refusal::Stopped),
+    };
+    slot.put(kept);
+    answer
+}
+
+/// Forgets a snapshot. It is refused as `Store::release`.
+#[unsafe(no_mangle)]
+pub extern "C" fn corwaphi_store_release(handle: Handle, slot: &mut Slot, snapshot: u64) -> u32 {
+    let mut kept = handle.into_box();
+    let answer = match &mut kept.store {
+        Some(store) => done(store.release(snapshot)),
+        None => code(Refusal::Stopped),
+    };
+    slot.put(kept);
+    answer
+}

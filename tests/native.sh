@@ -1,0 +1,128 @@
+#!/usr/bin/env bash
+# Tests the store in the process of programs in C, Rust and Python: builds the libraries of clients/c, and runs their tests, those of
+# clients/rust, and those of the Python engine over them; and exchanges files with `lsmctl`.
+#
+#     tests/native.sh PROGRAM [PART]
+#
+# PROGRAM is a built `lsmctl`. PART is the part of the long loops that is done, 1 by default. The library of the store is built if it isn't
+# there, by `rt lib` in crates/corwaphi_c; ARCHIVE names another one.
+program=$(realpath "${1:?the path of a built lsmctl}")
+part=${2:-1}
+# shellcheck source=tests/common.sh
+source "$(dirname "$(realpath "$0")")/common.sh"
+has cc 'the libraries for C' || exit 0
+has make 'the libraries for C' || exit 0
+has python3 'the libraries for C' || exit 0
+
+some() { python3 -c 'import sys; print(max(1, int(int(sys.argv[1]) * float(sys.argv[2]))))' "$1" "$part"; }
+# The words that a command prints last.
+last() { tail -n 1 "$room/said" | sed 's/^/native.sh: /'; }
+runs() {
+    what=$*
+    timeout -k 10 600 "$@" >"$room/said" 2>&1 || { cat "$room/said" >&2 && fail "it ended with $?"; }
+    what=
+}
+
+# ---- the libraries, without a warning
+
+crate=$tests/../crates/corwaphi_c
+archive=${ARCHIVE:-$crate/out/libcorwaphi_c.a}
+[ -f "$archive" ] || (cd "$crate" && runs rt lib --jobs 2)
+source=$room/c build=$room/build
+cp -r "$tests/../clients/c" "$source"
+cp "$tests/../VERSION" "$room/VERSION"
+makes() { runs make -s -C "$source" ARCHIVE="$archive" BUILD="$build" "$@"; }
+sed -i 's|\.\./\.\./VERSION|../VERSION|' "$source/Makefile"
+makes CFLAGS='-O2 -g -Werror' all "$build/example" "$build"/{calls,random,killed,crash,faults}
+lines=$(cat "$source/corwaphi.c" "$source/files.c" | wc -l)
+for compiler in clang c++; do
+    command -v $compiler >/dev/null || continue
+    language=$([ $compiler = c++ ] && echo c++ || echo c)
+    for file in $([ $compiler = c++ ] && echo "$source/corwaphi.h" || echo "$source"/*.c); do
+        runs $compiler -x "$language" -I"$source" -Wall -Wextra -Wconversion -Wshadow -Werror -fsyntax-only "$file"
+    done
+done
+
+# Nothing but what the header declares is told to programs.
+nm -D --defined-only "$build/libcorwaphi.so" | awk '{print $3}' | sort >"$room/told"
+grep -o 'corwaphi_[a-z_]*(' "$source/corwaphi.h" | tr -d '(' | sort -u >"$room/declared"
+diff "$room/declared" "$room/told" >&2 || fail 'libcorwaphi.so has other names than corwaphi.h'
+
+# The names of codes are those of docs/api.md.
+cat >"$room/names.c" <<'END'
+#include <corwaphi.h>
+#include <stdio.h>
+int main(void)
+{
+    for (unsigned code = 1; code <= 31; code++)
+        printf("%u %s\n", code, corwaphi_name(code));
+    return 0;
+}
+END
+cc -I"$source" "$room/names.c" "$build/libcorwaphi.a" -lpthread -o "$room/names"
+"$room/names" | diff <(awk -F '|' '/^\| [0-9]+ \| [A-Za-z]+ \|/ {gsub(/ /, ""); print $2, $3}' "$tests/../docs/api.md") - >&2 ||
+    fail 'the names of codes are not those of docs/api.md'
+
+# ---- what they do
+
+image=$folder/store.img
+runs "$build/example" "$image"
+grep -qx 'the pear is ripe' "$room/said" || fail 'the example prints something else'
+runs "$build/calls" "$folder/calls.img" && last
+runs "$build/random" "$folder/random.img" "$(some 20000)" 1 && last
+runs "$build/killed" "$folder/killed.img" "$(some 100)" 1 && last
+runs "$build/crash" "$(some 3000)" 1 && last
+runs "$build/faults" "$folder/faults.img" && last
+
+# A host that leaves syncs out is found out.
+cc -std=c11 -D_DEFAULT_SOURCE -DBAD -O1 -I"$source" "$source/tests/crash.c" "$build/libcorwaphi.a" -lpthread -o "$build/bad"
+if "$build/bad" 3000 1 >"$room/said" 2>&1; then fail 'a host that leaves syncs out passes'; fi
+
+# The sanitizers find nothing in the host.
+if cc -fsanitize=address,undefined -x c -o "$room/sane" - <<<'int main(void) { return 0; }' 2>/dev/null; then
+    build=$room/sane.build
+    makes CFLAGS='-O1 -g -fsanitize=address,undefined -fno-sanitize-recover=all' "$build"/{calls,random}
+    runs "$build/calls" "$folder/calls.img"
+    runs "$build/random" "$folder/random.img" "$(some 4000)" 2 && last
+    build=$room/build
+fi
+
+# ---- files of the program
+
+what='files that go from one to the other'
+[ "$("$program" check "$image")" = ok ] || fail 'lsmctl finds something wrong'
+[ "$("$program" get "$image" 70656172)" = 'value 72697065' ] || fail 'lsmctl reads something else'
+"$program" format "$folder/other.img" 8192 128 >"$room/said"
+"$program" put "$folder/other.img" 70656172 677265656e >"$room/said"
+runs "$build/example" "$folder/other.img"
+[ "$("$program" get "$folder/other.img" 6170706c65)" = 'value 726564' ] || fail 'lsmctl reads something else'
+what=
+
+# ---- as it is installed
+
+makes PREFIX="$room/usr" install
+cc -I"$room/usr/include" "$source/example.c" -L"$room/usr/lib" -lcorwaphi -o "$room/example"
+LD_LIBRARY_PATH=$room/usr/lib runs "$room/example" "$image"
+if command -v pkg-config >/dev/null; then
+    flags=$(PKG_CONFIG_PATH=$room/usr/lib/pkgconfig pkg-config --static --cflags --libs corwaphi)
+    # shellcheck disable=SC2086 # They are words.
+    cc "$source/example.c" $flags -o "$room/example"
+fi
+echo "native.sh: libcorwaphi.a and .so: a host of $lines lines, without a warning, as it should be"
+
+# ---- other languages
+
+if has cargo 'the Rust crate'; then
+    cp -r "$tests/../clients/rust" "$room/rust"
+    cargo_runs() { (cd "$room/rust" && CARGO_TARGET_DIR=$room/target CORWAPHI_LIB_DIR=$build TMPDIR=$folder runs cargo "$@"); }
+    cargo_runs test --offline
+    cargo_runs run --offline --example first -- "$image"
+    RUSTDOCFLAGS='-D warnings' cargo_runs doc --offline --no-deps
+    echo 'native.sh: the Rust crate: its tests, its page and its example, as it should be'
+fi
+(
+    cd "$tests/../clients/python/tests"
+    CORWAPHI_LIBRARY=$build/libcorwaphi.so TMPDIR=$folder CORWAPHI_TEST_PART=$part PYTHONDONTWRITEBYTECODE=1 \
+        runs python3 -X dev -m unittest test_native.Native
+)
+echo 'native.sh: the Python engine, as it should be'
