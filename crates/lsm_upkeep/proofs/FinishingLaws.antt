@@ -1,5 +1,6 @@
 -- How a job goes on.
-use Rattle.std.proofs.Common.{◌≡◌, ◌+◌, ◌<◌, ◌≤◌, ◌-◌, ℕ, suc, Option, Some, None, Result, Ok, Err, MatchResult, inl, inr, refl, subst, arith}
+use Rattle.std.proofs.Common.{◌≡◌, ◌+◌, ◌<◌, ◌≤◌, ◌-◌, ℕ, suc, Option, Some, None, Result, Ok, Err, MatchResult, List, inl, inr, refl, sym, subst, arith}
+use Rattle.lsm_codec.specs.Keys.{Bytes}
 use Rattle.lsm_device.specs.declared.refusal.Refusal.{Refusal}
 use Rattle.lsm_merge.specs.Divisions.{AreTablesAt}
 use Rattle.lsm_merge.specs.Inputs.{MergeInput, kept_of}
@@ -48,11 +49,17 @@ none-left piece left old new none h = let zero_left : left ≡ 0 = omega (arith,
 -- ---- a merge
 
 -- what an accept answers of a result that was built of the input that was lent
-pub offered-answered : (job : ℕ) (old mid new : StoreView) (input : MergeInput) (result : MergeResult) (r : Result (Unit {0}) Refusal) → Works old (Ask job) (Handed input) mid
-    → result.input ≡ input → AreTablesAt result.divisions (kept_of input) result.images → Works mid (Accept job (Some result)) (reply_of (λ _. Done) r) new
+pub offered-answered : (job : ℕ) (old mid new : StoreView) (input : MergeInput) (divisions : List Bytes) (result : MergeResult) (r : Result (Unit {0}) Refusal) → Works old (Ask job) (Handed input) mid
+    → result.input ≡ input → result.divisions ≡ divisions → AreTablesAt divisions (kept_of input) result.images → Works mid (Accept job (Some result)) (reply_of (λ _. Done) r) new
     → MatchResult r (λ _. IsOffered job Done old new) (λ _. IsUnmerged job old new)
-offered-answered job old mid new input result (Ok done) lent own made works = record { input = input; mid = mid; result = result; lent = lent; own = own; made = made; offered = works }
-offered-answered job old mid new input result (Err e) lent own made works = inr (inr (e, record { input = input; mid = mid; result = result; lent = lent; own = own; made = made; offered = works }))
+offered-answered job old mid new input divisions result r lent own at made works = by r works
+  where
+    divided : AreTablesAt result.divisions (kept_of input) result.images
+    divided = subst (λ (keys : List Bytes). AreTablesAt keys (kept_of input) result.images) (sym at) made
+
+    by : (r : Result (Unit {0}) Refusal) → Works mid (Accept job (Some result)) (reply_of (λ _. Done) r) new → MatchResult r (λ _. IsOffered job Done old new) (λ _. IsUnmerged job old new)
+    by (Ok done) w = record { input = input; mid = mid; result = result; lent = lent; own = own; made = divided; offered = w }
+    by (Err e) w = inr (inr (e, record { input = input; mid = mid; result = result; lent = lent; own = own; made = divided; offered = w }))
 
 -- ---- the whole of a job
 

@@ -1,10 +1,10 @@
 -- A flush that is tried first.
-use Rattle.std.proofs.Common.{◌≡◌, ◌∙◌, ◌⊎◌, ◌<◌, ◌&&◌, ℕ, zero, Bool, true, false, not, is_some, true≢false, None, inl, inr, refl, sym, subst, arith}
+use Rattle.std.proofs.Common.{◌≡◌, ◌∙◌, ◌⊎◌, ◌<◌, ◌&&◌, ℕ, Bool, true, false, not, is_some, true≢false, None, inl, inr, refl, sym, subst, arith}
 use Rattle.lsm_store.specs.Backing.{StoreView}
-use Rattle.lsm_store.specs.Calls.{Reply, Number, LogRoom, Rotate}
+use Rattle.lsm_store.specs.Calls.{Reply, Rotate}
 use Rattle.lsm_store.specs.Serving.{Serves}
 use Rattle.lsm_upkeep.specs.Finishing.{IsFinished, IsUndone, Taken}
-use Rattle.lsm_upkeep.specs.Flushing.{BeginsLog, FlushesFirst, IsBegunAt, IsIdle, IsMadeReady, ReadiesLog, Rotates, TriesNext}
+use Rattle.lsm_upkeep.specs.Flushing.{BeginsLog, FlushesFirst, IsIdle, IsMadeReady, OpensAnother, ReadiesLog, TriesNext}
 use Rattle.lsm_upkeep.specs.Steps.{IsUpkept}
 use Rattle.lsm_upkeep.proofs.Upkept.{asked_for, one_less, one_more, rotates, stays, then}
 
@@ -83,9 +83,8 @@ begins-not old new u tried = record { flushed = new; upkeep = u; opens = inr (tr
 pub begins-upkept : (old flushed rotated new : StoreView) (reply : Reply) → IsUpkept old flushed → Serves flushed Rotate reply rotated → IsUpkept rotated new → IsUpkept old new
 begins-upkept old flushed rotated new reply u serves behind = then old flushed new u (then flushed rotated new (rotates flushed rotated reply serves) behind)
 
-pub readies : (room : Reply) (done : Bool) (old flushed new : StoreView) → IsUpkept old flushed → (done ≡ true → IsIdle flushed) → (done ≡ false → TriesNext old flushed) → Serves flushed LogRoom room flushed
-    → IsBegunAt room flushed new → ReadiesLog old new
-readies room done old mid new u finished tried asked opens = record { flushed = mid; room = room; upkeep = u; flushes = flushed done old mid finished tried; asked = asked; opens = opens }
+pub readies : (done : Bool) (old mid new : StoreView) → IsUpkept old mid → (done ≡ true → IsIdle mid) → (done ≡ false → TriesNext old mid) → OpensAnother mid new → ReadiesLog old new
+readies done old mid new u finished tried opens = record { flushed = mid; upkeep = u; flushes = flushed done old mid finished tried; opens = opens }
 
 -- ---- a store that is made ready
 

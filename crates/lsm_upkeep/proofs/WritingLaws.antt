@@ -6,17 +6,17 @@ use Rattle.lsm_device.specs.declared.refusal.Refusal.{Refusal}
 use Rattle.lsm_device.specs.declared.refusal.Refusal.TheVariants.{LogFull, NoSpace}
 use Rattle.lsm_store.specs.Backing.{StoreView}
 use Rattle.lsm_store.specs.Calls.{Reply, Refused, Number, Done, Value, Rows, Given, Handed, Unread, reply_of}
-use Rattle.lsm_store.specs.State.{State}
+use Rattle.lsm_store.specs.State.{LiveSnapshot}
 use Rattle.lsm_upkeep.specs.Flushing.{IsMadeReady}
 use Rattle.lsm_upkeep.specs.Steps.{IsUpkept}
 use Rattle.lsm_upkeep.specs.Writing.{IsServed, Writes, commit_of, has_puts, wants_room, without_log_full}
 
 -- upkeep changes no snapshot, so that a batch wants room as before
 pub wants-upkept : (batch : List Operation) (old new : StoreView) → IsUpkept old new → wants_room batch old.state ≡ true → wants_room batch new.state ≡ true
-wants-upkept batch old new u e = ap (λ (n : List ℕ). has_puts batch || nat_lt 0 (length n)) u.keeps.snapshots ∙ e
+wants-upkept batch old new u e = ap (λ (n : List LiveSnapshot). has_puts batch || nat_lt 0 (length n)) u.keeps.snapshots ∙ e
 
 -- whether it is told that the log is full
-is_full : Reply → Bool
+abbrev is_full : Reply → Bool
 is_full (Refused LogFull) = true
 is_full other = false
 

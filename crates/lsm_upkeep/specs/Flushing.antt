@@ -45,14 +45,17 @@ abbrev pub IsBegunAt : Reply → StoreView → StoreView → Type 0
 IsBegunAt (Number zero) old new = BeginsLog old new
 IsBegunAt room old new = new ≡ old
 
+pub record OpensAnother (old new : StoreView) : Type 0 where
+  pub room : Reply
+  pub asked : Serves old LogRoom room old
+  pub begun : IsBegunAt room old new
+
 -- A flush that waited was finished, or at least tried; then another log was opened where the open one had no room, or none was open.
 pub record ReadiesLog (old new : StoreView) : Type 0 where
   pub flushed : StoreView
-  pub room : Reply
   pub upkeep : IsUpkept old flushed
   pub flushes : IsIdle flushed ⊎ TriesNext old flushed
-  pub asked : Serves flushed LogRoom room flushed
-  pub opens : IsBegunAt room flushed new
+  pub opens : OpensAnother flushed new
 
 -- a store that runs was made ready so before all else
 abbrev pub IsMadeReady : StoreView → StoreView → Type 0

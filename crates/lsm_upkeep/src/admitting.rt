@@ -2,7 +2,7 @@
 
 ghost use Rattle.std.specs.Prelude.{◌≡◌, true, IfErr};
 ghost use Rattle.lsm_device.specs.declared.refusal.Refusal.TheVariants.{NoSpace};
-ghost use Rattle.lsm_upkeep.specs.Flushing.{BeginsLog, IsMadeReady, ReadiesLog};
+ghost use Rattle.lsm_upkeep.specs.Flushing.{BeginsLog, IsMadeReady, OpensAnother, ReadiesLog};
 ghost use Rattle.lsm_upkeep.specs.Steps.{IsUpkept};
 ghost use Rattle.lsm_upkeep.specs.Writing.{wants_room};
 
@@ -56,6 +56,14 @@ pub fn open_log<R: Threads + Sync, D: Device>(rt: &R, alloc: Global, store: &mut
     ensures readies { ReadiesLog store.old store.new }
 {
     flush(rt, alloc, store);
+    open_another(rt, alloc, store);
+}
+
+// Opens another log where the open one has no room, or none is open.
+fn open_another<R: Threads + Sync, D: Device>(rt: &R, alloc: Global, store: &mut Store<D>)
+    ensures upkept { IsUpkept store.old store.new }
+    ensures opens { OpensAnother store.old store.new }
+{
     if let Ok(0) = store.log_room() {
         next_log(rt, alloc, store);
     }

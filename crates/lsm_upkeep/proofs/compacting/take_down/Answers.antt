@@ -25,3 +25,10 @@ returns-clause-upkept g c = c.loop-jobs.invariant.0
 
 pub returns-clause-flushes : goal.returns-clause-flushes
 returns-clause-flushes g c = first-some c.loop-jobs.jobs c.args.store.now c.loop-jobs.store (omega (arith, c.loop-jobs-test.false, c.loop-jobs.auto.jobs-end)) c.loop-jobs.invariant.1
+
+pub returns-in-ToTheEnd : goal.returns-in-ToTheEnd
+returns-in-ToTheEnd g c = record {
+  upkept = then c.args.store.now c.flush.new.store c.step_to_the_last.new.store (then c.args.store.now c.loop-jobs.store c.flush.new.store c.loop-jobs.invariant.0 c.flush.ensures.upkept) c.step_to_the_last.ensures;
+  flushes = first-behind c.args.store.now c.flush.new.store c.step_to_the_last.new.store
+      (first-again c.loop-jobs.jobs c.flush.result c.args.store.now c.loop-jobs.store c.flush.new.store c.loop-jobs.invariant.1 c.flush.ensures.upkept c.flush.ensures.finished c.flush.ensures.tried) c.step_to_the_last.ensures;
+}

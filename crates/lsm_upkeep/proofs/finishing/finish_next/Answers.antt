@@ -6,8 +6,8 @@ pub returns-in-Ok-Some-clause-finished : goal.returns-in-Ok-Some-clause-finished
 returns-in-Ok-Some-clause-finished g c = λ done. record {
   job = c.in-Ok-Some.taken.number;
   level = c.in-Ok-Some.taken.level;
-  begun = c.job_take.new.store;
-  taken = given-job None c.args.store.now c.job_take.new.store c.in-Ok-Some.field-0 c.in-Ok-Some.taken c.in-Ok-Some.field-0-is c.in-Ok-Some.ensures.works;
+  begun = c.job_take.new.self;
+  taken = given-job None c.args.store.now c.job_take.new.self c.in-Ok-Some.field-0 c.in-Ok-Some.taken c.in-Ok-Some.field-0-is c.in-Ok-Some.ensures.works;
   goes = c.finish_or_drop.ensures.finished done;
 }
 
@@ -15,7 +15,7 @@ pub returns-in-Ok-Some-clause-undone : goal.returns-in-Ok-Some-clause-undone
 returns-in-Ok-Some-clause-undone g c = λ given_up. inr (inr record {
   job = c.in-Ok-Some.taken.number;
   level = c.in-Ok-Some.taken.level;
-  begun = c.job_take.new.store;
-  taken = given-job None c.args.store.now c.job_take.new.store c.in-Ok-Some.field-0 c.in-Ok-Some.taken c.in-Ok-Some.field-0-is c.in-Ok-Some.ensures.works;
+  begun = c.job_take.new.self;
+  taken = given-job None c.args.store.now c.job_take.new.self c.in-Ok-Some.field-0 c.in-Ok-Some.taken c.in-Ok-Some.field-0-is c.in-Ok-Some.ensures.works;
   goes = c.finish_or_drop.ensures.given_up given_up;
 })

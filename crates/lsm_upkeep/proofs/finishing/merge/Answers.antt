@@ -14,4 +14,6 @@ returns-in_err-built g c =
     refused-holds _ _ c.from_residual-in_err-built.result p.0 p.1 (inr (inl (_, c.in_ok-input.ensures.works)))
 
 pub returns : goal.returns
-returns g c = offered-answered c.args.job _ _ _ _ c.in_ok-built.built c.job_accept.result c.in_ok-input.ensures.works c.in_ok-built.ensures.input c.in_ok-built.ensures.tables c.job_accept.ensures.works
+returns g c =
+    offered-answered c.args.job _ _ _ _ _ c.in_ok-built.built c.job_accept.result c.in_ok-input.ensures.works c.in_ok-built.ensures.input c.in_ok-built.ensures.divisions c.in_ok-built.ensures.tables
+    c.job_accept.ensures.works

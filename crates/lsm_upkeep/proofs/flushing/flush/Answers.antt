@@ -29,7 +29,7 @@ pub returns-clause-upkept : goal.returns-clause-upkept
 returns-clause-upkept g c = c.loop.invariant.0
 
 pub returns-clause-finished : goal.returns-clause-finished
-returns-clause-finished g c = λ e. idle-not_true c.loop.store c.is_waiting.result (are_waiting c.loop.store.state) c.is_waiting.ensures e
+returns-clause-finished g c = λ e. idle-not_true c.loop.store c.is_waiting-2.result (are_waiting c.loop.store.state) c.is_waiting-2.ensures e
 
 pub returns-clause-tried : goal.returns-clause-tried
 returns-clause-tried g c = λ e. c.loop.invariant.1 (omega (arith, c.loop-test.false, c.loop.auto.counter-end))

@@ -1,5 +1,4 @@
-use Rattle.std.proofs.Common.{refl}
-use Rattle.lsm_upkeep.proofs.Upkept.{stays, then}
+use Rattle.lsm_upkeep.proofs.Upkept.{then}
 use Rattle.lsm_upkeep.proofs.flushing.move_or_sink.Goals as goal
 
 pub returns : goal.returns

@@ -1,5 +1,4 @@
-use Rattle.std.proofs.Common.{refl}
-use Rattle.lsm_upkeep.proofs.Upkept.{stays, then}
+use Rattle.lsm_upkeep.proofs.Upkept.{then}
 use Rattle.lsm_upkeep.proofs.pushing.step_or_join.Goals as goal
 
 pub returns-in-Nowhere : goal.returns-in-Nowhere

@@ -8,5 +8,5 @@ returns-in-Ok-Some g c = asked_for (Some c.in-Ok-Some.step.choice) c.finish_step
 pub returns-in-Ok-None : goal.returns-in-Ok-None
 returns-in-Ok-None g c = stays c.args.store.now c.args.store.now refl
 
-pub returns-in-Err : goal.returns-in-Err
-returns-in-Err g c = stays c.args.store.now c.args.store.now refl
+pub returns-in-Ok-None-2 : goal.returns-in-Ok-None-2
+returns-in-Ok-None-2 g c = stays c.args.store.now c.args.store.now refl
