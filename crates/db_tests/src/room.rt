@@ -32,7 +32,7 @@ fn a_full_log_is_never_told(rt: HostRuntime) {
     );
 }
 
-// They are 4,000,000 bytes, where the data area has 3,927,064, of which a third is kept free.
+// They are 4,000,000 bytes, where the data area has 959 blocks, 3,928,064 bytes. A third of them stays free.
 #[test]
 fn puts_make_room_for_more(rt: HostRuntime) {
     let mut db = begun(&rt);

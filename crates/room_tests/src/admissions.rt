@@ -59,7 +59,7 @@ fn admitted<R: Abort>(
 #[test]
 fn puts_leave_the_reserve(rt: HostRuntime) {
     // Of 500 blocks 240 stay free, and 20 more if easily. So many puts come to 115 full blocks of bytes: in twos these are at most 232 data
-    // blocks in four tables, with 15 blocks of their indexes, and 259 in all. One more makes it 261.
+    // blocks in four tables, with 15 blocks of their indexes, and 259 in all. One more makes it 262.
     for (count, wanted) in [
         (187, (true, true)),
         (188, (true, false)),

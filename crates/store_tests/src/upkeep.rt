@@ -59,17 +59,21 @@ fn compaction_does_what_the_policy_advises(rt: HostRuntime) {
     assert!(rt; store.shape() == [0, 2, 1, 1, 0] && store.has_just(&rt, 6));
 }
 
-/// Whether the five keys are in one table of the last level.
-fn is_last<R: Abort>(rt: &R, store: &mut Subject) -> bool {
-    store.shape() == [0, 0, 0, 0, 1] && store.has_just(rt, 5)
+/// Whether the last level has so many tables, and no other level has one, with the keys of so many batches.
+fn are_last<R: Abort>(rt: &R, store: &mut Subject, tables: usize, batches: u8) -> bool {
+    store.shape() == [0, 0, 0, 0, tables] && store.has_just(rt, batches)
 }
 
 #[test]
 fn all_tables_come_into_the_last_level(rt: HostRuntime) {
     let mut store = with_four_levels(&rt, rt.alloc());
-    assert!(rt; store.compact_all(&rt) && is_last(&rt, &mut store));
+    // The deepest goes first, so each goes alone, but the two runs go together. None meets another.
+    assert!(rt; store.compact_all(&rt) && are_last(&rt, &mut store, 4, 5));
+    // One table would do for all of them. Two more than twice as many may stand, and with a fifth they are joined.
+    store.put_and_rotate(&rt, 0x66);
+    assert!(rt; store.compact_all(&rt) && are_last(&rt, &mut store, 1, 6));
     let mut again = store.crashed(&rt, &[]);
-    assert!(rt; is_last(&rt, &mut again));
+    assert!(rt; are_last(&rt, &mut again, 1, 6));
 }
 
 /// A store with two runs, and a put of a long value under each of so many keys, which waits for its flush. Its logs have 2,048
