@@ -16,11 +16,11 @@ import os
 import threading
 import warnings
 from ctypes import POINTER, byref, c_bool, c_char_p, c_size_t, c_uint8, c_uint16, c_uint32, c_uint64
-from types import TracebackType
-from typing import Any, Callable, Iterator, List, Optional, Type
+from typing import Any, Callable, Iterator, List, Optional
 
 from .answers import Page, Row, Stat
-from .errors import Busy, Closed, GuardFailed, IoError, LimitError, NoSpace, Refused, refusal
+from .ending import Held, Run, Written
+from .errors import Busy, Closed, IoError, LimitError, NoSpace, Refused, refusal
 from .files import LEAST_SECTORS, MOST_SECTORS, SECTORS, Path, check_sizes, log_for
 from .views import View
 from .words import (
@@ -280,41 +280,19 @@ class Scan(Iterator[Row]):
             self._engine.release_later(number)
 
 
-class Snapshot(_Reads):
+class Snapshot(Held, _Reads):
     """A map as it was. It is released at the end of `with`, or by `release`; 32 live at a time in a store."""
 
     def __init__(self, engine: _Engine) -> None:
         super().__init__(engine)
-        self._number: Optional[int] = None
+        self._keeper = engine
         self._number = engine.snapshot()
 
     def _place(self) -> int:
-        if self._number is None:
-            raise Closed("the snapshot was released")
-        return self._number
-
-    def release(self) -> None:
-        """Forgets it. Once more does nothing."""
-        number, self._number = self._number, None
-        if number is not None:
-            self._engine.release(number)
-
-    def __enter__(self) -> "Snapshot":
-        return self
-
-    def __exit__(
-        self, kind: Optional[Type[BaseException]], error: Optional[BaseException], trace: Optional[TracebackType]
-    ) -> None:
-        self.release()
-
-    def __del__(self) -> None:
-        number: Optional[int] = getattr(self, "_number", None)
-        if number is not None and not self._engine.closed:
-            self._engine.release_later(number)
-            warnings.warn(f"a snapshot was not released: {self!r}", ResourceWarning, source=self)
+        return self._held()
 
 
-class Pipeline:
+class Pipeline(Run):
     """Calls that are gathered and then made one after another. The result of one that the store refuses is that `Refused`."""
 
     def __init__(self, store: "Store") -> None:
@@ -364,17 +342,8 @@ class Pipeline:
     def __len__(self) -> int:
         return len(self._calls)
 
-    def __enter__(self) -> "Pipeline":
-        return self
 
-    def __exit__(
-        self, kind: Optional[Type[BaseException]], error: Optional[BaseException], trace: Optional[TracebackType]
-    ) -> None:
-        if kind is None:
-            self.run()
-
-
-class Store(_Reads):
+class Store(_Reads, Written):
     """A map of keys to values in a file, both of bytes. It is made by `Store.open`. Threads may share it. A fork may not use it."""
 
     def __init__(self, path: Path, cache: int = _CACHE) -> None:
@@ -471,30 +440,6 @@ class Store(_Reads):
                     if not isinstance(failed, NoSpace) or size == MOST_SECTORS:
                         raise
                 size = min(2 * size, MOST_SECTORS)
-
-    def __setitem__(self, key: Data, value: Data) -> None:
-        self.put(key, value)
-
-    def __delitem__(self, key: Data) -> None:
-        while True:
-            value = self[key]
-            try:
-                self.commit_if([(key, value)], [(key, None)])
-                return
-            except GuardFailed:
-                pass  # Another has changed it meanwhile.
-
-    def __enter__(self) -> "Store":
-        return self
-
-    def __exit__(
-        self, kind: Optional[Type[BaseException]], error: Optional[BaseException], trace: Optional[TracebackType]
-    ) -> None:
-        if kind is None:
-            self.close()
-            return
-        with contextlib.suppress(Exception):  # The exception that ends the block is the one that is told.
-            self.close()
 
     def __del__(self) -> None:
         engine: Optional[_Engine] = getattr(self, "_engine", None)

@@ -1,17 +1,17 @@
 """Many calls that are sent without a wait for the answers to those before."""
 from __future__ import annotations
 
-from types import TracebackType
-from typing import Callable, List, Optional, Tuple, Type, cast
+from typing import Callable, List, Optional, Tuple, cast
 
 from .answers import Page, Words
 from .channel import Channel
+from .ending import Run
 from .errors import LimitError
 from .views import get_line
 from .words import MOST_PAGE, Data, Pairs, commit_line, guarded_line, range_of, word
 
 
-class Pipeline:
+class Pipeline(Run):
     """Gathers calls, and makes them together: `run` gives their results, in order.
 
     A call that is refused has its `Refused` as its result, and the later ones are made all the same. The calls are no batch: others
@@ -69,12 +69,3 @@ class Pipeline:
         questions, self._questions, self.results = self._questions, [], []
         self.results = self._channel.ask_all(questions)
         return self.results
-
-    def __enter__(self) -> "Pipeline":
-        return self
-
-    def __exit__(
-        self, kind: Optional[Type[BaseException]], error: Optional[BaseException], trace: Optional[TracebackType]
-    ) -> None:
-        if kind is None:
-            self.run()

@@ -1,13 +1,12 @@
 """A store, which `lsmctl serve` holds."""
 from __future__ import annotations
 
-from types import TracebackType
-from typing import Optional, Type
+from typing import Optional
 
 from . import files
 from .answers import Stat, Words
 from .channel import Channel
-from .errors import GuardFailed
+from .ending import Written
 from .files import SECTORS, Path
 from .links import Link, ProcessLink, SocketLink
 from .pipeline import Pipeline
@@ -15,7 +14,7 @@ from .views import Snapshot, View
 from .words import Data, Pairs, commit_line, guarded_line
 
 
-class Store(View):
+class Store(View, Written):
     """A map of keys to values in a file, both of bytes. It is made by `Store.open` or `Store.connect`.
 
     Threads may share it. A fork may not use it. What cuts a call off before its answer has come, as a Ctrl-C does, closes it for
@@ -127,32 +126,6 @@ class Store(View):
                 sectors = files.sectors_of(self._path) if self._local else files.sectors_for(then)
             size = min(max(sectors or SECTORS, files.LEAST_SECTORS), files.MOST_SECTORS)
             return files.copy(then, path, size, files.log_for(size) if log_sectors is None else log_sectors, self._program)
-
-    def __setitem__(self, key: Data, value: Data) -> None:
-        self.put(key, value)
-
-    def __delitem__(self, key: Data) -> None:
-        while True:
-            value = self[key]
-            try:
-                self.commit_if([(key, value)], [(key, None)])
-                return
-            except GuardFailed:
-                pass  # Another has changed it meanwhile.
-
-    def __enter__(self) -> "Store":
-        return self
-
-    def __exit__(
-        self, kind: Optional[Type[BaseException]], error: Optional[BaseException], trace: Optional[TracebackType]
-    ) -> None:
-        if kind is None:
-            self.close()
-            return
-        try:
-            self.close()
-        except Exception:
-            pass  # The exception that ends the block is the one that is told.
 
     def __repr__(self) -> str:
         return f"<Store {str(self._path)!r}{' closed' if self.closed else ''}>"

@@ -2,13 +2,12 @@
 from __future__ import annotations
 
 import threading
-import warnings
-from types import TracebackType
-from typing import Iterator, List, Optional, Type
+from typing import Iterator, List, Optional
 
 from .answers import Page, Row, Words
 from .channel import Channel
-from .errors import Closed, LimitError
+from .ending import Held
+from .errors import LimitError
 from .words import MOST_PAGE, Data, key_of, range_of, word
 
 
@@ -135,40 +134,16 @@ class Scan(Iterator[Row]):
             self._channel.release_later(number)
 
 
-class Snapshot(View):
+class Snapshot(Held, View):
     """A map as it was. It is released at the end of `with`, or by `release`; 32 live at a time in a store."""
 
     def __init__(self, channel: Channel) -> None:
         super().__init__(channel)
-        self._number: Optional[int] = None
+        self._keeper = channel
         channel.ask("snapshot", self._taken)
 
     def _taken(self, words: Words) -> None:
         self._number = words.number("snapshot")
 
     def _at(self) -> str:
-        if self._number is None:
-            raise Closed("the snapshot was released")
-        return f" @{self._number}"
-
-    def release(self) -> None:
-        """Forgets it. Once more does nothing."""
-        number, self._number = self._number, None
-        if number is not None:
-            self._channel.release(number)
-
-    def __enter__(self) -> "Snapshot":
-        return self
-
-    def __exit__(
-        self, kind: Optional[Type[BaseException]], error: Optional[BaseException], trace: Optional[TracebackType]
-    ) -> None:
-        self.release()
-
-    def __del__(self) -> None:
-        number: Optional[int] = getattr(self, "_number", None)
-        if number is not None and not self._channel.closed:
-            self._channel.release_later(number)
-            warnings.warn(f"a snapshot was not released: {self!r}", ResourceWarning, source=self)
-
-
+        return f" @{self._held()}"
