@@ -1,6 +1,6 @@
 //! Whether a batch may be taken: what it makes of its keys will find room, in a flush and in the last level.
 
-use crate::bounds::{Sizes, blocks_with, packed, tables_of};
+use crate::bounds::{Sizes, blocks_with, filled, packed, tables_of};
 use crate::standing::Standing;
 use lsm_levels::HeldJobs;
 use lsm_mem::MemSize;
@@ -96,7 +96,11 @@ fn delete_blocks(memory: MemSize) -> u64 {
 
 /// The blocks that a flush of memory takes at most.
 pub fn flush_blocks(memory: MemSize) -> u64 {
-    let data = data_of(memory.bytes, memory.largest).saturating_add(memory.entries / 3_200);
+    let by_bytes = data_of(memory.bytes, memory.largest);
+    let by_count = filled(memory.entries, memory.largest);
+    let data = by_bytes
+        .min(by_count)
+        .saturating_add(memory.entries / 3_200);
     blocks_of(data.min(memory.entries), memory.entries)
 }
 
@@ -213,9 +217,12 @@ fn grown(above: Sizes, below: Sizes, memory: MemSize) -> u64 {
         .saturating_add(above.large)
         .saturating_add(charge);
     let in_memory = memory.bytes.div_ceil(4_094);
-    let by_bytes = packed(all.saturating_add(in_memory), largest)
+    let by_bytes = packed(all.saturating_add(in_memory), largest);
+    let by_count = filled(entries.saturating_add(below.entries), largest);
+    let mixed = by_bytes
+        .min(by_count)
         .saturating_add(entries / 3_200)
         .saturating_add(1);
-    let growth = by_entries.min(by_bytes).saturating_sub(all);
+    let growth = by_entries.min(mixed).saturating_sub(all);
     blocks_with(growth, tables_of(growth, entries))
 }

@@ -143,6 +143,16 @@ pub(crate) fn packed(data: u64, largest: u64) -> u64 {
         .saturating_add(1)
 }
 
+/// The data blocks that so many entries take at most, where none has more bytes: each block but the last has as many of them as of the
+/// largest have room.
+pub(crate) fn filled(entries: u64, largest: u64) -> u64 {
+    let each = (BLOCK - 2).checked_div(largest).unwrap_or(1);
+    entries
+        .checked_div(each)
+        .unwrap_or(entries)
+        .saturating_add(2)
+}
+
 /// The outputs of so many data blocks and entries.
 fn outputs_with(data: u64, entries: u64) -> Outputs {
     let tables = tables_of(data, entries);
@@ -171,12 +181,11 @@ fn mixed(upper: Sizes, lower: Sizes, drops: bool) -> Outputs {
         upper.entries
     };
     let by_entries = lower.data.saturating_add(kept).saturating_add(upper.large);
-    let by_bytes = packed(
-        upper.data.saturating_add(lower.data),
-        upper.largest.max(lower.largest),
-    );
+    let largest = upper.largest.max(lower.largest);
+    let by_bytes = packed(upper.data.saturating_add(lower.data), largest);
+    let by_count = filled(kept.saturating_add(lower.entries), largest);
     outputs_with(
-        by_entries.min(by_bytes),
+        by_entries.min(by_bytes).min(by_count),
         upper.entries.saturating_add(lower.entries),
     )
 }

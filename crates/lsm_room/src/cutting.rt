@@ -26,6 +26,23 @@ pub(crate) fn blocks_of_piece<A: Allocator>(piece: &[Edge<A>]) -> u64 {
     blocks_between(piece, 0)
 }
 
+/// How many of the first of these data blocks an image has at most that takes so many blocks.
+pub(crate) fn length_within<A: Allocator>(edges: &[Edge<A>], most: u64) -> usize {
+    let mut index: u64 = 0;
+    for (i, edge) in edges.iter().enumerate() {
+        index = index
+            .saturating_add(EDGE)
+            .saturating_add(edge.key().len() as u64);
+        let blocks = (i as u64)
+            .saturating_add(index.div_ceil(BLOCK))
+            .saturating_add(3);
+        if blocks > most {
+            return i;
+        }
+    }
+    edges.len()
+}
+
 /// What the pieces of a table take, where each has so many of its data blocks.
 pub(crate) fn pieces_of<A: Allocator>(table: &PlacedTable<A>, length: usize) -> Outputs {
     let mut outputs = Outputs::none();
@@ -73,8 +90,8 @@ pub(crate) fn cuts_behind<A: Allocator + Clone>(
     Ok(cuts)
 }
 
-// Adds the cut behind a piece.
-fn push_cut<A: Allocator + Clone>(
+/// Adds the cut behind a piece.
+pub(crate) fn push_cut<A: Allocator + Clone>(
     alloc: &A,
     cuts: &mut Vec<Key<A>, A>,
     piece: &[Edge<A>],

@@ -4,7 +4,7 @@
 //! makes. So [`Standing::admits`] says whether a batch may be taken: what is in memory will find room, in a flush and in the last level,
 //! and some blocks stay free, the [`Reserve`]. Where room is scarce, [`Standing::step_down`] advises a step that is sure to find room:
 //! a merge, or one of the small steps that make it possible. A table is cut at the first key of one that it meets, or halved; or
-//! one is written anew where free blocks lie lower, so that they come to lie side by side; or small neighbours are joined.
+//! one is written anew elsewhere, so that free blocks come to lie side by side; or small neighbours are joined.
 //!
 //! What the outputs of a merge take at most is reckoned from the numbers of its tables (`Outputs`), and whether so much surely finds room from
 //! the gaps between extents ([`Extents::surely_places`](lsm_extent::Extents::surely_places)).

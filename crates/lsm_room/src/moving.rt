@@ -1,96 +1,162 @@
 //! Tables that are moved so that free blocks come to lie side by side.
 
-use crate::cutting::{blocks_of_piece, cuts_behind};
-use crate::gaps::{gaps_of, take_lowest};
+use crate::cutting::{blocks_of_piece, length_within, push_cut};
+use crate::gaps::{gaps_of, longest_below, longest_with, take_lowest};
 use crate::standing::Standing;
 use crate::stepping::{Step, rewrite_of};
+use lsm_codec::{Edge, Key};
+use lsm_extent::Extent;
 use lsm_levels::{HeldJobs, PlacedTable};
 use std::alloc::{AllocError, Allocator};
 
-/// So many tables are asked whether they can be moved.
-const TRIES: u32 = 64;
+/// The data blocks that a table has at most, and so the pieces.
+const MOST_PIECES: usize = 64;
 
 /// A move makes no more tables than so many.
 const MOST_TABLES: u64 = 1_000;
 
-/// The data blocks of a table that is moved whole.
-const WHOLE: usize = 64;
-
-/// The move of the table that lies highest of those of levels 1 to 4 of which a copy finds room below it, whole or in pieces.
+/// The move of a table of levels 1 to 4, whole or in pieces that fill the longest gaps first: the one behind which the longest gap is
+/// longest, where it is longer than before. Else the one of the table that lies highest of those whose pieces all find room below it, where
+/// the longest gap doesn't get shorter.
 ///
-/// Each such move frees a block above all that it takes, so there is no endless row of them.
+/// So the longest gap gets longer with each move, or else what is taken comes to lie lower: there is no endless row of moves.
 pub(crate) fn move_of<H: HeldJobs, A: Allocator + Clone>(
     standing: &Standing<'_, H, A>,
     alloc: &A,
 ) -> Result<Option<Step<A>>, AllocError> {
-    let mut below = u32::MAX;
-    for _ in 0..TRIES {
-        let Some(table) = highest(standing, below) else {
-            return Ok(None);
-        };
-        if let Some(length) = length_below(standing, alloc, table)? {
-            return Ok(Some(Step {
-                choice: rewrite_of(table),
-                divisions: cuts_behind(alloc, table, length)?,
-            }));
-        }
-        below = table.first_block();
+    if let Some(table) = best_anywhere(standing, alloc)? {
+        return Ok(Some(step_of(standing, alloc, table, u32::MAX)?));
     }
-    Ok(None)
+    match highest_lowered(standing, alloc)? {
+        Some(table) => Ok(Some(step_of(standing, alloc, table, table.first_block())?)),
+        None => Ok(None),
+    }
 }
 
-/// The table that lies highest of those that lie below a block, of levels 1 to 4.
-fn highest<'a, H: HeldJobs, A: Allocator>(
+/// The table behind whose move the longest gap is longest, where it is longer than before. Of equal ones the smallest.
+fn best_anywhere<'a, H: HeldJobs, A: Allocator + Clone>(
     standing: &Standing<'a, H, A>,
-    below: u32,
-) -> Option<&'a PlacedTable<A>> {
+    alloc: &A,
+) -> Result<Option<&'a PlacedTable<A>>, AllocError> {
+    let mut longest = standing.extents.longest_gap();
     let mut found: Option<&PlacedTable<A>> = None;
     for run in standing.levels.deeper() {
         for table in run.tables() {
-            let is_higher = match found {
-                Some(other) => table.first_block() > other.first_block(),
-                None => true,
-            };
-            if is_higher && table.first_block() < below {
-                found = Some(table);
+            if let Some(length) = longest_behind(standing, alloc, table, u32::MAX)? {
+                if length > longest || (length == longest && is_smaller(table, found)) {
+                    longest = length;
+                    found = Some(table);
+                }
             }
         }
     }
-    found
+    Ok(found)
 }
 
-/// The most data blocks of a piece so that all pieces of a table find room below it.
-fn length_below<H: HeldJobs, A: Allocator + Clone>(
-    standing: &Standing<'_, H, A>,
-    alloc: &A,
-    table: &PlacedTable<A>,
-) -> Result<Option<usize>, AllocError> {
-    let data = table.table().data_blocks();
-    let mut length = WHOLE;
-    while length > 0 {
-        if (length == WHOLE || length < data) && fits_below(standing, alloc, table, length)? {
-            return Ok(Some(length));
-        }
-        length /= 2;
+// Whether a table is smaller than the one that was found, if one was.
+fn is_smaller<A: Allocator>(table: &PlacedTable<A>, found: Option<&PlacedTable<A>>) -> bool {
+    match found {
+        Some(other) => table.blocks() < other.blocks(),
+        None => false,
     }
-    Ok(None)
 }
 
-// Whether the pieces of a table find room below it, one after the other in the lowest gap.
-fn fits_below<H: HeldJobs, A: Allocator + Clone>(
+/// The table that lies highest of those that may be moved below their place, where the longest gap doesn't get shorter.
+fn highest_lowered<'a, H: HeldJobs, A: Allocator + Clone>(
+    standing: &Standing<'a, H, A>,
+    alloc: &A,
+) -> Result<Option<&'a PlacedTable<A>>, AllocError> {
+    let longest = standing.extents.longest_gap();
+    let mut found: Option<&PlacedTable<A>> = None;
+    for run in standing.levels.deeper() {
+        for table in run.tables() {
+            if lies_higher(table, found) {
+                match longest_behind(standing, alloc, table, table.first_block())? {
+                    Some(length) if length >= longest => found = Some(table),
+                    _ => {}
+                }
+            }
+        }
+    }
+    Ok(found)
+}
+
+// Whether a table lies higher than the one that was found, if one was.
+fn lies_higher<A: Allocator>(table: &PlacedTable<A>, found: Option<&PlacedTable<A>>) -> bool {
+    match found {
+        Some(other) => table.first_block() > other.first_block(),
+        None => true,
+    }
+}
+
+// The longest gap behind the move of a table into gaps that begin below a block; none where its pieces don't find room there.
+fn longest_behind<H: HeldJobs, A: Allocator + Clone>(
     standing: &Standing<'_, H, A>,
     alloc: &A,
     table: &PlacedTable<A>,
-    length: usize,
-) -> Result<bool, AllocError> {
+    below: u32,
+) -> Result<Option<u32>, AllocError> {
     let mut gaps = gaps_of(alloc, standing.extents)?;
     let mut tables = standing.tables();
-    for piece in table.table().edges().chunks(length.max(1)) {
+    let mut left = table.table().edges();
+    for _ in 0..MOST_PIECES {
+        if left.is_empty() {
+            break;
+        }
         tables = tables.saturating_add(1);
-        match take_lowest(&mut gaps, blocks_of_piece(piece)) {
-            Some(first) if first < table.first_block() => {}
-            _ => return Ok(false),
+        match next_piece(left, &mut gaps, below) {
+            Some(length) => left = &left[length.min(left.len())..],
+            None => return Ok(None),
         }
     }
-    Ok(tables <= MOST_TABLES)
+    if !left.is_empty() || tables > MOST_TABLES {
+        return Ok(None);
+    }
+    Ok(Some(longest_with(&gaps, table.first_block(), table.blocks())))
+}
+
+// How many of the first data blocks with these edges go into the longest of the gaps that begin below a block; their image takes the lowest
+// gap that has room for it.
+fn next_piece<A: Allocator>(edges: &[Edge<A>], gaps: &mut [Extent], below: u32) -> Option<usize> {
+    let length = length_within(edges, u64::from(longest_below(gaps, below)));
+    if length == 0 {
+        return None;
+    }
+    let piece = &edges[..length.min(edges.len())];
+    let _first = take_for(gaps, piece)?;
+    Some(length)
+}
+
+// The move of a table into gaps that begin below a block.
+fn step_of<H: HeldJobs, A: Allocator + Clone>(
+    standing: &Standing<'_, H, A>,
+    alloc: &A,
+    table: &PlacedTable<A>,
+    below: u32,
+) -> Result<Step<A>, AllocError> {
+    let mut gaps = gaps_of(alloc, standing.extents)?;
+    let mut divisions: Vec<Key<A>, A> = Vec::new(alloc.clone()?);
+    let mut left = table.table().edges();
+    for _ in 0..MOST_PIECES {
+        let length = match next_piece(left, &mut gaps, below) {
+            Some(length) => length.min(left.len()),
+            None => break,
+        };
+        if length < left.len() {
+            push_cut(alloc, &mut divisions, &left[..length])?;
+        }
+        left = &left[length..];
+    }
+    Ok(Step {
+        choice: rewrite_of(table),
+        divisions,
+    })
+}
+
+// Takes the lowest run for a piece with these edges, and answers its first block.
+fn take_for<A: Allocator>(gaps: &mut [Extent], piece: &[Edge<A>]) -> Option<u32> {
+    match u32::try_from(blocks_of_piece(piece)) {
+        Ok(blocks) => take_lowest(gaps, blocks),
+        Err(_) => None,
+    }
 }

@@ -58,13 +58,13 @@ fn admitted<R: Abort>(
 
 #[test]
 fn puts_leave_the_reserve(rt: HostRuntime) {
-    // Of 500 blocks 240 stay free, and 20 more if easily. So many puts come to 115 full blocks of bytes: in twos these are at most 232 data
-    // blocks in four tables, with 15 blocks of their indexes, and 259 in all. One more makes it 262.
+    // Of 500 blocks 240 stay free, and 20 more if easily. So many puts, one in a block and three blocks more, are at most 232 data blocks in
+    // four tables, with 15 blocks of their indexes, and 259 in all. One more makes it 261. 211 come to 240 in all.
     for (count, wanted) in [
-        (187, (true, true)),
-        (188, (true, false)),
-        (203, (true, false)),
-        (204, (false, false)),
+        (211, (true, true)),
+        (212, (true, false)),
+        (229, (true, false)),
+        (230, (false, false)),
     ] {
         let given = admitted(&rt, rt.alloc(), 500, MemSize::empty(), puts(count));
         assert!(rt; given == wanted, "{count}");

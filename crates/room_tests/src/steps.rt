@@ -112,10 +112,11 @@ fn tables_go_down(rt: HostRuntime) {
 #[test]
 fn small_steps_where_room_is_scarce(rt: HostRuntime) {
     let levels = levels_of(&rt, rt.alloc(), &[], OVER_THREE);
-    // The merge may make one table of five data blocks: 9 blocks. A cut makes two tables of 4 blocks at most. A copy takes 4.
+    // The merge may make one table of two data blocks: 6 blocks. A cut makes two tables of 4 blocks at most. A copy takes 4, and where that
+    // leaves the longest gap as long, the table that lies highest is moved.
     for (gaps, blocks, wanted) in [
-        (1, 9, Told::Take(table(11), 0)),
-        (3, 8, Told::Take(rewrite(11, 11), 1)),
+        (1, 6, Told::Take(table(11), 0)),
+        (1, 5, Told::Lacks(table(11))),
         (3, 5, Told::Take(rewrite(11, 11), 1)),
         (2, 4, Told::Take(rewrite(14, 14), 0)),
         (2, 3, Told::Lacks(table(11))),
@@ -132,10 +133,15 @@ fn small_steps_where_room_is_scarce(rt: HostRuntime) {
 fn moves_and_joinings(rt: HostRuntime) {
     let extents = area_of(&rt, rt.alloc(), 1, 500);
     let five = levels_of(&rt, rt.alloc(), &[], &[FIVE]);
-    let (aside, together) = aside_and_together(rt.alloc(), &five, &extents);
-    assert!(rt; aside == Told::Take(rewrite(5, 5), 0));
-    assert!(rt; together == Told::Take(rewrite(1, 5), 0));
-    // Four tables are not too many, and nothing lies lower than the first block.
+    // A move would make the only gap shorter.
+    let together = (Told::Nothing, Told::Take(rewrite(1, 5), 0));
+    assert!(rt; aside_and_together(rt.alloc(), &five, &extents) == together);
+    // A table right behind the gap of blocks 5 to 8, whose copy takes that of blocks 0 to 3: then 8 lie side by side.
+    let nine = levels_of(&rt, rt.alloc(), &[], &[&[(9, &[&[0x61]])]]);
+    let gaps = area_of(&rt, rt.alloc(), 2, 4);
+    let aside = (Told::Take(rewrite(9, 9), 0), Told::Nothing);
+    assert!(rt; aside_and_together(rt.alloc(), &nine, &gaps) == aside);
+    // Four tables are not too many, and no gap has room for a copy.
     let few = levels_of(&rt, rt.alloc(), &[], OVER_THREE);
     let full = area_of(&rt, rt.alloc(), 2, 3);
     let nothing = (Told::Nothing, Told::Nothing);
