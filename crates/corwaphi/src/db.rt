@@ -31,7 +31,6 @@ use lsm_store::{At, Page, Stat, Store};
 use lsm_upkeep::{compact_all, keep_up, write};
 use std::alloc::Global;
 use std::marker::Model;
-use std::thread::Threads;
 
 /// A store with no duties: an ordered map from keys to values on a device, that makes room by itself.
 ///
@@ -69,11 +68,7 @@ impl<D: Device> Db<D> {
     /// It is refused as `Store::open` is, and then hands the device back: with `BadLimit` for a cache outside 1 to 4,096 blocks, with
     /// `BadGeometry` for a device of another size than its store or outside the limits, with `NoMemory` and `Io`, and with `NotAStore`,
     /// `BadSuper`, `BadManifest`, `BadTable` or `Exhausted` for what the device holds.
-    pub fn on<R: Threads + Sync + AllocGlobal>(
-        rt: &R,
-        device: D,
-        options: Options,
-    ) -> Result<Db<D>, (Refusal, D)>
+    pub fn on<R: AllocGlobal>(rt: &R, device: D, options: Options) -> Result<Db<D>, (Refusal, D)>
         ensures opens { IfOk result (λ db. OpensDb options.cache (D.medium device) db) }
 
         // Where it is refused: with BadLimit for the cache before any device call, and else with what refuses an opening, which is what
@@ -87,7 +82,7 @@ impl<D: Device> Db<D> {
             → IfErr result (λ e. FailsToOpen (D.medium device) log_sectors left e.0 (D.medium e.1)) }
     {
         match Store::open(rt.alloc(), device, options.cache) {
-            Ok(store) => Ok(Db::of(rt.alloc(), readied(rt, rt.alloc(), store))),
+            Ok(store) => Ok(Db::of(rt.alloc(), readied(rt.alloc(), store))),
             Err(refused) => Err(refused),
         }
     }
@@ -105,10 +100,10 @@ impl<D: Device> Db<D> {
     /// puts values that find no room though all tables were brought down as far as they go, or where no log with room could be opened; with
     /// `Exhausted` where 2^63 batches were added; with `NoMemory`; and with `Io`. Of these only `Io` stops the store. A refused batch is not
     /// there, but after `Io` a crash may leave it. A batch of deletes finds room, unless a snapshot is live.
-    pub fn write<R: Threads + Sync>(&mut self, rt: &R, batch: &Batch) -> Result<u64, Refusal>
+    pub fn write(&mut self, batch: &Batch) -> Result<u64, Refusal>
         ensures writes { Writes None batch.now self.old (reply_of Number result) self.new }
     {
-        write(rt, self.alloc, &mut self.store, None, batch)
+        write(self.alloc, &mut self.store, None, batch)
     }
 
     /// Adds a batch where the present map meets each of these guards, and answers its number. They are asked in the commit that counts,
@@ -117,36 +112,26 @@ impl<D: Device> Db<D> {
     /// It is refused as [`write`](Db::write) is; with `TooManyGuards` for more than 16; with `GuardFailed` and the place of the first
     /// guard that is false, counted from 0; and with `Io` or `BadTable` for a read, which leaves the store running. `NoSpace` comes
     /// before the guards are asked.
-    pub fn write_if<R: Threads + Sync>(
-        &mut self,
-        rt: &R,
-        guards: &[Guard],
-        batch: &Batch,
-    ) -> Result<u64, Refusal>
+    pub fn write_if(&mut self, guards: &[Guard], batch: &Batch) -> Result<u64, Refusal>
         ensures writes { Writes (Some guards.now) batch.now self.old (reply_of Number result) self.new }
     {
-        write(rt, self.alloc, &mut self.store, Some(guards), batch)
+        write(self.alloc, &mut self.store, Some(guards), batch)
     }
 
     /// Puts a value under a key, and answers the number of the batch. It is refused with `BadKey` for a key outside 1 to 255 bytes, with
     /// `BadValue` for a value above 2,048 bytes, and as [`write`](Db::write) is.
-    pub fn put<R: Threads + Sync>(
-        &mut self,
-        rt: &R,
-        key: &[u8],
-        value: &[u8],
-    ) -> Result<u64, Refusal>
+    pub fn put(&mut self, key: &[u8], value: &[u8]) -> Result<u64, Refusal>
         ensures writes { WritesOne (or_then (key_refusal key.now) (value_refusal value.now)) (record { key = key.now; value = Some value.now }) self.old (reply_of Number result) self.new }
     {
-        put(rt, self.alloc, &mut self.store, key, value)
+        put(self.alloc, &mut self.store, key, value)
     }
 
     /// Deletes a key, and answers the number of the batch. It is refused with `BadKey` for a key outside 1 to 255 bytes, and as
     /// [`write`](Db::write) is.
-    pub fn delete<R: Threads + Sync>(&mut self, rt: &R, key: &[u8]) -> Result<u64, Refusal>
+    pub fn delete(&mut self, key: &[u8]) -> Result<u64, Refusal>
         ensures writes { WritesOne (key_refusal key.now) (record { key = key.now; value = None }) self.old (reply_of Number result) self.new }
     {
-        delete(rt, self.alloc, &mut self.store, key)
+        delete(self.alloc, &mut self.store, key)
     }
 
     /// The value of a key, or none where it has none.
@@ -224,13 +209,13 @@ impl<D: Device> Db<D> {
 
     /// Brings all tables into the last level, where deletes have nothing more to delete and small tables are joined. It tells whether all
     /// are there then. What is in memory stays there. What is refused is passed over: the store goes on as it then is.
-    pub fn compact<R: Threads + Sync>(&mut self, rt: &R) -> bool
+    pub fn compact(&mut self) -> bool
         ensures compacts { CompactsWhole self.old self.new }
         ensures upkept { IsUpkept self.old self.new }
         ensures compacted { result ≡ is_compacted (machine_of self.new) }
     {
-        keep_up(rt, self.alloc, &mut self.store, &Policy::new());
-        compact_all(rt, self.alloc, &mut self.store)
+        keep_up(self.alloc, &mut self.store, &Policy::new());
+        compact_all(self.alloc, &mut self.store)
     }
 
     // That of which keys are copied.

@@ -8,7 +8,6 @@ use lsm_device::{Device, FileDevice, OpenError, Replacement};
 use lsm_open::format;
 use std::fs::{File, Files};
 use std::io::ErrorKind;
-use std::thread::Threads;
 
 impl Db<FileDevice> {
     /// Makes a store in a file, of the size and with the log regions that the options say, and opens it. One that is there is replaced,
@@ -17,7 +16,7 @@ impl Db<FileDevice> {
     ///
     /// It is refused with the cause: what keeps the file from being made; `BadGeometry` for sectors or log sectors outside the limits;
     /// `BadLimit` for a cache outside 1 to 4,096 blocks; `NoMemory`; and `Io`.
-    pub fn create<R: Files<File = File> + AllocGlobal + Threads + Sync>(
+    pub fn create<R: Files<File = File> + AllocGlobal>(
         rt: &R,
         path: &str,
         options: Options,
@@ -34,7 +33,7 @@ impl Db<FileDevice> {
     /// are not asked.
     ///
     /// It is refused with the cause: what keeps the file from being opened, or the refusal of [`on`](Db::on).
-    pub fn open<R: Files<File = File> + AllocGlobal + Threads + Sync>(
+    pub fn open<R: Files<File = File> + AllocGlobal>(
         rt: &R,
         path: &str,
         options: Options,
@@ -50,7 +49,7 @@ impl Db<FileDevice> {
     /// Opens the store in a file, or makes one where no file is: [`open`](Db::open), and where that finds no such file
     /// [`create`](Db::create). A file that is there and holds no store stays as it is. Of two programs that do so at once where no file
     /// is, one may be told that the file is in use; but where the other one has let its new store go already, that one is replaced.
-    pub fn open_or_create<R: Files<File = File> + AllocGlobal + Threads + Sync>(
+    pub fn open_or_create<R: Files<File = File> + AllocGlobal>(
         rt: &R,
         path: &str,
         options: Options,
@@ -89,7 +88,7 @@ fn made<R: Files<File = File> + AllocGlobal>(
 }
 
 // Opens the store on the device of a file, which is let go where it is refused.
-fn over<R: AllocGlobal + Threads + Sync>(
+fn over<R: AllocGlobal>(
     rt: &R,
     device: FileDevice,
     options: Options,

@@ -6,7 +6,7 @@
 //!
 //! ```
 //! let mut db = Db::open_or_create(rt, "store.img", Options::default())?;
-//! db.put(rt, b"apple", b"red")?;
+//! db.put(b"apple", b"red")?;
 //! let value = db.get(b"apple")?;
 //! db.sync()?;
 //! ```
@@ -24,6 +24,10 @@ mod options;
 mod range;
 
 pub use db::Db;
+pub use lsm_codec::{Batch, Guard, Op};
+pub use lsm_device::{Device, FileDevice, MemDevice, OpenError, Refusal};
+pub use lsm_open::format;
+pub use lsm_store::{At, Page, RowRef, Rows, Stat};
 pub use open_error::OpenDbError;
 pub use options::Options;
 pub use range::Range;

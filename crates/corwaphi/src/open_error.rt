@@ -3,30 +3,21 @@
 ghost use Rattle.std.specs.Prelude.{◌≡◌};
 
 use lsm_device::{OpenError, Refusal};
-use std::{fmt, io};
+use std::io;
+use thiserror::Error;
 
 /// Why a file can't be opened, or made, as a store.
-#[derive(Clone, Copy, Debug)]
+#[derive(Clone, Copy, Debug, Error)]
 pub enum OpenDbError {
     /// The file can't be opened or made.
+    #[error("{0}")]
     File(OpenError),
     /// The new file can't be put in its place.
+    #[error("the new file can't be put in its place: {0}")]
     Place(io::Error),
     /// What the file holds is refused, or its size, or the options; or memory was wanting, or a call of the file failed.
+    #[error("the store is refused: {name}", name = .0.name())]
     Store(Refusal),
-}
-
-impl fmt::Display for OpenDbError {
-    fn fmt<W: fmt::Write>(&self, f: &mut fmt::Formatter<W>) -> fmt::Result {
-        match self {
-            OpenDbError::File(error) => write!(f, "{error}"),
-            OpenDbError::Place(error) => write!(
-                f,
-                "the new file can't be put in its place: {error}"
-            ),
-            OpenDbError::Store(refusal) => write!(f, "the store is refused: {}", refusal.name()),
-        }
-    }
 }
 
 impl From<OpenError> for OpenDbError {

@@ -8,27 +8,22 @@ use lsm_policy::Policy;
 use lsm_store::Store;
 use lsm_upkeep::{compact, open_log};
 use std::alloc::Global;
-use std::thread::Threads;
 
 /// The store, ready for writes.
-pub(crate) fn readied<R: Threads + Sync, D: Device>(
-    rt: &R,
-    alloc: Global,
-    store: Store<D>,
-) -> Store<D>
+pub(crate) fn readied<D: Device>(alloc: Global, store: Store<D>) -> Store<D>
     ensures readied { IsReadied store result }
     ensures upkept { IsUpkept store result }
 {
     let mut store = store;
-    ready(rt, alloc, &mut store);
+    ready(alloc, &mut store);
     store
 }
 
 // Finishes a flush that waits, compacts by the policy, and opens a log where the open one has no room, or none is open.
-fn ready<R: Threads + Sync, D: Device>(rt: &R, alloc: Global, store: &mut Store<D>)
+fn ready<D: Device>(alloc: Global, store: &mut Store<D>)
     ensures readied { IsReadied store.old store.new }
     ensures upkept { IsUpkept store.old store.new }
 {
-    compact(rt, alloc, store, &Policy::new());
-    open_log(rt, alloc, store);
+    compact(alloc, store, &Policy::new());
+    open_log(alloc, store);
 }

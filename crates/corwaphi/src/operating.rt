@@ -10,11 +10,9 @@ use lsm_device::{Device, Refusal};
 use lsm_store::Store;
 use lsm_upkeep::write;
 use std::alloc::Global;
-use std::thread::Threads;
 
 /// Puts a value.
-pub(crate) fn put<R: Threads + Sync, D: Device>(
-    rt: &R,
+pub(crate) fn put<D: Device>(
     alloc: Global,
     store: &mut Store<D>,
     key: &[u8],
@@ -23,14 +21,13 @@ pub(crate) fn put<R: Threads + Sync, D: Device>(
     ensures { WritesOne (or_then (key_refusal key.now) (value_refusal value.now)) (record { key = key.now; value = Some value.now }) store.old (reply_of Number result) store.new }
 {
     match Op::put(alloc, key, value) {
-        Ok(operation) => write_one(rt, alloc, store, operation),
+        Ok(operation) => write_one(alloc, store, operation),
         Err(refusal) => Err(refusal),
     }
 }
 
 /// Deletes a key.
-pub(crate) fn delete<R: Threads + Sync, D: Device>(
-    rt: &R,
+pub(crate) fn delete<D: Device>(
     alloc: Global,
     store: &mut Store<D>,
     key: &[u8],
@@ -38,21 +35,16 @@ pub(crate) fn delete<R: Threads + Sync, D: Device>(
     ensures { WritesOne (key_refusal key.now) (record { key = key.now; value = None }) store.old (reply_of Number result) store.new }
 {
     match Op::delete(alloc, key) {
-        Ok(operation) => write_one(rt, alloc, store, operation),
+        Ok(operation) => write_one(alloc, store, operation),
         Err(refusal) => Err(refusal),
     }
 }
 
-fn write_one<R: Threads + Sync, D: Device>(
-    rt: &R,
-    alloc: Global,
-    store: &mut Store<D>,
-    operation: Op,
-) -> Result<u64, Refusal>
+fn write_one<D: Device>(alloc: Global, store: &mut Store<D>, operation: Op) -> Result<u64, Refusal>
     ensures { WritesOne None operation store.old (reply_of Number result) store.new }
 {
     match Batch::new(alloc, operation) {
-        Ok(batch) => write(rt, alloc, store, None, &batch),
+        Ok(batch) => write(alloc, store, None, &batch),
         Err(refusal) => Err(refusal),
     }
 }

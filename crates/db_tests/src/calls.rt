@@ -6,7 +6,7 @@ use lsm_device::Refusal;
 #[test]
 fn what_is_put_is_got(rt: HostRuntime) {
     let mut db = begun(&rt);
-    let put = db.put(&rt, b"apple", b"red");
+    let put = db.put(b"apple", b"red");
     let both = db.put_and_delete(&rt, b"pear", b"green", b"apple");
     assert!(rt; put == Ok(1) && both == Ok(2));
     assert!(rt; db.has(&rt, b"apple", None) && db.has(&rt, b"pear", Some(b"green")));
@@ -15,18 +15,18 @@ fn what_is_put_is_got(rt: HostRuntime) {
 #[test]
 fn what_is_deleted_is_gone(rt: HostRuntime) {
     let mut db = begun(&rt);
-    let put = db.put(&rt, b"apple", b"red");
-    let deleted = db.delete(&rt, b"apple");
+    let put = db.put(b"apple", b"red");
+    let deleted = db.delete(b"apple");
     assert!(rt; put == Ok(1) && deleted == Ok(2) && db.has(&rt, b"apple", None));
 }
 
 #[test]
 fn keys_and_values_have_limits(rt: HostRuntime) {
     let mut db = begun(&rt);
-    let no_key = db.put(&rt, b"", b"red");
-    let long = db.put(&rt, b"apple", &[0; 2_049]);
+    let no_key = db.put(b"", b"red");
+    let long = db.put(b"apple", &[0; 2_049]);
     assert!(rt; no_key == Err(Refusal::BadKey) && long == Err(Refusal::BadValue));
-    assert!(rt; db.delete(&rt, &[1; 256]) == Err(Refusal::BadKey) && db.counts(&rt) == (0, 0));
+    assert!(rt; db.delete(&[1; 256]) == Err(Refusal::BadKey) && db.counts(&rt) == (0, 0));
 }
 
 #[test]
@@ -42,9 +42,9 @@ fn a_guarded_batch_needs_its_guards(rt: HostRuntime) {
 #[test]
 fn a_snapshot_keeps_its_map(rt: HostRuntime) {
     let mut db = begun(&rt);
-    let put = db.put(&rt, b"apple", b"red");
+    let put = db.put(b"apple", b"red");
     let then = db.snapshot(&rt);
-    let deleted = db.delete(&rt, b"apple");
+    let deleted = db.delete(b"apple");
     assert!(rt; put == Ok(1) && deleted == Ok(2) && db.had(&rt, then, b"apple", Some(b"red")));
     assert!(rt; db.release(then) == Ok(()) && db.release(then) == Err(Refusal::NoSuchSnapshot));
 }
@@ -52,7 +52,7 @@ fn a_snapshot_keeps_its_map(rt: HostRuntime) {
 #[test]
 fn a_sync_is_of_batches_that_are_there(rt: HostRuntime) {
     let mut db = begun(&rt);
-    let put = db.put(&rt, b"apple", b"red");
+    let put = db.put(b"apple", b"red");
     assert!(rt; put == Ok(1) && db.sync_to(1) == Ok(()));
     assert!(rt; db.sync_to(2) == Err(Refusal::NoSuchBatch) && db.sync() == Ok(()));
 }

@@ -5,7 +5,6 @@ use corwaphi::{Db, OpenDbError, Options};
 use lsm_device::{FileDevice, OpenError, Refusal};
 use std::fs::{File, Files};
 use std::process::Abort;
-use std::thread::Threads;
 
 /// A small store.
 const SMALL: Options = Options {
@@ -15,10 +14,7 @@ const SMALL: Options = Options {
 };
 
 /// The store in a file, which is made where it is not there.
-fn there<R: Files<File = File> + AllocGlobal + Threads + Sync + Abort>(
-    rt: &R,
-    path: &str,
-) -> Subject<FileDevice> {
+fn there<R: Files<File = File> + AllocGlobal + Abort>(rt: &R, path: &str) -> Subject<FileDevice> {
     match Db::open_or_create(rt, path, SMALL) {
         Ok(db) => Subject::of(rt.alloc(), db),
         Err(_) => rt.panic("a store"),
@@ -26,14 +22,14 @@ fn there<R: Files<File = File> + AllocGlobal + Threads + Sync + Abort>(
 }
 
 /// Puts a row into the store of a file, syncs it, and lets it go.
-fn put<R: Files<File = File> + AllocGlobal + Threads + Sync + Abort>(
+fn put<R: Files<File = File> + AllocGlobal + Abort>(
     rt: &R,
     path: &str,
     key: &[u8],
     value: &[u8],
 ) -> Result<u64, Refusal> {
     let mut db = there(rt, path);
-    let number = db.put(rt, key, value)?;
+    let number = db.put(key, value)?;
     db.sync()?;
     Ok(number)
 }

@@ -5,7 +5,6 @@ use corwaphi::Range;
 use lsm_device::{Device, MemDevice};
 use lsm_store::{Page, RowRef};
 use std::process::Abort;
-use std::thread::Threads;
 
 fn is_row(row: Option<RowRef<'_>>, number: u8) -> bool {
     match row {
@@ -16,13 +15,13 @@ fn is_row(row: Option<RowRef<'_>>, number: u8) -> bool {
 }
 
 /// Puts the row of a number: a key that is greater where the number is, and a value.
-fn put_row<R: Threads + Sync + Abort>(rt: &R, db: &mut Subject<MemDevice>, number: u8) {
-    db.put(rt, &[0x6b, number], &[number, 0x76, number])
+fn put_row<R: Abort>(rt: &R, db: &mut Subject<MemDevice>, number: u8) {
+    db.put(&[0x6b, number], &[number, 0x76, number])
         .expect(rt, "a batch");
 }
 
 /// A store of 150 rows.
-fn with_rows<R: Threads + Sync + AllocGlobal + Abort>(rt: &R) -> Subject<MemDevice> {
+fn with_rows<R: AllocGlobal + Abort>(rt: &R) -> Subject<MemDevice> {
     let mut db = begun(rt);
     for number in 0..150_u8 {
         put_row(rt, &mut db, number);
@@ -85,7 +84,7 @@ fn a_range_is_of_one_moment(rt: HostRuntime) {
     let mut db = with_rows(&rt);
     let mut range = db.rows(&rt, b"", None);
     let first = db.next_page(&rt, &mut range);
-    db.delete(&rt, &[0x6b, 100]).expect(&rt, "a batch");
+    db.delete(&[0x6b, 100]).expect(&rt, "a batch");
     put_row(&rt, &mut db, 150);
     let counts = pages(&rt, &mut db, &mut range, 64);
     assert!(rt; first.is_some() && counts == [Some(64), Some(22), None, None]);

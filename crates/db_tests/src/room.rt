@@ -3,7 +3,6 @@
 use crate::subject::{Subject, begun, opened};
 use lsm_device::MemDevice;
 use std::process::Abort;
-use std::thread::Threads;
 
 /// The key of a number, which may repeat.
 fn key_of(number: u64) -> [u8; 2] {
@@ -11,9 +10,9 @@ fn key_of(number: u64) -> [u8; 2] {
 }
 
 /// Puts values of 1,000 bytes one after another, under 200 keys. It tells how many were answered with their numbers.
-fn fill<R: Threads + Sync + Abort>(rt: &R, db: &mut Subject<MemDevice>, puts: u64) -> u64 {
+fn fill<R: Abort>(rt: &R, db: &mut Subject<MemDevice>, puts: u64) -> u64 {
     for number in 0..puts {
-        let told = db.put(rt, &key_of(number), &[(number % 251) as u8; 1_000]);
+        let told = db.put(&key_of(number), &[(number % 251) as u8; 1_000]);
         if told != Ok(number.wrapping_add(1)) {
             return number;
         }
@@ -38,14 +37,14 @@ fn puts_make_room_for_more(rt: HostRuntime) {
     let mut db = begun(&rt);
     assert!(rt; fill(&rt, &mut db, 4_000) == 4_000);
     // They are joined into few tables.
-    assert!(rt; db.compact(&rt) && db.counts(&rt).0 == 4_000);
+    assert!(rt; db.compact() && db.counts(&rt).0 == 4_000);
 }
 
 /// Opens a store again and again, and puts one row each time. It tells how many puts were answered with their numbers.
-fn reopen<R: Threads + Sync + AllocGlobal + Abort>(rt: &R, times: u64) -> u64 {
+fn reopen<R: AllocGlobal + Abort>(rt: &R, times: u64) -> u64 {
     let mut db = begun(rt);
     for number in 0..times {
-        if db.put(rt, &key_of(number), b"red") != Ok(number.wrapping_add(1)) {
+        if db.put(&key_of(number), b"red") != Ok(number.wrapping_add(1)) {
             return number;
         }
         db.sync().expect(rt, "a sync");

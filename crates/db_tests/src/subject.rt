@@ -7,7 +7,6 @@ use lsm_open::format;
 use lsm_store::{At, Page};
 use std::alloc::Global;
 use std::process::Abort;
-use std::thread::Threads;
 
 /// A store.
 pub(crate) struct Subject<D: Device> {
@@ -23,7 +22,7 @@ impl<D: Device + Drop> Drop for Subject<D> {
 }
 
 /// An empty store on a device in memory of 8,192 sectors, with log regions of 128.
-pub(crate) fn begun<R: Threads + Sync + AllocGlobal + Abort>(rt: &R) -> Subject<MemDevice> {
+pub(crate) fn begun<R: AllocGlobal + Abort>(rt: &R) -> Subject<MemDevice> {
     let device = MemDevice::new(rt.alloc(), 8_192).expect(rt, "a device");
     match format(rt.alloc(), device, 128) {
         Ok(device) => opened(rt, device),
@@ -32,10 +31,7 @@ pub(crate) fn begun<R: Threads + Sync + AllocGlobal + Abort>(rt: &R) -> Subject<
 }
 
 /// The store on a device.
-pub(crate) fn opened<R: Threads + Sync + AllocGlobal + Abort, D: Device + Drop>(
-    rt: &R,
-    device: D,
-) -> Subject<D> {
+pub(crate) fn opened<R: AllocGlobal + Abort, D: Device + Drop>(rt: &R, device: D) -> Subject<D> {
     match Db::on(rt, device, Options::default()) {
         Ok(db) => Subject {
             alloc: rt.alloc(),
@@ -55,17 +51,12 @@ impl<D: Device> Subject<D> {
         db.into_device()
     }
 
-    pub(crate) fn put<R: Threads + Sync>(
-        &mut self,
-        rt: &R,
-        key: &[u8],
-        value: &[u8],
-    ) -> Result<u64, Refusal> {
-        self.db.put(rt, key, value)
+    pub(crate) fn put(&mut self, key: &[u8], value: &[u8]) -> Result<u64, Refusal> {
+        self.db.put(key, value)
     }
 
-    pub(crate) fn delete<R: Threads + Sync>(&mut self, rt: &R, key: &[u8]) -> Result<u64, Refusal> {
-        self.db.delete(rt, key)
+    pub(crate) fn delete(&mut self, key: &[u8]) -> Result<u64, Refusal> {
+        self.db.delete(key)
     }
 
     fn batch<R: Abort>(&self, rt: &R, key: &[u8], value: &[u8]) -> Batch {
@@ -74,7 +65,7 @@ impl<D: Device> Subject<D> {
     }
 
     /// Puts a value under a key and deletes another one, by one batch.
-    pub(crate) fn put_and_delete<R: Threads + Sync + Abort>(
+    pub(crate) fn put_and_delete<R: Abort>(
         &mut self,
         rt: &R,
         key: &[u8],
@@ -83,11 +74,11 @@ impl<D: Device> Subject<D> {
     ) -> Result<u64, Refusal> {
         let mut batch = self.batch(rt, key, value);
         batch.delete(deleted).expect(rt, "a batch");
-        self.db.write(rt, &batch)
+        self.db.write(&batch)
     }
 
     /// Puts a value where the key has this one, or with none has none.
-    pub(crate) fn put_if<R: Threads + Sync + Abort>(
+    pub(crate) fn put_if<R: Abort>(
         &mut self,
         rt: &R,
         key: &[u8],
@@ -100,7 +91,7 @@ impl<D: Device> Subject<D> {
         };
         let guards = [guard.expect(rt, "a guard")];
         let batch = self.batch(rt, key, value);
-        self.db.write_if(rt, &guards, &batch)
+        self.db.write_if(&guards, &batch)
     }
 
     /// Whether a key has just this value, or with none has none.
@@ -134,8 +125,8 @@ impl<D: Device> Subject<D> {
         self.db.sync_to(number)
     }
 
-    pub(crate) fn compact<R: Threads + Sync>(&mut self, rt: &R) -> bool {
-        self.db.compact(rt)
+    pub(crate) fn compact(&mut self) -> bool {
+        self.db.compact()
     }
 
     /// How many batches there are, and how many tables.

@@ -16,51 +16,40 @@ use lsm_replies::{Counted, counted_in};
 use lsm_store::Store;
 use lsm_upkeep::{compact_all, keep_up};
 use std::alloc::Global;
-use std::thread::Threads;
 
 /// Answers a line.
-pub(crate) fn answer_line<R: Threads + Sync, D: Device>(
-    rt: &R,
-    alloc: Global,
-    store: &mut Store<D>,
-    line: &[u8],
-) -> Answer
+pub(crate) fn answer_line<D: Device>(alloc: Global, store: &mut Store<D>, line: &[u8]) -> Answer
     ensures answers { AnswersUntagged store.old line.now (outcome_of result) store.new }
     ensures tellable { IsTellable result }
 {
     match read_asked(alloc, line) {
-        Ok(asked) => answer(rt, alloc, store, asked),
+        Ok(asked) => answer(alloc, store, asked),
         Err(_) => refused(Refusal::NoMemory),
     }
 }
 
 // Answers what a line asks for.
-fn answer<R: Threads + Sync, D: Device>(
-    rt: &R,
-    alloc: Global,
-    store: &mut Store<D>,
-    asked: Asked,
-) -> Answer
+fn answer<D: Device>(alloc: Global, store: &mut Store<D>, asked: Asked) -> Answer
     requires { IsAskable asked }
     ensures answers { Answers (asked_by asked) store.old (outcome_of result) store.new }
     ensures tellable { IsTellable result }
 {
     match asked {
-        Asked::Call(call) => Answer::Told(counted_in(&call), make(rt, alloc, store, &call)),
+        Asked::Call(call) => Answer::Told(counted_in(&call), make(alloc, store, &call)),
         Asked::NoBatch(refusal) => refused(refusal),
         Asked::Numbers => numbers(store),
-        Asked::Compaction => compact(rt, alloc, store),
+        Asked::Compaction => compact(alloc, store),
         Asked::Nothing(wrong) => Answer::Usage(wrong),
     }
 }
 
 // Keeps a store up and compacts it, and tells its numbers then.
-fn compact<R: Threads + Sync, D: Device>(rt: &R, alloc: Global, store: &mut Store<D>) -> Answer
+fn compact<D: Device>(alloc: Global, store: &mut Store<D>) -> Answer
     ensures answers { Answers asks_compaction store.old (outcome_of result) store.new }
     ensures tellable { IsTellable result }
 {
-    keep_up(rt, alloc, store, &Policy::new());
-    compact_all(rt, alloc, store);
+    keep_up(alloc, store, &Policy::new());
+    compact_all(alloc, store);
     numbers(store)
 }
 

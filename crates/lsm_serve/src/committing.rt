@@ -11,21 +11,15 @@ use lsm_lives::{Call, Reply, serve};
 use lsm_store::Store;
 use lsm_upkeep::write;
 use std::alloc::Global;
-use std::thread::Threads;
 
 /// Makes a call. What is refused is a reply.
-pub(crate) fn make<R: Threads + Sync, D: Device>(
-    rt: &R,
-    alloc: Global,
-    store: &mut Store<D>,
-    call: &Call,
-) -> Reply
+pub(crate) fn make<D: Device>(alloc: Global, store: &mut Store<D>, call: &Call) -> Reply
     ensures makes { MakesCall (call_of call.now) store.old (reply_of result) store.new }
     ensures told { told_of result ≡ Replied (reply_of result) }
 {
     match call {
-        Call::Commit(batch) => number(write(rt, alloc, store, None, batch)),
-        Call::CommitIf(guards, batch) => number(write(rt, alloc, store, Some(guards), batch)),
+        Call::Commit(batch) => number(write(alloc, store, None, batch)),
+        Call::CommitIf(guards, batch) => number(write(alloc, store, Some(guards), batch)),
         _ => serve(store, call),
     }
 }

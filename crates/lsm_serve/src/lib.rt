@@ -2,7 +2,7 @@
 //!
 //! ```
 //! let mut lines = BufReader::with_capacity(alloc, 65_536, input)?;
-//! serve(rt, alloc, &mut store, &mut lines, output)?;
+//! serve(alloc, &mut store, &mut lines, output)?;
 //! ```
 #![tactic(auto)]
 

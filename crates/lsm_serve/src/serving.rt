@@ -18,7 +18,6 @@ use lsm_store::Store;
 use std::alloc::Global;
 use std::io;
 use std::io::{BufRead, Write};
-use std::thread::Threads;
 
 /// From so many bytes on answers are written, though another line was read already.
 const MOST_HELD: usize = 65_536;
@@ -31,8 +30,7 @@ const MOST_HELD: usize = 65_536;
 ///
 /// It ends before where the input can't be read, an answer can't be written, there is no memory for a line or for the text of an answer,
 /// or the lines are more than have a number below 2^64 - 1. Then it tells that, and asks the store for a sync all the same.
-pub fn serve<R: Threads + Sync, D: Device, I: BufRead, O: Write>(
-    rt: &R,
+pub fn serve<D: Device, I: BufRead, O: Write>(
     alloc: Global,
     store: &mut Store<D>,
     input: &mut I,
@@ -40,7 +38,7 @@ pub fn serve<R: Threads + Sync, D: Device, I: BufRead, O: Write>(
 ) -> Result<(), Fault>
     ensures { IsServed (I.remaining input.old) result store.old store.new (O.contents output.old) (O.contents output.new) }
 {
-    let answered = answer_lines(rt, alloc, store, input, output);
+    let answered = answer_lines(alloc, store, input, output);
     let synced = sync(store);
     answered?;
     synced
@@ -58,8 +56,7 @@ fn sync<D: Device>(store: &mut Store<D>) -> Result<(), Fault>
 }
 
 // Answers the lines of an input, and writes all answers that there are.
-fn answer_lines<R: Threads + Sync, D: Device, I: BufRead, O: Write>(
-    rt: &R,
+fn answer_lines<D: Device, I: BufRead, O: Write>(
     alloc: Global,
     store: &mut Store<D>,
     input: &mut I,
@@ -68,7 +65,7 @@ fn answer_lines<R: Threads + Sync, D: Device, I: BufRead, O: Write>(
     ensures { AreServed (I.remaining input.old) result store.old store.new (O.contents output.old) (O.contents output.new) }
 {
     let mut held = Vec::new(alloc);
-    let answered = hold_answers(rt, alloc, store, input, &mut held, output);
+    let answered = hold_answers(alloc, store, input, &mut held, output);
     if let Err(Fault::Output(_)) = &answered {
         return answered;
     }
@@ -77,8 +74,7 @@ fn answer_lines<R: Threads + Sync, D: Device, I: BufRead, O: Write>(
 }
 
 // Answers the lines of an input. Answers are held as long as another line was read already, and they are few.
-fn hold_answers<R: Threads + Sync, D: Device, I: BufRead, O: Write>(
-    rt: &R,
+fn hold_answers<D: Device, I: BufRead, O: Write>(
     alloc: Global,
     store: &mut Store<D>,
     input: &mut I,
@@ -93,15 +89,14 @@ fn hold_answers<R: Threads + Sync, D: Device, I: BufRead, O: Write>(
         let Some(ahead) = next_line(input, &mut line)? else {
             return Ok(());
         };
-        hold_answer(rt, alloc, store, number, &line, held)?;
+        hold_answer(alloc, store, number, &line, held)?;
         write_unless(ahead, held, output)?;
     }
     Err(Fault::Refused(Refusal::Exhausted))
 }
 
 // Answers a line, and holds the answer.
-fn hold_answer<R: Threads + Sync, D: Device>(
-    rt: &R,
+fn hold_answer<D: Device>(
     alloc: Global,
     store: &mut Store<D>,
     number: u64,
@@ -110,7 +105,7 @@ fn hold_answer<R: Threads + Sync, D: Device>(
 ) -> Result<(), Refusal>
     ensures { HoldsAnswer store.old number line.now held.old.items result store.new held.new.items }
 {
-    let answer = answer_line(rt, alloc, store, line);
+    let answer = answer_line(alloc, store, line);
     hold(alloc, number, line, &answer, held)
 }
 

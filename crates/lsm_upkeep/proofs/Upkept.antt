@@ -1,14 +1,13 @@
 -- Upkeep, as steps.
-use Rattle.std.proofs.Common.{◌≡◌, ℕ, zero, suc, Bool, true, false, Option, refl, sym, subst}
-use Rattle.lsm_device.specs.declared.refusal.Refusal.TheVariants.{LogFull}
+use Rattle.std.proofs.Common.{◌≡◌, ℕ, zero, suc, Bool, true, false, Option, refl, subst}
 use Rattle.lsm_levels.specs.declared.choosing.Choice.{Choice}
 use Rattle.lsm_store.specs.Backing.{StoreView}
-use Rattle.lsm_store.specs.Calls.{Call, Reply, Number, Refused, Rotate}
+use Rattle.lsm_store.specs.Calls.{Reply, Number, Rotate}
 use Rattle.lsm_store.specs.Machine.{Step, Called, Worked}
 use Rattle.lsm_store.specs.Serving.{Serves}
 use Rattle.lsm_store.specs.Work.{Work}
 use Rattle.lsm_store.specs.Working.{Works, ServesStep}
-use Rattle.lsm_upkeep.specs.Keeping.{IsSameMap, KeepsMap}
+use Rattle.lsm_upkeep.specs.Keeping.{KeepsMap}
 use Rattle.lsm_upkeep.specs.Finishing.{IsFinished, IsUndone, Taken}
 use Rattle.lsm_upkeep.specs.Steps.{IsUpkeepStep, IsUpkept, UpkeepSteps}
 use Rattle.lsm_upkeep.specs.Upkeep.{FinishesJobs, IsEasedIf, IsRotatedAt, KeepsUp, OpensLog, Settles}
@@ -41,13 +40,6 @@ upkept_goes = record { stays = stays; onward = then; works = works }
 
 pub rotates : (old new : StoreView) (reply : Reply) → Serves old Rotate reply new → IsUpkept old new
 rotates old new reply serves = one old new (Called Rotate) reply tt serves (rotate_keeps old new reply serves)
-
--- a call that is refused with LogFull keeps the map
-full_keeps : (call : Call) (old new : StoreView) → Serves old call (Refused LogFull) new → KeepsMap old new
-full_keeps call old new serves = subst (IsSameMap old.state) (sym serves.state) (record { map = refl; count = refl; snapshots = refl })
-
-pub is_full : (call : Call) (old new : StoreView) → IsUpkeepStep (Called call) (Refused LogFull) → Serves old call (Refused LogFull) new → IsUpkept old new
-is_full call old new is serves = one old new (Called call) (Refused LogFull) is serves (full_keeps call old new serves)
 
 -- ---- jobs
 

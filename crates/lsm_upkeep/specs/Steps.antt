@@ -1,18 +1,15 @@
 -- What is done to a store besides a call.
 use Rattle.std.specs.Prelude.{◌≡◌, ℕ, zero, suc}
-use Rattle.lsm_device.specs.declared.refusal.Refusal.TheVariants.{LogFull}
 use Rattle.lsm_store.specs.Backing.{StoreView}
-use Rattle.lsm_store.specs.Calls.{Reply, Commit, CommitIf, Rotate, Refused}
+use Rattle.lsm_store.specs.Calls.{Reply, Rotate}
 use Rattle.lsm_store.specs.Machine.{Step, Called, Worked}
 use Rattle.lsm_store.specs.Working.{ServesStep}
 use Rattle.lsm_upkeep.specs.Keeping.{KeepsMap}
 
--- a step of upkeep: a piece of work on a job, a rotation, or a commit for which the log had no room
+-- a step of upkeep: a piece of work on a job, or a rotation
 abbrev pub IsUpkeepStep : Step → Reply → Type 0
 IsUpkeepStep (Worked piece) reply = Unit {0}
 IsUpkeepStep (Called Rotate) reply = Unit {0}
-IsUpkeepStep (Called (Commit batch)) reply = reply ≡ Refused LogFull
-IsUpkeepStep (Called (CommitIf guards batch)) reply = reply ≡ Refused LogFull
 IsUpkeepStep (Called other) reply = ⊥
 
 -- so many of them, each served by the store that the one before it left

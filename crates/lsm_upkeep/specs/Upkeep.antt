@@ -1,5 +1,5 @@
 -- How a store is kept up: jobs are taken and finished, one after another, and a log with room is opened.
-use Rattle.std.specs.Prelude.{◌≡◌, ◌<◌, ◌⊎◌, ◌*◌, ◌-◌, ◌&&◌, ◌||◌, not, ℕ, zero, suc, Bool, true, false, is_some, nat_le, ltb, None}
+use Rattle.std.specs.Prelude.{◌≡◌, ◌<◌, ◌⊎◌, ◌&&◌, ◌||◌, not, ℕ, zero, suc, Bool, true, false, is_some, ltb, None}
 use Rattle.lsm_levels.specs.Moving.{table_count}
 use Rattle.lsm_policy.specs.Room.{taken_blocks}
 use Rattle.lsm_store.specs.Backing.{StoreView}
@@ -44,12 +44,6 @@ Settles old new = (mid : StoreView) × FinishesJobs 64 old mid × OpensLog mid n
 -- whether room is scarce in a store that runs: less than half of the blocks is free, or there are more tables than so many
 abbrev pub is_scarce : ℕ → StoreView → Bool
 is_scarce most_tables s = ltb (blocks_in_no_table s.work) (taken_blocks s.work.levels) || ltb most_tables (table_count s.work.levels)
-
--- whether there is room for puts: so many blocks are taken at most for each that is free, beside some that are to be filled, and
--- there are no more tables than so many
-abbrev pub has_room : ℕ → ℕ → ℕ → StoreView → Bool
-has_room most_tables for_each beside s =
-    nat_le (taken_blocks s.work.levels) (for_each * (blocks_in_no_table s.work - beside)) && nat_le (table_count s.work.levels) most_tables
 
 -- there was upkeep, but only where room was scarce
 abbrev pub IsEasedIf : Bool → StoreView → StoreView → Type 0

@@ -15,7 +15,6 @@ use lsm_device::{Device, Refusal};
 use lsm_policy::Policy;
 use lsm_store::Store;
 use std::alloc::Global;
-use std::thread::Threads;
 
 /// Makes a store ready for a batch: what the batch makes of its keys will find room in tables, and the open log has room for it. Where
 /// that is so at once, nothing is done.
@@ -23,12 +22,7 @@ use std::thread::Threads;
 /// It is refused with `NoSpace` where a batch that puts values finds no room, though all tables were brought down as far as they go. A
 /// batch of deletes is not, unless a snapshot is live. What else is refused is passed over: the store goes on as it then is, and its map
 /// is the same. A stopped store is left as it is, since it refuses the batch itself.
-pub fn admit<R: Threads + Sync, D: Device>(
-    rt: &R,
-    alloc: Global,
-    store: &mut Store<D>,
-    batch: &Batch,
-) -> Result<(), Refusal>
+pub fn admit<D: Device>(alloc: Global, store: &mut Store<D>, batch: &Batch) -> Result<(), Refusal>
     ensures upkept { IsUpkept store.old store.new }
     ensures ready { IsMadeReady store.old store.new }
     ensures refused { IfErr result (λ e. (e ≡ NoSpace) × (wants_room batch.now store.new.state ≡ true)) }
@@ -36,79 +30,69 @@ pub fn admit<R: Threads + Sync, D: Device>(
     if store.stat().is_err() {
         return Ok(());
     }
-    open_log(rt, alloc, store);
+    open_log(alloc, store);
     let demand = Demand::of(store, batch);
     let has_log = demand.has_log(store);
     if has_log && demand.is_met(store) {
         return Ok(());
     }
     if has_log && !demand.puts && demand.joins(store) {
-        push(rt, alloc, store, Some(demand));
+        push(alloc, store, Some(demand));
         return Ok(());
     }
-    change_log(rt, alloc, store, has_log);
-    make_room(rt, alloc, store, Demand::of(store, batch))
+    change_log(alloc, store, has_log);
+    make_room(alloc, store, Demand::of(store, batch))
 }
 
 /// Finishes the flush that waits, and opens a log where the open one has no room, or none is open.
-pub fn open_log<R: Threads + Sync, D: Device>(rt: &R, alloc: Global, store: &mut Store<D>)
+pub fn open_log<D: Device>(alloc: Global, store: &mut Store<D>)
     ensures upkept { IsUpkept store.old store.new }
     ensures readies { ReadiesLog store.old store.new }
 {
-    flush(rt, alloc, store);
-    open_another(rt, alloc, store);
+    flush(alloc, store);
+    open_another(alloc, store);
 }
 
 // Opens another log where the open one has no room, or none is open.
-fn open_another<R: Threads + Sync, D: Device>(rt: &R, alloc: Global, store: &mut Store<D>)
+fn open_another<D: Device>(alloc: Global, store: &mut Store<D>)
     ensures upkept { IsUpkept store.old store.new }
     ensures opens { OpensAnother store.old store.new }
 {
     if let Ok(0) = store.log_room() {
-        next_log(rt, alloc, store);
+        next_log(alloc, store);
     }
 }
 
 // Opens another log, and flushes what was in the one before.
-fn next_log<R: Threads + Sync, D: Device>(rt: &R, alloc: Global, store: &mut Store<D>)
+fn next_log<D: Device>(alloc: Global, store: &mut Store<D>)
     ensures upkept { IsUpkept store.old store.new }
     ensures begins { BeginsLog store.old store.new }
 {
-    if flush(rt, alloc, store) {
+    if flush(alloc, store) {
         let _ = store.rotate();
-        flush(rt, alloc, store);
+        flush(alloc, store);
     }
 }
 
 // Opens another log. Where the one before had no room for a batch, that is the time to compact by the policy.
-fn change_log<R: Threads + Sync, D: Device>(
-    rt: &R,
-    alloc: Global,
-    store: &mut Store<D>,
-    had_room: bool,
-)
+fn change_log<D: Device>(alloc: Global, store: &mut Store<D>, had_room: bool)
     ensures { IsUpkept store.old store.new }
 {
-    next_log(rt, alloc, store);
+    next_log(alloc, store);
     if !had_room {
-        compact(rt, alloc, store, &Policy::new());
+        compact(alloc, store, &Policy::new());
     }
 }
 
 // Brings tables down until what is demanded is admitted. It is refused where puts are not.
-fn make_room<R: Threads + Sync, D: Device>(
-    rt: &R,
-    alloc: Global,
-    store: &mut Store<D>,
-    demand: Demand,
-) -> Result<(), Refusal>
+fn make_room<D: Device>(alloc: Global, store: &mut Store<D>, demand: Demand) -> Result<(), Refusal>
     ensures upkept { IsUpkept store.old store.new }
     ensures refused { IfErr result (λ e. (e ≡ NoSpace) × (demand.puts ≡ true)) }
 {
     if demand.is_met(store) {
         return Ok(());
     }
-    push(rt, alloc, store, Some(demand));
+    push(alloc, store, Some(demand));
     if demand.puts && !(demand.is_met(store) && Demand::has_spare(store)) {
         return Err(Refusal::NoSpace);
     }

@@ -18,7 +18,6 @@ use lsm_progress::{Milestone, Progress, Silent};
 use lsm_room::Step;
 use lsm_store::Store;
 use std::alloc::{Allocator, Global};
-use std::thread::Threads;
 
 /// The most jobs that are finished at once.
 const MOST_JOBS: u32 = 4_096;
@@ -31,72 +30,52 @@ const MOST_STEPS: u32 = 16_384;
 /// given up.
 ///
 /// What is refused is passed over: the store goes on as it then is, and its map is the same.
-pub fn compact<R: Threads + Sync, D: Device>(
-    rt: &R,
-    alloc: Global,
-    store: &mut Store<D>,
-    policy: &Policy,
-)
+pub fn compact<D: Device>(alloc: Global, store: &mut Store<D>, policy: &Policy)
     ensures upkept { IsUpkept store.old store.new }
     ensures flushes { FlushesFirst store.old store.new }
 {
     for _ in 0..MOST_JOBS {
-        if !flush(rt, alloc, store) {
+        if !flush(alloc, store) {
             return;
         }
-        if !finish_wanted(rt, alloc, store, policy) {
+        if !finish_wanted(alloc, store, policy) {
             return;
         }
     }
 }
 
 // Finishes what the policy wants next. It tells whether it did.
-fn finish_wanted<R: Threads + Sync, D: Device>(
-    rt: &R,
-    alloc: Global,
-    store: &mut Store<D>,
-    policy: &Policy,
-) -> bool
+fn finish_wanted<D: Device>(alloc: Global, store: &mut Store<D>, policy: &Policy) -> bool
     ensures { IsUpkept store.old store.new }
 {
     match wanted_by(policy, store) {
         Wanted::Nothing => false,
-        Wanted::Step => matches!(step_down(rt, alloc, store), Went::On),
-        Wanted::Merge(choice) => finish_merge(rt, alloc, store, choice),
+        Wanted::Step => matches!(step_down(alloc, store), Went::On),
+        Wanted::Merge(choice) => finish_merge(alloc, store, choice),
     }
 }
 
-fn finish_merge<R: Threads + Sync, D: Device>(
-    rt: &R,
-    alloc: Global,
-    store: &mut Store<D>,
-    choice: Choice,
-) -> bool
+fn finish_merge<D: Device>(alloc: Global, store: &mut Store<D>, choice: Choice) -> bool
     ensures { IsUpkept store.old store.new }
 {
     match Step::whole(&alloc, choice) {
-        Ok(step) => finish_step(rt, alloc, store, step),
+        Ok(step) => finish_step(alloc, store, step),
         Err(_) => false,
     }
 }
 
 /// Brings all tables into the last level, where deletes have nothing more to delete and small tables are joined, by steps of which
 /// each is sure to find room. It tells whether all tables are in the last level then. What is in memory stays there.
-pub fn compact_all<R: Threads + Sync, D: Device>(
-    rt: &R,
-    alloc: Global,
-    store: &mut Store<D>,
-) -> bool
+pub fn compact_all<D: Device>(alloc: Global, store: &mut Store<D>) -> bool
     ensures upkept { IsUpkept store.old store.new }
     ensures flushes { FlushesFirst store.old store.new }
     ensures compacted { result ≡ is_compacted (machine_of store.new) }
 {
-    compact_all_showing(rt, alloc, store, &mut Silent)
+    compact_all_showing(alloc, store, &mut Silent)
 }
 
 /// Does as [`compact_all`], and tells `progress` of each step that it has finished.
-pub fn compact_all_showing<R: Threads + Sync, D: Device, P: Progress>(
-    rt: &R,
+pub fn compact_all_showing<D: Device, P: Progress>(
     alloc: Global,
     store: &mut Store<D>,
     progress: &mut P,
@@ -105,26 +84,21 @@ pub fn compact_all_showing<R: Threads + Sync, D: Device, P: Progress>(
     ensures flushes { FlushesFirst store.old store.new }
     ensures compacted { result ≡ is_compacted (machine_of store.new) }
 {
-    take_down(rt, alloc, store, progress);
-    join_all(rt, alloc, store);
+    take_down(alloc, store, progress);
+    join_all(alloc, store);
     is_compacted(store)
 }
 
-fn take_down<R: Threads + Sync, D: Device, P: Progress>(
-    rt: &R,
-    alloc: Global,
-    store: &mut Store<D>,
-    progress: &mut P,
-)
+fn take_down<D: Device, P: Progress>(alloc: Global, store: &mut Store<D>, progress: &mut P)
     ensures upkept { IsUpkept store.old store.new }
     ensures flushes { FlushesFirst store.old store.new }
 {
     for jobs in 0..MOST_STEPS {
         progress.reached(Milestone::Compacted { jobs });
-        if !flush(rt, alloc, store) {
+        if !flush(alloc, store) {
             return;
         }
-        match step_to_the_last(rt, alloc, store) {
+        match step_to_the_last(alloc, store) {
             Went::On => {}
             Went::ToTheEnd | Went::Nowhere => return,
         }

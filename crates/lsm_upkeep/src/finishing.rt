@@ -7,46 +7,35 @@ ghost use Rattle.lsm_upkeep.specs.Finishing.{GoesThrough, IsFinished, IsGivenUp,
 
 use lsm_codec::Key;
 use lsm_device::{Device, Refusal};
-use lsm_merge::build_divided;
+use lsm_merge::build_here;
 use lsm_room::Step;
 use lsm_store::{Store, TakenJob};
 use std::alloc::Global;
-use std::thread::Threads;
 
 /// Takes the job that comes next and finishes it. It tells whether it did.
-pub(crate) fn finish_next<R: Threads + Sync, D: Device>(
-    rt: &R,
-    alloc: Global,
-    store: &mut Store<D>,
-) -> bool
+pub(crate) fn finish_next<D: Device>(alloc: Global, store: &mut Store<D>) -> bool
     ensures finished { result ≡ true → Taken IsFinished None store.old store.new }
     ensures undone { result ≡ false → IsUndone None store.old store.new }
 {
     match store.job_take() {
-        Ok(Some(taken)) => finish_or_drop(rt, alloc, store, taken, Vec::new(alloc)),
+        Ok(Some(taken)) => finish_or_drop(alloc, store, taken, Vec::new(alloc)),
         Ok(None) | Err(_) => false,
     }
 }
 
 /// Takes a step and finishes it. It tells whether it did.
-pub(crate) fn finish_step<R: Threads + Sync, D: Device>(
-    rt: &R,
-    alloc: Global,
-    store: &mut Store<D>,
-    step: Step,
-) -> bool
+pub(crate) fn finish_step<D: Device>(alloc: Global, store: &mut Store<D>, step: Step) -> bool
     ensures finished { result ≡ true → Taken IsFinished (Some step.choice) store.old store.new }
     ensures undone { result ≡ false → IsUndone (Some step.choice) store.old store.new }
 {
     match store.job_take_of(step.choice) {
-        Ok(Some(taken)) => finish_or_drop(rt, alloc, store, taken, step.divisions),
+        Ok(Some(taken)) => finish_or_drop(alloc, store, taken, step.divisions),
         Ok(None) | Err(_) => false,
     }
 }
 
 // Finishes a job, or gives it up.
-fn finish_or_drop<R: Threads + Sync, D: Device>(
-    rt: &R,
+fn finish_or_drop<D: Device>(
     alloc: Global,
     store: &mut Store<D>,
     taken: TakenJob,
@@ -55,7 +44,7 @@ fn finish_or_drop<R: Threads + Sync, D: Device>(
     ensures finished { result ≡ true → IsFinished taken.number taken.level store.old store.new }
     ensures given_up { result ≡ false → IsGivenUp taken.number taken.level store.old store.new }
 {
-    match finish(rt, alloc, store, taken, divisions) {
+    match finish(alloc, store, taken, divisions) {
         Ok(()) => true,
         Err(_) => {
             let _ = store.job_drop(taken.number);
@@ -65,8 +54,7 @@ fn finish_or_drop<R: Threads + Sync, D: Device>(
 }
 
 // Does all the work on a job that was taken.
-fn finish<R: Threads + Sync, D: Device>(
-    rt: &R,
+fn finish<D: Device>(
     alloc: Global,
     store: &mut Store<D>,
     taken: TakenJob,
@@ -75,7 +63,7 @@ fn finish<R: Threads + Sync, D: Device>(
     ensures { MatchResult result (λ _. IsFinished taken.number taken.level store.old store.new) (λ _. IsStuck taken.number taken.level store.old store.new) }
 {
     read(store, taken)?;
-    merge(rt, alloc, store, taken.number, divisions)?;
+    merge(alloc, store, taken.number, divisions)?;
     write(store, taken.number)?;
     store.job_install(taken.number)
 }
@@ -104,9 +92,8 @@ fn read_tables<D: Device>(store: &mut Store<D>, job: u64) -> Result<(), Refusal>
     Ok(())
 }
 
-// Merges what was read, on the caller's thread, and divides it.
-fn merge<R: Threads + Sync, D: Device>(
-    rt: &R,
+// Merges what was read, and divides it.
+fn merge<D: Device>(
     alloc: Global,
     store: &mut Store<D>,
     job: u64,
@@ -115,7 +102,7 @@ fn merge<R: Threads + Sync, D: Device>(
     ensures { MatchResult result (λ _. IsOffered job Done store.old store.new) (λ _. IsUnmerged job store.old store.new) }
 {
     let input = store.job_input(job)?;
-    let built = build_divided(rt, alloc, input, 1, divisions)?;
+    let built = build_here(alloc, input, divisions)?;
     store.job_accept(job, &built)
 }
 

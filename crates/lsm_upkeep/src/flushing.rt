@@ -11,7 +11,6 @@ use crate::stepping::{Went, join, step_aside, step_down};
 use lsm_device::Device;
 use lsm_store::Store;
 use std::alloc::Global;
-use std::thread::Threads;
 
 /// A flush is tried so often at most.
 const MOST_TRIES: u32 = 60;
@@ -20,14 +19,10 @@ const MOST_TRIES: u32 = 60;
 const MANY_RUNS: usize = 11;
 
 /// The runs that level 0 has at most.
-const MOST_RUNS: usize = 12;
+pub(crate) const MOST_RUNS: usize = 12;
 
 /// Finishes the flush that waits, if one does. It tells whether none waits then.
-pub(crate) fn flush<R: Threads + Sync, D: Device>(
-    rt: &R,
-    alloc: Global,
-    store: &mut Store<D>,
-) -> bool
+pub(crate) fn flush<D: Device>(alloc: Global, store: &mut Store<D>) -> bool
     ensures upkept { IsUpkept store.old store.new }
     ensures finished { result ≡ true → IsIdle store.new }
     ensures tried { result ≡ false → TriesNext store.old store.new }
@@ -36,7 +31,7 @@ pub(crate) fn flush<R: Threads + Sync, D: Device>(
         if !is_waiting(store) {
             return true;
         }
-        if !try_next(rt, alloc, store) {
+        if !try_next(alloc, store) {
             return false;
         }
     }
@@ -54,51 +49,51 @@ pub(crate) fn is_waiting<D: Device>(store: &Store<D>) -> bool
 }
 
 // Tries to finish the job that comes next, and makes room where it can't be. It tells whether it did one of both.
-fn try_next<R: Threads + Sync, D: Device>(rt: &R, alloc: Global, store: &mut Store<D>) -> bool
+fn try_next<D: Device>(alloc: Global, store: &mut Store<D>) -> bool
     ensures { TriesNext store.old store.new }
 {
-    push_runs(rt, alloc, store);
-    if finish_next(rt, alloc, store) {
+    push_runs(alloc, store);
+    if finish_next(alloc, store) {
         return true;
     }
-    make_room(rt, alloc, store)
+    make_room(alloc, store)
 }
 
 // Brings tables down where level 0 has many runs.
-fn push_runs<R: Threads + Sync, D: Device>(rt: &R, alloc: Global, store: &mut Store<D>)
+fn push_runs<D: Device>(alloc: Global, store: &mut Store<D>)
     ensures { IsUpkept store.old store.new }
 {
     if store.levels().runs().len() >= MANY_RUNS {
-        push(rt, alloc, store, None);
+        push(alloc, store, None);
     }
 }
 
 // Takes a step that makes room for a flush: where level 0 is full its oldest run goes down, and else a table is moved, or goes down, or
 // neighbours are joined. It tells whether it did.
-fn make_room<R: Threads + Sync, D: Device>(rt: &R, alloc: Global, store: &mut Store<D>) -> bool
+fn make_room<D: Device>(alloc: Global, store: &mut Store<D>) -> bool
     ensures { IsUpkept store.old store.new }
 {
     if store.levels().runs().len() < MOST_RUNS {
-        move_or_sink(rt, alloc, store)
+        move_or_sink(alloc, store)
     } else {
-        sink_or_join(rt, alloc, store)
+        sink_or_join(alloc, store)
     }
 }
 
-fn move_or_sink<R: Threads + Sync, D: Device>(rt: &R, alloc: Global, store: &mut Store<D>) -> bool
+fn move_or_sink<D: Device>(alloc: Global, store: &mut Store<D>) -> bool
     ensures { IsUpkept store.old store.new }
 {
-    if step_aside(rt, alloc, store) {
+    if step_aside(alloc, store) {
         return true;
     }
-    sink_or_join(rt, alloc, store)
+    sink_or_join(alloc, store)
 }
 
-fn sink_or_join<R: Threads + Sync, D: Device>(rt: &R, alloc: Global, store: &mut Store<D>) -> bool
+fn sink_or_join<D: Device>(alloc: Global, store: &mut Store<D>) -> bool
     ensures { IsUpkept store.old store.new }
 {
-    match step_down(rt, alloc, store) {
+    match step_down(alloc, store) {
         Went::On => true,
-        Went::ToTheEnd | Went::Nowhere => join(rt, alloc, store),
+        Went::ToTheEnd | Went::Nowhere => join(alloc, store),
     }
 }

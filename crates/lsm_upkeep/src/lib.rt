@@ -8,6 +8,7 @@
 //! | [`settle`] | the jobs that come next, until none does; then a log with room is opened |
 //! | [`compact`] | a flush where one waits, and the merges that `lsm_policy` chooses, until it chooses none |
 //! | [`compact_all`] | merges until all tables are in the last level, or nothing more can go down; [`compact_all_showing`] tells how far it is |
+//! | [`lack_of`] | what a store lacks that `compact_all` could not bring to the end |
 //! | [`keep_up`] | settles, and compacts where room is scarce |
 //!
 //! None of them changes the map, a snapshot, or the count of batches. What is refused is passed over: the job that it stops
@@ -15,8 +16,8 @@
 //!
 //! ```
 //! let policy = Policy::new();
-//! keep_up(rt, alloc, &mut store, &policy);
-//! let number = write(rt, alloc, &mut store, None, &batch)?;
+//! keep_up(alloc, &mut store, &policy);
+//! let number = write(alloc, &mut store, None, &batch)?;
 //! ```
 #![tactic(auto)]
 
@@ -26,6 +27,7 @@ mod demand;
 mod finishing;
 mod flushing;
 mod keeping;
+mod lacking;
 mod pushing;
 mod settling;
 mod stepping;
@@ -34,6 +36,7 @@ mod writing;
 
 pub use admitting::{admit, open_log};
 pub use compacting::{compact, compact_all, compact_all_showing};
-pub use keeping::{has_room, keep_up};
+pub use keeping::keep_up;
+pub use lacking::{Lack, Shortage, lack_of};
 pub use settling::settle;
 pub use writing::write;

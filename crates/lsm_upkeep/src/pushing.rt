@@ -7,7 +7,6 @@ use crate::stepping::{Went, join, step_down, told};
 use lsm_device::Device;
 use lsm_store::Store;
 use std::alloc::Global;
-use std::thread::Threads;
 
 /// The most steps that are taken at once.
 const MOST_STEPS: u32 = 20_000;
@@ -19,51 +18,46 @@ const MOST_JOINS: u32 = 200;
 const MANY_TABLES: usize = 780;
 
 /// Takes steps down until none is left, none can be taken, or what is demanded is admitted with blocks to spare.
-pub(crate) fn push<R: Threads + Sync, D: Device>(
-    rt: &R,
-    alloc: Global,
-    store: &mut Store<D>,
-    demand: Option<Demand>,
-)
+pub(crate) fn push<D: Device>(alloc: Global, store: &mut Store<D>, demand: Option<Demand>)
     ensures { IsUpkept store.old store.new }
 {
     for taken in 0..MOST_STEPS {
         if taken > 0 && is_met(store, demand) {
             return;
         }
-        match step_on(rt, alloc, store) {
+        match step_on(alloc, store) {
             Went::On => {}
-            Went::ToTheEnd => return join_all(rt, alloc, store),
+            Went::ToTheEnd => return join_all(alloc, store),
             Went::Nowhere => return,
         }
     }
 }
 
 // Takes the next step down, or joins neighbours where none can be taken. Where there are many tables, neighbours are joined first.
-fn step_on<R: Threads + Sync, D: Device>(rt: &R, alloc: Global, store: &mut Store<D>) -> Went
+fn step_on<D: Device>(alloc: Global, store: &mut Store<D>) -> Went
     ensures { IsUpkept store.old store.new }
 {
     if has_many_tables(store) {
-        join_or_step(rt, alloc, store)
+        join_or_step(alloc, store)
     } else {
-        step_or_join(rt, alloc, store)
+        step_or_join(alloc, store)
     }
 }
 
-fn join_or_step<R: Threads + Sync, D: Device>(rt: &R, alloc: Global, store: &mut Store<D>) -> Went
+fn join_or_step<D: Device>(alloc: Global, store: &mut Store<D>) -> Went
     ensures { IsUpkept store.old store.new }
 {
-    if join(rt, alloc, store) {
+    if join(alloc, store) {
         return Went::On;
     }
-    step_or_join(rt, alloc, store)
+    step_or_join(alloc, store)
 }
 
-fn step_or_join<R: Threads + Sync, D: Device>(rt: &R, alloc: Global, store: &mut Store<D>) -> Went
+fn step_or_join<D: Device>(alloc: Global, store: &mut Store<D>) -> Went
     ensures { IsUpkept store.old store.new }
 {
-    match step_down(rt, alloc, store) {
-        Went::Nowhere => told(join(rt, alloc, store)),
+    match step_down(alloc, store) {
+        Went::Nowhere => told(join(alloc, store)),
         went => went,
     }
 }
@@ -84,11 +78,11 @@ fn has_many_tables<D: Device>(store: &Store<D>) -> bool {
 }
 
 /// Joins neighbours as long as a level has many small tables.
-pub(crate) fn join_all<R: Threads + Sync, D: Device>(rt: &R, alloc: Global, store: &mut Store<D>)
+pub(crate) fn join_all<D: Device>(alloc: Global, store: &mut Store<D>)
     ensures { IsUpkept store.old store.new }
 {
     for _ in 0..MOST_JOINS {
-        if !join(rt, alloc, store) {
+        if !join(alloc, store) {
             return;
         }
     }

@@ -8,7 +8,6 @@ use crate::finishing::finish_next;
 use lsm_device::Device;
 use lsm_store::Store;
 use std::alloc::Global;
-use std::thread::Threads;
 
 /// The most jobs that are finished at once.
 const MOST_JOBS: u32 = 64;
@@ -17,20 +16,20 @@ const MOST_JOBS: u32 = 64;
 /// given up. Then a log is opened where the open one has no room, or none is open.
 ///
 /// What is refused is passed over: the store goes on as it then is, and its map is the same.
-pub fn settle<R: Threads + Sync, D: Device>(rt: &R, alloc: Global, store: &mut Store<D>)
+pub fn settle<D: Device>(alloc: Global, store: &mut Store<D>)
     ensures settles { Settles store.old store.new }
     ensures upkept { IsUpkept store.old store.new }
     ensures map { KeepsMap store.old store.new }
 {
-    finish_jobs(rt, alloc, store);
+    finish_jobs(alloc, store);
     open_log(store);
 }
 
-fn finish_jobs<R: Threads + Sync, D: Device>(rt: &R, alloc: Global, store: &mut Store<D>)
+fn finish_jobs<D: Device>(alloc: Global, store: &mut Store<D>)
     ensures { FinishesJobs 64 store.old store.new }
 {
     for _ in 0..MOST_JOBS {
-        if !finish_next(rt, alloc, store) {
+        if !finish_next(alloc, store) {
             return;
         }
     }

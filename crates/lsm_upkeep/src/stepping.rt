@@ -8,7 +8,6 @@ use lsm_jobs::Slots;
 use lsm_room::{Advice, Standing, Step};
 use lsm_store::Store;
 use std::alloc::Global;
-use std::thread::Threads;
 
 /// How a step went.
 #[derive(Clone, Copy)]
@@ -32,47 +31,34 @@ pub(crate) fn standing<D: Device>(store: &Store<D>) -> Standing<'_, Slots> {
 }
 
 /// Takes the next step down.
-pub(crate) fn step_down<R: Threads + Sync, D: Device>(
-    rt: &R,
-    alloc: Global,
-    store: &mut Store<D>,
-) -> Went
+pub(crate) fn step_down<D: Device>(alloc: Global, store: &mut Store<D>) -> Went
     ensures { IsUpkept store.old store.new }
 {
     match standing(store).step_down(&alloc) {
-        Ok(advice) => follow(rt, alloc, store, advice),
+        Ok(advice) => follow(alloc, store, advice),
         Err(_) => Went::Nowhere,
     }
 }
 
 /// Takes the next step of those that bring all tables into the last of the levels.
-pub(crate) fn step_to_the_last<R: Threads + Sync, D: Device>(
-    rt: &R,
-    alloc: Global,
-    store: &mut Store<D>,
-) -> Went
+pub(crate) fn step_to_the_last<D: Device>(alloc: Global, store: &mut Store<D>) -> Went
     ensures { IsUpkept store.old store.new }
 {
     match standing(store).step_down_to(&alloc, 4) {
-        Ok(advice) => follow(rt, alloc, store, advice),
+        Ok(advice) => follow(alloc, store, advice),
         Err(_) => Went::Nowhere,
     }
 }
 
 // Does what is advised. What isn't sure to find room is tried all the same, since that is reckoned by bounds.
-fn follow<R: Threads + Sync, D: Device>(
-    rt: &R,
-    alloc: Global,
-    store: &mut Store<D>,
-    advice: Advice,
-) -> Went
+fn follow<D: Device>(alloc: Global, store: &mut Store<D>, advice: Advice) -> Went
     ensures { IsUpkept store.old store.new }
 {
     match advice {
         Advice::Nothing => Went::ToTheEnd,
-        Advice::Take(step) => told(finish_step(rt, alloc, store, step)),
+        Advice::Take(step) => told(finish_step(alloc, store, step)),
         Advice::Lacks { choice, .. } => match Step::whole(&alloc, choice) {
-            Ok(step) => told(finish_step(rt, alloc, store, step)),
+            Ok(step) => told(finish_step(alloc, store, step)),
             Err(_) => Went::Nowhere,
         },
     }
@@ -84,29 +70,21 @@ pub(crate) fn told(finished: bool) -> Went {
 }
 
 /// Joins neighbours, where a level has many small tables. It tells whether it did.
-pub(crate) fn join<R: Threads + Sync, D: Device>(
-    rt: &R,
-    alloc: Global,
-    store: &mut Store<D>,
-) -> bool
+pub(crate) fn join<D: Device>(alloc: Global, store: &mut Store<D>) -> bool
     ensures { IsUpkept store.old store.new }
 {
     match standing(store).step_together(&alloc) {
-        Ok(Some(step)) => finish_step(rt, alloc, store, step),
+        Ok(Some(step)) => finish_step(alloc, store, step),
         Ok(None) | Err(_) => false,
     }
 }
 
 /// Moves a table, so that free blocks come to lie side by side. It tells whether it did.
-pub(crate) fn step_aside<R: Threads + Sync, D: Device>(
-    rt: &R,
-    alloc: Global,
-    store: &mut Store<D>,
-) -> bool
+pub(crate) fn step_aside<D: Device>(alloc: Global, store: &mut Store<D>) -> bool
     ensures { IsUpkept store.old store.new }
 {
     match standing(store).step_aside(&alloc) {
-        Ok(Some(step)) => finish_step(rt, alloc, store, step),
+        Ok(Some(step)) => finish_step(alloc, store, step),
         Ok(None) | Err(_) => false,
     }
 }

@@ -9,7 +9,6 @@ use lsm_codec::{Batch, Guard};
 use lsm_device::{Device, Refusal};
 use lsm_store::Store;
 use std::alloc::Global;
-use std::thread::Threads;
 
 /// Commits a batch, where guards are given under them, and tells its number. Before that the store is made ready for it
 /// ([`admit`]).
@@ -17,8 +16,7 @@ use std::thread::Threads;
 /// It is refused as a commit of the store is ([`Store::commit`], [`Store::commit_if`]), and with `NoSpace` where a batch that puts
 /// values finds no room in tables, though all were brought down as far as they go; a batch of deletes is so only where a snapshot
 /// is live. That the log is full is never told: where no log can be opened that has room, it is refused with `NoSpace`.
-pub fn write<R: Threads + Sync, D: Device>(
-    rt: &R,
+pub fn write<D: Device>(
     alloc: Global,
     store: &mut Store<D>,
     guards: Option<&[Guard]>,
@@ -26,7 +24,7 @@ pub fn write<R: Threads + Sync, D: Device>(
 ) -> Result<u64, Refusal>
     ensures { Writes (option_map (λ g. g.now) guards.entry) batch.now store.old (reply_of Number result) store.new }
 {
-    match admit(rt, alloc, store, batch) {
+    match admit(alloc, store, batch) {
         Ok(()) => without_log_full(commit(store, guards, batch)),
         Err(refusal) => Err(refusal),
     }

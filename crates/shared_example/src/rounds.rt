@@ -126,7 +126,7 @@ pub fn put_in_rounds<R: Threads + Wait + Sync>(
         }
         store = left;
         put = reached;
-        settle(rt, alloc, &mut store);
+        settle(alloc, &mut store);
     }
     Err(Refusal::Exhausted)
 }

@@ -5,21 +5,20 @@ use lsm_device::Refusal;
 use lsm_store::At;
 use std::alloc::Global;
 use std::process::Abort;
-use std::thread::Threads;
 
 /// A table of three data blocks, each of one key. Between two keys there is one that it lacks.
-fn with_three_blocks<R: Threads + Sync + Abort>(rt: &R, alloc: Global, cache: u32) -> Subject {
+fn with_three_blocks<R: Abort>(rt: &R, alloc: Global, cache: u32) -> Subject {
     let mut store = begun_with(rt, alloc, 128, cache);
     for key in [0x61, 0x63, 0x65_u8] {
         store.put(rt, &[key], &[key; 2_048]).expect(rt, "a batch");
     }
     store.rotate(rt);
-    store.settle(rt);
+    store.settle();
     store
 }
 
 /// How many sectors are read for the values of these keys in turn, with a cache of so many blocks.
-fn reads_of<R: Threads + Sync + Abort>(rt: &R, alloc: Global, cache: u32, keys: &[u8]) -> u64 {
+fn reads_of<R: Abort>(rt: &R, alloc: Global, cache: u32, keys: &[u8]) -> u64 {
     let mut store = with_three_blocks(rt, alloc, cache);
     let mut all = 0_u64;
     for key in keys {
@@ -45,13 +44,13 @@ fn a_block_is_read_unless_the_cache_has_it(rt: HostRuntime) {
 }
 
 /// A table of 64 data blocks, each of one key: those below 64.
-fn with_64_blocks<R: Threads + Sync + Abort>(rt: &R, alloc: Global) -> Subject {
+fn with_64_blocks<R: Abort>(rt: &R, alloc: Global) -> Subject {
     let mut store = begun_with(rt, alloc, 512, CACHE);
     for key in 0..64_u8 {
         store.put(rt, &[key], &[key; 2_048]).expect(rt, "a batch");
     }
     store.rotate(rt);
-    store.settle(rt);
+    store.settle();
     store
 }
 
@@ -121,13 +120,13 @@ fn memory_and_filters_spare_reads(rt: HostRuntime) {
 }
 
 /// A table of one block, with the keys 61 and 63.
-fn with_a_table<R: Threads + Sync + Abort>(rt: &R, alloc: Global) -> Subject {
+fn with_a_table<R: Abort>(rt: &R, alloc: Global) -> Subject {
     let mut store = begun(rt, alloc);
     for key in [0x61, 0x63_u8] {
         store.put(rt, &[key], &[key ^ 0x50]).expect(rt, "a batch");
     }
     store.rotate(rt);
-    store.settle(rt);
+    store.settle();
     store
 }
 

@@ -34,7 +34,7 @@ fn a_table_is_rewritten_in_its_level(rt: HostRuntime) {
             "level {level}"
         );
     }
-    assert!(rt; store.compact_all(&rt) && is_rewritten(&rt, &mut store, 4, &[], 5));
+    assert!(rt; store.compact_all() && is_rewritten(&rt, &mut store, 4, &[], 5));
     let mut again = store.crashed(&rt, &[]);
     assert!(rt; again.shape() == [0, 0, 0, 0, 1] && again.has_just(&rt, 5));
 }
@@ -42,9 +42,9 @@ fn a_table_is_rewritten_in_its_level(rt: HostRuntime) {
 #[test]
 fn neighbours_become_one_table_and_it_becomes_two(rt: HostRuntime) {
     let mut store = with_four_levels(&rt, rt.alloc());
-    store.settle(&rt);
+    store.settle();
     store.put_and_rotate(&rt, 0x66);
-    store.compact(&rt, &Policy::new());
+    store.compact(&Policy::new());
     assert!(rt; store.shape() == [0, 2, 1, 1, 0] && store.tables(&rt) == 4);
     assert!(rt; is_rewritten(&rt, &mut store, 1, &[], 6) && store.tables(&rt) == 3);
     // Level 1 has the keys from 63 on.

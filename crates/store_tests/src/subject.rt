@@ -11,7 +11,6 @@ use lsm_upkeep::{compact, compact_all, keep_up, settle};
 use lsm_walk::Walk;
 use std::alloc::Global;
 use std::process::Abort;
-use std::thread::Threads;
 
 /// The blocks of a cache that has room for all.
 pub(crate) const CACHE: u32 = 256;
@@ -205,20 +204,20 @@ impl Subject {
         taken.level
     }
 
-    pub(crate) fn settle<R: Threads + Sync>(&mut self, rt: &R) {
-        settle(rt, self.alloc, &mut self.store);
+    pub(crate) fn settle(&mut self) {
+        settle(self.alloc, &mut self.store);
     }
 
-    pub(crate) fn compact<R: Threads + Sync>(&mut self, rt: &R, policy: &Policy) {
-        compact(rt, self.alloc, &mut self.store, policy);
+    pub(crate) fn compact(&mut self, policy: &Policy) {
+        compact(self.alloc, &mut self.store, policy);
     }
 
-    pub(crate) fn compact_all<R: Threads + Sync>(&mut self, rt: &R) -> bool {
-        compact_all(rt, self.alloc, &mut self.store)
+    pub(crate) fn compact_all(&mut self) -> bool {
+        compact_all(self.alloc, &mut self.store)
     }
 
-    pub(crate) fn keep_up<R: Threads + Sync>(&mut self, rt: &R, policy: &Policy) {
-        keep_up(rt, self.alloc, &mut self.store, policy);
+    pub(crate) fn keep_up(&mut self, policy: &Policy) {
+        keep_up(self.alloc, &mut self.store, policy);
     }
 
     /// A walk from a key on.

@@ -5,7 +5,6 @@ use lsm_store::{At, Page, RowRef};
 use lsm_walk::Walk;
 use std::alloc::Global;
 use std::process::Abort;
-use std::thread::Threads;
 
 /// Puts the row of a number: a key that is greater where the number is, and a value.
 fn put_row<R: Abort>(rt: &R, store: &mut Subject, number: u8) {
@@ -23,13 +22,13 @@ fn is_row(row: Option<RowRef<'_>>, number: u8) -> bool {
 }
 
 /// A store of 150 rows, of which every second one is in a table, and the others are in memory.
-fn with_rows<R: Threads + Sync + Abort>(rt: &R, alloc: Global) -> Subject {
+fn with_rows<R: Abort>(rt: &R, alloc: Global) -> Subject {
     let mut store = begun(rt, alloc);
     for half in 0..75_u8 {
         put_row(rt, &mut store, 2 * half);
     }
     store.rotate(rt);
-    store.settle(rt);
+    store.settle();
     for half in 0..75_u8 {
         put_row(rt, &mut store, 2 * half + 1);
     }

@@ -1,0 +1,39 @@
+//! A first use of a store in a file: the example of the README, which prints what it found.
+#![tactic(auto)]
+
+use corwaphi::{At, Batch, Db, Guard, Op, OpenDbError, Options};
+use std::fs::{File, Files};
+
+/// A store of 4 MiB, where there is none yet.
+const SMALL: Options = Options {
+    cache: 256,
+    sectors: 8_192,
+    log_sectors: 128,
+};
+
+/// Keeps fruits in a store, and tells how many begin with a p.
+fn keep_fruits<R: Files<File = File> + AllocGlobal>(rt: &R) -> Result<usize, OpenDbError> {
+    let mut db = Db::open_or_create(rt, "fruits.img", SMALL)?;
+    db.put(b"pear", b"green")?;
+    let mut batch = Batch::new(rt.alloc(), Op::put(rt.alloc(), b"plum", b"blue")?)?;
+    batch.delete(b"apple")?;
+    db.write(&batch)?;
+    let is_green = Guard::holds(rt.alloc(), b"pear", b"green")?;
+    let ripens = Batch::new(rt.alloc(), Op::put(rt.alloc(), b"pear", b"ripe")?)?;
+    db.write_if(&[is_green], &ripens)?;
+    db.sync()?;
+    let snapshot = db.snapshot()?;
+    db.delete(b"plum")?;
+    let page = db.page(At::Snap(snapshot), b"p", Some(b"q"), 64)?;
+    for row in page.rows() {
+        // row.key and row.value are bytes; page.next_key() is where the next page begins.
+    }
+    db.release(snapshot)?;
+    Ok(page.rows().len())
+}
+
+fn main(rt: HostRuntime) -> anyhow::Result<()> {
+    let count = keep_fruits(&rt)?;
+    println!(rt; "{count} fruits begin with a p")?;
+    Ok(())
+}
