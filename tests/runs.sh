@@ -468,6 +468,42 @@ room_again() {
     scripts <again
 }
 
+# Compacts a file, which can't go to the end: it ends with 1, prints these numbers, and tells this lack.
+compacts_halfway() {
+    local status=0
+    what="compact $1"
+    "$program" compact "$1" <input >output 2>errors || status=$?
+    [ "$status" -eq 1 ] || fail "it ends with $status: $(cat output errors)"
+    [ "$(cat output)" = "$2" ] || fail "it prints $(cat output)"
+    [ "$(cat errors)" = "error: not compacted to the end: $3" ] || fail "it tells $(cat errors)"
+    what=
+    count=$((count + 1))
+}
+
+# A run of level 0 takes 154 of 239 blocks, in tables of 67, 67 and 20, and goes down as a whole, which takes as many, and a block more for
+# each table at most. So it stays where it is, and so do as many keys again that wait for a flush.
+halfway() {
+    local free='85 are free, at most 85 of them side by side'
+    {
+        printf '%s\n' 'format half 8192 2048 | formatted blocks 239' '' 'replay half |'
+        full_commits 1 5
+        printf '%s\n' 'rotate | ok' 'take | job 1 flush' 'build 1 1 | built 1 images 3' 'accept 1 1 | ok'
+        until_none_is_left 'write 1' 154
+        echo 'install 1 | ok'
+    } >space
+    scripts <space
+    compacts_halfway half 'generation 6 batches 5 room 2048 waiting 0 runs 1 tables 3 free 85' \
+        "the next step wants up to 157 blocks, up to 68 of them side by side; $free"
+    {
+        echo 'replay half |'
+        full_commits 6 5
+        echo 'rotate | ok'
+    } >space
+    scripts <space
+    compacts_halfway half 'generation 9 batches 10 room 2048 waiting 1 runs 1 tables 3 free 85' \
+        "a flush waits, which wants up to 164 blocks, up to 71 of them side by side; $free"
+}
+
 # A commit may have 16 guards. A 17th is refused before all that the state decides, a full log too, but for a store that is stopped.
 many_guards() {
     local sixteen='' number
@@ -622,6 +658,7 @@ deep_levels
 meeting_levels
 no_space
 room_again
+halfway
 many_guards
 many_commits
 many_explored

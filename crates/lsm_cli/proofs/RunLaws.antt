@@ -23,7 +23,7 @@ use Rattle.lsm_serve.specs.Answering.{Answered}
 use Rattle.lsm_serve.specs.Serving.{ToldBefore}
 use Rattle.lsm_requests.specs.Refusing.{FaultsWith}
 use Rattle.lsm_requests.specs.Loading.{loaded_line}
-use Rattle.lsm_requests.proofs.EndingLaws.{answer_status-at_most}
+use Rattle.lsm_requests.proofs.EndingLaws.{answer_status-at_most, answer_status-silent}
 use Rattle.lsm_requests.specs.Endings.{PrintsAnswer, PrintsFault, Written, status_after}
 use Rattle.lsm_cli.specs.Runs.{AskNothing, IsAsked, Fails, FindsMistake, HasServed, IsRead, IsRequested, IsRun, IsServed, IsTried, IsUntried, IsWrong, LoadsToNoRow, has_dash}
 use Rattle.lsm_cli.proofs.ProgramLaws.{has_words-asked}
@@ -225,7 +225,10 @@ module _ (words : List Text) (input : Option (List ℕ)) (bytes : Written) (ends
           → MatchResult answered (IsServed words input bytes.output run.between) (λ fault. Fails words input (reason_of fault) bytes.output run.between)
           → PrintsAnswer answered written run.between bytes.output_after → PrintsFault answered written bytes.errors bytes.errors_after
           → HasServed words input bytes.output bytes.output_after × Keeps bytes.errors bytes.errors_after
-      by_cases (Ok answer) (Ok done) e served printed kept = (record { answer = answer; between = run.between; served = served; prints = printed }, kept)
+      by_cases (Ok answer) (Ok done) e served printed told = (
+        record { answer = answer; between = run.between; served = served; prints = printed; good = e },
+        answer_status-silent answer.output bytes.errors bytes.errors_after e told,
+      )
       by_cases (Ok answer) (Err error) e served printed kept = grind arith
       by_cases (Err fault) (Ok done) e failed kept reported = absurd (status_of-positive (reason_of fault) e)
       by_cases (Err fault) (Err error) e failed kept reported = grind arith

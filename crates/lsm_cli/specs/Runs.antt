@@ -17,7 +17,7 @@ use Rattle.lsm_cli.specs.Program.{program, Asks}
 use Rattle.lsm_language.specs.Requests.{Says, reason_for, wants_script}
 use Rattle.lsm_requests.specs.Answers.{Comes, LoadsTo, lines_of}
 use Rattle.lsm_requests.specs.Refusing.{FaultsWith}
-use Rattle.lsm_requests.specs.Endings.{Concludes, Written}
+use Rattle.lsm_requests.specs.Endings.{Concludes, Written, answer_status}
 
 -- ---- what is asked for
 
@@ -60,12 +60,13 @@ pub record IsServed (words : List Text) (input output output_after : Option (Lis
   pub requested : IsRequested words input request
   pub comes : Comes request input output output_after answer
 
--- and just its lines were printed there
+-- and just its lines were printed there; it is none of those that tell what is wrong or lacks, with which a run ends with 1
 pub record HasServed (words : List Text) (input output output_after : Option (List ℕ)) : Type 0 where
   pub answer : Answer
   pub between : Option (List ℕ)
   pub served : IsServed words input output between answer
   pub prints : Appends between output_after (lines_of answer)
+  pub good : answer_status answer.output ≡ 0
 
 -- this is the first that is wrong with the words and the script
 pub record IsWrong (words : List Text) (input : Option (List ℕ)) (reason : Reason) : Type 0 where

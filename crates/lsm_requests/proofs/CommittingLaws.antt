@@ -3,12 +3,13 @@ use Rattle.std.proofs.Common.{◌≡◌, ◌∙◌, ℕ, Bool, true, false, true
 use Rattle.lsm_codec.specs.Map.{Map, Operation, apply}
 use Rattle.lsm_device.specs.declared.refusal.Refusal.{Refusal}
 use Rattle.lsm_device.specs.declared.refusal.Refusal.TheVariants.{Io, LogFull, NoSpace}
-use Rattle.lsm_store.specs.Backing.{StoreView}
+use Rattle.lsm_store.specs.Backing.{StoreView, machine_of}
 use Rattle.lsm_store.specs.Calls.{Reply, Commit, Number, Done, Value, Rows, Given, Handed, Refused, Unread}
 use Rattle.lsm_store.specs.RecoveryPoints.{last_map}
 use Rattle.lsm_store.specs.Run.{next}
 use Rattle.lsm_store.specs.Serving.{Serves}
 use Rattle.lsm_store.specs.State.{State}
+use Rattle.lsm_upkeep.specs.Compacting.{is_compacted}
 use Rattle.lsm_upkeep.specs.Flushing.{FlushesFirst}
 use Rattle.lsm_upkeep.specs.Keeping.{IsSameMap, KeepsMap}
 use Rattle.lsm_upkeep.specs.Steps.{IsUpkept}
@@ -16,6 +17,8 @@ use Rattle.lsm_upkeep.specs.Writing.{EndsWith, without_log_full}
 use Rattle.lsm_upkeep.proofs.KeptMaps.{onward, stays}
 use Rattle.lsm_upkeep.proofs.Upkept.{then}
 use Rattle.lsm_serve.specs.Committing.{CompactsWhole}
+use Rattle.lsm_requests.specs.Answers.{HasCompacted, TellsCompacted}
+use Rattle.lsm_requests.specs.declared.answer.Output.{Output}
 use Rattle.lsm_requests.specs.Commits.{Adds, AddsNot, IsKeptUp, Puts, map_in}
 
 -- the last of some maps
@@ -96,3 +99,11 @@ adds_not-keeps batch e old new w = onward old w.kept new w.upkeep.keeps (by w.en
 
 pub compacts : (old kept new : StoreView) → IsKeptUp old kept → IsUpkept old kept → FlushesFirst kept new → IsUpkept kept new → CompactsWhole old new
 compacts old kept new keeps first flushes rest = record { kept = kept; keeps_up = keeps; compacts = flushes; upkeep = then old kept new first rest }
+
+-- the answer, by whether all tables are where they are to be
+pub compacted : (is_whole : Bool) (old kept new : StoreView) (output : Output) → IsKeptUp old kept → IsUpkept old kept → FlushesFirst kept new → IsUpkept kept new
+    → is_whole ≡ is_compacted (machine_of new) → TellsCompacted is_whole new output → HasCompacted old new output
+compacted is_whole old kept new output keeps first flushes rest is told = record {
+  compacts = compacts old kept new keeps first flushes rest;
+  told = subst (λ (b : Bool). TellsCompacted b new output) is told;
+}

@@ -1,5 +1,5 @@
 -- What the program prints.
-use Rattle.std.specs.Prelude.{◌≡◌, ◌⊎◌, ℕ, ◌+◌, ◌*◌, ◌==◌, List, [], ◌∷◌, ◌++◌, map, Option, Some, None, is_some, Result, Ok, Err, IfOk, IsTrue, false, true, codes, decimal, string_bytes}
+use Rattle.std.specs.Prelude.{◌≡◌, ◌⊎◌, ℕ, ◌+◌, ◌*◌, ◌==◌, Bool, List, [], ◌∷◌, ◌++◌, map, Option, Some, None, is_some, Result, Ok, Err, IfOk, IsTrue, false, true, codes, decimal, string_bytes}
 use Rattle.std.specs.Io.KnownBytes.{Appends}
 use Rattle.lsm_language.specs.Faults.{IsRefusalBy, Reason, refusal, unopened, unwritten, reason_of}
 use Rattle.lsm_language.specs.declared.fault.Fault.{Fault}
@@ -48,6 +48,8 @@ use Rattle.lsm_requests.specs.declared.steps.Told.{Told}
 use Rattle.lsm_serve.specs.Committing.{CompactsWhole}
 use Rattle.lsm_serve.specs.Serving.{IsServed}
 use Rattle.lsm_storm.specs.Storms.{HasStormed}
+use Rattle.lsm_upkeep.specs.Compacting.{is_compacted}
+use Rattle.lsm_upkeep.specs.Lacking.{IsLacking}
 use Rattle.lsm_storm.specs.Tallies.{HasTallied}
 use Rattle.lsm_storm.specs.declared.counts.Counts.{Counts}
 use Rattle.lsm_storm.specs.declared.tallying.Tallied.{Tallied}
@@ -55,7 +57,7 @@ use Rattle.lsm_language.specs.declared.request.Request.{Request}
 use Rattle.lsm_language.specs.declared.request.Request.TheVariants as request
 use Rattle.lsm_requests.specs.declared.answer.Answer.{Answer}
 use Rattle.lsm_requests.specs.declared.answer.Output.{Output}
-use Rattle.lsm_requests.specs.declared.answer.Output.TheVariants.{Formatted, Batch, Value, Absent, Lines, Loaded, Dumped, Served, Found as FoundWrong, Explored as CountsCrashes, Tally}
+use Rattle.lsm_requests.specs.declared.answer.Output.TheVariants.{Formatted, Batch, Value, Absent, Lines, Halfway, Loaded, Dumped, Served, Found as FoundWrong, Explored as CountsCrashes, Tally}
 
 -- what an exploration counted
 abbrev pub explored_line : Explored → List ℕ
@@ -69,6 +71,7 @@ output_lines (Batch number) = codes "batch " ++ decimal number ++ 10 ∷ []
 output_lines (Value word) = codes "value " ++ string_bytes word ++ 10 ∷ []
 output_lines Absent = codes "absent" ++ 10 ∷ []
 output_lines (Lines text) = string_bytes text
+output_lines (Halfway text lack) = string_bytes text
 output_lines (Loaded number) = loaded_line number
 output_lines Dumped = []
 output_lines Served = []
@@ -147,6 +150,12 @@ pub record HasRows (from : Bytes) (limit : ℕ) (before after : StoreView) (outp
   pub serves : Serves before (Scan Now from None limit) (Rows page) after
   pub told : HasLines (page_lines page) output
 
+-- the line has the numbers of the store
+pub record IsStatLine (store : StoreView) (line : List ℕ) : Type 0 where
+  pub stat : Stat
+  pub numbers : stat_answer (machine_of store) ≡ Ok stat
+  pub is : line ≡ stat_line stat
+
 -- the numbers of the store are told
 pub record HasNumbers (before after : StoreView) (output : Output) : Type 0 where
   pub stat : Stat
@@ -154,10 +163,17 @@ pub record HasNumbers (before after : StoreView) (output : Output) : Type 0 wher
   pub same : after ≡ before
   pub told : HasLines (stat_line stat) output
 
--- the store was kept up, then its tables were taken down as far as they go, and its numbers are told
+-- the numbers of a store are told, with what it lacks where it isn't compacted to the end
+abbrev pub TellsCompacted : Bool → StoreView → Output → Type 0
+TellsCompacted true store (Lines text) = IsStatLine store (string_bytes text)
+TellsCompacted false store (Halfway text lack) = IsStatLine store (string_bytes text) × IsLacking store lack
+TellsCompacted whole store other = ⊥
+
+-- The store was kept up, then its tables were taken down as far as they go, and its numbers are told. Just where it isn't stopped, no flush
+-- waits and all tables are in the last level, that is the whole answer.
 pub record HasCompacted (before after : StoreView) (output : Output) : Type 0 where
   pub compacts : CompactsWhole before after
-  pub numbers : HasNumbers after after output
+  pub told : TellsCompacted (is_compacted (machine_of after)) after output
 
 -- this line tells what was found wrong
 abbrev pub TellsFound : List ℕ → Output → Type 0

@@ -1,18 +1,22 @@
 -- How a run ends: what is printed, and the exit status.
-use Rattle.std.specs.Prelude.{◌≡◌, ◌==◌, if◌then◌else◌, ℕ, false, List, Option, Result, Ok, Err, OnOk}
+use Rattle.std.specs.Prelude.{◌≡◌, ◌==◌, ◌++◌, ◌∷◌, if◌then◌else◌, ℕ, false, List, [], Option, Result, Ok, Err, OnOk, codes}
 use Rattle.std.specs.Io.KnownBytes.{Appends, Keeps}
 use Rattle.std.specs.declared.io.Error.{Error}
 use Rattle.lsm_requests.specs.declared.answer.Answer.{Answer}
 use Rattle.lsm_requests.specs.declared.answer.Output.{Output}
-use Rattle.lsm_requests.specs.declared.answer.Output.TheVariants.{Found, Explored, Tally}
+use Rattle.lsm_requests.specs.declared.answer.Output.TheVariants.{Halfway, Found, Explored, Tally}
 use Rattle.lsm_language.specs.declared.fault.Fault.{Fault}
 use Rattle.lsm_language.specs.declared.fault.Fault.TheVariants.{Refused, Failed, Unopened}
 use Rattle.lsm_language.specs.Faults.{failed_lines, refusal_line, unopened_lines, reason_of, status_of}
+use Rattle.lsm_upkeep.specs.Lacking.{lack_text}
+use Rattle.lsm_upkeep.specs.declared.lacking.Lack.{Lack}
 use Rattle.lsm_requests.specs.Answers.{lines_of}
 
--- the exit status of an answer: 1 where a check or an exploration found something wrong, or a tally is bad
+-- the exit status of an answer: 1 where a check or an exploration found something wrong, a tally is bad, or a store is not compacted to the
+-- end
 abbrev pub answer_status : Output → ℕ
 answer_status (Found text) = 1
+answer_status (Halfway text lack) = 1
 answer_status (Explored counts) = if counts.wrong == 0 then 0 else 1
 answer_status (Tally false) = 1
 answer_status other = 0
@@ -36,9 +40,18 @@ IsReported (Failed failure) old new = Appends old new (failed_lines failure)
 IsReported (Unopened cause) old new = Appends old new (unopened_lines cause)
 IsReported _ old new = Unit {0}
 
--- the errors are the fault, or stay as they are; that an answer could not be written is told as far as it can be
+-- what a store lacks that is not compacted to the end, in one line
+abbrev pub lack_line : Lack → List ℕ
+lack_line lack = codes "error: not compacted to the end: " ++ (lack_text lack ++ 10 ∷ [])
+
+-- the errors are what the answer says of it, or stay as they are
+abbrev pub TellsLack : Output → Option (List ℕ) → Option (List ℕ) → Type 0
+TellsLack (Halfway text lack) old new = Appends old new (lack_line lack)
+TellsLack other old new = Keeps old new
+
+-- the errors are the fault, or what a store lacks, or stay as they are; that an answer could not be written is told as far as it can be
 abbrev pub PrintsFault : Result Answer Fault → Result (Unit {0}) Error → Option (List ℕ) → Option (List ℕ) → Type 0
-PrintsFault (Ok answer) written old new = OnOk written (Keeps old new)
+PrintsFault (Ok answer) written old new = OnOk written (TellsLack answer.output old new)
 PrintsFault (Err fault) written old new = OnOk written (IsReported fault old new)
 
 -- the bytes that the writers hold before and after, as far as they are known

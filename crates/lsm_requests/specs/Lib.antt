@@ -1,6 +1,7 @@
 pub mod Steps
 pub mod Replies
 pub mod Commits
+pub mod Compacted
 pub mod Loading
 pub mod Dumping
 pub mod Answers

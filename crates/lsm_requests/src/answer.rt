@@ -6,6 +6,7 @@ ghost use Rattle.lsm_requests.specs.Answers.{Hands};
 use lsm_device::FileDevice;
 use lsm_explore::Explored;
 use lsm_store::Store;
+use lsm_upkeep::Lack;
 use std::fmt;
 
 /// What a subcommand prints, as lines.
@@ -21,6 +22,8 @@ pub enum Output {
     Absent,
     /// A line for each row, for each step, or for each count, or one with a store's numbers.
     Lines(String),
+    /// A line with the numbers of a store that is not compacted to the end, and what it lacks.
+    Halfway(String, Lack),
     /// So many rows were loaded.
     Loaded(u64),
     /// All rows were printed before.
@@ -67,7 +70,7 @@ impl fmt::Display for Output {
             Output::Batch(number) => writeln!(f, "batch {number}"),
             Output::Value(word) => writeln!(f, "value {word}"),
             Output::Absent => writeln!(f, "absent"),
-            Output::Lines(text) => write!(f, "{text}"),
+            Output::Lines(text) | Output::Halfway(text, _) => write!(f, "{text}"),
             Output::Loaded(rows) => writeln!(f, "loaded {rows}"),
             Output::Dumped | Output::Served => Ok(()),
             Output::Found(text) => write!(f, "{text}"),

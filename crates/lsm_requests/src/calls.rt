@@ -1,6 +1,6 @@
 //! The calls of the store that a request makes, on a store in a file.
 
-ghost use Rattle.std.specs.Prelude.{◌≡◌, ◌⊎◌, [], ◌+◌, true, false, map, is_some, option_map, None, Ok, Err, IfErr, IfOk};
+ghost use Rattle.std.specs.Prelude.{◌≡◌, ◌⊎◌, [], ◌+◌, true, false, map, is_some, option_map, string_bytes, None, Ok, Err, IfErr, IfOk};
 ghost use Rattle.lsm_check.specs.Images.{IsCheckRefusal};
 ghost use Rattle.lsm_device.specs.declared.refusal.Refusal.TheVariants.{NoMemory, Io, Stopped};
 ghost use Rattle.lsm_device.specs.declared.refusal.Refusal.{Refusal};
@@ -18,7 +18,7 @@ ghost use Rattle.lsm_requests.specs.Steps.{steps_after, lives_said, told_after, 
 ghost use Rattle.lsm_requests.specs.Replies.{table_line};
 ghost use Rattle.lsm_requests.specs.Commits.{HasCommitted};
 ghost use Rattle.lsm_requests.specs.Loading.{HasLoaded, KeepsAndLoads, RefusesToLoad};
-ghost use Rattle.lsm_requests.specs.Answers.{Comes, Hands, HasCompacted, HasFormatted, HasCounted, IsRefusedOpened, OfDumped, TellsDumped, TellsLoaded, TellsNumber, TellsServed, HasFound, HasServed, HasLives, HasNumbers, HasChecked, IsChecked, TellsFound, HasRows, HasReplies, OfOpened};
+ghost use Rattle.lsm_requests.specs.Answers.{Comes, Hands, HasCompacted, HasFormatted, HasCounted, IsRefusedOpened, IsStatLine, OfDumped, TellsDumped, TellsLoaded, TellsNumber, TellsServed, HasFound, HasServed, HasLives, HasNumbers, HasChecked, IsChecked, TellsFound, HasRows, HasReplies, OfOpened};
 ghost use Rattle.lsm_requests.specs.Refusing.{FaultsWith, RefusesToCommit, RefusesToCompact, RefusesToTell};
 
 use crate::answer::{Answer, Output};
@@ -39,7 +39,7 @@ use lsm_language::{Fault, Geometry, Line, Load, Request, buffered};
 use lsm_progress::Progress;
 use lsm_replies::stat_text;
 use lsm_store::{At, Store};
-use lsm_upkeep::compact_all_showing;
+use lsm_upkeep::{compact_all_showing, lack_of};
 use std::alloc::Global;
 use std::fs::{File, Files};
 use std::io::{BufRead, Read, Write};
@@ -90,7 +90,7 @@ pub fn answer_request<
     }
 }
 
-fn compact<R: Files<File = File> + AllocGlobal + Threads + Sync, P: Progress>(
+fn compact<R: Files<File = File> + AllocGlobal, P: Progress>(
     rt: &R,
     file: &str,
     progress: &mut P,
@@ -99,7 +99,7 @@ fn compact<R: Files<File = File> + AllocGlobal + Threads + Sync, P: Progress>(
     ensures refused { IfErr result (λ e. IsRefusalBy (IsRefusedOpened RefusesToCompact) (reason_of e)) }
 {
     let mut store = open(rt, file)?;
-    let done = keep_and_compact(rt, rt.alloc(), &mut store, progress);
+    let done = keep_and_compact(rt.alloc(), &mut store, progress);
     closed(rt.alloc(), store, done)
 }
 
@@ -118,9 +118,8 @@ fn closed(
     }
 }
 
-// Keeps a store up, then compacts it, and tells its numbers.
-fn keep_and_compact<R: Threads + Sync, D: Device, P: Progress>(
-    rt: &R,
+// Keeps a store up, then compacts it, and tells its numbers. Where it isn't compacted to the end they come with what it lacks.
+fn keep_and_compact<D: Device, P: Progress>(
     alloc: Global,
     store: &mut Store<D>,
     progress: &mut P,
@@ -128,10 +127,13 @@ fn keep_and_compact<R: Threads + Sync, D: Device, P: Progress>(
     ensures gives { IfOk result (HasCompacted store.old store.new) }
     ensures refused { IfErr result (RefusesToCompact store.old) }
 {
-    keep(rt, alloc, store);
-    compact_all_showing(rt, alloc, store, progress);
-    let numbers = numbers(alloc, store)?;
-    Ok(numbers)
+    keep(alloc, store);
+    let is_whole = compact_all_showing(alloc, store, progress);
+    let numbers = numbers_line(alloc, store)?;
+    if is_whole {
+        return Ok(Output::Lines(numbers));
+    }
+    Ok(Output::Halfway(numbers, lack_of(alloc, store)))
 }
 
 fn dump<R: Files<File = File> + AllocGlobal, O: Write>(
@@ -149,7 +151,7 @@ fn dump<R: Files<File = File> + AllocGlobal, O: Write>(
     }
 }
 
-fn load<R: Files<File = File> + AllocGlobal + Threads + Sync, I: Read, O: Write, P: Progress>(
+fn load<R: Files<File = File> + AllocGlobal, I: Read, O: Write, P: Progress>(
     rt: &R,
     file: &str,
     input: &mut I,
@@ -161,7 +163,7 @@ fn load<R: Files<File = File> + AllocGlobal + Threads + Sync, I: Read, O: Write,
 {
     let mut store = open(rt, file)?;
     let mut lines = buffered(rt.alloc(), input)?;
-    match keep_and_load(rt, rt.alloc(), &mut store, &mut lines, progress) {
+    match keep_and_load(rt.alloc(), &mut store, &mut lines, progress) {
         Ok(loaded) => loaded_so(rt.alloc(), store, loaded, output),
         Err(reason) => Err(failed(rt.alloc(), reason, &store.into_device())),
     }
@@ -190,7 +192,7 @@ fn loaded_so<O: Write>(
 }
 
 // Answers the lines of an input, with the store open all the while. A store that a failed write or sync has stopped is told at the end.
-fn serve<R: Files<File = File> + AllocGlobal + Threads + Sync, I: Read, O: Write>(
+fn serve<R: Files<File = File> + AllocGlobal, I: Read, O: Write>(
     rt: &R,
     file: &str,
     input: &mut I,
@@ -201,7 +203,7 @@ fn serve<R: Files<File = File> + AllocGlobal + Threads + Sync, I: Read, O: Write
 {
     let mut store = open(rt, file)?;
     let mut lines = buffered(rt.alloc(), input)?;
-    match lsm_serve::serve(rt, rt.alloc(), &mut store, &mut lines, output) {
+    match lsm_serve::serve(rt.alloc(), &mut store, &mut lines, output) {
         Ok(()) => served(rt.alloc(), store),
         Err(fault) => Err(with_error(rt.alloc(), fault, &store.into_device())),
     }
@@ -219,8 +221,7 @@ fn served(alloc: Global, store: Store<FileDevice>) -> Result<Answer, Fault>
 }
 
 // Keeps a store up, then loads rows.
-fn keep_and_load<R: Threads + Sync, D: Device, I: BufRead, P: Progress>(
-    rt: &R,
+fn keep_and_load<D: Device, I: BufRead, P: Progress>(
     alloc: Global,
     store: &mut Store<D>,
     lines: &mut I,
@@ -229,8 +230,8 @@ fn keep_and_load<R: Threads + Sync, D: Device, I: BufRead, P: Progress>(
     ensures loads { IfOk result (λ loaded. KeepsAndLoads (I.remaining lines.old) loaded store.old store.new) }
     ensures refused { IfErr result (RefusesToLoad (I.remaining lines.old) store.old) }
 {
-    keep(rt, alloc, store);
-    load_rows(rt, alloc, store, lines, progress)
+    keep(alloc, store);
+    load_rows(alloc, store, lines, progress)
 }
 
 // Prints how many rows were loaded before the fault.
@@ -269,7 +270,7 @@ fn format<R: Files<File = File> + AllocGlobal>(
     }
 }
 
-fn commit<R: Files<File = File> + AllocGlobal + Threads + Sync>(
+fn commit<R: Files<File = File> + AllocGlobal>(
     rt: &R,
     file: &str,
     guards: Option<&[Guard]>,
@@ -279,7 +280,7 @@ fn commit<R: Files<File = File> + AllocGlobal + Threads + Sync>(
     ensures refused { IfErr result (λ e. IsRefusalBy (IsRefusedOpened (RefusesToCommit (option_map (λ g. g.now) guards.entry) batch.now)) (reason_of e)) }
 {
     let mut store = open(rt, file)?;
-    let done = committing::commit(rt, rt.alloc(), &mut store, guards, batch);
+    let done = committing::commit(rt.alloc(), &mut store, guards, batch);
     closed(rt.alloc(), store, done)
 }
 
@@ -352,8 +353,16 @@ fn numbers<D: Device>(alloc: Global, store: &Store<D>) -> Result<Output, Refusal
     ensures gives { IfOk result (HasNumbers store.now store.now) }
     ensures refused { IfErr result (λ e. (e ≡ NoMemory) ⊎ (stat_answer (machine_of store.now) ≡ Err e)) }
 {
+    Ok(Output::Lines(numbers_line(alloc, store)?))
+}
+
+// The numbers of a store, in a line.
+fn numbers_line<D: Device>(alloc: Global, store: &Store<D>) -> Result<String, Refusal>
+    ensures gives { IfOk result (λ line. IsStatLine store.now (string_bytes line)) }
+    ensures refused { IfErr result (λ e. (e ≡ NoMemory) ⊎ (stat_answer (machine_of store.now) ≡ Err e)) }
+{
     let stat = store.stat()?;
-    Ok(Output::Lines(stat_text(alloc, &stat)?))
+    Ok(stat_text(alloc, &stat)?)
 }
 
 fn stat<R: Files<File = File> + AllocGlobal>(rt: &R, file: &str) -> Result<Answer, Fault>

@@ -12,13 +12,11 @@ use lsm_policy::Policy;
 use lsm_store::Store;
 use lsm_upkeep::{keep_up, write};
 use std::alloc::Global;
-use std::thread::Threads;
 
 /// Keeps a store up, commits a batch, where guards are given under them, and syncs it. A batch that puts values is refused with
 /// `NoSpace` where it finds no room in tables, though all were brought down as far as they go; a batch of deletes is so only where a
 /// snapshot is live, so that a store can be emptied.
-pub fn commit<R: Threads + Sync, D: Device>(
-    rt: &R,
+pub fn commit<D: Device>(
     alloc: Global,
     store: &mut Store<D>,
     guards: Option<&[Guard]>,
@@ -27,16 +25,16 @@ pub fn commit<R: Threads + Sync, D: Device>(
     ensures gives { IfOk result (HasCommitted (option_map (λ g. g.now) guards.entry) batch.now store.old store.new) }
     ensures refused { IfErr result (RefusesToCommit (option_map (λ g. g.now) guards.entry) batch.now store.old) }
 {
-    keep(rt, alloc, store);
-    let number = write(rt, alloc, store, guards, batch)?;
+    keep(alloc, store);
+    let number = write(alloc, store, guards, batch)?;
     store.sync()?;
     Ok(Output::Batch(number))
 }
 
 /// Keeps a store up: it is settled, and compacted where less than half of its blocks is free, or more than 768 tables live.
-pub fn keep<R: Threads + Sync, D: Device>(rt: &R, alloc: Global, store: &mut Store<D>)
+pub fn keep<D: Device>(alloc: Global, store: &mut Store<D>)
     ensures keeps { IsKeptUp store.old store.new }
     ensures upkept { IsUpkept store.old store.new }
 {
-    keep_up(rt, alloc, store, &Policy::new());
+    keep_up(alloc, store, &Policy::new());
 }

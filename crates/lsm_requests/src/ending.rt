@@ -1,20 +1,21 @@
 //! How a run of the program ends: what is printed, and the exit status.
 
 ghost use Rattle.std.specs.Prelude.{◌≡◌, ◌≤◌, OnOk};
-ghost use Rattle.std.specs.Io.KnownBytes.{Appends, Keeps};
+ghost use Rattle.std.specs.Io.KnownBytes.{Appends};
 ghost use Rattle.lsm_requests.specs.Answers.{lines_of};
-ghost use Rattle.lsm_requests.specs.Endings.{Concludes, IsReported, answer_status, status_after};
+ghost use Rattle.lsm_requests.specs.Endings.{Concludes, IsReported, TellsLack, answer_status, lack_line, status_after};
 
 use crate::answer::{Answer, Output};
 use lsm_device::Refusal;
 use lsm_language::{Fault, Usage, cause_text, failure_text, refusal_text};
+use lsm_upkeep::Lack;
 use std::io;
 use std::io::Write;
 
 /// The exit status of a program that did what it was asked for.
 pub const DONE: u8 = 0;
 
-/// The exit status where a check or an exploration found something wrong, where a tally is bad, or where a refusal, or a read or write that failed, ended the program.
+/// The exit status where a check or an exploration found something wrong, where a tally is bad, where a store is not compacted to the end, or where a refusal, or a read or write that failed, ended the program.
 pub const REFUSED: u8 = 1;
 
 /// The exit status where the words or the script are wrong.
@@ -65,26 +66,46 @@ fn answer_status(answer: &Answer) -> u8
     ensures { result ≡ answer_status answer.now.output }
 {
     match &answer.output {
-        Output::Found(_) | Output::Tally(false) => REFUSED,
+        Output::Found(_) | Output::Tally(false) | Output::Halfway(..) => REFUSED,
         Output::Explored(explored) if explored.wrong != 0 => REFUSED,
         _ => DONE,
     }
 }
 
-// Prints the answer, and tells where that fails. Where that can't be told either, the status is all that does.
+// Prints the answer and tells what it lacks, or that it can't be printed. Where that can't be told, the status is all that does.
 fn print_or_tell<O: Write, E: Write>(
     output: &mut O,
     errors: &mut E,
     answer: &Answer,
 ) -> io::Result<()>
     ensures printed { OnOk result (Appends (O.contents output.old) (O.contents output.new) (lines_of answer.now)) }
-    ensures silent { OnOk result (Keeps (E.contents errors.old) (E.contents errors.new)) }
+    ensures lack { OnOk result (TellsLack answer.now.output (E.contents errors.old) (E.contents errors.new)) }
 {
-    let printed = print(output, answer);
-    if let Err(error) = &printed {
-        tell(errors, error);
+    match print(output, answer) {
+        Ok(()) => tell_lack_in(errors, &answer.output),
+        Err(error) => {
+            tell(errors, &error);
+            Err(error)
+        }
     }
-    printed
+}
+
+// Tells what a store lacks that is not compacted to the end, where the answer is of one.
+fn tell_lack_in<E: Write>(errors: &mut E, output: &Output) -> io::Result<()>
+    ensures { OnOk result (TellsLack output.now (E.contents errors.old) (E.contents errors.new)) }
+{
+    match output {
+        Output::Halfway(_, lack) => tell_lack(errors, lack),
+        _ => Ok(()),
+    }
+}
+
+fn tell_lack<E: Write>(errors: &mut E, lack: &Lack) -> io::Result<()>
+    ensures { OnOk result (Appends (E.contents errors.old) (E.contents errors.new) (lack_line lack.now)) }
+{
+    writeln!(errors, "error: not compacted to the end: {lack}")?;
+    errors.flush()?;
+    Ok(())
 }
 
 fn tell<E: Write>(errors: &mut E, error: &io::Error) {

@@ -15,7 +15,6 @@ use lsm_store::Store;
 use lsm_upkeep::write;
 use std::alloc::Global;
 use std::io::BufRead;
-use std::thread::Threads;
 
 /// How far a loading is.
 #[derive(Drop)]
@@ -37,8 +36,7 @@ pub struct Loaded {
 /// Puts the rows of an input into a store, in their order, and syncs them. It ends at the end of the input, at a line that is
 /// no row, or at a refusal; what was before that is in the store. It is refused itself where the sync is. It tells `progress` after
 /// each row how many are committed.
-pub fn load_rows<R: Threads + Sync, D: Device, I: BufRead, P: Progress>(
-    rt: &R,
+pub fn load_rows<D: Device, I: BufRead, P: Progress>(
     alloc: Global,
     store: &mut Store<D>,
     input: &mut I,
@@ -52,7 +50,7 @@ pub fn load_rows<R: Threads + Sync, D: Device, I: BufRead, P: Progress>(
         read: 0,
         loaded: 0,
     };
-    let ended = load_all(rt, alloc, store, input, &mut loading, progress);
+    let ended = load_all(alloc, store, input, &mut loading, progress);
     store.sync()?;
     Ok(Loaded {
         rows: loading.loaded,
@@ -61,8 +59,7 @@ pub fn load_rows<R: Threads + Sync, D: Device, I: BufRead, P: Progress>(
 }
 
 // Reads rows to the end and commits them. What was read before a line that is no row is committed too.
-fn load_all<R: Threads + Sync, D: Device, I: BufRead, P: Progress>(
-    rt: &R,
+fn load_all<D: Device, I: BufRead, P: Progress>(
     alloc: Global,
     store: &mut Store<D>,
     input: &mut I,
@@ -72,11 +69,11 @@ fn load_all<R: Threads + Sync, D: Device, I: BufRead, P: Progress>(
     requires { loading.old ≡ none_loaded }
     ensures { ArePut (I.remaining input.old) result loading.new store.old store.new }
 {
-    let read = read_rows(rt, alloc, store, input, loading, progress);
+    let read = read_rows(alloc, store, input, loading, progress);
     if is_refused(&read) {
         return read;
     }
-    commit_waiting(rt, alloc, store, loading)?;
+    commit_waiting(alloc, store, loading)?;
     read
 }
 
@@ -87,8 +84,7 @@ fn is_refused(ended: &Result<(), Fault>) -> bool
 }
 
 // Reads rows to the end of the input, and commits all but the last of them.
-fn read_rows<R: Threads + Sync, D: Device, I: BufRead, P: Progress>(
-    rt: &R,
+fn read_rows<D: Device, I: BufRead, P: Progress>(
     alloc: Global,
     store: &mut Store<D>,
     input: &mut I,
@@ -104,7 +100,7 @@ fn read_rows<R: Threads + Sync, D: Device, I: BufRead, P: Progress>(
             return Ok(());
         }
         let row = row_in(alloc, loading.read, &line)?;
-        take(rt, alloc, store, loading, row)?;
+        take(alloc, store, loading, row)?;
         progress.reached(Milestone::Loaded {
             rows: loading.loaded,
         });
@@ -128,8 +124,7 @@ fn row_in(alloc: Global, before: u64, line: &[u8]) -> Result<Op, Fault>
 }
 
 // Takes a row to those that wait. Where they fill a batch, that is committed first.
-fn take<R: Threads + Sync, D: Device>(
-    rt: &R,
+fn take<D: Device>(
     alloc: Global,
     store: &mut Store<D>,
     loading: &mut Loading,
@@ -142,7 +137,7 @@ fn take<R: Threads + Sync, D: Device>(
         loading.read += 1;
         return Ok(());
     }
-    commit_waiting(rt, alloc, store, loading)?;
+    commit_waiting(alloc, store, loading)?;
     loading.batch = Some(Batch::new(alloc, row)?);
     loading.read += 1;
     Ok(())
@@ -184,22 +179,20 @@ fn add_to(batch: &mut Batch, row: &Op) -> Result<(), Refusal>
 }
 
 // Commits the rows that wait, if there are any.
-fn commit_waiting<R: Threads + Sync, D: Device>(
-    rt: &R,
+fn commit_waiting<D: Device>(
     alloc: Global,
     store: &mut Store<D>,
     loading: &mut Loading,
 ) -> Result<(), Refusal>
     ensures { MatchResult result (λ _. CommitsWaiting loading.old store.old loading.new store.new) (λ e. WaitingRefused loading.old store.old e loading.new store.new) }
 {
-    commit_batch(rt, alloc, store, &loading.batch)?;
+    commit_batch(alloc, store, &loading.batch)?;
     loading.batch = None;
     loading.loaded = loading.read;
     Ok(())
 }
 
-fn commit_batch<R: Threads + Sync, D: Device>(
-    rt: &R,
+fn commit_batch<D: Device>(
     alloc: Global,
     store: &mut Store<D>,
     waiting: &Option<Batch>,
@@ -208,7 +201,7 @@ fn commit_batch<R: Threads + Sync, D: Device>(
 {
     match waiting {
         Some(batch) => {
-            write(rt, alloc, store, None, batch)?;
+            write(alloc, store, None, batch)?;
             Ok(())
         }
         None => Ok(()),

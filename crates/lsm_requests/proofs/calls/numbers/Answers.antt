@@ -1,10 +1,10 @@
-use Rattle.std.proofs.Common.{rules, refl}
+use Rattle.std.proofs.Common.{refl}
 use Rattle.lsm_requests.proofs.calls.numbers.Goals as goal
 
 pub returns-clause-gives : goal.returns-clause-gives
 returns-clause-gives g c = record {
-  stat = c.in_ok-stat.stat;
-  numbers = search rules;
+  stat = c.in_ok-numbers_line.ensures.gives.stat;
+  numbers = c.in_ok-numbers_line.ensures.gives.numbers;
   same = refl;
-  told = search rules;
+  told = c.in_ok-numbers_line.ensures.gives.is;
 }
