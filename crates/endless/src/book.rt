@@ -1,0 +1,210 @@
+//! The values that the keys of a store are to have.
+
+use crate::stream::{Deed, KEYS};
+use lsm_codec::{Batch, Op};
+use lsm_device::Refusal;
+use std::alloc::{AllocError, Global};
+
+/// The most bytes of a value.
+const MOST: usize = 2_048;
+
+/// Operations of one batch, and the batch.
+pub(crate) struct Gathered {
+    pub batch: Batch,
+    pub deeds: Vec<Deed>,
+}
+
+impl Drop for Gathered {
+    fn drop(self) {
+        let Gathered { batch: _, deeds: _ } = self;
+    }
+}
+
+impl Gathered {
+    /// Whether one of the operations puts a value.
+    pub fn has_put(&self) -> bool {
+        for deed in self.deeds.iter() {
+            if deed.value.is_some() {
+                return true;
+            }
+        }
+        false
+    }
+}
+
+/// The values that the keys are to have.
+pub(crate) struct Book {
+    alloc: Global,
+    /// Of the key of each number 0, or the length of its value and a byte.
+    rows: Vec<u32>,
+    /// The bytes of a key.
+    key_len: u32,
+    /// How many batches were noted.
+    count: u32,
+}
+
+impl Drop for Book {
+    fn drop(self) {
+        let Book {
+            alloc: _,
+            rows: _,
+            key_len: _,
+            count: _,
+        } = self;
+    }
+}
+
+/// What is kept of a value.
+fn row_of(length: u32, byte: u32) -> u32 {
+    if length == 0 {
+        return 1;
+    }
+    length
+        .wrapping_mul(256)
+        .wrapping_add(byte % 256)
+        .wrapping_add(1)
+}
+
+/// What would be kept of a value; nothing where its bytes differ.
+fn told_row(value: &[u8]) -> u32 {
+    let Some(first) = value.first() else {
+        return 1;
+    };
+    for byte in value {
+        if *byte != *first {
+            return 0;
+        }
+    }
+    row_of(u32::try_from(value.len()).unwrap_or(0), u32::from(*first))
+}
+
+/// So many of the first bytes, or all of them.
+fn part(bytes: &[u8], length: u32) -> &[u8] {
+    match bytes.get(..length as usize) {
+        Some(part) => part,
+        None => bytes,
+    }
+}
+
+/// No value for any key.
+fn no_rows(alloc: Global) -> Result<Vec<u32>, AllocError> {
+    let mut rows = Vec::new(alloc);
+    for _ in 0..KEYS {
+        rows.push(0)?;
+    }
+    Ok(rows)
+}
+
+impl Book {
+    /// No value for any key, where keys have so many bytes.
+    pub fn new(alloc: Global, key_len: u32) -> Result<Book, AllocError> {
+        Ok(Book {
+            alloc,
+            rows: no_rows(alloc)?,
+            key_len,
+            count: 0,
+        })
+    }
+
+    /// The key of a number.
+    pub fn key(&self, number: u32) -> Result<Vec<u8>, AllocError> {
+        let [_, _, high, low] = number.to_be_bytes();
+        let mut key = Vec::new(self.alloc);
+        key.push(high)?;
+        key.push(low)?;
+        for _ in 2..self.key_len {
+            key.push(0)?;
+        }
+        Ok(key)
+    }
+
+    // The byte that the values of the next batch are made of.
+    fn byte(&self) -> u8 {
+        let [_, _, _, byte] = self.count.to_be_bytes();
+        byte
+    }
+
+    fn op(&self, deed: Deed) -> Result<Op, Refusal> {
+        let key = self.key(deed.key)?;
+        match deed.value {
+            Some(length) => Op::put(self.alloc, &key, part(&[self.byte(); MOST], length)),
+            None => Op::delete(self.alloc, &key),
+        }
+    }
+
+    fn append(&self, batch: &mut Batch, deed: Deed) -> Result<(), Refusal> {
+        let key = self.key(deed.key)?;
+        match deed.value {
+            Some(length) => batch.put(&key, part(&[self.byte(); MOST], length)),
+            None => batch.delete(&key),
+        }
+    }
+
+    /// A batch of one operation.
+    pub fn one(&self, deed: Deed) -> Result<Gathered, Refusal> {
+        let mut deeds = Vec::new(self.alloc);
+        deeds.push(deed)?;
+        let batch = Batch::new(self.alloc, self.op(deed)?)?;
+        Ok(Gathered { batch, deeds })
+    }
+
+    /// Adds an operation to a batch. It tells whether there was room in the batch.
+    pub fn add(&self, gathered: &mut Gathered, deed: Deed) -> Result<bool, Refusal> {
+        match self.append(&mut gathered.batch, deed) {
+            Ok(()) => {
+                gathered.deeds.push(deed)?;
+                Ok(true)
+            }
+            Err(Refusal::BatchTooBig) => Ok(false),
+            Err(refusal) => Err(refusal),
+        }
+    }
+
+    /// Notes what a batch did.
+    pub fn note(&mut self, deeds: &[Deed]) {
+        for deed in deeds {
+            let row = match deed.value {
+                Some(length) => row_of(length, self.count),
+                None => 0,
+            };
+            if let Some(place) = self.rows.get_mut(deed.key as usize) {
+                *place = row;
+            }
+        }
+        self.count = self.count.wrapping_add(1);
+    }
+
+    /// The numbers of the keys that have values.
+    pub fn keys(&self) -> Result<Vec<u32>, AllocError> {
+        let mut keys = Vec::new(self.alloc);
+        for number in 0..KEYS {
+            if self.row(number) != 0 {
+                keys.push(number)?;
+            }
+        }
+        Ok(keys)
+    }
+
+    fn row(&self, number: u32) -> u32 {
+        match self.rows.get(number as usize) {
+            Some(row) => *row,
+            None => 0,
+        }
+    }
+
+    /// The number of the first key from one on that has a value.
+    pub fn next_number(&self, from: u32) -> Option<u32> {
+        for number in from..KEYS {
+            if self.row(number) != 0 {
+                return Some(number);
+            }
+        }
+        None
+    }
+
+    /// Whether a row is the one of a number.
+    pub fn is_row(&self, number: u32, key: &[u8], value: &[u8]) -> Result<bool, AllocError> {
+        let wanted = self.key(number)?;
+        Ok(wanted.as_slice().cmp(key).is_eq() && self.row(number) == told_row(value))
+    }
+}

@@ -1,0 +1,62 @@
+//! Stores of whose device calls fail.
+
+use crate::book::Gathered;
+use crate::stream::Stream;
+use crate::subject::{Failure, Subject, Went};
+use crate::trouble::Trouble;
+
+/// So many batches are made at most until the call fails.
+const TURNS: u32 = 12;
+
+/// The next batch: of two one deletes a row, and one is of a stream.
+fn next_batch(subject: &Subject, stream: &mut Stream, turn: u32) -> Result<Gathered, Trouble> {
+    if turn % 2 == 0 {
+        return Ok(subject.delete_of(stream.key())?);
+    }
+    subject.gathered(stream)
+}
+
+/// Makes batches and syncs each, until a call fails. It answers the one that a crash may leave, or not; none where no write and no sync failed.
+fn risked(subject: &mut Subject, stream: &mut Stream) -> Result<Option<Gathered>, Trouble> {
+    for turn in 0..TURNS {
+        let gathered = next_batch(subject, stream, turn)?;
+        if let Went::Unsure = subject.risk(&gathered)? {
+            return Ok(Some(gathered));
+        }
+    }
+    Ok(None)
+}
+
+/// Lets one call fail, and a crash come.
+fn strike<R: AllocGlobal>(
+    rt: &R,
+    subject: Subject,
+    stream: &mut Stream,
+    failure: Failure,
+) -> Result<Subject, Trouble> {
+    let mut subject = subject.armed(rt, failure)?;
+    let last = risked(&mut subject, stream)?;
+    let mut subject = subject.crashed(rt, &mut stream.draws)?;
+    subject.settle(last)?;
+    Ok(subject)
+}
+
+/// Lets so many calls fail, one behind each opening, or in every fourth: the first of them, and then each time one that comes so much later.
+pub(crate) fn strike_all<R: AllocGlobal>(
+    rt: &R,
+    subject: Subject,
+    stream: &mut Stream,
+    count: u32,
+) -> Result<Subject, Trouble> {
+    let apart = stream.draws.one_of(&[1, 17, 61, 149]);
+    let mut subject = subject;
+    for turn in 0..count {
+        let failure = Failure {
+            after: u64::from(turn.wrapping_mul(apart)),
+            in_opening: turn % 4 == 3,
+            kept: turn % 2 == 0,
+        };
+        subject = strike(rt, subject, stream, failure)?;
+    }
+    Ok(subject)
+}

@@ -1,0 +1,46 @@
+//! What is wrong with a store.
+
+use lsm_device::Refusal;
+use std::alloc::AllocError;
+
+/// What is wrong with a store.
+#[derive(Clone, Copy, Debug)]
+pub(crate) enum Trouble {
+    /// It was refused to be made or opened.
+    Opening(Refusal),
+    /// A delete was refused.
+    Delete(Refusal),
+    /// A put was refused where there is room.
+    Put(Refusal),
+    /// Its rows are others.
+    Rows,
+    /// Tables were left above the last level.
+    Compaction,
+    /// It took fewer rows than before it was emptied.
+    Room,
+    /// Another call was refused, or there is no memory for the test.
+    Call(Refusal),
+}
+
+impl From<Refusal> for Trouble {
+    ghost use Rattle.std.specs.Prelude.{◌≡◌};
+    ghost use Rattle.endless.specs.declared.trouble.Trouble.TheVariants.{Call};
+
+    ghost from_gives = { λ refusal told. told ≡ Call refusal };
+
+    fn from(refusal: Refusal) -> Self {
+        Trouble::Call(refusal)
+    }
+}
+
+impl From<AllocError> for Trouble {
+    ghost use Rattle.std.specs.Prelude.{◌≡◌};
+    ghost use Rattle.lsm_device.specs.declared.refusal.Refusal.TheVariants.{NoMemory};
+    ghost use Rattle.endless.specs.declared.trouble.Trouble.TheVariants.{Call};
+
+    ghost from_gives = { λ _ told. told ≡ Call NoMemory };
+
+    fn from(_error: AllocError) -> Self {
+        Trouble::Call(Refusal::NoMemory)
+    }
+}

@@ -1,0 +1,18 @@
+#!/usr/bin/env bash
+# Fills stores with random streams until they are refused, rescues them by deletes, and fills them again; and leads those that were once
+# stuck. Device calls of every twentieth fail.
+#
+#     tests/filled.sh PROGRAM [STORES [SEED]]
+#
+# PROGRAM is a built `lsmctl`; the program that fills them, `endless`, is that of the same tree. There are 1,000 STORES from SEED 1 on.
+source "$(dirname "$(realpath "$0")")/common.sh"
+program=$(realpath "${1:?the path of a built lsmctl}")
+endless=$(realpath "$(dirname "$program")/../../endless/out/endless")
+stores=${2:-1000}
+seed=${3:-1}
+
+"$endless" "$seed" "$stores" 1000 0 0 20 2000 >"$room/said" 2>"$room/counts" || {
+    cat "$room/counts" "$room/said" >&2
+    fail "endless ends with $?"
+}
+echo "filled.sh: $(tail -n 1 "$room/counts"): $(cat "$room/said")"
