@@ -1,13 +1,20 @@
 #!/usr/bin/env bash
-# Looks that the example of the README is, line by line, one that stands in a crate, so that the gate proves it.
+# Looks that the examples of README.md and docs/api.md are, line by line, those of crates, so that the gate proves them.
 source "$(dirname "$(realpath "$0")")/common.sh"
 cd "$tests/.."
 
-# The lines of the example in a file.
+# The lines from one to another of the example in a file.
 example() {
-    sed -n '/^    let device = FileDevice::open/,/^    store\.release/p' "$1"
+    sed -n "/^    $2/,/^    $3/p" "$1"
 }
 
-[ "$(example README.md | wc -l)" -gt 10 ] || fail "README has no example"
-diff <(example README.md) <(example crates/store_example/src/first_use.rt) || fail "the example of the README is another one than use_a_file of crates/store_example"
-echo "examples.sh: the example of the README stands in a crate"
+# A page shows the lines that a crate has.
+shows() {
+    local page=$1 crate=$2
+    [ "$(example "$page" "$3" "$4" | wc -l)" -gt 10 ] || fail "$page has no example"
+    diff <(example "$page" "$3" "$4") <(example "$crate" "$3" "$4") || fail "the example of $page is another one than that of $crate"
+}
+
+shows README.md crates/db_example/src/main.rt 'let mut db = Db::open_or_create' 'db\.release'
+shows docs/api.md crates/store_example/src/first_use.rt 'let device = FileDevice::open' 'store\.release'
+echo "examples.sh: the examples of README.md and docs/api.md stand in crates"
