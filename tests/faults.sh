@@ -181,7 +181,12 @@ is_refused_or_read() {
     is_refused "$2"
 }
 of_compact() {
-    is_refused_or_read "$@"
+    # It doesn't get to the end then, and tells so.
+    if [ "$1" = pread64 ] && grep -q '^error: not compacted to the end: .* was not finished$' err; then
+        [ "$status" -eq 1 ] && grep -q '^generation ' out || fail "it ends with $status, and prints $(head -c 300 out err)"
+    else
+        is_refused_or_read "$@"
+    fi
     opens
     cmp -s synced rows || fail "then there are other rows: $(diff synced rows | head -n 3 | cut -c 1-100)"
 }

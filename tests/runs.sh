@@ -492,7 +492,7 @@ halfway() {
         echo 'install 1 | ok'
     } >space
     scripts <space
-    compacts_halfway half 'generation 6 batches 5 room 2048 waiting 0 runs 1 tables 3 free 85' \
+    compacts_halfway half 'generation 5 batches 5 room 2048 waiting 0 runs 1 tables 3 free 85' \
         "the next step wants up to 157 blocks, up to 68 of them side by side; $free"
     {
         echo 'replay half |'
@@ -500,7 +500,7 @@ halfway() {
         echo 'rotate | ok'
     } >space
     scripts <space
-    compacts_halfway half 'generation 9 batches 10 room 2048 waiting 1 runs 1 tables 3 free 85' \
+    compacts_halfway half 'generation 8 batches 10 room 2048 waiting 1 runs 1 tables 3 free 85' \
         "a flush waits, which wants up to 164 blocks, up to 71 of them side by side; $free"
 }
 
