@@ -1,6 +1,6 @@
 #!/usr/bin/env bash
 # Fills stores with random streams until they are refused, rescues them by deletes, and fills them again; and leads those that were once
-# stuck. Device calls of every twentieth fail.
+# stuck. Of one store in 25 calls of the device fail.
 #
 #     tests/filled.sh PROGRAM [STORES [SEED]]
 #
