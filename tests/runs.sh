@@ -481,7 +481,8 @@ compacts_halfway() {
 }
 
 # A run of level 0 takes 154 of 239 blocks, in tables of 67, 67 and 20, and goes down as a whole, which takes as many, and a block more for
-# each table at most. So it stays where it is, and so do as many keys again that wait for a flush.
+# each table at most. So it stays where it is, and so do as many keys again that wait for a flush: 145 data blocks, 10 for their keys in
+# indexes and 3 for each of 3 tables at most.
 halfway() {
     local free='85 are free, at most 85 of them side by side'
     {
