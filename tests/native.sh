@@ -5,7 +5,7 @@
 #     tests/native.sh PROGRAM [PART]
 #
 # PROGRAM is a built `lsmctl`. PART is the part of the long loops that is done, 1 by default. The library of the store is built if it isn't
-# there, by `rt lib` in crates/corwaphi_c; ARCHIVE names another one.
+# there, by tests/archive.sh of what `rt ci` left; ARCHIVE names another one.
 program=$(realpath "${1:?the path of a built lsmctl}")
 part=${2:-1}
 # shellcheck source=tests/common.sh
@@ -27,13 +27,13 @@ runs() {
 
 crate=$tests/../crates/corwaphi_c
 archive=${ARCHIVE:-$crate/out/libcorwaphi_c.a}
-[ -f "$archive" ] || (cd "$crate" && runs rt lib --jobs 2)
+[ -f "$archive" ] || runs "$tests/archive.sh"
 source=$room/c build=$room/build
 cp -r "$tests/../clients/c" "$source"
 cp "$tests/../VERSION" "$room/VERSION"
 makes() { runs make -s -C "$source" ARCHIVE="$archive" BUILD="$build" "$@"; }
 sed -i 's|\.\./\.\./VERSION|../VERSION|' "$source/Makefile"
-makes CFLAGS='-O2 -g -Werror' all "$build/example" "$build"/{calls,random,killed,crash,faults}
+makes CFLAGS='-O2 -g -Werror' all "$build/example" "$build"/{calls,random,fill,killed,crash,faults}
 lines=$(cat "$source/corwaphi.c" "$source/files.c" | wc -l)
 for compiler in clang c++; do
     command -v $compiler >/dev/null || continue
@@ -70,6 +70,7 @@ runs "$build/example" "$image"
 grep -qx 'the pear is ripe' "$room/said" || fail 'the example prints something else'
 runs "$build/calls" "$folder/calls.img" && last
 runs "$build/random" "$folder/random.img" "$(some 20000)" 1 && last
+runs "$build/fill" "$folder/fill.img" 1 && last
 runs "$build/killed" "$folder/killed.img" "$(some 100)" 1 && last
 runs "$build/crash" "$(some 3000)" 1 && last
 runs "$build/faults" "$folder/faults.img" && last
@@ -90,7 +91,7 @@ fi
 # ---- files of the program
 
 what='files that go from one to the other'
-[ "$("$program" check "$image")" = ok ] || fail 'lsmctl finds something wrong'
+[[ "$("$program" check "$image")" = "ok "* ]] || fail 'lsmctl finds something wrong'
 [ "$("$program" get "$image" 70656172)" = 'value 72697065' ] || fail 'lsmctl reads something else'
 "$program" format "$folder/other.img" 8192 128 >"$room/said"
 "$program" put "$folder/other.img" 70656172 677265656e >"$room/said"

@@ -11,9 +11,6 @@
 #include <time.h>
 #include <unistd.h>
 
-/* The most jobs that one compaction finishes: each takes a table down, and 1,024 tables can go down four levels. */
-#define MOST_JOBS 4096
-
 struct slot {
     pthread_mutex_t writing, calling;
     atomic_uint waiting; /* how many wait for `calling` */
@@ -122,7 +119,7 @@ static uint32_t entered(corwaphi store, bool writes, struct slot **found)
     return answer;
 }
 
-/* Between pieces of a compaction the calls of other threads come in. */
+/* Between pieces of work the calls of other threads come in. */
 static void let_others(struct slot *slot)
 {
     if (!atomic_load(&slot->waiting))
@@ -149,25 +146,12 @@ static uint32_t told(struct slot *slot, uint32_t answer)
     return CORWAPHI_IO;
 }
 
-/* Does all the work that waits, piece by piece; whole work takes all tables down. What is refused is passed over: the store goes on as it
- * then is. */
-static void worked(struct slot *slot, bool whole)
+/* Does all that the store is to do, piece by piece. The store goes on as it then is, whatever it found no room for. */
+static void worked(struct slot *slot)
 {
     uint32_t did = CORWAPHI_STORE_PIECE;
-    for (int jobs = 0; jobs < MOST_JOBS && did; jobs += did == CORWAPHI_STORE_JOB) {
-        if (RUNS(told(slot, corwaphi_store_work(HANDLE, IMAGE, JOURNAL, whole, &did))))
-            return;
+    while (did && RUNS(told(slot, corwaphi_store_work(HANDLE, IMAGE, JOURNAL, &did))) == CORWAPHI_OK)
         let_others(slot);
-    }
-}
-
-/* Opens another log: a flush that waits comes before, since a log waits for it else, and the next one behind. */
-static uint32_t rotated(struct slot *slot)
-{
-    worked(slot, false);
-    uint32_t answer = RUNS(told(slot, corwaphi_store_rotate(HANDLE, IMAGE, JOURNAL)));
-    worked(slot, false);
-    return answer;
 }
 
 /* What is to be written: a put, a delete, a batch, or a batch under guards. */
@@ -195,7 +179,7 @@ static uint32_t tried(struct slot *slot, struct change *it)
     }
 }
 
-/* Writes, and makes room for it where there is none. */
+/* Writes, once the work is done that comes first. */
 static uint32_t changed(corwaphi store, struct change it, uint64_t *number, uint8_t *place)
 {
     static const uint8_t none[1];
@@ -208,18 +192,8 @@ static uint32_t changed(corwaphi store, struct change it, uint64_t *number, uint
     if (answer)
         return answer;
     bool ran = slot->handle.at;
-    answer = tried(slot, &it);
-    for (int whole = 0; whole <= 1 && answer == CORWAPHI_NO_SPACE; whole++) {
-        worked(slot, whole);
-        answer = tried(slot, &it);
-    }
-    if (answer == CORWAPHI_LOG_FULL) {
-        answer = rotated(slot);
-        if (answer == CORWAPHI_OK)
-            answer = tried(slot, &it);
-        else if (answer == CORWAPHI_SEALED_WAITING)
-            answer = CORWAPHI_NO_SPACE;
-    }
+    while ((answer = tried(slot, &it)) == CORWAPHI_STORE_WORK_FIRST)
+        worked(slot);
     if (ran && !slot->handle.at)
         answer = CORWAPHI_IO;
     left(slot, true);
@@ -257,11 +231,10 @@ uint32_t corwaphi_compact(corwaphi store)
     uint32_t answer = entered(store, true, &slot);
     if (answer)
         return answer;
-    answer = CORWAPHI_STOPPED;
-    if (slot->handle.at) {
-        rotated(slot);
-        worked(slot, true);
-        /* A refusal leaves the store as it is, and only a failure of the file lets it go. */
+    answer = RUNS(corwaphi_store_compact(HANDLE));
+    if (answer == CORWAPHI_OK) {
+        worked(slot);
+        /* Only a failure of the file lets the store go. */
         answer = slot->handle.at ? CORWAPHI_OK : CORWAPHI_IO;
     }
     left(slot, true);
@@ -343,7 +316,6 @@ static const struct corwaphi_options usual = CORWAPHI_OPTIONS;
 /* The store in the file of a slot, ready for writes. */
 static uint32_t readied(struct slot *slot, uint32_t cache)
 {
-    struct corwaphi_numbers numbers = {0};
     uint32_t answer = corwaphi_file_map(&slot->file);
     if (answer)
         return answer;
@@ -352,9 +324,7 @@ static uint32_t readied(struct slot *slot, uint32_t cache)
         return CORWAPHI_IO;
     if (answer)
         return answer;
-    worked(slot, false);
-    if (!RUNS(corwaphi_store_stat(HANDLE, &numbers)) && !numbers.log_room)
-        rotated(slot);
+    worked(slot);
     return slot->handle.at ? CORWAPHI_OK : CORWAPHI_IO;
 }
 

@@ -134,8 +134,8 @@ uint32_t corwaphi_open_or_create(const char *path, const struct corwaphi_options
 uint32_t corwaphi_close(corwaphi store);
 
 /* ---- writes: each makes room by itself, so that it may take longer than others, and sync. It returns CORWAPHI_NO_SPACE if puts find no
- * room after a compaction, CORWAPHI_EXHAUSTED after 2^63 batches, NO_MEMORY, IO, STOPPED, CLOSED or FORKED. The number of its batch is
- * told in `number`, which may be NULL. */
+ * room though all tables were brought down as far as they go, or deletes while a snapshot is live; CORWAPHI_EXHAUSTED after 2^63 batches,
+ * NO_MEMORY, IO, STOPPED, CLOSED or FORKED. The number of its batch is told in `number`, which may be NULL. */
 
 /* Puts a value under a key. Also BAD_KEY, BAD_VALUE. */
 uint32_t corwaphi_put(corwaphi store, const void *key, size_t key_length, const void *value, size_t value_length, uint64_t *number);
@@ -160,7 +160,7 @@ uint32_t corwaphi_sync(corwaphi store);
 uint32_t corwaphi_sync_to(corwaphi store, uint64_t number);
 
 /* Writes what is in memory into tables, and merges all tables into the last level, as far as they find room: what deletes and newer values
- * have freed is free then. A piece that finds no room or memory ends it without harm. Returns IO, STOPPED, CLOSED, FORKED. */
+ * have freed is free then. A piece that finds no room or memory is passed over without harm. Returns IO, STOPPED, CLOSED, FORKED. */
 uint32_t corwaphi_compact(corwaphi store);
 
 /* ---- batches: a text that grows. `struct corwaphi_batch batch = CORWAPHI_BATCH;` begins one; its fields are to be read only. */

@@ -10,7 +10,21 @@
  *     with a number of 0: wait until all that was written is durable (fdatasync)
  *
  * If one of them fails, close the handle, tell CORWAPHI_IO, and open the file again. Never a call from a signal handler, nor two at a
- * time with one handle; any thread may make one. No pointer may be null. Memory comes from malloc. All answers are those of corwaphi.h.
+ * time with one handle; any thread may make one. No pointer may be null. Memory comes from malloc. All answers are those of corwaphi.h,
+ * but for CORWAPHI_STORE_WORK_FIRST.
+ *
+ * A store makes room by pieces of work, each a call of its own, so that other calls come in between. Call corwaphi_store_work until it
+ * did nothing:
+ *
+ * - behind an opening, which finishes what waits, and opens a log where the open one has no room;
+ * - where put, delete, write or write_if answers CORWAPHI_STORE_WORK_FIRST. Nothing was written. Make the same call again behind the work,
+ *   with no other of these four in between; after five times at most it is written or refused;
+ * - behind corwaphi_store_compact, which asks that all comes into tables, and all tables into the last level, as far as they find room.
+ *
+ * Each of these goes on from where the store then is, also if the work before was not ended. A piece that finds no room or memory is
+ * passed over. So put, delete, write and write_if answer CORWAPHI_NO_SPACE where a batch that puts values finds no room in tables, though
+ * all were brought down as far as they go; to deletes only while a snapshot is live, or where no log could be opened. CORWAPHI_LOG_FULL is
+ * never an answer.
  */
 #ifndef CORWAPHI_STORE_H
 #define CORWAPHI_STORE_H
@@ -23,8 +37,11 @@
 /* The bytes of a journal that are enough for a format with log regions of so many sectors. */
 #define CORWAPHI_STORE_FORMAT(log_sectors) (520 * (132 + 3 * (size_t)(log_sectors)))
 
-/* What corwaphi_store_work did: nothing, since there is nothing to do; a piece of a job; or the last piece of a job. */
+/* What corwaphi_store_work did: nothing, since there is nothing to do; a piece; or the last piece of a flush or a merge. */
 enum { CORWAPHI_STORE_NOTHING = 0, CORWAPHI_STORE_PIECE = 1, CORWAPHI_STORE_JOB = 2 };
+
+/* The answer of a write before which work is to be done. */
+enum { CORWAPHI_STORE_WORK_FIRST = 64 };
 
 struct corwaphi_store_handle {
     void *at;
@@ -58,11 +75,9 @@ uint32_t corwaphi_store_sync(struct corwaphi_store_handle handle, struct corwaph
                              size_t image_length, uint8_t *journal, size_t journal_length, size_t *used);
 uint32_t corwaphi_store_sync_to(struct corwaphi_store_handle handle, struct corwaphi_store_handle *slot, const uint8_t *image,
                                 size_t image_length, uint8_t *journal, size_t journal_length, size_t *used, uint64_t number);
-uint32_t corwaphi_store_rotate(struct corwaphi_store_handle handle, struct corwaphi_store_handle *slot, const uint8_t *image,
-                               size_t image_length, uint8_t *journal, size_t journal_length, size_t *used);
 uint32_t corwaphi_store_work(struct corwaphi_store_handle handle, struct corwaphi_store_handle *slot, const uint8_t *image,
-                             size_t image_length, uint8_t *journal, size_t journal_length, size_t *used, bool whole,
-                             uint32_t *did);
+                             size_t image_length, uint8_t *journal, size_t journal_length, size_t *used, uint32_t *did);
+uint32_t corwaphi_store_compact(struct corwaphi_store_handle handle, struct corwaphi_store_handle *slot);
 
 uint32_t corwaphi_store_get(struct corwaphi_store_handle handle, struct corwaphi_store_handle *slot, const uint8_t *image,
                             size_t image_length, uint64_t snapshot, const uint8_t *key, size_t key_length, uint8_t *room,

@@ -121,12 +121,39 @@ static uint16_t value_at(uint32_t name)
     return (uint16_t)(value[0] | value[1] << 8);
 }
 
-/* Whether there is a batch more now, and no crash. */
-static bool write_some(uint64_t *count, bool *is_up)
+/* Does a piece of work; false if a crash comes. */
+static bool work(uint32_t *did)
+{
+    size_t used;
+    EXPECT(CORWAPHI_OK, corwaphi_store_work(HANDLE, IMAGE, JOURNAL, did));
+    jobs += *did == CORWAPHI_STORE_JOB;
+    return make(used);
+}
+
+/* Writes a batch once the work is done that comes first; false if a crash comes. */
+static bool write_batch(const struct corwaphi_batch *batch, uint64_t *count)
+{
+    for (;;) {
+        size_t used;
+        uint64_t number = 0;
+        uint32_t code = corwaphi_store_write(HANDLE, IMAGE, JOURNAL, batch->text, batch->length, &number);
+        if (code == CORWAPHI_OK)
+            CHECK(number == ++*count);
+        if (code != CORWAPHI_STORE_WORK_FIRST) {
+            EXPECT(CORWAPHI_OK, code);
+            return make(used);
+        }
+        CHECK(used == 0);
+        for (uint32_t did = CORWAPHI_STORE_PIECE; did;)
+            if (!work(&did))
+                return false;
+    }
+}
+
+/* Makes a batch and writes it; false if a crash comes. */
+static bool write_some(uint64_t *count)
 {
     struct corwaphi_batch batch = CORWAPHI_BATCH;
-    size_t used = 0;
-    uint64_t number = 0;
     uint16_t *next = maps[*count + 1];
     memcpy(next, maps[*count], sizeof maps[0]);
     for (uint32_t left = 1 + below(12); left; left--) {
@@ -139,29 +166,9 @@ static bool write_some(uint64_t *count, bool *is_up)
         value[1] = (uint8_t)(next[name] >> 8);
         EXPECT(CORWAPHI_OK, next[name] ? corwaphi_batch_put(&batch, key, 3, value, 2 + below(1000)) : corwaphi_batch_delete(&batch, key, 3));
     }
-    uint32_t code = corwaphi_store_write(HANDLE, IMAGE, JOURNAL, batch.text, batch.length, &number);
+    bool is_up = write_batch(&batch, count);
     corwaphi_batch_free(&batch);
-    CHECK(code == CORWAPHI_OK || code == CORWAPHI_LOG_FULL || code == CORWAPHI_NO_SPACE);
-    if (code == CORWAPHI_OK)
-        CHECK(number == ++*count);
-    *is_up = make(used);
-    if (code == CORWAPHI_LOG_FULL && *is_up) {
-        code = corwaphi_store_rotate(HANDLE, IMAGE, JOURNAL);
-        CHECK(code == CORWAPHI_OK || code == CORWAPHI_SEALED_WAITING);
-        *is_up = make(used);
-    }
-    return *is_up;
-}
-
-static bool work(void)
-{
-    size_t used;
-    uint32_t did;
-    uint32_t code = corwaphi_store_work(HANDLE, IMAGE, JOURNAL, !below(3), &did);
-    if (code == CORWAPHI_OK && did == CORWAPHI_STORE_JOB)
-        jobs++;
-    CHECK(code == CORWAPHI_OK || code == CORWAPHI_NO_SPACE || code == CORWAPHI_TOO_MANY_RUNS);
-    return make(used);
+    return is_up;
 }
 
 int main(int argument_count, char **words)
@@ -178,12 +185,15 @@ int main(int argument_count, char **words)
         size_t used = 0;
         uint32_t what = below(20);
         if (what < 8) {
-            write_some(&count, &is_up);
+            is_up = write_some(&count);
         } else if (what < 10) {
             EXPECT(CORWAPHI_OK, corwaphi_store_sync(HANDLE, IMAGE, JOURNAL));
             is_up = make(used);
         } else if (what < 19) {
-            is_up = work();
+            uint32_t did;
+            if (!below(40))
+                EXPECT(CORWAPHI_OK, corwaphi_store_compact(HANDLE));
+            is_up = work(&did);
         } else {
             for (uint32_t name = 0; name < NAMES; name++)
                 CHECK(value_at(name) == maps[count][name]);

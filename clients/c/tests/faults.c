@@ -161,6 +161,15 @@ static void ready(enum way each, uint64_t place)
     way = each;
 }
 
+/* Whether a call didn't go well, of a store that is there and has what was synced. */
+static bool has_outlasted(const char *path)
+{
+    EXPECT(CORWAPHI_OK, corwaphi_open(path, &options, &store));
+    check();
+    EXPECT(CORWAPHI_OK, corwaphi_close(store));
+    return has_failed;
+}
+
 /* A store that can't be made leaves no file, and the next one can be made. */
 static uint64_t make_all(const char *path, enum way each)
 {
@@ -179,10 +188,7 @@ static uint64_t make_all(const char *path, enum way each)
             if (access(path, F_OK))
                 EXPECT(CORWAPHI_OK, corwaphi_create(path, &options));
         }
-        EXPECT(CORWAPHI_OK, corwaphi_open(path, &options, &store));
-        check();
-        EXPECT(CORWAPHI_OK, corwaphi_close(store));
-        if (!has_failed)
+        if (!has_outlasted(path))
             return runs;
         runs++;
     }
@@ -199,10 +205,7 @@ static uint64_t lead_all(const char *path, enum way each)
         lead(path);
         way = WELL;
         corwaphi_close(store);
-        EXPECT(CORWAPHI_OK, corwaphi_open(path, &options, &store));
-        check();
-        EXPECT(CORWAPHI_OK, corwaphi_close(store));
-        if (!has_failed)
+        if (!has_outlasted(path))
             return runs;
         runs++;
     }

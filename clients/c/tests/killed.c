@@ -11,6 +11,7 @@
 static const struct corwaphi_options options = {32, 16384, 256};
 static corwaphi store;
 static int told_to;
+static uint64_t waiting;    /* how many tasks waited when this life began */
 static atomic_ullong taken; /* how many tasks were taken in this life */
 
 static size_t name_of(const char *kind, uint64_t task, char name[32]) { return (size_t)snprintf(name, 32, "%s/%010llu", kind, (unsigned long long)task); }
@@ -34,6 +35,18 @@ static void tell(char kind, uint64_t task)
     CHECK(write(told_to, line, (size_t)length) == length);
 }
 
+static uint64_t count_waiting(void)
+{
+    struct corwaphi_cursor *cursor;
+    struct corwaphi_row row;
+    uint64_t rows = 0;
+    EXPECT(CORWAPHI_OK, corwaphi_cursor_begin(store, "task/", 5, "task0", 5, &cursor));
+    while (corwaphi_cursor_next(cursor, &row) == CORWAPHI_OK)
+        rows++;
+    corwaphi_cursor_end(cursor);
+    return rows;
+}
+
 /* Adds tasks: the last number and the task in one batch. */
 static void *add(void *unused)
 {
@@ -43,8 +56,8 @@ static void *add(void *unused)
     uint64_t begun = number_at("last");
     for (uint64_t task = begun + 1;; task++) {
         uint64_t written;
-        /* The store has room for so many. */
-        while (task - begun > 200 + atomic_load(&taken) || task - begun > 2000)
+        /* The store has room for so many that wait, earlier lives' too, and for what a life adds. */
+        while (waiting + (task - begun) > 200 + atomic_load(&taken) || task - begun > 2000)
             usleep(200);
         corwaphi_batch_clear(&batch);
         size_t length = (size_t)snprintf(number, sizeof number, "%llu", (unsigned long long)task);
@@ -89,6 +102,7 @@ static void child(const char *path)
 {
     pthread_t adder, taker;
     EXPECT(CORWAPHI_OK, corwaphi_open(path, &options, &store));
+    waiting = count_waiting();
     CHECK(!pthread_create(&adder, NULL, add, NULL) && !pthread_create(&taker, NULL, take, NULL));
     pthread_join(adder, NULL);
     pthread_join(taker, NULL);

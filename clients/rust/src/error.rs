@@ -18,7 +18,7 @@ pub enum Error {
     TooManySnapshots,
     /// The number is above the last batch's.
     NoSuchBatch,
-    /// Puts find no room, also after a compaction.
+    /// Puts find no room, though all tables were brought down as far as they go; or deletes, while a snapshot is live.
     NoSpace,
     /// A key has no byte or more than 255.
     BadKey,

@@ -1,2 +1,5 @@
+mod AdvancingLaws
+mod Behind
 mod Opened
+mod Room
 mod WritingLaws

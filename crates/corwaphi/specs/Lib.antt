@@ -1,4 +1,6 @@
+pub mod Advancing
 pub mod Opening
-pub mod Ranging
+pub mod Paging
+pub mod Sizes
 pub mod Upkeep
 pub mod Writing

@@ -28,7 +28,7 @@ use lsm_codec::{Batch, Guard};
 use lsm_device::{Device, Refusal};
 use lsm_policy::Policy;
 use lsm_store::{At, Page, Stat, Store};
-use lsm_upkeep::{compact_all, keep_up, write};
+use lsm_upkeep::{Upkeep, compact_all, keep_up, write};
 use std::alloc::Global;
 use std::marker::Model;
 
@@ -40,12 +40,17 @@ use std::marker::Model;
 pub struct Db<D: Device> {
     alloc: Global,
     store: Store<D>,
+    upkeep: Upkeep,
 }
 
 // One call at each exit of a caller.
 impl<D: Device + Drop> Drop for Db<D> {
     fn drop(self) {
-        let Db { alloc: _, store: _ } = self;
+        let Db {
+            alloc: _,
+            store: _,
+            upkeep: _,
+        } = self;
     }
 }
 
@@ -90,7 +95,11 @@ impl<D: Device> Db<D> {
     fn of(alloc: Global, store: Store<D>) -> Db<D>
         ensures { result ≡ store }
     {
-        Db { alloc, store }
+        Db {
+            alloc,
+            store,
+            upkeep: Upkeep::new(),
+        }
     }
 
     /// Adds a batch, whole or not at all, and answers its number. It outlasts a crash from the next sync on.
@@ -103,7 +112,7 @@ impl<D: Device> Db<D> {
     pub fn write(&mut self, batch: &Batch) -> Result<u64, Refusal>
         ensures writes { Writes None batch.now self.old (reply_of Number result) self.new }
     {
-        write(self.alloc, &mut self.store, None, batch)
+        write(self.alloc, &mut self.store, &mut self.upkeep, None, batch)
     }
 
     /// Adds a batch where the present map meets each of these guards, and answers its number. They are asked in the commit that counts,
@@ -115,7 +124,13 @@ impl<D: Device> Db<D> {
     pub fn write_if(&mut self, guards: &[Guard], batch: &Batch) -> Result<u64, Refusal>
         ensures writes { Writes (Some guards.now) batch.now self.old (reply_of Number result) self.new }
     {
-        write(self.alloc, &mut self.store, Some(guards), batch)
+        write(
+            self.alloc,
+            &mut self.store,
+            &mut self.upkeep,
+            Some(guards),
+            batch,
+        )
     }
 
     /// Puts a value under a key, and answers the number of the batch. It is refused with `BadKey` for a key outside 1 to 255 bytes, with
@@ -123,7 +138,7 @@ impl<D: Device> Db<D> {
     pub fn put(&mut self, key: &[u8], value: &[u8]) -> Result<u64, Refusal>
         ensures writes { WritesOne (or_then (key_refusal key.now) (value_refusal value.now)) (record { key = key.now; value = Some value.now }) self.old (reply_of Number result) self.new }
     {
-        put(self.alloc, &mut self.store, key, value)
+        put(self.alloc, &mut self.store, &mut self.upkeep, key, value)
     }
 
     /// Deletes a key, and answers the number of the batch. It is refused with `BadKey` for a key outside 1 to 255 bytes, and as
@@ -131,7 +146,7 @@ impl<D: Device> Db<D> {
     pub fn delete(&mut self, key: &[u8]) -> Result<u64, Refusal>
         ensures writes { WritesOne (key_refusal key.now) (record { key = key.now; value = None }) self.old (reply_of Number result) self.new }
     {
-        delete(self.alloc, &mut self.store, key)
+        delete(self.alloc, &mut self.store, &mut self.upkeep, key)
     }
 
     /// The value of a key, or none where it has none.
@@ -227,7 +242,11 @@ impl<D: Device> Db<D> {
     pub fn into_device(self) -> D
         ensures { D.medium result ≡ self.device }
     {
-        let Db { alloc: _, store } = self;
+        let Db {
+            alloc: _,
+            store,
+            upkeep: _,
+        } = self;
         store.into_device()
     }
 }

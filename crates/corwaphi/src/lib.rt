@@ -21,7 +21,9 @@ mod open_error;
 mod opening;
 mod operating;
 mod options;
-mod range;
+mod pages;
+mod range_rows;
+mod row;
 
 pub use db::Db;
 pub use lsm_codec::{Batch, Guard, Op};
@@ -30,4 +32,6 @@ pub use lsm_open::format;
 pub use lsm_store::{At, Page, RowRef, Rows, Stat};
 pub use open_error::OpenDbError;
 pub use options::Options;
-pub use range::Range;
+pub use pages::Pages;
+pub use range_rows::RangeRows;
+pub use row::Row;

@@ -3,6 +3,7 @@
 ghost use Rattle.std.specs.Prelude.{◌≡◌};
 
 use lsm_device::{OpenError, Refusal};
+use std::alloc::AllocError;
 use std::io;
 use thiserror::Error;
 
@@ -16,7 +17,7 @@ pub enum OpenDbError {
     #[error("the new file can't be put in its place: {0}")]
     Place(io::Error),
     /// What the file holds is refused, or its size, or the options; or memory was wanting, or a call of the file failed.
-    #[error("the store is refused: {name}", name = .0.name())]
+    #[error("the store is refused: {0}")]
     Store(Refusal),
 }
 
@@ -37,5 +38,16 @@ impl From<Refusal> for OpenDbError {
 
     fn from(refusal: Refusal) -> Self {
         OpenDbError::Store(refusal)
+    }
+}
+
+impl From<AllocError> for OpenDbError {
+    ghost use Rattle.lsm_device.specs.declared.refusal.Refusal.TheVariants.{NoMemory};
+    ghost use Rattle.corwaphi.specs.declared.open_error.OpenDbError.TheVariants.{Store};
+
+    ghost from_gives = { λ _ told. told ≡ Store NoMemory };
+
+    fn from(_: AllocError) -> Self {
+        OpenDbError::Store(Refusal::NoMemory)
     }
 }

@@ -1,5 +1,13 @@
 //! How a store is opened, and made.
 
+ghost use Rattle.std.specs.Prelude.{◌<◌, ◌≤◌, ◌+◌, ◌*◌, ◌^◌};
+ghost use Rattle.corwaphi.specs.Sizes.{AreWithinLimits, AreRoomFor, HaveRoomFor, entry_bytes};
+
+/// The entries that tables can hold, and the blocks of the largest store, or some more.
+const MOST_ENTRIES: u64 = 3_276_800;
+
+const MOST_BLOCKS: u32 = 131_072;
+
 /// How a store is opened, and how large one is made.
 #[derive(Clone, Copy, Debug)]
 pub struct Options {
@@ -24,4 +32,50 @@ impl Default for Options {
             log_sectors: 2_042,
         }
     }
+}
+
+impl Options {
+    /// Options for a new store of so many rows, with keys and values of so many bytes, which will fill about 45 percent of it; or those of the
+    /// largest store, where that is smaller.
+    ///
+    /// A log region has a sixteenth of the sectors, 2,042 at most; and the cache a block for each 256 sectors, 256 at least.
+    pub fn for_rows(rows: u64, key_bytes: u32, value_bytes: u32) -> Options
+        ensures within { AreWithinLimits result }
+        ensures room { HaveRoomFor rows (entry_bytes key_bytes value_bytes) result }
+    {
+        let area = 8 * blocks_for(rows, key_bytes, value_bytes) + 130;
+        let log_sectors = (area / 13).clamp(128, 2_042);
+        let sectors = (area + 3 * log_sectors).clamp(8_192, 1_048_576);
+        Options {
+            cache: (sectors / 256).clamp(256, 4_096),
+            sectors,
+            log_sectors: log_sectors as u16,
+        }
+    }
+}
+
+// The blocks of a data area of which so many rows fill 45 percent: those of their entries, and four more for each table. Where no store
+// has so many entries, they are those of the largest store.
+fn blocks_for(rows: u64, key_bytes: u32, value_bytes: u32) -> u32
+    ensures few { result < 2 ^ 28 }
+    ensures room { AreRoomFor rows (entry_bytes key_bytes value_bytes) result }
+{
+    if rows > MOST_ENTRIES {
+        return MOST_BLOCKS;
+    }
+    let entry = 12 + key_bytes.min(255) + value_bytes.min(2_048);
+    let blocks = entry_blocks(rows as u32, entry);
+    let tables = blocks / 48 + rows as u32 / 3_200 + 1;
+    (blocks + 4 * tables) * 20 / 9
+}
+
+// The blocks that so many entries of so many bytes fill, of which one has room for 4,094 bytes of them.
+fn entry_blocks(rows: u32, entry: u32) -> u32
+    requires few { rows ≤ 3276800 }
+    requires some { 12 ≤ entry }
+    requires small { entry ≤ 2315 }
+    ensures fits { result ≤ rows + 1 }
+    ensures room { rows * entry ≤ 4094 * result }
+{
+    rows / (4_094 / entry) + 1
 }

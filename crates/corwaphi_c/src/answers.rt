@@ -11,6 +11,8 @@ pub(crate) const NO_VALUE: u32 = 32;
 pub(crate) const SHORT_BUFFER: u32 = 33;
 /// The bytes are no text of a batch.
 pub(crate) const BAD_TEXT: u32 = 34;
+/// Work is to be done before a write.
+pub(crate) const WORK_FIRST: u32 = 64;
 
 /// The number of a refusal.
 pub(crate) fn code(refusal: Refusal) -> u32 {

@@ -1,5 +1,6 @@
 // What a handle of C's leads to.
 
+use crate::pieces::Upkeep;
 use lsm_mapped::{MappedDevice, ParkedDevice};
 use lsm_store::Store;
 
@@ -10,6 +11,7 @@ pub(crate) const JOURNAL_BYTES: usize = 65_664;
 #[derive(Drop)]
 pub struct Kept {
     pub(crate) store: Option<Store<ParkedDevice>>,
+    pub(crate) upkeep: Upkeep,
 }
 
 impl Kept {

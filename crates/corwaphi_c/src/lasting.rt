@@ -1,4 +1,4 @@
-//! Batches are made durable, and logs are changed.
+//! Batches are made durable.
 
 use crate::answers::{code, done};
 use crate::handle::{Handle, Slot};
@@ -15,7 +15,7 @@ pub extern "C" fn corwaphi_store_sync(
     used: &mut usize,
 ) -> u32 {
     let mut kept = handle.into_box();
-    let answer = make(&mut kept, image, journal, used, Change::Sync);
+    let answer = make(&mut kept, image, journal, used, None);
     slot.put(kept);
     answer
 }
@@ -32,39 +32,18 @@ pub extern "C" fn corwaphi_store_sync_to(
     number: u64,
 ) -> u32 {
     let mut kept = handle.into_box();
-    let answer = make(&mut kept, image, journal, used, Change::SyncTo(number));
+    let answer = make(&mut kept, image, journal, used, Some(number));
     slot.put(kept);
     answer
 }
 
-/// Closes the open log, and opens another one. It is refused as `Store::rotate`.
-#[unsafe(no_mangle)]
-pub extern "C" fn corwaphi_store_rotate(
-    handle: Handle,
-    slot: &mut Slot,
-    image: &[u8],
-    journal: &mut [u8],
-    used: &mut usize,
-) -> u32 {
-    let mut kept = handle.into_box();
-    let answer = make(&mut kept, image, journal, used, Change::Rotate);
-    slot.put(kept);
-    answer
-}
-
-#[derive(Clone, Copy)]
-enum Change {
-    Sync,
-    SyncTo(u64),
-    Rotate,
-}
-
+// Makes the batches up to a number durable, or all.
 fn make(
     kept: &mut Kept,
     image: &[u8],
     journal: &mut [u8],
     used: &mut usize,
-    change: Change,
+    last: Option<u64>,
 ) -> u32 {
     *used = 0;
     if journal.len() < JOURNAL_BYTES {
@@ -73,10 +52,9 @@ fn make(
     let Some(mut store) = kept.lend(image, journal) else {
         return code(Refusal::Stopped);
     };
-    let reply = match change {
-        Change::Sync => store.sync(),
-        Change::SyncTo(number) => store.sync_to(number),
-        Change::Rotate => store.rotate(),
+    let reply = match last {
+        Some(number) => store.sync_to(number),
+        None => store.sync(),
     };
     *used = kept.park(store);
     done(reply)

@@ -7,14 +7,13 @@
 #![tactic(auto)]
 
 mod answers;
-mod choosing;
 mod handle;
 mod kept;
 mod lasting;
 mod making;
 mod numbers;
 mod parts;
+mod pieces;
 mod reading;
-mod room;
 mod upkeep;
 mod writing;

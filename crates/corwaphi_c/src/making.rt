@@ -3,10 +3,12 @@
 use crate::answers::{OK, code};
 use crate::handle::{Handle, Slot};
 use crate::kept::{JOURNAL_BYTES, Kept};
+use crate::pieces::Upkeep;
 use lsm_device::Refusal;
 use lsm_mapped::MappedDevice;
 use lsm_open::format;
 use lsm_store::Store;
+use lsm_upkeep::Goal;
 use std::alloc::Global;
 
 /// Makes an empty store of so many sectors, with log regions of so many: all that it writes is in the journal, which needs room for
@@ -31,7 +33,7 @@ pub extern "C" fn corwaphi_store_format(
 }
 
 /// Opens the store in an image, with a cache of so many blocks, and puts its handle into the slot. The journal is to be made also where
-/// the opening is refused. It is refused as `Store::open` is, and with BadLimit for a journal of less than 65,664 bytes.
+/// the opening is refused. Then `corwaphi_store_work` finishes what waits, and opens a log where the open one has no room. It is refused as `Store::open` is, and with BadLimit for a journal of less than 65,664 bytes.
 #[unsafe(no_mangle)]
 pub extern "C" fn corwaphi_store_open(
     alloc: Global,
@@ -46,7 +48,11 @@ pub extern "C" fn corwaphi_store_open(
     if journal.len() < JOURNAL_BYTES {
         return code(Refusal::BadLimit);
     }
-    let mut kept = match Box::new(alloc, Kept { store: None }) {
+    let kept = Kept {
+        store: None,
+        upkeep: Upkeep::to(Goal::Opened),
+    };
+    let mut kept = match Box::new(alloc, kept) {
         Ok(kept) => kept,
         Err(_) => return code(Refusal::NoMemory),
     };

@@ -1,12 +1,17 @@
-//! Batches are written. Each call answers the number of its batch, and is refused with LogFull or NoSpace where the host has to make
-//! room first: by the pieces of `corwaphi_store_work`, and for LogFull by `corwaphi_store_rotate` too.
+//! Batches are written. Each call answers the number of its batch. Where the store is to be made ready for it first, it answers that work
+//! comes first: the host calls `corwaphi_store_work` until there is nothing to do, and makes the same call again. After a few times the
+//! batch is written, or refused.
+//!
+//! A batch is taken only where what it makes of its keys will find room in tables. So one that puts values is refused with NoSpace where
+//! they find none though all tables were brought down as far as they go; and one of deletes is so only while a snapshot is live. That
+//! the log is full is never told: where no log could be opened that has room, that is NoSpace too.
 
-use crate::answers::{BAD_TEXT, OK, code, number};
+use crate::answers::{BAD_TEXT, OK, WORK_FIRST, code, number};
 use crate::handle::{Handle, Slot};
 use crate::kept::{JOURNAL_BYTES, Kept};
-use crate::room::lacks_room;
 use lsm_codec::{Batch, Guard, Op};
 use lsm_device::Refusal;
+use lsm_upkeep::{Verdict, without_log_full};
 use std::alloc::Global;
 
 /// Puts a value under a key. It is refused with BadKey, BadValue, NoSpace, and as a commit of the store.
@@ -108,10 +113,10 @@ fn commit(
     let Some(mut store) = kept.lend(image, journal) else {
         return code(Refusal::Stopped);
     };
-    let answer = if lacks_room(&store, batch) {
-        code(Refusal::NoSpace)
-    } else {
-        number(store.commit(batch), out)
+    let answer = match kept.upkeep.admit(&store, batch) {
+        Verdict::Commit => number(without_log_full(store.commit(batch)), out),
+        Verdict::Refuse => code(Refusal::NoSpace),
+        Verdict::After(_) => WORK_FIRST,
     };
     *used = kept.park(store);
     answer
@@ -186,22 +191,24 @@ fn commit_if(
     let Some(mut store) = kept.lend(image, journal) else {
         return code(Refusal::Stopped);
     };
-    if lacks_room(&store, batch) {
-        *told.used = kept.park(store);
-        return code(Refusal::NoSpace);
-    }
-    let reply = store.commit_if(guards, batch);
-    *told.used = kept.park(store);
-    match reply {
-        Ok(number) => {
-            *told.number = number;
-            OK
+    let answer = match kept.upkeep.admit(&store, batch) {
+        Verdict::Commit => {
+            let reply = without_log_full(store.commit_if(guards, batch));
+            tell_place(&reply, told.place);
+            number(reply, told.number)
         }
-        Err(refusal) => {
-            if let Some(place) = refusal.place() {
-                *told.place = place;
-            }
-            code(refusal)
+        Verdict::Refuse => code(Refusal::NoSpace),
+        Verdict::After(_) => WORK_FIRST,
+    };
+    *told.used = kept.park(store);
+    answer
+}
+
+// Tells the place of the guard by which a commit was refused, if it was.
+fn tell_place(reply: &Result<u64, Refusal>, out: &mut u8) {
+    if let Err(refusal) = reply {
+        if let Some(place) = refusal.place() {
+            *out = place;
         }
     }
 }

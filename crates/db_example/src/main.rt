@@ -12,7 +12,7 @@ const SMALL: Options = Options {
 };
 
 /// Keeps fruits in a store, and tells how many begin with a p.
-fn keep_fruits<R: Files<File = File> + AllocGlobal>(rt: &R) -> Result<usize, OpenDbError> {
+fn keep_fruits<R: Files<File = File> + AllocGlobal>(rt: &R) -> Result<u64, OpenDbError> {
     let mut db = Db::open_or_create(rt, "fruits.img", SMALL)?;
     db.put(b"pear", b"green")?;
     let mut batch = Batch::new(rt.alloc(), Op::put(rt.alloc(), b"plum", b"blue")?)?;
@@ -24,12 +24,13 @@ fn keep_fruits<R: Files<File = File> + AllocGlobal>(rt: &R) -> Result<usize, Ope
     db.sync()?;
     let snapshot = db.snapshot()?;
     db.delete(b"plum")?;
-    let page = db.page(At::Snap(snapshot), b"p", Some(b"q"), 64)?;
-    for row in page.rows() {
-        // row.key and row.value are bytes; page.next_key() is where the next page begins.
+    let mut count = 0_u64;
+    for row in db.rows_at(At::Snap(snapshot), b"p", Some(b"q"))? {
+        let row = row?; // row.key and row.value are bytes
+        count = count.saturating_add(1);
     }
     db.release(snapshot)?;
-    Ok(page.rows().len())
+    Ok(count)
 }
 
 fn main(rt: HostRuntime) -> anyhow::Result<()> {

@@ -6,8 +6,12 @@ mod calls;
 #[cfg(test)]
 mod files;
 #[cfg(test)]
-mod ranges;
+mod options;
+#[cfg(test)]
+mod pages;
 #[cfg(test)]
 mod room;
+#[cfg(test)]
+mod rows;
 #[cfg(test)]
 mod subject;

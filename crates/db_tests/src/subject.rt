@@ -1,6 +1,6 @@
 //! A store whose calls tell the prover nothing, so that it has nothing to carry from one line of a test to the next.
 
-use corwaphi::{Db, Options, Range};
+use corwaphi::{Db, Options, Pages, RangeRows};
 use lsm_codec::{Batch, Guard, Op};
 use lsm_device::{Device, MemDevice, Refusal};
 use lsm_open::format;
@@ -23,8 +23,17 @@ impl<D: Device + Drop> Drop for Subject<D> {
 
 /// An empty store on a device in memory of 8,192 sectors, with log regions of 128.
 pub(crate) fn begun<R: AllocGlobal + Abort>(rt: &R) -> Subject<MemDevice> {
-    let device = MemDevice::new(rt.alloc(), 8_192).expect(rt, "a device");
-    match format(rt.alloc(), device, 128) {
+    begun_in(rt, 8_192, 128)
+}
+
+/// An empty store on a device in memory of so many sectors, with log regions of so many.
+pub(crate) fn begun_in<R: AllocGlobal + Abort>(
+    rt: &R,
+    sectors: u32,
+    log_sectors: u16,
+) -> Subject<MemDevice> {
+    let device = MemDevice::new(rt.alloc(), sectors).expect(rt, "a device");
+    match format(rt.alloc(), device, log_sectors) {
         Ok(device) => opened(rt, device),
         Err((refusal, _)) => rt.panic(refusal.name()),
     }
@@ -141,16 +150,25 @@ impl<D: Device> Subject<D> {
         page.rows().len()
     }
 
-    pub(crate) fn rows<R: Abort>(&mut self, rt: &R, from: &[u8], to: Option<&[u8]>) -> Range {
-        self.db.rows(from, to).expect(rt, "a range")
+    pub(crate) fn rows_at(
+        &mut self,
+        at: At,
+        from: &[u8],
+        to: Option<&[u8]>,
+    ) -> Result<RangeRows<'_, D>, Refusal> {
+        self.db.rows_at(at, from, to)
     }
 
-    pub(crate) fn next_page<R: Abort>(&mut self, rt: &R, range: &mut Range) -> Option<Page> {
-        range.next_page(&mut self.db).expect(rt, "a page")
+    pub(crate) fn pages<R: Abort>(&mut self, rt: &R, from: &[u8], to: Option<&[u8]>) -> Pages {
+        self.db.pages(from, to).expect(rt, "pages")
     }
 
-    pub(crate) fn end(&mut self, range: Range) {
-        range.end(&mut self.db);
+    pub(crate) fn next_page<R: Abort>(&mut self, rt: &R, pages: &mut Pages) -> Option<Page> {
+        pages.next_page(&mut self.db).expect(rt, "a page")
+    }
+
+    pub(crate) fn end(&mut self, pages: Pages) {
+        pages.end(&mut self.db);
     }
 }
 

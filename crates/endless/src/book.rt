@@ -4,6 +4,7 @@ use crate::stream::{Deed, KEYS};
 use lsm_codec::{Batch, Op};
 use lsm_device::Refusal;
 use std::alloc::{AllocError, Global};
+use std::mem;
 
 /// The most bytes of a value.
 const MOST: usize = 2_048;
@@ -172,6 +173,16 @@ impl Book {
             }
         }
         self.count = self.count.wrapping_add(1);
+    }
+
+    /// What is noted now.
+    pub fn rows_then(&self) -> Result<Vec<u32>, AllocError> {
+        Ok(Vec::from_slice(self.alloc, &self.rows)?)
+    }
+
+    /// Goes by what was noted at another time, and answers what was noted up to now.
+    pub fn turn_to(&mut self, rows: Vec<u32>) -> Vec<u32> {
+        mem::replace(&mut self.rows, rows)
     }
 
     /// The numbers of the keys that have values.

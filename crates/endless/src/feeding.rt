@@ -9,17 +9,20 @@ use crate::trouble::Trouble;
 
 /// The sectors of larger stores, and of their log regions.
 const LARGE: [(u32, u16); 10] = [
-    (65_536, 2_042),
-    (16_384, 2_042),
-    (16_384, 128),
-    (32_768, 2_042),
-    (16_384, 1_024),
-    (65_536, 128),
     (16_384, 2_048),
-    (16_384, 512),
-    (32_768, 256),
     (16_384, 256),
+    (32_768, 1_024),
+    (32_768, 256),
+    (65_536, 2_042),
+    (32_768, 128),
+    (16_384, 512),
+    (16_384, 1_024),
+    (16_384, 128),
+    (16_384, 2_042),
 ];
+
+/// The sectors of shorter log regions.
+const SHORT: [u16; 4] = [128, 256, 512, 1_024];
 
 /// How often a store is filled and rescued.
 const ROUNDS: u32 = 3;
@@ -34,6 +37,7 @@ pub(crate) struct Feeding {
     pub lines: u32,
     /// The sectors of each store, 0 for several sizes.
     pub sectors: u32,
+    /// The sectors of each log region, 0 for several sizes.
     pub log_sectors: u16,
     /// How many calls of a device fail in a round.
     pub strikes: u32,
@@ -72,12 +76,20 @@ fn fed<R: AllocGlobal>(
     let mut subject = subject;
     for _ in 0..lines {
         if let Went::Full = subject.feed(stream)? {
+            subject.let_go()?;
             return Ok((subject, true));
         }
-        if stream.draws.below(500) == 0 {
-            subject = subject.reopened(rt)?;
+        match stream.draws.below(500) {
+            0 => {
+                subject.let_go()?;
+                subject = subject.reopened(rt)?;
+            }
+            1 | 2 => subject.hold()?,
+            3..=9 => subject.let_go()?,
+            _ => {}
         }
     }
+    subject.let_go()?;
     Ok((subject, false))
 }
 
@@ -114,36 +126,55 @@ fn mebibytes(sectors: u32, log_sectors: u16) -> u32 {
 }
 
 impl Feeding {
-    /// The sectors of a store and of its log regions. Of a hundred stores of several sizes one is larger, and four have shorter logs; for
-    /// the others a log is as long as may be, so that few rows fill them.
+    /// The sectors of a store and of its log regions.
     fn shape(self, seed: u64) -> (u32, u16) {
+        let (mut sectors, mut log_sectors) = shape_of(seed);
         if self.sectors > 0 {
-            return (self.sectors, self.log_sectors);
+            sectors = self.sectors;
         }
-        match seed % 100 {
-            0 => large(seed / 100),
-            1 => (8_192, 128),
-            2 => (8_192, 256),
-            3 => (8_192, 512),
-            4 => (8_192, 1_024),
-            rest if rest % 2 == 0 => (8_192, 2_042),
-            _ => (8_192, 2_048),
+        if self.log_sectors > 0 {
+            log_sectors = self.log_sectors;
         }
+        (sectors, log_sectors)
     }
 
-    /// How many calls of the device fail in a round: of 25 stores those of one.
+    /// How many calls of the device fail in a round of a store.
     fn strikes_of(self, seed: u64) -> u32 {
-        if seed % 25 == 1 {
+        if is_struck(seed) {
             return self.strikes;
         }
         0
     }
 }
 
+/// The sectors of one of several stores, and of its log regions. Of a hundred one is larger, and four have shorter logs; the logs of the
+/// others are so long that few rows fill them.
+fn shape_of(seed: u64) -> (u32, u16) {
+    if seed % 100 == 91 {
+        return large(seed / 100);
+    }
+    if is_struck(seed) {
+        return (8_192, short(seed / 25));
+    }
+    (8_192, if seed % 2 == 0 { 2_042 } else { 2_048 })
+}
+
+/// Whether calls of a store's device fail: of 25 stores those of one.
+fn is_struck(seed: u64) -> bool {
+    seed % 25 == 18
+}
+
 fn large(turn: u64) -> (u32, u16) {
     match LARGE.get((turn % 10) as usize) {
         Some(shape) => *shape,
-        None => (8_192, 128),
+        None => (16_384, 128),
+    }
+}
+
+fn short(turn: u64) -> u16 {
+    match SHORT.get((turn % 4) as usize) {
+        Some(log_sectors) => *log_sectors,
+        None => 128,
     }
 }
 

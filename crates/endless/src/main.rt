@@ -1,7 +1,7 @@
 //! Stores that are fed with random streams until they are full, rescued by deletes, and fed again; and stores that were once stuck.
 //!
 //! Its arguments are numbers: the seed of the first store; how many stores there are; how many batches each gets in a round at most, for
-//! each MiB that its tables may take; its sectors, where 0 stands for several sizes, and those of a log region; how many calls of the device
+//! each MiB that its tables may take; its sectors and those of a log region, where 0 stands for several sizes; how many calls of the device
 //! fail in a round, of one store in 25; and how many rows are replaced one by one in a store that was once stuck, where 0 leaves out all
 //! of these. Standard error has each store that went wrong, and counts.
 #![tactic(auto)]

@@ -16,12 +16,16 @@ fn next_batch(subject: &Subject, stream: &mut Stream, turn: u32) -> Result<Gathe
     subject.gathered(stream)
 }
 
-/// Makes batches and syncs each, until a call fails. It answers the one that a crash may leave, or not; none where no write and no sync failed.
+/// Makes batches and syncs each, and merges all tables down behind every fourth, until a call fails. It answers the batch that a crash may
+/// leave, or not; none where no write and no sync failed.
 fn risked(subject: &mut Subject, stream: &mut Stream) -> Result<Option<Gathered>, Trouble> {
     for turn in 0..TURNS {
         let gathered = next_batch(subject, stream, turn)?;
         if let Went::Unsure = subject.risk(&gathered)? {
             return Ok(Some(gathered));
+        }
+        if turn % 4 == 1 {
+            subject.compact();
         }
     }
     Ok(None)

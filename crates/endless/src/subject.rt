@@ -17,7 +17,7 @@ const PENDING: usize = 16_384;
 #[derive(Clone, Copy)]
 pub(crate) enum Went {
     Taken,
-    /// There was no room for its puts.
+    /// There was no room for its puts, or while a snapshot is held for its deletes.
     Full,
     /// A call of the device failed: a crash may leave it, or not.
     Unsure,
@@ -38,8 +38,28 @@ pub(crate) struct Subject {
     alloc: Global,
     db: Db<MemDevice>,
     book: Book,
+    held: Option<Held>,
     /// How often a call that failed stopped it.
     stops: u64,
+}
+
+/// A snapshot, and what the book had when it was taken.
+struct Held {
+    number: u64,
+    rows: Vec<u32>,
+}
+
+impl Drop for Held {
+    fn drop(self) {
+        let Held { number: _, rows: _ } = self;
+    }
+}
+
+impl Held {
+    fn apart(self) -> (u64, Vec<u32>) {
+        let Held { number, rows } = self;
+        (number, rows)
+    }
 }
 
 impl Drop for Subject {
@@ -48,6 +68,7 @@ impl Drop for Subject {
             alloc: _,
             db: _,
             book: _,
+            held: _,
             stops: _,
         } = self;
     }
@@ -121,6 +142,7 @@ impl Subject {
             alloc: rt.alloc(),
             db,
             book,
+            held: None,
             stops: 0,
         })
     }
@@ -131,6 +153,7 @@ impl Subject {
             alloc,
             db,
             book,
+            held: _,
             stops,
         } = self;
         let db = opened(rt, synced(db)?)?;
@@ -138,6 +161,7 @@ impl Subject {
             alloc,
             db,
             book,
+            held: None,
             stops,
         })
     }
@@ -148,6 +172,7 @@ impl Subject {
             alloc,
             db,
             book,
+            held: _,
             stops,
         } = self;
         let (mut device, calls) = counted(rt, synced(db)?)?;
@@ -158,6 +183,7 @@ impl Subject {
             alloc,
             db,
             book,
+            held: None,
             stops,
         })
     }
@@ -168,6 +194,7 @@ impl Subject {
             alloc,
             db,
             book,
+            held: _,
             stops,
         } = self;
         let keep = drawn_crash(alloc, draws)?;
@@ -176,6 +203,7 @@ impl Subject {
             alloc,
             db,
             book,
+            held: None,
             stops,
         })
     }
@@ -213,7 +241,7 @@ impl Subject {
                 self.book.note(&gathered.deeds);
                 Ok(Went::Taken)
             }
-            Err(Refusal::NoSpace) if puts => Ok(Went::Full),
+            Err(Refusal::NoSpace) if puts || self.held.is_some() => Ok(Went::Full),
             Err(refusal) if puts => Err(Trouble::Put(refusal)),
             Err(refusal) => Err(Trouble::Delete(refusal)),
         }
@@ -302,12 +330,40 @@ impl Subject {
         }
     }
 
+    /// Takes a snapshot, unless one is held. As long as it is, deletes may find no room either.
+    pub fn hold(&mut self) -> Result<(), Trouble> {
+        if self.held.is_none() {
+            let rows = self.book.rows_then()?;
+            let number = self.db.snapshot()?;
+            self.held = Some(Held { number, rows });
+        }
+        Ok(())
+    }
+
+    /// Compares all rows of the snapshot that is held, if one is, and releases it.
+    pub fn let_go(&mut self) -> Result<(), Trouble> {
+        let Some(held) = self.held.take() else {
+            return Ok(());
+        };
+        let (number, rows) = held.apart();
+        let present = self.book.turn_to(rows);
+        let told = self.compare_at(At::Snap(number));
+        self.book.turn_to(present);
+        told?;
+        self.db.release(number)?;
+        Ok(())
+    }
+
     /// Compares all rows.
     pub fn compare(&mut self) -> Result<(), Trouble> {
+        self.compare_at(At::Now)
+    }
+
+    fn compare_at(&mut self, at: At) -> Result<(), Trouble> {
         let mut from = self.book.key(0)?;
         let mut number = 0;
         for _ in 0..KEYS {
-            let page = self.db.page(At::Now, &from, None, 64)?;
+            let page = self.db.page(at, &from, None, 64)?;
             let Some(next) = self.matched(&page, number)? else {
                 return Err(Trouble::Rows);
             };

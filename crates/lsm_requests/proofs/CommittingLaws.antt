@@ -2,7 +2,7 @@
 use Rattle.std.proofs.Common.{◌≡◌, ◌∙◌, ℕ, Bool, true, false, true≢false, List, [], ◌∷◌, ◌++◌, None, inl, inr, refl, ap, subst, sym}
 use Rattle.lsm_codec.specs.Map.{Map, Operation, apply}
 use Rattle.lsm_device.specs.declared.refusal.Refusal.{Refusal}
-use Rattle.lsm_device.specs.declared.refusal.Refusal.TheVariants.{Io, LogFull, NoSpace}
+use Rattle.lsm_device.specs.declared.refusal.Refusal.TheVariants.{Io, LogFull}
 use Rattle.lsm_store.specs.Backing.{StoreView, machine_of}
 use Rattle.lsm_store.specs.Calls.{Reply, Commit, Number, Done, Value, Rows, Given, Handed, Refused, Unread}
 use Rattle.lsm_store.specs.RecoveryPoints.{last_map}

@@ -1,9 +1,6 @@
 -- How a loading goes on.
-use Rattle.std.proofs.Common.{◌≡◌, ◌∙◌, ◌+◌, ℕ, zero, suc, Bool, true, false, true≢false, List, [], ◌∷◌, ◌++◌, length, Option, Some, None, Result, Ok, Err, is_some, ◌&&◌, ◌==◌, inl, inr, refl, sym, ap, subst, append_assoc, append-nil, length-append}
-use Rattle.std.specs.Prelude.{IfErr, IfOk, IfSome, if◌then◌else◌}
-use Rattle.std.specs.Io.Buffered.{reader_buffer, reader_capacity, reader_inner, reader_remaining}
-use Rattle.std.specs.Io.KnownBytes.{prepend_known}
-use Rattle.std.specs.declared.io.buffered.BufReader.{BufReader}
+use Rattle.std.proofs.Common.{◌≡◌, ◌∙◌, ◌+◌, ℕ, zero, suc, Bool, true, false, true≢false, List, [], ◌∷◌, ◌++◌, length, Option, Some, None, Result, Ok, Err, is_some, ◌&&◌, inl, inr, refl, sym, ap, subst, append_assoc, append-nil, length-append}
+use Rattle.std.specs.Prelude.{IfErr, IfOk, IfSome}
 use Rattle.lsm_codec.specs.Map.{Map, Operation, apply, changed}
 use Rattle.lsm_device.specs.declared.refusal.Refusal.{Refusal}
 use Rattle.lsm_language.specs.declared.fault.Fault.{Fault}

@@ -133,7 +133,8 @@ fn keep_and_compact<D: Device, P: Progress>(
     if is_whole {
         return Ok(Output::Lines(numbers));
     }
-    Ok(Output::Halfway(numbers, lack_of(alloc, store)))
+    let lack = lack_of(alloc, store);
+    Ok(Output::Halfway(numbers, lack))
 }
 
 fn dump<R: Files<File = File> + AllocGlobal, O: Write>(

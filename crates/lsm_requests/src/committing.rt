@@ -10,7 +10,7 @@ use lsm_codec::{Batch, Guard};
 use lsm_device::{Device, Refusal};
 use lsm_policy::Policy;
 use lsm_store::Store;
-use lsm_upkeep::{keep_up, write};
+use lsm_upkeep::{Upkeep, keep_up, write};
 use std::alloc::Global;
 
 /// Keeps a store up, commits a batch, where guards are given under them, and syncs it. A batch that puts values is refused with
@@ -26,7 +26,7 @@ pub fn commit<D: Device>(
     ensures refused { IfErr result (RefusesToCommit (option_map (λ g. g.now) guards.entry) batch.now store.old) }
 {
     keep(alloc, store);
-    let number = write(alloc, store, guards, batch)?;
+    let number = write(alloc, store, &mut Upkeep::at_once(), guards, batch)?;
     store.sync()?;
     Ok(Output::Batch(number))
 }

@@ -12,7 +12,7 @@ use lsm_device::{Device, Refusal};
 use lsm_language::{Fault, MOST_ROW, Unread, Usage, beginning, next_line, read_row};
 use lsm_progress::{Milestone, Progress};
 use lsm_store::Store;
-use lsm_upkeep::write;
+use lsm_upkeep::{Upkeep, write};
 use std::alloc::Global;
 use std::io::BufRead;
 
@@ -201,7 +201,7 @@ fn commit_batch<D: Device>(
 {
     match waiting {
         Some(batch) => {
-            write(alloc, store, None, batch)?;
+            write(alloc, store, &mut Upkeep::at_once(), None, batch)?;
             Ok(())
         }
         None => Ok(()),

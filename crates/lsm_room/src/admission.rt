@@ -139,7 +139,8 @@ impl<'a, H: HeldJobs, A: Allocator> Standing<'a, H, A> {
     /// level. Of deletes alone less is asked.
     pub fn admits(&self, before: MemSize, after: MemSize, puts: bool) -> bool {
         let memory = counted(after, self.live);
-        let reserve = self.reserve();
+        let taken = self.taken();
+        let reserve = Reserve::of(taken.saturating_add(self.free()));
         if delete_blocks(memory) > DELETE_BLOCKS {
             return false;
         }
@@ -149,9 +150,24 @@ impl<'a, H: HeldJobs, A: Allocator> Standing<'a, H, A> {
         if !puts && charge_of(memory) == 0 {
             return self.admits_deletes(memory, reserve);
         }
-        self.is_a_third_free()
+        taken <= self.free().saturating_mul(2)
             && self.tables() <= TABLES_FOR_PUTS
-            && self.leaves(memory, reserve.for_puts())
+            && self.leaves(memory, reserve.area, reserve.for_puts())
+    }
+
+    /// Whether memory, of which `before` is there, may become as large as `most` by whatever puts and deletes: then each batch that leaves it
+    /// within is admitted, as long as the tables and the free blocks are the same.
+    pub fn admits_up_to(&self, before: MemSize, most: MemSize) -> bool {
+        let puts = MemSize {
+            deletes: before.deletes,
+            delete_bytes: before.delete_bytes,
+            ..most
+        };
+        let deletes = counted(most, self.live);
+        delete_blocks(deletes) <= DELETE_BLOCKS
+            && is_small(self.reserve(), deletes)
+            && self.levels.runs().len() < RUNS_FOR_DELETES
+            && self.admits(most, puts, true)
     }
 
     /// Whether it admits so much with some blocks to spare, and few runs are in level 0.
@@ -162,7 +178,7 @@ impl<'a, H: HeldJobs, A: Allocator> Standing<'a, H, A> {
         self.admits(before, after, puts)
             && self.levels.runs().len() < 4
             && self.has_spare()
-            && ((!puts && charge_of(memory) == 0) || self.leaves(memory, spare))
+            && ((!puts && charge_of(memory) == 0) || self.leaves(memory, reserve.area, spare))
     }
 
     /// Whether besides the reserve of puts some blocks are free to spare.
@@ -177,18 +193,14 @@ impl<'a, H: HeldJobs, A: Allocator> Standing<'a, H, A> {
             && self.levels.runs().len() < RUNS_FOR_DELETES
     }
 
-    fn is_a_third_free(&self) -> bool {
-        self.taken() <= self.free().saturating_mul(2)
-    }
-
     // Whether so many blocks are left where all that stands and memory has come to the last level.
-    fn leaves(&self, memory: MemSize, blocks: u64) -> bool {
-        self.growth(memory).saturating_add(blocks) <= self.free()
+    fn leaves(&self, memory: MemSize, area: u64, blocks: u64) -> bool {
+        self.growth(memory, area).saturating_add(blocks) <= self.free()
     }
 
     // By how many blocks all tables and memory grow at most until all is in the last level.
-    fn growth(&self, memory: MemSize) -> u64 {
-        let last = self.last_level();
+    fn growth(&self, memory: MemSize, area: u64) -> u64 {
+        let last = self.last_level_of(area);
         let mut above = Sizes::none().with_runs(self.levels.runs());
         let mut below = Sizes::none();
         for (place, run) in self.levels.deeper().iter().enumerate() {

@@ -66,7 +66,11 @@ impl<'a, H: HeldJobs, A: Allocator> Standing<'a, H, A> {
 
     /// The level that all tables come to: the deepest that has some, or by the size of the area a deeper one.
     pub(crate) fn last_level(&self) -> usize {
-        let area = self.area();
+        self.last_level_of(self.area())
+    }
+
+    /// That of an area of so many blocks.
+    pub(crate) fn last_level_of(&self, area: u64) -> usize {
         let least = if area <= SMALL_AREA {
             2
         } else if area <= LARGE_AREA {

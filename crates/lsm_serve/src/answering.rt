@@ -14,28 +14,38 @@ use lsm_lives::Reply;
 use lsm_policy::Policy;
 use lsm_replies::{Counted, counted_in};
 use lsm_store::Store;
-use lsm_upkeep::{compact_all, keep_up};
+use lsm_upkeep::{Upkeep, compact_all, keep_up};
 use std::alloc::Global;
 
 /// Answers a line.
-pub(crate) fn answer_line<D: Device>(alloc: Global, store: &mut Store<D>, line: &[u8]) -> Answer
+pub(crate) fn answer_line<D: Device>(
+    alloc: Global,
+    store: &mut Store<D>,
+    upkeep: &mut Upkeep,
+    line: &[u8],
+) -> Answer
     ensures answers { AnswersUntagged store.old line.now (outcome_of result) store.new }
     ensures tellable { IsTellable result }
 {
     match read_asked(alloc, line) {
-        Ok(asked) => answer(alloc, store, asked),
+        Ok(asked) => answer(alloc, store, upkeep, asked),
         Err(_) => refused(Refusal::NoMemory),
     }
 }
 
 // Answers what a line asks for.
-fn answer<D: Device>(alloc: Global, store: &mut Store<D>, asked: Asked) -> Answer
+fn answer<D: Device>(
+    alloc: Global,
+    store: &mut Store<D>,
+    upkeep: &mut Upkeep,
+    asked: Asked,
+) -> Answer
     requires { IsAskable asked }
     ensures answers { Answers (asked_by asked) store.old (outcome_of result) store.new }
     ensures tellable { IsTellable result }
 {
     match asked {
-        Asked::Call(call) => Answer::Told(counted_in(&call), make(alloc, store, &call)),
+        Asked::Call(call) => Answer::Told(counted_in(&call), make(alloc, store, upkeep, &call)),
         Asked::NoBatch(refusal) => refused(refusal),
         Asked::Numbers => numbers(store),
         Asked::Compaction => compact(alloc, store),

@@ -9,17 +9,22 @@ ghost use Rattle.lsm_serve.specs.Committing.{MakesCall};
 use lsm_device::{Device, Refusal};
 use lsm_lives::{Call, Reply, serve};
 use lsm_store::Store;
-use lsm_upkeep::write;
+use lsm_upkeep::{Upkeep, write};
 use std::alloc::Global;
 
 /// Makes a call. What is refused is a reply.
-pub(crate) fn make<D: Device>(alloc: Global, store: &mut Store<D>, call: &Call) -> Reply
+pub(crate) fn make<D: Device>(
+    alloc: Global,
+    store: &mut Store<D>,
+    upkeep: &mut Upkeep,
+    call: &Call,
+) -> Reply
     ensures makes { MakesCall (call_of call.now) store.old (reply_of result) store.new }
     ensures told { told_of result ≡ Replied (reply_of result) }
 {
     match call {
-        Call::Commit(batch) => number(write(alloc, store, None, batch)),
-        Call::CommitIf(guards, batch) => number(write(alloc, store, Some(guards), batch)),
+        Call::Commit(batch) => number(write(alloc, store, upkeep, None, batch)),
+        Call::CommitIf(guards, batch) => number(write(alloc, store, upkeep, Some(guards), batch)),
         _ => serve(store, call),
     }
 }

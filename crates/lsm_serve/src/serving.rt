@@ -15,6 +15,7 @@ use crate::tagging::part_line;
 use lsm_device::{Device, Refusal};
 use lsm_language::Fault;
 use lsm_store::Store;
+use lsm_upkeep::Upkeep;
 use std::alloc::Global;
 use std::io;
 use std::io::{BufRead, Write};
@@ -85,11 +86,12 @@ fn hold_answers<D: Device, I: BufRead, O: Write>(
     ensures { AreHeld (I.remaining input.old) result store.old store.new (O.contents output.old) (O.contents output.new) held.new.items }
 {
     let mut line = Vec::new(alloc);
+    let mut upkeep = Upkeep::new();
     for number in 1..u64::MAX {
         let Some(ahead) = next_line(input, &mut line)? else {
             return Ok(());
         };
-        hold_answer(alloc, store, number, &line, held)?;
+        hold_answer(alloc, store, &mut upkeep, number, &line, held)?;
         write_unless(ahead, held, output)?;
     }
     Err(Fault::Refused(Refusal::Exhausted))
@@ -99,13 +101,14 @@ fn hold_answers<D: Device, I: BufRead, O: Write>(
 fn hold_answer<D: Device>(
     alloc: Global,
     store: &mut Store<D>,
+    upkeep: &mut Upkeep,
     number: u64,
     line: &[u8],
     held: &mut Vec<u8>,
 ) -> Result<(), Refusal>
     ensures { HoldsAnswer store.old number line.now held.old.items result store.new held.new.items }
 {
-    let answer = answer_line(alloc, store, line);
+    let answer = answer_line(alloc, store, upkeep, line);
     hold(alloc, number, line, &answer, held)
 }
 

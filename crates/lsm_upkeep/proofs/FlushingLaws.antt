@@ -6,7 +6,7 @@ use Rattle.lsm_store.specs.Serving.{Serves}
 use Rattle.lsm_upkeep.specs.Finishing.{IsFinished, IsUndone, Taken}
 use Rattle.lsm_upkeep.specs.Flushing.{BeginsLog, FlushesFirst, IsIdle, IsMadeReady, OpensAnother, ReadiesLog, TriesNext}
 use Rattle.lsm_upkeep.specs.Steps.{IsUpkept}
-use Rattle.lsm_upkeep.proofs.Upkept.{asked_for, one_less, one_more, rotates, stays, then}
+use Rattle.lsm_upkeep.proofs.Upkept.{one_less, one_more, rotates, stays, then}
 
 -- ---- a store in which no flush waits
 

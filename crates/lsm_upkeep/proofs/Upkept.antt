@@ -10,7 +10,7 @@ use Rattle.lsm_store.specs.Working.{Works, ServesStep}
 use Rattle.lsm_upkeep.specs.Keeping.{KeepsMap}
 use Rattle.lsm_upkeep.specs.Finishing.{IsFinished, IsUndone, Taken}
 use Rattle.lsm_upkeep.specs.Steps.{IsUpkeepStep, IsUpkept, UpkeepSteps}
-use Rattle.lsm_upkeep.specs.Upkeep.{FinishesJobs, IsEasedIf, IsRotatedAt, KeepsUp, OpensLog, Settles}
+use Rattle.lsm_upkeep.specs.Upkeep.{IsEasedIf, IsRotatedAt, OpensLog, Settles}
 use Rattle.lsm_upkeep.proofs.Jobs.{Goes, jobs, taken, undone}
 use Rattle.lsm_upkeep.proofs.KeptMaps.{onward, rotate_keeps, stays as stays_same, works_keep}
 

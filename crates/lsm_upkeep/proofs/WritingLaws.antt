@@ -1,5 +1,5 @@
 -- What a commit comes to that finds room.
-use Rattle.std.proofs.Common.{◌≡◌, ◌≢◌, ◌∙◌, ◌||◌, Bool, true, false, nat_lt, length, true≢false, inl, inr, refl, sym, ap, subst, List, Option, Some, None, Result, Ok, Err, ℕ}
+use Rattle.std.proofs.Common.{◌≡◌, ◌∙◌, ◌||◌, Bool, true, false, nat_lt, length, true≢false, inl, inr, refl, sym, ap, List, Option, Result, Err, ℕ}
 use Rattle.lsm_codec.specs.Guards.{Condition}
 use Rattle.lsm_codec.specs.Map.{Operation}
 use Rattle.lsm_device.specs.declared.refusal.Refusal.{Refusal}

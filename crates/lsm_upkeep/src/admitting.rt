@@ -6,13 +6,12 @@ ghost use Rattle.lsm_upkeep.specs.Flushing.{BeginsLog, IsMadeReady, OpensAnother
 ghost use Rattle.lsm_upkeep.specs.Steps.{IsUpkept};
 ghost use Rattle.lsm_upkeep.specs.Writing.{wants_room};
 
-use crate::compacting::compact;
 use crate::demand::Demand;
 use crate::flushing::flush;
 use crate::pushing::push;
+use crate::upkeep::Upkeep;
 use lsm_codec::Batch;
 use lsm_device::{Device, Refusal};
-use lsm_policy::Policy;
 use lsm_store::Store;
 use std::alloc::Global;
 
@@ -22,7 +21,14 @@ use std::alloc::Global;
 /// It is refused with `NoSpace` where a batch that puts values finds no room, though all tables were brought down as far as they go. A
 /// batch of deletes is not, unless a snapshot is live. What else is refused is passed over: the store goes on as it then is, and its map
 /// is the same. A stopped store is left as it is, since it refuses the batch itself.
-pub fn admit<D: Device>(alloc: Global, store: &mut Store<D>, batch: &Batch) -> Result<(), Refusal>
+///
+/// The upkeep is what the last call left: mostly no table is looked at, and where a merge is due one is finished.
+pub fn admit<D: Device>(
+    alloc: Global,
+    store: &mut Store<D>,
+    upkeep: &mut Upkeep,
+    batch: &Batch,
+) -> Result<(), Refusal>
     ensures upkept { IsUpkept store.old store.new }
     ensures ready { IsMadeReady store.old store.new }
     ensures refused { IfErr result (λ e. (e ≡ NoSpace) × (wants_room batch.now store.new.state ≡ true)) }
@@ -30,18 +36,20 @@ pub fn admit<D: Device>(alloc: Global, store: &mut Store<D>, batch: &Batch) -> R
     if store.stat().is_err() {
         return Ok(());
     }
+    let is_full = matches!(store.log_room(), Ok(0));
     open_log(alloc, store);
+    upkeep.go_on(alloc, store, is_full);
     let demand = Demand::of(store, batch);
     let has_log = demand.has_log(store);
-    if has_log && demand.is_met(store) {
+    if has_log && upkeep.allowance.admits(store, &demand) {
         return Ok(());
     }
     if has_log && !demand.puts && demand.joins(store) {
         push(alloc, store, Some(demand));
         return Ok(());
     }
-    change_log(alloc, store, has_log);
-    make_room(alloc, store, Demand::of(store, batch))
+    change_log(alloc, store, upkeep, has_log);
+    make_room(alloc, store, upkeep, Demand::of(store, batch))
 }
 
 /// Finishes the flush that waits, and opens a log where the open one has no room, or none is open.
@@ -74,21 +82,30 @@ fn next_log<D: Device>(alloc: Global, store: &mut Store<D>)
     }
 }
 
-// Opens another log. Where the one before had no room for a batch, that is the time to compact by the policy.
-fn change_log<D: Device>(alloc: Global, store: &mut Store<D>, had_room: bool)
+// Opens another log. Where the one before had no room for a batch, that is the time to merge.
+fn change_log<D: Device>(alloc: Global, store: &mut Store<D>, upkeep: &mut Upkeep, had_room: bool)
     ensures { IsUpkept store.old store.new }
 {
     next_log(alloc, store);
     if !had_room {
-        compact(alloc, store, &Policy::new());
+        upkeep.merge(alloc, store);
     }
 }
 
-// Brings tables down until what is demanded is admitted. It is refused where puts are not.
-fn make_room<D: Device>(alloc: Global, store: &mut Store<D>, demand: Demand) -> Result<(), Refusal>
+// Finishes the merges that are due, and brings tables down, until what is demanded is admitted. It is refused where puts are not.
+fn make_room<D: Device>(
+    alloc: Global,
+    store: &mut Store<D>,
+    upkeep: &mut Upkeep,
+    demand: Demand,
+) -> Result<(), Refusal>
     ensures upkept { IsUpkept store.old store.new }
     ensures refused { IfErr result (λ e. (e ≡ NoSpace) × (demand.puts ≡ true)) }
 {
+    if demand.is_met(store) {
+        return Ok(());
+    }
+    upkeep.finish(alloc, store);
     if demand.is_met(store) {
         return Ok(());
     }

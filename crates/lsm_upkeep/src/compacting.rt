@@ -20,10 +20,10 @@ use lsm_store::Store;
 use std::alloc::{Allocator, Global};
 
 /// The most jobs that are finished at once.
-const MOST_JOBS: u32 = 4_096;
+pub(crate) const MOST_JOBS: u32 = 4_096;
 
 /// The most steps that bring all tables into the last level: each of 1,024 tables goes down four levels, and may be cut before.
-const MOST_STEPS: u32 = 16_384;
+pub(crate) const MOST_STEPS: u32 = 16_384;
 
 /// Finishes jobs, one after another, until there is no more to do, one can't be finished, or 4,096 are: a flush where one
 /// waits, and else the merge that the policy chooses, or where that isn't sure to find room a step down. One that can't be finished is
@@ -44,8 +44,8 @@ pub fn compact<D: Device>(alloc: Global, store: &mut Store<D>, policy: &Policy)
     }
 }
 
-// Finishes what the policy wants next. It tells whether it did.
-fn finish_wanted<D: Device>(alloc: Global, store: &mut Store<D>, policy: &Policy) -> bool
+/// Finishes what the policy wants next. It tells whether it did.
+pub(crate) fn finish_wanted<D: Device>(alloc: Global, store: &mut Store<D>, policy: &Policy) -> bool
     ensures { IsUpkept store.old store.new }
 {
     match wanted_by(policy, store) {

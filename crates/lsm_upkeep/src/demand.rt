@@ -15,17 +15,17 @@ const SECTOR_ROOM: usize = 480;
 
 /// What a batch demands of a store: that memory becomes so large, and so many sectors of the log.
 #[derive(Clone, Copy)]
-pub(crate) struct Demand {
+pub struct Demand {
     before: MemSize,
     after: MemSize,
     sectors: u32,
     /// Whether it has puts, or a snapshot keeps its deletes.
-    pub puts: bool,
+    pub(crate) puts: bool,
 }
 
 impl Demand {
     /// That of a batch, of a store as it now is.
-    pub fn of<D: Device>(store: &Store<D>, batch: &Batch) -> Demand
+    pub(crate) fn of<D: Device>(store: &Store<D>, batch: &Batch) -> Demand
         ensures { result.puts ≡ wants_room batch.now store.now.state }
     {
         let before = store.memtable_size();
@@ -38,7 +38,7 @@ impl Demand {
     }
 
     /// Whether the open log has room for it.
-    pub fn has_log<D: Device>(&self, store: &Store<D>) -> bool {
+    pub(crate) fn has_log<D: Device>(&self, store: &Store<D>) -> bool {
         match store.log_room() {
             Ok(room) => self.sectors <= room,
             Err(_) => false,
@@ -46,22 +46,51 @@ impl Demand {
     }
 
     /// Whether it is admitted.
-    pub fn is_met<D: Device>(&self, store: &Store<D>) -> bool {
+    pub(crate) fn is_met<D: Device>(&self, store: &Store<D>) -> bool {
         standing(store).admits(self.before, self.after, self.puts)
     }
 
+    /// How large memory may become by it and so many more entries, of so many bytes, none of which is larger than the largest up to then.
+    pub(crate) fn with_more(&self, entries: u64, bytes: u64) -> MemSize {
+        let all = self.after;
+        MemSize {
+            entries: all.entries.saturating_add(entries),
+            bytes: all.bytes.saturating_add(bytes),
+            large: all.large.saturating_add(bytes / 2_048),
+            deletes: all.deletes.saturating_add(entries),
+            delete_bytes: all.delete_bytes.saturating_add(bytes),
+            largest: all.largest,
+        }
+    }
+
+    /// Whether it is admitted, and so is whatever else leaves memory within this size.
+    pub(crate) fn is_met_up_to<D: Device>(&self, store: &Store<D>, most: MemSize) -> bool {
+        standing(store).admits_up_to(self.before, most)
+    }
+
+    /// Whether it leaves memory within this size.
+    pub(crate) fn is_within(&self, most: MemSize) -> bool {
+        let all = self.after;
+        all.entries <= most.entries
+            && all.bytes <= most.bytes
+            && all.large <= most.large
+            && all.deletes <= most.deletes
+            && all.delete_bytes <= most.delete_bytes
+            && all.largest <= most.largest
+    }
+
     /// Whether it is admitted with blocks to spare.
-    pub fn is_met_easily<D: Device>(&self, store: &Store<D>) -> bool {
+    pub(crate) fn is_met_easily<D: Device>(&self, store: &Store<D>) -> bool {
         standing(store).admits_easily(self.before, self.after, self.puts)
     }
 
     /// Whether blocks are free to spare.
-    pub fn has_spare<D: Device>(store: &Store<D>) -> bool {
+    pub(crate) fn has_spare<D: Device>(store: &Store<D>) -> bool {
         standing(store).has_spare()
     }
 
     /// Whether it may come into the memory that is there, which is small enough still.
-    pub fn joins<D: Device>(&self, store: &Store<D>) -> bool {
+    pub(crate) fn joins<D: Device>(&self, store: &Store<D>) -> bool {
         self.before.entries > 0 && is_small(standing(store).reserve(), self.after)
     }
 }

@@ -13,10 +13,10 @@ use lsm_store::Store;
 use std::alloc::Global;
 
 /// A flush is tried so often at most.
-const MOST_TRIES: u32 = 60;
+pub(crate) const MOST_TRIES: u32 = 60;
 
 /// From so many runs of level 0 on they go down before a flush.
-const MANY_RUNS: usize = 11;
+pub(crate) const MANY_RUNS: usize = 11;
 
 /// The runs that level 0 has at most.
 pub(crate) const MOST_RUNS: usize = 12;

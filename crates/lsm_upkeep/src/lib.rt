@@ -14,6 +14,9 @@
 //! None of them changes the map, a snapshot, or the count of batches. What is refused is passed over: the job that it stops
 //! is given up, and the next call takes it anew.
 //!
+//! A caller that may do one piece of work at a time has the same as data: an [`AdmitState`] tells what is to be done before a batch is
+//! committed, and a [`Plan`] what is to be attempted next until that is done.
+//!
 //! ```
 //! let policy = Policy::new();
 //! keep_up(alloc, &mut store, &policy);
@@ -22,21 +25,32 @@
 #![tactic(auto)]
 
 mod admitting;
+mod allowing;
 mod compacting;
 mod demand;
 mod finishing;
 mod flushing;
 mod keeping;
 mod lacking;
+mod planning;
 mod pushing;
+mod readying;
 mod settling;
 mod stepping;
+mod trying;
+mod upkeep;
 mod wanting;
 mod writing;
 
 pub use admitting::{admit, open_log};
 pub use compacting::{compact, compact_all, compact_all_showing};
+pub use demand::Demand;
 pub use keeping::keep_up;
 pub use lacking::{Lack, Shortage, lack_of};
+pub use planning::{Goal, Plan};
+pub use readying::{AdmitState, Verdict};
 pub use settling::settle;
-pub use writing::write;
+pub use stepping::{Way, Went, next_step};
+pub use trying::Attempt;
+pub use upkeep::Upkeep;
+pub use writing::{without_log_full, write};

@@ -3,21 +3,38 @@
 ghost use Rattle.lsm_upkeep.specs.Steps.{IsUpkept};
 
 use crate::finishing::finish_step;
+use crate::wanting::step_by;
 use lsm_device::Device;
 use lsm_jobs::Slots;
+use lsm_policy::Policy;
 use lsm_room::{Advice, Standing, Step};
 use lsm_store::Store;
-use std::alloc::Global;
+use std::alloc::{AllocError, Global};
 
 /// How a step went.
 #[derive(Clone, Copy)]
-pub(crate) enum Went {
+pub enum Went {
     /// It was finished.
     On,
     /// There is none: all tables are where they are to go.
     ToTheEnd,
     /// None is sure to find room, or it was refused.
     Nowhere,
+}
+
+/// What a step is to do.
+#[derive(Clone, Copy)]
+pub enum Way {
+    /// It brings tables down, towards the last level that a store of this size has.
+    Down,
+    /// It brings tables down, towards level 4.
+    ToTheLast,
+    /// It joins neighbours, where a level has many small tables.
+    Together,
+    /// It moves a table, so that free blocks come to lie side by side.
+    Aside,
+    /// It does what the policy wants.
+    ByPolicy,
 }
 
 /// What stands in a store.
@@ -30,61 +47,79 @@ pub(crate) fn standing<D: Device>(store: &Store<D>) -> Standing<'_, Slots> {
     }
 }
 
+/// The next step, if there is one to do this. It may be one that isn't sure to find room, since that is reckoned by bounds.
+pub fn next_step<D: Device>(
+    alloc: Global,
+    store: &Store<D>,
+    way: Way,
+) -> Result<Option<Step>, AllocError> {
+    match way {
+        Way::Down => next_down(alloc, store),
+        Way::ToTheLast => advised(alloc, standing(store).step_down_to(&alloc, 4)),
+        Way::Together => standing(store).step_together(&alloc),
+        Way::Aside => standing(store).step_aside(&alloc),
+        Way::ByPolicy => step_by(alloc, store, &Policy::new()),
+    }
+}
+
+/// The next step down.
+pub(crate) fn next_down<D: Device>(
+    alloc: Global,
+    store: &Store<D>,
+) -> Result<Option<Step>, AllocError> {
+    advised(alloc, standing(store).step_down(&alloc))
+}
+
+// The step that is advised. What isn't sure to find room is tried all the same.
+fn advised(alloc: Global, advice: Result<Advice, AllocError>) -> Result<Option<Step>, AllocError> {
+    match advice {
+        Ok(Advice::Nothing) => Ok(None),
+        Ok(Advice::Take(step)) => Ok(Some(step)),
+        Ok(Advice::Lacks { choice, .. }) => Ok(Some(Step::whole(&alloc, choice)?)),
+        Err(error) => Err(error),
+    }
+}
+
+/// Takes the next step and finishes it.
+pub(crate) fn take<D: Device>(alloc: Global, store: &mut Store<D>, way: Way) -> Went
+    ensures { IsUpkept store.old store.new }
+{
+    match next_step(alloc, store, way) {
+        Ok(Some(step)) => told(finish_step(alloc, store, step)),
+        Ok(None) => Went::ToTheEnd,
+        Err(_) => Went::Nowhere,
+    }
+}
+
+// How a step went that was finished or not.
+fn told(finished: bool) -> Went {
+    if finished { Went::On } else { Went::Nowhere }
+}
+
 /// Takes the next step down.
 pub(crate) fn step_down<D: Device>(alloc: Global, store: &mut Store<D>) -> Went
     ensures { IsUpkept store.old store.new }
 {
-    match standing(store).step_down(&alloc) {
-        Ok(advice) => follow(alloc, store, advice),
-        Err(_) => Went::Nowhere,
-    }
+    take(alloc, store, Way::Down)
 }
 
 /// Takes the next step of those that bring all tables into the last of the levels.
 pub(crate) fn step_to_the_last<D: Device>(alloc: Global, store: &mut Store<D>) -> Went
     ensures { IsUpkept store.old store.new }
 {
-    match standing(store).step_down_to(&alloc, 4) {
-        Ok(advice) => follow(alloc, store, advice),
-        Err(_) => Went::Nowhere,
-    }
-}
-
-// Does what is advised. What isn't sure to find room is tried all the same, since that is reckoned by bounds.
-fn follow<D: Device>(alloc: Global, store: &mut Store<D>, advice: Advice) -> Went
-    ensures { IsUpkept store.old store.new }
-{
-    match advice {
-        Advice::Nothing => Went::ToTheEnd,
-        Advice::Take(step) => told(finish_step(alloc, store, step)),
-        Advice::Lacks { choice, .. } => match Step::whole(&alloc, choice) {
-            Ok(step) => told(finish_step(alloc, store, step)),
-            Err(_) => Went::Nowhere,
-        },
-    }
-}
-
-/// How a step went that was finished or not.
-pub(crate) fn told(finished: bool) -> Went {
-    if finished { Went::On } else { Went::Nowhere }
+    take(alloc, store, Way::ToTheLast)
 }
 
 /// Joins neighbours, where a level has many small tables. It tells whether it did.
 pub(crate) fn join<D: Device>(alloc: Global, store: &mut Store<D>) -> bool
     ensures { IsUpkept store.old store.new }
 {
-    match standing(store).step_together(&alloc) {
-        Ok(Some(step)) => finish_step(alloc, store, step),
-        Ok(None) | Err(_) => false,
-    }
+    matches!(take(alloc, store, Way::Together), Went::On)
 }
 
 /// Moves a table, so that free blocks come to lie side by side. It tells whether it did.
 pub(crate) fn step_aside<D: Device>(alloc: Global, store: &mut Store<D>) -> bool
     ensures { IsUpkept store.old store.new }
 {
-    match standing(store).step_aside(&alloc) {
-        Ok(Some(step)) => finish_step(alloc, store, step),
-        Ok(None) | Err(_) => false,
-    }
+    matches!(take(alloc, store, Way::Aside), Went::On)
 }

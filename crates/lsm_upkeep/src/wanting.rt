@@ -1,10 +1,12 @@
 //! What is to be done next.
 
-use crate::stepping::standing;
+use crate::stepping::{next_down, standing};
 use lsm_device::Device;
 use lsm_levels::Choice;
 use lsm_policy::Policy;
+use lsm_room::Step;
 use lsm_store::Store;
+use std::alloc::{AllocError, Global};
 
 /// From so many runs of level 0 on they go down in steps where what the policy chooses isn't sure to find room.
 const SOME_RUNS: usize = 4;
@@ -33,5 +35,18 @@ pub(crate) fn wanted_by<D: Device>(policy: &Policy, store: &Store<D>) -> Wanted 
         Some(_) if stat.runs >= SOME_RUNS => Wanted::Step,
         _ if stat.runs >= MANY_RUNS => Wanted::Step,
         _ => Wanted::Nothing,
+    }
+}
+
+/// The step that the policy wants, if it wants one.
+pub(crate) fn step_by<D: Device>(
+    alloc: Global,
+    store: &Store<D>,
+    policy: &Policy,
+) -> Result<Option<Step>, AllocError> {
+    match wanted_by(policy, store) {
+        Wanted::Nothing => Ok(None),
+        Wanted::Step => next_down(alloc, store),
+        Wanted::Merge(choice) => Ok(Some(Step::whole(&alloc, choice)?)),
     }
 }

@@ -5,6 +5,7 @@ ghost use Rattle.lsm_store.specs.Calls.{Number, reply_of};
 ghost use Rattle.lsm_upkeep.specs.Writing.{IsServed, Writes, commit_of, without_log_full};
 
 use crate::admitting::admit;
+use crate::upkeep::Upkeep;
 use lsm_codec::{Batch, Guard};
 use lsm_device::{Device, Refusal};
 use lsm_store::Store;
@@ -19,12 +20,13 @@ use std::alloc::Global;
 pub fn write<D: Device>(
     alloc: Global,
     store: &mut Store<D>,
+    upkeep: &mut Upkeep,
     guards: Option<&[Guard]>,
     batch: &Batch,
 ) -> Result<u64, Refusal>
     ensures { Writes (option_map (λ g. g.now) guards.entry) batch.now store.old (reply_of Number result) store.new }
 {
-    match admit(alloc, store, batch) {
+    match admit(alloc, store, upkeep, batch) {
         Ok(()) => without_log_full(commit(store, guards, batch)),
         Err(refusal) => Err(refusal),
     }
@@ -43,8 +45,8 @@ fn commit<D: Device>(
     }
 }
 
-// What is told of a commit: where the log has no room for it, though it was made ready, that there is none.
-fn without_log_full(told: Result<u64, Refusal>) -> Result<u64, Refusal>
+/// What is told of a commit: where the log has no room for it, though it was made ready, that there is none.
+pub fn without_log_full(told: Result<u64, Refusal>) -> Result<u64, Refusal>
     ensures { reply_of Number result ≡ without_log_full (reply_of Number told) }
 {
     match told {

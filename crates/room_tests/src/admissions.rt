@@ -113,3 +113,45 @@ fn blocks_to_spare(rt: HostRuntime) {
         assert!(rt; is_small(standing.reserve(), puts(1)));
     }
 }
+
+/// Whether memory may become so large by whatever puts and deletes, where no table stands and so many blocks are free.
+fn allowed<R: Abort>(rt: &R, alloc: Global, free: u32, before: MemSize, most: MemSize) -> bool {
+    let levels = levels_of(rt, alloc, &[], &[]);
+    let extents = area_of(rt, alloc, 1, free);
+    let standing = Standing {
+        levels: &levels,
+        extents: &extents,
+        held: &Nobody,
+        live: false,
+    };
+    standing.admits_up_to(before, most)
+}
+
+#[test]
+fn memory_may_become_so_large(rt: HostRuntime) {
+    // An eighth of 500 blocks is 62, as above, of whatever came first. A 16th is 31: 372 deletes are 26 data blocks at most, with 2 blocks
+    // of an index and 3 besides; one more makes it 27.
+    for (most, wanted) in [
+        (puts(55), true),
+        (puts(56), false),
+        (deletes(372), true),
+        (deletes(373), false),
+    ] {
+        assert!(rt; allowed(&rt, rt.alloc(), 500, MemSize::empty(), most) == wanted);
+    }
+}
+
+#[test]
+fn what_is_allowed_is_admitted(rt: HostRuntime) {
+    for free in [260, 300, 500, 2_000] {
+        for count in [1, 20, 40, 55, 80, 160] {
+            if !allowed(&rt, rt.alloc(), free, puts(1), puts(count)) {
+                continue;
+            }
+            for less in 1..count {
+                let (given, _) = admitted(&rt, rt.alloc(), free, puts(1), puts(less));
+                assert!(rt; given, "{less} of {count} in {free}");
+            }
+        }
+    }
+}

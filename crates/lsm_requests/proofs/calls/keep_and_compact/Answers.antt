@@ -11,7 +11,7 @@ returns-then-is_whole-clause-gives g c =
 pub returns-clause-gives : goal.returns-clause-gives
 returns-clause-gives g c =
     compacted _ _ _ _ _ c.keep.ensures.keeps c.keep.ensures.upkept c.compact_all_showing-is_whole.ensures.flushes c.compact_all_showing-is_whole.ensures.upkept
-    (sym c.if-is_whole.false ∙ c.compact_all_showing-is_whole.ensures.compacted) (c.in_ok-numbers.ensures.gives, c.lack_of.ensures)
+    (sym c.if-is_whole.false ∙ c.compact_all_showing-is_whole.ensures.compacted) (c.in_ok-numbers.ensures.gives, c.lack_of-lack.ensures)
 
 pub returns-in_err-numbers-clause-refused : goal.returns-in_err-numbers-clause-refused
 returns-in_err-numbers-clause-refused g c =

@@ -1,4 +1,3 @@
-use Rattle.std.proofs.lemmas.Result.{err_from_is_err_and}
 use Rattle.lsm_open.specs.Recovering.{IsOpeningRefusal}
 use Rattle.lsm_requests.specs.Answers.{HasNumbers}
 use Rattle.lsm_requests.proofs.RefusedLaws.{closed_answers, closed_refuses, numbers_refuse}

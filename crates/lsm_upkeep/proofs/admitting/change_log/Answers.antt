@@ -2,4 +2,4 @@ use Rattle.lsm_upkeep.proofs.Upkept.{then}
 use Rattle.lsm_upkeep.proofs.admitting.change_log.Goals as goal
 
 pub returns-then-not-had_room : goal.returns-then-not-had_room
-returns-then-not-had_room g c = then c.args.store.now c.next_log.new.store c.compact.new.store c.next_log.ensures.upkept c.compact.ensures.upkept
+returns-then-not-had_room g c = then c.args.store.now c.next_log.new.store c.merge.new.store c.next_log.ensures.upkept c.merge.ensures

@@ -1,0 +1,165 @@
+// What is done to a store between the writes of its host, piece by piece.
+
+use lsm_codec::{Batch, Key};
+use lsm_device::{Device, Refusal};
+use lsm_merge::build_here;
+use lsm_store::{Piece, Store, TakenJob};
+use lsm_upkeep::{AdmitState, Attempt, Goal, Plan, Verdict, Way, Went, next_step};
+use std::alloc::Global;
+
+/// What a piece of work did.
+#[derive(Clone, Copy)]
+pub(crate) enum Did {
+    /// There is nothing to do.
+    Nothing,
+    /// A piece was done, and there may be more of it.
+    Piece,
+    /// A job was finished.
+    Job,
+}
+
+impl Did {
+    pub(crate) fn number(self) -> u32 {
+        match self {
+            Did::Nothing => 0,
+            Did::Piece => 1,
+            Did::Job => 2,
+        }
+    }
+}
+
+/// What is to be reached, how far that is, and how the last attempt went. A job that was taken for it is in the store's first slot, since
+/// jobs are taken one at a time.
+#[derive(Drop)]
+pub struct Upkeep {
+    plan: Plan,
+    went: Went,
+    /// How far the store was made ready for the batch that is to be written.
+    admit: AdmitState,
+    /// The keys at which the result of the job that was taken is to be divided.
+    divisions: Option<Vec<Key>>,
+}
+
+impl Upkeep {
+    /// Of this goal nothing was attempted yet.
+    pub(crate) fn to(goal: Goal) -> Upkeep {
+        Upkeep {
+            plan: Plan::to(goal),
+            went: Went::On,
+            admit: AdmitState::new(),
+            divisions: None,
+        }
+    }
+
+    /// Another goal is to be reached. A job that was taken is finished first.
+    pub(crate) fn turn_to(&mut self, goal: Goal) {
+        self.plan = Plan::to(goal);
+        self.went = Went::On;
+    }
+
+    /// What is to be done with a batch. Where a goal is to be reached before, it is from now on.
+    pub(crate) fn admit<D: Device>(&mut self, store: &Store<D>, batch: &Batch) -> Verdict {
+        let verdict = self.admit.next(store, batch);
+        match verdict {
+            Verdict::After(goal) => self.turn_to(goal),
+            Verdict::Commit | Verdict::Refuse => self.admit = self.admit.next_batch(),
+        }
+        verdict
+    }
+
+    /// Does the next piece. What is refused is passed over: the job that it stops is given up.
+    pub(crate) fn go_on<D: Device>(
+        &mut self,
+        alloc: Global,
+        store: &mut Store<D>,
+    ) -> Result<Did, Refusal> {
+        store.stat()?;
+        match store.piece_at(0) {
+            Some(Piece::Read(job)) => {
+                let read = store.job_read(job);
+                Ok(self.did_piece(store, job, read.is_ok()))
+            }
+            Some(Piece::Build(job)) => {
+                let built = self.build(alloc, store, job);
+                Ok(self.did_piece(store, job, built.is_ok()))
+            }
+            Some(Piece::Write(job)) => {
+                let written = store.job_write(job);
+                Ok(self.did_piece(store, job, written.is_ok()))
+            }
+            Some(Piece::Install(job)) => Ok(self.install(store, job)),
+            Some(Piece::Take) | None => Ok(self.attempt(alloc, store)),
+        }
+    }
+
+    fn did_piece<D: Device>(&mut self, store: &mut Store<D>, job: u64, done: bool) -> Did {
+        if !done {
+            let _ = store.job_drop(job);
+            self.went = Went::Nowhere;
+        }
+        Did::Piece
+    }
+
+    // Builds a result of what was read, on the caller's thread.
+    fn build<D: Device>(
+        &mut self,
+        alloc: Global,
+        store: &mut Store<D>,
+        job: u64,
+    ) -> Result<(), Refusal> {
+        let divisions = match self.divisions.take() {
+            Some(divisions) => divisions,
+            None => Vec::new(alloc),
+        };
+        let input = store.job_input(job)?;
+        let built = build_here(alloc, input, divisions)?;
+        store.job_accept(job, &built)
+    }
+
+    fn install<D: Device>(&mut self, store: &mut Store<D>, job: u64) -> Did {
+        match store.job_install(job) {
+            Ok(()) => {
+                self.went = Went::On;
+                Did::Job
+            }
+            Err(_) => self.did_piece(store, job, false),
+        }
+    }
+
+    // Makes the next attempt. If that is a job it goes on in the next pieces.
+    fn attempt<D: Device>(&mut self, alloc: Global, store: &mut Store<D>) -> Did {
+        let Some(attempt) = self.plan.next(store, self.went) else {
+            return Did::Nothing;
+        };
+        self.divisions = None;
+        self.went = match attempt {
+            Attempt::NextJob => begun(store.job_take()),
+            Attempt::Step(way) => self.begin_step(alloc, store, way),
+            Attempt::Rotate => {
+                let _ = store.rotate();
+                Went::On
+            }
+        };
+        Did::Piece
+    }
+
+    fn begin_step<D: Device>(&mut self, alloc: Global, store: &mut Store<D>, way: Way) -> Went {
+        match next_step(alloc, store, way) {
+            Ok(Some(step)) => {
+                let went = begun(store.job_take_of(step.choice));
+                self.divisions = Some(step.divisions);
+                went
+            }
+            Ok(None) => Went::ToTheEnd,
+            Err(_) => Went::Nowhere,
+        }
+    }
+}
+
+// How an attempt goes whose job was taken or not.
+fn begun(taken: Result<Option<TakenJob>, Refusal>) -> Went {
+    match taken {
+        Ok(Some(_)) => Went::On,
+        Ok(None) | Err(_) => Went::Nowhere,
+    }
+}

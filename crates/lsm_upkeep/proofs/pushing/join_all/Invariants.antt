@@ -1,5 +1,0 @@
-use Rattle.lsm_upkeep.specs.Steps.{IsUpkept}
-use Rattle.lsm_upkeep.proofs.pushing.join_all.Given as goal
-
-abbrev pub invariant-loop : goal.invariant-loop
-invariant-loop g l = IsUpkept l.fn.store l.store

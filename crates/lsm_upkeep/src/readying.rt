@@ -1,0 +1,129 @@
+//! How far a store was made ready for a batch, for callers that do one piece of work at a time.
+
+use crate::allowing::Allowance;
+use crate::demand::Demand;
+use crate::flushing::is_waiting;
+use crate::planning::Goal;
+use lsm_codec::Batch;
+use lsm_device::Device;
+use lsm_store::Store;
+
+/// What is to be done with a batch.
+#[derive(Clone, Copy)]
+pub enum Verdict {
+    /// It is to be committed.
+    Commit,
+    /// It is to be refused with `NoSpace`.
+    Refuse,
+    /// A goal is to be reached, and then it is asked again.
+    After(Goal),
+}
+
+/// What was done for a batch.
+#[derive(Clone, Copy)]
+enum Done {
+    /// Nothing.
+    Nothing,
+    /// The flush that waited was finished.
+    Flush,
+    /// A log is open that has room, if one could be opened.
+    Log,
+    /// Tables were pushed down, so that it may join what is in memory.
+    PushToJoin,
+    /// Another log was opened for it.
+    NextLog,
+    /// And tables were pushed down.
+    Push,
+}
+
+/// How far a store was made ready for a batch: what [`admit`](crate::admit) does at once is done goal by goal, and each time the batch is
+/// asked what it demands of the store as it then is.
+#[derive(Clone, Copy)]
+pub struct AdmitState {
+    done: Done,
+    allowance: Allowance,
+}
+
+impl AdmitState {
+    /// Nothing was done yet.
+    pub fn new() -> AdmitState {
+        AdmitState {
+            done: Done::Nothing,
+            allowance: Allowance::none(),
+        }
+    }
+
+    /// Nothing was done for the next batch. What the store granted counts on.
+    pub fn next_batch(self) -> AdmitState {
+        AdmitState {
+            done: Done::Nothing,
+            ..self
+        }
+    }
+
+    /// What is to be done next with a batch.
+    pub fn next<D: Device>(&mut self, store: &Store<D>, batch: &Batch) -> Verdict {
+        if store.stat().is_err() {
+            return Verdict::Commit;
+        }
+        if let Some(goal) = self.log_goal(store) {
+            return Verdict::After(goal);
+        }
+        let demand = Demand::of(store, batch);
+        match self.done {
+            Done::Nothing | Done::Flush | Done::Log | Done::PushToJoin => self.with_log(
+                store, demand,
+            ),
+            Done::NextLog => self.with_next_log(store, demand),
+            Done::Push => behind_push(store, demand),
+        }
+    }
+
+    // What is to be done so that a log with room is open.
+    fn log_goal<D: Device>(&mut self, store: &Store<D>) -> Option<Goal> {
+        if matches!(self.done, Done::Nothing) {
+            self.done = Done::Flush;
+            if is_waiting(store) {
+                return Some(Goal::Flushed);
+            }
+        }
+        if matches!(self.done, Done::Flush) {
+            self.done = Done::Log;
+            if let Ok(0) = store.log_room() {
+                return Some(Goal::NextLog { compacts: true });
+            }
+        }
+        None
+    }
+
+    fn with_log<D: Device>(&mut self, store: &Store<D>, demand: Demand) -> Verdict {
+        let has_log = demand.has_log(store);
+        if has_log && self.allowance.admits(store, &demand) {
+            return Verdict::Commit;
+        }
+        if has_log && !demand.puts && demand.joins(store) {
+            if matches!(self.done, Done::PushToJoin) {
+                return Verdict::Commit;
+            }
+            self.done = Done::PushToJoin;
+            return Verdict::After(Goal::Room(demand));
+        }
+        self.done = Done::NextLog;
+        Verdict::After(Goal::NextLog { compacts: !has_log })
+    }
+
+    fn with_next_log<D: Device>(&mut self, store: &Store<D>, demand: Demand) -> Verdict {
+        if demand.is_met(store) {
+            return Verdict::Commit;
+        }
+        self.done = Done::Push;
+        Verdict::After(Goal::Room(demand))
+    }
+}
+
+fn behind_push<D: Device>(store: &Store<D>, demand: Demand) -> Verdict {
+    if demand.puts && !(demand.is_met(store) && Demand::has_spare(store)) {
+        return Verdict::Refuse;
+    }
+    Verdict::Commit
+}
