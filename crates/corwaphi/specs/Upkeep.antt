@@ -11,8 +11,10 @@ pub record IsReadied (old new : StoreView) : Type 0 where
   pub compacts : IsUpkept old compacted
   pub opens : ReadiesLog compacted new
 
--- A store was kept up, and then its tables were brought down.
+-- What was begun was finished, which is upkeep; then a store was kept up, and its tables were brought down.
 pub record CompactsWhole (old new : StoreView) : Type 0 where
+  pub begun : StoreView
+  pub finishes : IsUpkept old begun
   pub kept : StoreView
-  pub keeps_up : KeepsUp 768 old kept
+  pub keeps_up : KeepsUp 768 begun kept
   pub compacts : IsUpkept kept new

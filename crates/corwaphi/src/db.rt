@@ -229,6 +229,7 @@ impl<D: Device> Db<D> {
         ensures upkept { IsUpkept self.old self.new }
         ensures compacted { result ≡ is_compacted (machine_of self.new) }
     {
+        self.upkeep.finish_begun(self.alloc, &mut self.store);
         keep_up(self.alloc, &mut self.store, &Policy::new());
         compact_all(self.alloc, &mut self.store)
     }

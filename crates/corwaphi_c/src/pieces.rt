@@ -2,9 +2,8 @@
 
 use lsm_codec::{Batch, Key};
 use lsm_device::{Device, Refusal};
-use lsm_merge::build_here;
-use lsm_store::{Piece, Store, TakenJob};
-use lsm_upkeep::{AdmitState, Attempt, Goal, Plan, Verdict, Way, Went, next_step};
+use lsm_store::{Store, TakenJob};
+use lsm_upkeep::{AdmitState, Attempt, Goal, PieceDone, Plan, Verdict, Way, Went, do_piece, next_step};
 use std::alloc::Global;
 
 /// What a piece of work did.
@@ -74,55 +73,17 @@ impl Upkeep {
         store: &mut Store<D>,
     ) -> Result<Did, Refusal> {
         store.stat()?;
-        match store.piece_at(0) {
-            Some(Piece::Read(job)) => {
-                let read = store.job_read(job);
-                Ok(self.did_piece(store, job, read.is_ok()))
-            }
-            Some(Piece::Build(job)) => {
-                let built = self.build(alloc, store, job);
-                Ok(self.did_piece(store, job, built.is_ok()))
-            }
-            Some(Piece::Write(job)) => {
-                let written = store.job_write(job);
-                Ok(self.did_piece(store, job, written.is_ok()))
-            }
-            Some(Piece::Install(job)) => Ok(self.install(store, job)),
-            Some(Piece::Take) | None => Ok(self.attempt(alloc, store)),
-        }
-    }
-
-    fn did_piece<D: Device>(&mut self, store: &mut Store<D>, job: u64, done: bool) -> Did {
-        if !done {
-            let _ = store.job_drop(job);
-            self.went = Went::Nowhere;
-        }
-        Did::Piece
-    }
-
-    // Builds a result of what was read, on the caller's thread.
-    fn build<D: Device>(
-        &mut self,
-        alloc: Global,
-        store: &mut Store<D>,
-        job: u64,
-    ) -> Result<(), Refusal> {
-        let divisions = match self.divisions.take() {
-            Some(divisions) => divisions,
-            None => Vec::new(alloc),
-        };
-        let input = store.job_input(job)?;
-        let built = build_here(alloc, input, divisions)?;
-        store.job_accept(job, &built)
-    }
-
-    fn install<D: Device>(&mut self, store: &mut Store<D>, job: u64) -> Did {
-        match store.job_install(job) {
-            Ok(()) => {
+        match do_piece(alloc, store, &mut self.divisions) {
+            PieceDone::NoJob => Ok(self.attempt(alloc, store)),
+            PieceDone::GoesOn | PieceDone::Built => Ok(Did::Piece),
+            PieceDone::Finished => {
                 self.went = Went::On;
-                Did::Job
+                Ok(Did::Job)
             }
-            Err(_) => self.did_piece(store, job, false),
+            PieceDone::GivenUp => {
+                self.went = Went::Nowhere;
+                Ok(Did::Piece)
+            }
         }
     }
 

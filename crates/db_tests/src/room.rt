@@ -59,3 +59,20 @@ fn openings_with_a_put_each_go_on(rt: HostRuntime) {
         assert!(rt; reopen(&rt, times) == times);
     }
 }
+
+/// Puts values of 1,000 bytes, and tells how many runs level 0 had at most behind one of them.
+fn most_runs<R: Abort>(rt: &R, db: &mut Subject<MemDevice>, puts: u64) -> usize {
+    let mut most = 0;
+    for number in 0..puts {
+        db.put(&key_of(number), &[7; 1_000]).expect(rt, "a put");
+        most = most.max(db.runs(rt));
+    }
+    most
+}
+
+// 48 logs are flushed. From eleven runs on tables are brought down before a flush; the merges that are due leave far fewer.
+#[test]
+fn merges_that_are_due_are_done(rt: HostRuntime) {
+    let mut db = begun(&rt);
+    assert!(rt; most_runs(&rt, &mut db, 2_000) <= 5);
+}

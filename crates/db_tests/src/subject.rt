@@ -144,6 +144,11 @@ impl<D: Device> Subject<D> {
         (stat.batches, stat.tables as u64)
     }
 
+    /// How many runs level 0 has.
+    pub(crate) fn runs<R: Abort>(&self, rt: &R) -> usize {
+        self.db.stat().expect(rt, "numbers").runs
+    }
+
     /// How many rows the present map has in a range, 64 at most.
     pub(crate) fn page<R: Abort>(&mut self, rt: &R, from: &[u8], to: Option<&[u8]>) -> usize {
         let page = self.db.page(At::Now, from, to, 64).expect(rt, "a page");

@@ -15,7 +15,7 @@ use Rattle.lsm_upkeep.specs.Keeping.{IsSameMap, KeepsMap}
 use Rattle.lsm_upkeep.specs.Steps.{IsUpkept}
 use Rattle.lsm_upkeep.specs.Writing.{EndsWith, without_log_full}
 use Rattle.lsm_upkeep.proofs.KeptMaps.{onward, stays}
-use Rattle.lsm_upkeep.proofs.Upkept.{then}
+use Rattle.lsm_upkeep.proofs.Upkept.{stays as is_same, then}
 use Rattle.lsm_serve.specs.Committing.{CompactsWhole}
 use Rattle.lsm_requests.specs.Answers.{HasCompacted, TellsCompacted}
 use Rattle.lsm_requests.specs.declared.answer.Output.{Output}
@@ -98,7 +98,14 @@ adds_not-keeps batch e old new w = onward old w.kept new w.upkeep.keeps (by w.en
 -- ---- a compaction
 
 pub compacts : (old kept new : StoreView) → IsKeptUp old kept → IsUpkept old kept → FlushesFirst kept new → IsUpkept kept new → CompactsWhole old new
-compacts old kept new keeps first flushes rest = record { kept = kept; keeps_up = keeps; compacts = flushes; upkeep = then old kept new first rest }
+compacts old kept new keeps first flushes rest = record {
+  begun = old;
+  finishes = is_same old old refl;
+  kept = kept;
+  keeps_up = keeps;
+  compacts = flushes;
+  upkeep = then old kept new first rest;
+}
 
 -- the answer, by whether all tables are where they are to be
 pub compacted : (is_whole : Bool) (old kept new : StoreView) (output : Output) → IsKeptUp old kept → IsUpkept old kept → FlushesFirst kept new → IsUpkept kept new

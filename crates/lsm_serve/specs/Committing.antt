@@ -28,9 +28,12 @@ MakesCall (Commit batch) before told after = WritesTold None batch before told a
 MakesCall (CommitIf guards batch) before told after = WritesTold (Some guards) batch before told after
 MakesCall call before told after = ServesTold call before told after
 
--- A store was kept up, and then its tables were taken down, behind a flush that waited. All that is upkeep.
+-- What was begun was finished, which is upkeep; then a store was kept up, and its tables were taken down, behind a flush that waited. All
+-- that is upkeep.
 pub record CompactsWhole (old new : StoreView) : Type 0 where
+  pub begun : StoreView
+  pub finishes : IsUpkept old begun
   pub kept : StoreView
-  pub keeps_up : KeepsUp 768 old kept
+  pub keeps_up : KeepsUp 768 begun kept
   pub compacts : FlushesFirst kept new
   pub upkeep : IsUpkept old new

@@ -48,16 +48,17 @@ fn answer<D: Device>(
         Asked::Call(call) => Answer::Told(counted_in(&call), make(alloc, store, upkeep, &call)),
         Asked::NoBatch(refusal) => refused(refusal),
         Asked::Numbers => numbers(store),
-        Asked::Compaction => compact(alloc, store),
+        Asked::Compaction => compact(alloc, store, upkeep),
         Asked::Nothing(wrong) => Answer::Usage(wrong),
     }
 }
 
-// Keeps a store up and compacts it, and tells its numbers then.
-fn compact<D: Device>(alloc: Global, store: &mut Store<D>) -> Answer
+// Finishes what was begun, keeps a store up and compacts it, and tells its numbers then.
+fn compact<D: Device>(alloc: Global, store: &mut Store<D>, upkeep: &mut Upkeep) -> Answer
     ensures answers { Answers asks_compaction store.old (outcome_of result) store.new }
     ensures tellable { IsTellable result }
 {
+    upkeep.finish_begun(alloc, store);
     keep_up(alloc, store, &Policy::new());
     compact_all(alloc, store);
     numbers(store)

@@ -86,7 +86,14 @@ begins-upkept old flushed rotated new reply u serves behind = then old flushed n
 pub readies : (done : Bool) (old mid new : StoreView) → IsUpkept old mid → (done ≡ true → IsIdle mid) → (done ≡ false → TriesNext old mid) → OpensAnother mid new → ReadiesLog old new
 readies done old mid new u finished tried opens = record { flushed = mid; upkeep = u; flushes = flushed done old mid finished tried; opens = opens }
 
+pub readies-before : (old mid new : StoreView) → IsUpkept old mid → ReadiesLog mid new → ReadiesLog old new
+readies-before old mid new u r = record { flushed = r.flushed; upkeep = then old mid r.flushed u r.upkeep; flushes = by r.flushes; opens = r.opens }
+  where
+    by : IsIdle r.flushed ⊎ TriesNext mid r.flushed → IsIdle r.flushed ⊎ TriesNext old r.flushed
+    by (inl idle) = inl idle
+    by (inr tried) = inr (tries-before old mid r.flushed u tried)
+
 -- ---- a store that is made ready
 
-pub ready : (old mid new : StoreView) → ReadiesLog old mid → IsUpkept mid new → IsMadeReady old new
-ready old mid new r u = inr (mid, r, u)
+pub ready : (old mid new : StoreView) → (made : StoreView) × ReadiesLog old made × IsUpkept made mid → IsUpkept mid new → IsMadeReady old new
+ready old mid new (made, r, before) u = inr (made, r, then made mid new before u)

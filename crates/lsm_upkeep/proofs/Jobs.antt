@@ -34,10 +34,10 @@ module _ (R : StoreView → StoreView → Type 0) (r : Goes R) where
   unread job None old new none = absurd none
   unread job (Some level) old new h = held_up (Read job) old new h
 
-  offered : (job : ℕ) (reply : Reply) (old new : StoreView) → IsOffered job reply old new → R old new
+  pub offered : (job : ℕ) (reply : Reply) (old new : StoreView) → IsOffered job reply old new → R old new
   offered job reply old new o = r.onward old o.mid new (r.works old o.mid (Ask job) _ o.lent) (r.works o.mid new (Accept job (Some o.result)) reply o.offered)
 
-  unmerged : (job : ℕ) (old new : StoreView) → IsUnmerged job old new → R old new
+  pub unmerged : (job : ℕ) (old new : StoreView) → IsUnmerged job old new → R old new
   unmerged job old new (inl (e, w)) = r.works old new (Ask job) _ w
   unmerged job old new (inr (inl (input, w))) = r.works old new (Ask job) _ w
   unmerged job old new (inr (inr (e, o))) = offered job (Refused e) old new o

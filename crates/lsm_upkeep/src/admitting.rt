@@ -2,12 +2,13 @@
 
 ghost use Rattle.std.specs.Prelude.{◌≡◌, true, IfErr};
 ghost use Rattle.lsm_device.specs.declared.refusal.Refusal.TheVariants.{NoSpace};
+ghost use Rattle.lsm_store.specs.Backing.{StoreView};
 ghost use Rattle.lsm_upkeep.specs.Flushing.{BeginsLog, IsMadeReady, OpensAnother, ReadiesLog};
 ghost use Rattle.lsm_upkeep.specs.Steps.{IsUpkept};
 ghost use Rattle.lsm_upkeep.specs.Writing.{wants_room};
 
 use crate::demand::Demand;
-use crate::flushing::flush;
+use crate::flushing::{flush, is_waiting};
 use crate::pushing::push;
 use crate::upkeep::Upkeep;
 use lsm_codec::Batch;
@@ -22,7 +23,7 @@ use std::alloc::Global;
 /// batch of deletes is not, unless a snapshot is live. What else is refused is passed over: the store goes on as it then is, and its map
 /// is the same. A stopped store is left as it is, since it refuses the batch itself.
 ///
-/// The upkeep is what the last call left: mostly no table is looked at, and where a merge is due one is finished.
+/// The upkeep is what the last call left: mostly no table is looked at, and of merges that are due some pieces are done.
 pub fn admit<D: Device>(
     alloc: Global,
     store: &mut Store<D>,
@@ -37,11 +38,10 @@ pub fn admit<D: Device>(
         return Ok(());
     }
     let is_full = matches!(store.log_room(), Ok(0));
-    open_log(alloc, store);
-    upkeep.go_on(alloc, store, is_full);
+    begin_write(alloc, store, upkeep, is_full);
     let demand = Demand::of(store, batch);
     let has_log = demand.has_log(store);
-    if has_log && upkeep.allowance.admits(store, &demand) {
+    if upkeep.admits(alloc, store, &demand, has_log) {
         return Ok(());
     }
     if has_log && !demand.puts && demand.joins(store) {
@@ -50,6 +50,30 @@ pub fn admit<D: Device>(
     }
     change_log(alloc, store, upkeep, has_log);
     make_room(alloc, store, upkeep, Demand::of(store, batch))
+}
+
+// Opens a log where the open one has no room, before which a merge that was begun is finished, and goes on with merges.
+fn begin_write<D: Device>(alloc: Global, store: &mut Store<D>, upkeep: &mut Upkeep, is_full: bool)
+    ensures upkept { IsUpkept store.old store.new }
+    ensures readies { (ready : StoreView) × ReadiesLog store.old ready × IsUpkept ready store.new }
+{
+    finish_before_flush(alloc, store, upkeep, is_full);
+    open_log(alloc, store);
+    upkeep.go_on(alloc, store, is_full);
+}
+
+// Finishes the merge that was begun, where a flush comes next.
+fn finish_before_flush<D: Device>(
+    alloc: Global,
+    store: &mut Store<D>,
+    upkeep: &mut Upkeep,
+    is_full: bool,
+)
+    ensures { IsUpkept store.old store.new }
+{
+    if is_full || is_waiting(store) {
+        upkeep.finish_begun(alloc, store);
+    }
 }
 
 /// Finishes the flush that waits, and opens a log where the open one has no room, or none is open.
@@ -82,10 +106,11 @@ fn next_log<D: Device>(alloc: Global, store: &mut Store<D>)
     }
 }
 
-// Opens another log. Where the one before had no room for a batch, that is the time to merge.
+// Opens another log, behind the merge that was begun. Where the one before had no room for a batch, that is the time to merge.
 fn change_log<D: Device>(alloc: Global, store: &mut Store<D>, upkeep: &mut Upkeep, had_room: bool)
     ensures { IsUpkept store.old store.new }
 {
+    upkeep.finish_begun(alloc, store);
     next_log(alloc, store);
     if !had_room {
         upkeep.merge(alloc, store);

@@ -44,8 +44,8 @@ pub fn compact<D: Device>(alloc: Global, store: &mut Store<D>, policy: &Policy)
     }
 }
 
-/// Finishes what the policy wants next. It tells whether it did.
-pub(crate) fn finish_wanted<D: Device>(alloc: Global, store: &mut Store<D>, policy: &Policy) -> bool
+// Finishes what the policy wants next. It tells whether it did.
+fn finish_wanted<D: Device>(alloc: Global, store: &mut Store<D>, policy: &Policy) -> bool
     ensures { IsUpkept store.old store.new }
 {
     match wanted_by(policy, store) {

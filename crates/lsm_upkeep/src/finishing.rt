@@ -92,8 +92,8 @@ fn read_tables<D: Device>(store: &mut Store<D>, job: u64) -> Result<(), Refusal>
     Ok(())
 }
 
-// Merges what was read, and divides it.
-fn merge<D: Device>(
+/// Merges what was read, and divides it.
+pub(crate) fn merge<D: Device>(
     alloc: Global,
     store: &mut Store<D>,
     job: u64,

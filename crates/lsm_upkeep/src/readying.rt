@@ -1,5 +1,9 @@
 //! How far a store was made ready for a batch, for callers that do one piece of work at a time.
 
+ghost use Rattle.std.specs.Prelude.{◌≡◌, true};
+ghost use Rattle.lsm_upkeep.specs.Writing.{wants_room};
+ghost use Rattle.lsm_upkeep.specs.declared.readying.Verdict.TheVariants.{Refuse};
+
 use crate::allowing::Allowance;
 use crate::demand::Demand;
 use crate::flushing::is_waiting;
@@ -61,8 +65,10 @@ impl AdmitState {
         }
     }
 
-    /// What is to be done next with a batch.
-    pub fn next<D: Device>(&mut self, store: &Store<D>, batch: &Batch) -> Verdict {
+    /// What is to be done next with a batch. It is refused only where it puts values, or a snapshot keeps what it deletes.
+    pub fn next<D: Device>(&mut self, store: &Store<D>, batch: &Batch) -> Verdict
+        ensures refused { result ≡ Refuse → wants_room batch.now store.now.state ≡ true }
+    {
         if store.stat().is_err() {
             return Verdict::Commit;
         }
@@ -96,7 +102,9 @@ impl AdmitState {
         None
     }
 
-    fn with_log<D: Device>(&mut self, store: &Store<D>, demand: Demand) -> Verdict {
+    fn with_log<D: Device>(&mut self, store: &Store<D>, demand: Demand) -> Verdict
+        ensures { result ≡ Refuse → ⊥ }
+    {
         let has_log = demand.has_log(store);
         if has_log && self.allowance.admits(store, &demand) {
             return Verdict::Commit;
@@ -112,7 +120,9 @@ impl AdmitState {
         Verdict::After(Goal::NextLog { compacts: !has_log })
     }
 
-    fn with_next_log<D: Device>(&mut self, store: &Store<D>, demand: Demand) -> Verdict {
+    fn with_next_log<D: Device>(&mut self, store: &Store<D>, demand: Demand) -> Verdict
+        ensures { result ≡ Refuse → ⊥ }
+    {
         if demand.is_met(store) {
             return Verdict::Commit;
         }
@@ -121,7 +131,9 @@ impl AdmitState {
     }
 }
 
-fn behind_push<D: Device>(store: &Store<D>, demand: Demand) -> Verdict {
+fn behind_push<D: Device>(store: &Store<D>, demand: Demand) -> Verdict
+    ensures { result ≡ Refuse → demand.puts ≡ true }
+{
     if demand.puts && !(demand.is_met(store) && Demand::has_spare(store)) {
         return Verdict::Refuse;
     }

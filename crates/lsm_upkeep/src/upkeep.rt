@@ -3,30 +3,40 @@
 ghost use Rattle.lsm_upkeep.specs.Steps.{IsUpkept};
 
 use crate::allowing::Allowance;
-use crate::compacting::{compact, finish_wanted};
+use crate::compacting::compact;
+use crate::demand::Demand;
+use crate::merging::{do_some_pieces, finish_begun};
+use crate::piecework::PieceDone;
+use crate::stepping::{Went, step_down};
+use crate::wanting::{Wanted, wanted_by};
 use lsm_device::Device;
+use lsm_levels::Choice;
 use lsm_policy::Policy;
 use lsm_store::Store;
 use std::alloc::Global;
 
-/// What is kept beside a store between its writes: whether merges are due, and how much more may come into memory before the store is asked
-/// again whether there is room. It may be of another store, or of an older state: then it costs time, and nothing else.
+/// What is kept beside a store between its writes: whether merges are due, whether one was begun, and how much more may come into memory
+/// before the store is asked again whether there is room. It may be of another store, or of an older state: then it costs time, and
+/// nothing else.
 #[derive(Clone, Copy)]
 pub struct Upkeep {
-    pub(crate) allowance: Allowance,
-    /// Whether merges wait for the next write.
+    allowance: Allowance,
+    /// Whether merges wait for the next writes.
     waits: bool,
     is_due: bool,
+    /// Whether a merge may have been begun, which holds the first slot then.
+    is_begun: bool,
 }
 
 impl Upkeep {
-    /// That of who writes again and again: where a log is full, the merges that are due then are finished one by one, each before one of the
-    /// next writes, so that none waits for all of them.
+    /// That of who writes again and again: where a log is full, the merges that are due then are done in pieces before the next writes, so
+    /// that no write waits for a whole one. Before each at most 64 blocks are read or written, or one result is built.
     pub fn new() -> Upkeep {
         Upkeep {
             allowance: Allowance::none(),
             waits: true,
             is_due: false,
+            is_begun: true,
         }
     }
 
@@ -34,25 +44,92 @@ impl Upkeep {
     pub fn at_once() -> Upkeep {
         Upkeep {
             waits: false,
+            is_begun: false,
             ..Upkeep::new()
         }
     }
 
-    /// Finishes one of the merges that are due, if there is one. Where another log was opened they are due from now on.
+    /// Finishes the merge that was begun, if one was: who asks for other merges does it before.
+    pub fn finish_begun<D: Device>(&mut self, alloc: Global, store: &mut Store<D>) -> bool
+        ensures { IsUpkept store.old store.new }
+    {
+        if !self.is_begun {
+            return false;
+        }
+        self.is_begun = false;
+        finish_begun(alloc, store)
+    }
+
+    /// Goes on with the merge that was begun, or begins one of those that are due. Where another log was opened they are due from now on.
     pub(crate) fn go_on<D: Device>(&mut self, alloc: Global, store: &mut Store<D>, opened: bool)
         ensures { IsUpkept store.old store.new }
     {
         if opened {
             self.merge(alloc, store);
+        } else if self.is_begun {
+            self.go_on_with_begun(alloc, store);
         } else if self.is_due {
-            self.is_due = finish_wanted(alloc, store, &Policy::new());
+            self.begin(alloc, store);
         }
+    }
+
+    fn go_on_with_begun<D: Device>(&mut self, alloc: Global, store: &mut Store<D>)
+        ensures { IsUpkept store.old store.new }
+    {
+        match do_some_pieces(alloc, store) {
+            PieceDone::GoesOn | PieceDone::Built => {}
+            PieceDone::Finished | PieceDone::NoJob => self.is_begun = false,
+            PieceDone::GivenUp => {
+                self.is_begun = false;
+                self.is_due = false;
+            }
+        }
+    }
+
+    // Begins what the policy wants, if it wants something.
+    fn begin<D: Device>(&mut self, alloc: Global, store: &mut Store<D>)
+        ensures { IsUpkept store.old store.new }
+    {
+        match wanted_by(&Policy::new(), store) {
+            Wanted::Nothing => self.is_due = false,
+            Wanted::Step => self.is_due = matches!(step_down(alloc, store), Went::On),
+            Wanted::Merge(choice) => self.begin_merge(store, choice),
+        }
+    }
+
+    fn begin_merge<D: Device>(&mut self, store: &mut Store<D>, choice: Choice)
+        ensures { IsUpkept store.old store.new }
+    {
+        let taken = matches!(store.job_take_of(choice), Ok(Some(_)));
+        self.is_begun = taken;
+        self.is_due = taken;
+    }
+
+    /// Whether what is demanded is admitted, and the log has room for it. Where it isn't admitted, the merge that was begun is finished, and
+    /// it is asked again.
+    pub(crate) fn admits<D: Device>(
+        &mut self,
+        alloc: Global,
+        store: &mut Store<D>,
+        demand: &Demand,
+        has_log: bool,
+    ) -> bool
+        ensures { IsUpkept store.old store.new }
+    {
+        if !has_log {
+            return false;
+        }
+        if self.allowance.admits(store, demand) {
+            return true;
+        }
+        self.finish_begun(alloc, store) && self.allowance.admits(store, demand)
     }
 
     /// Finishes all merges that are due.
     pub(crate) fn finish<D: Device>(&mut self, alloc: Global, store: &mut Store<D>)
         ensures { IsUpkept store.old store.new }
     {
+        self.finish_begun(alloc, store);
         if self.is_due {
             self.is_due = false;
             compact(alloc, store, &Policy::new());

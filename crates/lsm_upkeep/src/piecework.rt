@@ -1,0 +1,90 @@
+//! A job that was taken, one piece after another.
+
+ghost use Rattle.lsm_upkeep.specs.Steps.{IsUpkept};
+
+use crate::finishing::merge;
+use lsm_codec::Key;
+use lsm_device::Device;
+use lsm_store::{Piece, Store};
+use std::alloc::Global;
+
+/// What became of the job in the first slot.
+#[derive(Clone, Copy)]
+pub enum PieceDone {
+    /// No job is there.
+    NoJob,
+    /// Blocks of it were read or written, and more is to be done.
+    GoesOn,
+    /// Its result was built and accepted.
+    Built,
+    /// It was installed, which ends it.
+    Finished,
+    /// A piece of it was refused, and it was given up.
+    GivenUp,
+}
+
+/// Does the next piece of the job in the first slot, if one is there: reads at most eight blocks, builds its result, divided at these keys
+/// too, writes at most eight blocks, or installs it. A job of which a piece is refused is given up.
+pub fn do_piece<D: Device>(
+    alloc: Global,
+    store: &mut Store<D>,
+    divisions: &mut Option<Vec<Key>>,
+) -> PieceDone
+    ensures { IsUpkept store.old store.new }
+{
+    match store.piece_at(0) {
+        Some(Piece::Read(job)) => read(store, job),
+        Some(Piece::Build(job)) => build(alloc, store, job, divisions.take()),
+        Some(Piece::Write(job)) => write(store, job),
+        Some(Piece::Install(job)) => install(store, job),
+        Some(Piece::Take) | None => PieceDone::NoJob,
+    }
+}
+
+fn read<D: Device>(store: &mut Store<D>, job: u64) -> PieceDone
+    ensures { IsUpkept store.old store.new }
+{
+    let done = store.job_read(job).is_ok();
+    end_of(store, job, done, PieceDone::GoesOn)
+}
+
+fn build<D: Device>(
+    alloc: Global,
+    store: &mut Store<D>,
+    job: u64,
+    divisions: Option<Vec<Key>>,
+) -> PieceDone
+    ensures { IsUpkept store.old store.new }
+{
+    let divisions = match divisions {
+        Some(divisions) => divisions,
+        None => Vec::new(alloc),
+    };
+    let done = merge(alloc, store, job, divisions).is_ok();
+    end_of(store, job, done, PieceDone::Built)
+}
+
+fn write<D: Device>(store: &mut Store<D>, job: u64) -> PieceDone
+    ensures { IsUpkept store.old store.new }
+{
+    let done = store.job_write(job).is_ok();
+    end_of(store, job, done, PieceDone::GoesOn)
+}
+
+fn install<D: Device>(store: &mut Store<D>, job: u64) -> PieceDone
+    ensures { IsUpkept store.old store.new }
+{
+    let done = store.job_install(job).is_ok();
+    end_of(store, job, done, PieceDone::Finished)
+}
+
+// What became of a job of which a piece was done or refused.
+fn end_of<D: Device>(store: &mut Store<D>, job: u64, done: bool, outcome: PieceDone) -> PieceDone
+    ensures { IsUpkept store.old store.new }
+{
+    if done {
+        return outcome;
+    }
+    let _ = store.job_drop(job);
+    PieceDone::GivenUp
+}
