@@ -125,15 +125,16 @@ fn read_all<R: Clock>(rt: &R, db: &mut Db<FileDevice>) -> Result<(Told, u32)> {
     let mut told = Told::none();
     let mut count = 0_u32;
     let mut rows = db.rows(b"b", None)?;
-    loop {
+    for _ in 0..u32::MAX {
         let start = Instant::now(rt).ok();
         let row = rows.next_row()?;
         told.add(since(rt, start));
         if row.is_none() {
-            return Ok((told, count));
+            break;
         }
         count = count.saturating_add(1);
     }
+    Ok((told, count))
 }
 
 // A new store in a file, in which the rows fill at most half of the blocks.
@@ -142,7 +143,7 @@ fn create<R: Files<File = File> + AllocGlobal>(
     path: &str,
     sizes: Sizes,
 ) -> Result<Db<FileDevice>, OpenDbError> {
-    let proposed = Options::for_rows(u64::from(sizes.keys), 16, u64::from(sizes.value_bytes));
+    let proposed = Options::for_rows(u64::from(sizes.keys), 16, sizes.value_bytes);
     let options = Options {
         cache: 4_096,
         log_sectors: u16::try_from(sizes.log_sectors).unwrap_or(u16::MAX),
