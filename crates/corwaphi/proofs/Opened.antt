@@ -1,6 +1,6 @@
 -- What an opening comes to.
 use Rattle.std.proofs.Common.{◌≡◌, ◌⊎◌, ℕ, [], IfOk, IsTrue, Result, Ok, Err, inl, inr}
-use Rattle.lsm_device.specs.Calls.{no_calls}
+use Rattle.lsm_device.specs.Calls.{AtMost, no_calls}
 use Rattle.lsm_device.specs.Disk.{seen}
 use Rattle.lsm_device.specs.Medium.{Medium, disk}
 use Rattle.lsm_open.specs.CrashState.{CrashState}
@@ -13,8 +13,21 @@ use Rattle.corwaphi.specs.Upkeep.{IsReadied}
 
 pub opens_db : (cache : ℕ) (before : Medium) (opened new : StoreView) → ReopensTo before opened
     → ((log_sectors : ℕ) (left : CrashState) → IsTrue before.lasting.tells → StandFor log_sectors left (seen (disk before)) → OpensTo before log_sectors left opened)
-    → opened.cache ≡ record { blocks = []; capacity = cache; refusals = 0 } → IsReadied opened new → IsUpkept opened new → OpensDb cache before new
-opens_db cache before opened new reopens opens cached readied upkept = record { opened = opened; reopens = reopens; opens = opens; cached = cached; readied = readied; upkept = upkept }
+    → opened.cache ≡ record { blocks = []; capacity = cache; refusals = 0 }
+    → opened.device.calls.faults ≡ before.calls.faults → AtMost 587842 42 3 before.calls opened.device.calls → opened.device.size ≡ before.size → opened.device.lasting ≡ before.lasting
+    → IsReadied opened new → IsUpkept opened new → OpensDb cache before new
+opens_db cache before opened new reopens opens cached faults calls size lasting readied upkept = record {
+  opened = opened;
+  reopens = reopens;
+  opens = opens;
+  cached = cached;
+  no_fault = faults;
+  calls = calls;
+  same_size = size;
+  same_lasting = lasting;
+  readied = readied;
+  upkept = upkept;
+}
 
 -- ---- files
 

@@ -1,6 +1,6 @@
 -- What an opening shows.
 use Rattle.std.specs.Prelude.{◌≡◌, ℕ, [], IsTrue}
-use Rattle.lsm_device.specs.Calls.{no_calls}
+use Rattle.lsm_device.specs.Calls.{AtMost, no_calls}
 use Rattle.lsm_device.specs.Disk.{seen}
 use Rattle.lsm_device.specs.Medium.{Medium, disk}
 use Rattle.lsm_open.specs.CrashState.{CrashState}
@@ -17,6 +17,11 @@ pub record OpensDb (cache : ℕ) (before : Medium) (new : StoreView) : Type 0 wh
   pub reopens : ReopensTo before opened
   pub opens : (log_sectors : ℕ) (left : CrashState) → IsTrue before.lasting.tells → StandFor log_sectors left (seen (disk before)) → OpensTo before log_sectors left opened
   pub cached : opened.cache ≡ record { blocks = []; capacity = cache; refusals = 0 }
+  -- no call of the device faulted in the opening, which made so many calls at most
+  pub no_fault : opened.device.calls.faults ≡ before.calls.faults
+  pub calls : AtMost 587842 42 3 before.calls opened.device.calls
+  pub same_size : opened.device.size ≡ before.size
+  pub same_lasting : opened.device.lasting ≡ before.lasting
   pub readied : IsReadied opened new
   pub upkept : IsUpkept opened new
 

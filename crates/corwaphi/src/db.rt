@@ -1,8 +1,10 @@
 // A store that makes room by itself.
 ghost use Rattle.std.specs.Prelude.{◌≡◌, ◌⊎◌, ℕ, false, None, Some, Err, MatchResult, IfErr, IfOk, IsTrue, option_map};
 ghost use Rattle.lsm_codec.specs.Answers.{or_then, key_refusal, value_refusal};
+ghost use Rattle.lsm_device.specs.Calls.{faults_after};
 ghost use Rattle.lsm_device.specs.Disk.{seen};
 ghost use Rattle.lsm_device.specs.Medium.{disk};
+ghost use Rattle.lsm_device.specs.Refusals.{is_no_fault};
 ghost use Rattle.lsm_open.specs.CrashState.{CrashState};
 ghost use Rattle.lsm_open.specs.Image.{StandFor};
 ghost use Rattle.lsm_open.specs.Recovering.{FailsToOpen, IsOpeningRefusal};
@@ -11,7 +13,8 @@ ghost use Rattle.lsm_root.specs.Layout.{IsDeviceSize};
 ghost use Rattle.lsm_store.specs.Backing.{machine_of};
 ghost use Rattle.lsm_store.specs.Calls.{Get, Scan, Snapshot, Release, Sync, SyncTo, Number, Done, Value, Rows, reply_of};
 ghost use Rattle.lsm_store.specs.Memory.{is_cache_size};
-ghost use Rattle.lsm_store.specs.Serving.{Serves};
+ghost use Rattle.lsm_store.specs.RecoveryPoints.{batch_count};
+ghost use Rattle.lsm_store.specs.Serving.{IsRefusedBehindSync, IsUncalled, Serves};
 ghost use Rattle.lsm_store.specs.Stats.{stat_answer};
 ghost use Rattle.lsm_store.specs.declared.asked.At.TheVariants.{Now, Snap};
 ghost use Rattle.lsm_upkeep.specs.Compacting.{is_compacted};
@@ -78,6 +81,7 @@ impl<D: Device> Db<D> {
 
         // Where it is refused: with BadLimit for the cache before any device call, and else with what refuses an opening, which is what
         // the device holds, or want of memory, or a fault. Nothing that a crash left is lost then.
+        ensures size { IsTrue (is_cache_size options.cache) → (IsDeviceSize (D.medium device).size → ⊥) → result ≡ Err (Refusal.BadGeometry, device) }
         ensures cache { is_cache_size options.cache ≡ false → result ≡ Err (Refusal.BadLimit, device) }
         ensures refused { IsTrue (is_cache_size options.cache) → IfErr result (λ e. IsOpeningRefusal e.0) }
         ensures refusal { IsTrue (is_cache_size options.cache) → IsDeviceSize (D.medium device).size → IsTrue (D.medium device).lasting.tells → MatchResult result
@@ -85,6 +89,13 @@ impl<D: Device> Db<D> {
             (λ e. (opening_refusal (seen (disk (D.medium device))) ≡ Some e.0) ⊎ ((e.0 ≡ Refusal.NoMemory) ⊎ (e.0 ≡ Refusal.Io))) }
         ensures fails { IsTrue (is_cache_size options.cache) → (log_sectors : ℕ) (left : CrashState) → IsTrue (D.medium device).lasting.tells → StandFor log_sectors left (seen (disk (D.medium device)))
             → IfErr result (λ e. FailsToOpen (D.medium device) log_sectors left e.0 (D.medium e.1)) }
+
+        // A refusal is Io exactly where a device call faulted. It comes before any device call, or behind a sync as the first one.
+        ensures faults { IfErr result (λ e. (D.medium e.1).calls.faults ≡ faults_after (is_no_fault e.0) (D.medium device).calls.faults) }
+        ensures called { IsTrue (is_cache_size options.cache) → IsDeviceSize (D.medium device).size
+            → IfErr result (λ e. IsUncalled e.0 (D.medium device) (D.medium e.1) ⊎ IsRefusedBehindSync (D.medium device) e.0 (D.medium e.1)) }
+        ensures same_size { IfErr result (λ e. (D.medium e.1).size ≡ (D.medium device).size) }
+        ensures same_lasting { IfErr result (λ e. (D.medium e.1).lasting ≡ (D.medium device).lasting) }
     {
         match Store::open(rt.alloc(), device, options.cache) {
             Ok(store) => Ok(Db::of(rt.alloc(), readied(rt.alloc(), store))),
@@ -220,6 +231,13 @@ impl<D: Device> Db<D> {
         ensures { result ≡ stat_answer (machine_of self.now) }
     {
         self.store.stat()
+    }
+
+    /// How many batches there are, which is the number of the last one: also of a stopped store.
+    pub fn batch_count(&self) -> u64
+        ensures { result ≡ batch_count self.now.state.points }
+    {
+        self.store.batch_count()
     }
 
     /// Brings all tables into the last level, where deletes have nothing more to delete and small tables are joined. It tells whether all
