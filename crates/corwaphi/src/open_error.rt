@@ -3,7 +3,6 @@
 ghost use Rattle.std.specs.Prelude.{◌≡◌};
 
 use lsm_device::{OpenError, Refusal};
-use std::alloc::AllocError;
 use std::io;
 use thiserror::Error;
 
@@ -38,16 +37,5 @@ impl From<Refusal> for OpenDbError {
 
     fn from(refusal: Refusal) -> Self {
         OpenDbError::Store(refusal)
-    }
-}
-
-impl From<AllocError> for OpenDbError {
-    ghost use Rattle.lsm_device.specs.declared.refusal.Refusal.TheVariants.{NoMemory};
-    ghost use Rattle.corwaphi.specs.declared.open_error.OpenDbError.TheVariants.{Store};
-
-    ghost from_gives = { λ _ told. told ≡ Store NoMemory };
-
-    fn from(_: AllocError) -> Self {
-        OpenDbError::Store(Refusal::NoMemory)
     }
 }

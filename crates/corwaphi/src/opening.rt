@@ -1,5 +1,6 @@
 //! A store that was just opened is made ready for writes.
 
+ghost use Rattle.lsm_upkeep.specs.Flushing.{ReadiesLog};
 ghost use Rattle.lsm_upkeep.specs.Steps.{IsUpkept};
 ghost use Rattle.corwaphi.specs.Upkeep.{IsReadied};
 
@@ -25,5 +26,12 @@ fn ready<D: Device>(alloc: Global, store: &mut Store<D>)
     ensures upkept { IsUpkept store.old store.new }
 {
     compact(alloc, store, &Policy::new());
+    begin_log(alloc, store);
+}
+
+fn begin_log<D: Device>(alloc: Global, store: &mut Store<D>)
+    ensures upkept { IsUpkept store.old store.new }
+    ensures readies { ReadiesLog store.old store.new }
+{
     open_log(alloc, store);
 }
