@@ -3,7 +3,9 @@
 use lsm_codec::{Batch, Key};
 use lsm_device::{Device, Refusal};
 use lsm_store::{Store, TakenJob};
-use lsm_upkeep::{AdmitState, Attempt, Goal, PieceDone, Plan, Verdict, Way, Went, do_piece, next_step};
+use lsm_upkeep::{
+    AdmitState, Attempt, Goal, PieceDone, Plan, Verdict, Way, Went, do_piece, next_step,
+};
 use std::alloc::Global;
 
 /// What a piece of work did.

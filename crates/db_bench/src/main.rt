@@ -21,7 +21,11 @@ fn number(words: &[String], place: usize, default: u32) -> Result<u32> {
 }
 
 fn print_rate<R: Print>(rt: &R, what: &str, told: Told) -> Result<()> {
-    println!(rt; "{what}: {} a second, longest {} microseconds", told.rate(), told.longest / 1_000)?;
+    println!(rt;
+        "{what}: {} a second, longest {} microseconds",
+        told.rate(),
+        told.longest / 1_000
+    )?;
     Ok(())
 }
 
@@ -47,7 +51,10 @@ fn main(rt: HostRuntime) -> Result<ExitCode> {
         print_rate(&rt, "rows", told.rows)?;
         println!(rt; "{} tables, {} blocks free", told.tables, told.free_blocks)?;
     }
-    println!(rt; "{} of {} values are right, {} rows", told.right, sizes.keys, told.row_count)?;
+    println!(rt;
+        "{} of {} values are right, {} rows",
+        told.right, sizes.keys, told.row_count
+    )?;
     if told.right == sizes.keys && told.row_count == sizes.keys {
         return Ok(ExitCode::SUCCESS);
     }

@@ -12,7 +12,7 @@ returns-clause-answers g c = (
     keeps_up = subst (λ (n : ℕ). KeepsUp n c.finish_begun.new.store c.keep_up.new.store) c.new.ensures.tables c.keep_up.ensures.settles;
     compacts = c.compact_all.ensures.flushes;
     upkeep = then c.args.store.now c.finish_begun.new.store c.compact_all.new.store c.finish_begun.ensures
-      (then c.finish_begun.new.store c.keep_up.new.store c.compact_all.new.store c.keep_up.ensures.upkept c.compact_all.ensures.upkept);
+        (then c.finish_begun.new.store c.keep_up.new.store c.compact_all.new.store c.keep_up.ensures.upkept c.compact_all.ensures.upkept);
   },
   c.numbers.ensures.answers,
 )

@@ -19,4 +19,4 @@ pub returns-clause-upkept : goal.returns-clause-upkept
 returns-clause-upkept g c =
     subst (λ (v : StoreView). IsUpkept v c.compact_all.new.store) c.self.view_is
     (then c.self.inside.store c.finish_begun.new.store c.compact_all.new.store c.finish_begun.ensures
-      (then c.finish_begun.new.store c.keep_up.new.store c.compact_all.new.store c.keep_up.ensures.upkept c.compact_all.ensures.upkept))
+    (then c.finish_begun.new.store c.keep_up.new.store c.compact_all.new.store c.keep_up.ensures.upkept c.compact_all.ensures.upkept))
