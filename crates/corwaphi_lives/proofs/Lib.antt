@@ -1,0 +1,6 @@
+mod Replies
+mod Stepping
+mod Led
+mod Lives
+mod Opened
+mod Places
