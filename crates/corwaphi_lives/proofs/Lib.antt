@@ -4,3 +4,4 @@ mod Led
 mod Lives
 mod Opened
 mod Places
+mod WorkedTold

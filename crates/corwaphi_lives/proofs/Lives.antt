@@ -1,10 +1,9 @@
 -- Lives of a `Db` keep the batches.
-use Rattle.std.proofs.Common.{◌≡◌, ◌⊎◌, inl, inr, ℕ, List, [], ◌∷◌, map, Option, Result, Ok, Err, refl, ap, sym, subst, ◌∙◌, arith}
+use Rattle.std.proofs.Common.{◌≡◌, ◌⊎◌, inl, inr, ℕ, List, [], ◌∷◌, map, Option, Result, Ok, Err, refl, ap, subst, ◌∙◌, arith}
 use Rattle.std.specs.Prelude.{IfOk}
 use Rattle.std.specs.List.{AllByRecursion}
 use Rattle.std.specs.Global.{Global}
 use Rattle.std.specs.declared.vec.Vec.{Vec}
-use Rattle.lsm_codec.specs.Map.{Operation}
 use Rattle.lsm_device.specs.Disk.{Disk, image}
 use Rattle.lsm_device.specs.Medium.{Medium, disk, zeroed}
 use Rattle.lsm_device.specs.Memory.{medium_in}
@@ -13,11 +12,11 @@ use Rattle.lsm_device.specs.Outcomes.{Leaves}
 use Rattle.lsm_open.specs.CrashState.{CrashState, formatted}
 use Rattle.lsm_open.specs.Image.{StandFor}
 use Rattle.lsm_open.specs.Recovering.{StandForOne}
-use Rattle.lsm_store.specs.Calls.{Call, Reply, as_told}
+use Rattle.lsm_store.specs.Calls.{Call, Reply}
 use Rattle.lsm_store.specs.Lives.{IsAfter}
 use Rattle.lsm_store.proofs.Lifelong.{promise_over_lives}
 use Rattle.lsm_lives.specs.Asked.{Asked, Told}
-use Rattle.lsm_lives.specs.Batches.{replies_by, acts_asked, replies_told, KeepsBatches}
+use Rattle.lsm_lives.specs.Batches.{replies_by, acts_asked, replies_told}
 use Rattle.lsm_lives.specs.Calls.{reply_of}
 use Rattle.lsm_lives.specs.Leading.{LifeView as StoreLife, AreLed as AreStoreLed}
 use Rattle.lsm_lives.specs.Living.{asked_in, Holds, AreLived, KeepPromise, others_after}
@@ -27,7 +26,7 @@ use Rattle.lsm_lives.proofs.Beginnings.{kept_batches}
 use Rattle.lsm_lives.proofs.Lifetimes.{at_rest_holds, lives_led}
 use Rattle.corwaphi_lives.specs.Batches.{AreLivesTold, KeepsDbBatches}
 use Rattle.corwaphi_lives.specs.Calls.{calls_of, calls_by}
-use Rattle.corwaphi_lives.specs.Leading.{LifeView, life_of, LeadsTo, AreLed, AreLedOn}
+use Rattle.corwaphi_lives.specs.Leading.{LifeView, life_of, AreLed, AreLedOn}
 use Rattle.corwaphi_lives.specs.declared.calls.DbLife.{DbLife}
 use Rattle.corwaphi_lives.proofs.Led.{leads_store}
 use Rattle.corwaphi_lives.proofs.Stepping.{IsPlain, ArePlain}

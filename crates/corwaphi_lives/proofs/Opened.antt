@@ -15,7 +15,7 @@ use Rattle.lsm_open.specs.Recovering.{FailsToOpen}
 use Rattle.lsm_root.specs.Layout.{IsDeviceSize}
 use Rattle.lsm_store.specs.Backing.{StoreView}
 use Rattle.lsm_store.specs.Serving.{IsUncalled, IsRefusedBehindSync}
-use Rattle.lsm_lives.specs.Leading.{BeginsOn, FailsOn}
+use Rattle.lsm_lives.specs.Leading.{FailsOn}
 use Rattle.corwaphi.specs.Opening.{OpensDb}
 use Rattle.corwaphi_lives.specs.Leading.{BeginsDb}
 
@@ -53,18 +53,21 @@ module _ {X : Type 0} (medium : X → Medium) (start : X) where
   unfolding failed
   opening tells (Ok s) size refusal opens fails faults called same_size lasting =
       let none : (e : Refusal × X) → Ok s ≡ Err e → ⊥ = λ e is. subst (λ (r : Result StoreView (Refusal × X)). MatchResult r (λ _. Unit {0}) (λ _. ⊥)) is tt in
-      let fits = sized began.size (λ other. none (BadGeometry, start) (size other)) in
-      (opens.opened, record {
-        size = fits;
-        unrefused = refusal fits;
-        reopens = opens.reopens;
-        opens = λ log_sectors left is. opens.opens log_sectors left tells is;
-        cache = opens.cached;
-        no_fault = opens.no_fault;
-        calls = opens.calls;
-        same_size = opens.same_size;
-        same_lasting = opens.same_lasting;
-      }, opens.upkept)
+      let fits = sized began.size (λ other. none (BadGeometry, start) (size other)) in (
+        opens.opened,
+        record {
+          size = fits;
+          unrefused = refusal fits;
+          reopens = opens.reopens;
+          opens = λ log_sectors left is. opens.opens log_sectors left tells is;
+          cache = opens.cached;
+          no_fault = opens.no_fault;
+          calls = opens.calls;
+          same_size = opens.same_size;
+          same_lasting = opens.same_lasting;
+        },
+        opens.upkept,
+      )
   opening tells (Err e) size refusal opens fails faults called same_size lasting = record {
     size = λ other. inr (ap (λ (r : Result StoreView (Refusal × X)). (failed r).0) (size other));
     reason = refusal;

@@ -1,10 +1,9 @@
 -- What a `Db` does, as steps of the machine, of which those of upkeep are put aside.
-use Rattle.std.proofs.Common.{◌≡◌, ◌⊎◌, ⊎_elim, inl, inr, ℕ, zero, suc, Bool, true, false, ◌||◌, nat_lt, List, [], ◌∷◌, map, length, cond, Option, Some, None, is_some, refl, ap, sym, subst, ◌∙◌}
+use Rattle.std.proofs.Common.{◌≡◌, inl, inr, ℕ, zero, suc, Bool, true, false, ◌||◌, nat_lt, List, [], ◌∷◌, map, length, cond, Option, Some, None, is_some, refl, ap, sym, subst, ◌∙◌}
 use Rattle.std.specs.List.{AllByRecursion}
 use Rattle.lsm_codec.specs.Guards.{Condition}
 use Rattle.lsm_codec.specs.Map.{Operation}
 use Rattle.lsm_device.specs.declared.refusal.Refusal.TheVariants.{Io, NoSpace}
-use Rattle.lsm_merge.specs.Results.{MergeResult}
 use Rattle.lsm_store.specs.Backing.{StoreView}
 use Rattle.lsm_store.specs.Calls.{Call, Reply}
 use Rattle.lsm_store.specs.Calls.{Commit, CommitIf, Sync, SyncTo, Get, Scan, Snapshot, Release, Rotate, LogRoom, Number, Done, Value, Rows, Given, Handed, Refused, Unread, as_told}
@@ -13,12 +12,12 @@ use Rattle.lsm_store.specs.Serving.{Serves, reply_in}
 use Rattle.lsm_store.specs.State.{State, LiveSnapshot}
 use Rattle.lsm_store.specs.Work.{Take, Read, Ask, Accept, Write, Install, Drop}
 use Rattle.lsm_upkeep.specs.Steps.{IsUpkeepStep, IsUpkept, UpkeepSteps}
-use Rattle.lsm_upkeep.specs.Writing.{Writes, EndsWith, IsServed, commit_of, has_puts, wants_room, without_log_full}
+use Rattle.lsm_upkeep.specs.Writing.{Writes, EndsWith, commit_of, has_puts, wants_room, without_log_full}
 use Rattle.lsm_lives.specs.Asked.{Asked, Told, Own, Replied}
-use Rattle.lsm_lives.specs.Batches.{Act, Calls, act_asked, reply_told}
+use Rattle.lsm_lives.specs.Batches.{act_asked, reply_told}
 use Rattle.lsm_lives.specs.Replaying.{Replays, MakesEach}
 use Rattle.corwaphi_lives.specs.Batches.{served_in, live_after, MayWantRoom, AreTold}
-use Rattle.corwaphi_lives.specs.Leading.{Does, DoesEach}
+use Rattle.corwaphi_lives.specs.Leading.{DoesEach}
 use Rattle.corwaphi_lives.proofs.Replies.{numbers, numbers_after, IsRead, told_as_replied}
 
 -- ---- steps of the store's own

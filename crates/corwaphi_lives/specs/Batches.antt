@@ -1,7 +1,6 @@
 -- Ring 1 of the theorem for a `Db`: lives of a store behind it keep the batches, and what was asked of it and told is what is left of them
 -- when upkeep is put aside.
 use Rattle.std.specs.Prelude.{◌≡◌, ◌⊎◌, ◌||◌, ◌==◌, ℕ, not, true, nat_lt, List, [], ◌∷◌, ◌++◌, length, map, filter, Option, Some, None}
-use Rattle.lsm_codec.specs.Map.{Operation}
 use Rattle.lsm_device.specs.declared.refusal.Refusal.TheVariants.{NoSpace, Stopped}
 use Rattle.lsm_open.specs.CrashState.{formatted}
 use Rattle.lsm_store.specs.Calls.{Call, Reply}

@@ -2,7 +2,6 @@
 use Rattle.std.specs.Prelude.{◌≡◌, ◌≤◌, ◌+◌, ◌++◌, ℕ, Bool, List, [], ◌∷◌, map, Option, Some, None, vec_len, vec_capacity}
 use Rattle.std.specs.declared.vec.Vec.{Vec}
 use Rattle.std.specs.Global.{Global}
-use Rattle.lsm_device.specs.Disk.{Disk}
 use Rattle.lsm_device.specs.Medium.{Medium, KeepsFuse, disk, crashed, zeroed}
 use Rattle.lsm_device.specs.Outcomes.{Leaves}
 use Rattle.lsm_device.specs.declared.refusal.Refusal.TheVariants.{Stopped}

@@ -1,4 +1,4 @@
-use Rattle.std.proofs.Common.{List, [], ◌∷◌, map, ◌++◌, ap, sym, subst, ◌∙◌}
+use Rattle.std.proofs.Common.{List, map, ◌++◌, ap, ◌∙◌}
 use Rattle.lsm_device.specs.declared.refusal.Refusal.TheVariants.{Stopped}
 use Rattle.lsm_store.specs.Calls.{Reply, Refused}
 use Rattle.lsm_lives.specs.declared.calls.Reply.TheVariants as reply

@@ -1,0 +1,7 @@
+//! Tests of lives of a `Db`.
+#![tactic(auto)]
+
+#[cfg(test)]
+mod living;
+#[cfg(test)]
+mod setup;
