@@ -1,6 +1,6 @@
 //! Lives with ample memory.
 
-use crate::setup::{Line, Told, life, told};
+use crate::setup::{Line, Told, are_told, life};
 use corwaphi::Refusal;
 
 // A batch that is synced and one that is not.
@@ -22,7 +22,7 @@ fn what_is_synced_is_found_and_what_is_not_if_the_crash_keeps_it(rt: HostRuntime
         (true, [Told::Number(2), Told::Byte(0x31), Told::Byte(0x32)]),
     ] {
         let given = [life(&rt, None, PUTS, &[kept]), life(&rt, None, LOOKS, &[])];
-        assert!(rt; told(&rt, &given, &[ADDED, &found]));
+        assert!(rt; are_told(&rt, &given, &[ADDED, &found]));
     }
 }
 
@@ -37,7 +37,7 @@ fn a_fuse_stops_an_opening_and_nothing_is_lost(rt: HostRuntime) {
     ];
     let refused = [Told::Refused(Refusal::Io), stopped, stopped];
     let found = [Told::Number(1), Told::Byte(0x31), Told::Nothing];
-    assert!(rt; told(&rt, &given, &[ADDED, &refused, &found]));
+    assert!(rt; are_told(&rt, &given, &[ADDED, &refused, &found]));
 }
 
 #[test]
@@ -67,5 +67,5 @@ fn each_call_is_answered(rt: HostRuntime) {
         Told::Done,
         Told::Done,
     ];
-    assert!(rt; told(&rt, &[life(&rt, None, &lines, &[])], &[&replies]));
+    assert!(rt; are_told(&rt, &[life(&rt, None, &lines, &[])], &[&replies]));
 }

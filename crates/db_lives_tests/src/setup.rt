@@ -124,7 +124,7 @@ fn are(lives: &[Vec<Reply>], wanted: &[&[Told]]) -> bool {
 }
 
 /// Whether just these replies come of lives on a device of 8,192 sectors, with log regions of 128.
-pub fn told<R: AllocGlobal + Abort>(rt: &R, given: &[DbLife], wanted: &[&[Told]]) -> bool {
+pub fn are_told<R: AllocGlobal + Abort>(rt: &R, given: &[DbLife], wanted: &[&[Told]]) -> bool {
     match lives_of_db(rt, 8_192, 128, given) {
         Ok((replies, _device)) => are(&replies, wanted),
         Err(refusal) => rt.panic(refusal.name()),

@@ -21,7 +21,7 @@ loop-call-preserved g c =
     record {
       within = omega arith;
       length_is = omega arith;
-      capacity = c.push_reserved.ensures.capacity ∙ inv.capacity;
+      capacity = omega (arith, c.push_reserved.ensures.capacity, inv.capacity);
       adds = adds_more c.args.db.now c.loop-call.db c.serve-reply.new.db c.args.calls.now c.loop-call.call-index c.call-item.result c.args.replies.now.items c.loop-call.replies.items c.push_reserved.new.self.items
           c.serve-reply.result c.loop-call-test.true c.call-item.is inv.adds c.serve-reply.ensures c.push_reserved.ensures.items;
     }
