@@ -22,10 +22,11 @@ use Rattle.lsm_lives.specs.Leading.{LifeView as StoreLife, AreLed as AreStoreLed
 use Rattle.lsm_lives.specs.Living.{asked_in, Holds, AreLived, KeepPromise, others_after}
 use Rattle.lsm_lives.specs.declared.calls.Reply.{Reply as GivenReply}
 use Rattle.lsm_lives.specs.declared.calls.Reply.TheVariants as reply
-use Rattle.lsm_lives.proofs.Beginnings.{kept_batches}
+use Rattle.lsm_lives.proofs.Beginnings.{kept_batches, kept_on}
 use Rattle.lsm_lives.proofs.Lifetimes.{at_rest_holds, lives_led}
 use Rattle.corwaphi_lives.specs.Batches.{AreLivesTold, KeepsDbBatches}
 use Rattle.corwaphi_lives.specs.Calls.{calls_of, calls_by}
+use Rattle.corwaphi_lives.specs.Devices.{KeepsDbBatchesOn}
 use Rattle.corwaphi_lives.specs.Leading.{LifeView, life_of, AreLed, AreLedOn}
 use Rattle.corwaphi_lives.specs.declared.calls.DbLife.{DbLife}
 use Rattle.corwaphi_lives.proofs.Led.{leads_store}
@@ -103,18 +104,37 @@ calls_in (life ∷ lives) = ap (λ (l : List (List (Option Call))). calls_of lif
 
 -- ---- lives on a device that was formatted
 
-pub lives_keep_batches : (log_sectors : ℕ) (lives : List DbLife) (answers : List (Vec (GivenReply Global) Global)) (before after : Medium)
-    → Leaves (StandFor log_sectors formatted) (disk before) → AreLed (map life_of lives) before (replies_by answers) after
-    → KeepsDbBatches log_sectors (calls_by lives) (replies_by answers)
-lives_keep_batches log_sectors lives answers before after leaves led =
-    let s = store_lives (map life_of lives) before (replies_by answers) after (all_plain answers) led in
-    let lived = lives_led s.views before s.answers after s.led log_sectors formatted [] (at_rest_holds log_sectors formatted (disk before) leaves) in
-    record {
-      acts = acts_asked (asked_in s.views);
-      replies = replies_told s.answers;
-      keeps = kept_batches log_sectors [] formatted (asked_in s.views) s.answers (disk after) (promised log_sectors (asked_in s.views) s.answers (disk after) lived);
-      told_so = subst (λ (calls : List (List (Option Call))). AreLivesTold (acts_asked (asked_in s.views)) (replies_told s.answers) calls (replies_by answers)) (calls_in lives) s.told_so;
-    }
+module _ (log_sectors : ℕ) (lives : List DbLife) (answers : List (Vec (GivenReply Global) Global)) (before after : Medium)
+    (leaves : Leaves (StandFor log_sectors formatted) (disk before)) (led : AreLed (map life_of lives) before (replies_by answers) after) where
+  behind : AreStoreLives (map life_of lives) before (replies_by answers) after
+  behind = store_lives (map life_of lives) before (replies_by answers) after (all_plain answers) led
+
+  kept : (s : AreStoreLives (map life_of lives) before (replies_by answers) after) → KeepPromise log_sectors [] formatted (asked_in s.views) s.answers (disk after)
+  kept s = promised log_sectors (asked_in s.views) s.answers (disk after)
+      (lives_led s.views before s.answers after s.led log_sectors formatted [] (at_rest_holds log_sectors formatted (disk before) leaves))
+
+  told_so : (s : AreStoreLives (map life_of lives) before (replies_by answers) after) → AreLivesTold (acts_asked (asked_in s.views)) (replies_told s.answers) (calls_by lives) (replies_by answers)
+  told_so s = subst (λ (calls : List (List (Option Call))). AreLivesTold (acts_asked (asked_in s.views)) (replies_told s.answers) calls (replies_by answers)) (calls_in lives) s.told_so
+
+  pub lives_keep_batches : KeepsDbBatches log_sectors (calls_by lives) (replies_by answers)
+  lives_keep_batches =
+      let s = behind in
+      record {
+        acts = acts_asked (asked_in s.views);
+        replies = replies_told s.answers;
+        keeps = kept_batches log_sectors [] formatted (asked_in s.views) s.answers (disk after) (kept s);
+        told_so = told_so s;
+      }
+
+  pub lives_keep_on : KeepsDbBatchesOn log_sectors (calls_by lives) (replies_by answers) (disk after)
+  lives_keep_on =
+      let s = behind in
+      record {
+        acts = acts_asked (asked_in s.views);
+        replies = replies_told s.answers;
+        keeps = kept_on log_sectors [] formatted (asked_in s.views) s.answers (disk after) (kept s);
+        told_so = told_so s;
+      }
 
 pub led_on : (sectors log_sectors : ℕ) (lives : List LifeView) (told : List (List Reply)) (new device after : Medium)
     → new ≡ zeroed sectors → device.size ≡ new.size → device.lasting ≡ new.lasting → Leaves (StandFor log_sectors formatted) (disk device) → AreLed lives device told after
@@ -134,6 +154,12 @@ pub all_keep_batches : {E : Type 0} (log_sectors : ℕ) (lives : List DbLife) (r
     → IfOk r (λ given. KeepsDbBatches log_sectors (calls_by lives) (replies_by given.0.items))
 all_keep_batches log_sectors lives (Ok given) before leaves led = lives_keep_batches log_sectors lives given.0.items before (medium_in given.1) leaves led
 all_keep_batches log_sectors lives (Err e) before leaves led = tt
+
+pub all_keep_on : {E : Type 0} (log_sectors : ℕ) (lives : List DbLife) (r : Result (Vec (Vec (GivenReply Global) Global) Global × MemDevice Global) E) (before : Medium)
+    → Leaves (StandFor log_sectors formatted) (disk before) → IfOk r (λ given. AreLed (map life_of lives) before (replies_by given.0.items) (medium_in given.1))
+    → IfOk r (λ given. KeepsDbBatchesOn log_sectors (calls_by lives) (replies_by given.0.items) (disk (medium_in given.1)))
+all_keep_on log_sectors lives (Ok given) before leaves led = lives_keep_on log_sectors lives given.0.items before (medium_in given.1) leaves led
+all_keep_on log_sectors lives (Err e) before leaves led = tt
 
 pub all_led_on : {E : Type 0} (sectors log_sectors : ℕ) (lives : List LifeView) (r : Result (Vec (Vec (GivenReply Global) Global) Global × MemDevice Global) E) (new device : Medium)
     → new ≡ zeroed sectors → device.size ≡ new.size → device.lasting ≡ new.lasting → Leaves (StandFor log_sectors formatted) (disk device)

@@ -1,3 +1,4 @@
 pub mod Calls
 pub mod Batches
 pub mod Leading
+pub mod Devices

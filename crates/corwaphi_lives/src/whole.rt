@@ -1,9 +1,11 @@
 // Lives of a `Db` from the format of a device on.
 ghost use Rattle.std.specs.Prelude.{map, IfOk};
+ghost use Rattle.lsm_device.specs.Medium.{disk};
 ghost use Rattle.lsm_device.specs.Memory.{medium_in};
 ghost use Rattle.lsm_lives.specs.Batches.{replies_by};
 ghost use Rattle.corwaphi_lives.specs.Batches.{KeepsDbBatches};
 ghost use Rattle.corwaphi_lives.specs.Calls.{calls_by};
+ghost use Rattle.corwaphi_lives.specs.Devices.{KeepsDbBatchesOn};
 ghost use Rattle.corwaphi_lives.specs.Leading.{life_of, AreLedOn};
 
 use crate::calls::DbLife;
@@ -26,7 +28,10 @@ pub fn lives_of_db<R: AllocGlobal>(
     // acknowledged one, and each reply is one that the map allows, or that there is no room for a batch.
     ensures batches { IfOk result (λ answer. KeepsDbBatches log_sectors (calls_by given.now) (replies_by answer.0.items)) }
 
-    // And they come of just this device: it was formatted, and in each life the fuse was set, the `Db` was opened, each call did what it does,
+    // The device at the end holds the map that is kept.
+    ensures device { IfOk result (λ answer. KeepsDbBatchesOn log_sectors (calls_by given.now) (replies_by answer.0.items) (disk (medium_in answer.1))) }
+
+    // And the replies come of just this device: it was formatted, and in each life the fuse was set, the `Db` was opened, each call did what it does,
     // and the crash kept what the mask says.
     ensures led { IfOk result (λ answer. AreLedOn sectors log_sectors (map life_of given.now) (replies_by answer.0.items) (medium_in answer.1)) }
 {

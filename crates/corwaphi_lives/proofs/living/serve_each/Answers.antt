@@ -1,4 +1,4 @@
-use Rattle.std.proofs.Common.{List, [], map, arith, refl, sym, subst, ◌∙◌}
+use Rattle.std.proofs.Common.{List, [], map, arith, refl, sym, subst}
 use Rattle.std.proofs.lemmas.List.{append-nil, take_all}
 use Rattle.lsm_lives.specs.Calls.{reply_of}
 use Rattle.corwaphi_lives.specs.Calls.{call_of}
