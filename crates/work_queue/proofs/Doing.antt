@@ -119,6 +119,30 @@ pub unused_claimed : (m : Map) (n : ℕ) → IsQueue m → last_given m < n → 
 unused_claimed m n q above small = task_none m n (claimed_key n) q above small (claimed_not_last n)
     (λ k low is. let fits : k < 2 ^ 64 = omega arith in ⊎_elim (λ e. absurd (claimed_not_waiting n k e)) (λ e. same_claimed k n fits small (sym e)) is)
 
+is_none : {X : Type 0} (o : Option X) → IsNone o → o ≡ None
+is_none None h = refl
+is_none (Some x) h = absurd cc
+
+-- a row of a task tells its status
+pub waits_by_row : (m : Map) (n : ℕ) (task : Bytes) → IsQueue m → n < 2 ^ 64 → finite.get m (waiting_key n) ≡ Some task → IsWaiting m n task
+waits_by_row m n task q small row = ⊎_elim (λ e. absurd (waiting_not_last n e))
+    (λ (t : IsTaskKey (last_given m) (waiting_key n)).
+    let l = last_small m q in
+    let fits : t.0 < 2 ^ 64 = omega (arith, l, t.2) in
+    let same : n ≡ t.0 = ⊎_elim (λ e. same_waiting n t.0 small fits e) (λ e. absurd (waiting_not_claimed n t.0 e)) t.3 in
+    record { low = omega (arith, t.1, same); high = omega (arith, t.2, same); row = row })
+    (q.rows (waiting_key n) (ap is_some row))
+
+pub claimed_by_row : (m : Map) (n : ℕ) (task : Bytes) → IsQueue m → n < 2 ^ 64 → finite.get m (claimed_key n) ≡ Some task → IsClaimed m n task
+claimed_by_row m n task q small row = ⊎_elim (λ e. absurd (claimed_not_last n e))
+    (λ (t : IsTaskKey (last_given m) (claimed_key n)).
+    let l = last_small m q in
+    let fits : t.0 < 2 ^ 64 = omega (arith, l, t.2) in
+    let same : n ≡ t.0 = ⊎_elim (λ e. absurd (claimed_not_waiting n t.0 e)) (λ e. same_claimed n t.0 small fits e) t.3 in
+    let none : finite.get m (waiting_key n) ≡ None = ⊎_elim (λ h. is_none (finite.get m (waiting_key n)) h) (λ h. absurd (some_none task (finite.get m (claimed_key n)) row h)) (q.apart n) in
+    record { low = omega (arith, t.1, same); high = omega (arith, t.2, same); no_row = none; row = row })
+    (q.rows (claimed_key n) (ap is_some row))
+
 -- ---- another task
 
 le_same : (j n last : ℕ) → n ≡ last + 1 → j ≢ n → nat_le j n ≡ nat_le j last

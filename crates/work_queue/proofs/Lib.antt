@@ -1,2 +1,4 @@
+pub mod Committed
 pub mod Doing
+pub mod Histories
 pub mod Keys

@@ -1,5 +1,5 @@
 -- What is done to a queue, batch by batch.
-use Rattle.std.specs.Prelude.{◌≡◌, ◌≢◌, ◌⊎◌, ◌<◌, ◌≤◌, ◌+◌, ◌^◌, ℕ, List, [], ◌∷◌, ◌++◌, map, length, Contains, Option, Some, None}
+use Rattle.std.specs.Prelude.{◌≡◌, ◌≢◌, ◌⊎◌, ◌<◌, ◌≤◌, ◌+◌, ◌^◌, ℕ, List, [], ◌∷◌, ◌++◌, map, length, take, Contains, Option, Some, None}
 use Rattle.std.specs.FinMap as finite
 use Rattle.lsm_codec.specs.Keys.{Bytes}
 use Rattle.lsm_codec.specs.Map.{Map, Operation, apply, apply_all}
@@ -56,13 +56,44 @@ abbrev pub AreDone : Map → List Deed → Type 0
 AreDone m [] = Unit {0}
 AreDone m (deed ∷ deeds) = MayBeDone m deed × AreDone (apply m (batch_of deed)) deeds
 
--- a task is there, with its bytes until it is finished
-abbrev pub IsThere : Bytes → Status → Type 0
-IsThere task status = (status ≡ Waiting task) ⊎ ((status ≡ Claimed task) ⊎ (status ≡ Finished))
-
--- What may become of a task: it is given, claimed and finished, in this order.
+-- What may become of a task: it is given, claimed and finished, in this order, and keeps its bytes until it is finished.
 abbrev pub GoesOn : Status → Status → Type 0
 GoesOn NotGiven later = Unit {0}
-GoesOn (Waiting task) later = IsThere task later
+GoesOn (Waiting task) later = (later ≡ Waiting task) ⊎ ((later ≡ Claimed task) ⊎ (later ≡ Finished))
 GoesOn (Claimed task) later = (later ≡ Claimed task) ⊎ (later ≡ Finished)
 GoesOn Finished later = later ≡ Finished
+
+-- ---- what a map tells of the deeds that led to it
+
+abbrev pub IsAdded : List Deed → ℕ → Bytes → Type 0
+IsAdded deeds number task = Contains deeds (Adds number task)
+
+abbrev pub IsClaimed : List Deed → ℕ → Type 0
+IsClaimed deeds number = (task : Bytes) × Contains deeds (Claims number task)
+
+abbrev pub IsFinished : List Deed → ℕ → Type 0
+IsFinished deeds number = Contains deeds (Finishes number)
+
+-- The status of a task is just what was done to it.
+abbrev pub IsStatusBy : List Deed → ℕ → Status → Type 0
+IsStatusBy deeds number NotGiven = (deed : Deed) → Contains deeds deed → task_of deed ≢ number
+IsStatusBy deeds number (Waiting task) = IsAdded deeds number task × ¬ (IsClaimed deeds number) × ¬ (IsFinished deeds number)
+IsStatusBy deeds number (Claimed task) = IsAdded deeds number task × Contains deeds (Claims number task) × ¬ (IsFinished deeds number)
+IsStatusBy deeds number Finished = (task : Bytes) × IsAdded deeds number task × Contains deeds (Claims number task) × IsFinished deeds number
+
+-- A map is a queue, and tells of each task what these deeds have done to it.
+pub record Tells (deeds : List Deed) (m : Map) : Type 0 where
+  pub queue : IsQueue m
+  pub tasks : (number : ℕ) → IsStatusBy deeds number (status m number)
+  -- a task that was added is there, with its bytes
+  pub added : (number : ℕ) (task : Bytes) → IsAdded deeds number task → GoesOn (Waiting task) (status m number)
+
+-- A map tells of a beginning of these deeds that has at least so many.
+pub record TellsBeginning (least : ℕ) (deeds : List Deed) (m : Map) : Type 0 where
+  pub holds : ℕ
+  pub at_least : least ≤ holds
+  pub among : holds ≤ length deeds
+  pub is : m ≡ map_after finite.empty (take holds deeds)
+  pub tells : Tells (take holds deeds) m
+  -- from there on the others may be done, and others in their place
+  pub done : AreDone finite.empty (take holds deeds)

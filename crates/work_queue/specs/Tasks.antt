@@ -1,5 +1,5 @@
 -- The rows of a queue, and what they say of each task.
-use Rattle.std.specs.Prelude.{◌≡◌, ◌⊎◌, ◌<◌, ◌≤◌, ◌^◌, ◌&&◌, ℕ, nat_le, Bool, true, false, IsNone, IsSome, List, [], ◌∷◌, Option, Some, None}
+use Rattle.std.specs.Prelude.{◌≡◌, ◌⊎◌, ◌<◌, ◌≤◌, ◌^◌, ◌&&◌, ℕ, nat_le, Bool, true, false, IsNone, IsSome, drop, List, [], ◌∷◌, Option, Some, None}
 use Rattle.std.specs.FinMap as finite
 use Rattle.byteorder.specs.Endian.{big_bytes, big_number}
 use Rattle.lsm_codec.specs.Keys.{Bytes}
@@ -31,6 +31,11 @@ claimed_key number = 99 ∷ number_bytes number
 abbrev pub number_of : Option Bytes → ℕ
 number_of (Some bytes) = number_in bytes
 number_of None = 0
+
+-- the number and the task in the first of the rows of tasks that wait
+abbrev pub first_task : List (Bytes × Bytes) → Option (ℕ × Bytes)
+first_task [] = None
+first_task (row ∷ rest) = Some (number_in (drop 1 row.0), row.1)
 
 -- the last number that was given, 0 where none was
 abbrev pub last_given : Map → ℕ
