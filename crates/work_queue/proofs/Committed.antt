@@ -1,6 +1,6 @@
 -- What a commit under a guard comes to.
-use Rattle.std.proofs.Common.{◌≡◌, ◌≢◌, ◌⊎◌, ◌<◌, ◌≤◌, ◌+◌, ◌^◌, ℕ, zero, suc, Bool, true, false, true≢false, List, [], ◌∷◌, ◌++◌, Option, Some, None, inl, inr, ⊎_elim, refl, ap, sym, subst, ◌∙◌, arith, length}
-use Rattle.std.specs.Prelude.{IsTrue, is_some, not, nat_lt, ◌==◌}
+use Rattle.std.proofs.Common.{◌≡◌, ◌≢◌, ◌⊎◌, ◌<◌, ◌≤◌, ◌+◌, ◌^◌, ℕ, zero, suc, Bool, true, false, true≢false, List, [], ◌∷◌, ◌++◌, Option, Some, None, Result, Ok, Err, inl, inr, ⊎_elim, refl, ap, sym, subst, ◌∙◌, arith, length}
+use Rattle.std.specs.Prelude.{IfErr, MatchResult, IsTrue, is_some, not, nat_lt, ◌==◌}
 use Rattle.std.specs.FinMap as finite
 use Rattle.lsm_codec.specs.Guards.{Condition, is_met, is_same_value}
 use Rattle.lsm_codec.specs.Keys.{Bytes}
@@ -26,7 +26,7 @@ use Rattle.lsm_upkeep.specs.Writing.{EndsWith, Writes, without_log_full}
 use Rattle.work_queue.specs.Tasks.{IsQueue, Waiting, Claimed, claimed_key, last_key, number_of, status, waiting_key}
 use Rattle.work_queue.specs.Deeds.{Adds, Claims, Deed, Does, Finishes, MayBeDone, batch_of}
 use Rattle.work_queue.specs.Committing.{Asks, Commits, CommitsUnder, HasCommitted, HasCommittedUnder, HoldsQueue, IsQuestion, IsRefused, IsRefusedUnder, map_in}
-use Rattle.work_queue.proofs.Doing.{claimed_by_row, does, is_claimed, is_waiting, waits_by_row}
+use Rattle.work_queue.proofs.Doing.{claimed, claimed_by_row, does, is_claimed, is_waiting, waits_by_row}
 
 -- ---- guards
 
@@ -49,6 +49,26 @@ pub may_finish : (number : ℕ) (task : Bytes) → number < 2 ^ 64
     → (m : Map) → IsQueue m → IsTrue (is_met m (record { key = claimed_key number; value = Some task })) → MayBeDone m (Finishes number)
 may_finish number task small m q met = (task, is_claimed m number task (claimed_by_row m number task q small (same_value (finite.get m (claimed_key number)) (Some task) met)))
 
+module _ (old new : StoreView) (told : Reply) (given : Condition) (batch : List Operation) (writes : Writes (Some (given ∷ [])) batch old told new) where
+  under : (deed : Deed) (guard : Condition) → given ≡ guard → batch ≡ batch_of deed → ((m : Map) → IsQueue m → IsTrue (is_met m guard) → MayBeDone m deed) → CommitsUnder deed old told new
+  under deed guard same is may = record {
+    guard = guard;
+    may = may;
+    writes = subst (λ (b : List Operation). Writes (Some (guard ∷ [])) b old told new) is (subst (λ (c : Condition). Writes (Some (c ∷ [])) batch old told new) same writes);
+  }
+
+  pub adds_under : (row : Option Bytes) (last : ℕ) (task : Bytes) → last ≡ number_of row → last + 1 < 2 ^ 64 → given ≡ record { key = last_key; value = row } → batch ≡ batch_of (Adds (last + 1) task)
+      → CommitsUnder (Adds (last + 1) task) old told new
+  adds_under row last task read small same is = under (Adds (last + 1) task) (record { key = last_key; value = row }) same is (may_add row (last + 1) task (ap (λ (n : ℕ). n + 1) read) small)
+
+  pub claims_under : (number : ℕ) (task : Bytes) → number < 2 ^ 64 → given ≡ record { key = waiting_key number; value = Some task } → batch ≡ batch_of (Claims number task)
+      → CommitsUnder (Claims number task) old told new
+  claims_under number task small same is = under (Claims number task) (record { key = waiting_key number; value = Some task }) same is (may_claim number task small)
+
+  pub finishes_under : (number : ℕ) (task : Bytes) → number < 2 ^ 64 → given ≡ record { key = claimed_key number; value = Some task } → batch ≡ batch_of (Finishes number)
+      → CommitsUnder (Finishes number) old told new
+  finishes_under number task small same is = under (Finishes number) (record { key = claimed_key number; value = Some task }) same is (may_finish number task small)
+
 -- ---- questions
 
 asked_state : (s : State) (question : Call) (answer : Reply) → IsQuestion question → next s question answer ≡ s
@@ -60,11 +80,37 @@ asked_state s (Scan Now from to limit) (Refused other) is = refl
 asked_state s (Scan Now from to limit) answer is = refl
 asked_state s question answer is = absurd is
 
+pub asks_for : (old new : StoreView) (key : Bytes) (answer : Reply) → Serves old (Get Now key) answer new → Asks old new
+asks_for old new key answer serves = record { question = Get Now key; is_question = tt; answer = answer; serves = serves }
+
+pub asks_rows : (old new : StoreView) (from : Bytes) (to : Option Bytes) (limit : ℕ) (answer : Reply) → Serves old (Scan Now from to limit) answer new → Asks old new
+asks_rows old new from to limit answer serves = record { question = Scan Now from to limit; is_question = tt; answer = answer; serves = serves }
+
 pub asks_same : (old new : StoreView) → Asks old new → map_in new ≡ map_in old
 asks_same old new a = ap (λ (s : State). present_map s.points) (a.serves.state ∙ asked_state old.state a.question a.answer a.is_question)
 
 pub asks_holds : (old new : StoreView) → Asks old new → HoldsQueue old → HoldsQueue new
 asks_holds old new a h = record { backed = a.serves.backed h.backed; queue = subst IsQueue (sym (asks_same old new a)) h.queue }
+
+value_in : Reply → Option Bytes
+value_in (Value found) = found
+value_in other = None
+
+told_value : (s : State) (key : Bytes) (row : Option Bytes) (refused : Option Refusal) → Value row ≡ reply_by s (Get Now key) refused → row ≡ finite.get (present_map s.points) key
+unfolding value_in
+told_value s key row None e = ap value_in e
+told_value s key row (Some refusal) e = absurd cc
+
+-- the row that was told is that of the map
+pub told_row : (old asked : StoreView) (key : Bytes) (row : Option Bytes) → IsBacked old → Serves old (Get Now key) (Value row) asked → row ≡ finite.get (map_in old) key
+told_row old asked key row backed serves = told_value old.state key row (full_refusal old.state (Get Now key)) (serves.allowed backed)
+
+-- a task with no row is not claimed
+pub unclaimed : (m : Map) (number : ℕ) (task : Bytes) → finite.get m (claimed_key number) ≡ None → status m number ≢ Claimed task
+unclaimed m number task none is = some_none (sym (claimed m number task is).row ∙ none)
+  where
+    some_none : Some task ≡ None → ⊥
+    some_none h = cc
 
 -- ---- upkeep
 
@@ -219,3 +265,12 @@ module _ (old new : StoreView) where
     backed = backs deed c.asked new (Refused refusal) c.commits (asks_holds old c.asked c.asks h).backed;
     queue = subst IsQueue (sym (refusal_same Meant refusal (inr (deed, meant, c)))) h.queue;
   }
+
+  -- of a result that is such a refusal
+  pub err_same : {X : Type 0} (P : X → Type 0) (Meant : Deed → Type 0) (result : Result X Refusal) → MatchResult result P (λ refusal. IsRefused Meant refusal old new) → IfErr result (λ refusal. map_in new ≡ map_in old)
+  err_same P Meant (Ok x) h = tt
+  err_same P Meant (Err refusal) h = refusal_same Meant refusal h
+
+  pub err_holds : {X : Type 0} (P : X → Type 0) (Meant : Deed → Type 0) (result : Result X Refusal) (refusal : Refusal) → result ≡ Err refusal → MatchResult result P (λ e. IsRefused Meant e old new)
+      → HoldsQueue old → HoldsQueue new
+  err_holds {X} P Meant result refusal is h = refusal_holds Meant refusal (subst (λ (r : Result X Refusal). MatchResult r P (λ e. IsRefused Meant e old new)) is h)

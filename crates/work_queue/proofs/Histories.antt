@@ -233,7 +233,7 @@ beginning deeds least kept left done p after =
     record {
       holds = p.holds;
       at_least = p.at_least;
-      among = subst (λ (n : ℕ). p.holds ≤ n) (length-map batch_of deeds) p.among;
+      among = subst (λ (n : ℕ). p.holds ≤ n) (length-map deeds batch_of) p.among;
       is = is;
       tells = subst (Tells first) (sym is) (told first first_is_done);
       done = first_is_done;

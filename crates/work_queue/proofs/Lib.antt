@@ -1,3 +1,4 @@
+pub mod FirstRows
 pub mod Committed
 pub mod Doing
 pub mod Histories

@@ -1,5 +1,5 @@
 -- What a call of a queue does to its store.
-use Rattle.std.specs.Prelude.{◌≡◌, ◌⊎◌, ◌+◌, ◌<◌, ◌≤◌, ◌≢◌, ◌^◌, ℕ, IsTrue, List, [], ◌∷◌, Option, Some, None}
+use Rattle.std.specs.Prelude.{◌≡◌, ◌⊎◌, ◌+◌, ◌<◌, ◌≤◌, ◌≢◌, ◌^◌, ℕ, Bool, true, false, IsTrue, List, [], ◌∷◌, Option, Some, None}
 use Rattle.lsm_codec.specs.Guards.{Condition, is_met}
 use Rattle.lsm_codec.specs.Keys.{Bytes}
 use Rattle.lsm_codec.specs.Map.{Map}
@@ -11,7 +11,7 @@ use Rattle.lsm_store.specs.Serving.{Serves}
 use Rattle.lsm_store.specs.declared.asked.At.TheVariants.{Now}
 use Rattle.lsm_upkeep.specs.Writing.{Writes}
 use Rattle.work_queue.specs.Tasks.{Waiting, Claimed, IsQueue, last_given, status}
-use Rattle.work_queue.specs.Deeds.{Deed, Adds, Claims, Does, MayBeDone, batch_of}
+use Rattle.work_queue.specs.Deeds.{Deed, Adds, Claims, Finishes, Does, MayBeDone, batch_of}
 
 -- the present map of a store: that after all its batches
 abbrev pub map_in : StoreView → Map
@@ -51,6 +51,11 @@ pub record Commits (deed : Deed) (old : StoreView) (told : Reply) (new : StoreVi
 abbrev pub HasCommitted : Deed → StoreView → StoreView → Type 0
 HasCommitted deed old new = (batch : ℕ) × Commits deed old (Number batch) new
 
+-- a task was finished, or the store was asked alone
+abbrev pub HasFinished : Bool → ℕ → StoreView → StoreView → Type 0
+HasFinished true number old new = HasCommitted (Finishes number) old new
+HasFinished false number old new = Asks old new
+
 -- A call was refused: the commit of such a deed was, or it came to none.
 abbrev pub IsRefused : (Deed → Type 0) → Refusal → StoreView → StoreView → Type 0
 IsRefused Meant refusal old new = Asks old new ⊎ ((deed : Deed) × Meant deed × Commits deed old (Refused refusal) new)
@@ -81,11 +86,16 @@ pub record IsFirstClaimed (number : ℕ) (task : Bytes) (old new : Map) : Type 0
   pub first : (other : ℕ) (its_task : Bytes) → status old other ≡ Waiting its_task → number ≤ other
   pub does : Does (Claims number task) old new
 
--- of no task that waits, or of the one that has waited longest
-abbrev pub IsFirstOf : Map → Option (ℕ × Bytes) → Type 0
-IsFirstOf m None = (number : ℕ) (task : Bytes) → status m number ≢ Waiting task
-IsFirstOf m (Some found) = (other : ℕ) (task : Bytes) → status m other ≡ Waiting task → found.0 ≤ other
-
 -- no task waits
 abbrev pub NoneWaits : Map → Type 0
 NoneWaits m = (number : ℕ) (task : Bytes) → status m number ≢ Waiting task
+
+-- no task waits, or this is the one that has waited longest
+abbrev pub IsFirstOf : Map → Option (ℕ × Bytes) → Type 0
+IsFirstOf m None = NoneWaits m
+IsFirstOf m (Some found) = (other : ℕ) (task : Bytes) → status m other ≡ Waiting task → found.0 ≤ other
+
+-- the task was claimed and is finished now, or it was not claimed, and nothing has changed
+abbrev pub IsFinishedNow : Bool → ℕ → Map → Map → Type 0
+IsFinishedNow true number old new = Does (Finishes number) old new
+IsFinishedNow false number old new = ((task : Bytes) → status old number ≢ Claimed task) × (new ≡ old)

@@ -1,10 +1,9 @@
 // A queue of tasks.
-ghost use Rattle.std.specs.Prelude.{◌≡◌, ◌≢◌, ℕ, Bool, true, false, Some, None, option_map, IfErr, IfOk, MatchOption, MatchResult};
+ghost use Rattle.std.specs.Prelude.{◌≡◌, IfErr, IfOk, MatchOption, MatchResult};
 ghost use Rattle.lsm_store.specs.Calls.{Sync, Done, reply_of};
 ghost use Rattle.lsm_store.specs.Serving.{Serves};
-ghost use Rattle.work_queue.specs.Committing.{AddsTask, Asks, ClaimsOne, HasCommitted, HoldsQueue, IsAddedNext, IsFirstClaimed, IsRefused, NoneWaits, map_in};
-ghost use Rattle.work_queue.specs.Deeds.{Adds, Claims, Does, Finishes};
-ghost use Rattle.work_queue.specs.Tasks.{Claimed, status};
+ghost use Rattle.work_queue.specs.Committing.{AddsTask, Asks, ClaimsOne, HasCommitted, HasFinished, HoldsQueue, IsAddedNext, IsFinishedNow, IsFirstClaimed, IsRefused, NoneWaits, map_in};
+ghost use Rattle.work_queue.specs.Deeds.{Adds, Claims, Finishes};
 
 use crate::batches::{adds, claims, finishes, still_claimed, still_last, still_waits};
 use crate::rows::{LAST_KEY, claimed_key, first_task, last_number};
@@ -110,22 +109,23 @@ impl<D: Device> Queue<D> {
     /// crash may leave it finished.
     pub fn finish(&mut self, number: u64) -> Result<bool, Refusal>
         ensures commits { MatchResult result
-            (λ finished. if finished then HasCommitted (Finishes number) self.old self.new else Asks self.old self.new)
+            (λ finished. HasFinished finished number self.old self.new)
             (λ refusal. IsRefused (λ deed. deed ≡ Finishes number) refusal self.old self.new) }
-        ensures finishes { HoldsQueue self.old → IfOk result (λ finished. if finished
-            then Does (Finishes number) (map_in self.old) (map_in self.new)
-            else (((task : List ℕ) → status (map_in self.old) number ≢ Claimed task) × (map_in self.new ≡ map_in self.old))) }
+        ensures finishes { HoldsQueue self.old → IfOk result (λ finished. IsFinishedNow finished number (map_in self.old) (map_in self.new)) }
         ensures same { IfErr result (λ refusal. map_in self.new ≡ map_in self.old) }
         ensures holds { HoldsQueue self.old → HoldsQueue self.new }
     {
-        let task = match self.db.get(&claimed_key(number))? {
-            Some(task) => task,
-            None => return Ok(false),
-        };
-        let guard = still_claimed(self.alloc, number, &task)?;
-        let batch = finishes(self.alloc, number)?;
-        self.db.write_if(&[guard], &batch)?;
-        Ok(true)
+        let key = claimed_key(number);
+        let row = self.db.get(&key)?;
+        match row {
+            Some(task) => {
+                let guard = still_claimed(self.alloc, number, &task)?;
+                let batch = finishes(self.alloc, number)?;
+                self.db.write_if(&[guard], &batch)?;
+                Ok(true)
+            }
+            None => Ok(false),
+        }
     }
 
     /// Makes all that was done so far outlast a crash. It is refused as [`sync`](Db::sync) of the store is.

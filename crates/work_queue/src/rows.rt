@@ -1,5 +1,5 @@
 // The rows of a queue, as bytes.
-ghost use Rattle.std.specs.Prelude.{◌≡◌, ◌==◌, Some, None, length, IfOk, IfSome, option_map};
+ghost use Rattle.std.specs.Prelude.{◌≡◌, ◌==◌, ◌<◌, ◌^◌, ◌∷◌, drop, Some, None, length, IfOk, IfSome, option_map};
 ghost use Rattle.work_queue.specs.Tasks.{claimed_key, first_task, number_bytes, number_in, number_of, waiting_key};
 
 use byteorder::{BigEndian, ByteOrder};
@@ -65,18 +65,26 @@ pub(crate) fn last_number(row: &Option<Vec<u8>>) -> Result<u64, Refusal>
     }
 }
 
+// The number in a key, behind its letter.
+fn number_behind(key: &[u8]) -> Option<u64>
+    ensures { IfSome result (λ number. number ≡ number_in (drop 1 key.now)) }
+{
+    if key.is_empty() {
+        return None;
+    }
+    number_in(&key[1..])
+}
+
 /// The task in the first row of a page, with its number. A key of another length is `BadKey`.
 pub(crate) fn first_task(alloc: Global, page: &Page) -> Result<Option<(u64, Vec<u8>)>, Refusal>
-    ensures { IfOk result (λ found. option_map (λ f. (f.0, f.1.items)) found ≡ first_task page.now.rows) }
+    ensures first { IfOk result (λ found. option_map (λ f. (f.0, f.1.items)) found ≡ first_task page.now.rows) }
+    ensures fits { IfOk result (λ found. IfSome found (λ f. f.0 < 2 ^ 64)) }
 {
-    let row = match page.rows().get(0) {
-        Some(row) => row,
-        None => return Ok(None),
-    };
-    if row.key.len() != 9 {
-        return Err(Refusal::BadKey);
+    match page.rows().get(0) {
+        Some(row) => match number_behind(row.key) {
+            Some(number) => Ok(Some((number, Vec::from_slice(alloc, row.value)?))),
+            None => Err(Refusal::BadKey),
+        },
+        None => Ok(None),
     }
-    let number = BigEndian::read_u64(&row.key[1..]);
-    let task = Vec::from_slice(alloc, row.value)?;
-    Ok(Some((number, task)))
 }
