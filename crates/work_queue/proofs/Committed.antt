@@ -80,6 +80,9 @@ asked_state s (Scan Now from to limit) (Refused other) is = refl
 asked_state s (Scan Now from to limit) answer is = refl
 asked_state s question answer is = absurd is
 
+pub served : (inside old new : StoreView) (call : Call) (reply : Reply) → inside ≡ old → Serves inside call reply new → Serves old call reply new
+served inside old new call reply is serves = subst (λ (s : StoreView). Serves s call reply new) is serves
+
 pub asks_for : (old new : StoreView) (key : Bytes) (answer : Reply) → Serves old (Get Now key) answer new → Asks old new
 asks_for old new key answer serves = record { question = Get Now key; is_question = tt; answer = answer; serves = serves }
 
@@ -203,10 +206,11 @@ module _ (deed : Deed) (old new : StoreView) where
           let served = subst (λ (r : Reply). Serves kept call (reply_in call new.state r) new) (number_told reply number is) serves in
           let backed = upkept_backed old kept c.writes.upkeep h.backed in
           let same : map_in kept ≡ map_in old = c.writes.upkeep.keeps.map in
-          let met = guard_met kept.state c.guard (batch_of deed) (unrefused number kept.state call (full_refusal kept.state call) (served.allowed backed)) in
-          (c.may (map_in old) h.queue (subst (λ (m : Map). IsTrue (is_met m c.guard)) same met),
-          ap (λ (s : State). last_map s.points.first s.points.later) served.state ∙ last_map-append kept.state.points.first kept.state.points.later (apply (map_in kept) (batch_of deed))
-          ∙ ap (λ (m : Map). apply m (batch_of deed)) same)
+          let met = guard_met kept.state c.guard (batch_of deed) (unrefused number kept.state call (full_refusal kept.state call) (served.allowed backed)) in (
+            c.may (map_in old) h.queue (subst (λ (m : Map). IsTrue (is_met m c.guard)) same met),
+            ap (λ (s : State). last_map s.points.first s.points.later) served.state ∙ last_map-append kept.state.points.first kept.state.points.later (apply (map_in kept) (batch_of deed))
+                ∙ ap (λ (m : Map). apply m (batch_of deed)) same,
+          )
       by (inr (so, wants, same)) = absurd (true≢false (ap is_number so))
 
   pub backs : (told : Reply) → CommitsUnder deed old told new → IsBacked old → IsBacked new

@@ -1,7 +1,7 @@
 -- The first of the rows of tasks that wait is that of the lowest number.
-use Rattle.std.proofs.Common.{◌≡◌, ◌≢◌, ◌⊎◌, ◌<◌, ◌≤◌, ◌+◌, ◌*◌, ◌^◌, ◌%◌, ◌&&◌, ◌||◌, ℕ, zero, suc, Bool, true, false, true≢false, cond, List, [], ◌∷◌, length, take, filter, Option, Some, None, inl, inr, ⊎_elim, refl, ap, sym, subst, ◌∙◌, arith}
+use Rattle.std.proofs.Common.{◌≡◌, ◌≢◌, ◌⊎◌, ◌<◌, ◌≤◌, ◌+◌, ◌*◌, ◌/◌, ◌^◌, ◌%◌, ◌&&◌, ◌||◌, ℕ, zero, suc, Bool, true, false, true≢false, cond, List, [], ◌∷◌, length, take, filter, Option, Some, None, inl, inr, ⊎_elim, refl, ap, sym, subst, ◌∙◌, arith}
 use Rattle.std.specs.Prelude.{slice_index, drop, T, is_some}
-use Rattle.std.proofs.Math.Nat.{mod-lt, mul-le-mul_right, add-mul}
+use Rattle.std.proofs.Math.Nat.{mul-le-mul_right, add-mul}
 use Rattle.std.proofs.lemmas.Cmp.{nat_list_cmp_total, ranked}
 use Rattle.std.specs.Cmp.Lexicographic.{slice_cmp}
 use Rattle.std.specs.FinMap as finite
@@ -34,12 +34,12 @@ use Rattle.work_queue.proofs.Keys.{bytes_back, same_rest, same_waiting}
 
 -- ---- the order of keys is that of numbers
 
+low_byte : (y : ℕ) → y % 256 < 256
+low_byte y = omega arith
+
 fits_byte : (n x i : ℕ) → slice_index (bytes_high_first n x) i < 256
 fits_byte zero x i = omega arith
-fits_byte (suc n) x zero = let h = mod-lt (x) {256} (omega arith) in by n
-  where
-    by : (k : ℕ) → byte_at k x < 256
-    by k = rw (byte_at-pow k x) (omega arith)
+fits_byte (suc n) x zero = subst (λ (b : ℕ). b < 256) (sym (byte_at-pow n x)) (low_byte (x / 256 ^ n))
 fits_byte (suc n) x (suc i) = fits_byte n x i
 
 above : (a b p x y : ℕ) → a < b → x < p → a * p + x < b * p + y
@@ -98,20 +98,29 @@ module _ (test : Bytes → Bool) where
   abbrev passed : Pairs → Pairs
   passed es = filter (λ e. test e.0) es
 
+  abbrev rest_passed : (e : Bytes × Bytes) (es : Pairs) (b : Bool) → Pairs
+  rest_passed e es b = cond b (e ∷ passed es) (passed es)
+
+  abbrev found_behind : Bytes → Bytes × Bytes → Pairs → Bool → Option Bytes
+  found_behind key e es b = cond b (Some e.1) (find byte_order key es)
+
   missed : (key : Bytes) (e : Bytes × Bytes) → test e.0 ≡ false → test key ≡ true → eq_by_cmp byte_order key e.0 ≡ true → ⊥
-  missed key e no yes same = true≢false (sym yes ∙ ap test (same_key key e.0 same) ∙ no)
+  missed key e fails passes same = true≢false (sym passes ∙ ap test (same_key key e.0 same) ∙ fails)
+
+  none_step : (e : Bytes × Bytes) (es : Pairs) (key value : Bytes) → test key ≡ true → (passed es ≡ [] → find byte_order key es ≡ Some value → ⊥)
+      → (b : Bool) → test e.0 ≡ b → (c : Bool) → eq_by_cmp byte_order key e.0 ≡ c → rest_passed e es b ≡ [] → found_behind key e es c ≡ Some value → ⊥
+  none_step e es key value passes ih true t c same none found = cc
+  none_step e es key value passes ih false t true same none found = missed key e t passes same
+  none_step e es key value passes ih false t false same none found = ih none found
 
   pub none_pass : (es : Pairs) → passed es ≡ [] → (key value : Bytes) → find byte_order key es ≡ Some value → test key ≡ true → ⊥
-  none_pass [] none key value found yes = cc
-  none_pass (e ∷ es) none key value found yes = by (test e.0) refl (eq_by_cmp byte_order key e.0) refl
-    where
-      by : (b : Bool) → test e.0 ≡ b → (c : Bool) → eq_by_cmp byte_order key e.0 ≡ c → ⊥
-      by true t c same = not_nil (sym (ap (λ (x : Bool). cond x (e ∷ passed es) (passed es)) t) ∙ none)
-        where
-          not_nil : e ∷ passed es ≡ [] → ⊥
-          not_nil h = cc
-      by false t true same = missed key e t yes same
-      by false t false same = none_pass es (sym (ap (λ (x : Bool). cond x (e ∷ passed es) (passed es)) t) ∙ none) key value (sym (ap (λ (x : Bool). cond x (Some e.1) (find byte_order key es)) same) ∙ found) yes
+  none_pass [] none key value found passes = cc
+  none_pass (e ∷ es) none key value found passes = none_step e es key value passes (λ n f. none_pass es n key value f passes) (test e.0) refl (eq_by_cmp byte_order key e.0) refl none found
+
+  below_step : (x : Bytes) (e : Bytes × Bytes) (es : Pairs) (key value : Bytes) → byte_order x e.0 ≡ Less → (find byte_order key es ≡ Some value → byte_order x key ≡ Less)
+      → (c : Bool) → eq_by_cmp byte_order key e.0 ≡ c → found_behind key e es c ≡ Some value → byte_order x key ≡ Less
+  below_step x e es key value here ih true same found = ap (byte_order x) (same_key key e.0 same) ∙ here
+  below_step x e es key value here ih false same found = ih found
 
   below_found : (x : Bytes) (es : Pairs) → T (below_all byte_order x es) → (key value : Bytes) → find byte_order key es ≡ Some value → byte_order x key ≡ Less
   below_found x [] below key value found = absurd (none_some found)
@@ -120,52 +129,46 @@ module _ (test : Bytes → Bool) where
       none_some h = cc
   below_found x (e ∷ es) below key value found =
       let parts = both_parts (is_lt (byte_order x e.0)) (below_all byte_order x es) below in
-      by parts.0 parts.1 (eq_by_cmp byte_order key e.0) refl
-    where
-      by : T (is_lt (byte_order x e.0)) → T (below_all byte_order x es) → (c : Bool) → eq_by_cmp byte_order key e.0 ≡ c → byte_order x key ≡ Less
-      by here later true same = ap (byte_order x) (same_key key e.0 same) ∙ is_lt_Less (byte_order x e.0) (is_true (is_lt (byte_order x e.0)) here)
-      by here later false same = below_found x es later key value (sym (ap (λ (b : Bool). cond b (Some e.1) (find byte_order key es)) same) ∙ found)
+      below_step x e es key value (is_lt_Less (byte_order x e.0) (is_true (is_lt (byte_order x e.0)) parts.0)) (λ f. below_found x es parts.1 key value f) (eq_by_cmp byte_order key e.0) refl found
+
+  least_step : (e : Bytes × Bytes) (es : Pairs) (row : Bytes × Bytes) (rest : Pairs) (key value : Bytes) → test key ≡ true → T (below_all byte_order e.0 es)
+      → (passed es ≡ row ∷ rest → find byte_order key es ≡ Some value → (byte_order row.0 key ≡ Less) ⊎ (row.0 ≡ key))
+      → (b : Bool) → test e.0 ≡ b → (c : Bool) → eq_by_cmp byte_order key e.0 ≡ c → rest_passed e es b ≡ row ∷ rest → found_behind key e es c ≡ Some value
+      → (byte_order row.0 key ≡ Less) ⊎ (row.0 ≡ key)
+  least_step e es row rest key value passes below ih true t true same is found = inr (ap (λ (p : Bytes × Bytes). p.0) (sym (same_first e row (passed es) rest is)) ∙ sym (same_key key e.0 same))
+  least_step e es row rest key value passes below ih true t false same is found = inl (ap (λ (p : Bytes × Bytes). byte_order p.0 key) (sym (same_first e row (passed es) rest is)) ∙ below_found e.0 es below key value found)
+  least_step e es row rest key value passes below ih false t true same is found = absurd (missed key e t passes same)
+  least_step e es row rest key value passes below ih false t false same is found = ih is found
 
   pub first_least : (es : Pairs) → T (is_sorted byte_order es) → (row : Bytes × Bytes) (rest : Pairs) → passed es ≡ row ∷ rest
       → (key value : Bytes) → find byte_order key es ≡ Some value → test key ≡ true → (byte_order row.0 key ≡ Less) ⊎ (row.0 ≡ key)
-  first_least [] sorted row rest is key value found yes = absurd (not_nil is)
+  first_least [] sorted row rest is key value found passes = absurd (not_nil is)
     where
       not_nil : [] ≡ row ∷ rest → ⊥
       not_nil h = cc
-  first_least (e ∷ es) sorted row rest is key value found yes =
+  first_least (e ∷ es) sorted row rest is key value found passes =
       let parts = both_parts (below_all byte_order e.0 es) (is_sorted byte_order es) sorted in
-      by parts.0 parts.1 (test e.0) refl (eq_by_cmp byte_order key e.0) refl
-    where
-      later : eq_by_cmp byte_order key e.0 ≡ false → find byte_order key es ≡ Some value
-      later same = sym (ap (λ (b : Bool). cond b (Some e.1) (find byte_order key es)) same) ∙ found
+      least_step e es row rest key value passes parts.0 (λ i f. first_least es parts.1 row rest i key value f passes) (test e.0) refl (eq_by_cmp byte_order key e.0) refl is found
 
-      first : test e.0 ≡ true → e ≡ row
-      first t = same_first e row (passed es) rest (sym (ap (λ (x : Bool). cond x (e ∷ passed es) (passed es)) t) ∙ is)
+  abbrev IsFound : Bytes × Bytes → Pairs → Type 0
+  IsFound row es = (find byte_order row.0 es ≡ Some row.1) × (test row.0 ≡ true)
 
-      by : T (below_all byte_order e.0 es) → T (is_sorted byte_order es) → (b : Bool) → test e.0 ≡ b → (c : Bool) → eq_by_cmp byte_order key e.0 ≡ c → (byte_order row.0 key ≡ Less) ⊎ (row.0 ≡ key)
-      by below rises true t true same = inr (ap (λ (p : Bytes × Bytes). p.0) (sym (first t)) ∙ sym (same_key key e.0 same))
-      by below rises true t false same = inl (ap (λ (p : Bytes × Bytes). byte_order p.0 key) (sym (first t)) ∙ below_found e.0 es below key value (later same))
-      by below rises false t true same = absurd (missed key e t yes same)
-      by below rises false t false same = first_least es rises row rest (sym (ap (λ (x : Bool). cond x (e ∷ passed es) (passed es)) t) ∙ is) key value (later same) yes
+  found_further : (e : Bytes × Bytes) (es : Pairs) (row : Bytes × Bytes) → test e.0 ≡ false → IsFound row es → (c : Bool) → eq_by_cmp byte_order row.0 e.0 ≡ c → found_behind row.0 e es c ≡ Some row.1
+  found_further e es row t more true same = absurd (missed row.0 e t more.1 same)
+  found_further e es row t more false same = more.0
 
-  pub first_found : (es : Pairs) (row : Bytes × Bytes) (rest : Pairs) → passed es ≡ row ∷ rest → (find byte_order row.0 es ≡ Some row.1) × (test row.0 ≡ true)
+  found_step : (e : Bytes × Bytes) (es : Pairs) (row : Bytes × Bytes) (rest : Pairs) → (passed es ≡ row ∷ rest → IsFound row es)
+      → (b : Bool) → test e.0 ≡ b → rest_passed e es b ≡ row ∷ rest → IsFound row (e ∷ es)
+  found_step e es row rest ih true t is = subst (λ (p : Bytes × Bytes). IsFound p (e ∷ es)) (same_first e row (passed es) rest is)
+      (ap (λ (b : Bool). cond b (Some e.1) (find byte_order e.0 es)) (key_itself e.0), t)
+  found_step e es row rest ih false t is = let more = ih is in (found_further e es row t more (eq_by_cmp byte_order row.0 e.0) refl, more.1)
+
+  pub first_found : (es : Pairs) (row : Bytes × Bytes) (rest : Pairs) → passed es ≡ row ∷ rest → IsFound row es
   first_found [] row rest is = absurd (not_nil is)
     where
       not_nil : [] ≡ row ∷ rest → ⊥
       not_nil h = cc
-  first_found (e ∷ es) row rest is = by (test e.0) refl
-    where
-      by : (b : Bool) → test e.0 ≡ b → (find byte_order row.0 (e ∷ es) ≡ Some row.1) × (test row.0 ≡ true)
-      by true t = subst (λ (p : Bytes × Bytes). (find byte_order p.0 (e ∷ es) ≡ Some p.1) × (test p.0 ≡ true))
-          (same_first e row (passed es) rest (sym (ap (λ (x : Bool). cond x (e ∷ passed es) (passed es)) t) ∙ is))
-          (ap (λ (b : Bool). cond b (Some e.1) (find byte_order e.0 es)) (key_itself e.0), t)
-      by false t =
-          let more = first_found es row rest (sym (ap (λ (x : Bool). cond x (e ∷ passed es) (passed es)) t) ∙ is) in
-          (here (eq_by_cmp byte_order row.0 e.0) refl more.0 more.1, more.1)
-        where
-          here : (c : Bool) → eq_by_cmp byte_order row.0 e.0 ≡ c → find byte_order row.0 es ≡ Some row.1 → test row.0 ≡ true → find byte_order row.0 (e ∷ es) ≡ Some row.1
-          here true same found yes = absurd (missed row.0 e t yes same)
-          here false same found yes = ap (λ (b : Bool). cond b (Some e.1) (find byte_order row.0 es)) same ∙ found
+  first_found (e ∷ es) row rest is = found_step e es row rest (λ i. first_found es row rest i) (test e.0) refl is
 
 -- ---- the rows of tasks that wait
 
@@ -193,11 +196,11 @@ module _ (m : Map) (q : IsQueue m) where
   waiting_small number task is = let l = last_small m q in let w = waits m number task is in omega (arith, l, w.high)
 
   first_key_waits : (key value : Bytes) → find byte_order key (finite.entries m) ≡ Some value → is_w key ≡ true → (k : ℕ) × (k < 2 ^ 64) × (key ≡ waiting_key k)
-  first_key_waits key value found yes = ⊎_elim
-      (λ e. absurd (not_last (ap is_w (sym e) ∙ yes)))
+  first_key_waits key value found passes = ⊎_elim
+      (λ e. absurd (not_last (ap is_w (sym e) ∙ passes)))
       (λ (t : IsTaskKey (last_given m) key). ⊎_elim
       (λ e. let l = last_small m q in (t.0, omega (arith, l, t.2), e))
-      (λ e. absurd (not_claimed t.0 (ap is_w (sym e) ∙ yes)))
+      (λ e. absurd (not_claimed t.0 (ap is_w (sym e) ∙ passes)))
       t.3)
       (q.rows key (ap is_some (get-entries m key ∙ found)))
 

@@ -89,10 +89,11 @@ module _ (before : List Deed) (deed : Deed) where
 own_status : (before : List Deed) (deed : Deed) (old new : Status) → Moves deed old new → IsStatusBy before (task_of deed) old → IsStatusBy (before ++ deed ∷ []) (task_of deed) new
 own_status before (Adds number task) old new (e, f) by =
     let none = subst (λ (s : Status). IsStatusBy before number s) e by in
-    subst (λ (s : Status). IsStatusBy (before ++ Adds number task ∷ []) number s) (sym f)
-    (Contains-push before (Adds number task),
-    λ (c : IsClaimed (before ++ Adds number task ∷ []) number). ⊎_elim (λ h. none (Claims number c.0) h refl) (λ e. apart_claims c.0 e) (Contains-push_cases before (Adds number task) (Claims number c.0) c.1),
-    λ (c : IsFinished (before ++ Adds number task ∷ []) number). ⊎_elim (λ h. none (Finishes number) h refl) (λ e. apart_finishes e) (Contains-push_cases before (Adds number task) (Finishes number) c))
+    subst (λ (s : Status). IsStatusBy (before ++ Adds number task ∷ []) number s) (sym f) (
+      Contains-push before (Adds number task),
+      λ (c : IsClaimed (before ++ Adds number task ∷ []) number). ⊎_elim (λ h. none (Claims number c.0) h refl) (λ e. apart_claims c.0 e) (Contains-push_cases before (Adds number task) (Claims number c.0) c.1),
+      λ (c : IsFinished (before ++ Adds number task ∷ []) number). ⊎_elim (λ h. none (Finishes number) h refl) (λ e. apart_finishes e) (Contains-push_cases before (Adds number task) (Finishes number) c),
+    )
   where
     apart_claims : (other : Bytes) → Adds number task ≡ Claims number other → ⊥
     apart_claims other e = cc
@@ -101,10 +102,11 @@ own_status before (Adds number task) old new (e, f) by =
     apart_finishes e = cc
 own_status before (Claims number task) old new (e, f) by =
     let is = subst (λ (s : Status). IsStatusBy before number s) e by in
-    subst (λ (s : Status). IsStatusBy (before ++ Claims number task ∷ []) number s) (sym f)
-    (kept_in before (Claims number task) (Adds number task) is.0,
-    Contains-push before (Claims number task),
-    λ (c : IsFinished (before ++ Claims number task ∷ []) number). ⊎_elim (λ h. is.2 h) (λ e. apart_finishes e) (Contains-push_cases before (Claims number task) (Finishes number) c))
+    subst (λ (s : Status). IsStatusBy (before ++ Claims number task ∷ []) number s) (sym f) (
+      kept_in before (Claims number task) (Adds number task) is.0,
+      Contains-push before (Claims number task),
+      λ (c : IsFinished (before ++ Claims number task ∷ []) number). ⊎_elim (λ h. is.2 h) (λ e. apart_finishes e) (Contains-push_cases before (Claims number task) (Finishes number) c),
+    )
   where
     apart_finishes : Claims number task ≡ Finishes number → ⊥
     apart_finishes e = cc
