@@ -1,5 +1,5 @@
 -- What a commit under a guard comes to.
-use Rattle.std.proofs.Common.{◌≡◌, ◌≢◌, ◌⊎◌, ◌<◌, ◌≤◌, ◌+◌, ◌^◌, ℕ, zero, suc, Bool, true, false, true≢false, List, [], ◌∷◌, ◌++◌, Option, Some, None, Result, Ok, Err, inl, inr, ⊎_elim, refl, ap, sym, subst, ◌∙◌, arith, length}
+use Rattle.std.proofs.Common.{◌≡◌, ◌≢◌, ◌<◌, ◌+◌, ◌^◌, ℕ, zero, suc, Bool, true, false, true≢false, List, [], ◌∷◌, ◌++◌, Option, Some, None, Result, Ok, Err, inl, inr, refl, ap, sym, subst, ◌∙◌}
 use Rattle.std.specs.Prelude.{IfErr, MatchResult, IsTrue, is_some, not, nat_lt, ◌==◌}
 use Rattle.std.specs.FinMap as finite
 use Rattle.lsm_codec.specs.Guards.{Condition, is_met, is_same_value}
@@ -7,10 +7,10 @@ use Rattle.lsm_codec.specs.Keys.{Bytes}
 use Rattle.lsm_codec.specs.Map.{Map, Operation, apply}
 use Rattle.lsm_codec.proofs.KeyOrder.{same_key}
 use Rattle.lsm_device.specs.declared.refusal.Refusal.{Refusal}
-use Rattle.lsm_device.specs.declared.refusal.Refusal.TheVariants.{Io, LogFull, NoSpace, Stopped, TooManyGuards, Exhausted, GuardFailed}
+use Rattle.lsm_device.specs.declared.refusal.Refusal.TheVariants.{Io, LogFull, Stopped, TooManyGuards, Exhausted, GuardFailed}
 use Rattle.lsm_open.specs.CrashState.{last_number}
 use Rattle.lsm_store.specs.Backing.{StoreView, IsBacked}
-use Rattle.lsm_store.specs.Calls.{Call, Reply, Commit, CommitIf, Sync, SyncTo, Get, Scan, Snapshot, Release, Rotate, LogRoom, Number, Done, Value, Rows, Given, Handed, Refused, Unread}
+use Rattle.lsm_store.specs.Calls.{Call, Reply, CommitIf, Get, Scan, Number, Done, Value, Rows, Given, Handed, Refused, Unread}
 use Rattle.lsm_store.specs.Effects.{reply_by}
 use Rattle.lsm_store.specs.Machine.{Step, Called, Worked}
 use Rattle.lsm_store.specs.RecoveryPoints.{batch_count, last_map, present_map}
@@ -19,13 +19,13 @@ use Rattle.lsm_store.specs.Run.{next}
 use Rattle.lsm_store.specs.Serving.{Serves, reply_in}
 use Rattle.lsm_store.specs.State.{State, fits}
 use Rattle.lsm_store.specs.Working.{ServesStep}
-use Rattle.lsm_store.specs.declared.asked.At.TheVariants.{Now, Snap}
+use Rattle.lsm_store.specs.declared.asked.At.TheVariants.{Now}
 use Rattle.lsm_store.proofs.Unrefused.{none_taken}
 use Rattle.lsm_upkeep.specs.Steps.{UpkeepSteps, IsUpkept}
 use Rattle.lsm_upkeep.specs.Writing.{EndsWith, Writes, without_log_full}
-use Rattle.work_queue.specs.Tasks.{IsQueue, Waiting, Claimed, claimed_key, last_key, number_of, status, waiting_key}
+use Rattle.work_queue.specs.Tasks.{IsQueue, Claimed, claimed_key, last_key, number_of, status, waiting_key}
 use Rattle.work_queue.specs.Deeds.{Adds, Claims, Deed, Does, Finishes, MayBeDone, batch_of}
-use Rattle.work_queue.specs.Committing.{Asks, Commits, CommitsUnder, HasCommitted, HasCommittedUnder, HoldsQueue, IsQuestion, IsRefused, IsRefusedUnder, map_in}
+use Rattle.work_queue.specs.Committing.{Asks, CommitsUnder, HasCommitted, HasCommittedUnder, HoldsQueue, IsQuestion, IsRefused, IsRefusedUnder, map_in}
 use Rattle.work_queue.proofs.Doing.{claimed, claimed_by_row, does, is_claimed, is_waiting, waits_by_row}
 
 -- ---- guards

@@ -1,12 +1,11 @@
 -- What one deed makes of a queue.
-use Rattle.std.proofs.Common.{◌≡◌, ◌≢◌, ◌⊎◌, ◌<◌, ◌≤◌, ◌+◌, ◌^◌, ◌&&◌, ℕ, Bool, true, false, List, [], ◌∷◌, Option, Some, None, inl, inr, ⊎_elim, refl, ap, sym, subst, ◌∙◌, arith}
+use Rattle.std.proofs.Common.{◌≡◌, ◌≢◌, ◌⊎◌, ◌<◌, ◌≤◌, ◌+◌, ◌^◌, ◌&&◌, ℕ, Bool, true, false, Option, Some, None, inl, inr, ⊎_elim, refl, ap, sym, subst, ◌∙◌, arith}
 use Rattle.std.specs.Prelude.{nat_le, IsSome, IsNone, is_some}
 use Rattle.std.proofs.lemmas.Bool.{cases_lt}
 use Rattle.std.specs.FinMap as finite
-use Rattle.std.specs.FinMap.{get-empty}
-use Rattle.lsm_codec.specs.Keys.{Bytes, byte_order}
+use Rattle.lsm_codec.specs.Keys.{Bytes}
 use Rattle.lsm_codec.specs.Map.{Map, apply}
-use Rattle.work_queue.specs.Tasks.{Status, NotGiven, Waiting, Claimed, Finished, IsLastRow, IsQueue, IsTaskKey, is_given, last_given, last_key, number_bytes, number_of, claimed_key, status, status_by, waiting_key}
+use Rattle.work_queue.specs.Tasks.{NotGiven, Waiting, Claimed, Finished, IsLastRow, IsQueue, IsTaskKey, is_given, last_given, last_key, number_bytes, number_of, claimed_key, status, status_by, waiting_key}
 use Rattle.work_queue.specs.Deeds.{Deed, Adds, Claims, Finishes, Does, MayBeDone, batch_of}
 use Rattle.work_queue.proofs.Keys.{bytes_back, same_waiting, same_claimed, waiting_not_last, claimed_not_last, waiting_not_claimed, claimed_not_waiting, claimed_with_waiting, waiting_with_claimed, same_or_other, got_put, got_put_other, got_deleted, got_deleted_other}
 

@@ -1,14 +1,14 @@
 -- The first of the rows of tasks that wait is that of the lowest number.
-use Rattle.std.proofs.Common.{◌≡◌, ◌≢◌, ◌⊎◌, ◌<◌, ◌≤◌, ◌+◌, ◌*◌, ◌/◌, ◌^◌, ◌%◌, ◌&&◌, ◌||◌, ℕ, zero, suc, Bool, true, false, true≢false, cond, List, [], ◌∷◌, length, take, filter, Option, Some, None, inl, inr, ⊎_elim, refl, ap, sym, subst, ◌∙◌, arith}
+use Rattle.std.proofs.Common.{◌≡◌, ◌⊎◌, ◌<◌, ◌≤◌, ◌+◌, ◌*◌, ◌/◌, ◌^◌, ◌%◌, ◌&&◌, ℕ, zero, suc, Bool, true, false, true≢false, cond, List, [], ◌∷◌, length, take, filter, Option, Some, None, inl, inr, ⊎_elim, refl, ap, sym, subst, ◌∙◌, arith}
 use Rattle.std.specs.Prelude.{slice_index, drop, T, is_some}
 use Rattle.std.proofs.Math.Nat.{mul-le-mul_right, add-mul}
-use Rattle.std.proofs.lemmas.Cmp.{nat_list_cmp_total, ranked}
+use Rattle.std.proofs.lemmas.Cmp.{ranked}
 use Rattle.std.specs.Cmp.Lexicographic.{slice_cmp}
 use Rattle.std.specs.FinMap as finite
 use Rattle.std.specs.FinMap.{find, is_sorted, get-entries, entries_sorted}
 use Rattle.std.specs.FinMap.Entries.{below_all}
-use Rattle.std.specs.Int.{byte_at, bytes_high_first}
-use Rattle.std.specs.Ordering.{eq_by_cmp, is_eq, is_le, is_lt, nat_cmp, ordering_then}
+use Rattle.std.specs.Int.{bytes_high_first}
+use Rattle.std.specs.Ordering.{eq_by_cmp, is_le, is_lt, nat_cmp, ordering_then}
 use Rattle.std.specs.declared.cmp.Ordering.{Ordering}
 use Rattle.std.specs.declared.cmp.Ordering.TheVariants.{Less, Equal, Greater}
 use Rattle.byteorder.specs.Endian.{big_from}
@@ -19,7 +19,7 @@ use Rattle.lsm_codec.proofs.KeyOrder.{same_key, key_itself, is_lt_Less}
 use Rattle.lsm_codec.proofs.Numbers.{byte_at-pow}
 use Rattle.lsm_device.specs.declared.refusal.Refusal.{Refusal}
 use Rattle.lsm_mem.specs.Paging.{Page, is_before, page_of, pairs_in}
-use Rattle.lsm_store.specs.Backing.{StoreView, IsBacked}
+use Rattle.lsm_store.specs.Backing.{StoreView}
 use Rattle.lsm_store.specs.Calls.{Reply, Rows, Scan}
 use Rattle.lsm_store.specs.Effects.{reply_by}
 use Rattle.lsm_store.specs.Refusals.{full_refusal}
@@ -30,7 +30,7 @@ use Rattle.lsm_store.specs.declared.asked.At.TheVariants.{Now}
 use Rattle.work_queue.specs.Committing.{HoldsQueue, IsFirstOf, map_in}
 use Rattle.work_queue.specs.Tasks.{IsQueue, IsTaskKey, Waiting, claimed_key, first_task, last_given, last_key, number_bytes, number_in, status, waiting_key}
 use Rattle.work_queue.proofs.Doing.{last_small, waits}
-use Rattle.work_queue.proofs.Keys.{bytes_back, same_rest, same_waiting}
+use Rattle.work_queue.proofs.Keys.{bytes_back, same_waiting}
 
 -- ---- the order of keys is that of numbers
 

@@ -1,6 +1,6 @@
 -- What deeds one after another make of a queue.
-use Rattle.std.proofs.Common.{◌≡◌, ◌≢◌, ◌⊎◌, ◌<◌, ◌≤◌, ◌+◌, ℕ, zero, suc, Bool, true, false, List, [], ◌∷◌, ◌++◌, map, length, take, drop, Option, Some, None, inl, inr, ⊎_elim, append_assoc, append-nil, refl, ap, sym, subst, ◌∙◌, arith}
-use Rattle.std.specs.Prelude.{Contains, slice_get, is_some, IsSome, IsNone}
+use Rattle.std.proofs.Common.{◌≡◌, ◌≢◌, ◌⊎◌, ◌≤◌, ℕ, zero, suc, true, false, List, [], ◌∷◌, ◌++◌, map, take, drop, Option, Some, None, inl, inr, ⊎_elim, append_assoc, append-nil, refl, ap, sym, subst, ◌∙◌, arith}
+use Rattle.std.specs.Prelude.{Contains, slice_get, is_some, IsSome}
 use Rattle.std.proofs.lemmas.List.{length-map, take-map, take-append-drop}
 use Rattle.std.proofs.lemmas.List.Elements.{Contains-append_left, Contains-push, Contains-push_cases}
 use Rattle.std.proofs.lemmas.Bool.{cases_lt}
@@ -10,7 +10,7 @@ use Rattle.lsm_codec.specs.Keys.{Bytes, byte_order}
 use Rattle.lsm_codec.specs.Map.{Map, Operation, apply, apply_all}
 use Rattle.lsm_open.specs.CrashState.{CrashState}
 use Rattle.lsm_store.specs.Lives.{IsAfter, IsPrefixFrom}
-use Rattle.work_queue.specs.Tasks.{Status, NotGiven, Waiting, Claimed, Finished, IsQueue, last_key, last_given, number_of, status}
+use Rattle.work_queue.specs.Tasks.{Status, NotGiven, Waiting, Claimed, Finished, IsQueue, last_key, number_of, status}
 use Rattle.work_queue.specs.Deeds.{Deed, Adds, Claims, Finishes, AreDone, Does, GoesOn, IsAdded, IsClaimed, IsFinished, IsStatusBy, MayBeDone, Moves, Tells, TellsBeginning, batch_of, map_after, task_of}
 use Rattle.work_queue.proofs.Doing.{does, reads, not_given}
 

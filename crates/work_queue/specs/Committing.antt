@@ -1,5 +1,5 @@
 -- What a call of a queue does to its store.
-use Rattle.std.specs.Prelude.{◌≡◌, ◌⊎◌, ◌+◌, ◌<◌, ◌≤◌, ◌≢◌, ◌^◌, ℕ, Bool, true, false, IsTrue, List, [], ◌∷◌, Option, Some, None}
+use Rattle.std.specs.Prelude.{◌≡◌, ◌⊎◌, ◌+◌, ◌≤◌, ◌≢◌, ℕ, Bool, true, false, IsTrue, [], ◌∷◌, Option, Some, None}
 use Rattle.lsm_codec.specs.Guards.{Condition, is_met}
 use Rattle.lsm_codec.specs.Keys.{Bytes}
 use Rattle.lsm_codec.specs.Map.{Map}
