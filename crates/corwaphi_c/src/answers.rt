@@ -1,5 +1,10 @@
 // Answers as numbers and bytes.
 
+ghost use Rattle.std.specs.Prelude.{◌≡◌, ◌⊎◌, ◌<◌, length, take};
+ghost use Rattle.lsm_device.specs.Refusals.{number_of};
+ghost use Rattle.lsm_store.specs.Calls.{Done, Number, reply_of};
+ghost use Rattle.corwaphi_c.specs.Calls.{IsDone, IsNumber, at_of};
+
 use lsm_device::Refusal;
 use lsm_store::{At, Page};
 
@@ -15,18 +20,24 @@ pub(crate) const BAD_TEXT: u32 = 34;
 pub(crate) const WORK_FIRST: u32 = 64;
 
 /// The number of a refusal.
-pub(crate) fn code(refusal: Refusal) -> u32 {
+pub(crate) fn code(refusal: Refusal) -> u32
+    ensures { result ≡ number_of refusal }
+{
     u32::from(refusal.number())
 }
 
-pub(crate) fn done(reply: Result<(), Refusal>) -> u32 {
+pub(crate) fn done(reply: Result<(), Refusal>) -> u32
+    ensures { IsDone (reply_of (λ _. Done) reply) result }
+{
     match reply {
         Ok(()) => OK,
         Err(refusal) => code(refusal),
     }
 }
 
-pub(crate) fn number(reply: Result<u64, Refusal>, out: &mut u64) -> u32 {
+pub(crate) fn number(reply: Result<u64, Refusal>, out: &mut u64) -> u32
+    ensures { IsNumber (reply_of Number reply) result out.new }
+{
     match reply {
         Ok(number) => {
             *out = number;
@@ -37,7 +48,9 @@ pub(crate) fn number(reply: Result<u64, Refusal>, out: &mut u64) -> u32 {
 }
 
 /// The map that a number names: the present one by the last number of 64 bits, and else that of a snapshot.
-pub(crate) fn at(snapshot: u64) -> At {
+pub(crate) fn at(snapshot: u64) -> At
+    ensures { result ≡ at_of snapshot }
+{
     if snapshot == u64::MAX {
         At::Now
     } else {
@@ -46,9 +59,12 @@ pub(crate) fn at(snapshot: u64) -> At {
 }
 
 /// Copies bytes, where the room has place for them. The length is theirs either way.
-pub(crate) fn copy(bytes: &[u8], room: &mut [u8], length: &mut usize) -> u32 {
+pub(crate) fn copy(bytes: &[u8], room: &mut [u8], size: &mut usize) -> u32
+    ensures size { size.new ≡ length bytes.now }
+    ensures copied { ((result ≡ 0) × (take (length bytes.now) room.new ≡ bytes.now)) ⊎ ((result ≡ 33) × (length room.new < length bytes.now)) }
+{
     let count = bytes.len();
-    *length = count;
+    *size = count;
     if count > room.len() {
         return SHORT_BUFFER;
     }

@@ -1,5 +1,9 @@
 // What a handle of C's leads to.
 
+ghost use Rattle.std.specs.Prelude.{◌≡◌, None, Some};
+ghost use Rattle.lsm_store.specs.Backing.{StoreView};
+ghost use Rattle.corwaphi_c.specs.Calls.{IsMoved};
+
 use crate::pieces::Upkeep;
 use lsm_mapped::{MappedDevice, ParkedDevice};
 use lsm_store::Store;
@@ -20,7 +24,10 @@ impl Kept {
         &mut self,
         image: &'a [u8],
         journal: &'a mut [u8],
-    ) -> Option<Store<MappedDevice<'a>>> {
+    ) -> Option<Store<MappedDevice<'a>>>
+        ensures none { self.old.store ≡ None → result ≡ None }
+        ensures lent { (s : StoreView) → self.old.store ≡ Some s → (lent : StoreView) × IsMoved s lent × (result ≡ Some lent) }
+    {
         let store = self.store.take()?;
         let mapped = MappedDevice::new(image, journal, store.sectors());
         let (store, _) = store.on(mapped);
@@ -28,7 +35,9 @@ impl Kept {
     }
 
     /// Keeps a store, and answers how many bytes of the journal its call filled.
-    pub(crate) fn park(&mut self, store: Store<MappedDevice<'_>>) -> usize {
+    pub(crate) fn park(&mut self, store: Store<MappedDevice<'_>>) -> usize
+        ensures { (parked : StoreView) × IsMoved store.entry parked × (self.new.store ≡ Some parked) }
+    {
         let parked = ParkedDevice::new(store.sectors());
         let (store, mapped) = store.on(parked);
         self.store = Some(store);

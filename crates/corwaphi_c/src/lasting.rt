@@ -1,9 +1,15 @@
 //! Batches are made durable.
 
+ghost use Rattle.std.specs.Prelude.{◌≡◌, ◌≤◌, Option, Some, None, length};
+ghost use Rattle.lsm_store.specs.Backing.{StoreView};
+ghost use Rattle.lsm_store.specs.Calls.{Call, Sync, SyncTo};
+ghost use Rattle.corwaphi_c.specs.Calls.{Answers, IsDone, IsMade, Makes, sync_of};
+
 use crate::answers::{code, done};
 use crate::handle::{Handle, Slot};
 use crate::kept::{JOURNAL_BYTES, Kept};
-use lsm_device::Refusal;
+use lsm_device::{Device, Refusal};
+use lsm_store::Store;
 
 /// Makes all batches durable, once the journal is made. It is refused with Stopped.
 #[unsafe(no_mangle)]
@@ -13,7 +19,9 @@ pub extern "C" fn corwaphi_store_sync(
     image: &[u8],
     journal: &mut [u8],
     used: &mut usize,
-) -> u32 {
+) -> u32
+    ensures { 65664 ≤ length journal.old → Makes (Answers Sync (λ reply. IsDone reply result)) handle.value.store }
+{
     let mut kept = handle.into_box();
     let answer = make(&mut kept, image, journal, used, None);
     slot.put(kept);
@@ -30,7 +38,9 @@ pub extern "C" fn corwaphi_store_sync_to(
     journal: &mut [u8],
     used: &mut usize,
     number: u64,
-) -> u32 {
+) -> u32
+    ensures { 65664 ≤ length journal.old → Makes (Answers (SyncTo number) (λ reply. IsDone reply result)) handle.value.store }
+{
     let mut kept = handle.into_box();
     let answer = make(&mut kept, image, journal, used, Some(number));
     slot.put(kept);
@@ -44,7 +54,9 @@ fn make(
     journal: &mut [u8],
     used: &mut usize,
     last: Option<u64>,
-) -> u32 {
+) -> u32
+    ensures { (s : StoreView) → kept.old.store ≡ Some s → 65664 ≤ length journal.old → IsMade (Answers (sync_of last) (λ reply. IsDone reply result)) s kept.new.store }
+{
     *used = 0;
     if journal.len() < JOURNAL_BYTES {
         return code(Refusal::BadLimit);
@@ -52,10 +64,16 @@ fn make(
     let Some(mut store) = kept.lend(image, journal) else {
         return code(Refusal::Stopped);
     };
-    let reply = match last {
-        Some(number) => store.sync_to(number),
-        None => store.sync(),
-    };
+    let answer = sync(&mut store, last);
     *used = kept.park(store);
-    done(reply)
+    answer
+}
+
+fn sync<D: Device>(store: &mut Store<D>, last: Option<u64>) -> u32
+    ensures { Answers (sync_of last) (λ reply. IsDone reply result) store.old store.new }
+{
+    match last {
+        Some(number) => done(store.sync_to(number)),
+        None => done(store.sync()),
+    }
 }

@@ -1,7 +1,13 @@
 // What is done to a store between the writes of its host, piece by piece.
 
+ghost use Rattle.std.specs.Prelude.{◌≡◌, true};
+ghost use Rattle.lsm_upkeep.specs.Steps.{IsUpkept};
+ghost use Rattle.lsm_upkeep.specs.Writing.{wants_room};
+ghost use Rattle.lsm_upkeep.specs.declared.readying.Verdict.TheVariants.{Refuse};
+
 use lsm_codec::{Batch, Key};
 use lsm_device::{Device, Refusal};
+use lsm_levels::Choice;
 use lsm_store::{Store, TakenJob};
 use lsm_upkeep::{
     AdmitState, Attempt, Goal, PieceDone, Plan, Verdict, Way, Went, do_piece, next_step,
@@ -59,7 +65,9 @@ impl Upkeep {
     }
 
     /// What is to be done with a batch. Where a goal is to be reached before, it is from now on.
-    pub(crate) fn admit<D: Device>(&mut self, store: &Store<D>, batch: &Batch) -> Verdict {
+    pub(crate) fn admit<D: Device>(&mut self, store: &Store<D>, batch: &Batch) -> Verdict
+        ensures { result ≡ Refuse → wants_room batch.now store.now.state ≡ true }
+    {
         let verdict = self.admit.next(store, batch);
         match verdict {
             Verdict::After(goal) => self.turn_to(goal),
@@ -73,7 +81,9 @@ impl Upkeep {
         &mut self,
         alloc: Global,
         store: &mut Store<D>,
-    ) -> Result<Did, Refusal> {
+    ) -> Result<Did, Refusal>
+        ensures { IsUpkept store.old store.new }
+    {
         store.stat()?;
         match do_piece(alloc, store, &mut self.divisions) {
             PieceDone::NoJob => Ok(self.attempt(alloc, store)),
@@ -90,33 +100,63 @@ impl Upkeep {
     }
 
     // Makes the next attempt. If that is a job it goes on in the next pieces.
-    fn attempt<D: Device>(&mut self, alloc: Global, store: &mut Store<D>) -> Did {
+    fn attempt<D: Device>(&mut self, alloc: Global, store: &mut Store<D>) -> Did
+        ensures { IsUpkept store.old store.new }
+    {
         let Some(attempt) = self.plan.next(store, self.went) else {
             return Did::Nothing;
         };
         self.divisions = None;
-        self.went = match attempt {
-            Attempt::NextJob => begun(store.job_take()),
-            Attempt::Step(way) => self.begin_step(alloc, store, way),
-            Attempt::Rotate => {
-                let _ = store.rotate();
-                Went::On
-            }
-        };
+        self.went = self.begin(alloc, store, attempt);
         Did::Piece
     }
 
-    fn begin_step<D: Device>(&mut self, alloc: Global, store: &mut Store<D>, way: Way) -> Went {
+    fn begin<D: Device>(&mut self, alloc: Global, store: &mut Store<D>, attempt: Attempt) -> Went
+        ensures { IsUpkept store.old store.new }
+    {
+        match attempt {
+            Attempt::NextJob => begin_next(store),
+            Attempt::Step(way) => self.begin_step(alloc, store, way),
+            Attempt::Rotate => rotate(store),
+        }
+    }
+
+    fn begin_step<D: Device>(&mut self, alloc: Global, store: &mut Store<D>, way: Way) -> Went
+        ensures { IsUpkept store.old store.new }
+    {
         match next_step(alloc, store, way) {
             Ok(Some(step)) => {
-                let went = begun(store.job_take_of(step.choice));
                 self.divisions = Some(step.divisions);
-                went
+                begin_chosen(store, step.choice)
             }
             Ok(None) => Went::ToTheEnd,
             Err(_) => Went::Nowhere,
         }
     }
+}
+
+// Opens another log.
+fn rotate<D: Device>(store: &mut Store<D>) -> Went
+    ensures { IsUpkept store.old store.new }
+{
+    let _ = store.rotate();
+    Went::On
+}
+
+// Takes the job that comes next.
+fn begin_next<D: Device>(store: &mut Store<D>) -> Went
+    ensures { IsUpkept store.old store.new }
+{
+    let taken = store.job_take();
+    begun(taken)
+}
+
+// Takes the job of a choice.
+fn begin_chosen<D: Device>(store: &mut Store<D>, choice: Choice) -> Went
+    ensures { IsUpkept store.old store.new }
+{
+    let taken = store.job_take_of(choice);
+    begun(taken)
 }
 
 // How an attempt goes whose job was taken or not.

@@ -1,10 +1,15 @@
 //! Values and rows are read, now or at a snapshot. That writes nothing.
 
+ghost use Rattle.std.specs.Prelude.{◌≡◌, Some};
+ghost use Rattle.lsm_store.specs.Backing.{StoreView};
+ghost use Rattle.lsm_store.specs.Calls.{Get, Snapshot, Release};
+ghost use Rattle.corwaphi_c.specs.Calls.{Answers, IsDone, IsMade, IsNumber, IsValue, Makes, at_of};
+
 use crate::answers::{NO_VALUE, PageTold, at, code, copy, done, number, put_page};
 use crate::handle::{Handle, Slot};
 use crate::kept::Kept;
-use lsm_device::Refusal;
-use lsm_store::At;
+use lsm_device::{Device, Refusal};
+use lsm_store::{At, Store};
 
 /// Copies the value of a key into the room, and tells its length, also where the room is too short for it (ShortBuffer). Where the key
 /// has no value that is NoValue. The snapshot is a number, or the last of 64 bits for the present map. It is refused as `Store::get`.
@@ -16,33 +21,42 @@ pub extern "C" fn corwaphi_store_get(
     snapshot: u64,
     key: &[u8],
     room: &mut [u8],
-    length: &mut usize,
-) -> u32 {
+    size: &mut usize,
+) -> u32
+    ensures { Makes (Answers (Get (at_of snapshot) key.now) (λ reply. IsValue reply result room.new size.new)) handle.value.store }
+{
     let mut kept = handle.into_box();
-    let answer = get(&mut kept, image, at(snapshot), key, room, length);
+    let answer = get(&mut kept, image, at(snapshot), key, room, size);
     slot.put(kept);
     answer
 }
 
-fn get(
-    kept: &mut Kept,
-    image: &[u8],
-    at: At,
-    key: &[u8],
-    room: &mut [u8],
-    length: &mut usize,
-) -> u32 {
+fn get(kept: &mut Kept, image: &[u8], at: At, key: &[u8], room: &mut [u8], size: &mut usize) -> u32
+    ensures { (s : StoreView) → kept.old.store ≡ Some s → IsMade (Answers (Get at key.now) (λ reply. IsValue reply result room.new size.new)) s kept.new.store }
+{
     let mut journal = [0; 8];
     let Some(mut store) = kept.lend(image, &mut journal) else {
         return code(Refusal::Stopped);
     };
-    let answer = match store.get(at, key) {
-        Ok(Some(value)) => copy(&value, room, length),
-        Ok(None) => NO_VALUE,
-        Err(refusal) => code(refusal),
-    };
+    let answer = get_in(&mut store, at, key, room, size);
     kept.park(store);
     answer
+}
+
+fn get_in<D: Device>(
+    store: &mut Store<D>,
+    at: At,
+    key: &[u8],
+    room: &mut [u8],
+    size: &mut usize,
+) -> u32
+    ensures { Answers (Get at key.now) (λ reply. IsValue reply result room.new size.new) store.old store.new }
+{
+    match store.get(at, key) {
+        Ok(Some(value)) => copy(&value, room, size),
+        Ok(None) => NO_VALUE,
+        Err(refusal) => code(refusal),
+    }
 }
 
 /// Copies the first rows from a key on, up to another one where that is given, into the room, and tells of them. With ShortBuffer the
@@ -80,24 +94,40 @@ pub extern "C" fn corwaphi_store_rows(
 
 /// Takes a snapshot of the present map, and tells its number. It is refused as `Store::snapshot`.
 #[unsafe(no_mangle)]
-pub extern "C" fn corwaphi_store_snapshot(handle: Handle, slot: &mut Slot, out: &mut u64) -> u32 {
+pub extern "C" fn corwaphi_store_snapshot(handle: Handle, slot: &mut Slot, out: &mut u64) -> u32
+    ensures { (s : StoreView) → handle.value.store ≡ Some s → (left : StoreView) × Answers Snapshot (λ reply. IsNumber reply result out.new) s left }
+{
     let mut kept = handle.into_box();
-    let answer = match &mut kept.store {
-        Some(store) => number(store.snapshot(), out),
-        None => code(Refusal::Stopped),
-    };
+    let answer = take_snapshot(&mut kept, out);
     slot.put(kept);
     answer
 }
 
+fn take_snapshot(kept: &mut Kept, out: &mut u64) -> u32
+    ensures { (s : StoreView) → kept.old.store ≡ Some s → (left : StoreView) × Answers Snapshot (λ reply. IsNumber reply result out.new) s left }
+{
+    match &mut kept.store {
+        Some(store) => number(store.snapshot(), out),
+        None => code(Refusal::Stopped),
+    }
+}
+
 /// Forgets a snapshot. It is refused as `Store::release`.
 #[unsafe(no_mangle)]
-pub extern "C" fn corwaphi_store_release(handle: Handle, slot: &mut Slot, snapshot: u64) -> u32 {
+pub extern "C" fn corwaphi_store_release(handle: Handle, slot: &mut Slot, snapshot: u64) -> u32
+    ensures { (s : StoreView) → handle.value.store ≡ Some s → (left : StoreView) × Answers (Release snapshot) (λ reply. IsDone reply result) s left }
+{
     let mut kept = handle.into_box();
-    let answer = match &mut kept.store {
-        Some(store) => done(store.release(snapshot)),
-        None => code(Refusal::Stopped),
-    };
+    let answer = release(&mut kept, snapshot);
     slot.put(kept);
     answer
+}
+
+fn release(kept: &mut Kept, snapshot: u64) -> u32
+    ensures { (s : StoreView) → kept.old.store ≡ Some s → (left : StoreView) × Answers (Release snapshot) (λ reply. IsDone reply result) s left }
+{
+    match &mut kept.store {
+        Some(store) => done(store.release(snapshot)),
+        None => code(Refusal::Stopped),
+    }
 }

@@ -1,5 +1,10 @@
 //! Flushes and merges, piece by piece. A piece only reads or only writes, so that none reads what it wrote.
 
+ghost use Rattle.std.specs.Prelude.{◌≡◌, ◌≤◌, Some, length};
+ghost use Rattle.lsm_store.specs.Backing.{StoreView};
+ghost use Rattle.lsm_upkeep.specs.Steps.{IsUpkept};
+ghost use Rattle.corwaphi_c.specs.Calls.{IsMade, Makes};
+
 use crate::answers::{OK, code};
 use crate::handle::{Handle, Slot};
 use crate::kept::{JOURNAL_BYTES, Kept};
@@ -21,7 +26,9 @@ pub extern "C" fn corwaphi_store_work(
     journal: &mut [u8],
     used: &mut usize,
     did: &mut u32,
-) -> u32 {
+) -> u32
+    ensures { 65664 ≤ length journal.old → Makes IsUpkept handle.value.store }
+{
     let mut kept = handle.into_box();
     let answer = work(alloc, &mut kept, image, journal, Told { used, did });
     slot.put(kept);
@@ -35,7 +42,9 @@ struct Told<'a> {
     did: &'a mut u32,
 }
 
-fn work(alloc: Global, kept: &mut Kept, image: &[u8], journal: &mut [u8], told: Told<'_>) -> u32 {
+fn work(alloc: Global, kept: &mut Kept, image: &[u8], journal: &mut [u8], told: Told<'_>) -> u32
+    ensures { (s : StoreView) → kept.old.store ≡ Some s → 65664 ≤ length journal.old → IsMade IsUpkept s kept.new.store }
+{
     *told.used = 0;
     *told.did = 0;
     if journal.len() < JOURNAL_BYTES {

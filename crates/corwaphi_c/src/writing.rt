@@ -6,11 +6,18 @@
 //! they find none though all tables were brought down as far as they go; and one of deletes is so only while a snapshot is live. That
 //! the log is full is never told: where no log could be opened that has room, that is NoSpace too.
 
+ghost use Rattle.std.specs.Prelude.{◌≡◌, ◌≤◌, ℕ, Some, None, length};
+ghost use Rattle.lsm_codec.specs.Answers.{key_refusal, or_then, value_refusal};
+ghost use Rattle.lsm_store.specs.Backing.{StoreView};
+ghost use Rattle.corwaphi_c.specs.Calls.{Commits, CommitsOne, CommitsOneIn, IsMade};
+
 use crate::answers::{BAD_TEXT, OK, WORK_FIRST, code, number};
 use crate::handle::{Handle, Slot};
 use crate::kept::{JOURNAL_BYTES, Kept};
+use crate::pieces::Upkeep;
 use lsm_codec::{Batch, Guard, Op};
-use lsm_device::Refusal;
+use lsm_device::{Device, Refusal};
+use lsm_store::Store;
 use lsm_upkeep::{Verdict, without_log_full};
 use std::alloc::Global;
 
@@ -26,15 +33,32 @@ pub extern "C" fn corwaphi_store_put(
     key: &[u8],
     value: &[u8],
     number: &mut u64,
-) -> u32 {
+) -> u32
+    ensures { 65664 ≤ length journal.old → CommitsOne (or_then (key_refusal key.now) (value_refusal value.now)) (record { key = key.now; value = Some value.now }) result number.new handle.value.store }
+{
     let mut kept = handle.into_box();
     *used = 0;
-    let answer = match of_one(alloc, Op::put(alloc, key, value)) {
-        Ok(batch) => commit(&mut kept, image, journal, used, &batch, number),
-        Err(refusal) => code(refusal),
-    };
+    let answer = put(alloc, &mut kept, image, journal, used, key, value, number);
     slot.put(kept);
     answer
+}
+
+fn put(
+    alloc: Global,
+    kept: &mut Kept,
+    image: &[u8],
+    journal: &mut [u8],
+    used: &mut usize,
+    key: &[u8],
+    value: &[u8],
+    number: &mut u64,
+) -> u32
+    ensures { (s : StoreView) → kept.old.store ≡ Some s → 65664 ≤ length journal.old → CommitsOneIn (or_then (key_refusal key.now) (value_refusal value.now)) (record { key = key.now; value = Some value.now }) result number.new s kept.new.store }
+{
+    match Op::put(alloc, key, value) {
+        Ok(operation) => commit_one(alloc, kept, image, journal, used, operation, number),
+        Err(refusal) => code(refusal),
+    }
 }
 
 /// Deletes a key. It is refused with BadKey, and as a commit of the store.
@@ -48,22 +72,48 @@ pub extern "C" fn corwaphi_store_delete(
     used: &mut usize,
     key: &[u8],
     number: &mut u64,
-) -> u32 {
+) -> u32
+    ensures { 65664 ≤ length journal.old → CommitsOne (key_refusal key.now) (record { key = key.now; value = None }) result number.new handle.value.store }
+{
     let mut kept = handle.into_box();
     *used = 0;
-    let answer = match of_one(alloc, Op::delete(alloc, key)) {
-        Ok(batch) => commit(&mut kept, image, journal, used, &batch, number),
-        Err(refusal) => code(refusal),
-    };
+    let answer = delete(alloc, &mut kept, image, journal, used, key, number);
     slot.put(kept);
     answer
 }
 
-// The batch of one operation.
-fn of_one(alloc: Global, operation: Result<Op, Refusal>) -> Result<Batch, Refusal> {
-    match operation {
-        Ok(operation) => Batch::new(alloc, operation),
-        Err(refusal) => Err(refusal),
+fn delete(
+    alloc: Global,
+    kept: &mut Kept,
+    image: &[u8],
+    journal: &mut [u8],
+    used: &mut usize,
+    key: &[u8],
+    number: &mut u64,
+) -> u32
+    ensures { (s : StoreView) → kept.old.store ≡ Some s → 65664 ≤ length journal.old → CommitsOneIn (key_refusal key.now) (record { key = key.now; value = None }) result number.new s kept.new.store }
+{
+    match Op::delete(alloc, key) {
+        Ok(operation) => commit_one(alloc, kept, image, journal, used, operation, number),
+        Err(refusal) => code(refusal),
+    }
+}
+
+// Commits the batch of one operation.
+fn commit_one(
+    alloc: Global,
+    kept: &mut Kept,
+    image: &[u8],
+    journal: &mut [u8],
+    used: &mut usize,
+    operation: Op,
+    number: &mut u64,
+) -> u32
+    ensures { (s : StoreView) → kept.old.store ≡ Some s → 65664 ≤ length journal.old → CommitsOneIn None operation result number.new s kept.new.store }
+{
+    match Batch::new(alloc, operation) {
+        Ok(batch) => commit(kept, image, journal, used, &batch, number),
+        Err(refusal) => code(refusal),
     }
 }
 
@@ -106,20 +156,34 @@ fn commit(
     used: &mut usize,
     batch: &Batch,
     out: &mut u64,
-) -> u32 {
+) -> u32
+    ensures { (s : StoreView) → kept.old.store ≡ Some s → 65664 ≤ length journal.old → IsMade (Commits None batch.now result out.new) s kept.new.store }
+{
     if journal.len() < JOURNAL_BYTES {
         return code(Refusal::BadLimit);
     }
     let Some(mut store) = kept.lend(image, journal) else {
         return code(Refusal::Stopped);
     };
-    let answer = match kept.upkeep.admit(&store, batch) {
+    let answer = commit_in(&mut store, &mut kept.upkeep, batch, out);
+    *used = kept.park(store);
+    answer
+}
+
+// Commits a batch that is admitted.
+fn commit_in<D: Device>(
+    store: &mut Store<D>,
+    upkeep: &mut Upkeep,
+    batch: &Batch,
+    out: &mut u64,
+) -> u32
+    ensures { Commits None batch.now result out.new store.old store.new }
+{
+    match upkeep.admit(store, batch) {
         Verdict::Commit => number(without_log_full(store.commit(batch)), out),
         Verdict::Refuse => code(Refusal::NoSpace),
         Verdict::After(_) => WORK_FIRST,
-    };
-    *used = kept.park(store);
-    answer
+    }
 }
 
 /// Writes a batch where the present map meets guards, which are given as the text of a batch too, or as no bytes where there are none:
@@ -184,24 +248,45 @@ fn commit_if(
     guards: &[Guard],
     batch: &Batch,
     told: Told<'_>,
-) -> u32 {
+) -> u32
+    ensures { (s : StoreView) → kept.old.store ≡ Some s → 65664 ≤ length journal.old → (number : ℕ) × IsMade (Commits (Some guards.now) batch.now result number) s kept.new.store }
+{
+    let Told {
+        used,
+        number,
+        place,
+    } = told;
     if journal.len() < JOURNAL_BYTES {
         return code(Refusal::BadLimit);
     }
     let Some(mut store) = kept.lend(image, journal) else {
         return code(Refusal::Stopped);
     };
-    let answer = match kept.upkeep.admit(&store, batch) {
+    let answer = commit_under(&mut store, &mut kept.upkeep, guards, batch, number, place);
+    *used = kept.park(store);
+    answer
+}
+
+// Commits a batch that is admitted, under guards.
+fn commit_under<D: Device>(
+    store: &mut Store<D>,
+    upkeep: &mut Upkeep,
+    guards: &[Guard],
+    batch: &Batch,
+    out: &mut u64,
+    place: &mut u8,
+) -> u32
+    ensures { Commits (Some guards.now) batch.now result out.new store.old store.new }
+{
+    match upkeep.admit(store, batch) {
         Verdict::Commit => {
             let reply = without_log_full(store.commit_if(guards, batch));
-            tell_place(&reply, told.place);
-            number(reply, told.number)
+            tell_place(&reply, place);
+            number(reply, out)
         }
         Verdict::Refuse => code(Refusal::NoSpace),
         Verdict::After(_) => WORK_FIRST,
-    };
-    *told.used = kept.park(store);
-    answer
+    }
 }
 
 // Tells the place of the guard by which a commit was refused, if it was.

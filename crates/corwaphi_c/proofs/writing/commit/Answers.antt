@@ -1,0 +1,7 @@
+use Rattle.std.proofs.Common.{None}
+use Rattle.corwaphi_c.specs.Calls.{Commits}
+use Rattle.corwaphi_c.proofs.Moving.{made}
+use Rattle.corwaphi_c.proofs.writing.commit.Goals as goal
+
+pub returns : goal.returns
+returns c = λ s is enough. made (Commits None c.args.batch.now c.commit_in-answer.result c.commit_in-answer.new.out) s c.in-Some.store c.commit_in-answer.new.store c.park.new.self.store (c.in-Some.ensures.lent s is) c.commit_in-answer.ensures c.park.ensures

@@ -1,0 +1,7 @@
+use Rattle.std.proofs.Common.{Some}
+use Rattle.corwaphi_c.specs.Calls.{Commits}
+use Rattle.corwaphi_c.proofs.Moving.{made}
+use Rattle.corwaphi_c.proofs.writing.commit_if.Goals as goal
+
+pub returns : goal.returns
+returns c = λ s is enough. (_, made (Commits (Some c.args.guards.now) c.args.batch.now c.commit_under-answer.result c.commit_under-answer.new.out) s c.in-Some.store c.commit_under-answer.new.store c.park.new.self.store (c.in-Some.ensures.lent s is) c.commit_under-answer.ensures c.park.ensures)
