@@ -11,8 +11,8 @@ use corwaphi::{At, Batch, Db, Device, Guard, Refusal};
 use std::alloc::Global;
 use std::marker::Model;
 
-/// A queue of tasks, which owns all rows of its store. Contracts see it as the store that it is: [`status`] says of each number what
-/// the present map tells of its task.
+/// A queue of tasks, which owns all rows of its store. Contracts see it as the store that it is, whose map tells the status of each task.
+/// A store with other rows is no queue; where a call meets one it is refused with `BadValue` or `BadKey`.
 pub struct Queue<D: Device> {
     alloc: Global,
     db: Db<D>,
