@@ -7,12 +7,12 @@ use Rattle.lsm_device.specs.declared.refusal.Refusal.{Refusal}
 use Rattle.lsm_device.specs.declared.refusal.Refusal.TheVariants.{NoMemory, Io}
 use Rattle.lsm_mem.specs.Paging.{Page, pairs_in, page_of}
 use Rattle.lsm_store.specs.Backing.{StoreView, IsBacked}
-use Rattle.lsm_store.specs.Calls.{Reply, Rows, Refused, Scan}
-use Rattle.lsm_store.specs.Effects.{reply_by}
-use Rattle.lsm_store.specs.Refusals.{full_refusal}
-use Rattle.lsm_store.specs.Run.{Allows, next}
-use Rattle.lsm_store.specs.State.{State, map_at}
-use Rattle.lsm_store.specs.declared.asked.At.{At}
+use Rattle.lsm_machine.specs.Calls.{Reply, Rows, Refused, Scan}
+use Rattle.lsm_machine.specs.Effects.{reply_by}
+use Rattle.lsm_machine.specs.Refusals.{full_refusal}
+use Rattle.lsm_machine.specs.Run.{Allows, next}
+use Rattle.lsm_machine.specs.State.{State, map_at}
+use Rattle.lsm_machine.specs.declared.asked.At.{At}
 use Rattle.corwaphi.specs.declared.row.Row.{Row}
 use Rattle.corwaphi.specs.Advancing.{Standing, ReadsPage, HasRead, IsPageRefused, IsFirst, TakesRow, TellsRow, TellsNextRow, ComesNext, AsksRow, pair_of, pairs_from, rows_to_come}
 use Rattle.corwaphi.proofs.Behind.{page_and_rest, none_behind}

@@ -4,7 +4,7 @@ use Rattle.lsm_codec.specs.Map.{Operation}
 use Rattle.lsm_device.specs.declared.refusal.Refusal.{Refusal}
 use Rattle.lsm_device.specs.declared.refusal.Refusal.TheVariants.{NoMemory}
 use Rattle.lsm_store.specs.Backing.{StoreView}
-use Rattle.lsm_store.specs.Calls.{Reply, Refused}
+use Rattle.lsm_machine.specs.Calls.{Reply, Refused}
 use Rattle.corwaphi.specs.Writing.{WritesOne}
 
 pub one-refused : (refusal : Option Refusal) (operation : Operation) (old : StoreView) (e : Refusal) → (refusal ≡ Some e) ⊎ ((refusal ≡ None) × (e ≡ NoMemory)) → WritesOne refusal operation old (Refused e) old

@@ -7,10 +7,10 @@ use Rattle.lsm_device.specs.declared.refusal.Refusal.{Refusal}
 use Rattle.lsm_device.specs.declared.refusal.Refusal.TheVariants.{NoMemory, Exhausted}
 use Rattle.lsm_mem.specs.Paging.{Page, pairs_in}
 use Rattle.lsm_store.specs.Backing.{StoreView, IsBacked}
-use Rattle.lsm_store.specs.Calls.{Rows, Refused, Scan}
+use Rattle.lsm_machine.specs.Calls.{Rows, Refused, Scan}
 use Rattle.lsm_store.specs.Serving.{Serves}
-use Rattle.lsm_store.specs.State.{map_at}
-use Rattle.lsm_store.specs.declared.asked.At.{At}
+use Rattle.lsm_machine.specs.State.{map_at}
+use Rattle.lsm_machine.specs.declared.asked.At.{At}
 use Rattle.corwaphi.specs.declared.range_rows.RangeRows.{RangeRows}
 use Rattle.corwaphi.specs.declared.row.Row.{Row}
 

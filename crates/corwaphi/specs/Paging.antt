@@ -5,9 +5,9 @@ use Rattle.lsm_device.specs.declared.refusal.Refusal.{Refusal}
 use Rattle.lsm_device.specs.declared.refusal.Refusal.TheVariants.{NoMemory}
 use Rattle.lsm_mem.specs.Paging.{Page}
 use Rattle.lsm_store.specs.Backing.{StoreView}
-use Rattle.lsm_store.specs.Calls.{Reply, Number, Rows, Refused, Release, Scan, Snapshot}
+use Rattle.lsm_machine.specs.Calls.{Reply, Number, Rows, Refused, Release, Scan, Snapshot}
 use Rattle.lsm_store.specs.Serving.{Serves}
-use Rattle.lsm_store.specs.declared.asked.At.TheVariants.{Snap}
+use Rattle.lsm_machine.specs.declared.asked.At.TheVariants.{Snap}
 
 -- rows of one map, that of a snapshot: from the key with which the next page begins, none behind the last page, up to this one, which is
 -- outside. The snapshot is held up to the last page.

@@ -4,7 +4,7 @@ use Rattle.lsm_codec.specs.Map.{Operation}
 use Rattle.lsm_device.specs.declared.refusal.Refusal.{Refusal}
 use Rattle.lsm_device.specs.declared.refusal.Refusal.TheVariants.{NoMemory}
 use Rattle.lsm_store.specs.Backing.{StoreView}
-use Rattle.lsm_store.specs.Calls.{Reply, Refused}
+use Rattle.lsm_machine.specs.Calls.{Reply, Refused}
 use Rattle.lsm_upkeep.specs.Writing.{Writes}
 
 -- One operation is committed, unless this refuses it, or memory for the batch is wanting: then nothing was done.

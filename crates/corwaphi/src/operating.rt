@@ -2,7 +2,7 @@
 
 ghost use Rattle.std.specs.Prelude.{◌≡◌, None, Some};
 ghost use Rattle.lsm_codec.specs.Answers.{key_refusal, or_then, value_refusal};
-ghost use Rattle.lsm_store.specs.Calls.{Number, reply_of};
+ghost use Rattle.lsm_machine.specs.Calls.{Number, reply_of};
 ghost use Rattle.corwaphi.specs.Writing.{WritesOne};
 
 use lsm_codec::{Batch, Op};

@@ -5,7 +5,7 @@ ghost use Rattle.std.specs.Iterator.{at_most};
 ghost use Rattle.lsm_device.specs.declared.refusal.Refusal.TheVariants.{NoMemory};
 ghost use Rattle.lsm_mem.specs.Rows.{shown_row};
 ghost use Rattle.corwaphi.specs.Advancing.{AsksRow, GivesNext, HasRead, IsFirst, IsPageRefused, TakesRow, calls_left, key_behind, lender, rows_behind, standing, stands_before};
-ghost use Rattle.lsm_store.specs.declared.asked.At.TheVariants.{Now};
+ghost use Rattle.lsm_machine.specs.declared.asked.At.TheVariants.{Now};
 
 use crate::pages::{PAGE, copied, slice_of};
 use crate::{Db, Row};

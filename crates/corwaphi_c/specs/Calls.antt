@@ -5,10 +5,10 @@ use Rattle.lsm_codec.specs.Map.{Operation}
 use Rattle.lsm_device.specs.Refusals.{number_of}
 use Rattle.lsm_device.specs.declared.refusal.Refusal.{Refusal}
 use Rattle.lsm_store.specs.Backing.{StoreView}
-use Rattle.lsm_store.specs.Calls.{Call, Reply, Number, Done, Value, Refused, Sync, SyncTo}
+use Rattle.lsm_machine.specs.Calls.{Call, Reply, Number, Done, Value, Refused, Sync, SyncTo}
 use Rattle.lsm_store.specs.Serving.{Serves}
-use Rattle.lsm_store.specs.declared.asked.At.{At}
-use Rattle.lsm_store.specs.declared.asked.At.TheVariants.{Now, Snap}
+use Rattle.lsm_machine.specs.declared.asked.At.{At}
+use Rattle.lsm_machine.specs.declared.asked.At.TheVariants.{Now, Snap}
 use Rattle.lsm_upkeep.specs.Writing.{IsServed, commit_of, wants_room, without_log_full}
 
 -- ---- the store

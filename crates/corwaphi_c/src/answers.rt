@@ -2,7 +2,7 @@
 
 ghost use Rattle.std.specs.Prelude.{◌≡◌, ◌⊎◌, ◌<◌, length, take};
 ghost use Rattle.lsm_device.specs.Refusals.{number_of};
-ghost use Rattle.lsm_store.specs.Calls.{Done, Number, reply_of};
+ghost use Rattle.lsm_machine.specs.Calls.{Done, Number, reply_of};
 ghost use Rattle.corwaphi_c.specs.Calls.{IsDone, IsNumber, at_of};
 
 use lsm_device::Refusal;

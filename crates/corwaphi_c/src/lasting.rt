@@ -2,7 +2,7 @@
 
 ghost use Rattle.std.specs.Prelude.{◌≡◌, ◌≤◌, Option, Some, None, length};
 ghost use Rattle.lsm_store.specs.Backing.{StoreView};
-ghost use Rattle.lsm_store.specs.Calls.{Call, Sync, SyncTo};
+ghost use Rattle.lsm_machine.specs.Calls.{Call, Sync, SyncTo};
 ghost use Rattle.corwaphi_c.specs.Calls.{Answers, IsDone, IsMade, Makes, sync_of};
 
 use crate::answers::{code, done};

@@ -2,7 +2,7 @@
 
 ghost use Rattle.std.specs.Prelude.{◌≡◌, Some};
 ghost use Rattle.lsm_store.specs.Backing.{StoreView};
-ghost use Rattle.lsm_store.specs.RecoveryPoints.{batch_count};
+ghost use Rattle.lsm_machine.specs.RecoveryPoints.{batch_count};
 
 use crate::answers::{OK, code};
 use crate::handle::{Handle, Slot};

@@ -2,7 +2,7 @@
 
 ghost use Rattle.std.specs.Prelude.{◌≡◌, Some};
 ghost use Rattle.lsm_store.specs.Backing.{StoreView};
-ghost use Rattle.lsm_store.specs.Calls.{Get, Snapshot, Release};
+ghost use Rattle.lsm_machine.specs.Calls.{Get, Snapshot, Release};
 ghost use Rattle.corwaphi_c.specs.Calls.{Answers, IsDone, IsMade, IsNumber, IsValue, Makes, at_of};
 
 use crate::answers::{NO_VALUE, PageTold, at, code, copy, done, number, put_page};

@@ -2,9 +2,9 @@
 use Rattle.std.proofs.Common.{◌≡◌, ℕ, List, [], ◌∷◌, map, Option, None, Some, refl, ap, subst, ◌∙◌}
 use Rattle.lsm_device.specs.Medium.{Medium, Lasting, KeepsFuse}
 use Rattle.lsm_store.specs.Backing.{StoreView}
-use Rattle.lsm_store.specs.Calls.{Call, Reply}
-use Rattle.lsm_store.specs.Calls.{Number, Done, Value, Rows, Given, Handed, Refused, Unread}
-use Rattle.lsm_store.specs.State.{State}
+use Rattle.lsm_machine.specs.Calls.{Call, Reply}
+use Rattle.lsm_machine.specs.Calls.{Number, Done, Value, Rows, Given, Handed, Refused, Unread}
+use Rattle.lsm_machine.specs.State.{State}
 use Rattle.lsm_lives.specs.Asked.{Asked, Told, Replied}
 use Rattle.lsm_lives.specs.Batches.{act_asked, reply_told}
 use Rattle.lsm_lives.specs.Leading.{BeginsOn, with_fuse, LifeView as StoreLife, IsLed as IsStoreLed, LeadsTo as StoreLeadsTo}

@@ -9,12 +9,12 @@ use Rattle.lsm_device.specs.Medium.{Medium, disk, zeroed}
 use Rattle.lsm_device.specs.Memory.{medium_in}
 use Rattle.lsm_device.specs.declared.memory.MemDevice.{MemDevice}
 use Rattle.lsm_device.specs.Outcomes.{Leaves}
-use Rattle.lsm_open.specs.CrashState.{CrashState, formatted}
+use Rattle.lsm_machine.specs.CrashState.{CrashState, formatted}
 use Rattle.lsm_open.specs.Image.{StandFor}
 use Rattle.lsm_open.specs.Recovering.{StandForOne}
-use Rattle.lsm_store.specs.Calls.{Call, Reply}
-use Rattle.lsm_store.specs.Lives.{IsAfter}
-use Rattle.lsm_store.proofs.Lifelong.{promise_over_lives}
+use Rattle.lsm_machine.specs.Calls.{Call, Reply}
+use Rattle.lsm_machine.specs.Lives.{IsAfter}
+use Rattle.lsm_machine.proofs.Lifelong.{promise_over_lives}
 use Rattle.lsm_lives.specs.Asked.{Asked, Told}
 use Rattle.lsm_lives.specs.Batches.{replies_by, acts_asked, replies_told}
 use Rattle.lsm_lives.specs.Calls.{reply_of}

@@ -8,9 +8,9 @@ use Rattle.lsm_device.specs.Medium.{Medium}
 use Rattle.lsm_device.specs.declared.refusal.Refusal.{Refusal}
 use Rattle.lsm_device.specs.declared.refusal.Refusal.TheVariants.{Stopped}
 use Rattle.lsm_store.specs.Backing.{StoreView}
-use Rattle.lsm_store.specs.Calls.{Call, Reply}
-use Rattle.lsm_store.specs.Calls.{Number, Refused}
-use Rattle.lsm_store.specs.RecoveryPoints.{batch_count}
+use Rattle.lsm_machine.specs.Calls.{Call, Reply}
+use Rattle.lsm_machine.specs.Calls.{Number, Refused}
+use Rattle.lsm_machine.specs.RecoveryPoints.{batch_count}
 use Rattle.lsm_lives.specs.Batches.{replies_by}
 use Rattle.lsm_lives.specs.Calls.{reply_of}
 use Rattle.lsm_lives.specs.Leading.{FailsOn}

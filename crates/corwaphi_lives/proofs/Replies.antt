@@ -7,14 +7,14 @@ use Rattle.std.proofs.lemmas.List.{map_push}
 use Rattle.lsm_device.specs.declared.refusal.Refusal.{Refusal}
 use Rattle.lsm_device.specs.declared.refusal.Refusal.TheVariants.{Io, LogFull, Stopped}
 use Rattle.lsm_merge.specs.Inputs.{MergeInput}
-use Rattle.lsm_store.specs.Calls.{Call, Reply}
-use Rattle.lsm_store.specs.Calls.{Commit, CommitIf, Sync, SyncTo, Get, Scan, Snapshot, Release, Rotate, LogRoom, Number, Done, Value, Rows, Given, Handed, Refused, Unread, as_told}
-use Rattle.lsm_store.specs.Effects.{Use, use_of, answer, after, next_taken, reply_by, without}
-use Rattle.lsm_store.specs.Effects.{Untouched, Reads, Changes}
-use Rattle.lsm_store.specs.RecoveryPoints.{all_synced}
-use Rattle.lsm_store.specs.Refusals.{refusal, refusals, first_refusal}
-use Rattle.lsm_store.specs.Run.{Admits, after_fault, next}
-use Rattle.lsm_store.specs.State.{State, LiveSnapshot}
+use Rattle.lsm_machine.specs.Calls.{Call, Reply}
+use Rattle.lsm_machine.specs.Calls.{Commit, CommitIf, Sync, SyncTo, Get, Scan, Snapshot, Release, Rotate, LogRoom, Number, Done, Value, Rows, Given, Handed, Refused, Unread, as_told}
+use Rattle.lsm_machine.specs.Effects.{Use, use_of, answer, after, next_taken, reply_by, without}
+use Rattle.lsm_machine.specs.Effects.{Untouched, Reads, Changes}
+use Rattle.lsm_machine.specs.RecoveryPoints.{all_synced}
+use Rattle.lsm_machine.specs.Refusals.{refusal, refusals, first_refusal}
+use Rattle.lsm_machine.specs.Run.{Admits, after_fault, next}
+use Rattle.lsm_machine.specs.State.{State, LiveSnapshot}
 use Rattle.lsm_upkeep.specs.Writing.{without_log_full}
 use Rattle.corwaphi_lives.specs.Batches.{live_after}
 

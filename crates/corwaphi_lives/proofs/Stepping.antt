@@ -5,12 +5,12 @@ use Rattle.lsm_codec.specs.Guards.{Condition}
 use Rattle.lsm_codec.specs.Map.{Operation}
 use Rattle.lsm_device.specs.declared.refusal.Refusal.TheVariants.{Io, NoSpace}
 use Rattle.lsm_store.specs.Backing.{StoreView}
-use Rattle.lsm_store.specs.Calls.{Call, Reply}
-use Rattle.lsm_store.specs.Calls.{Commit, CommitIf, Sync, SyncTo, Get, Scan, Snapshot, Release, Rotate, LogRoom, Number, Done, Value, Rows, Given, Handed, Refused, Unread, as_told}
-use Rattle.lsm_store.specs.Machine.{Step, Called, Worked}
+use Rattle.lsm_machine.specs.Calls.{Call, Reply}
+use Rattle.lsm_machine.specs.Calls.{Commit, CommitIf, Sync, SyncTo, Get, Scan, Snapshot, Release, Rotate, LogRoom, Number, Done, Value, Rows, Given, Handed, Refused, Unread, as_told}
+use Rattle.lsm_machine.specs.Machine.{Step, Called, Worked}
 use Rattle.lsm_store.specs.Serving.{Serves, reply_in}
-use Rattle.lsm_store.specs.State.{State, LiveSnapshot}
-use Rattle.lsm_store.specs.Work.{Take, Read, Ask, Accept, Write, Install, Drop}
+use Rattle.lsm_machine.specs.State.{State, LiveSnapshot}
+use Rattle.lsm_machine.specs.Work.{Take, Read, Ask, Accept, Write, Install, Drop}
 use Rattle.lsm_upkeep.specs.Steps.{IsUpkeepStep, IsUpkept, UpkeepSteps}
 use Rattle.lsm_upkeep.specs.Writing.{Writes, EndsWith, commit_of, has_puts, wants_room, without_log_full}
 use Rattle.lsm_lives.specs.Asked.{Asked, Told, Own, Replied}

@@ -3,8 +3,8 @@ use Rattle.std.proofs.Common.{◌≡◌, ⊎_elim, ℕ, true≢false, List, [], 
 use Rattle.std.proofs.lemmas.Bool.{false≢true}
 use Rattle.lsm_codec.specs.Keys.{Bytes}
 use Rattle.lsm_device.specs.declared.refusal.Refusal.TheVariants.{LogFull, NoSpace}
-use Rattle.lsm_store.specs.Calls.{Call, Reply}
-use Rattle.lsm_store.specs.Calls.{Commit, Sync, Number, Done, Value, Rows, Given, Handed, Refused, Unread}
+use Rattle.lsm_machine.specs.Calls.{Call, Reply}
+use Rattle.lsm_machine.specs.Calls.{Commit, Sync, Number, Done, Value, Rows, Given, Handed, Refused, Unread}
 use Rattle.lsm_upkeep.specs.Writing.{without_log_full}
 use Rattle.lsm_lives.specs.Batches.{Calls}
 use Rattle.corwaphi_lives.specs.Batches.{served_in, AreTold}

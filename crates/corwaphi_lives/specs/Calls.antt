@@ -1,6 +1,6 @@
 -- What calls of a `Db` ask for, in the words of the machine.
 use Rattle.std.specs.Prelude.{List, Option, Some, None, map, option_map}
-use Rattle.lsm_store.specs.Calls.{Call, Commit, CommitIf, Sync, SyncTo, Get, Scan, Snapshot, Release}
+use Rattle.lsm_machine.specs.Calls.{Call, Commit, CommitIf, Sync, SyncTo, Get, Scan, Snapshot, Release}
 use Rattle.corwaphi_lives.specs.declared.calls.DbCall.{DbCall}
 use Rattle.corwaphi_lives.specs.declared.calls.DbCall.TheVariants as given
 use Rattle.corwaphi_lives.specs.declared.calls.DbLife.{DbLife}

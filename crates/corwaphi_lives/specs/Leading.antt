@@ -5,12 +5,12 @@ use Rattle.std.specs.Global.{Global}
 use Rattle.lsm_device.specs.Medium.{Medium, KeepsFuse, disk, crashed, zeroed}
 use Rattle.lsm_device.specs.Outcomes.{Leaves}
 use Rattle.lsm_device.specs.declared.refusal.Refusal.TheVariants.{Stopped}
-use Rattle.lsm_open.specs.CrashState.{formatted}
+use Rattle.lsm_machine.specs.CrashState.{formatted}
 use Rattle.lsm_open.specs.Image.{StandFor}
 use Rattle.lsm_store.specs.Backing.{StoreView}
-use Rattle.lsm_store.specs.Calls.{Call, Reply}
-use Rattle.lsm_store.specs.Calls.{Commit, CommitIf, Rotate, Number, Done, Refused}
-use Rattle.lsm_store.specs.RecoveryPoints.{batch_count}
+use Rattle.lsm_machine.specs.Calls.{Call, Reply}
+use Rattle.lsm_machine.specs.Calls.{Commit, CommitIf, Rotate, Number, Done, Refused}
+use Rattle.lsm_machine.specs.RecoveryPoints.{batch_count}
 use Rattle.lsm_store.specs.Serving.{Serves}
 use Rattle.lsm_upkeep.specs.Steps.{IsUpkept}
 use Rattle.lsm_upkeep.specs.Writing.{Writes}

@@ -6,7 +6,7 @@ ghost use Rattle.lsm_device.specs.declared.refusal.Refusal.TheVariants.{Stopped}
 ghost use Rattle.lsm_lives.specs.Batches.{replies_by};
 ghost use Rattle.lsm_lives.specs.Calls.{reply_of};
 ghost use Rattle.lsm_lives.specs.Leading.{FailsOn, with_fuse};
-ghost use Rattle.lsm_store.specs.Calls.{Refused};
+ghost use Rattle.lsm_machine.specs.Calls.{Refused};
 ghost use Rattle.corwaphi_lives.specs.Calls.{call_of};
 ghost use Rattle.corwaphi_lives.specs.Leading.{life_of, AddsReplies, BeginsDb, IsLed, LeadsTo, AreLed, HavePlaces};
 

@@ -1,7 +1,7 @@
 // A `Db` makes a call that is a value.
 ghost use Rattle.std.specs.Prelude.{◌≡◌, None, option_map};
 ghost use Rattle.lsm_lives.specs.Calls.{reply_of};
-ghost use Rattle.lsm_store.specs.Calls.{Get, Number, Done, Value, Rows, reply_of as reply_by};
+ghost use Rattle.lsm_machine.specs.Calls.{Get, Number, Done, Value, Rows, reply_of as reply_by};
 ghost use Rattle.lsm_store.specs.Serving.{Serves};
 ghost use Rattle.corwaphi_lives.specs.Calls.{call_of};
 ghost use Rattle.corwaphi_lives.specs.Leading.{Does};

@@ -6,7 +6,8 @@ ghost use Rattle.lsm_levels.specs.Pick.{Merge, is_bottom};
 ghost use Rattle.lsm_levels.specs.Held.{HasItsTables};
 
 use crate::jobs::Slots;
-use lsm_levels::{Choice, Levels, Pick, PlacedTable, chosen_jobs_have_free_tables, share_all};
+use lsm_levels::laws::chosen_jobs_have_free_tables;
+use lsm_levels::{Choice, Levels, Pick, PlacedTable, share_all};
 use std::alloc::{AllocError, Global};
 
 /// Whether a table lies within another.

@@ -7,7 +7,7 @@ ghost use Rattle.lsm_device.specs.Disk.{seen};
 ghost use Rattle.lsm_device.specs.Medium.{disk};
 ghost use Rattle.lsm_device.specs.Refusals.{faultless};
 ghost use Rattle.lsm_open.specs.Counting.{uncounted_by};
-ghost use Rattle.lsm_open.specs.CrashState.{CrashState};
+ghost use Rattle.lsm_machine.specs.CrashState.{CrashState};
 ghost use Rattle.lsm_open.specs.Image.{StandFor};
 ghost use Rattle.lsm_open.specs.LogRegions.{first_region};
 ghost use Rattle.lsm_open.specs.ReadParts.{ReadsAtMost};
@@ -26,7 +26,8 @@ use crate::report::Report;
 use lsm_codec::{ROOT_SECTORS, is_device_size};
 use lsm_device::{Device, Refusal};
 use lsm_open::{TablesRead, load_counted, read_tables, replay_regions};
-use lsm_root::{Loaded, root_laws};
+use lsm_root::Loaded;
+use lsm_root::laws::root_laws;
 use std::alloc::Allocator;
 
 // What an opening reads: the root, with each table counted, the tables that its manifest names, and how many batches there are.

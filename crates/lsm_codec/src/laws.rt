@@ -2,6 +2,8 @@
 
 ghost use Rattle.lsm_codec.specs.Formats.{SuperblockLaws, PartLaws, BatchTextLaws, ManifestLaws, DataBlockLaws, IndexLaws, FooterLaws};
 
+pub use crate::words::word_says_its_bytes;
+
 /// Each superblock within the limits has one spelling, a sector of 512 bytes, and a sector of zeros spells none.
 pub fn superblock_laws()
     ensures { SuperblockLaws }

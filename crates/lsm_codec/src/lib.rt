@@ -15,7 +15,7 @@ mod guard;
 mod index;
 mod key;
 mod kind;
-mod laws;
+pub mod laws;
 mod lending;
 mod log_record;
 mod log_sector;
@@ -44,10 +44,6 @@ pub use geometry::{
 pub use guard::Guard;
 pub use index::{Edge, Index};
 pub use key::Key;
-pub use laws::{
-    batch_text_laws, data_block_laws, footer_laws, index_laws, manifest_laws, part_laws,
-    superblock_laws,
-};
 pub use lending::is_zero;
 pub use log_record::LogRecord;
 pub use log_sector::LogSector;
@@ -58,4 +54,4 @@ pub use superblock::{FormatVersion, Superblock};
 pub use table_record::TableRecord;
 pub use value::Value;
 pub use version::VersionRef;
-pub use words::{unword, word, word_says_its_bytes};
+pub use words::{unword, word};

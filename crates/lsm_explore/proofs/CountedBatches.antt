@@ -3,11 +3,11 @@ use Rattle.std.proofs.Common.{◌≡◌, ◌≤◌, ◌<◌, ℕ, ◌+◌, Bool,
 use Rattle.std.specs.Prelude.{nat_le}
 use Rattle.std.proofs.lemmas.List.{append-nil, length-append, drop_more, drop_all}
 use Rattle.lsm_codec.specs.Map.{Operation}
-use Rattle.lsm_store.specs.Calls.{Reply}
-use Rattle.lsm_store.specs.Calls.{Sync, SyncTo, Rotate, Done}
-use Rattle.lsm_store.specs.Machine.{Step, Called, Worked}
-use Rattle.lsm_store.specs.Promise.{accepted, accepted_by, acknowledged, acknowledged_by, acknowledged_from}
-use Rattle.lsm_store.specs.Work.{Install}
+use Rattle.lsm_machine.specs.Calls.{Reply}
+use Rattle.lsm_machine.specs.Calls.{Sync, SyncTo, Rotate, Done}
+use Rattle.lsm_machine.specs.Machine.{Step, Called, Worked}
+use Rattle.lsm_machine.specs.Promise.{accepted, accepted_by, acknowledged, acknowledged_by, acknowledged_from}
+use Rattle.lsm_machine.specs.Work.{Install}
 use Rattle.lsm_lives.specs.Asked.{step_in}
 use Rattle.lsm_lives.specs.Calls.{asked_of, told_of}
 use Rattle.lsm_explore.specs.Expected.{last_of, flies_by, flies_behind, reply_in, replies_of, steps_of}

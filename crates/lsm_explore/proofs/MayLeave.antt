@@ -2,7 +2,7 @@
 use Rattle.std.proofs.Common.{◌≡◌, ◌≤◌, ◌<◌, ◌^◌, ◌⊎◌, inl, inr, ℕ, zero, suc, ◌+◌, ◌-◌, Bool, true, Result, Ok, Err, List, [], ◌∷◌, ◌++◌, length, take, drop, Option, None, Some, slice_get, refl, ap, sym, subst, ◌∙◌, arith}
 use Rattle.std.proofs.Math.Nat.{add-zero}
 use Rattle.std.proofs.lemmas.List.{append-nil, take_all, take-append-le, length-append, length-map, length-take-le, length-drop}
-use Rattle.lsm_open.proofs.Beginnings.{apply_all-append, take_sum}
+use Rattle.lsm_machine.proofs.Beginnings.{apply_all-append, take_sum}
 use Rattle.std.specs.Prelude.{IsNone, IsSome}
 use Rattle.std.specs.FinMap as finite
 use Rattle.lsm_codec.specs.Map.{Map, Operation, apply, apply_all}
@@ -12,19 +12,19 @@ use Rattle.lsm_device.specs.Disk.{Disk, image, seen, at_rest}
 use Rattle.lsm_device.specs.Medium.{Medium, KeepsFuse, disk, crashed}
 use Rattle.lsm_device.specs.Outcomes.{Leaves}
 use Rattle.lsm_image.specs.Media.{begun}
-use Rattle.lsm_open.specs.CrashState.{CrashState, MayRefuseOpening, formatted as empty_store}
+use Rattle.lsm_machine.specs.CrashState.{CrashState, MayRefuseOpening, formatted as empty_store}
 use Rattle.lsm_open.specs.Image.{StandFor}
 use Rattle.lsm_store.specs.Backing.{StoreView}
-use Rattle.lsm_store.specs.Calls.{Reply}
-use Rattle.lsm_store.specs.Calls.{Commit, CommitIf, Sync, SyncTo, Rotate, Number, Done, Value, Rows, Given, Handed, Refused, Unread, as_told}
-use Rattle.lsm_store.specs.Lives.{IsAfter, IsAnswered, IsPrefixFrom, KeptByLife}
-use Rattle.lsm_store.specs.Machine.{Machine, Step, Called, Worked}
-use Rattle.lsm_store.specs.Run.{Run, next_machine}
-use Rattle.lsm_store.proofs.Steps.{admits_step, step_stays, step_stopped}
-use Rattle.lsm_store.specs.Promise.{accepted, accepted_by, acknowledged, acknowledged_by, acknowledged_from, in_flight, maps_after}
-use Rattle.lsm_store.specs.RecoveryPoints.{batch_count, present_map}
-use Rattle.lsm_store.specs.State.{State}
-use Rattle.lsm_store.specs.Work.{Ask, Accept, Install}
+use Rattle.lsm_machine.specs.Calls.{Reply}
+use Rattle.lsm_machine.specs.Calls.{Commit, CommitIf, Sync, SyncTo, Rotate, Number, Done, Value, Rows, Given, Handed, Refused, Unread, as_told}
+use Rattle.lsm_machine.specs.Lives.{IsAfter, IsAnswered, IsPrefixFrom, KeptByLife}
+use Rattle.lsm_machine.specs.Machine.{Machine, Step, Called, Worked}
+use Rattle.lsm_machine.specs.Run.{Run, next_machine}
+use Rattle.lsm_machine.proofs.Steps.{admits_step, step_stays, step_stopped}
+use Rattle.lsm_machine.specs.Promise.{accepted, accepted_by, acknowledged, acknowledged_by, acknowledged_from, in_flight, maps_after}
+use Rattle.lsm_machine.specs.RecoveryPoints.{batch_count, present_map}
+use Rattle.lsm_machine.specs.State.{State}
+use Rattle.lsm_machine.specs.Work.{Ask, Accept, Install}
 use Rattle.lsm_lives.specs.Asked.{Asked, Told, Own, Build, AcceptBuilt, Replied, Built, result_of, step_in, IsTold, AreTold, told_stopped}
 use Rattle.lsm_explore.specs.Expected.{steps_of, replies_of, reply_in, flies_by, last_of, flies_behind, batches_in, least_in, maps_from, MayBeLeft, IsFound}
 use Rattle.lsm_lives.specs.Leading.{LifeView, IsLed, LeadsTo, BeginsOn, FailsOn}
@@ -33,7 +33,7 @@ use Rattle.lsm_lives.specs.Replaying.{MakesEach}
 use Rattle.lsm_lives.proofs.Lifetimes.{at_rest_holds}
 use Rattle.lsm_explore.proofs.Generations.{life_within}
 use Rattle.lsm_lives.proofs.Lived.{life_led}
-use Rattle.lsm_store.proofs.Lifelong.{promise_over_lives}
+use Rattle.lsm_machine.proofs.Lifelong.{promise_over_lives}
 use Rattle.lsm_merge.specs.Results.{MergeResult}
 use Rattle.lsm_device.specs.declared.calls.Calls.{Calls}
 

@@ -5,7 +5,7 @@ use Rattle.std.specs.FinMap as finite
 use Rattle.std.specs.FinMap.{len-entries, len-empty}
 use Rattle.lsm_codec.specs.Keys.{Bytes, byte_order}
 use Rattle.lsm_codec.specs.Map.{Map, Operation, apply, apply_all}
-use Rattle.lsm_store.specs.Promise.{maps_after}
+use Rattle.lsm_machine.specs.Promise.{maps_after}
 
 abbrev Pairs : Type 0
 Pairs = List (Bytes × Bytes)

@@ -2,16 +2,16 @@
 use Rattle.std.specs.Prelude.{◌≡◌, ◌<◌, ◌≤◌, ℕ, ◌+◌, List, [], ◌∷◌, ◌++◌, take, drop, map, ◌-◌, slice_get, IsNone, Option, None, Some}
 use Rattle.std.specs.FinMap as finite
 use Rattle.lsm_codec.specs.Map.{Map, Operation, apply_all}
-use Rattle.lsm_open.specs.CrashState.{CrashState, last_number}
+use Rattle.lsm_machine.specs.CrashState.{CrashState, last_number}
 use Rattle.lsm_open.specs.Image.{StandFor}
 use Rattle.lsm_store.specs.Backing.{StoreView, IsBacked}
-use Rattle.lsm_store.specs.RecoveryPoints.{batch_count, present_map}
-use Rattle.lsm_store.specs.Calls.{Reply}
-use Rattle.lsm_store.specs.Calls.{Commit, CommitIf, Value, Refused}
-use Rattle.lsm_store.specs.Lives.{IsAfter, IsPrefixFrom}
-use Rattle.lsm_store.specs.Machine.{Step, Called}
+use Rattle.lsm_machine.specs.RecoveryPoints.{batch_count, present_map}
+use Rattle.lsm_machine.specs.Calls.{Reply}
+use Rattle.lsm_machine.specs.Calls.{Commit, CommitIf, Value, Refused}
+use Rattle.lsm_machine.specs.Lives.{IsAfter, IsPrefixFrom}
+use Rattle.lsm_machine.specs.Machine.{Step, Called}
 use Rattle.lsm_device.specs.declared.refusal.Refusal.TheVariants.{Io}
-use Rattle.lsm_store.specs.Promise.{accepted, acknowledged, maps_after}
+use Rattle.lsm_machine.specs.Promise.{accepted, acknowledged, maps_after}
 use Rattle.lsm_lives.specs.Asked.{Asked, Told, Replied, Built, step_in}
 use Rattle.lsm_explore.specs.Plain.{rows_of}
 use Rattle.lsm_explore.specs.declared.expected.Expected.{Expected}

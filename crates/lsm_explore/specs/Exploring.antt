@@ -4,10 +4,10 @@ use Rattle.std.specs.List.{list_any}
 use Rattle.lsm_device.specs.Disk.{image}
 use Rattle.lsm_device.specs.Medium.{Medium, disk}
 use Rattle.lsm_image.specs.Media.{begun}
-use Rattle.lsm_open.specs.CrashState.{formatted as empty_store}
+use Rattle.lsm_machine.specs.CrashState.{formatted as empty_store}
 use Rattle.lsm_open.specs.Image.{StandFor}
 use Rattle.lsm_device.specs.declared.refusal.Refusal.TheVariants.{NoMemory}
-use Rattle.lsm_store.specs.Calls.{Refused}
+use Rattle.lsm_machine.specs.Calls.{Refused}
 use Rattle.lsm_lives.specs.Asked.{Asked, Told, Replied}
 use Rattle.lsm_lives.specs.Leading.{IsLed}
 use Rattle.lsm_explore.specs.Masks.{masks_for, is_skipped}

@@ -2,7 +2,7 @@
 ghost use Rattle.std.specs.Prelude.{◌≡◌, ◌≤◌, ◌++◌, ◌∷◌, ℕ, [], map, length, option_map, IfOk, OnOk, if◌then◌else◌};
 ghost use Rattle.std.specs.FinMap as finite;
 ghost use Rattle.lsm_codec.specs.Map.{Map, apply_all};
-ghost use Rattle.lsm_store.specs.Promise.{accepted_by, acknowledged_by, maps_after};
+ghost use Rattle.lsm_machine.specs.Promise.{accepted_by, acknowledged_by, maps_after};
 ghost use Rattle.lsm_lives.specs.Asked.{step_in};
 ghost use Rattle.lsm_lives.specs.Calls.{asked_of, told_of};
 ghost use Rattle.lsm_explore.specs.Expected.{AreExpected, as_list, batches_in, last_of, flies_by, least_in, maps_from, reply_in};

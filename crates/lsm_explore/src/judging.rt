@@ -5,7 +5,7 @@ ghost use Rattle.lsm_device.specs.declared.refusal.Refusal.TheVariants.{NoMemory
 ghost use Rattle.lsm_mem.specs.Paging.{pairs_in};
 ghost use Rattle.lsm_mem.specs.Rows.{shown_row};
 ghost use Rattle.lsm_store.specs.Backing.{IsBacked};
-ghost use Rattle.lsm_store.specs.RecoveryPoints.{present_map};
+ghost use Rattle.lsm_machine.specs.RecoveryPoints.{present_map};
 ghost use Rattle.lsm_explore.specs.Expected.{AreExpected, IsFound, MayBeLeft};
 ghost use Rattle.lsm_explore.specs.Plain.{rows_of};
 

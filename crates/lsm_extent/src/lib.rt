@@ -4,9 +4,8 @@
 mod extent;
 mod extents;
 mod gaps;
-mod laws;
+pub mod laws;
 mod room;
 
 pub use extent::Extent;
 pub use extents::Extents;
-pub use laws::extent_laws;

@@ -4,8 +4,7 @@
 
 mod bits;
 mod filter;
-mod laws;
+pub mod laws;
 mod probes;
 
 pub use filter::{FILTER_BYTES, Filter};
-pub use laws::filter_laws;

@@ -7,9 +7,9 @@ use Rattle.lsm_codec.specs.Guards.{Condition}
 use Rattle.lsm_codec.specs.Keys.{Bytes}
 use Rattle.lsm_codec.specs.Map.{Operation}
 use Rattle.lsm_codec.specs.Words.{bytes_said}
-use Rattle.lsm_store.specs.declared.asked.At.{At}
-use Rattle.lsm_store.specs.declared.asked.At.TheVariants.{Now, Snap}
-use Rattle.lsm_store.specs.Calls.{Call, Commit, CommitIf, Sync, SyncTo, Get, Scan, Snapshot, Release, Rotate, LogRoom}
+use Rattle.lsm_machine.specs.declared.asked.At.{At}
+use Rattle.lsm_machine.specs.declared.asked.At.TheVariants.{Now, Snap}
+use Rattle.lsm_machine.specs.Calls.{Call, Commit, CommitIf, Sync, SyncTo, Get, Scan, Snapshot, Release, Rotate, LogRoom}
 use Rattle.lsm_lives.specs.Calls.{call_of}
 use Rattle.lsm_lives.specs.declared.calls.Work.{Work}
 use Rattle.lsm_lives.specs.declared.calls.Work.TheVariants as work

@@ -14,7 +14,8 @@ ghost use Rattle.lsm_levels.specs.Tables.{at_most, is_below, meets, table_at, ta
 use crate::contents::Contents;
 use lsm_codec::TableRecord;
 use lsm_device::Refusal;
-use lsm_table::{Image, Table, outline_law};
+use lsm_table::laws::outline_law;
+use lsm_table::{Image, Table};
 use std::alloc::{AllocError, Allocator, Global};
 use std::marker::Model;
 use std::sync::Arc;

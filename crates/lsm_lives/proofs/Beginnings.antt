@@ -12,26 +12,26 @@ use Rattle.lsm_jobs.specs.Slots.{Slot}
 use Rattle.lsm_levels.specs.Pick.{is_flush}
 use Rattle.lsm_merge.specs.Inputs.{MergeInput}
 use Rattle.lsm_merge.specs.Results.{MergeResult}
-use Rattle.lsm_open.specs.CrashState.{CrashState}
+use Rattle.lsm_machine.specs.CrashState.{CrashState}
 use Rattle.lsm_open.specs.Image.{StandFor}
-use Rattle.lsm_store.specs.Calls.{Call, Reply}
-use Rattle.lsm_store.specs.Calls.{Commit, CommitIf, Sync, SyncTo, Rotate, Number, Done, Value, Rows, Given, Handed, Refused, Unread, as_told}
-use Rattle.lsm_store.specs.Crash.{last_crash_state}
-use Rattle.lsm_store.specs.Effects.{Use}
-use Rattle.lsm_store.specs.Effects.{Untouched, Reads, Changes}
-use Rattle.lsm_store.specs.Lives.{KeepsLife, KeepsLives, all_stopped, IsAfter, IsPrefixFrom}
-use Rattle.lsm_store.specs.Machine.{Machine, Step, Called, Worked}
-use Rattle.lsm_store.specs.Promise.{accepted_by, accepted, acknowledged_by, acknowledged_from, in_flight}
-use Rattle.lsm_store.specs.Run.{Allows, next, AllowsStep, next_machine, Run, last_machine}
-use Rattle.lsm_store.specs.State.{State}
-use Rattle.lsm_store.specs.Work.{Work, Take, Read, Ask, Accept, Write, Install, Drop}
-use Rattle.lsm_store.specs.WorkEffects.{installed, state_after, work_use}
-use Rattle.lsm_store.specs.WorkRefusals.{held, of_slot, work_refusals, running_refusal, work_refusal}
-use Rattle.lsm_store.specs.WorkReplies.{WorkAllows, work_decided, work_left_besides, after_work_fault, next_worked}
-use Rattle.lsm_store.proofs.Accounts.{first_not}
-use Rattle.lsm_store.proofs.CrashStates.{IsAnswer}
-use Rattle.lsm_store.proofs.Unrefused.{none_taken}
-use Rattle.lsm_store.proofs.WorkReplies.{answered_unrefused, never_unread}
+use Rattle.lsm_machine.specs.Calls.{Call, Reply}
+use Rattle.lsm_machine.specs.Calls.{Commit, CommitIf, Sync, SyncTo, Rotate, Number, Done, Value, Rows, Given, Handed, Refused, Unread, as_told}
+use Rattle.lsm_machine.specs.Crash.{last_crash_state}
+use Rattle.lsm_machine.specs.Effects.{Use}
+use Rattle.lsm_machine.specs.Effects.{Untouched, Reads, Changes}
+use Rattle.lsm_machine.specs.Lives.{KeepsLife, KeepsLives, all_stopped, IsAfter, IsPrefixFrom}
+use Rattle.lsm_machine.specs.Machine.{Machine, Step, Called, Worked}
+use Rattle.lsm_machine.specs.Promise.{accepted_by, accepted, acknowledged_by, acknowledged_from, in_flight}
+use Rattle.lsm_machine.specs.Run.{Allows, next, AllowsStep, next_machine, Run, last_machine}
+use Rattle.lsm_machine.specs.State.{State}
+use Rattle.lsm_machine.specs.Work.{Work, Take, Read, Ask, Accept, Write, Install, Drop}
+use Rattle.lsm_machine.specs.WorkEffects.{installed, state_after, work_use}
+use Rattle.lsm_machine.specs.WorkRefusals.{held, of_slot, work_refusals, running_refusal, work_refusal}
+use Rattle.lsm_machine.specs.WorkReplies.{WorkAllows, work_decided, work_left_besides, after_work_fault, next_worked}
+use Rattle.lsm_machine.proofs.Accounts.{first_not}
+use Rattle.lsm_machine.proofs.CrashStates.{IsAnswer}
+use Rattle.lsm_machine.proofs.Unrefused.{none_taken}
+use Rattle.lsm_machine.proofs.WorkReplies.{answered_unrefused, never_unread}
 use Rattle.lsm_lives.specs.Asked.{Asked, Told, Own, Build, AcceptBuilt, Replied, Built, result_of, step_in, HasNoResult, IsTold, AreTold}
 use Rattle.lsm_lives.specs.Batches.{Act, Calls, Installs, Works, GoesByInstall, GoesByWork, Goes, taken_by, taken, synced_by, synced_from, flying, KeepsOn, KeepsBatches, act_of, acts_by, replies_by, act_asked, reply_told, acts_asked, replies_told}
 use Rattle.lsm_lives.specs.Calls.{asked_of, reply_of, told_of}

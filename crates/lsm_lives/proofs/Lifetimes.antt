@@ -9,13 +9,13 @@ use Rattle.lsm_device.specs.Disk.{Disk, image}
 use Rattle.lsm_device.specs.Medium.{Medium, disk}
 use Rattle.lsm_device.specs.Outcomes.{Leaves}
 use Rattle.lsm_device.proofs.Outcomes.{seen_outcome}
-use Rattle.lsm_open.specs.CrashState.{CrashState}
+use Rattle.lsm_machine.specs.CrashState.{CrashState}
 use Rattle.lsm_open.specs.Image.{StandFor}
 use Rattle.lsm_open.specs.Recovering.{StandForOne}
 use Rattle.lsm_store.specs.Backing.{StoreView, IsBacked}
-use Rattle.lsm_store.specs.Crash.{may_leave, last_crash_state}
-use Rattle.lsm_store.specs.Lives.{IsAfter}
-use Rattle.lsm_store.proofs.Lifelong.{promise_over_lives}
+use Rattle.lsm_machine.specs.Crash.{may_leave, last_crash_state}
+use Rattle.lsm_machine.specs.Lives.{IsAfter}
+use Rattle.lsm_machine.proofs.Lifelong.{promise_over_lives}
 use Rattle.lsm_lives.specs.Asked.{Asked, Told}
 use Rattle.lsm_lives.specs.Calls.{asked_of, told_of}
 use Rattle.lsm_lives.specs.declared.calls.Reply.{Reply as GivenReply}

@@ -16,17 +16,17 @@ use Rattle.lsm_codec.proofs.KeyOrder.{is_lt_Less, is_eq_Equal, key_itself, less_
 use Rattle.lsm_device.specs.declared.refusal.Refusal.{Refusal}
 use Rattle.lsm_device.specs.declared.refusal.Refusal.TheVariants.{NoMemory, Io}
 use Rattle.lsm_mem.specs.Paging.{Page, is_before, first_key, first_page, pairs_in, page_of}
-use Rattle.lsm_store.specs.declared.asked.At.TheVariants.{Now}
-use Rattle.lsm_store.specs.Calls.{Reply}
-use Rattle.lsm_store.specs.Calls.{Scan, Rows, Refused}
-use Rattle.lsm_store.specs.Effects.{reply_by}
+use Rattle.lsm_machine.specs.declared.asked.At.TheVariants.{Now}
+use Rattle.lsm_machine.specs.Calls.{Reply}
+use Rattle.lsm_machine.specs.Calls.{Scan, Rows, Refused}
+use Rattle.lsm_machine.specs.Effects.{reply_by}
 use Rattle.lsm_store.specs.Backing.{StoreView, IsBacked}
-use Rattle.lsm_store.specs.RecoveryPoints.{present_map}
-use Rattle.lsm_store.specs.Refusals.{refusal}
-use Rattle.lsm_open.specs.CrashState.{CrashState}
-use Rattle.lsm_store.specs.Run.{Allows}
+use Rattle.lsm_machine.specs.RecoveryPoints.{present_map}
+use Rattle.lsm_machine.specs.Refusals.{refusal}
+use Rattle.lsm_machine.specs.CrashState.{CrashState}
+use Rattle.lsm_machine.specs.Run.{Allows}
 use Rattle.lsm_store.specs.Serving.{Serves}
-use Rattle.lsm_store.specs.State.{State}
+use Rattle.lsm_machine.specs.State.{State}
 
 abbrev Pairs : Type 0
 Pairs = List (Bytes × Bytes)

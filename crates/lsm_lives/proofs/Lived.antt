@@ -8,21 +8,21 @@ use Rattle.lsm_device.specs.History.{present}
 use Rattle.lsm_device.specs.Medium.{Medium, disk}
 use Rattle.lsm_device.specs.Outcomes.{Leaves}
 use Rattle.lsm_device.proofs.Moments.{ended}
-use Rattle.lsm_open.specs.CrashState.{CrashState, left_by_opening}
+use Rattle.lsm_machine.specs.CrashState.{CrashState, left_by_opening}
 use Rattle.lsm_open.specs.Image.{StandFor}
 use Rattle.lsm_open.specs.Recovering.{StandForOne, FailsToOpen, CrashesWhileOpening}
-use Rattle.lsm_open.proofs.Openings.{same_again}
+use Rattle.lsm_machine.proofs.Openings.{same_again}
 use Rattle.lsm_store.specs.Backing.{StoreView, machine_of}
-use Rattle.lsm_store.specs.Calls.{Reply}
-use Rattle.lsm_store.specs.Calls.{Number, Done, Value, Rows, Given, Handed, Refused, Unread}
-use Rattle.lsm_store.specs.Crash.{reopened, may_leave}
-use Rattle.lsm_store.specs.Lives.{all_stopped, IsAnswered, left_by_life}
-use Rattle.lsm_store.specs.Machine.{Machine, Step}
-use Rattle.lsm_store.specs.RecoveryPoints.{batch_count}
-use Rattle.lsm_store.specs.Run.{last_machine, left_in_run}
+use Rattle.lsm_machine.specs.Calls.{Reply}
+use Rattle.lsm_machine.specs.Calls.{Number, Done, Value, Rows, Given, Handed, Refused, Unread}
+use Rattle.lsm_machine.specs.Crash.{reopened, may_leave}
+use Rattle.lsm_machine.specs.Lives.{all_stopped, IsAnswered, left_by_life}
+use Rattle.lsm_machine.specs.Machine.{Machine, Step}
+use Rattle.lsm_machine.specs.RecoveryPoints.{batch_count}
+use Rattle.lsm_machine.specs.Run.{last_machine, left_in_run}
 use Rattle.lsm_store.specs.Serving.{OpensTo, ReopensTo}
-use Rattle.lsm_store.specs.State.{State}
-use Rattle.lsm_store.specs.Work.{no_work}
+use Rattle.lsm_machine.specs.State.{State}
+use Rattle.lsm_machine.specs.Work.{no_work}
 use Rattle.lsm_store.proofs.OpenedMachines.{opened as store_opened}
 use Rattle.lsm_lives.specs.Leading.{LifeView, IsLed, LeadsTo, with_fuse}
 use Rattle.lsm_lives.specs.Asked.{Asked, Told, Own, Build, AcceptBuilt, Replied, Built, step_in, AreTold, told_stopped}

@@ -7,23 +7,23 @@ use Rattle.lsm_device.specs.declared.refusal.Refusal.TheVariants.{NoMemory, Io, 
 use Rattle.lsm_jobs.specs.Slots.{Slot, is_frozen, is_not_at}
 use Rattle.lsm_merge.specs.Inputs.{MergeInput}
 use Rattle.lsm_merge.specs.Results.{MergeResult}
-use Rattle.lsm_open.specs.CrashState.{last_number}
+use Rattle.lsm_machine.specs.CrashState.{last_number}
 use Rattle.lsm_store.specs.Backing.{StoreView, machine_of}
-use Rattle.lsm_store.specs.Calls.{Call, Reply}
-use Rattle.lsm_store.specs.Calls.{Commit, CommitIf, Sync, SyncTo, Get, Scan, Snapshot, Release, Rotate, LogRoom, Number, Done, Value, Rows, Given, Handed, Refused, Unread, as_told}
-use Rattle.lsm_store.specs.Machine.{Machine, Step, Called}
+use Rattle.lsm_machine.specs.Calls.{Call, Reply}
+use Rattle.lsm_machine.specs.Calls.{Commit, CommitIf, Sync, SyncTo, Get, Scan, Snapshot, Release, Rotate, LogRoom, Number, Done, Value, Rows, Given, Handed, Refused, Unread, as_told}
+use Rattle.lsm_machine.specs.Machine.{Machine, Step, Called}
 use Rattle.lsm_store.specs.Serving.{Serves, reply_in}
-use Rattle.lsm_store.specs.State.{State}
-use Rattle.lsm_store.specs.Refusals.{first_refusal}
-use Rattle.lsm_store.specs.Work.{Ask, Accept}
-use Rattle.lsm_store.specs.WorkRefusals.{held, of_slot, is_own, tables_made, placing, work_refusal}
-use Rattle.lsm_store.specs.WorkReplies.{work_reply_by, work_decided}
+use Rattle.lsm_machine.specs.State.{State}
+use Rattle.lsm_machine.specs.Refusals.{first_refusal}
+use Rattle.lsm_machine.specs.Work.{Ask, Accept}
+use Rattle.lsm_machine.specs.WorkRefusals.{held, of_slot, is_own, tables_made, placing, work_refusal}
+use Rattle.lsm_machine.specs.WorkReplies.{work_reply_by, work_decided}
 use Rattle.lsm_store.specs.Working.{Works, ServesStep, taken_reply}
 use Rattle.lsm_lives.specs.Calls.{reply_of, told_of}
 use Rattle.lsm_lives.specs.declared.calls.Reply.{Reply as GivenReply}
 use Rattle.lsm_lives.specs.declared.calls.Reply.TheVariants as given
-use Rattle.lsm_store.proofs.CrashStates.{IsAnswer}
-use Rattle.lsm_store.proofs.WorkReplies.{answered_unrefused}
+use Rattle.lsm_machine.proofs.CrashStates.{IsAnswer}
+use Rattle.lsm_machine.proofs.WorkReplies.{answered_unrefused}
 use Rattle.lsm_store.proofs.Works.{works_refused}
 use Rattle.lsm_lives.specs.Asked.{Asked, Told, Own, AcceptBuilt, Replied, result_of, IsTold}
 use Rattle.lsm_lives.specs.Replaying.{Makes}

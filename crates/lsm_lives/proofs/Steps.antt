@@ -9,19 +9,19 @@ use Rattle.lsm_device.specs.History.{EachSince}
 use Rattle.lsm_device.specs.Medium.{disk}
 use Rattle.lsm_device.specs.Outcomes.{Leaves}
 use Rattle.lsm_device.proofs.Moments.{started, joined, weaker, ended}
-use Rattle.lsm_open.specs.CrashState.{CrashState}
+use Rattle.lsm_machine.specs.CrashState.{CrashState}
 use Rattle.lsm_open.specs.Recovering.{StandForOne}
 use Rattle.lsm_open.proofs.OneMeaning.{one_meaning}
 use Rattle.lsm_store.specs.Backing.{StoreView, IsBacked, machine_of}
-use Rattle.lsm_store.specs.Calls.{Reply}
-use Rattle.lsm_store.specs.Crash.{may_leave}
-use Rattle.lsm_store.specs.Machine.{Machine, Step, Called, Worked}
-use Rattle.lsm_store.specs.Run.{AdmitsStep, AllowsStep, next_machine, left_in_step, GoesTo, Run, last_machine, left_in_run}
+use Rattle.lsm_machine.specs.Calls.{Reply}
+use Rattle.lsm_machine.specs.Crash.{may_leave}
+use Rattle.lsm_machine.specs.Machine.{Machine, Step, Called, Worked}
+use Rattle.lsm_machine.specs.Run.{AdmitsStep, AllowsStep, next_machine, left_in_step, GoesTo, Run, last_machine, left_in_run}
 use Rattle.lsm_store.specs.Serving.{is_faultless}
-use Rattle.lsm_store.specs.State.{State}
+use Rattle.lsm_machine.specs.State.{State}
 use Rattle.lsm_store.specs.Working.{ServesStep}
 use Rattle.lsm_store.proofs.ServedSteps.{served_goes, served_work}
-use Rattle.lsm_store.proofs.Steps.{left_now, stopped_run, stopped_last, stopped_left}
+use Rattle.lsm_machine.proofs.Steps.{left_now, stopped_run, stopped_last, stopped_left}
 use Rattle.lsm_merge.specs.Results.{MergeResult}
 use Rattle.lsm_lives.specs.Asked.{Asked, Told, step_in}
 use Rattle.lsm_lives.specs.Calls.{asked_of, told_of}

@@ -6,14 +6,14 @@ use Rattle.lsm_codec.specs.BatchText.{batch_text}
 use Rattle.lsm_codec.specs.Keys.{Bytes}
 use Rattle.lsm_codec.specs.Map.{Map, Operation, apply_all}
 use Rattle.lsm_device.specs.declared.refusal.Refusal.TheVariants.{Io, LogFull}
-use Rattle.lsm_open.specs.CrashState.{CrashState, formatted}
-use Rattle.lsm_store.specs.Calls.{Reply}
-use Rattle.lsm_store.specs.Calls.{Commit, Sync, Get, Number, Done, Value, Refused, Unread, as_told}
-use Rattle.lsm_store.specs.Crash.{reopened}
-use Rattle.lsm_store.specs.Effects.{decided}
-use Rattle.lsm_store.specs.Run.{next}
-use Rattle.lsm_store.specs.State.{State}
-use Rattle.lsm_store.specs.declared.asked.At.TheVariants.{Now}
+use Rattle.lsm_machine.specs.CrashState.{CrashState, formatted}
+use Rattle.lsm_machine.specs.Calls.{Reply}
+use Rattle.lsm_machine.specs.Calls.{Commit, Sync, Get, Number, Done, Value, Refused, Unread, as_told}
+use Rattle.lsm_machine.specs.Crash.{reopened}
+use Rattle.lsm_machine.specs.Effects.{decided}
+use Rattle.lsm_machine.specs.Run.{next}
+use Rattle.lsm_machine.specs.State.{State}
+use Rattle.lsm_machine.specs.declared.asked.At.TheVariants.{Now}
 use Rattle.lsm_lives.specs.Batches.{Act, Calls, Works, Installs, Goes, AreKept, IsLife, KeepsOn, KeepsBatches}
 
 abbrev put : ℕ → ℕ → Operation

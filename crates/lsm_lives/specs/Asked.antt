@@ -5,10 +5,10 @@ use Rattle.lsm_device.specs.declared.refusal.Refusal.TheVariants.{NoMemory, BadL
 use Rattle.lsm_merge.specs.Inputs.{MergeInput, kept_of}
 use Rattle.lsm_merge.specs.Results.{MergeResult}
 use Rattle.lsm_table.specs.Division.{IsTables}
-use Rattle.lsm_store.specs.Calls.{Reply}
-use Rattle.lsm_store.specs.Calls.{Handed, Refused, as_told}
-use Rattle.lsm_store.specs.Machine.{Step, Worked}
-use Rattle.lsm_store.specs.Work.{Ask, Accept}
+use Rattle.lsm_machine.specs.Calls.{Reply}
+use Rattle.lsm_machine.specs.Calls.{Handed, Refused, as_told}
+use Rattle.lsm_machine.specs.Machine.{Step, Worked}
+use Rattle.lsm_machine.specs.Work.{Ask, Accept}
 
 pub data Asked : Type 0 where
   -- a step of the store

@@ -4,16 +4,16 @@ use Rattle.std.specs.Prelude.{◌≡◌, ◌⊎◌, ℕ, ◌+◌, nat_le, Bool, 
 use Rattle.std.specs.declared.vec.Vec.{Vec}
 use Rattle.lsm_codec.specs.Map.{Operation}
 use Rattle.lsm_device.specs.declared.refusal.Refusal.TheVariants.{Io, Stopped}
-use Rattle.lsm_open.specs.CrashState.{CrashState, MayOpen, MayRefuseOpening, left_by_opening}
-use Rattle.lsm_store.specs.Calls.{Call, Reply}
-use Rattle.lsm_store.specs.Calls.{Commit, CommitIf, Sync, SyncTo, Rotate, Number, Done, Refused, as_told}
-use Rattle.lsm_store.specs.Crash.{may_leave, last_crash_state, reopened}
-use Rattle.lsm_store.specs.Lives.{IsAfter, IsPrefixFrom}
-use Rattle.lsm_store.specs.Machine.{Called, Worked}
-use Rattle.lsm_store.specs.Run.{Allows, next}
-use Rattle.lsm_store.specs.State.{State}
-use Rattle.lsm_store.specs.Work.{Install}
-use Rattle.lsm_store.specs.WorkEffects.{installed}
+use Rattle.lsm_machine.specs.CrashState.{CrashState, MayOpen, MayRefuseOpening, left_by_opening}
+use Rattle.lsm_machine.specs.Calls.{Call, Reply}
+use Rattle.lsm_machine.specs.Calls.{Commit, CommitIf, Sync, SyncTo, Rotate, Number, Done, Refused, as_told}
+use Rattle.lsm_machine.specs.Crash.{may_leave, last_crash_state, reopened}
+use Rattle.lsm_machine.specs.Lives.{IsAfter, IsPrefixFrom}
+use Rattle.lsm_machine.specs.Machine.{Called, Worked}
+use Rattle.lsm_machine.specs.Run.{Allows, next}
+use Rattle.lsm_machine.specs.State.{State}
+use Rattle.lsm_machine.specs.Work.{Install}
+use Rattle.lsm_machine.specs.WorkEffects.{installed}
 use Rattle.lsm_lives.specs.Asked.{Asked, Told, Own, Replied, Built}
 use Rattle.lsm_lives.specs.Calls.{call_of, reply_of}
 use Rattle.lsm_lives.specs.declared.calls.Reply.{Reply as GivenReply}

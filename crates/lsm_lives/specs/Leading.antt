@@ -7,14 +7,14 @@ use Rattle.lsm_device.specs.Medium.{Medium, KeepsFuse, disk, fused, crashed}
 use Rattle.lsm_device.specs.Refusals.{is_no_fault}
 use Rattle.lsm_device.specs.declared.refusal.Refusal.{Refusal}
 use Rattle.lsm_device.specs.declared.refusal.Refusal.TheVariants.{NoMemory, Io, BadGeometry}
-use Rattle.lsm_open.specs.CrashState.{CrashState}
+use Rattle.lsm_machine.specs.CrashState.{CrashState}
 use Rattle.lsm_open.specs.Image.{StandFor}
 use Rattle.lsm_open.specs.RefusedOpenings.{opening_refusal}
 use Rattle.lsm_open.specs.Recovering.{BeginsWithSync, FailsToOpen}
 use Rattle.lsm_root.specs.Layout.{IsDeviceSize}
 use Rattle.lsm_store.specs.Backing.{StoreView}
-use Rattle.lsm_store.specs.Calls.{Number, Refused}
-use Rattle.lsm_store.specs.RecoveryPoints.{batch_count}
+use Rattle.lsm_machine.specs.Calls.{Number, Refused}
+use Rattle.lsm_machine.specs.RecoveryPoints.{batch_count}
 use Rattle.lsm_store.specs.Serving.{OpensTo, ReopensTo}
 use Rattle.lsm_lives.specs.Asked.{Asked, Told, Replied, told_stopped}
 use Rattle.lsm_lives.specs.Calls.{asked_of}

@@ -4,12 +4,12 @@ use Rattle.std.specs.declared.vec.Vec.{Vec}
 use Rattle.lsm_codec.specs.Map.{Operation}
 use Rattle.lsm_device.specs.Disk.{Disk, seen}
 use Rattle.lsm_device.specs.Outcomes.{Leaves}
-use Rattle.lsm_open.specs.CrashState.{CrashState}
+use Rattle.lsm_machine.specs.CrashState.{CrashState}
 use Rattle.lsm_open.specs.Image.{StandFor}
 use Rattle.lsm_open.specs.Recovering.{StandForOne}
-use Rattle.lsm_store.specs.Calls.{Reply}
-use Rattle.lsm_store.specs.Lives.{Life, Lives, KeepsLives}
-use Rattle.lsm_store.specs.Machine.{Step}
+use Rattle.lsm_machine.specs.Calls.{Reply}
+use Rattle.lsm_machine.specs.Lives.{Life, Lives, KeepsLives}
+use Rattle.lsm_machine.specs.Machine.{Step}
 use Rattle.lsm_lives.specs.Asked.{Asked, Told, Replied, AreTold}
 use Rattle.lsm_lives.specs.Calls.{asked_of, told_of}
 use Rattle.lsm_lives.specs.Leading.{LifeView}

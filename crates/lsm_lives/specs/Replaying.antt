@@ -5,12 +5,12 @@ use Rattle.lsm_device.specs.History.{EachSince}
 use Rattle.lsm_device.specs.Outcomes.{Leaves}
 use Rattle.lsm_open.specs.Recovering.{StandForOne}
 use Rattle.lsm_store.specs.Backing.{StoreView, IsBacked, machine_of}
-use Rattle.lsm_store.specs.Calls.{Reply}
-use Rattle.lsm_store.specs.Calls.{Handed, Refused}
-use Rattle.lsm_store.specs.Machine.{Step}
-use Rattle.lsm_store.specs.Run.{Run, Course, last_machine, left_in_run}
+use Rattle.lsm_machine.specs.Calls.{Reply}
+use Rattle.lsm_machine.specs.Calls.{Handed, Refused}
+use Rattle.lsm_machine.specs.Machine.{Step}
+use Rattle.lsm_machine.specs.Run.{Run, Course, last_machine, left_in_run}
 use Rattle.lsm_store.specs.Serving.{is_faultless}
-use Rattle.lsm_store.specs.Work.{Ask}
+use Rattle.lsm_machine.specs.Work.{Ask}
 use Rattle.lsm_store.specs.Working.{Works, ServesStep}
 use Rattle.lsm_device.specs.declared.refusal.Refusal.{Refusal}
 use Rattle.lsm_merge.specs.Inputs.{MergeInput, kept_of}

@@ -10,12 +10,12 @@ ghost use Rattle.lsm_lives.specs.Devices.{KeepsBatchesOn};
 ghost use Rattle.lsm_lives.specs.Leading.{LifeView, LeadsTo, AreLed};
 ghost use Rattle.lsm_lives.specs.Living.{asked_in, Holds, AfterCrash, AreLived, KeepPromise};
 ghost use Rattle.lsm_lives.specs.Replaying.{MakesEach, AreReplayed, Replays, GoOn};
-ghost use Rattle.lsm_open.specs.CrashState.{CrashState};
+ghost use Rattle.lsm_machine.specs.CrashState.{CrashState};
 ghost use Rattle.lsm_open.specs.Image.{StandFor};
 ghost use Rattle.lsm_store.specs.Backing.{StoreView, IsBacked};
-ghost use Rattle.lsm_store.specs.Calls.{Reply};
-ghost use Rattle.lsm_store.specs.Crash.{may_leave, last_crash_state};
-ghost use Rattle.lsm_store.specs.Machine.{Step};
+ghost use Rattle.lsm_machine.specs.Calls.{Reply};
+ghost use Rattle.lsm_machine.specs.Crash.{may_leave, last_crash_state};
+ghost use Rattle.lsm_machine.specs.Machine.{Step};
 
 /// Steps one after another, each as the store serves it, are a run of the machine where the device backs its state: the
 /// machine allows the replies and goes on by them, and at every moment every crash leaves what the run may leave.

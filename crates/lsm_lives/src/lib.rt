@@ -23,11 +23,15 @@ mod serving;
 mod whole;
 
 pub use calls::{Call, Reply, Step, Work};
-pub use law::{
-    devices_hold_what_was_left, led_lives_go_on, promise_keeps_batches, steps_go_on,
-    what_is_asked_is_replayed,
-};
 pub use living::{CACHE_BLOCKS, Life, lives, open, open_and_make};
 pub use replaying::replay;
 pub use serving::serve;
 pub use whole::lives_from_format;
+
+/// Laws of the definitions: functions without a body, whose clauses are theorems.
+pub mod laws {
+    pub use crate::law::{
+        devices_hold_what_was_left, led_lives_go_on, promise_keeps_batches, steps_go_on,
+        what_is_asked_is_replayed,
+    };
+}

@@ -2,7 +2,7 @@
 ghost use Rattle.std.specs.Prelude.{◌≡◌, option_map};
 ghost use Rattle.lsm_lives.specs.Asked.{Replied};
 ghost use Rattle.lsm_lives.specs.Calls.{call_of, reply_of, told_of};
-ghost use Rattle.lsm_store.specs.Calls.{Number, Done, reply_of as reply_by};
+ghost use Rattle.lsm_machine.specs.Calls.{Number, Done, reply_of as reply_by};
 ghost use Rattle.lsm_store.specs.Serving.{Serves, reply_in};
 
 use crate::calls::{Call, Reply};

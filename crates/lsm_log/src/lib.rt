@@ -10,5 +10,10 @@ mod reading;
 mod region;
 
 pub use log::Log;
-pub use reading::{replay, replay_is_longest};
-pub use region::epoch_laws;
+pub use reading::replay;
+
+/// Laws of the definitions: functions without a body, whose clauses are theorems.
+pub mod laws {
+    pub use crate::reading::replay_is_longest;
+    pub use crate::region::epoch_laws;
+}

@@ -1,4 +1,3 @@
-pub mod Openings
 pub mod KeptRecords
 pub mod NextManifests
 pub mod ReplaySteps
@@ -27,7 +26,6 @@ pub mod CountedReads
 pub mod CountedManifests
 pub mod OpeningSteps
 pub mod OneMeaning
-pub mod Beginnings
 pub mod Writing
 pub mod TableTexts
 pub mod Taking

@@ -14,7 +14,7 @@ use Rattle.lsm_log.specs.Opened.{is_above}
 use Rattle.lsm_log.proofs.Epochs.{none_above_more}
 use Rattle.lsm_mem.specs.Versions.{value_at, map_of}
 use Rattle.lsm_merge.specs.Inputs.{joined}
-use Rattle.lsm_open.specs.CrashState.{CrashState, in_next_generation}
+use Rattle.lsm_machine.specs.CrashState.{CrashState, in_next_generation}
 use Rattle.lsm_open.specs.LogRegions.{first_region, one_if_some}
 use Rattle.lsm_open.specs.Layout.{open_batches, IsLogAtIfOpen}
 use Rattle.lsm_open.specs.Placements.{Placement, table_map, closed_in, IsHeld, Carries, state_with, present_state}

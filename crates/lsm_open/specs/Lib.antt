@@ -1,4 +1,3 @@
-pub mod CrashState
 pub mod LogRegions
 pub mod Tables
 pub mod Counting

@@ -9,7 +9,7 @@ ghost use Rattle.lsm_device.specs.Medium.{disk};
 ghost use Rattle.lsm_device.specs.Outcomes.{Leaves};
 ghost use Rattle.lsm_device.specs.Refusals.{is_no_fault, faultless};
 ghost use Rattle.lsm_open.specs.Answered.{OpensUnless};
-ghost use Rattle.lsm_open.specs.CrashState.{CrashState, last_number, left_by_opening, MayRefuseOpening};
+ghost use Rattle.lsm_machine.specs.CrashState.{CrashState, last_number, left_by_opening, MayRefuseOpening};
 ghost use Rattle.lsm_open.specs.Image.{StandFor};
 ghost use Rattle.lsm_open.specs.Layout.{layout_of};
 ghost use Rattle.lsm_open.specs.RefusedOpenings.{opening_refusal};
@@ -30,7 +30,8 @@ use lsm_device::{Device, Refusal};
 use lsm_extent::Extents;
 use lsm_levels::Levels;
 use lsm_mem::{Mem, Sealed};
-use lsm_root::{Loaded, root_laws};
+use lsm_root::Loaded;
+use lsm_root::laws::root_laws;
 use std::alloc::{Allocator, Global};
 use std::sync::Arc;
 

@@ -25,9 +25,10 @@ use crate::regions::region_start;
 use lsm_cache::read_block;
 use lsm_codec::{Manifest, TableRecord, data_blocks};
 use lsm_device::{Device, Refusal};
-use lsm_extent::{Extents, extent_laws};
+use lsm_extent::Extents;
+use lsm_extent::laws::extent_laws;
 use lsm_levels::{Levels, PlacedTable, Run, is_run};
-use lsm_table::outline_law;
+use lsm_table::laws::outline_law;
 use std::alloc::{AllocError, Allocator};
 
 const BLOCK_BYTES: usize = 4_096;

@@ -5,7 +5,7 @@ use Rattle.lsm_codec.specs.Words.{word_of}
 use Rattle.lsm_codec.specs.Keys.{Bytes}
 use Rattle.lsm_mem.specs.Paging.{Page}
 use Rattle.lsm_device.specs.declared.refusal.Refusal.TheVariants.{Io}
-use Rattle.lsm_store.specs.Calls.{Call, Commit, CommitIf, Snapshot, Reply, Number, Done, Value, Rows, Given, Handed, Refused, Unread}
+use Rattle.lsm_machine.specs.Calls.{Call, Commit, CommitIf, Snapshot, Reply, Number, Done, Value, Rows, Given, Handed, Refused, Unread}
 use Rattle.lsm_store.specs.declared.stat.Stat.{Stat}
 use Rattle.lsm_language.specs.Faults.{refusal_line}
 use Rattle.lsm_lives.specs.Asked.{Told as LivesTold, Replied, Built}

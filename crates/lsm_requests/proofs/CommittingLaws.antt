@@ -4,11 +4,11 @@ use Rattle.lsm_codec.specs.Map.{Map, Operation, apply}
 use Rattle.lsm_device.specs.declared.refusal.Refusal.{Refusal}
 use Rattle.lsm_device.specs.declared.refusal.Refusal.TheVariants.{Io, LogFull}
 use Rattle.lsm_store.specs.Backing.{StoreView, machine_of}
-use Rattle.lsm_store.specs.Calls.{Reply, Commit, Number, Done, Value, Rows, Given, Handed, Refused, Unread}
-use Rattle.lsm_store.specs.RecoveryPoints.{last_map}
-use Rattle.lsm_store.specs.Run.{next}
+use Rattle.lsm_machine.specs.Calls.{Reply, Commit, Number, Done, Value, Rows, Given, Handed, Refused, Unread}
+use Rattle.lsm_machine.specs.RecoveryPoints.{last_map}
+use Rattle.lsm_machine.specs.Run.{next}
 use Rattle.lsm_store.specs.Serving.{Serves}
-use Rattle.lsm_store.specs.State.{State}
+use Rattle.lsm_machine.specs.State.{State}
 use Rattle.lsm_upkeep.specs.Compacting.{is_compacted}
 use Rattle.lsm_upkeep.specs.Flushing.{FlushesFirst}
 use Rattle.lsm_upkeep.specs.Keeping.{IsSameMap, KeepsMap}

@@ -8,10 +8,10 @@ use Rattle.lsm_open.specs.Recovering.{IsOpeningRefusal}
 use Rattle.lsm_language.specs.Faults.{IsRefusalBy, Reason, mistake, refusal, unopened, unread, unwritten}
 use Rattle.lsm_mem.specs.Paging.{Page}
 use Rattle.lsm_store.specs.Backing.{StoreView}
-use Rattle.lsm_store.specs.Calls.{Refused, Rows, Scan}
+use Rattle.lsm_machine.specs.Calls.{Refused, Rows, Scan}
 use Rattle.lsm_store.specs.Serving.{Serves}
-use Rattle.lsm_store.specs.declared.asked.At.{At}
-use Rattle.lsm_store.specs.declared.asked.At.TheVariants.{Now}
+use Rattle.lsm_machine.specs.declared.asked.At.{At}
+use Rattle.lsm_machine.specs.declared.asked.At.TheVariants.{Now}
 use Rattle.lsm_walk.specs.Walking.{IsHeld, WalkView, WalksTo}
 use Rattle.lsm_requests.specs.Answers.{TellsDumped, WasOpened}
 use Rattle.lsm_requests.specs.Dumping.{Dumps, DumpsPage, IsUnprinted, RefusesPage, StopsAtPage, StopsDumping, pages_lines, rows_lines}

@@ -2,9 +2,9 @@
 use Rattle.std.proofs.Common.{◌≡◌, ◌∙◌, ℕ, List, [], ◌∷◌, map, None, refl, ap, subst, Global}
 use Rattle.lsm_device.specs.Disk.{Disk}
 use Rattle.lsm_device.specs.Medium.{Medium}
-use Rattle.lsm_open.specs.CrashState.{formatted as empty_store}
+use Rattle.lsm_machine.specs.CrashState.{formatted as empty_store}
 use Rattle.lsm_lives.specs.Asked.{Told}
-use Rattle.lsm_store.specs.Lives.{IsAfter}
+use Rattle.lsm_machine.specs.Lives.{IsAfter}
 use Rattle.lsm_lives.specs.declared.living.Life.{Life}
 use Rattle.lsm_lives.specs.Leading.{AreLed, life_of as view_of_life}
 use Rattle.lsm_lives.specs.Living.{asked_in, asked_by, KeepPromise}

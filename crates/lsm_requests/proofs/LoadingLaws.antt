@@ -10,10 +10,10 @@ use Rattle.lsm_language.specs.Reading.{ReadsLine}
 use Rattle.lsm_language.specs.Rows.{are_rows, lines_of, most_row, row_said, rows_of, with_row}
 use Rattle.lsm_open.specs.Recovering.{IsOpeningRefusal}
 use Rattle.lsm_store.specs.Backing.{StoreView}
-use Rattle.lsm_store.specs.Calls.{Done, Refused as RefusedSo, Sync}
-use Rattle.lsm_store.specs.RecoveryPoints.{present_map}
+use Rattle.lsm_machine.specs.Calls.{Done, Refused as RefusedSo, Sync}
+use Rattle.lsm_machine.specs.RecoveryPoints.{present_map}
 use Rattle.lsm_store.specs.Serving.{Serves}
-use Rattle.lsm_store.specs.State.{State}
+use Rattle.lsm_machine.specs.State.{State}
 use Rattle.lsm_upkeep.specs.Keeping.{KeepsMap}
 use Rattle.lsm_requests.specs.declared.loading.Loading.{Loading}
 use Rattle.lsm_requests.specs.declared.loading.Loaded.{Loaded}

@@ -7,9 +7,9 @@ use Rattle.lsm_device.specs.declared.refusal.Refusal.{Refusal}
 use Rattle.lsm_device.specs.declared.refusal.Refusal.TheVariants.{NoMemory, Io, Stopped}
 use Rattle.lsm_open.specs.Recovering.{IsOpeningRefusal}
 use Rattle.lsm_store.specs.Backing.{StoreView, machine_of}
-use Rattle.lsm_store.specs.Calls.{Call, Sync, Number, Refused}
+use Rattle.lsm_machine.specs.Calls.{Call, Sync, Number, Refused}
 use Rattle.lsm_store.specs.Serving.{Serves}
-use Rattle.lsm_store.specs.State.{State}
+use Rattle.lsm_machine.specs.State.{State}
 use Rattle.lsm_store.specs.Stats.{stat_answer, stat_of}
 use Rattle.lsm_upkeep.specs.Writing.{Writes}
 use Rattle.lsm_check.specs.Images.{IsCheckRefusal}

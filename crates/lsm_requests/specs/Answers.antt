@@ -15,7 +15,7 @@ use Rattle.lsm_device.specs.declared.file.FileDevice.{FileDevice}
 use Rattle.lsm_root.specs.Counted.{CallsMade}
 use Rattle.lsm_device.specs.declared.refusal.Refusal.{Refusal}
 use Rattle.lsm_device.specs.declared.refusal.Refusal.TheVariants.{Stopped}
-use Rattle.lsm_open.specs.CrashState.{formatted as empty_store}
+use Rattle.lsm_machine.specs.CrashState.{formatted as empty_store}
 use Rattle.lsm_open.specs.Image.{StandFor}
 use Rattle.lsm_open.specs.ReadParts.{ReadsAtMost}
 use Rattle.lsm_open.specs.Recovering.{IsOpeningRefusal}
@@ -24,8 +24,8 @@ use Rattle.lsm_check.specs.Images.{IsImage, is_faultless}
 use Rattle.lsm_check.specs.declared.finding.Finding.{Finding}
 use Rattle.lsm_check.specs.declared.finding.Finding.TheVariants as finding
 use Rattle.lsm_check.specs.declared.report.Report.{Report}
-use Rattle.lsm_store.specs.declared.asked.At.TheVariants.{Now}
-use Rattle.lsm_store.specs.Calls.{Get, Scan, Rows, Value as Found}
+use Rattle.lsm_machine.specs.declared.asked.At.TheVariants.{Now}
+use Rattle.lsm_machine.specs.Calls.{Get, Scan, Rows, Value as Found}
 use Rattle.lsm_store.specs.Backing.{StoreView, machine_of}
 use Rattle.lsm_store.specs.Serving.{Serves, ReopensTo}
 use Rattle.lsm_store.specs.Stats.{stat_answer}

@@ -4,8 +4,8 @@ use Rattle.lsm_codec.specs.Guards.{Condition}
 use Rattle.lsm_codec.specs.Map.{Map, Operation, apply}
 use Rattle.lsm_device.specs.declared.refusal.Refusal.{Refusal}
 use Rattle.lsm_store.specs.Backing.{StoreView}
-use Rattle.lsm_store.specs.Calls.{Call, Reply, Sync, Done, Number, Refused, as_told}
-use Rattle.lsm_store.specs.RecoveryPoints.{present_map}
+use Rattle.lsm_machine.specs.Calls.{Call, Reply, Sync, Done, Number, Refused, as_told}
+use Rattle.lsm_machine.specs.RecoveryPoints.{present_map}
 use Rattle.lsm_store.specs.Serving.{Serves}
 use Rattle.lsm_upkeep.specs.Upkeep.{KeepsUp}
 use Rattle.lsm_upkeep.specs.Writing.{Writes}

@@ -8,10 +8,10 @@ use Rattle.lsm_device.specs.declared.refusal.Refusal.TheVariants.{NoMemory, Exha
 use Rattle.lsm_language.specs.Faults.{Reason, refusal, unwritten}
 use Rattle.lsm_mem.specs.Paging.{Page}
 use Rattle.lsm_store.specs.Backing.{StoreView}
-use Rattle.lsm_store.specs.Calls.{Scan, Refused}
+use Rattle.lsm_machine.specs.Calls.{Scan, Refused}
 use Rattle.lsm_store.specs.Serving.{Serves}
-use Rattle.lsm_store.specs.declared.asked.At.{At}
-use Rattle.lsm_store.specs.declared.asked.At.TheVariants.{Now}
+use Rattle.lsm_machine.specs.declared.asked.At.{At}
+use Rattle.lsm_machine.specs.declared.asked.At.TheVariants.{Now}
 use Rattle.lsm_walk.specs.Walking.{GoesOn, WalkView, WalksThrough, WalksTo}
 use Rattle.lsm_requests.specs.Replies.{row_line}
 use Rattle.lsm_requests.specs.declared.answer.Output.{Output}

@@ -4,7 +4,7 @@ use Rattle.lsm_codec.specs.Map.{Operation, apply}
 use Rattle.lsm_device.specs.declared.refusal.Refusal.{Refusal}
 use Rattle.lsm_device.specs.declared.refusal.Refusal.TheVariants.{Exhausted, NoMemory}
 use Rattle.lsm_store.specs.Backing.{StoreView}
-use Rattle.lsm_store.specs.Calls.{Done, Sync}
+use Rattle.lsm_machine.specs.Calls.{Done, Sync}
 use Rattle.lsm_store.specs.Serving.{Serves}
 use Rattle.lsm_language.specs.declared.fault.Fault.{Fault}
 use Rattle.lsm_language.specs.declared.fault.Fault.TheVariants as fault

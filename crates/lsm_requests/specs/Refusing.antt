@@ -9,9 +9,9 @@ use Rattle.lsm_language.specs.Faults.{IsRefusalBy, Reason}
 use Rattle.lsm_language.specs.declared.request.Request.{Request}
 use Rattle.lsm_language.specs.declared.request.Request.TheVariants as request
 use Rattle.lsm_open.specs.Recovering.{IsOpeningRefusal}
-use Rattle.lsm_store.specs.declared.asked.At.TheVariants.{Now}
+use Rattle.lsm_machine.specs.declared.asked.At.TheVariants.{Now}
 use Rattle.lsm_store.specs.Backing.{StoreView, machine_of}
-use Rattle.lsm_store.specs.Calls.{Call, Get, Scan, Sync, Number, Refused}
+use Rattle.lsm_machine.specs.Calls.{Call, Get, Scan, Sync, Number, Refused}
 use Rattle.lsm_store.specs.Stats.{stat_answer}
 use Rattle.lsm_upkeep.specs.Writing.{Writes}
 use Rattle.lsm_serve.specs.Committing.{CompactsWhole}

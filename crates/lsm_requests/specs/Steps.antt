@@ -1,7 +1,7 @@
 -- The steps of a script, and how the replies to them are told.
 use Rattle.std.specs.Prelude.{ℕ, ◌+◌, ◌*◌, ◌^◌, ◌-◌, min, List, [], ◌∷◌, ◌++◌, length, map, replicate, slice_get, Bool, true, false, Option, Some, None, if◌then◌else◌}
 use Rattle.std.specs.Global.{Global}
-use Rattle.lsm_store.specs.Calls.{Call}
+use Rattle.lsm_machine.specs.Calls.{Call}
 use Rattle.lsm_lives.specs.declared.calls.Step.{Step as GivenStep}
 use Rattle.lsm_lives.specs.declared.calls.Step.TheVariants as step
 use Rattle.lsm_lives.specs.declared.living.Life.{Life}

@@ -7,10 +7,10 @@ use Rattle.lsm_device.specs.declared.refusal.Refusal.TheVariants.{Io, LogFull, N
 use Rattle.lsm_lives.specs.Replaying.{GoOn, Replays}
 use Rattle.lsm_replies.specs.Replies.{counted_by}
 use Rattle.lsm_store.specs.Backing.{StoreView}
-use Rattle.lsm_store.specs.Calls.{Call, Reply, Commit, CommitIf, Sync, SyncTo, Get, Scan, Snapshot, Release, Rotate, LogRoom, Number, Done, Value, Rows, Given, Handed, Refused, Unread, as_told}
-use Rattle.lsm_store.specs.Machine.{Step, Called}
+use Rattle.lsm_machine.specs.Calls.{Call, Reply, Commit, CommitIf, Sync, SyncTo, Get, Scan, Snapshot, Release, Rotate, LogRoom, Number, Done, Value, Rows, Given, Handed, Refused, Unread, as_told}
+use Rattle.lsm_machine.specs.Machine.{Step, Called}
 use Rattle.lsm_store.specs.Serving.{Serves, reply_in}
-use Rattle.lsm_store.specs.State.{State}
+use Rattle.lsm_machine.specs.State.{State}
 use Rattle.lsm_upkeep.specs.Writing.{EndsWith, commit_of, without_log_full}
 use Rattle.lsm_serve.specs.Asking.{Meaning, asks_call, asks_no_batch, asks_numbers, asks_compaction, asks_nothing, meaning_of}
 use Rattle.lsm_serve.specs.Committing.{MakesCall, ServesTold, WritesTold}

@@ -2,8 +2,8 @@
 use Rattle.std.proofs.Common.{ℕ, zero, suc, List, [], ◌∷◌, ◌++◌, subst}
 use Rattle.lsm_lives.specs.Replaying.{Replays}
 use Rattle.lsm_store.specs.Backing.{StoreView}
-use Rattle.lsm_store.specs.Calls.{Reply}
-use Rattle.lsm_store.specs.Machine.{Step}
+use Rattle.lsm_machine.specs.Calls.{Reply}
+use Rattle.lsm_machine.specs.Machine.{Step}
 use Rattle.lsm_upkeep.specs.Steps.{IsUpkept, UpkeepSteps}
 use Rattle.lsm_serve.specs.Course.{AreUpkeep}
 

@@ -7,7 +7,7 @@ use Rattle.lsm_device.specs.declared.refusal.Refusal.TheVariants.{Exhausted, NoM
 use Rattle.lsm_language.specs.declared.fault.Fault.{Fault}
 use Rattle.lsm_language.specs.Faults.{Reason, mistake, refusal, unopened, unread, unwritten, reason_of}
 use Rattle.lsm_store.specs.Backing.{StoreView}
-use Rattle.lsm_store.specs.Calls.{Done, Refused, Sync, reply_of}
+use Rattle.lsm_machine.specs.Calls.{Done, Refused, Sync, reply_of}
 use Rattle.lsm_store.specs.Serving.{Serves}
 use Rattle.lsm_serve.specs.Answering.{Answered, AnswersLine, AnswersLines, answer_text, answers_text}
 use Rattle.lsm_serve.specs.Reading.{HasNoNewline, IsInputFault, TakesLine, lines_text}

@@ -5,7 +5,7 @@ use Rattle.lsm_device.specs.declared.refusal.Refusal.TheVariants.{NoMemory}
 use Rattle.lsm_lives.specs.Asked.{Replied}
 use Rattle.lsm_lives.specs.Calls.{reply_of, told_of}
 use Rattle.lsm_store.specs.Backing.{StoreView, machine_of}
-use Rattle.lsm_store.specs.Calls.{Reply, Refused}
+use Rattle.lsm_machine.specs.Calls.{Reply, Refused}
 use Rattle.lsm_store.specs.Stats.{stat_answer}
 use Rattle.lsm_store.specs.declared.stat.Stat.{Stat}
 use Rattle.lsm_replies.specs.Replies.{counted_by, reply_line, stat_line}

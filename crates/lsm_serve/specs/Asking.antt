@@ -4,7 +4,7 @@ use Rattle.std.specs.Str.{bytes_eq, is_utf8}
 use Rattle.lsm_device.specs.declared.refusal.Refusal.{Refusal}
 use Rattle.lsm_lives.specs.Calls.{call_of}
 use Rattle.lsm_language.specs.Lines.{Said, call, no_batch, line_said}
-use Rattle.lsm_store.specs.Calls.{Call, Rotate}
+use Rattle.lsm_machine.specs.Calls.{Call, Rotate}
 use Rattle.lsm_serve.specs.Mistakes.{mistake_text, shown}
 use Rattle.lsm_serve.specs.Reading.{most_bytes}
 use Rattle.lsm_serve.specs.Tagging.{rest_of}

@@ -4,8 +4,8 @@ use Rattle.lsm_device.specs.declared.refusal.Refusal.TheVariants.{NoMemory, NoSp
 use Rattle.lsm_lives.specs.Replaying.{GoOn, Replays}
 use Rattle.lsm_replies.specs.Replies.{counted_by}
 use Rattle.lsm_store.specs.Backing.{StoreView}
-use Rattle.lsm_store.specs.Calls.{Call, Reply, Commit, CommitIf, Refused, as_told}
-use Rattle.lsm_store.specs.Machine.{Step, Called}
+use Rattle.lsm_machine.specs.Calls.{Call, Reply, Commit, CommitIf, Refused, as_told}
+use Rattle.lsm_machine.specs.Machine.{Step, Called}
 use Rattle.lsm_upkeep.specs.Steps.{IsUpkeepStep}
 use Rattle.lsm_upkeep.specs.Writing.{without_log_full}
 use Rattle.lsm_serve.specs.Asking.{Meaning, asks_call, asks_compaction, meaning_of}

@@ -6,7 +6,7 @@ use Rattle.lsm_device.specs.declared.refusal.Refusal.TheVariants.{Exhausted, NoM
 use Rattle.lsm_language.specs.declared.fault.Fault.{Fault}
 use Rattle.lsm_language.specs.Faults.{Reason, refusal, unread, unwritten, reason_of}
 use Rattle.lsm_store.specs.Backing.{StoreView}
-use Rattle.lsm_store.specs.Calls.{Reply, Sync, Done, Refused}
+use Rattle.lsm_machine.specs.Calls.{Reply, Sync, Done, Refused}
 use Rattle.lsm_store.specs.Serving.{Serves}
 use Rattle.lsm_serve.specs.Answering.{Answered, AnswersLines, answers_text}
 use Rattle.lsm_serve.specs.Reading.{HasNoNewline, lines_text}

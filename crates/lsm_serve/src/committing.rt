@@ -3,7 +3,7 @@
 ghost use Rattle.std.specs.Prelude.{◌≡◌};
 ghost use Rattle.lsm_lives.specs.Asked.{Replied};
 ghost use Rattle.lsm_lives.specs.Calls.{call_of, reply_of, told_of};
-ghost use Rattle.lsm_store.specs.Calls.{Number, reply_of as reply_by};
+ghost use Rattle.lsm_machine.specs.Calls.{Number, reply_of as reply_by};
 ghost use Rattle.lsm_serve.specs.Committing.{MakesCall};
 
 use lsm_device::{Device, Refusal};

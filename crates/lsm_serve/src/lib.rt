@@ -21,6 +21,10 @@ mod tagging;
 pub use answer::Answer;
 pub use asking::Wrong;
 pub use expected::Expected;
-pub use law::answered_lines_go_on;
 pub use mistake::Mistake;
 pub use serving::serve;
+
+/// Laws of the definitions: functions without a body, whose clauses are theorems.
+pub mod laws {
+    pub use crate::law::answered_lines_go_on;
+}

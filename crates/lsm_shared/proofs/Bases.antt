@@ -4,15 +4,15 @@ use Rattle.lsm_device.specs.declared.refusal.Refusal.{Refusal}
 use Rattle.lsm_device.specs.declared.refusal.Refusal.TheVariants.{NoMemory, Io, Stopped, NoSuchSnapshot, BadTable, GuardFailed}
 use Rattle.std.specs.Prelude.{IsNone}
 use Rattle.lsm_store.specs.Backing.{StoreView, machine_of}
-use Rattle.lsm_store.specs.Calls.{reply_of}
-use Rattle.lsm_store.specs.Calls.{Release, Done, Refused}
-use Rattle.lsm_store.specs.Effects.{after, reply_by}
-use Rattle.lsm_store.specs.Machine.{Machine}
-use Rattle.lsm_store.specs.Refusals.{refusal}
-use Rattle.lsm_store.specs.Run.{Admits, next}
+use Rattle.lsm_machine.specs.Calls.{reply_of}
+use Rattle.lsm_machine.specs.Calls.{Release, Done, Refused}
+use Rattle.lsm_machine.specs.Effects.{after, reply_by}
+use Rattle.lsm_machine.specs.Machine.{Machine}
+use Rattle.lsm_machine.specs.Refusals.{refusal}
+use Rattle.lsm_machine.specs.Run.{Admits, next}
 use Rattle.lsm_store.specs.Serving.{Serves}
-use Rattle.lsm_store.specs.State.{State, snapshot_of}
-use Rattle.lsm_store.specs.WorkEffects.{work_by}
+use Rattle.lsm_machine.specs.State.{State, snapshot_of}
+use Rattle.lsm_machine.specs.WorkEffects.{work_by}
 use Rattle.lsm_trail.specs.Begins.{Begin, base_of}
 use Rattle.lsm_trail.specs.History.{Event, IsLegal, machine_after, state_after}
 use Rattle.lsm_trail.proofs.Bases.{base_kept}

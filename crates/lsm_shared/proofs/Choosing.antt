@@ -2,8 +2,8 @@
 use Rattle.std.proofs.Common.{◌≡◌, ℕ, [], ◌∷◌, None, refl, sym, ap, subst}
 use Rattle.lsm_device.specs.declared.refusal.Refusal.{Refusal}
 use Rattle.lsm_store.specs.Backing.{StoreView, machine_of}
-use Rattle.lsm_store.specs.Machine.{Worked}
-use Rattle.lsm_store.specs.Work.{Work}
+use Rattle.lsm_machine.specs.Machine.{Worked}
+use Rattle.lsm_machine.specs.Work.{Work}
 use Rattle.lsm_store.specs.Working.{ServesStep}
 use Rattle.lsm_lives.specs.Asked.{Told}
 use Rattle.lsm_trail.specs.History.{event, worked}

@@ -6,16 +6,16 @@ use Rattle.lsm_device.specs.Outcomes.{Leaves}
 use Rattle.lsm_device.specs.declared.refusal.Refusal.TheVariants.{Io}
 use Rattle.lsm_open.specs.Recovering.{StandForOne}
 use Rattle.lsm_store.specs.Backing.{StoreView, machine_of, IsBacked}
-use Rattle.lsm_store.specs.Calls.{Call, Reply}
-use Rattle.lsm_store.specs.Calls.{Commit, CommitIf, Sync, SyncTo, Get, Scan, Snapshot, Release, Rotate, LogRoom, Number, Done, Value, Rows, Given, Handed, Refused, Unread}
-use Rattle.lsm_store.specs.Crash.{may_leave}
-use Rattle.lsm_store.specs.Effects.{after, reply_by, Use, use_of}
-use Rattle.lsm_store.specs.Effects.{Untouched, Reads, Changes}
-use Rattle.lsm_store.specs.RecoveryPoints.{all_synced}
-use Rattle.lsm_store.specs.Machine.{Machine, Step, Called, Worked}
-use Rattle.lsm_store.specs.Run.{after_fault, next, next_machine, Run}
-use Rattle.lsm_store.specs.State.{State}
-use Rattle.lsm_store.proofs.WorkReplies.{work_keeps}
+use Rattle.lsm_machine.specs.Calls.{Call, Reply}
+use Rattle.lsm_machine.specs.Calls.{Commit, CommitIf, Sync, SyncTo, Get, Scan, Snapshot, Release, Rotate, LogRoom, Number, Done, Value, Rows, Given, Handed, Refused, Unread}
+use Rattle.lsm_machine.specs.Crash.{may_leave}
+use Rattle.lsm_machine.specs.Effects.{after, reply_by, Use, use_of}
+use Rattle.lsm_machine.specs.Effects.{Untouched, Reads, Changes}
+use Rattle.lsm_machine.specs.RecoveryPoints.{all_synced}
+use Rattle.lsm_machine.specs.Machine.{Machine, Step, Called, Worked}
+use Rattle.lsm_machine.specs.Run.{after_fault, next, next_machine, Run}
+use Rattle.lsm_machine.specs.State.{State}
+use Rattle.lsm_machine.proofs.WorkReplies.{work_keeps}
 use Rattle.lsm_trail.specs.Begins.{Begin, base_of, first_machine}
 use Rattle.lsm_trail.specs.History.{Event, steps_of, replies_of, machine_behind, AreServed, IsLegal, state_after}
 use Rattle.lsm_shared.specs.Sessions.{ended_state}

@@ -4,12 +4,12 @@ use Rattle.lsm_device.specs.Calls.{faults_after}
 use Rattle.lsm_device.specs.Medium.{Medium}
 use Rattle.lsm_device.specs.declared.refusal.Refusal.TheVariants.{NoMemory}
 use Rattle.lsm_store.specs.Backing.{StoreView}
-use Rattle.lsm_store.specs.Calls.{Call, Reply}
-use Rattle.lsm_store.specs.Calls.{Release, Number, Done, Value, Rows, Given, Handed, Refused, Unread}
-use Rattle.lsm_store.specs.Effects.{Use, use_of, use_first}
-use Rattle.lsm_store.specs.Effects.{Untouched}
-use Rattle.lsm_store.specs.Machine.{Step, Called, Worked}
-use Rattle.lsm_store.specs.Refusals.{refusal}
+use Rattle.lsm_machine.specs.Calls.{Call, Reply}
+use Rattle.lsm_machine.specs.Calls.{Release, Number, Done, Value, Rows, Given, Handed, Refused, Unread}
+use Rattle.lsm_machine.specs.Effects.{Use, use_of, use_first}
+use Rattle.lsm_machine.specs.Effects.{Untouched}
+use Rattle.lsm_machine.specs.Machine.{Step, Called, Worked}
+use Rattle.lsm_machine.specs.Refusals.{refusal}
 use Rattle.lsm_store.specs.Serving.{is_faultless, use_before, IsUsed, Serves}
 use Rattle.lsm_store.specs.Working.{ServesStep}
 use Rattle.lsm_lives.specs.Replaying.{faults_told}

@@ -7,23 +7,23 @@ use Rattle.lsm_jobs.specs.Slots.{Stage, Reading, Frozen, Writing, Slot}
 use Rattle.lsm_jobs.specs.Taking.{level_of}
 use Rattle.lsm_levels.specs.Pick.{Job}
 use Rattle.lsm_levels.specs.declared.choosing.Choice.{Choice}
-use Rattle.lsm_open.specs.CrashState.{last_number}
+use Rattle.lsm_machine.specs.CrashState.{last_number}
 use Rattle.lsm_store.specs.Backing.{StoreView, machine_of}
-use Rattle.lsm_store.specs.Calls.{Call, Reply}
-use Rattle.lsm_store.specs.Calls.{Commit, CommitIf, Sync, SyncTo, Get, Scan, Snapshot, Release, Rotate, LogRoom, Number, Done, Given, Refused}
-use Rattle.lsm_store.specs.Effects.{answer, reply_by}
-use Rattle.lsm_store.specs.Machine.{Machine}
-use Rattle.lsm_store.specs.Pieces.{piece_of_job, piece_of_slot, piece_at}
-use Rattle.lsm_store.specs.Refusals.{first_refusal, refusal}
-use Rattle.lsm_store.specs.Run.{Admits}
+use Rattle.lsm_machine.specs.Calls.{Call, Reply}
+use Rattle.lsm_machine.specs.Calls.{Commit, CommitIf, Sync, SyncTo, Get, Scan, Snapshot, Release, Rotate, LogRoom, Number, Done, Given, Refused}
+use Rattle.lsm_machine.specs.Effects.{answer, reply_by}
+use Rattle.lsm_machine.specs.Machine.{Machine}
+use Rattle.lsm_machine.specs.Pieces.{piece_of_job, piece_of_slot, piece_at}
+use Rattle.lsm_machine.specs.Refusals.{first_refusal, refusal}
+use Rattle.lsm_machine.specs.Run.{Admits}
 use Rattle.lsm_store.specs.Serving.{Serves}
-use Rattle.lsm_store.specs.State.{State}
+use Rattle.lsm_machine.specs.State.{State}
 use Rattle.lsm_store.specs.Stats.{stat_of, stat_answer}
 use Rattle.lsm_store.specs.declared.stat.Stat.{Stat}
-use Rattle.lsm_store.specs.Work.{Work, Take, Read, Ask, Accept, Write, Install, Drop}
-use Rattle.lsm_store.specs.WorkEffects.{work_answer}
-use Rattle.lsm_store.specs.WorkRefusals.{job_given, running_refusal, work_refusal}
-use Rattle.lsm_store.specs.WorkReplies.{work_reply_by, work_decided, WorkAdmits}
+use Rattle.lsm_machine.specs.Work.{Work, Take, Read, Ask, Accept, Write, Install, Drop}
+use Rattle.lsm_machine.specs.WorkEffects.{work_answer}
+use Rattle.lsm_machine.specs.WorkRefusals.{job_given, running_refusal, work_refusal}
+use Rattle.lsm_machine.specs.WorkReplies.{work_reply_by, work_decided, WorkAdmits}
 use Rattle.lsm_store.specs.Working.{Works}
 use Rattle.lsm_merge.specs.Results.{MergeResult}
 use Rattle.lsm_shared.specs.Turns.{Gives}

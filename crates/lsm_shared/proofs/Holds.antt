@@ -6,19 +6,19 @@ use Rattle.std.proofs.lemmas.List.{append-nil}
 use Rattle.lsm_device.specs.declared.refusal.Refusal.{Refusal}
 use Rattle.lsm_device.specs.declared.refusal.Refusal.TheVariants.{NoMemory, Io}
 use Rattle.lsm_store.specs.Backing.{StoreView, IsBacked, machine_of}
-use Rattle.lsm_store.specs.Calls.{Call, Reply}
-use Rattle.lsm_store.specs.Calls.{Commit, CommitIf, Sync, SyncTo, Get, Scan, Snapshot, Release, Rotate, LogRoom, Number, Done, Value, Rows, Given, Handed, Refused, Unread}
-use Rattle.lsm_store.specs.Effects.{after, takes_memory}
-use Rattle.lsm_store.specs.Machine.{Machine, Step, Called, Worked}
-use Rattle.lsm_store.specs.Run.{Allows, Admits, AllowsStep, AdmitsStep, GoesTo, asks_value, asks_page, next, next_machine}
+use Rattle.lsm_machine.specs.Calls.{Call, Reply}
+use Rattle.lsm_machine.specs.Calls.{Commit, CommitIf, Sync, SyncTo, Get, Scan, Snapshot, Release, Rotate, LogRoom, Number, Done, Value, Rows, Given, Handed, Refused, Unread}
+use Rattle.lsm_machine.specs.Effects.{after, takes_memory}
+use Rattle.lsm_machine.specs.Machine.{Machine, Step, Called, Worked}
+use Rattle.lsm_machine.specs.Run.{Allows, Admits, AllowsStep, AdmitsStep, GoesTo, asks_value, asks_page, next, next_machine}
 use Rattle.lsm_merge.specs.Inputs.{MergeInput}
 use Rattle.lsm_store.specs.Serving.{Serves, reply_in}
-use Rattle.lsm_store.specs.State.{State}
-use Rattle.lsm_store.specs.WorkEffects.{work_called, work_by}
+use Rattle.lsm_machine.specs.State.{State}
+use Rattle.lsm_machine.specs.WorkEffects.{work_called, work_by}
 use Rattle.lsm_store.specs.Working.{ServesStep}
-use Rattle.lsm_store.proofs.Running.{value_wanted, page_wanted}
+use Rattle.lsm_machine.proofs.Running.{value_wanted, page_wanted}
 use Rattle.lsm_store.proofs.ServedSteps.{served_goes, served_work}
-use Rattle.lsm_store.proofs.Steps.{step_stopped}
+use Rattle.lsm_machine.proofs.Steps.{step_stopped}
 use Rattle.lsm_trail.specs.Begins.{base_of}
 use Rattle.lsm_trail.specs.Following.{MayFollow}
 use Rattle.lsm_trail.specs.History.{Event, event, called, replies_of, IsLegal, inputs_of, IsNextNumber, TakesResult, machine_after, entries_by}

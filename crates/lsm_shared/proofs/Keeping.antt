@@ -3,8 +3,8 @@ use Rattle.std.proofs.Common.{◌≡◌, ℕ, ◌+◌, ◌<◌, ◌^◌, Bool, L
 use Rattle.atomic_table.specs.Table.{Me}
 use Rattle.atomic_table.specs.declared.shared.Seat.{Seat}
 use Rattle.lsm_store.specs.Backing.{StoreView, machine_of}
-use Rattle.lsm_store.specs.Machine.{Machine}
-use Rattle.lsm_store.specs.RecoveryPoints.{batch_count}
+use Rattle.lsm_machine.specs.Machine.{Machine}
+use Rattle.lsm_machine.specs.RecoveryPoints.{batch_count}
 use Rattle.lsm_trail.specs.Following.{MayFollow}
 use Rattle.lsm_trail.specs.History.{Event, IsLegal, is_call, is_lent, calls_in, machine_after, numbers, numbers_at, TrailView}
 use Rattle.lsm_trail.specs.Knowledge.{SessionId, View, keeper_or, keeper_of, IsKeeperPass}

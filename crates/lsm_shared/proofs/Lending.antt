@@ -6,10 +6,10 @@ use Rattle.lsm_device.specs.declared.refusal.Refusal.{Refusal}
 use Rattle.lsm_lives.specs.Asked.{Told}
 use Rattle.lsm_merge.specs.Inputs.{MergeInput, kept_of}
 use Rattle.lsm_merge.specs.Results.{MergeResult}
-use Rattle.lsm_store.specs.Calls.{Call, Reply}
-use Rattle.lsm_store.specs.Calls.{Handed}
-use Rattle.lsm_store.specs.Machine.{Worked}
-use Rattle.lsm_store.specs.Work.{Accept}
+use Rattle.lsm_machine.specs.Calls.{Call, Reply}
+use Rattle.lsm_machine.specs.Calls.{Handed}
+use Rattle.lsm_machine.specs.Machine.{Worked}
+use Rattle.lsm_machine.specs.Work.{Accept}
 use Rattle.lsm_merge.specs.Divisions.{AreTablesAt}
 use Rattle.lsm_trail.specs.Begins.{Begin}
 use Rattle.lsm_trail.specs.History.{Event, lent_to, handed, inputs_of, input_of, IsMadeOf, IsNextNumber, TakesResult, AreNumbered, IsLegal, entries_by}
@@ -18,7 +18,7 @@ use Rattle.lsm_store.specs.Backing.{StoreView}
 use Rattle.lsm_shared.specs.Clients.{MakesCall, IsNoCall}
 use Rattle.lsm_shared.specs.Sessions.{SessionView, HasSeen}
 use Rattle.lsm_shared.specs.Turns.{WasLent}
-use Rattle.lsm_store.proofs.Membership.{none_in}
+use Rattle.lsm_machine.proofs.Membership.{none_in}
 
 -- what is in a list is the first of it, or behind
 first_or : {X : Type 0} (y : X) (ys : List X) (x : X) → Contains (y ∷ ys) x → (y ≡ x) ⊎ Contains ys x

@@ -6,15 +6,15 @@ use Rattle.lsm_jobs.specs.Slots.{Slot}
 use Rattle.lsm_mem.specs.Paging.{Page}
 use Rattle.lsm_merge.specs.Inputs.{MergeInput}
 use Rattle.lsm_store.specs.Backing.{StoreView, machine_of}
-use Rattle.lsm_store.specs.Calls.{Reply}
-use Rattle.lsm_store.specs.Calls.{Number, Done, Value, Rows, Given, Handed, Refused, Unread}
-use Rattle.lsm_store.specs.Machine.{Machine, Worked}
-use Rattle.lsm_store.specs.Work.{Work, Take, Read, Ask, Accept, Write, Install, Drop}
-use Rattle.lsm_store.specs.WorkEffects.{work_answer}
-use Rattle.lsm_store.specs.WorkRefusals.{held, of_slot, work_refusal}
-use Rattle.lsm_store.specs.WorkReplies.{work_reply_by, WorkAdmits}
+use Rattle.lsm_machine.specs.Calls.{Reply}
+use Rattle.lsm_machine.specs.Calls.{Number, Done, Value, Rows, Given, Handed, Refused, Unread}
+use Rattle.lsm_machine.specs.Machine.{Machine, Worked}
+use Rattle.lsm_machine.specs.Work.{Work, Take, Read, Ask, Accept, Write, Install, Drop}
+use Rattle.lsm_machine.specs.WorkEffects.{work_answer}
+use Rattle.lsm_machine.specs.WorkRefusals.{held, of_slot, work_refusal}
+use Rattle.lsm_machine.specs.WorkReplies.{work_reply_by, WorkAdmits}
 use Rattle.lsm_store.specs.Working.{Works}
-use Rattle.lsm_store.proofs.WorkReplies.{refused_work}
+use Rattle.lsm_machine.proofs.WorkReplies.{refused_work}
 use Rattle.lsm_lives.specs.Calls.{reply_of}
 use Rattle.lsm_lives.specs.declared.calls.Reply.{Reply as GivenReply}
 use Rattle.lsm_lives.specs.declared.calls.Reply.TheVariants as reply

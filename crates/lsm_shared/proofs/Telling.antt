@@ -9,14 +9,14 @@ use Rattle.lsm_device.specs.declared.refusal.Refusal.TheVariants.{NoMemory, Trai
 use Rattle.lsm_levels.specs.declared.choosing.Choice.{Choice}
 use Rattle.lsm_merge.specs.Results.{MergeResult}
 use Rattle.lsm_store.specs.Backing.{machine_of}
-use Rattle.lsm_store.specs.Calls.{Call}
-use Rattle.lsm_store.specs.Calls.{Given, Refused}
-use Rattle.lsm_store.specs.Machine.{Machine, Worked}
-use Rattle.lsm_store.specs.Pieces.{next_piece, places_from}
-use Rattle.lsm_store.specs.Run.{Admits, Allows}
-use Rattle.lsm_store.specs.State.{State}
-use Rattle.lsm_store.specs.Work.{Work, Take}
-use Rattle.lsm_store.specs.WorkReplies.{work_decided}
+use Rattle.lsm_machine.specs.Calls.{Call}
+use Rattle.lsm_machine.specs.Calls.{Given, Refused}
+use Rattle.lsm_machine.specs.Machine.{Machine, Worked}
+use Rattle.lsm_machine.specs.Pieces.{next_piece, places_from}
+use Rattle.lsm_machine.specs.Run.{Admits, Allows}
+use Rattle.lsm_machine.specs.State.{State}
+use Rattle.lsm_machine.specs.Work.{Work, Take}
+use Rattle.lsm_machine.specs.WorkReplies.{work_decided}
 use Rattle.lsm_lives.specs.Asked.{Told}
 use Rattle.lsm_lives.specs.Calls.{told_of}
 use Rattle.lsm_lives.specs.declared.calls.Reply.{Reply as GivenReply}

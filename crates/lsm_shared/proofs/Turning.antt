@@ -7,15 +7,15 @@ use Rattle.std.proofs.lemmas.List.{map-append}
 use Rattle.lsm_device.specs.declared.refusal.Refusal.{Refusal}
 use Rattle.lsm_device.specs.declared.refusal.Refusal.TheVariants.{NoMemory, Io, BadTable, TooManyRuns, TooManyTables}
 use Rattle.lsm_store.specs.Backing.{StoreView, machine_of}
-use Rattle.lsm_store.specs.Calls.{Reply}
-use Rattle.lsm_store.specs.Calls.{Number, Done, Value, Rows, Given, Handed, Refused, Unread}
-use Rattle.lsm_store.specs.Machine.{Machine, Step, Worked}
-use Rattle.lsm_store.specs.Pieces.{piece_at, is_of_full_levels, is_put_off, unless_put_off, next_among}
-use Rattle.lsm_store.specs.Work.{Work, Install, Ask}
-use Rattle.lsm_store.specs.WorkRefusals.{work_refusal}
-use Rattle.lsm_store.specs.WorkReplies.{work_reply_by, work_decided, WorkAdmits}
+use Rattle.lsm_machine.specs.Calls.{Reply}
+use Rattle.lsm_machine.specs.Calls.{Number, Done, Value, Rows, Given, Handed, Refused, Unread}
+use Rattle.lsm_machine.specs.Machine.{Machine, Step, Worked}
+use Rattle.lsm_machine.specs.Pieces.{piece_at, is_of_full_levels, is_put_off, unless_put_off, next_among}
+use Rattle.lsm_machine.specs.Work.{Work, Install, Ask}
+use Rattle.lsm_machine.specs.WorkRefusals.{work_refusal}
+use Rattle.lsm_machine.specs.WorkReplies.{work_reply_by, work_decided, WorkAdmits}
 use Rattle.lsm_store.specs.Working.{Works}
-use Rattle.lsm_store.proofs.WorkReplies.{refused_work}
+use Rattle.lsm_machine.proofs.WorkReplies.{refused_work}
 use Rattle.lsm_lives.specs.Asked.{Told, Replied}
 use Rattle.lsm_lives.specs.Calls.{told_of}
 use Rattle.lsm_lives.specs.declared.calls.Reply.{Reply as GivenReply}
@@ -27,7 +27,7 @@ use Rattle.lsm_shared.specs.Turns.{tells_full_levels, with_piece, pieces_among, 
 use Rattle.lsm_shared.specs.declared.turn.Turn.{Turn}
 use Rattle.lsm_shared.specs.declared.turn.Turn.TheVariants as turn
 use Rattle.lsm_shared.proofs.Holds.{enters_join, served_join, entered_none, shown_before}
-use Rattle.lsm_store.proofs.NextPieces.{none_not_full}
+use Rattle.lsm_machine.proofs.NextPieces.{none_not_full}
 
 -- ---- the pieces at one place, and behind it
 

@@ -4,10 +4,10 @@ use mathlib.Core.List.{IsPrefix}
 use Rattle.lsm_device.specs.declared.refusal.Refusal.{Refusal}
 use Rattle.lsm_device.specs.declared.refusal.Refusal.TheVariants.{NoMemory, TrailFull, NotYours}
 use Rattle.lsm_store.specs.Backing.{IsBacked}
-use Rattle.lsm_store.specs.Calls.{Call, Reply}
-use Rattle.lsm_store.specs.Calls.{Release, Refused, as_told}
-use Rattle.lsm_store.specs.Machine.{Machine}
-use Rattle.lsm_store.specs.Run.{Allows, Admits}
+use Rattle.lsm_machine.specs.Calls.{Call, Reply}
+use Rattle.lsm_machine.specs.Calls.{Release, Refused, as_told}
+use Rattle.lsm_machine.specs.Machine.{Machine}
+use Rattle.lsm_machine.specs.Run.{Allows, Admits}
 use Rattle.lsm_lives.specs.Asked.{Told, Replied}
 use Rattle.lsm_trail.specs.Begins.{Begin, base_of}
 use Rattle.lsm_trail.specs.History.{Event, called, IsLegal, state_after, entries_by}

@@ -4,11 +4,11 @@ use Rattle.lsm_device.specs.declared.refusal.Refusal.{Refusal}
 use Rattle.lsm_levels.specs.declared.choosing.Choice.{Choice}
 use Rattle.lsm_merge.specs.Results.{MergeResult}
 use Rattle.lsm_store.specs.Backing.{StoreView, machine_of}
-use Rattle.lsm_store.specs.Calls.{Reply}
-use Rattle.lsm_store.specs.Calls.{Given}
-use Rattle.lsm_store.specs.Machine.{Worked}
-use Rattle.lsm_store.specs.Work.{Work, Take}
-use Rattle.lsm_store.specs.WorkReplies.{work_decided}
+use Rattle.lsm_machine.specs.Calls.{Reply}
+use Rattle.lsm_machine.specs.Calls.{Given}
+use Rattle.lsm_machine.specs.Machine.{Worked}
+use Rattle.lsm_machine.specs.Work.{Work, Take}
+use Rattle.lsm_machine.specs.WorkReplies.{work_decided}
 use Rattle.lsm_store.specs.Working.{Works}
 use Rattle.lsm_lives.specs.Asked.{Told, Replied}
 use Rattle.lsm_lives.specs.Replaying.{Replays}

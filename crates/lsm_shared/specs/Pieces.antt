@@ -1,6 +1,6 @@
 -- The pieces of work that a store does by itself.
 use Rattle.std.specs.Prelude.{Some, None}
-use Rattle.lsm_store.specs.Work.{Work, Take, Read, Write, Install, Drop}
+use Rattle.lsm_machine.specs.Work.{Work, Take, Read, Write, Install, Drop}
 use Rattle.lsm_shared.specs.declared.pieces.OwnPiece.{OwnPiece}
 use Rattle.lsm_shared.specs.declared.pieces.OwnPiece.TheVariants as own
 

@@ -6,14 +6,14 @@ use Rattle.lsm_device.specs.declared.refusal.Refusal.{Refusal}
 use Rattle.lsm_device.specs.declared.refusal.Refusal.TheVariants.{NoMemory, Stopped, TrailFull, NotYours, BadLimit, TooManyClients}
 use Rattle.lsm_device.specs.Medium.{Medium}
 use Rattle.lsm_store.specs.Backing.{StoreView, machine_of, IsBacked}
-use Rattle.lsm_store.specs.Calls.{Call, Reply}
-use Rattle.lsm_store.specs.Calls.{Snapshot, Release, Refused, Value, Rows, as_told}
-use Rattle.lsm_store.specs.Effects.{after}
-use Rattle.lsm_store.specs.Machine.{Step}
-use Rattle.lsm_store.specs.Refusals.{refusals, first_refusal}
-use Rattle.lsm_store.specs.Run.{Allows, Admits}
+use Rattle.lsm_machine.specs.Calls.{Call, Reply}
+use Rattle.lsm_machine.specs.Calls.{Snapshot, Release, Refused, Value, Rows, as_told}
+use Rattle.lsm_machine.specs.Effects.{after}
+use Rattle.lsm_machine.specs.Machine.{Step}
+use Rattle.lsm_machine.specs.Refusals.{refusals, first_refusal}
+use Rattle.lsm_machine.specs.Run.{Allows, Admits}
 use Rattle.lsm_store.specs.Serving.{Serves}
-use Rattle.lsm_store.specs.State.{State}
+use Rattle.lsm_machine.specs.State.{State}
 use Rattle.lsm_store.specs.Working.{ServesStep}
 use Rattle.lsm_lives.specs.Asked.{Told, Replied}
 use Rattle.lsm_lives.specs.Replaying.{faults_told}

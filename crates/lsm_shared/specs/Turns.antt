@@ -8,12 +8,12 @@ use Rattle.lsm_levels.specs.Choices.{chosen}
 use Rattle.lsm_levels.specs.declared.choosing.Choice.{Choice}
 use Rattle.lsm_merge.specs.Inputs.{MergeInput}
 use Rattle.lsm_merge.specs.Results.{MergeResult}
-use Rattle.lsm_store.specs.Calls.{Reply}
-use Rattle.lsm_store.specs.Calls.{Given, Refused}
-use Rattle.lsm_store.specs.Machine.{Machine, Step, Worked}
-use Rattle.lsm_store.specs.Pieces.{piece_at, is_of_full_levels, is_put_off, next_among, next_piece, places_from}
-use Rattle.lsm_store.specs.Work.{Work, Take, Ask, Accept, Drop}
-use Rattle.lsm_store.specs.WorkReplies.{WorkAdmits, work_decided}
+use Rattle.lsm_machine.specs.Calls.{Reply}
+use Rattle.lsm_machine.specs.Calls.{Given, Refused}
+use Rattle.lsm_machine.specs.Machine.{Machine, Step, Worked}
+use Rattle.lsm_machine.specs.Pieces.{piece_at, is_of_full_levels, is_put_off, next_among, next_piece, places_from}
+use Rattle.lsm_machine.specs.Work.{Work, Take, Ask, Accept, Drop}
+use Rattle.lsm_machine.specs.WorkReplies.{WorkAdmits, work_decided}
 use Rattle.lsm_lives.specs.Asked.{Told, Replied}
 use Rattle.lsm_lives.specs.Calls.{told_of}
 use Rattle.lsm_trail.specs.Begins.{Begin}

@@ -2,7 +2,7 @@
 ghost use Rattle.std.specs.Prelude.{◌≡◌, ◌≢◌, MatchResult};
 ghost use Rattle.lsm_device.specs.declared.refusal.Refusal.TheVariants.{NoMemory};
 ghost use Rattle.lsm_lives.specs.Calls.{reply_of, told_of};
-ghost use Rattle.lsm_store.specs.Calls.{Refused};
+ghost use Rattle.lsm_machine.specs.Calls.{Refused};
 ghost use Rattle.lsm_shared.specs.Sessions.{IsLost};
 
 use lsm_device::Refusal;

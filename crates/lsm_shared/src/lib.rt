@@ -34,9 +34,13 @@ mod turn;
 mod working;
 
 pub use client::Client;
-pub use law::{trail_tells_what_a_crash_leaves, what_is_heard_comes_first};
 pub use preparing::prepare;
 pub use seen::Seen;
 pub use session::Session;
 pub use shared::Shared;
 pub use turn::Turn;
+
+/// Laws of the definitions: functions without a body, whose clauses are theorems.
+pub mod laws {
+    pub use crate::law::{trail_tells_what_a_crash_leaves, what_is_heard_comes_first};
+}

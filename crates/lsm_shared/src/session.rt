@@ -3,7 +3,7 @@ ghost use Rattle.std.specs.Prelude.{◌≡◌, ◌≢◌, ℕ, ◌≤◌, [], le
 ghost use mathlib.Core.List.{IsPrefix};
 ghost use Rattle.lsm_lives.specs.Calls.{call_of, told_of};
 ghost use Rattle.lsm_store.specs.Backing.{IsBacked};
-ghost use Rattle.lsm_store.specs.Calls.{Release};
+ghost use Rattle.lsm_machine.specs.Calls.{Release};
 ghost use Rattle.lsm_trail.specs.History.{replies_of, machine_after, IsLegal, entries_by};
 ghost use Rattle.lsm_trail.specs.Knowledge.{known, keeper_of, IsKeeperPass};
 ghost use Rattle.lsm_shared.specs.Sessions.{IsPinned, IsDeviceAfter, Finds, IsMade, IsRefused, ended_state};

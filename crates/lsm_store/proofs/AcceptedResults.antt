@@ -28,28 +28,28 @@ use Rattle.lsm_levels.specs.NamedBlocks.{HasNoBlock}
 use Rattle.lsm_open.specs.ToldTables.{IsOutlined}
 use Rattle.lsm_table.specs.Division.{TableBlocks}
 use Rattle.std.specs.List.{AllByRecursion}
-use Rattle.lsm_store.specs.Accounts.{outputs_in, AllLieApart, ArePlacedIn}
+use Rattle.lsm_machine.specs.Accounts.{outputs_in, AllLieApart, ArePlacedIn}
 use Rattle.lsm_store.specs.Backing.{StoreView, HasNoneOf, IsRunOn, placement_of, machine_of}
 use Rattle.lsm_store.specs.InstalledJobs.{placed_by}
 use Rattle.lsm_store.specs.Memory.{HaveTables}
 use Rattle.lsm_store.specs.StoredTables.{IsStoredWithJobs}
-use Rattle.lsm_store.specs.WorkSound.{IsSound}
-use Rattle.lsm_store.proofs.Accounts.{accounts_law}
+use Rattle.lsm_machine.specs.WorkSound.{IsSound}
+use Rattle.lsm_machine.proofs.Accounts.{accounts_law}
 use Rattle.lsm_store.proofs.NumberedJobs.{placed_outlined}
 use Rattle.lsm_store.proofs.PlacedJobs.{none_of_held}
 use Rattle.lsm_store.proofs.PlacedOutputs.{newly_stored}
-use Rattle.lsm_store.specs.Calls.{Done, Refused}
+use Rattle.lsm_machine.specs.Calls.{Done, Refused}
 use Rattle.lsm_store.specs.Memory.{state_of, work_of, view_of}
-use Rattle.lsm_store.specs.Work.{Work, Accept}
-use Rattle.lsm_store.specs.WorkEffects.{work_after}
-use Rattle.lsm_store.specs.WorkRefusals.{running_refusal, work_refusal}
-use Rattle.lsm_store.specs.WorkMaps.{MayBePutIn}
-use Rattle.lsm_store.specs.WorkSound.{IsServed}
+use Rattle.lsm_machine.specs.Work.{Work, Accept}
+use Rattle.lsm_machine.specs.WorkEffects.{work_after}
+use Rattle.lsm_machine.specs.WorkRefusals.{running_refusal, work_refusal}
+use Rattle.lsm_machine.specs.WorkMaps.{MayBePutIn}
+use Rattle.lsm_machine.specs.WorkSound.{IsServed}
 use Rattle.lsm_store.specs.Working.{Works}
-use Rattle.lsm_store.specs.Machine.{Machine}
-use Rattle.lsm_store.specs.WorkReplies.{work_decided, work_reply_by}
-use Rattle.lsm_store.proofs.AnsweredWork.{accept_answers}
-use Rattle.lsm_store.proofs.PlacedImages.{all_placed}
+use Rattle.lsm_machine.specs.Machine.{Machine}
+use Rattle.lsm_machine.specs.WorkReplies.{work_decided, work_reply_by}
+use Rattle.lsm_machine.proofs.AnsweredWork.{accept_answers}
+use Rattle.lsm_machine.proofs.PlacedImages.{all_placed}
 use Rattle.lsm_store.proofs.ServedResults.{served}
 use Rattle.lsm_store.proofs.WorkSounds.{accept_sound}
 use Rattle.lsm_store.proofs.Works.{IsAnsweredAlone, moved_on, running_refuses, works_refused, works_want, works_moved, sound_moved, GoesOn}

@@ -20,7 +20,7 @@ use Rattle.lsm_log.specs.Batches.{IsBetween}
 use Rattle.lsm_log.specs.Opened.{IsOpen, IsOfLog, IsGrownBy, HasNoneAbove, NoneAboveIn, TakesBatch, batches_in}
 use Rattle.lsm_log.specs.Replay.{replay}
 use Rattle.lsm_log.proofs.Epochs.{above_crash, above_by_log}
-use Rattle.lsm_open.specs.CrashState.{CrashState}
+use Rattle.lsm_machine.specs.CrashState.{CrashState}
 use Rattle.lsm_open.specs.Image.{StandFor}
 use Rattle.lsm_open.specs.Layout.{record_of, open_records, open_batches, IsOther, IsClosed, IsLogAtIfOpen, IsLogAt}
 use Rattle.lsm_open.specs.LogRegions.{first_region, region_start, follow_on}
@@ -34,20 +34,20 @@ use Rattle.lsm_open.proofs.HeldRegions.{Same}
 use Rattle.lsm_open.proofs.TableFrames.{SameExtent}
 use Rattle.lsm_root.specs.Installed.{IsSettled}
 use Rattle.lsm_root.specs.Roots.{Stands}
-use Rattle.lsm_store.specs.Calls.{Commit}
-use Rattle.lsm_store.specs.Crash.{left_between, may_leave, left_besides}
-use Rattle.lsm_store.specs.Effects.{after, with_sectors}
-use Rattle.lsm_store.specs.Promise.{beginnings}
-use Rattle.lsm_store.specs.RecoveryPoints.{RecoveryPoints, with_batch}
-use Rattle.lsm_store.specs.Run.{stopped_in}
-use Rattle.lsm_store.specs.State.{State}
+use Rattle.lsm_machine.specs.Calls.{Commit}
+use Rattle.lsm_machine.specs.Crash.{left_between, may_leave, left_besides}
+use Rattle.lsm_machine.specs.Effects.{after, with_sectors}
+use Rattle.lsm_machine.specs.Promise.{beginnings}
+use Rattle.lsm_machine.specs.RecoveryPoints.{RecoveryPoints, with_batch}
+use Rattle.lsm_machine.specs.Run.{stopped_in}
+use Rattle.lsm_machine.specs.State.{State}
 use Rattle.lsm_store.specs.Stored.{open_log_of}
 use Rattle.lsm_store.specs.StoredTables.{IsStateOver, IsStoredIn, KeepsExtents, with_log}
 use Rattle.lsm_store.proofs.Carrying.{may_leave_running}
-use Rattle.lsm_store.proofs.CrashStates.{closed_same, between_goes}
+use Rattle.lsm_machine.proofs.CrashStates.{closed_same, between_goes}
 use Rattle.lsm_store.proofs.Growing.{outside_region}
 use Rattle.lsm_store.proofs.LeftStates.{LeavesOver, leaves_over, none_if_closed, may_be_left, begins_at, all_within}
-use Rattle.lsm_store.proofs.Points.{with_batch_beginnings}
+use Rattle.lsm_machine.proofs.Points.{with_batch_beginnings}
 
 abbrev Sectors : Type 0
 Sectors = List (List ℕ)

@@ -22,19 +22,19 @@ use Rattle.lsm_open.specs.declared.regions.OpenRegion.{OpenRegion}
 use Rattle.lsm_levels.specs.NamedBlocks.{HasNoBlock}
 use Rattle.lsm_levels.specs.Tables.{Table}
 use Rattle.lsm_levels.proofs.Ranges.{all_of, of_all}
-use Rattle.lsm_store.specs.Accounts.{outputs_in, tables_placed, AreNumbered}
-use Rattle.lsm_store.proofs.TableNumbers.{none_to_come, none_of_others}
+use Rattle.lsm_machine.specs.Accounts.{outputs_in, tables_placed, AreNumbered}
+use Rattle.lsm_machine.proofs.TableNumbers.{none_to_come, none_of_others}
 use Rattle.lsm_store.specs.Backing.{StoreView, HasNoneOf, IsRunOn, IsBacked, placement_of, data_start, machine_of}
-use Rattle.lsm_store.specs.Calls.{Commit, Sync}
-use Rattle.lsm_store.specs.Crash.{may_leave, last_crash_state}
-use Rattle.lsm_store.specs.Effects.{after}
+use Rattle.lsm_machine.specs.Calls.{Commit, Sync}
+use Rattle.lsm_machine.specs.Crash.{may_leave, last_crash_state}
+use Rattle.lsm_machine.specs.Effects.{after}
 use Rattle.lsm_store.specs.InstalledJobs.{AreSealedIn, AreLoggedIn, placed_by}
 use Rattle.lsm_store.specs.Reading.{ReadsThrough, source_of}
-use Rattle.lsm_store.specs.Refusals.{refusal}
-use Rattle.lsm_store.specs.State.{LiveSnapshot}
+use Rattle.lsm_machine.specs.Refusals.{refusal}
+use Rattle.lsm_machine.specs.State.{LiveSnapshot}
 use Rattle.lsm_store.specs.StoredTables.{IsStoredIn, IsStoredWithJobs, with_log}
-use Rattle.lsm_store.specs.WorkEffects.{work_called}
-use Rattle.lsm_store.specs.WorkSound.{IsSound}
+use Rattle.lsm_machine.specs.WorkEffects.{work_called}
+use Rattle.lsm_machine.specs.WorkSound.{IsSound}
 use Rattle.lsm_store.proofs.AppendedTables.{commit_stored, commit_extents}
 use Rattle.lsm_store.proofs.CallSounds.{call_sound_law}
 use Rattle.lsm_store.proofs.LeftStates.{stored_leaves, stored_reads}

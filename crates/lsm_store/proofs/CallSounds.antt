@@ -26,22 +26,22 @@ use Rattle.lsm_levels.proofs.Ranges.{all_of, of_all}
 use Rattle.lsm_levels.proofs.Taking.{newer_from}
 use Rattle.lsm_jobs.specs.Slots.{Slot}
 use Rattle.lsm_jobs.specs.Taking.{runs_of}
-use Rattle.lsm_store.specs.RecoveryPoints.{batch_count, present_map, with_batch as points_with, all_synced}
-use Rattle.lsm_store.specs.State.{State, OpenLog, LiveSnapshot, fits_in, are_waiting}
-use Rattle.lsm_store.specs.Calls.{Call}
-use Rattle.lsm_store.specs.Calls.{Commit, CommitIf, Sync, SyncTo, Get, Scan, Snapshot, Release, Rotate, LogRoom}
-use Rattle.lsm_store.specs.Refusals.{refusal}
-use Rattle.lsm_store.specs.Effects.{with_sectors, next_taken, without, after, rotated}
-use Rattle.lsm_store.specs.StateMaps.{points_of, HaveMaps}
-use Rattle.lsm_store.specs.Work.{WorkView, versions_in}
-use Rattle.lsm_store.specs.WorkEffects.{work_called, with_sealed}
-use Rattle.lsm_store.specs.WorkMaps.{IsUnique}
-use Rattle.lsm_store.specs.WorkSound.{IsSound, CallSoundLaw, RotationSoundLaw}
-use Rattle.lsm_store.specs.Machine.{Machine}
+use Rattle.lsm_machine.specs.RecoveryPoints.{batch_count, present_map, with_batch as points_with, all_synced}
+use Rattle.lsm_machine.specs.State.{State, OpenLog, LiveSnapshot, fits_in, are_waiting}
+use Rattle.lsm_machine.specs.Calls.{Call}
+use Rattle.lsm_machine.specs.Calls.{Commit, CommitIf, Sync, SyncTo, Get, Scan, Snapshot, Release, Rotate, LogRoom}
+use Rattle.lsm_machine.specs.Refusals.{refusal}
+use Rattle.lsm_machine.specs.Effects.{with_sectors, next_taken, without, after, rotated}
+use Rattle.lsm_machine.specs.StateMaps.{points_of, HaveMaps}
+use Rattle.lsm_machine.specs.Work.{WorkView, versions_in}
+use Rattle.lsm_machine.specs.WorkEffects.{work_called, with_sealed}
+use Rattle.lsm_machine.specs.WorkMaps.{IsUnique}
+use Rattle.lsm_machine.specs.WorkSound.{IsSound, CallSoundLaw, RotationSoundLaw}
+use Rattle.lsm_machine.specs.Machine.{Machine}
 use Rattle.lsm_store.proofs.InstalledMaps.{table_versions, in_has, commit_law}
-use Rattle.lsm_store.proofs.Unrefused.{unrefused_commit, unrefused_rotation, unguarded}
-use Rattle.lsm_store.proofs.Remembering.{present_map-points_of, all_synced-points_of, points_of-next}
-use Rattle.lsm_store.proofs.StateMaps.{count_is, synced_is}
+use Rattle.lsm_machine.proofs.Unrefused.{unrefused_commit, unrefused_rotation, unguarded}
+use Rattle.lsm_machine.proofs.Remembering.{present_map-points_of, all_synced-points_of, points_of-next}
+use Rattle.lsm_machine.proofs.StateMaps.{count_is, synced_is}
 use Rattle.lsm_store.proofs.WorkSounds.{Goes, job_goes, machine}
 
 -- ---- memory in order

@@ -7,14 +7,14 @@ use Rattle.std.proofs.lemmas.List.{length-append, length-map}
 use Rattle.lsm_merge.specs.Inputs.{is_ascending}
 use Rattle.lsm_levels.specs.Among.{IsAmong}
 use Rattle.lsm_levels.proofs.Members.{among_left, among_right}
-use Rattle.lsm_store.specs.JobAnswers.{AreRising, CutsLaw}
+use Rattle.lsm_machine.specs.JobAnswers.{AreRising, CutsLaw}
 use Rattle.lsm_store.specs.LiveMarks.{last_count, end_with}
 use Rattle.lsm_store.specs.Memory.{mark_of}
 use Rattle.lsm_store.specs.declared.snapshots.Mark.{Mark}
-use Rattle.lsm_store.specs.RecoveryPoints.{batch_count}
-use Rattle.lsm_store.specs.State.{State, LiveSnapshot}
-use Rattle.lsm_store.specs.Work.{with_count, each_once, counts_of, cuts_of}
-use Rattle.lsm_store.proofs.Membership.{in_head, in_tail}
+use Rattle.lsm_machine.specs.RecoveryPoints.{batch_count}
+use Rattle.lsm_machine.specs.State.{State, LiveSnapshot}
+use Rattle.lsm_machine.specs.Work.{with_count, each_once, counts_of, cuts_of}
+use Rattle.lsm_machine.proofs.Membership.{in_head, in_tail}
 
 above_with : (k n : ℕ) (ns : List ℕ) → k ≤ n → AllByRecursion (λ m. k ≤ m) ns → AllByRecursion (λ m. k ≤ m) (with_count n ns)
 above_with k n [] le all = (le, tt)

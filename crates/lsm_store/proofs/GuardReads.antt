@@ -22,7 +22,7 @@ use Rattle.lsm_levels.specs.Lookups.{IsTest}
 use Rattle.lsm_store.specs.Guarding.{AsksGuards, AnswersGuards, MayEndGuards}
 use Rattle.lsm_codec.specs.Guards.{Condition, is_met}
 use Rattle.lsm_store.specs.Reading.{ReadsThrough}
-use Rattle.lsm_store.specs.Refusals.{first_refusal, guard_refusals}
+use Rattle.lsm_machine.specs.Refusals.{first_refusal, guard_refusals}
 
 module _ (area : ℕ) (levels : Levels) where
   -- nothing is read

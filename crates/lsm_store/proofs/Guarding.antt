@@ -6,8 +6,8 @@ use Rattle.lsm_codec.specs.Map.{Map, Operation}
 use Rattle.lsm_codec.specs.Versions.{Version}
 use Rattle.lsm_levels.specs.Asking.{Source}
 use Rattle.lsm_levels.specs.Tables.{Table}
-use Rattle.lsm_store.specs.RecoveryPoints.{batch_count}
-use Rattle.lsm_store.specs.WorkEffects.{work_by}
+use Rattle.lsm_machine.specs.RecoveryPoints.{batch_count}
+use Rattle.lsm_machine.specs.WorkEffects.{work_by}
 use Rattle.lsm_device.specs.Calls.{AtMost, faults_after}
 use Rattle.lsm_device.specs.Disk.{Disk}
 use Rattle.lsm_device.specs.History.{EachSince}
@@ -19,43 +19,43 @@ use Rattle.lsm_device.specs.declared.refusal.Refusal.TheVariants.{NoMemory, Io, 
 use Rattle.lsm_device.proofs.Moments.{unchanged}
 use Rattle.lsm_levels.specs.Levels.{places}
 use Rattle.lsm_mem.specs.Versions.{map_of}
-use Rattle.lsm_open.specs.CrashState.{CrashState}
+use Rattle.lsm_machine.specs.CrashState.{CrashState}
 use Rattle.lsm_open.specs.Recovering.{StandForOne}
-use Rattle.lsm_store.specs.Accounts.{tables_placed, AreNumbered}
+use Rattle.lsm_machine.specs.Accounts.{tables_placed, AreNumbered}
 use Rattle.lsm_store.specs.Backing.{StoreView, IsBacked, data_start, machine_of}
-use Rattle.lsm_store.specs.Calls.{Call, Reply}
-use Rattle.lsm_store.specs.Calls.{Commit, CommitIf, Number, Refused, Unread, reply_of}
-use Rattle.lsm_store.specs.Crash.{may_leave, left_besides, left_inside}
-use Rattle.lsm_store.specs.Effects.{answer, decided, reply_by, Use, use_of, use_first}
-use Rattle.lsm_store.specs.Effects.{Untouched, Reads, Changes}
+use Rattle.lsm_machine.specs.Calls.{Call, Reply}
+use Rattle.lsm_machine.specs.Calls.{Commit, CommitIf, Number, Refused, Unread, reply_of}
+use Rattle.lsm_machine.specs.Crash.{may_leave, left_besides, left_inside}
+use Rattle.lsm_machine.specs.Effects.{answer, decided, reply_by, Use, use_of, use_first}
+use Rattle.lsm_machine.specs.Effects.{Untouched, Reads, Changes}
 use Rattle.lsm_store.specs.Guarding.{AsksGuards, AnswersGuards, AsksThenCommits, MayEndGuards, with_source}
 use Rattle.lsm_codec.specs.Guards.{Condition}
 use Rattle.lsm_store.specs.Reading.{ReadsThrough, source_of}
-use Rattle.lsm_store.specs.RecoveryPoints.{present_map}
-use Rattle.lsm_store.specs.Refusals.{refusals, first_refusal, refusal, guard_refusals, full_refusal}
-use Rattle.lsm_store.specs.Run.{Allows, Admits, next}
+use Rattle.lsm_machine.specs.RecoveryPoints.{present_map}
+use Rattle.lsm_machine.specs.Refusals.{refusals, first_refusal, refusal, guard_refusals, full_refusal}
+use Rattle.lsm_machine.specs.Run.{Allows, Admits, next}
 use Rattle.lsm_store.specs.Serving.{is_faultless, use_before, use_by, IsOnlyRead, HasWrittenBatch, IsUsed, IsCacheUsed, Serves, reply_in}
-use Rattle.lsm_store.specs.State.{State}
-use Rattle.lsm_store.specs.Work.{versions_in}
+use Rattle.lsm_machine.specs.State.{State}
+use Rattle.lsm_machine.specs.Work.{versions_in}
 use Rattle.std.proofs.lemmas.Bool.{ltb-false}
 use Rattle.lsm_cache.specs.declared.name.BlockName.{BlockName}
 use Rattle.lsm_device.specs.Refusals.{is_no_fault}
 use Rattle.lsm_levels.specs.Orders.{IsVersionOrder}
 use Rattle.lsm_levels.specs.Stored.{IsReadable}
-use Rattle.lsm_store.specs.declared.asked.At.TheVariants.{Now}
-use Rattle.lsm_store.specs.Refusals.{most_guards}
-use Rattle.lsm_store.specs.Work.{versions_by_place}
+use Rattle.lsm_machine.specs.declared.asked.At.TheVariants.{Now}
+use Rattle.lsm_machine.specs.Refusals.{most_guards}
+use Rattle.lsm_machine.specs.Work.{versions_by_place}
 use Rattle.lsm_store.proofs.Backed.{place_in, readable}
 use Rattle.lsm_store.proofs.Marking.{asked_map}
 use Rattle.lsm_store.proofs.Refusing.{serves_refused}
-use Rattle.lsm_store.proofs.Running.{IsDecided, first_decided, guards_decided}
-use Rattle.lsm_store.proofs.Unrefused.{none_taken, refusal_decided}
+use Rattle.lsm_machine.proofs.Running.{IsDecided, first_decided, guards_decided}
+use Rattle.lsm_machine.proofs.Unrefused.{none_taken, refusal_decided}
 use Rattle.lsm_store.proofs.Backed.{read_on, backed_on}
 use Rattle.lsm_store.proofs.ReadCalls.{only_read}
 use Rattle.lsm_open.proofs.OpeningAnswers.{none_more}
-use Rattle.lsm_store.proofs.Running.{first_tests, none_by}
+use Rattle.lsm_machine.proofs.Running.{first_tests, none_by}
 use Rattle.lsm_store.proofs.Serving.{now_inside, none_of}
-use Rattle.lsm_store.proofs.Unrefused.{unguarded, unrefused_runs}
+use Rattle.lsm_machine.proofs.Unrefused.{unguarded, unrefused_runs}
 
 -- where none of the first refusals holds, the first of the others does
 first_behind : (tests more : List (Bool × Refusal)) → first_refusal tests ≡ None → first_refusal (tests ++ more) ≡ first_refusal more

@@ -26,14 +26,14 @@ use Rattle.lsm_jobs.proofs.KeptJobs.{given_may, may_taken, going_on_law, freeing
 use Rattle.lsm_jobs.proofs.StoredTakings.{stored_taking_law}
 use Rattle.lsm_codec.proofs.Lists.{all_left, all_right, all_append}
 use Rattle.lsm_open.specs.ToldTables.{IsOutlined}
-use Rattle.lsm_store.specs.Accounts.{extents_like, tables_like, outputs_in, AreAccounted}
+use Rattle.lsm_machine.specs.Accounts.{extents_like, tables_like, outputs_in, AreAccounted}
 use Rattle.lsm_store.specs.Memory.{IsReadAsMerge, AreReadAsMerges, HaveTables}
-use Rattle.lsm_store.specs.Work.{WorkView}
-use Rattle.lsm_store.specs.WorkRefusals.{live_tables}
-use Rattle.lsm_store.proofs.Accounts.{unheld, first_none, read_none, reading_none, taken_outputs, held_accounts, placed_accounts, dropped_accounts}
+use Rattle.lsm_machine.specs.Work.{WorkView}
+use Rattle.lsm_machine.specs.WorkRefusals.{live_tables}
+use Rattle.lsm_machine.proofs.Accounts.{unheld, first_none, read_none, reading_none, taken_outputs, held_accounts, placed_accounts, dropped_accounts}
 use Rattle.lsm_store.proofs.PlacedJobs.{all_held}
 use Rattle.lsm_store.proofs.StoredLevels.{jobs_have, jobs_stored}
-use Rattle.lsm_store.proofs.TableLimits.{install_counts}
+use Rattle.lsm_machine.proofs.TableLimits.{install_counts}
 
 -- ---- slots
 

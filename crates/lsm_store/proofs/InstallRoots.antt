@@ -24,26 +24,26 @@ use Rattle.lsm_root.specs.Planned.{Planned}
 use Rattle.lsm_root.specs.Roots.{Stands}
 use Rattle.lsm_store.specs.declared.memory.Memory.{Memory}
 use Rattle.lsm_store.specs.Backing.{StoreView, placement_of, machine_of}
-use Rattle.lsm_store.specs.Calls.{Done, Refused}
-use Rattle.lsm_store.specs.Crash.{last_crash_state}
+use Rattle.lsm_machine.specs.Calls.{Done, Refused}
+use Rattle.lsm_machine.specs.Crash.{last_crash_state}
 use Rattle.lsm_store.specs.InstalledJobs.{installed_layout}
 use Rattle.lsm_store.specs.InstalledMemory.{next_layout, IsNext, IsInstalledTo, after_install_fault}
 use Rattle.lsm_store.specs.Memory.{AreConsistent, state_of, view_of, work_of}
-use Rattle.lsm_store.specs.RecoveryPoints.{batch_count}
-use Rattle.lsm_store.specs.State.{State}
-use Rattle.lsm_store.specs.Work.{Install}
-use Rattle.lsm_store.specs.WorkEffects.{installed}
-use Rattle.lsm_store.specs.WorkRefusals.{held, of_slot, work_refusals, running_refusal, work_refusal}
-use Rattle.lsm_store.specs.WorkReplies.{IsUnfit}
+use Rattle.lsm_machine.specs.RecoveryPoints.{batch_count}
+use Rattle.lsm_machine.specs.State.{State}
+use Rattle.lsm_machine.specs.Work.{Install}
+use Rattle.lsm_machine.specs.WorkEffects.{installed}
+use Rattle.lsm_machine.specs.WorkRefusals.{held, of_slot, work_refusals, running_refusal, work_refusal}
+use Rattle.lsm_machine.specs.WorkReplies.{IsUnfit}
 use Rattle.lsm_store.specs.Working.{Works}
-use Rattle.lsm_store.specs.Machine.{Machine}
-use Rattle.lsm_store.proofs.Accounts.{first_not, behind_not, tests_behind}
+use Rattle.lsm_machine.specs.Machine.{Machine}
+use Rattle.lsm_machine.proofs.Accounts.{first_not, behind_not, tests_behind}
 use Rattle.lsm_store.proofs.InstallWorks.{install_bad_table, install_done, install_io}
 use Rattle.lsm_store.proofs.Installations.{IsInstalling}
 use Rattle.lsm_store.proofs.InstalledMemory.{same_layout, install_work, installed_is}
 use Rattle.lsm_store.proofs.InstalledWork.{outputs_low}
 use Rattle.lsm_store.proofs.Installs.{installed_on}
-use Rattle.lsm_store.proofs.Unrefused.{none_taken}
+use Rattle.lsm_machine.proofs.Unrefused.{none_taken}
 use Rattle.lsm_store.proofs.Works.{works_want}
 
 -- ---- before the device is reached

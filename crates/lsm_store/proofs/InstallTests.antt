@@ -16,16 +16,16 @@ use Rattle.lsm_levels.specs.Levels.{Levels, all_tables, places}
 use Rattle.lsm_levels.specs.Pick.{Job, inputs, is_flush, installed_levels}
 use Rattle.lsm_levels.specs.Tables.{Table}
 use Rattle.lsm_store.specs.declared.memory.Memory.{Memory}
-use Rattle.lsm_store.specs.Accounts.{outputs_in}
+use Rattle.lsm_machine.specs.Accounts.{outputs_in}
 use Rattle.lsm_store.specs.InstalledMemory.{IsNext}
 use Rattle.lsm_store.specs.Memory.{AreConsistent, state_of, work_of}
-use Rattle.lsm_store.specs.Refusals.{first_refusal}
-use Rattle.lsm_store.specs.Work.{Install}
-use Rattle.lsm_store.specs.WorkRefusals.{live_tables, has_too_many_runs, has_too_many_tables, running_refusal, work_refusal}
-use Rattle.lsm_store.specs.Machine.{Machine}
-use Rattle.lsm_store.proofs.FewNumbers.{few_numbered}
-use Rattle.lsm_store.proofs.InstallRefusals.{not_written, many_runs, many_tables, at_last, none_refuses, is_whole}
-use Rattle.lsm_store.proofs.TableLimits.{install_counts}
+use Rattle.lsm_machine.specs.Refusals.{first_refusal}
+use Rattle.lsm_machine.specs.Work.{Install}
+use Rattle.lsm_machine.specs.WorkRefusals.{live_tables, has_too_many_runs, has_too_many_tables, running_refusal, work_refusal}
+use Rattle.lsm_machine.specs.Machine.{Machine}
+use Rattle.lsm_machine.proofs.FewNumbers.{few_numbered}
+use Rattle.lsm_machine.proofs.InstallRefusals.{not_written, many_runs, many_tables, at_last, none_refuses, is_whole}
+use Rattle.lsm_machine.proofs.TableLimits.{install_counts}
 use Rattle.lsm_store.proofs.Works.{runs_then, running_refuses}
 
 same_slot : (a b : Slot) → Some a ≡ Some b → a ≡ b

@@ -17,33 +17,33 @@ use Rattle.lsm_levels.specs.Tables.{Table}
 use Rattle.lsm_levels.proofs.Moving.{moving_law}
 use Rattle.lsm_jobs.specs.Outputs.{AreMadeOf}
 use Rattle.lsm_jobs.specs.Slots.{Slot, Writing, is_writing, outputs_at}
-use Rattle.lsm_open.specs.CrashState.{CrashState}
+use Rattle.lsm_machine.specs.CrashState.{CrashState}
 use Rattle.lsm_open.specs.Placements.{Placement, contents_for}
 use Rattle.lsm_open.specs.Recovering.{StandForOne}
 use Rattle.lsm_root.specs.Installed.{IsReady, IsInstalled}
 use Rattle.lsm_root.specs.Roots.{Stands}
-use Rattle.lsm_store.specs.Accounts.{outputs_in, tables_placed, AreNumbered}
+use Rattle.lsm_machine.specs.Accounts.{outputs_in, tables_placed, AreNumbered}
 use Rattle.lsm_store.specs.Backing.{StoreView, IsRunOn, IsBacked, placement_of, machine_of}
-use Rattle.lsm_store.specs.Calls.{Done, Refused, Reply}
-use Rattle.lsm_store.specs.Crash.{may_leave, last_crash_state}
-use Rattle.lsm_store.specs.Effects.{Use}
-use Rattle.lsm_store.specs.Effects.{Untouched, Changes}
-use Rattle.lsm_store.specs.RecoveryPoints.{batch_count}
-use Rattle.lsm_store.specs.State.{State}
+use Rattle.lsm_machine.specs.Calls.{Done, Refused, Reply}
+use Rattle.lsm_machine.specs.Crash.{may_leave, last_crash_state}
+use Rattle.lsm_machine.specs.Effects.{Use}
+use Rattle.lsm_machine.specs.Effects.{Untouched, Changes}
+use Rattle.lsm_machine.specs.RecoveryPoints.{batch_count}
+use Rattle.lsm_machine.specs.State.{State}
 use Rattle.lsm_store.specs.StoredTables.{MayGoOn}
-use Rattle.lsm_store.specs.Work.{Install}
-use Rattle.lsm_store.specs.WorkEffects.{installed, with_installed, work_after, state_after}
-use Rattle.lsm_store.specs.WorkRefusals.{held, of_slot, running_refusal, work_refusal}
+use Rattle.lsm_machine.specs.Work.{Install}
+use Rattle.lsm_machine.specs.WorkEffects.{installed, with_installed, work_after, state_after}
+use Rattle.lsm_machine.specs.WorkRefusals.{held, of_slot, running_refusal, work_refusal}
 use Rattle.lsm_store.specs.Working.{work_use_before, work_use_by, IsWorkUsed, Works}
-use Rattle.lsm_store.specs.Machine.{Machine}
-use Rattle.lsm_store.specs.WorkReplies.{IsUnfit, work_reply_by, work_left_besides, work_left_inside, next_worked}
-use Rattle.lsm_store.proofs.Accounts.{held_counted}
+use Rattle.lsm_machine.specs.Machine.{Machine}
+use Rattle.lsm_machine.specs.WorkReplies.{IsUnfit, work_reply_by, work_left_besides, work_left_inside, next_worked}
+use Rattle.lsm_machine.proofs.Accounts.{held_counted}
 use Rattle.lsm_store.proofs.Backed.{run_backed}
 use Rattle.lsm_store.proofs.Installations.{IsInstalling}
 use Rattle.lsm_store.proofs.InstalledTables.{next_ready, install_moments, install_stopped}
 use Rattle.lsm_store.proofs.Installs.{installed_on, same_sectors, installed_goes_on, runs_installed}
 use Rattle.lsm_store.proofs.Serving.{untouched_no_change}
-use Rattle.lsm_store.proofs.TableNumbers.{numbered_append, numbered_apart}
+use Rattle.lsm_machine.proofs.TableNumbers.{numbered_append, numbered_apart}
 use Rattle.lsm_store.proofs.WorkSounds.{there}
 use Rattle.lsm_store.proofs.Works.{running_refuses, now_within}
 

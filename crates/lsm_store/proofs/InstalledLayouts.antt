@@ -18,7 +18,7 @@ use Rattle.lsm_levels.specs.Pick.{Job, Flush, Merge, installed_levels}
 use Rattle.lsm_levels.specs.Tables.{Table, table_of}
 use Rattle.lsm_merge.specs.Inputs.{MergeInput}
 use Rattle.lsm_open.proofs.ListPairs.{All-right, pairwise_right}
-use Rattle.lsm_open.specs.CrashState.{last_number}
+use Rattle.lsm_machine.specs.CrashState.{last_number}
 use Rattle.lsm_open.specs.Layout.{Layout, record_of, open_records}
 use Rattle.lsm_open.specs.Placements.{contents_for}
 use Rattle.lsm_open.specs.Recovering.{placed_in}
@@ -27,13 +27,13 @@ use Rattle.lsm_open.specs.Tables.{first_data}
 use Rattle.lsm_levels.specs.Stored.{AreWithin}
 use Rattle.lsm_root.specs.Layout.{IsGeometry, LieInside}
 use Rattle.lsm_open.specs.declared.regions.OpenRegion.{OpenRegion}
-use Rattle.lsm_store.specs.Accounts.{AllLieApart}
+use Rattle.lsm_machine.specs.Accounts.{AllLieApart}
 use Rattle.lsm_store.specs.InstalledJobs.{first_open, installed_layout}
 use Rattle.lsm_store.specs.Memory.{LieWithin}
 use Rattle.lsm_store.proofs.ManifestRecords.{records_count}
 use Rattle.lsm_store.proofs.NamedTables.{IsSized, MayBeNamed, sized_by, named_inside, named_fit, named_within}
 use Rattle.lsm_store.proofs.StoredLevels.{installed_have}
-use Rattle.lsm_store.proofs.TableNumbers.{in_all, in_each_run}
+use Rattle.lsm_machine.proofs.TableNumbers.{in_all, in_each_run}
 use Rattle.lsm_table.proofs.Deletes.{few_deletes}
 use Rattle.lsm_table.proofs.Outlines.{outline_fits}
 use Rattle.lsm_table.specs.BlockEdges.{edges_of}

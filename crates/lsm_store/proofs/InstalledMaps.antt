@@ -22,12 +22,12 @@ use Rattle.lsm_levels.proofs.Taking.{in_tables, of_table, level_of_place, place_
 use Rattle.lsm_jobs.specs.Slots.{Slot, outputs_at}
 use Rattle.lsm_jobs.specs.Taking.{runs_of}
 use Rattle.lsm_open.proofs.NewestFound.{newer_found, newest-append, map_of_batches}
-use Rattle.lsm_store.specs.RecoveryPoints.{batch_count}
-use Rattle.lsm_store.specs.State.{State}
-use Rattle.lsm_store.specs.Work.{WorkView, versions_in}
-use Rattle.lsm_store.specs.WorkEffects.{with_installed}
-use Rattle.lsm_store.specs.WorkMaps.{AreVersions, IsAsked, IsJobOf, MayBePutIn, InstallLaw, RotationLaw, CommitLaw}
-use Rattle.lsm_store.specs.Machine.{Machine}
+use Rattle.lsm_machine.specs.RecoveryPoints.{batch_count}
+use Rattle.lsm_machine.specs.State.{State}
+use Rattle.lsm_machine.specs.Work.{WorkView, versions_in}
+use Rattle.lsm_machine.specs.WorkEffects.{with_installed}
+use Rattle.lsm_machine.specs.WorkMaps.{AreVersions, IsAsked, IsJobOf, MayBePutIn, InstallLaw, RotationLaw, CommitLaw}
+use Rattle.lsm_machine.specs.Machine.{Machine}
 use Rattle.lsm_store.proofs.Replaced.{IsReplacing, replaced_maps}
 use Rattle.lsm_jobs.proofs.GatheredRuns.{joined_runs}
 use Rattle.lsm_jobs.proofs.Outcomes.{kept_among}

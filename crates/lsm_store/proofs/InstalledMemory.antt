@@ -15,30 +15,30 @@ use Rattle.lsm_jobs.specs.Slots.{Slot, slot_of, with_held, outputs_at, inputs_of
 use Rattle.lsm_levels.specs.Held.{AreRuns, AreOutputs}
 use Rattle.lsm_levels.specs.Levels.{Levels}
 use Rattle.lsm_levels.specs.Pick.{Job, Flush, Merge, inputs, is_flush, installed_levels}
-use Rattle.lsm_open.specs.CrashState.{last_number}
+use Rattle.lsm_machine.specs.CrashState.{last_number}
 use Rattle.lsm_open.specs.Layout.{Layout, layout_of}
 use Rattle.lsm_mem.specs.Versions.{sealed_versions}
 use Rattle.lsm_open.specs.declared.regions.OpenRegion.{OpenRegion}
 use Rattle.lsm_open.specs.declared.regions.Regions.{Regions}
 use Rattle.lsm_store.specs.declared.memory.Memory.{Memory}
 use Rattle.lsm_store.specs.declared.memory.Status.TheVariants.{Running}
-use Rattle.lsm_store.specs.Crash.{last_crash_state}
+use Rattle.lsm_machine.specs.Crash.{last_crash_state}
 use Rattle.lsm_store.specs.InstalledJobs.{first_open, installed_layout}
 use Rattle.lsm_store.specs.InstalledMemory.{next_layout, IsNext, IsInstalledTo, after_install_fault}
 use Rattle.lsm_store.specs.LiveMarks.{marks}
 use Rattle.lsm_store.specs.Memory.{AreConsistent, CanTake, Agrees, IsInside, LieWithin, IsOpenIn, state_of, work_of}
-use Rattle.lsm_store.specs.RecoveryPoints.{batch_count}
-use Rattle.lsm_store.specs.TableLimits.{AreFew}
-use Rattle.lsm_store.specs.Work.{Install}
-use Rattle.lsm_store.specs.WorkEffects.{installed, with_installed}
-use Rattle.lsm_store.specs.WorkRefusals.{work_refusals, running_refusal, work_refusal, of_slot}
-use Rattle.lsm_store.specs.Machine.{Machine}
-use Rattle.lsm_store.proofs.Accounts.{accounts_law, first_not, behind_not, tests_behind}
-use Rattle.lsm_store.proofs.ExtentCounts.{back_blocks}
+use Rattle.lsm_machine.specs.RecoveryPoints.{batch_count}
+use Rattle.lsm_machine.specs.TableLimits.{AreFew}
+use Rattle.lsm_machine.specs.Work.{Install}
+use Rattle.lsm_machine.specs.WorkEffects.{installed, with_installed}
+use Rattle.lsm_machine.specs.WorkRefusals.{work_refusals, running_refusal, work_refusal, of_slot}
+use Rattle.lsm_machine.specs.Machine.{Machine}
+use Rattle.lsm_machine.proofs.Accounts.{accounts_law, first_not, behind_not, tests_behind}
+use Rattle.lsm_machine.proofs.ExtentCounts.{back_blocks}
 use Rattle.lsm_store.proofs.InstalledWork.{installed_have, installed_lie, installed_numbered}
 use Rattle.lsm_store.proofs.States.{agrees_stopped, not_running}
-use Rattle.lsm_store.proofs.TableLimits.{few_law, records_counted}
-use Rattle.lsm_store.proofs.Unrefused.{none_taken}
+use Rattle.lsm_store.proofs.FewTables.{few_law, records_counted}
+use Rattle.lsm_machine.proofs.Unrefused.{none_taken}
 
 -- the next layout, by whether a job is a flush
 pub same_layout : {A : Type 0} (m : Memory A) (j : Job) → next_layout (is_flush j) m ≡ installed_layout (layout_of m.regions) m.count m.next_table j

@@ -17,7 +17,7 @@ use Rattle.lsm_device.proofs.Moments.{weaker, ended}
 use Rattle.lsm_device.proofs.Outcomes.{seen_outcome}
 use Rattle.lsm_log.specs.Opened.{batches_in}
 use Rattle.lsm_log.proofs.Logs.{open_used, read_batches}
-use Rattle.lsm_open.specs.CrashState.{CrashState, last_number, in_next_generation}
+use Rattle.lsm_machine.specs.CrashState.{CrashState, last_number, in_next_generation}
 use Rattle.lsm_open.specs.Image.{StandFor}
 use Rattle.lsm_open.specs.Layout.{open_records, open_batches, IsLogAtIfOpen}
 use Rattle.lsm_open.specs.LogRegions.{all_batches, one_if_some}
@@ -36,18 +36,18 @@ use Rattle.lsm_open.proofs.TableFrames.{area_behind}
 use Rattle.lsm_root.specs.Installed.{IsNext, IsReady, IsOldOrNew, IsInstalled}
 use Rattle.lsm_root.specs.Roots.{Root, Stands, superblock_in, root_of}
 use Rattle.lsm_root.proofs.Standing.{standing}
-use Rattle.lsm_store.specs.Crash.{closed_with, may_leave, last_crash_state}
-use Rattle.lsm_store.specs.RecoveryPoints.{batch_count, present_map}
-use Rattle.lsm_store.specs.State.{OpenLog, State, map_at}
+use Rattle.lsm_machine.specs.Crash.{closed_with, may_leave, last_crash_state}
+use Rattle.lsm_machine.specs.RecoveryPoints.{batch_count, present_map}
+use Rattle.lsm_machine.specs.State.{OpenLog, State, map_at}
 use Rattle.lsm_store.specs.Stored.{open_log_of}
 use Rattle.lsm_store.specs.StoredTables.{IsStateOver, IsStoredIn, KeepsExtents, MayGoOn}
-use Rattle.lsm_store.specs.Effects.{rotated}
-use Rattle.lsm_store.specs.WorkEffects.{installed}
-use Rattle.lsm_store.specs.declared.asked.At.{At}
-use Rattle.lsm_store.specs.declared.asked.At.TheVariants.{Now, Snap}
+use Rattle.lsm_machine.specs.Effects.{rotated}
+use Rattle.lsm_machine.specs.WorkEffects.{installed}
+use Rattle.lsm_machine.specs.declared.asked.At.{At}
+use Rattle.lsm_machine.specs.declared.asked.At.TheVariants.{Now, Snap}
 use Rattle.lsm_store.proofs.Carrying.{may_leave_running}
 use Rattle.lsm_store.proofs.LeftStates.{begins_at, closed_with_open, none_if_closed, one_of_state, stored_present}
-use Rattle.lsm_store.proofs.Membership.{in_head}
+use Rattle.lsm_machine.proofs.Membership.{in_head}
 use Rattle.lsm_store.proofs.StoredTables.{state_at_rest}
 
 abbrev Sectors : Type 0

@@ -17,21 +17,21 @@ use Rattle.lsm_levels.specs.Levels.{Levels, all_tables, places}
 use Rattle.lsm_levels.specs.NamedBlocks.{AreNumberedApart}
 use Rattle.lsm_levels.specs.Pick.{inputs, installed_levels}
 use Rattle.lsm_levels.specs.Tables.{Table}
-use Rattle.lsm_open.specs.CrashState.{last_number}
+use Rattle.lsm_machine.specs.CrashState.{last_number}
 use Rattle.lsm_open.specs.Layout.{Layout}
 use Rattle.lsm_open.specs.ToldTables.{IsOutlined}
-use Rattle.lsm_store.specs.Accounts.{is_same_extent, outputs_in, tables_placed, AreNumbered}
+use Rattle.lsm_machine.specs.Accounts.{is_same_extent, outputs_in, tables_placed, AreNumbered}
 use Rattle.lsm_store.specs.InstalledJobs.{installed_layout}
 use Rattle.lsm_store.specs.Memory.{HaveTables, LieWithin}
-use Rattle.lsm_store.specs.TableLimits.{AreFew}
-use Rattle.lsm_store.specs.Work.{WorkView}
-use Rattle.lsm_store.specs.WorkEffects.{with_installed}
-use Rattle.lsm_store.proofs.Accounts.{held_counted, installed_accounts}
-use Rattle.lsm_store.proofs.ExtentCounts.{count_append, StandAmong, tables_apart, tables_inside}
-use Rattle.lsm_store.proofs.FewNumbers.{all_below}
+use Rattle.lsm_machine.specs.TableLimits.{AreFew}
+use Rattle.lsm_machine.specs.Work.{WorkView}
+use Rattle.lsm_machine.specs.WorkEffects.{with_installed}
+use Rattle.lsm_machine.proofs.Accounts.{held_counted, installed_accounts}
+use Rattle.lsm_machine.proofs.ExtentCounts.{count_append, StandAmong, tables_apart, tables_inside}
+use Rattle.lsm_machine.proofs.FewNumbers.{all_below}
 use Rattle.lsm_store.proofs.HeldTables.{with_held_merges, held_outlined}
 use Rattle.lsm_store.proofs.InstalledLayouts.{installed_within, installed_named, outlined_then}
-use Rattle.lsm_store.proofs.TableNumbers.{runs_apart, fewer_numbered}
+use Rattle.lsm_machine.proofs.TableNumbers.{runs_apart, fewer_numbered}
 
 -- the outputs of a job have numbers up to the last
 pub outputs_low : (w : WorkView) (job : ℕ) (slot : Slot) → AreNumbered w.next_table (tables_placed w) → slot_of job w.jobs.slots ≡ Some slot → w.next_table ≤ last_number + 1 → AllByRecursion (λ t. t.number ≤ 2 ^ 63) (outputs_at slot.stage)

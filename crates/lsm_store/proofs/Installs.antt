@@ -35,17 +35,17 @@ use Rattle.lsm_open.proofs.HeldRegions.{BeginsAfter}
 use Rattle.lsm_root.specs.Installed.{IsInstalled}
 use Rattle.lsm_root.specs.Layout.{behind}
 use Rattle.lsm_root.specs.Roots.{Stands}
-use Rattle.lsm_store.specs.Accounts.{outputs_in}
+use Rattle.lsm_machine.specs.Accounts.{outputs_in}
 use Rattle.lsm_store.specs.Backing.{StoreView, IsRunOn, placement_of, data_start, machine_of}
 use Rattle.lsm_store.specs.InstalledJobs.{output_records, placed_for, HasPlaced, parts_of, installed_in, first_open, installed_layout, AreSealedIn, AreLoggedIn}
-use Rattle.lsm_store.specs.RecoveryPoints.{batch_count}
-use Rattle.lsm_store.specs.State.{State}
+use Rattle.lsm_machine.specs.RecoveryPoints.{batch_count}
+use Rattle.lsm_machine.specs.State.{State}
 use Rattle.lsm_store.specs.StoredTables.{IsStoredIn, IsStoredWithJobs, KeepsExtents, MayGoOn}
-use Rattle.lsm_store.specs.Work.{Install}
-use Rattle.lsm_store.specs.WorkEffects.{installed, with_installed}
-use Rattle.lsm_store.specs.WorkRefusals.{held, of_slot, running_refusal}
-use Rattle.lsm_store.specs.WorkSound.{IsSound}
-use Rattle.lsm_store.specs.Machine.{Machine}
+use Rattle.lsm_machine.specs.Work.{Install}
+use Rattle.lsm_machine.specs.WorkEffects.{installed, with_installed}
+use Rattle.lsm_machine.specs.WorkRefusals.{held, of_slot, running_refusal}
+use Rattle.lsm_machine.specs.WorkSound.{IsSound}
+use Rattle.lsm_machine.specs.Machine.{Machine}
 use Rattle.lsm_store.proofs.InstallSounds.{sound_law}
 use Rattle.lsm_store.proofs.InstalledTables.{count_is, flush_goes_on, merge_goes_on, install_extents}
 use Rattle.lsm_store.proofs.KeptJobs.{flush_taken, merge_taken}

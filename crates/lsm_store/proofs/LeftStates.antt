@@ -8,7 +8,7 @@ use Rattle.lsm_device.specs.Disk.{Disk, image, seen}
 use Rattle.lsm_device.specs.Outcomes.{Leaves}
 use Rattle.lsm_device.proofs.Outcomes.{seen_outcome}
 use Rattle.lsm_log.specs.Batches.{IsBetween}
-use Rattle.lsm_open.specs.CrashState.{CrashState}
+use Rattle.lsm_machine.specs.CrashState.{CrashState}
 use Rattle.lsm_open.specs.Image.{StandFor, StandForSome}
 use Rattle.lsm_open.specs.Layout.{open_batches}
 use Rattle.lsm_open.specs.LogRegions.{one_if_some}
@@ -17,15 +17,15 @@ use Rattle.lsm_open.specs.Placements.{Placement, table_map, closed_in, IsHeld, s
 use Rattle.lsm_open.specs.Recovering.{StandForOne}
 use Rattle.lsm_open.proofs.HeldPlacements.{open_between, carried_leaves, carried_reads}
 use Rattle.lsm_open.proofs.HeldRegions.{BeginsAfter, begins_after}
-use Rattle.lsm_store.specs.Crash.{closed_with, closed_at, crash_state_at, left_between, may_leave, last_crash_state}
-use Rattle.lsm_store.specs.Promise.{beginnings}
-use Rattle.lsm_store.specs.RecoveryPoints.{RecoveryPoint, RecoveryPoints, recovery_points, present_point}
-use Rattle.lsm_store.specs.State.{OpenLog, State}
+use Rattle.lsm_machine.specs.Crash.{closed_with, closed_at, crash_state_at, left_between, may_leave, last_crash_state}
+use Rattle.lsm_machine.specs.Promise.{beginnings}
+use Rattle.lsm_machine.specs.RecoveryPoints.{RecoveryPoint, RecoveryPoints, recovery_points, present_point}
+use Rattle.lsm_machine.specs.State.{OpenLog, State}
 use Rattle.lsm_store.specs.Stored.{open_log_of}
 use Rattle.lsm_store.specs.StoredTables.{IsStateIn, IsStateOver, IsStoredIn}
 use Rattle.lsm_store.proofs.Carrying.{a_point, counts_open, may_leave_running}
-use Rattle.lsm_store.proofs.Membership.{in_map}
-use Rattle.lsm_store.proofs.Points.{present_beginnings, count_beginnings}
+use Rattle.lsm_machine.proofs.Membership.{in_map}
+use Rattle.lsm_machine.proofs.Points.{present_beginnings, count_beginnings}
 
 abbrev Sectors : Type 0
 Sectors = List (List ℕ)

@@ -1,42 +1,22 @@
-pub mod Membership
-pub mod Points
-pub mod Running
-pub mod CrashStates
-pub mod WorkReplies
-pub mod Steps
-pub mod Flights
-mod Reached
-pub mod Promises
-pub mod Lifelong
 pub mod Carrying
 pub mod Growing
 pub mod Reopening
-pub mod TableNumbers
 pub mod Backed
 pub mod Serving
 pub mod Exits
-pub mod Remembering
-pub mod StateMaps
-mod Walks
 pub mod States
 pub mod Refusing
-pub mod Unrefused
 pub mod Marking
-pub mod ReadViews
 pub mod ReadCalls
 pub mod GuardReads
 pub mod Guarding
 pub mod NoGuards
 pub mod Snapshotting
 pub mod Checking
-mod WorkedCalls
 pub mod Appends
 pub mod Accepting
 pub mod Opened
-pub mod PlacedImages
-pub mod AnsweredWork
 pub mod Cuts
-pub mod NewestAmong
 pub mod Replaced
 pub mod InstalledMaps
 pub mod WorkSounds
@@ -54,12 +34,9 @@ pub mod RotatedLayouts
 pub mod Installations
 pub mod Rotations
 pub mod RotatedMemory
-pub mod WithinInputs
 pub mod InstalledWork
 pub mod InstalledMemory
-pub mod InstallRefusals
 pub mod InstallTests
-pub mod SharedLevels
 pub mod Installs
 pub mod StoredLevels
 pub mod NumberedApart
@@ -73,12 +50,8 @@ pub mod PlacedJobs
 pub mod PlacedOutputs
 pub mod WrittenFlush
 pub mod RunningFlush
-pub mod ExtentCounts
 pub mod OpenedAccounts
-pub mod Accounts
-pub mod FewNumbers
 pub mod NumberedJobs
-pub mod TableLimits
 pub mod MergeInputs
 pub mod MergeParts
 pub mod WrittenMerge
@@ -99,4 +72,5 @@ pub mod AcceptedResults
 pub mod ServedSteps
 pub mod OpenedMachines
 pub mod Stats
-pub mod NextPieces
+pub mod Accounted
+pub mod FewTables

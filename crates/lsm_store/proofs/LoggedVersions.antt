@@ -28,8 +28,8 @@ use Rattle.lsm_open.proofs.KeptRecords.{same_batches}
 use Rattle.lsm_open.proofs.TableFrames.{area_behind}
 use Rattle.lsm_root.specs.Layout.{behind}
 use Rattle.lsm_store.specs.InstalledJobs.{AreSealedIn, AreLoggedIn, installed_in}
-use Rattle.lsm_store.specs.RecoveryPoints.{batch_count}
-use Rattle.lsm_store.specs.State.{State}
+use Rattle.lsm_machine.specs.RecoveryPoints.{batch_count}
+use Rattle.lsm_machine.specs.State.{State}
 use Rattle.lsm_store.specs.StoredTables.{IsStoredIn, with_log, with_next}
 use Rattle.lsm_store.proofs.InstalledTables.{count_is}
 use Rattle.lsm_store.proofs.StoredTables.{closed_seen}

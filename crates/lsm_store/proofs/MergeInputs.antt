@@ -12,10 +12,10 @@ use Rattle.lsm_levels.specs.Among.{IsAmong}
 use Rattle.lsm_levels.specs.Held.{AreRuns, IsUpper, HasItsTables}
 use Rattle.lsm_levels.specs.Levels.{Levels, all_tables, level, reach}
 use Rattle.lsm_levels.specs.Tables.{Table, KeyRange, range_of, at_most, spanned, hull, meets}
-use Rattle.lsm_store.proofs.NewestAmong.{key_of, newest_is, none_is}
+use Rattle.lsm_machine.proofs.NewestAmong.{key_of, newest_is, none_is}
 use Rattle.lsm_store.proofs.UpperRuns.{holding_tables}
 use Rattle.lsm_store.specs.InstalledJobs.{that_meet, runs_holding}
-use Rattle.lsm_store.specs.WorkMaps.{IsUnique}
+use Rattle.lsm_machine.specs.WorkMaps.{IsUnique}
 
 -- ---- lists with the same versions
 

@@ -6,16 +6,16 @@ use Rattle.lsm_device.proofs.Counting.{none_made}
 use Rattle.lsm_device.specs.Medium.{Medium}
 use Rattle.lsm_device.specs.declared.refusal.Refusal.TheVariants.{NoMemory, Io, BadTable, GuardFailed}
 use Rattle.lsm_store.specs.Backing.{StoreView, machine_of}
-use Rattle.lsm_store.specs.Calls.{Reply}
-use Rattle.lsm_store.specs.Calls.{Commit, CommitIf, Number, Done, Value, Rows, Given, Handed, Refused, Unread}
-use Rattle.lsm_store.specs.Effects.{Use}
-use Rattle.lsm_store.specs.Effects.{Untouched, Reads, Changes}
-use Rattle.lsm_store.specs.Machine.{Machine, Called}
-use Rattle.lsm_store.specs.Refusals.{refusal}
-use Rattle.lsm_store.specs.Run.{Allows, Admits, AllowsStep, next, next_machine}
+use Rattle.lsm_machine.specs.Calls.{Reply}
+use Rattle.lsm_machine.specs.Calls.{Commit, CommitIf, Number, Done, Value, Rows, Given, Handed, Refused, Unread}
+use Rattle.lsm_machine.specs.Effects.{Use}
+use Rattle.lsm_machine.specs.Effects.{Untouched, Reads, Changes}
+use Rattle.lsm_machine.specs.Machine.{Machine, Called}
+use Rattle.lsm_machine.specs.Refusals.{refusal}
+use Rattle.lsm_machine.specs.Run.{Allows, Admits, AllowsStep, next, next_machine}
 use Rattle.lsm_store.specs.Serving.{HasWrittenBatch, IsUsed, Serves, use_before, use_by}
-use Rattle.lsm_store.specs.State.{State}
-use Rattle.lsm_store.specs.WorkEffects.{work_by}
+use Rattle.lsm_machine.specs.State.{State}
+use Rattle.lsm_machine.specs.WorkEffects.{work_by}
 
 module _ (s : State) (batch : List Operation) where
   allows_commit : (reply : Reply) → Allows s (CommitIf [] batch) reply → Allows s (Commit batch) reply

@@ -8,10 +8,10 @@ use Rattle.lsm_jobs.specs.Slots.{Slot, Slots, slot_of, with_slot, with_held, out
 use Rattle.lsm_levels.specs.Tables.{Table}
 use Rattle.lsm_open.specs.ToldTables.{IsOutlined}
 use Rattle.lsm_table.specs.Division.{TableBlocks}
-use Rattle.lsm_store.specs.Accounts.{outputs_in, tables_numbered, AreNumbered}
-use Rattle.lsm_store.proofs.Accounts.{taken_outputs, unheld, held_counted}
-use Rattle.lsm_store.proofs.ExtentCounts.{one_if}
-use Rattle.lsm_store.proofs.TableNumbers.{numbered_cons, numbered_append, fewer_numbered}
+use Rattle.lsm_machine.specs.Accounts.{outputs_in, tables_numbered, AreNumbered}
+use Rattle.lsm_machine.proofs.Accounts.{taken_outputs, unheld, held_counted}
+use Rattle.lsm_machine.proofs.ExtentCounts.{one_if}
+use Rattle.lsm_machine.proofs.TableNumbers.{numbered_cons, numbered_append, fewer_numbered}
 
 module _ (next : ℕ) (ts : List Table) where
   abbrev In : Slots → Type 0

@@ -20,9 +20,9 @@ use Rattle.lsm_jobs.specs.Placing.{extent_of}
 use Rattle.lsm_open.specs.Placements.{Placement}
 use Rattle.lsm_open.specs.Recovering.{AreWithinLimits}
 use Rattle.lsm_open.specs.ToldTables.{IsOutlined, AreOutlined, record_extent, records_of_runs, records_of_levels, records_of}
-use Rattle.lsm_store.specs.Accounts.{extents_like, tables_like, AreAccounted}
+use Rattle.lsm_machine.specs.Accounts.{extents_like, tables_like, AreAccounted}
 use Rattle.lsm_store.specs.OpenedWork.{opened_work}
-use Rattle.lsm_store.proofs.ExtentCounts.{BeginApart, among_contains, same_counts, tables_extents}
+use Rattle.lsm_machine.proofs.ExtentCounts.{BeginApart, among_contains, same_counts, tables_extents}
 
 -- ---- the extents of records
 

@@ -26,7 +26,7 @@ use Rattle.lsm_levels.proofs.RunOrders.{stored_ranged}
 use Rattle.lsm_levels.proofs.Taking.{newer_than, place_of_level}
 use Rattle.lsm_jobs.specs.Slots.{Slot, no_jobs}
 use Rattle.lsm_open.specs.Answered.{IsNewRegionIfOpen}
-use Rattle.lsm_open.specs.CrashState.{CrashState}
+use Rattle.lsm_machine.specs.CrashState.{CrashState}
 use Rattle.lsm_open.specs.Layout.{open_records, open_batches}
 use Rattle.lsm_open.specs.LogRegions.{one_if_some}
 use Rattle.lsm_open.specs.Placements.{Placement, closed_in}
@@ -35,18 +35,18 @@ use Rattle.lsm_open.specs.Tables.{first_data}
 use Rattle.lsm_open.specs.ToldTables.{records_of, Held}
 use Rattle.lsm_open.specs.declared.regions.OpenRegion.{OpenRegion}
 use Rattle.lsm_levels.proofs.LevelVersions.{all_versions}
-use Rattle.lsm_store.specs.Crash.{reopened}
-use Rattle.lsm_store.specs.State.{OpenLog, are_waiting}
+use Rattle.lsm_machine.specs.Crash.{reopened}
+use Rattle.lsm_machine.specs.State.{OpenLog, are_waiting}
 use Rattle.lsm_store.specs.Stored.{open_log_of}
-use Rattle.lsm_store.specs.Work.{WorkView, Work, Take, Read, Ask, Accept, Write, Install, Drop, versions_in}
-use Rattle.lsm_store.specs.WorkMaps.{IsUnique}
-use Rattle.lsm_store.specs.WorkSound.{IsSound, IsServed}
+use Rattle.lsm_machine.specs.Work.{WorkView, Work, Take, Read, Ask, Accept, Write, Install, Drop, versions_in}
+use Rattle.lsm_machine.specs.WorkMaps.{IsUnique}
+use Rattle.lsm_machine.specs.WorkSound.{IsSound, IsServed}
 use Rattle.lsm_store.specs.OpenedWork.{opened_work, opened_machine, OpenedLaw}
-use Rattle.lsm_store.specs.Machine.{Machine}
+use Rattle.lsm_machine.specs.Machine.{Machine}
 use Rattle.lsm_store.proofs.CallSounds.{unique_ordered}
 use Rattle.lsm_store.proofs.InstalledMaps.{table_versions, in_has}
 use Rattle.lsm_store.proofs.States.{made_same}
-use Rattle.lsm_store.proofs.StateMaps.{alone, points_alone}
+use Rattle.lsm_machine.proofs.StateMaps.{alone, points_alone}
 use Rattle.lsm_levels.proofs.ScanViews.{runs_ordered}
 
 -- ---- versions in their places

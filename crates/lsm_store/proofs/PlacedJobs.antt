@@ -15,7 +15,7 @@ use Rattle.lsm_levels.specs.Tables.{Table, record_of}
 use Rattle.lsm_open.specs.Placements.{Placement}
 use Rattle.lsm_open.specs.ToldTables.{records_of_runs, records_of_levels, records_of, IsOutlined}
 use Rattle.lsm_open.specs.Writing.{PlacedTable, IsClear, ArePlacedApart}
-use Rattle.lsm_store.specs.Accounts.{outputs_in, LieApart, AllLieApart}
+use Rattle.lsm_machine.specs.Accounts.{outputs_in, LieApart, AllLieApart}
 use Rattle.lsm_store.specs.Backing.{HasNoneOf}
 use Rattle.lsm_store.specs.InstalledJobs.{output_level, placed_outputs, placed_for, placed_by}
 use Rattle.lsm_levels.proofs.OldestRuns.{tables_append}

@@ -15,11 +15,11 @@ use Rattle.lsm_open.specs.Placements.{Placement}
 use Rattle.lsm_open.specs.Tables.{extent_at}
 use Rattle.lsm_open.specs.ToldTables.{records_of, IsOutlined}
 use Rattle.lsm_open.specs.Writing.{PlacedTable, IsWritten}
-use Rattle.lsm_store.specs.Accounts.{outputs_in, AllLieApart}
+use Rattle.lsm_machine.specs.Accounts.{outputs_in, AllLieApart}
 use Rattle.lsm_store.specs.InstalledJobs.{output_level, placed_outputs, placed_for, placed_by, HasPlaced}
-use Rattle.lsm_store.specs.State.{State}
+use Rattle.lsm_machine.specs.State.{State}
 use Rattle.lsm_store.specs.StoredTables.{IsStoredWithJobs}
-use Rattle.lsm_store.proofs.Accounts.{unheld}
+use Rattle.lsm_machine.proofs.Accounts.{unheld}
 use Rattle.lsm_store.proofs.KeptJobs.{one_dropped}
 use Rattle.lsm_store.proofs.PlacedJobs.{nothing_placed, placed_apart, placed_clear}
 use Rattle.lsm_store.proofs.WrittenOutputs.{has_placed}

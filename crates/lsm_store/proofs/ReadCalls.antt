@@ -19,24 +19,24 @@ use Rattle.lsm_levels.specs.Stored.{IsReadable}
 use Rattle.lsm_mem.specs.Paging.{Page, page_of}
 use Rattle.lsm_mem.specs.Versions.{map_of}
 use Rattle.lsm_open.specs.Recovering.{StandForOne}
-use Rattle.lsm_store.specs.Accounts.{tables_placed, AreNumbered}
+use Rattle.lsm_machine.specs.Accounts.{tables_placed, AreNumbered}
 use Rattle.lsm_store.specs.Backing.{StoreView, IsBacked, data_start, machine_of}
-use Rattle.lsm_store.specs.Calls.{Call, Reply}
-use Rattle.lsm_store.specs.Calls.{Get, Scan, Value, Rows, Refused, reply_of}
-use Rattle.lsm_store.specs.Crash.{left_inside}
-use Rattle.lsm_store.specs.Effects.{Use, use_of, use_first}
-use Rattle.lsm_store.specs.Effects.{Untouched, Reads}
+use Rattle.lsm_machine.specs.Calls.{Call, Reply}
+use Rattle.lsm_machine.specs.Calls.{Get, Scan, Value, Rows, Refused, reply_of}
+use Rattle.lsm_machine.specs.Crash.{left_inside}
+use Rattle.lsm_machine.specs.Effects.{Use, use_of, use_first}
+use Rattle.lsm_machine.specs.Effects.{Untouched, Reads}
 use Rattle.lsm_store.specs.Reading.{ReadsThrough, source_of}
-use Rattle.lsm_store.specs.Refusals.{refusal}
-use Rattle.lsm_store.specs.Run.{Allows, Admits, next}
+use Rattle.lsm_machine.specs.Refusals.{refusal}
+use Rattle.lsm_machine.specs.Run.{Allows, Admits, next}
 use Rattle.lsm_store.specs.Serving.{is_faultless, use_before, use_by, IsOnlyRead, IsRead, IsUsed, IsCacheUsed, Serves}
-use Rattle.lsm_store.specs.State.{count_at, map_at, may_ask}
-use Rattle.lsm_store.specs.Work.{versions_by_place, versions_in}
-use Rattle.lsm_store.specs.WorkEffects.{work_by}
-use Rattle.lsm_store.specs.declared.asked.At.{At}
+use Rattle.lsm_machine.specs.State.{count_at, map_at, may_ask}
+use Rattle.lsm_machine.specs.Work.{versions_by_place, versions_in}
+use Rattle.lsm_machine.specs.WorkEffects.{work_by}
+use Rattle.lsm_machine.specs.declared.asked.At.{At}
 use Rattle.lsm_store.proofs.Backed.{place_in, read_on, readable, backed_on}
 use Rattle.lsm_store.proofs.Marking.{asked_map}
-use Rattle.lsm_store.proofs.Unrefused.{unrefused_runs, unrefused_get, unrefused_scan}
+use Rattle.lsm_machine.proofs.Unrefused.{unrefused_runs, unrefused_get, unrefused_scan}
 use Rattle.lsm_store.proofs.Serving.{answered, now_inside}
 use Rattle.lsm_open.proofs.OpeningAnswers.{none_more}
 

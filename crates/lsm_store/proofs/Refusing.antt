@@ -4,13 +4,13 @@ use Rattle.lsm_device.specs.Refusals.{is_no_fault}
 use Rattle.lsm_device.specs.declared.refusal.Refusal.{Refusal}
 use Rattle.lsm_device.specs.declared.refusal.Refusal.TheVariants.{NoMemory, Io}
 use Rattle.lsm_store.specs.Backing.{StoreView}
-use Rattle.lsm_store.specs.Calls.{Call}
-use Rattle.lsm_store.specs.Calls.{Refused}
-use Rattle.lsm_store.specs.Effects.{wants_memory}
-use Rattle.lsm_store.specs.Refusals.{refusal}
+use Rattle.lsm_machine.specs.Calls.{Call}
+use Rattle.lsm_machine.specs.Calls.{Refused}
+use Rattle.lsm_machine.specs.Effects.{wants_memory}
+use Rattle.lsm_machine.specs.Refusals.{refusal}
 use Rattle.lsm_store.specs.Serving.{Serves}
 use Rattle.lsm_store.proofs.Serving.{refused, refused_use, no_memory_use, serves_still}
-use Rattle.lsm_store.proofs.Unrefused.{refusal_decided}
+use Rattle.lsm_machine.proofs.Unrefused.{refusal_decided}
 
 no_fault_is : (e : Refusal) → e ≢ Io → is_no_fault e ≡ true
 no_fault_is Io other = absurd (other refl)

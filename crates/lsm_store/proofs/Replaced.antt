@@ -10,8 +10,8 @@ use Rattle.lsm_merge.specs.Laws.{IsKeptAt, HaveSameMap}
 use Rattle.lsm_merge.proofs.MapLaws.{keep_law}
 use Rattle.lsm_levels.specs.Among.{IsAmong}
 use Rattle.lsm_open.proofs.InPlace.{map_of-values}
-use Rattle.lsm_store.specs.WorkMaps.{IsUnique}
-use Rattle.lsm_store.proofs.NewestAmong.{IsNewest, key_of, newest_is, none_is}
+use Rattle.lsm_machine.specs.WorkMaps.{IsUnique}
+use Rattle.lsm_machine.proofs.NewestAmong.{IsNewest, key_of, newest_is, none_is}
 
 -- The versions after it: those that were, but for the input's, and what is kept of these.
 pub record IsReplacing (input : MergeInput) (before after : List Version) : Type 0 where

@@ -8,7 +8,7 @@ use Rattle.lsm_codec.specs.Manifests.{Contents, IsLogRecord, LogsAgree, IsManife
 use Rattle.lsm_codec.specs.Map.{Operation}
 use Rattle.lsm_codec.specs.TableRecords.{IsTableRecord}
 use Rattle.lsm_device.specs.Disk.{Disk, seen, synced}
-use Rattle.lsm_open.specs.CrashState.{last_number}
+use Rattle.lsm_machine.specs.CrashState.{last_number}
 use Rattle.lsm_open.specs.Layout.{record_of, open_records, open_batches, IsClosed}
 use Rattle.lsm_open.specs.LogRegions.{all_batches}
 use Rattle.lsm_open.specs.Placements.{Placement, contents_for, closed_in, present_state}
@@ -22,8 +22,8 @@ use Rattle.lsm_open.proofs.Writing.{installed_keeps}
 use Rattle.lsm_root.specs.Installed.{IsInstalled}
 use Rattle.lsm_root.specs.Roots.{Stands}
 use Rattle.lsm_root.proofs.Standing.{standing}
-use Rattle.lsm_store.specs.RecoveryPoints.{batch_count}
-use Rattle.lsm_store.specs.State.{OpenLog, State}
+use Rattle.lsm_machine.specs.RecoveryPoints.{batch_count}
+use Rattle.lsm_machine.specs.State.{OpenLog, State}
 use Rattle.lsm_store.specs.StoredTables.{IsStoredIn, IsStoredWithJobs, MayGoOn, with_next}
 use Rattle.lsm_store.proofs.InstalledTables.{no_records, may_rotate, new_here}
 use Rattle.lsm_store.proofs.LeftStates.{begins_at}

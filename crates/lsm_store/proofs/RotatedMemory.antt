@@ -14,7 +14,7 @@ use Rattle.lsm_device.specs.declared.refusal.Refusal.TheVariants.{Io}
 use Rattle.lsm_device.specs.History.{EachSince}
 use Rattle.lsm_device.specs.Medium.{Medium, disk}
 use Rattle.lsm_device.specs.Outcomes.{Leaves}
-use Rattle.lsm_open.specs.CrashState.{last_number}
+use Rattle.lsm_machine.specs.CrashState.{last_number}
 use Rattle.lsm_open.specs.Layout.{Layout, layout_of, open_records}
 use Rattle.lsm_open.specs.Placements.{contents_for}
 use Rattle.lsm_open.specs.Recovering.{placed_in}
@@ -29,19 +29,19 @@ use Rattle.lsm_root.specs.Roots.{Stands}
 use Rattle.lsm_store.specs.declared.memory.Memory.{Memory}
 use Rattle.lsm_store.specs.declared.memory.Status.TheVariants.{Running, Stopped}
 use Rattle.lsm_store.specs.Backing.{placement_of}
-use Rattle.lsm_store.specs.Calls.{Rotate, Done, Refused}
-use Rattle.lsm_store.specs.Crash.{left_besides}
-use Rattle.lsm_store.specs.Effects.{after, rotated}
+use Rattle.lsm_machine.specs.Calls.{Rotate, Done, Refused}
+use Rattle.lsm_machine.specs.Crash.{left_besides}
+use Rattle.lsm_machine.specs.Effects.{after, rotated}
 use Rattle.lsm_store.specs.LiveMarks.{marks}
 use Rattle.lsm_store.specs.Memory.{AreConsistent, CanTake, Agrees, IsInside, GoWith, LieWithin, IsOpenIn, numbered_layout, state_of, view_of, work_of}
-use Rattle.lsm_store.specs.RecoveryPoints.{batch_count}
-use Rattle.lsm_store.specs.Refusals.{refusal}
-use Rattle.lsm_store.specs.Run.{stopped_in}
+use Rattle.lsm_machine.specs.RecoveryPoints.{batch_count}
+use Rattle.lsm_machine.specs.Refusals.{refusal}
+use Rattle.lsm_machine.specs.Run.{stopped_in}
 use Rattle.lsm_store.specs.Serving.{Serves}
-use Rattle.lsm_store.specs.State.{OpenLog}
+use Rattle.lsm_machine.specs.State.{OpenLog}
 use Rattle.lsm_store.specs.Stored.{open_log_of}
 use Rattle.lsm_store.specs.StoredTables.{with_next}
-use Rattle.lsm_store.specs.WorkEffects.{with_sealed}
+use Rattle.lsm_machine.specs.WorkEffects.{with_sealed}
 use Rattle.lsm_store.proofs.RotatedLayouts.{rotated_within, rotated_log}
 use Rattle.lsm_store.proofs.RotatedManifests.{next_number}
 use Rattle.lsm_store.proofs.Installations.{IsInstalling}

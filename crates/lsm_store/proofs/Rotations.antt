@@ -11,7 +11,7 @@ use Rattle.lsm_device.specs.Outcomes.{Leaves}
 use Rattle.lsm_device.proofs.Moments.{weaker}
 use Rattle.lsm_levels.specs.Levels.{all_tables, places}
 use Rattle.lsm_levels.proofs.NamedBlocks.{named_law}
-use Rattle.lsm_open.specs.CrashState.{last_number}
+use Rattle.lsm_machine.specs.CrashState.{last_number}
 use Rattle.lsm_open.specs.Layout.{open_records}
 use Rattle.lsm_open.specs.Placements.{Placement, contents_for}
 use Rattle.lsm_open.specs.Recovering.{StandForOne}
@@ -21,28 +21,28 @@ use Rattle.lsm_root.specs.Installed.{IsReady, IsInstalled}
 use Rattle.lsm_root.specs.Layout.{behind}
 use Rattle.lsm_root.specs.Roots.{Stands}
 use Rattle.lsm_store.specs.Backing.{StoreView, IsRunOn, IsBacked, placement_of, data_start, machine_of}
-use Rattle.lsm_store.specs.Calls.{Rotate, Done, Refused}
-use Rattle.lsm_store.specs.Crash.{may_leave, left_besides, left_inside}
-use Rattle.lsm_store.specs.Effects.{rotated, use_first}
-use Rattle.lsm_store.specs.RecoveryPoints.{batch_count}
-use Rattle.lsm_store.specs.Refusals.{refusal}
-use Rattle.lsm_store.specs.Run.{stopped_in}
+use Rattle.lsm_machine.specs.Calls.{Rotate, Done, Refused}
+use Rattle.lsm_machine.specs.Crash.{may_leave, left_besides, left_inside}
+use Rattle.lsm_machine.specs.Effects.{rotated, use_first}
+use Rattle.lsm_machine.specs.RecoveryPoints.{batch_count}
+use Rattle.lsm_machine.specs.Refusals.{refusal}
+use Rattle.lsm_machine.specs.Run.{stopped_in}
 use Rattle.lsm_store.specs.Serving.{use_by, Serves}
-use Rattle.lsm_store.specs.State.{OpenLog, State, are_waiting, is_unused}
+use Rattle.lsm_machine.specs.State.{OpenLog, State, are_waiting, is_unused}
 use Rattle.lsm_store.specs.StoredTables.{IsStoredIn, KeepsExtents, MayGoOn, with_next}
-use Rattle.lsm_store.specs.WorkEffects.{with_sealed}
+use Rattle.lsm_machine.specs.WorkEffects.{with_sealed}
 use Rattle.lsm_store.proofs.Backed.{run_backed}
 use Rattle.lsm_store.proofs.CallSounds.{rotation_sound_law}
-use Rattle.lsm_store.proofs.CrashStates.{inside_unrefused}
+use Rattle.lsm_machine.proofs.CrashStates.{inside_unrefused}
 use Rattle.lsm_store.proofs.Installations.{IsInstalling}
 use Rattle.lsm_store.proofs.InstalledTables.{next_ready, install_moments, install_stopped, install_stored, install_extents, no_records, rotate_goes_on}
 use Rattle.lsm_store.proofs.LoggedVersions.{rotated_sealed, rotated_logged}
 use Rattle.lsm_store.proofs.RotatedManifests.{goes_on_numbered, rotate_keeps_numbered}
 use Rattle.lsm_store.specs.InstalledJobs.{placed_by}
-use Rattle.lsm_store.proofs.Running.{admits}
+use Rattle.lsm_machine.proofs.Running.{admits}
 use Rattle.lsm_store.proofs.Serving.{answered, uses, cache_kept, serves_fault}
 use Rattle.lsm_store.proofs.StoredLevels.{levels_kept, blocks_kept}
-use Rattle.lsm_store.proofs.Unrefused.{none_taken}
+use Rattle.lsm_machine.proofs.Unrefused.{none_taken}
 
 -- ---- what is known of a state that doesn't refuse a rotation
 

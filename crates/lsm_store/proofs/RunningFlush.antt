@@ -13,7 +13,7 @@ use Rattle.lsm_open.specs.Writing.{PlacedTable}
 use Rattle.lsm_store.specs.Backing.{StoreView, IsRunOn, placement_of, machine_of}
 use Rattle.lsm_store.specs.InstalledJobs.{output_records, placed_for}
 use Rattle.lsm_store.specs.StoredTables.{IsStoredWithJobs}
-use Rattle.lsm_store.specs.WorkRefusals.{held}
+use Rattle.lsm_machine.specs.WorkRefusals.{held}
 use Rattle.lsm_store.proofs.WrittenFlush.{flush_written}
 
 -- What is sealed in a store that runs on its device is of the batches in its closed regions, as a flush asks.

@@ -34,8 +34,8 @@ use Rattle.lsm_open.specs.Layout.{IsClosed}
 use Rattle.lsm_open.specs.LogRegions.{batches_at, all_batches}
 use Rattle.lsm_open.specs.Placements.{Placement}
 use Rattle.lsm_store.specs.Backing.{StoreView, IsRunOn, placement_of, machine_of}
-use Rattle.lsm_store.specs.WorkMaps.{IsJobOf, MayBePutIn}
-use Rattle.lsm_store.specs.WorkRefusals.{held}
+use Rattle.lsm_machine.specs.WorkMaps.{IsJobOf, MayBePutIn}
+use Rattle.lsm_machine.specs.WorkRefusals.{held}
 use Rattle.lsm_store.proofs.StoredTables.{closed_seen}
 
 -- ---- batches have versions

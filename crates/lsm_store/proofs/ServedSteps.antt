@@ -5,11 +5,11 @@ use Rattle.lsm_jobs.specs.Reading.{stage_with, input_with}
 use Rattle.lsm_levels.specs.Pick.{inputs}
 use Rattle.lsm_jobs.specs.Slots.{Slot, JobSlots, Stage, left_at, with_held}
 use Rattle.lsm_store.specs.Backing.{StoreView, IsBacked, machine_of}
-use Rattle.lsm_store.specs.Calls.{Call, Reply}
-use Rattle.lsm_store.specs.Calls.{Number, Done, Value, Rows, Given, Handed, Refused, Unread}
-use Rattle.lsm_store.specs.Machine.{Step, Called, Worked}
-use Rattle.lsm_store.specs.Run.{next_machine, HasReadOn, WorkGoesTo, GoesTo}
-use Rattle.lsm_store.specs.Work.{WorkView, Work, Take, Read, Ask, Accept, Write, Install, Drop}
+use Rattle.lsm_machine.specs.Calls.{Call, Reply}
+use Rattle.lsm_machine.specs.Calls.{Number, Done, Value, Rows, Given, Handed, Refused, Unread}
+use Rattle.lsm_machine.specs.Machine.{Step, Called, Worked}
+use Rattle.lsm_machine.specs.Run.{next_machine, HasReadOn, WorkGoesTo, GoesTo}
+use Rattle.lsm_machine.specs.Work.{WorkView, Work, Take, Read, Ask, Accept, Write, Install, Drop}
 use Rattle.lsm_store.specs.Working.{ReadsTo, WorksTo, ServesStep}
 
 module _ (old : StoreView) (w : WorkView) where

@@ -9,13 +9,13 @@ use Rattle.lsm_extent.specs.Area.{IsPartition, free_count, is_free, is_held}
 use Rattle.lsm_levels.specs.Levels.{all_tables, places}
 use Rattle.lsm_store.specs.declared.memory.Memory.{Memory}
 use Rattle.lsm_store.specs.declared.stat.Stat.{Stat}
-use Rattle.lsm_store.specs.Accounts.{extents_like, tables_like, tables_placed}
+use Rattle.lsm_machine.specs.Accounts.{extents_like, tables_like, tables_placed}
 use Rattle.lsm_store.specs.Memory.{AreConsistent, state_of, work_of}
-use Rattle.lsm_store.specs.Refusals.{first_refusal}
-use Rattle.lsm_store.specs.State.{are_waiting, log_room}
+use Rattle.lsm_machine.specs.Refusals.{first_refusal}
+use Rattle.lsm_machine.specs.State.{are_waiting, log_room}
 use Rattle.lsm_store.specs.Stats.{is_in_no_table, blocks_in_no_table, stat_of, stat_answer}
-use Rattle.lsm_store.specs.Work.{WorkView}
-use Rattle.lsm_store.proofs.ExtentCounts.{placed_in}
+use Rattle.lsm_machine.specs.Work.{WorkView}
+use Rattle.lsm_machine.proofs.ExtentCounts.{placed_in}
 use Rattle.lsm_extent.proofs.Counting.{count_below-same}
 
 -- ---- free blocks

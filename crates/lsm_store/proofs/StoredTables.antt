@@ -18,7 +18,7 @@ use Rattle.lsm_device.proofs.Moments.{became, weaker}
 use Rattle.lsm_device.proofs.Outcomes.{seen_outcome}
 use Rattle.lsm_levels.specs.Levels.{Levels}
 use Rattle.lsm_mem.specs.Versions.{map_of}
-use Rattle.lsm_open.specs.CrashState.{CrashState}
+use Rattle.lsm_machine.specs.CrashState.{CrashState}
 use Rattle.lsm_open.specs.Image.{StandForSome}
 use Rattle.lsm_open.specs.Layout.{open_records, open_batches}
 use Rattle.lsm_open.specs.LogRegions.{one_if_some}
@@ -31,16 +31,16 @@ use Rattle.lsm_open.proofs.HeldPlacements.{same_closed}
 use Rattle.lsm_open.proofs.HeldRegions.{Same, same_all}
 use Rattle.lsm_open.proofs.TableFrames.{same_all_versions}
 use Rattle.lsm_root.proofs.Standing.{standing}
-use Rattle.lsm_store.specs.Calls.{Sync}
-use Rattle.lsm_store.specs.Crash.{may_leave, reopened}
-use Rattle.lsm_store.specs.Effects.{after}
-use Rattle.lsm_store.specs.Promise.{beginnings}
-use Rattle.lsm_store.specs.RecoveryPoints.{all_synced, batch_count, present_map, last_map}
-use Rattle.lsm_store.specs.State.{State}
+use Rattle.lsm_machine.specs.Calls.{Sync}
+use Rattle.lsm_machine.specs.Crash.{may_leave, reopened}
+use Rattle.lsm_machine.specs.Effects.{after}
+use Rattle.lsm_machine.specs.Promise.{beginnings}
+use Rattle.lsm_machine.specs.RecoveryPoints.{all_synced, batch_count, present_map, last_map}
+use Rattle.lsm_machine.specs.State.{State}
 use Rattle.lsm_store.specs.StoredTables.{IsStateIn, IsStateOver, IsStoredIn, IsStoredWithJobs, KeepsExtents}
 use Rattle.lsm_store.proofs.AppendedTables.{area_elsewhere}
 use Rattle.lsm_store.proofs.LeftStates.{begins_at, all_within, one_of_state, stored_leaves}
-use Rattle.lsm_store.proofs.Points.{present_beginnings, count_beginnings, all_synced_beginnings}
+use Rattle.lsm_machine.proofs.Points.{present_beginnings, count_beginnings, all_synced_beginnings}
 use Rattle.lsm_store.proofs.Reopening.{open_log_is}
 
 abbrev Sectors : Type 0

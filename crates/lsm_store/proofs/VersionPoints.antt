@@ -15,19 +15,19 @@ use Rattle.lsm_open.specs.Layout.{open_records, open_batches}
 use Rattle.lsm_open.specs.LogRegions.{all_batches}
 use Rattle.lsm_open.specs.Placements.{Placement, contents_for, closed_in, table_map, IsHeld}
 use Rattle.lsm_open.specs.Tables.{table_versions}
-use Rattle.lsm_open.proofs.Beginnings.{apply_all-append, take_sum}
+use Rattle.lsm_machine.proofs.Beginnings.{apply_all-append, take_sum}
 use Rattle.lsm_open.proofs.FreeWrites.{tables_seen}
 use Rattle.lsm_open.proofs.HeldRegions.{all_open, placed}
 use Rattle.lsm_open.proofs.KeptRecords.{all_batches-append}
 use Rattle.lsm_open.proofs.NewestFound.{newer_found, newest-append, map_of_batches}
 use Rattle.lsm_open.proofs.TableFrames.{same_all_versions, numbered_tables}
-use Rattle.lsm_store.specs.StateMaps.{maps_from, points_of}
-use Rattle.lsm_store.specs.Promise.{beginnings, maps_after}
-use Rattle.lsm_store.specs.RecoveryPoints.{RecoveryPoints, batch_count}
-use Rattle.lsm_store.specs.State.{State}
+use Rattle.lsm_machine.specs.StateMaps.{maps_from, points_of}
+use Rattle.lsm_machine.specs.Promise.{beginnings, maps_after}
+use Rattle.lsm_machine.specs.RecoveryPoints.{RecoveryPoints, batch_count}
+use Rattle.lsm_machine.specs.State.{State}
 use Rattle.lsm_store.specs.StoredTables.{IsStoredIn}
 use Rattle.lsm_store.proofs.LeftStates.{all_within}
-use Rattle.lsm_store.proofs.Points.{count_beginnings}
+use Rattle.lsm_machine.proofs.Points.{count_beginnings}
 use Rattle.lsm_store.proofs.StoredTables.{closed_seen}
 
 abbrev Batches : Type 0

@@ -19,27 +19,27 @@ use Rattle.lsm_jobs.specs.Slots.{Slot, JobSlots, slot_of, held_jobs, with_held, 
 use Rattle.lsm_jobs.specs.Taking.{given_job, level_of, told_of, slot_for, with_taken}
 use Rattle.lsm_jobs.specs.declared.taking.TakenJob.{TakenJob}
 use Rattle.lsm_jobs.proofs.KeptJobs.{given_waits}
-use Rattle.lsm_open.specs.CrashState.{last_number}
+use Rattle.lsm_machine.specs.CrashState.{last_number}
 use Rattle.lsm_store.specs.declared.memory.Memory.{Memory}
-use Rattle.lsm_store.specs.Accounts.{outputs_in}
+use Rattle.lsm_machine.specs.Accounts.{outputs_in}
 use Rattle.lsm_store.specs.Backing.{StoreView, HasNoneOf, placement_of, machine_of}
 use Rattle.lsm_store.specs.InstalledJobs.{placed_by}
 use Rattle.lsm_store.specs.StoredTables.{IsStoredWithJobs}
-use Rattle.lsm_store.proofs.Accounts.{first_none, taken_outputs}
+use Rattle.lsm_machine.proofs.Accounts.{first_none, taken_outputs}
 use Rattle.lsm_store.proofs.PlacedJobs.{taken_placed, none_of_held}
 use Rattle.lsm_store.proofs.PlacedOutputs.{gone_stored}
 use Rattle.lsm_open.specs.Writing.{PlacedTable}
 use Rattle.lsm_levels.specs.Tables.{Table}
-use Rattle.lsm_store.specs.Calls.{Done, Refused, Given, Handed, reply_of}
+use Rattle.lsm_machine.specs.Calls.{Done, Refused, Given, Handed, reply_of}
 use Rattle.lsm_store.specs.Memory.{view_of, state_of, work_of}
-use Rattle.lsm_store.specs.State.{are_waiting}
-use Rattle.lsm_store.specs.Work.{Work, Take, Ask, Drop, cuts_of}
-use Rattle.lsm_store.specs.WorkEffects.{work_answer, work_after}
-use Rattle.lsm_store.specs.WorkRefusals.{job_given, held, running_refusal, work_refusal}
+use Rattle.lsm_machine.specs.State.{are_waiting}
+use Rattle.lsm_machine.specs.Work.{Work, Take, Ask, Drop, cuts_of}
+use Rattle.lsm_machine.specs.WorkEffects.{work_answer, work_after}
+use Rattle.lsm_machine.specs.WorkRefusals.{job_given, held, running_refusal, work_refusal}
 use Rattle.lsm_store.specs.Working.{taken_reply, Works}
-use Rattle.lsm_store.specs.Machine.{Machine}
-use Rattle.lsm_store.specs.WorkReplies.{work_reply_by, work_decided, next_worked}
-use Rattle.lsm_store.proofs.AnsweredWork.{ask_answers}
+use Rattle.lsm_machine.specs.Machine.{Machine}
+use Rattle.lsm_machine.specs.WorkReplies.{work_reply_by, work_decided, next_worked}
+use Rattle.lsm_machine.proofs.AnsweredWork.{ask_answers}
 use Rattle.lsm_store.proofs.HeldTables.{same_taken}
 use Rattle.lsm_store.proofs.WorkSounds.{take_sound, drop_sound}
 use Rattle.lsm_store.proofs.Works.{IsAnsweredAlone, worked_on, running_refuses, works_still, works_refused, works_want, works_moved, sound_moved, none_used}

@@ -21,17 +21,17 @@ use Rattle.lsm_jobs.specs.Taking.{runs_of, first_stage, slot_for, with_taken}
 use Rattle.lsm_jobs.proofs.Found.{found_there, found_number}
 use Rattle.lsm_jobs.proofs.GatheredRuns.{joined_runs}
 use Rattle.lsm_jobs.proofs.KeptJobs.{taken_cases, held_cases, given_may, given_waits, may_taken, going_on_law, freeing_law}
-use Rattle.lsm_store.specs.RecoveryPoints.{batch_count}
-use Rattle.lsm_store.specs.State.{State, LiveSnapshot, are_waiting}
-use Rattle.lsm_store.specs.StateMaps.{HaveMaps}
-use Rattle.lsm_store.specs.Work.{WorkView, Take, Read, Accept, Write, Drop, versions_in, cuts_of}
-use Rattle.lsm_store.specs.WorkRefusals.{job_given, held, of_slot, placing}
-use Rattle.lsm_store.specs.WorkEffects.{staged, with_placed, work_after}
-use Rattle.lsm_store.specs.WorkMaps.{AreVersions, IsJobOf, MayBePutIn}
-use Rattle.lsm_store.specs.WorkSound.{IsSound, IsServed}
-use Rattle.lsm_store.specs.Machine.{Machine}
+use Rattle.lsm_machine.specs.RecoveryPoints.{batch_count}
+use Rattle.lsm_machine.specs.State.{State, LiveSnapshot, are_waiting}
+use Rattle.lsm_machine.specs.StateMaps.{HaveMaps}
+use Rattle.lsm_machine.specs.Work.{WorkView, Take, Read, Accept, Write, Drop, versions_in, cuts_of}
+use Rattle.lsm_machine.specs.WorkRefusals.{job_given, held, of_slot, placing}
+use Rattle.lsm_machine.specs.WorkEffects.{staged, with_placed, work_after}
+use Rattle.lsm_machine.specs.WorkMaps.{AreVersions, IsJobOf, MayBePutIn}
+use Rattle.lsm_machine.specs.WorkSound.{IsSound, IsServed}
+use Rattle.lsm_machine.specs.Machine.{Machine}
 use Rattle.lsm_store.proofs.Cuts.{present_cut, snapshot_cut}
-use Rattle.lsm_store.proofs.StateMaps.{count_is, synced_is}
+use Rattle.lsm_machine.proofs.StateMaps.{count_is, synced_is}
 
 some_slot : (a b : Slot) → Some a ≡ Some b → a ≡ b
 some_slot a b e = cc

@@ -19,29 +19,29 @@ use Rattle.lsm_jobs.proofs.Found.{found_there, found_number}
 use Rattle.lsm_jobs.proofs.StoredJobs.{stored_reading_law, never_bad_law}
 use Rattle.lsm_open.specs.Recovering.{StandForOne}
 use Rattle.lsm_store.specs.Backing.{StoreView, HasNoneOf, IsRunOn, IsBacked, placement_of, data_start, machine_of}
-use Rattle.lsm_store.specs.Calls.{Number, Refused, Reply, reply_of}
-use Rattle.lsm_store.specs.Effects.{Use}
-use Rattle.lsm_store.specs.Effects.{Untouched, Reads, Changes}
-use Rattle.lsm_store.specs.Work.{WorkView, Work, Read}
-use Rattle.lsm_store.specs.WorkEffects.{work_after, use_for, work_use, staged}
-use Rattle.lsm_store.specs.WorkRefusals.{held, of_slot, work_refusal}
-use Rattle.lsm_store.specs.WorkSound.{IsSound}
+use Rattle.lsm_machine.specs.Calls.{Number, Refused, Reply, reply_of}
+use Rattle.lsm_machine.specs.Effects.{Use}
+use Rattle.lsm_machine.specs.Effects.{Untouched, Reads, Changes}
+use Rattle.lsm_machine.specs.Work.{WorkView, Work, Read}
+use Rattle.lsm_machine.specs.WorkEffects.{work_after, use_for, work_use, staged}
+use Rattle.lsm_machine.specs.WorkRefusals.{held, of_slot, work_refusal}
+use Rattle.lsm_machine.specs.WorkSound.{IsSound}
 use Rattle.lsm_store.specs.Working.{work_use_before, work_use_by, IsWorkUsed, WorksTo, Works}
-use Rattle.lsm_store.proofs.AnsweredWork.{stage_passes, no_job, other_stage, read_answers}
+use Rattle.lsm_machine.proofs.AnsweredWork.{stage_passes, no_job, other_stage, read_answers}
 use Rattle.lsm_store.specs.Memory.{AreReadAsMerges}
 use Rattle.lsm_store.proofs.HeldTables.{reading_stored, merges_at}
 use Rattle.lsm_store.proofs.ReadCalls.{no_use}
 use Rattle.lsm_open.proofs.OpeningAnswers.{none_more}
 use Rattle.lsm_store.proofs.WorkSounds.{read_sound}
 use Rattle.lsm_store.proofs.Works.{GoesOn, running_refuses, backed_moved, worked_on, now_within, works_refused}
-use Rattle.lsm_store.proofs.Accounts.{read_none}
+use Rattle.lsm_machine.proofs.Accounts.{read_none}
 use Rattle.lsm_store.proofs.PlacedJobs.{held_placed, none_of_held}
-use Rattle.lsm_store.specs.Accounts.{outputs_in}
+use Rattle.lsm_machine.specs.Accounts.{outputs_in}
 use Rattle.lsm_store.specs.InstalledJobs.{placed_by}
 use Rattle.lsm_store.specs.StoredTables.{IsStoredWithJobs}
-use Rattle.lsm_store.specs.Machine.{Machine}
+use Rattle.lsm_machine.specs.Machine.{Machine}
 use Rattle.lsm_store.specs.Serving.{is_faultless}
-use Rattle.lsm_store.specs.WorkReplies.{work_reply_by, work_decided, WorkAllows, WorkAdmits, work_left_inside, next_worked, after_work_fault}
+use Rattle.lsm_machine.specs.WorkReplies.{work_reply_by, work_decided, WorkAllows, WorkAdmits, work_left_inside, next_worked, after_work_fault}
 use Rattle.lsm_levels.specs.NamedBlocks.{HasNoBlock}
 use Rattle.lsm_open.specs.Writing.{PlacedTable}
 use Rattle.std.specs.List.{AllByRecursion}

@@ -21,23 +21,23 @@ use Rattle.lsm_jobs.specs.Taking.{given_job, slot_for, with_taken}
 use Rattle.lsm_mem.specs.Versions.{sealed_versions}
 use Rattle.lsm_levels.specs.Pick.{Job}
 use Rattle.lsm_levels.specs.Levels.{all_tables, places}
-use Rattle.lsm_store.specs.Accounts.{outputs_in, tables_numbered, AreNumbered}
+use Rattle.lsm_machine.specs.Accounts.{outputs_in, tables_numbered, AreNumbered}
 use Rattle.lsm_jobs.specs.declared.taking.TakenJob.{TakenJob}
 use Rattle.lsm_open.specs.Tables.{first_data}
 use Rattle.lsm_store.specs.declared.memory.Memory.{Memory}
 use Rattle.lsm_store.specs.declared.snapshots.Mark.{Mark}
-use Rattle.lsm_store.specs.JobAnswers.{AreRising}
+use Rattle.lsm_machine.specs.JobAnswers.{AreRising}
 use Rattle.lsm_store.specs.LiveMarks.{marks}
 use Rattle.lsm_store.specs.Memory.{AreConsistent, HaveTables, IsInside, mark_of, state_of, work_of}
-use Rattle.lsm_store.specs.Work.{each_once, cuts_of}
-use Rattle.lsm_store.specs.State.{are_waiting}
+use Rattle.lsm_machine.specs.Work.{each_once, cuts_of}
+use Rattle.lsm_machine.specs.State.{are_waiting}
 use Rattle.lsm_merge.specs.Inputs.{IsCuts, MergeInput}
 use Rattle.lsm_store.proofs.Cuts.{cuts_law, counts_are}
-use Rattle.lsm_store.proofs.Accounts.{accounts_law, first_none}
+use Rattle.lsm_machine.proofs.Accounts.{accounts_law, first_none}
 use Rattle.lsm_store.proofs.HeldTables.{job_can_be_read, dropped_tables, placed_tables, read_tables, taken_tables, no_outputs}
 use Rattle.lsm_store.proofs.NumberedJobs.{taken_numbered, held_numbered, gone_numbered, placed_numbered, placed_outlined}
-use Rattle.lsm_store.proofs.ExtentCounts.{back_blocks}
-use Rattle.lsm_store.proofs.TableLimits.{records_counted}
+use Rattle.lsm_machine.proofs.ExtentCounts.{back_blocks}
+use Rattle.lsm_machine.proofs.TableLimits.{records_counted}
 
 module _ {A : Type 0} (m : Memory A) (kept : AreConsistent m) where
   abbrev pub with_jobs : JobSlots → Area → Memory A

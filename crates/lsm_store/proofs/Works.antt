@@ -18,26 +18,26 @@ use Rattle.lsm_levels.specs.Levels.{places}
 use Rattle.lsm_levels.specs.Stored.{AreStored}
 use Rattle.lsm_open.specs.Image.{StandFor}
 use Rattle.lsm_open.specs.Recovering.{StandForOne}
-use Rattle.lsm_store.specs.Accounts.{outputs_in}
+use Rattle.lsm_machine.specs.Accounts.{outputs_in}
 use Rattle.lsm_store.specs.Backing.{StoreView, HasNoneOf, IsRunOn, IsBacked, placement_of, data_start, machine_of}
-use Rattle.lsm_store.specs.Calls.{Refused, Reply}
-use Rattle.lsm_store.specs.Crash.{may_leave, last_crash_state}
-use Rattle.lsm_store.specs.Effects.{Use}
-use Rattle.lsm_store.specs.Effects.{Untouched, Reads, Changes}
+use Rattle.lsm_machine.specs.Calls.{Refused, Reply}
+use Rattle.lsm_machine.specs.Crash.{may_leave, last_crash_state}
+use Rattle.lsm_machine.specs.Effects.{Use}
+use Rattle.lsm_machine.specs.Effects.{Untouched, Reads, Changes}
 use Rattle.lsm_store.specs.InstalledJobs.{AreSealedIn, AreLoggedIn, placed_by}
-use Rattle.lsm_store.specs.Refusals.{first_refusal}
+use Rattle.lsm_machine.specs.Refusals.{first_refusal}
 use Rattle.lsm_store.specs.StoredTables.{IsStoredWithJobs}
-use Rattle.lsm_store.specs.Work.{Work}
-use Rattle.lsm_store.specs.WorkEffects.{work_after, state_after, work_use}
-use Rattle.lsm_store.specs.WorkRefusals.{running_refusal, work_refusal}
-use Rattle.lsm_store.specs.WorkSound.{IsSound}
+use Rattle.lsm_machine.specs.Work.{Work}
+use Rattle.lsm_machine.specs.WorkEffects.{work_after, state_after, work_use}
+use Rattle.lsm_machine.specs.WorkRefusals.{running_refusal, work_refusal}
+use Rattle.lsm_machine.specs.WorkSound.{IsSound}
 use Rattle.lsm_store.specs.Working.{work_use_before, work_use_by, IsWorkUsed, Works, WorksTo}
-use Rattle.lsm_store.specs.Machine.{Machine}
+use Rattle.lsm_machine.specs.Machine.{Machine}
 use Rattle.lsm_store.specs.Serving.{is_faultless}
-use Rattle.lsm_store.specs.WorkReplies.{work_reply_by, WorkAllows, WorkAdmits, work_left_inside, next_worked}
+use Rattle.lsm_machine.specs.WorkReplies.{work_reply_by, WorkAllows, WorkAdmits, work_left_inside, next_worked}
 use Rattle.lsm_store.proofs.Backed.{place_in}
-use Rattle.lsm_store.proofs.Running.{IsDecided}
-use Rattle.lsm_store.proofs.WorkReplies.{work_decided_so}
+use Rattle.lsm_machine.proofs.Running.{IsDecided}
+use Rattle.lsm_machine.proofs.WorkReplies.{work_decided_so}
 use Rattle.lsm_store.proofs.Serving.{untouched_no_change}
 
 -- ---- refusals

@@ -33,12 +33,12 @@ use Rattle.lsm_open.proofs.StoredRecords.{versions_run, run_ascends, run_order}
 use Rattle.lsm_store.proofs.WorkSounds.{there}
 use Rattle.lsm_store.proofs.WrittenOutputs.{outputs_stored, outputs_named}
 use Rattle.lsm_store.specs.InstalledJobs.{output_records, placed_for, AreSealedIn}
-use Rattle.lsm_store.specs.State.{State}
+use Rattle.lsm_machine.specs.State.{State}
 use Rattle.lsm_store.specs.StoredTables.{IsStoredWithJobs}
-use Rattle.lsm_store.specs.WorkMaps.{IsJobOf}
-use Rattle.lsm_store.specs.WorkRefusals.{held}
-use Rattle.lsm_store.specs.WorkSound.{IsSound}
-use Rattle.lsm_store.specs.Machine.{Machine}
+use Rattle.lsm_machine.specs.WorkMaps.{IsJobOf}
+use Rattle.lsm_machine.specs.WorkRefusals.{held}
+use Rattle.lsm_machine.specs.WorkSound.{IsSound}
+use Rattle.lsm_machine.specs.Machine.{Machine}
 
 -- versions of batches are numbered up to the last of these
 batches_high : (n : ℕ) (batches : List (List Operation)) (vs : List Version) → NumberedAtMost n vs → NumberedAtMost (n + length batches) (with_batches n batches vs)

@@ -15,10 +15,10 @@ use Rattle.lsm_open.specs.Tables.{first_data}
 use Rattle.lsm_open.specs.ToldTables.{IsOutlined}
 use Rattle.lsm_store.specs.declared.memory.Memory.{Memory}
 use Rattle.lsm_store.specs.declared.memory.Status.TheVariants.{Stopped}
-use Rattle.lsm_store.specs.Accounts.{tables_like, outputs_in, AreNumbered}
+use Rattle.lsm_machine.specs.Accounts.{tables_like, outputs_in, AreNumbered}
 use Rattle.lsm_store.specs.Memory.{AreConsistent, AreReadAsMerges, HaveTables, IsInside, work_of}
-use Rattle.lsm_store.specs.Work.{WorkView}
-use Rattle.lsm_store.proofs.Accounts.{accounts_law}
+use Rattle.lsm_machine.specs.Work.{WorkView}
+use Rattle.lsm_machine.proofs.Accounts.{accounts_law}
 use Rattle.lsm_store.proofs.HeldTables.{with_held_merges}
 use Rattle.lsm_store.proofs.PlacedJobs.{one_held}
 use Rattle.lsm_store.proofs.WrittenWorks.{written_outputs_in}

@@ -45,11 +45,11 @@ use Rattle.lsm_store.proofs.WorkSounds.{there}
 use Rattle.lsm_store.proofs.WrittenOutputs.{outputs_stored, outputs_named}
 use Rattle.lsm_store.specs.InstalledJobs.{output_records, placed_for, that_meet, parts_at, parts_if, parts_of}
 use Rattle.lsm_store.specs.StoredTables.{IsStoredWithJobs}
-use Rattle.lsm_store.specs.Work.{versions_in}
-use Rattle.lsm_store.specs.WorkMaps.{IsJobOf}
-use Rattle.lsm_store.specs.WorkRefusals.{held}
-use Rattle.lsm_store.specs.WorkSound.{IsSound}
-use Rattle.lsm_store.specs.Machine.{Machine}
+use Rattle.lsm_machine.specs.Work.{versions_in}
+use Rattle.lsm_machine.specs.WorkMaps.{IsJobOf}
+use Rattle.lsm_machine.specs.WorkRefusals.{held}
+use Rattle.lsm_machine.specs.WorkSound.{IsSound}
+use Rattle.lsm_machine.specs.Machine.{Machine}
 use Rattle.lsm_table.specs.Division.{ShareNoKey}
 use Rattle.lsm_store.proofs.MergeParts.{share_none, upper_is, lower_is, upper_stored, lower_stored, between_apart, behind_from, from_weaker, IsBehind}
 

@@ -36,7 +36,7 @@ use Rattle.lsm_open.proofs.ListPairs.{All-left, All-right}
 use Rattle.lsm_open.specs.Placements.{Placement}
 use Rattle.lsm_open.specs.Writing.{PlacedTable, tables_of, IsWritten}
 use Rattle.lsm_store.specs.InstalledJobs.{output_level, output_records, placed_outputs, placed_for, placed_by, HasPlaced}
-use Rattle.lsm_store.specs.State.{State}
+use Rattle.lsm_machine.specs.State.{State}
 use Rattle.lsm_store.specs.StoredTables.{IsStoredWithJobs}
 use Rattle.lsm_table.proofs.Filters.{has_each}
 use Rattle.lsm_table.proofs.Outlines.{edge_count, outline_fits}

@@ -22,9 +22,9 @@ use Rattle.lsm_open.specs.Writing.{PlacedTable, IsWritten, ArePlacedApart, IsCle
 use Rattle.lsm_open.proofs.FreeWrites.{reads_elsewhere, carried_elsewhere}
 use Rattle.lsm_open.proofs.ListPairs.{All-left, All-right, pairwise_left, pairwise_right, pairwise_cross, pairwise_join}
 use Rattle.lsm_open.proofs.Writing.{free_next, written_keeps}
-use Rattle.lsm_store.specs.Crash.{may_leave}
+use Rattle.lsm_machine.specs.Crash.{may_leave}
 use Rattle.lsm_store.specs.InstalledJobs.{output_level, placed_outputs, placed_by, HasPlaced, AreSealedIn, AreLoggedIn}
-use Rattle.lsm_store.specs.State.{State}
+use Rattle.lsm_machine.specs.State.{State}
 use Rattle.lsm_store.specs.StoredTables.{IsStoredWithJobs, KeepsExtents}
 use Rattle.lsm_store.proofs.WrittenOutputs.{has_placed}
 use Rattle.lsm_store.proofs.StoredTables.{free_stored, free_each, free_extents, closed_seen}

@@ -21,27 +21,27 @@ use Rattle.lsm_jobs.specs.Writing.{WritesBlocks, JobWritesOn, next_at, next_of}
 use Rattle.lsm_levels.proofs.NamedBlocks.{named_law}
 use Rattle.lsm_levels.specs.Levels.{all_tables, places}
 use Rattle.lsm_levels.specs.Tables.{Table}
-use Rattle.lsm_open.specs.CrashState.{CrashState}
+use Rattle.lsm_machine.specs.CrashState.{CrashState}
 use Rattle.lsm_open.specs.Placements.{Placement}
 use Rattle.lsm_open.specs.Recovering.{StandForOne}
-use Rattle.lsm_store.specs.Accounts.{outputs_in}
+use Rattle.lsm_machine.specs.Accounts.{outputs_in}
 use Rattle.lsm_store.specs.Backing.{StoreView, HasNoneOf, IsRunOn, IsBacked, placement_of, data_start, machine_of}
-use Rattle.lsm_store.specs.Calls.{Number, Refused, Reply}
-use Rattle.lsm_store.specs.Crash.{may_leave, left_between}
-use Rattle.lsm_store.specs.Effects.{Use}
-use Rattle.lsm_store.specs.Effects.{Untouched, Changes}
+use Rattle.lsm_machine.specs.Calls.{Number, Refused, Reply}
+use Rattle.lsm_machine.specs.Crash.{may_leave, left_between}
+use Rattle.lsm_machine.specs.Effects.{Use}
+use Rattle.lsm_machine.specs.Effects.{Untouched, Changes}
 use Rattle.lsm_store.specs.InstalledJobs.{placed_by, AreSealedIn, AreLoggedIn}
-use Rattle.lsm_store.specs.State.{State}
+use Rattle.lsm_machine.specs.State.{State}
 use Rattle.lsm_store.specs.StoredTables.{IsStoredWithJobs, KeepsExtents}
-use Rattle.lsm_store.specs.Work.{WorkView, Work, Write}
-use Rattle.lsm_store.specs.WorkEffects.{use_for, work_after, work_use}
-use Rattle.lsm_store.specs.WorkRefusals.{held, work_refusal}
-use Rattle.lsm_store.specs.WorkSound.{IsSound}
+use Rattle.lsm_machine.specs.Work.{WorkView, Work, Write}
+use Rattle.lsm_machine.specs.WorkEffects.{use_for, work_after, work_use}
+use Rattle.lsm_machine.specs.WorkRefusals.{held, work_refusal}
+use Rattle.lsm_machine.specs.WorkSound.{IsSound}
 use Rattle.lsm_store.specs.Working.{work_use_before, work_use_by, IsWorkUsed, Works}
-use Rattle.lsm_store.specs.Machine.{Machine}
-use Rattle.lsm_store.specs.WorkReplies.{work_decided, work_left_inside, work_reply_by, after_work_fault, WorkAllows}
-use Rattle.lsm_store.proofs.Accounts.{same_outputs}
-use Rattle.lsm_store.proofs.AnsweredWork.{stage_passes, write_answers}
+use Rattle.lsm_machine.specs.Machine.{Machine}
+use Rattle.lsm_machine.specs.WorkReplies.{work_decided, work_left_inside, work_reply_by, after_work_fault, WorkAllows}
+use Rattle.lsm_machine.proofs.Accounts.{same_outputs}
+use Rattle.lsm_machine.proofs.AnsweredWork.{stage_passes, write_answers}
 use Rattle.lsm_store.proofs.Backed.{run_backed}
 use Rattle.lsm_store.proofs.Carrying.{may_leave_running}
 use Rattle.lsm_store.proofs.Serving.{none_of}

@@ -10,10 +10,10 @@ use Rattle.lsm_levels.specs.Levels.{places}
 use Rattle.lsm_levels.specs.Lookups.{IsTest}
 use Rattle.lsm_levels.specs.Tables.{Table}
 use Rattle.lsm_store.specs.Backing.{StoreView, data_start}
-use Rattle.lsm_store.specs.Calls.{Commit, Number, reply_of}
+use Rattle.lsm_machine.specs.Calls.{Commit, Number, reply_of}
 use Rattle.lsm_store.specs.Reading.{source_of}
-use Rattle.lsm_store.specs.RecoveryPoints.{batch_count}
-use Rattle.lsm_store.specs.Refusals.{first_refusal, guard_refusals}
+use Rattle.lsm_machine.specs.RecoveryPoints.{batch_count}
+use Rattle.lsm_machine.specs.Refusals.{first_refusal, guard_refusals}
 use Rattle.lsm_store.specs.Serving.{Serves}
 
 -- behind a guard of this place that was tested so, asking goes on, or ends with a refusal

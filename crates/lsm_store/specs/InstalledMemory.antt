@@ -10,11 +10,11 @@ use Rattle.lsm_levels.specs.Pick.{inputs, is_flush, installed_levels}
 use Rattle.lsm_open.specs.Layout.{Layout, layout_of}
 use Rattle.lsm_store.specs.declared.memory.Memory.{Memory}
 use Rattle.lsm_store.specs.declared.memory.Status.TheVariants.{Stopped}
-use Rattle.lsm_store.specs.Crash.{last_crash_state}
+use Rattle.lsm_machine.specs.Crash.{last_crash_state}
 use Rattle.lsm_store.specs.InstalledJobs.{first_open, layout_after}
 use Rattle.lsm_store.specs.Memory.{state_of}
-use Rattle.lsm_store.specs.State.{State}
-use Rattle.lsm_store.specs.WorkEffects.{installed}
+use Rattle.lsm_machine.specs.State.{State}
+use Rattle.lsm_machine.specs.WorkEffects.{installed}
 
 -- the layout once the batches in the closed regions are in tables, behind so many batches
 abbrev pub with_none_closed : ℕ → Layout → Layout

@@ -2,7 +2,7 @@
 use Rattle.std.specs.Prelude.{ℕ, [], length, None, option_map}
 use Rattle.lsm_codec.specs.Map.{Map}
 use Rattle.lsm_open.specs.Layout.{Layout}
-use Rattle.lsm_store.specs.State.{State}
+use Rattle.lsm_machine.specs.State.{State}
 use Rattle.lsm_store.specs.Stored.{open_log_of}
 
 -- The state of a store that was just opened: it runs, its batches lie in this layout, its one recovery point is a map after

@@ -12,16 +12,16 @@ use Rattle.lsm_levels.specs.Stored.{AreNumberedBelow}
 use Rattle.lsm_levels.specs.Tables.{versions_of}
 use Rattle.lsm_merge.specs.Inputs.{joined}
 use Rattle.lsm_jobs.specs.Slots.{no_jobs}
-use Rattle.lsm_open.specs.CrashState.{CrashState}
+use Rattle.lsm_machine.specs.CrashState.{CrashState}
 use Rattle.lsm_open.specs.Placements.{Placement}
 use Rattle.lsm_open.specs.Recovering.{IsRecovered, AreWithinLimits}
 use Rattle.lsm_open.specs.ToldTables.{records_of, Held}
-use Rattle.lsm_store.specs.Crash.{reopened}
+use Rattle.lsm_machine.specs.Crash.{reopened}
 use Rattle.lsm_store.specs.JustOpened.{just_opened}
-use Rattle.lsm_store.specs.State.{are_waiting}
-use Rattle.lsm_store.specs.Work.{WorkView, Work, versions_in}
-use Rattle.lsm_store.specs.WorkSound.{IsSound, IsServed}
-use Rattle.lsm_store.specs.Machine.{Machine}
+use Rattle.lsm_machine.specs.State.{are_waiting}
+use Rattle.lsm_machine.specs.Work.{WorkView, Work, versions_in}
+use Rattle.lsm_machine.specs.WorkSound.{IsSound, IsServed}
+use Rattle.lsm_machine.specs.Machine.{Machine}
 
 -- The work of an opening's parts: what was replayed is sealed, where a region is closed, and what the manifest names is in the
 -- levels, with its extents and its next number. Memory is empty, and no slot is held.

@@ -16,8 +16,8 @@ use Rattle.lsm_levels.specs.Scans.{ScansRuns}
 use Rattle.lsm_mem.specs.Paging.{Page}
 use Rattle.lsm_levels.specs.Stored.{ArePlaced}
 use Rattle.lsm_store.specs.Backing.{StoreView, data_start}
-use Rattle.lsm_store.specs.State.{count_at}
-use Rattle.lsm_store.specs.declared.asked.At.{At}
+use Rattle.lsm_machine.specs.State.{count_at}
+use Rattle.lsm_machine.specs.declared.asked.At.{At}
 
 -- what a read of a store finds: its cache, and the device behind it
 abbrev pub source_of : StoreView → Source

@@ -6,12 +6,12 @@ use Rattle.lsm_device.specs.declared.refusal.Refusal.TheVariants.{Stopped}
 use Rattle.lsm_extent.specs.Area.{covers, count_below}
 use Rattle.lsm_jobs.specs.Placing.{extent_of}
 use Rattle.lsm_store.specs.declared.stat.Stat.{Stat}
-use Rattle.lsm_store.specs.RecoveryPoints.{batch_count}
-use Rattle.lsm_store.specs.State.{are_waiting, log_room}
-use Rattle.lsm_store.specs.Work.{WorkView}
-use Rattle.lsm_store.specs.WorkRefusals.{live_tables}
-use Rattle.lsm_store.specs.Accounts.{tables_placed}
-use Rattle.lsm_store.specs.Machine.{Machine}
+use Rattle.lsm_machine.specs.RecoveryPoints.{batch_count}
+use Rattle.lsm_machine.specs.State.{are_waiting, log_room}
+use Rattle.lsm_machine.specs.Work.{WorkView}
+use Rattle.lsm_machine.specs.WorkRefusals.{live_tables}
+use Rattle.lsm_machine.specs.Accounts.{tables_placed}
+use Rattle.lsm_machine.specs.Machine.{Machine}
 
 -- whether a block is in no table of the levels and in no output that a job has placed
 abbrev pub is_in_no_table : WorkView → ℕ → Bool

@@ -8,9 +8,9 @@ use Rattle.lsm_open.specs.Placements.{Placement, table_map, closed_in, Carries}
 use Rattle.lsm_open.specs.Switching.{MayBeInstalled}
 use Rattle.lsm_open.specs.Tables.{extent_at}
 use Rattle.lsm_open.specs.Writing.{PlacedTable, CarriesJobs}
-use Rattle.lsm_store.specs.Crash.{last_crash_state}
-use Rattle.lsm_store.specs.Promise.{beginnings}
-use Rattle.lsm_store.specs.State.{State}
+use Rattle.lsm_machine.specs.Crash.{last_crash_state}
+use Rattle.lsm_machine.specs.Promise.{beginnings}
+use Rattle.lsm_machine.specs.State.{State}
 use Rattle.lsm_store.specs.Stored.{open_log_of}
 
 -- The state says of the log regions and the generation what the placement says, and the store runs.

@@ -8,16 +8,16 @@ use Rattle.lsm_device.specs.declared.refusal.Refusal.TheVariants.{NoMemory, BadT
 use Rattle.lsm_jobs.specs.Reading.{JobReadsOn}
 use Rattle.lsm_jobs.specs.declared.taking.TakenJob.{TakenJob}
 use Rattle.lsm_open.specs.Recovering.{StandForOne}
-use Rattle.lsm_store.specs.Calls.{Reply, Number, Given, Refused}
-use Rattle.lsm_store.specs.Effects.{Use}
-use Rattle.lsm_store.specs.Effects.{Untouched, Reads, Changes}
+use Rattle.lsm_machine.specs.Calls.{Reply, Number, Given, Refused}
+use Rattle.lsm_machine.specs.Effects.{Use}
+use Rattle.lsm_machine.specs.Effects.{Untouched, Reads, Changes}
 use Rattle.lsm_store.specs.Backing.{StoreView, IsBacked, data_start, machine_of}
 use Rattle.lsm_store.specs.Serving.{is_faultless, IsOnlyRead, Serves}
-use Rattle.lsm_store.specs.Machine.{Machine, Step, Called, Worked}
-use Rattle.lsm_store.specs.Work.{WorkView, Work, Read, Install}
-use Rattle.lsm_store.specs.WorkRefusals.{work_refusal}
-use Rattle.lsm_store.specs.WorkEffects.{work_after, work_use}
-use Rattle.lsm_store.specs.WorkReplies.{WorkAllows, WorkAdmits, work_left_inside, next_worked}
+use Rattle.lsm_machine.specs.Machine.{Machine, Step, Called, Worked}
+use Rattle.lsm_machine.specs.Work.{WorkView, Work, Read, Install}
+use Rattle.lsm_machine.specs.WorkRefusals.{work_refusal}
+use Rattle.lsm_machine.specs.WorkEffects.{work_after, work_use}
+use Rattle.lsm_machine.specs.WorkReplies.{WorkAllows, WorkAdmits, work_left_inside, next_worked}
 
 -- what is told of a job that was taken, if there was one
 abbrev pub taken_reply : Option TakenJob → Reply

@@ -2,7 +2,7 @@
 ghost use Rattle.std.specs.Prelude.{◌≡◌, ◌∷◌, ◌++◌, [], ℕ, List, map, IfOk, OnOk};
 ghost use Rattle.lsm_store.specs.LiveMarks.{end_with};
 ghost use Rattle.lsm_store.specs.Memory.{AreConsistent, state_of};
-ghost use Rattle.lsm_store.specs.Work.{cuts_of, each_once};
+ghost use Rattle.lsm_machine.specs.Work.{cuts_of, each_once};
 
 use crate::memory::Memory;
 use crate::snapshots::Mark;

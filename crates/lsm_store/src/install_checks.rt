@@ -5,8 +5,8 @@ ghost use Rattle.lsm_jobs.specs.Installing.{job_told, outputs_told};
 ghost use Rattle.lsm_levels.specs.Levels.{all_tables, places};
 ghost use Rattle.lsm_levels.specs.Pick.{inputs, is_flush};
 ghost use Rattle.lsm_store.specs.Memory.{AreConsistent, state_of, work_of};
-ghost use Rattle.lsm_store.specs.Work.{Install};
-ghost use Rattle.lsm_store.specs.WorkRefusals.{work_refusal};
+ghost use Rattle.lsm_machine.specs.Work.{Install};
+ghost use Rattle.lsm_machine.specs.WorkRefusals.{work_refusal};
 
 use crate::checks::LAST_NUMBER;
 use crate::memory::Memory;

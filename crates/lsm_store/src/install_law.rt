@@ -13,7 +13,7 @@ ghost use Rattle.lsm_levels.specs.Pick.{Job, Flush, Merge, installed_levels};
 ghost use Rattle.lsm_levels.specs.Stored.{IsStored, AreStored};
 ghost use Rattle.lsm_levels.specs.Tables.{Table, versions_of};
 ghost use Rattle.lsm_mem.specs.Versions.{NumberedAtMost};
-ghost use Rattle.lsm_open.specs.CrashState.{last_number};
+ghost use Rattle.lsm_machine.specs.CrashState.{last_number};
 ghost use Rattle.lsm_open.specs.Layout.{Layout};
 ghost use Rattle.lsm_open.specs.Placements.{Placement};
 ghost use Rattle.lsm_open.specs.Switching.{AreFlushed, AreMerged};
@@ -21,16 +21,16 @@ ghost use Rattle.lsm_open.specs.Tables.{first_data, IsTableAt};
 ghost use Rattle.lsm_open.specs.ToldTables.{records_of};
 ghost use Rattle.lsm_open.specs.Writing.{PlacedTable, tables_of};
 ghost use Rattle.lsm_store.specs.InstalledJobs.{output_records, placed_for, HasPlaced, AreSealedIn, parts_of, installed_in, installed_layout};
-ghost use Rattle.lsm_store.specs.Accounts.{AreNumbered, tables_placed};
+ghost use Rattle.lsm_machine.specs.Accounts.{AreNumbered, tables_placed};
 ghost use Rattle.lsm_store.specs.Memory.{HaveTables, LieWithin};
-ghost use Rattle.lsm_store.specs.State.{State};
+ghost use Rattle.lsm_machine.specs.State.{State};
 ghost use Rattle.lsm_store.specs.StoredTables.{IsStoredWithJobs};
-ghost use Rattle.lsm_store.specs.TableLimits.{AreFew};
-ghost use Rattle.lsm_store.specs.Work.{WorkView};
-ghost use Rattle.lsm_store.specs.WorkEffects.{with_installed};
-ghost use Rattle.lsm_store.specs.WorkRefusals.{held};
-ghost use Rattle.lsm_store.specs.WorkSound.{IsSound};
-ghost use Rattle.lsm_store.specs.Machine.{Machine};
+ghost use Rattle.lsm_machine.specs.TableLimits.{AreFew};
+ghost use Rattle.lsm_machine.specs.Work.{WorkView};
+ghost use Rattle.lsm_machine.specs.WorkEffects.{with_installed};
+ghost use Rattle.lsm_machine.specs.WorkRefusals.{held};
+ghost use Rattle.lsm_machine.specs.WorkSound.{IsSound};
+ghost use Rattle.lsm_machine.specs.Machine.{Machine};
 
 /// The outputs of a job whose blocks are all written stand: in the levels, and each for its record in the manifest that
 /// comes next.

@@ -8,12 +8,12 @@ ghost use Rattle.lsm_open.specs.Layout.{layout_of};
 ghost use Rattle.lsm_open.specs.Placements.{contents_for};
 ghost use Rattle.lsm_open.specs.Recovering.{placed_in};
 ghost use Rattle.lsm_open.specs.ToldTables.{records_of};
-ghost use Rattle.lsm_store.specs.Calls.{Done, reply_of};
+ghost use Rattle.lsm_machine.specs.Calls.{Done, reply_of};
 ghost use Rattle.lsm_store.specs.InstalledJobs.{first_open};
 ghost use Rattle.lsm_store.specs.InstalledMemory.{settled_layout, next_layout, IsNext, IsInstalledTo, after_install_fault};
 ghost use Rattle.lsm_store.specs.Memory.{AreConsistent, IsInside, LieWithin, view_of};
-ghost use Rattle.lsm_store.specs.Work.{Install};
-ghost use Rattle.lsm_store.specs.WorkReplies.{IsUnfit};
+ghost use Rattle.lsm_machine.specs.Work.{Install};
+ghost use Rattle.lsm_machine.specs.WorkReplies.{IsUnfit};
 ghost use Rattle.lsm_store.specs.Working.{Works};
 
 use crate::fitting::fit;

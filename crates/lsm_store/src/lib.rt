@@ -17,7 +17,6 @@
 //! ```
 #![tactic(auto)]
 
-mod asked;
 mod checks;
 mod counted;
 mod device_law;
@@ -42,28 +41,29 @@ mod told;
 mod work_law;
 mod working;
 
-pub use asked::At;
-pub use device_law::{device_reads_on, stored_is_backed};
-pub use install_law::{
-    installed_manifests_are_manifests, installed_records_are_placed, written_flushes_are_flushed,
-    written_merges_are_merged, written_outputs_stand,
-};
-pub use law::{
-    allowed_is_admitted, ample_steps_run, crash_keeps_a_beginning, crash_states_go_on,
-    crashes_keep_beginnings, no_guards_are_a_commit, runs_join, stopped_refuses,
-};
 pub use lsm_jobs::TakenJob;
 pub use lsm_levels::Choice;
+pub use lsm_machine::{At, Piece};
 pub use lsm_mem::{MemSize, Page, RowRef, Rows};
-pub use opened_law::{opened_work_is_sound, openings_are_opened};
-pub use pieces::Piece;
 pub use stat::Stat;
 pub use store::Store;
-pub use stored_law::{
-    commits_keep_tables, free_writes_keep_tables, installs_keep_tables, jobs_keep_tables,
-    jobs_may_go_on, levels_stay_stored, recovered_tables_are_stored, rotations_keep_tables,
-    stored_tables_leave, syncs_keep_tables,
-};
-pub use work_law::{
-    extents_stay_accounted_for, maps_stay, slots_answer_the_work, tables_stay_few, work_stays_sound,
-};
+
+/// Laws of the definitions: functions without a body, whose clauses are theorems.
+pub mod laws {
+    pub use crate::device_law::{device_reads_on, stored_is_backed};
+    pub use crate::install_law::{
+        installed_manifests_are_manifests, installed_records_are_placed,
+        written_flushes_are_flushed, written_merges_are_merged, written_outputs_stand,
+    };
+    pub use crate::law::no_guards_are_a_commit;
+    pub use crate::opened_law::{opened_work_is_sound, openings_are_opened};
+    pub use crate::stored_law::{
+        commits_keep_tables, free_writes_keep_tables, installs_keep_tables, jobs_keep_tables,
+        jobs_may_go_on, levels_stay_stored, recovered_tables_are_stored, rotations_keep_tables,
+        stored_tables_leave, syncs_keep_tables,
+    };
+    pub use crate::work_law::{
+        extents_stay_accounted_for, maps_stay, slots_answer_the_work, tables_stay_few,
+        work_stays_sound,
+    };
+}

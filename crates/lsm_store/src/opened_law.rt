@@ -1,10 +1,10 @@
 // Laws of a store that has just been opened.
 ghost use Rattle.std.specs.Prelude.{ℕ};
 ghost use Rattle.lsm_device.specs.Medium.{Medium};
-ghost use Rattle.lsm_open.specs.CrashState.{CrashState};
+ghost use Rattle.lsm_machine.specs.CrashState.{CrashState};
 ghost use Rattle.lsm_store.specs.Backing.{StoreView, machine_of};
 ghost use Rattle.lsm_store.specs.OpenedWork.{OpenedLaw};
-ghost use Rattle.lsm_store.specs.Promise.{IsOpened};
+ghost use Rattle.lsm_machine.specs.Promise.{IsOpened};
 ghost use Rattle.lsm_store.specs.Serving.{OpensTo, ReopensTo};
 
 /// The work of a store that is opened with its tables on what a crash left is sound: its versions stand for the state, which is

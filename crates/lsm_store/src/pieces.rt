@@ -3,27 +3,13 @@ ghost use Rattle.std.specs.Prelude.{◌≡◌, None, is_some, option_map, slice_
 ghost use Rattle.lsm_jobs.specs.Slots.{Slot};
 ghost use Rattle.lsm_jobs.specs.Turns.{turn_of};
 ghost use Rattle.lsm_store.specs.Memory.{AreConsistent, state_of, work_of};
-ghost use Rattle.lsm_store.specs.Pieces.{work_of_piece, piece_of_job, piece_of_slot, piece_at};
-ghost use Rattle.lsm_store.specs.WorkRefusals.{job_given};
+ghost use Rattle.lsm_machine.specs.Pieces.{work_of_piece, piece_of_job, piece_of_slot, piece_at};
+ghost use Rattle.lsm_machine.specs.WorkRefusals.{job_given};
 
 use crate::memory::{Memory, Status};
 use lsm_jobs::{JobTurn, NextPiece};
+use lsm_machine::Piece;
 use std::alloc::Allocator;
-
-/// What a slot of a store's jobs waits for.
-#[derive(Clone, Copy, Debug, PartialEq, Eq)]
-pub enum Piece {
-    /// The slot is free, and a job comes next: it is to be taken.
-    Take,
-    /// Data blocks of this job's tables are to be read.
-    Read(u64),
-    /// A result is to be built of this job's input, and accepted.
-    Build(u64),
-    /// Outputs of this job are to be written.
-    Write(u64),
-    /// This job's outputs, which are written, are to be installed.
-    Install(u64),
-}
 
 /// How many slots there are.
 const SLOT_COUNT: usize = 4;

@@ -19,7 +19,7 @@ ghost use Rattle.lsm_store.specs.Memory.{IsInside, work_of};
 ghost use Rattle.lsm_store.specs.Guarding.{AsksGuards, AnswersGuards, MayEndGuards};
 ghost use Rattle.lsm_codec.specs.Guards.{is_met};
 ghost use Rattle.lsm_store.specs.Reading.{ReadsThrough};
-ghost use Rattle.lsm_store.specs.Work.{versions_by_place, versions_in};
+ghost use Rattle.lsm_machine.specs.Work.{versions_by_place, versions_in};
 
 use crate::Page;
 use crate::memory::Memory;

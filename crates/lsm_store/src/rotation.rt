@@ -9,10 +9,10 @@ ghost use Rattle.lsm_open.specs.Placements.{contents_for};
 ghost use Rattle.lsm_open.specs.Recovering.{placed_in};
 ghost use Rattle.lsm_open.specs.Switching.{IsRotated};
 ghost use Rattle.lsm_open.specs.ToldTables.{records_of};
-ghost use Rattle.lsm_store.specs.Calls.{Rotate, Done, reply_of};
+ghost use Rattle.lsm_machine.specs.Calls.{Rotate, Done, reply_of};
 ghost use Rattle.lsm_store.specs.Memory.{AreConsistent, IsInside, LieWithin, numbered_layout, state_of, view_of};
-ghost use Rattle.lsm_store.specs.RecoveryPoints.{batch_count};
-ghost use Rattle.lsm_store.specs.Refusals.{refusal};
+ghost use Rattle.lsm_machine.specs.RecoveryPoints.{batch_count};
+ghost use Rattle.lsm_machine.specs.Refusals.{refusal};
 ghost use Rattle.lsm_store.specs.Serving.{Serves};
 
 use crate::memory::Memory;

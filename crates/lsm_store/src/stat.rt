@@ -1,7 +1,7 @@
 // The numbers of a store.
 ghost use Rattle.std.specs.Prelude.{◌≡◌};
 ghost use Rattle.lsm_store.specs.Memory.{AreConsistent, state_of, work_of};
-ghost use Rattle.lsm_store.specs.State.{are_waiting, log_room};
+ghost use Rattle.lsm_machine.specs.State.{are_waiting, log_room};
 ghost use Rattle.lsm_store.specs.Stats.{blocks_in_no_table, stat_answer};
 
 use crate::install_checks::count_live;

@@ -19,7 +19,7 @@ ghost use Rattle.lsm_levels.specs.Stored.{IsStored as IsStoredTable, AreStored};
 ghost use Rattle.lsm_levels.specs.Tables.{Table};
 ghost use Rattle.lsm_log.specs.Batches.{IsBetween};
 ghost use Rattle.lsm_log.specs.Opened.{IsOpen, IsGrownBy, TakesBatch, batches_in};
-ghost use Rattle.lsm_open.specs.CrashState.{CrashState, last_number};
+ghost use Rattle.lsm_machine.specs.CrashState.{CrashState, last_number};
 ghost use Rattle.lsm_open.specs.Image.{StandFor, versions_in};
 ghost use Rattle.lsm_open.specs.Layout.{open_records};
 ghost use Rattle.lsm_open.specs.Placements.{Placement, contents_for, closed_in, IsFreeWrite};
@@ -32,16 +32,16 @@ ghost use Rattle.lsm_open.specs.Writing.{PlacedTable, tables_of, MayBePlaced};
 ghost use Rattle.lsm_open.specs.declared.regions.OpenRegion.{OpenRegion};
 ghost use Rattle.lsm_root.specs.Installed.{IsReady, IsOldOrNew, IsInstalled};
 ghost use Rattle.lsm_root.specs.Roots.{Root, Stands};
-ghost use Rattle.lsm_store.specs.Calls.{Commit, Sync};
-ghost use Rattle.lsm_store.specs.Crash.{may_leave, last_crash_state, left_besides, reopened};
-ghost use Rattle.lsm_store.specs.Effects.{after, rotated};
-ghost use Rattle.lsm_store.specs.RecoveryPoints.{batch_count};
-ghost use Rattle.lsm_store.specs.Run.{stopped_in};
-ghost use Rattle.lsm_store.specs.State.{OpenLog, State, map_at};
-ghost use Rattle.lsm_store.specs.StateMaps.{points_of};
+ghost use Rattle.lsm_machine.specs.Calls.{Commit, Sync};
+ghost use Rattle.lsm_machine.specs.Crash.{may_leave, last_crash_state, left_besides, reopened};
+ghost use Rattle.lsm_machine.specs.Effects.{after, rotated};
+ghost use Rattle.lsm_machine.specs.RecoveryPoints.{batch_count};
+ghost use Rattle.lsm_machine.specs.Run.{stopped_in};
+ghost use Rattle.lsm_machine.specs.State.{OpenLog, State, map_at};
+ghost use Rattle.lsm_machine.specs.StateMaps.{points_of};
 ghost use Rattle.lsm_store.specs.StoredTables.{IsStoredIn, IsStoredWithJobs, KeepsExtents, with_log, with_next, MayGoOn};
-ghost use Rattle.lsm_store.specs.WorkEffects.{installed};
-ghost use Rattle.lsm_store.specs.declared.asked.At.{At};
+ghost use Rattle.lsm_machine.specs.WorkEffects.{installed};
+ghost use Rattle.lsm_machine.specs.declared.asked.At.{At};
 
 /// Every crash of a running store's device leaves what its state may leave, also where a fault stops it that leaves the device
 /// so, and reads give its present map. Its recovery points are the maps of all versions that reads give, at their counts.

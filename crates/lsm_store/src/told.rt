@@ -3,7 +3,7 @@ ghost use Rattle.std.specs.Prelude.{◌≡◌};
 ghost use Rattle.std.specs.Borrow.{ftrue};
 ghost use Rattle.std.specs.Coded.{codes};
 ghost use Rattle.lsm_codec.specs.Map.{map_code};
-ghost use Rattle.lsm_store.specs.State.{State};
+ghost use Rattle.lsm_machine.specs.State.{State};
 
 use lsm_codec::Batch;
 use lsm_levels::Levels;

@@ -1,9 +1,10 @@
 // Laws of the work beside the map machine.
-ghost use Rattle.lsm_store.specs.Accounts.{AccountsLaw, AccountedLaw};
-ghost use Rattle.lsm_store.specs.JobAnswers.{PlacingLaw, PlacedVersionsLaw, JobsLaw, CutsLaw};
-ghost use Rattle.lsm_store.specs.TableLimits.{FewLaw};
-ghost use Rattle.lsm_store.specs.WorkMaps.{InstallLaw, RotationLaw, CommitLaw};
-ghost use Rattle.lsm_store.specs.WorkSound.{SoundLaw, CallSoundLaw, RotationSoundLaw};
+ghost use Rattle.lsm_store.specs.Accounted.{AccountedLaw};
+ghost use Rattle.lsm_machine.specs.Accounts.{AccountsLaw};
+ghost use Rattle.lsm_machine.specs.JobAnswers.{PlacingLaw, PlacedVersionsLaw, JobsLaw, CutsLaw};
+ghost use Rattle.lsm_store.specs.FewTables.{FewLaw};
+ghost use Rattle.lsm_machine.specs.WorkMaps.{InstallLaw, RotationLaw, CommitLaw};
+ghost use Rattle.lsm_machine.specs.WorkSound.{SoundLaw, CallSoundLaw, RotationSoundLaw};
 
 /// The map at each count that can be asked for stays what it is, whatever is installed, rotated or committed.
 pub fn maps_stay()

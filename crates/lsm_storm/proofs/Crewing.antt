@@ -10,7 +10,7 @@ use Rattle.lsm_trail.specs.Begins.{Begin}
 use Rattle.lsm_device.specs.declared.refusal.Refusal.{Refusal}
 use Rattle.lsm_merge.specs.Results.{MergeResult}
 use Rattle.lsm_store.specs.Backing.{StoreView}
-use Rattle.lsm_store.specs.Calls.{Call}
+use Rattle.lsm_machine.specs.Calls.{Call}
 use Rattle.lsm_lives.specs.Asked.{Told}
 use Rattle.lsm_trail.specs.History.{Event, TrailView, called, entries_by}
 use Rattle.lsm_trail.specs.Knowledge.{Known, known}

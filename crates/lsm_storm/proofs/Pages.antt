@@ -6,8 +6,8 @@ use Rattle.lsm_codec.specs.Keys.{Bytes}
 use Rattle.lsm_codec.specs.Map.{Map}
 use Rattle.lsm_mem.specs.Paging.{Page, first_key, pairs_in}
 use Rattle.lsm_store.specs.Backing.{StoreView}
-use Rattle.lsm_store.specs.RecoveryPoints.{present_map}
-use Rattle.lsm_store.specs.State.{State}
+use Rattle.lsm_machine.specs.RecoveryPoints.{present_map}
+use Rattle.lsm_machine.specs.State.{State}
 use Rattle.lsm_lives.proofs.Listing.{IsScanned, all_pairs, pairs_behind}
 
 abbrev Pairs : Type 0

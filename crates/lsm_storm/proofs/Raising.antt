@@ -13,16 +13,16 @@ use Rattle.lsm_codec.specs.Versions.{is_same_key}
 use Rattle.lsm_codec.proofs.KeyOrder.{key_itself}
 use Rattle.lsm_device.specs.declared.refusal.Refusal.{Refusal}
 use Rattle.lsm_device.specs.declared.refusal.Refusal.TheVariants.{Io, Stopped, TooManyGuards, Exhausted, LogFull, GuardFailed}
-use Rattle.lsm_store.specs.Calls.{Call, Reply}
-use Rattle.lsm_store.specs.Calls.{CommitIf, Get, Release, Number, Done, Value, Rows, Given, Handed, Refused, Unread}
-use Rattle.lsm_store.specs.Effects.{after, answer, decided, reply_by}
-use Rattle.lsm_store.specs.Machine.{Machine, Step, Called}
-use Rattle.lsm_open.specs.CrashState.{formatted as empty_store, last_number}
-use Rattle.lsm_store.specs.Crash.{reopened}
-use Rattle.lsm_store.specs.RecoveryPoints.{batch_count, last_map, present_map}
-use Rattle.lsm_store.specs.Refusals.{first_refusal, full_refusal, most_guards}
-use Rattle.lsm_store.specs.Run.{Allows, AllowsStep, Run, last_machine, next, next_machine}
-use Rattle.lsm_store.specs.State.{State, fits}
+use Rattle.lsm_machine.specs.Calls.{Call, Reply}
+use Rattle.lsm_machine.specs.Calls.{CommitIf, Get, Release, Number, Done, Value, Rows, Given, Handed, Refused, Unread}
+use Rattle.lsm_machine.specs.Effects.{after, answer, decided, reply_by}
+use Rattle.lsm_machine.specs.Machine.{Machine, Step, Called}
+use Rattle.lsm_machine.specs.CrashState.{formatted as empty_store, last_number}
+use Rattle.lsm_machine.specs.Crash.{reopened}
+use Rattle.lsm_machine.specs.RecoveryPoints.{batch_count, last_map, present_map}
+use Rattle.lsm_machine.specs.Refusals.{first_refusal, full_refusal, most_guards}
+use Rattle.lsm_machine.specs.Run.{Allows, AllowsStep, Run, last_machine, next, next_machine}
+use Rattle.lsm_machine.specs.State.{State, fits}
 use Rattle.lsm_trail.specs.Entries.{is_number, told_in}
 use Rattle.lsm_store.specs.Backing.{StoreView}
 use Rattle.lsm_trail.specs.Begins.{Begin, base_of, first_machine}
@@ -31,7 +31,7 @@ use Rattle.lsm_trail.specs.Knowledge.{Known}
 use Rattle.lsm_shared.specs.Sessions.{IsEnded, released}
 use Rattle.lsm_storm.specs.Counters.{AreCounting, IsCountingStep, Raises, count_said, counted_in, counter_key, next_count, unchanged}
 use Rattle.lsm_storm.specs.Storms.{IsFresh, accepted_in, is_commit}
-use Rattle.lsm_store.proofs.AnsweredWork.{values_same}
+use Rattle.lsm_machine.proofs.AnsweredWork.{values_same}
 
 -- the counter of a state
 abbrev pub counter : State → ℕ

@@ -7,15 +7,15 @@ use Rattle.lsm_device.specs.declared.refusal.Refusal.{Refusal}
 use Rattle.lsm_device.specs.declared.refusal.Refusal.TheVariants.{NoMemory, Io, Stopped, Exhausted, BadGeometry}
 use Rattle.lsm_language.specs.Limits.{is_load}
 use Rattle.lsm_language.proofs.LoadLaws.{some_threads}
-use Rattle.lsm_open.specs.CrashState.{formatted as empty_store, MayRefuseOpening}
+use Rattle.lsm_machine.specs.CrashState.{formatted as empty_store, MayRefuseOpening}
 use Rattle.lsm_store.specs.Backing.{StoreView}
-use Rattle.lsm_store.specs.Calls.{Call, Reply}
-use Rattle.lsm_store.specs.Calls.{Get, Scan, Value, Rows, Refused}
-use Rattle.lsm_store.specs.declared.asked.At.TheVariants.{Now}
-use Rattle.lsm_store.specs.Crash.{reopened}
-use Rattle.lsm_store.specs.Effects.{decided, reply_by, answer}
-use Rattle.lsm_store.specs.Run.{Allows}
-use Rattle.lsm_store.specs.State.{State}
+use Rattle.lsm_machine.specs.Calls.{Call, Reply}
+use Rattle.lsm_machine.specs.Calls.{Get, Scan, Value, Rows, Refused}
+use Rattle.lsm_machine.specs.declared.asked.At.TheVariants.{Now}
+use Rattle.lsm_machine.specs.Crash.{reopened}
+use Rattle.lsm_machine.specs.Effects.{decided, reply_by, answer}
+use Rattle.lsm_machine.specs.Run.{Allows}
+use Rattle.lsm_machine.specs.State.{State}
 use Rattle.lsm_shared.specs.Sessions.{begin_refusal}
 use Rattle.lsm_storm.specs.Counters.{counter_key}
 use Rattle.lsm_storm.specs.Storms.{IsFresh, IsSessionRefusal}

@@ -6,9 +6,9 @@ use Rattle.byteorder.specs.Endian.{big_number, big_bytes}
 use Rattle.lsm_codec.specs.Guards.{Condition}
 use Rattle.lsm_codec.specs.Keys.{Bytes}
 use Rattle.lsm_codec.specs.Map.{Map, Operation}
-use Rattle.lsm_store.specs.Calls.{Call}
-use Rattle.lsm_store.specs.Calls.{CommitIf, Get}
-use Rattle.lsm_store.specs.Machine.{Step, Called}
+use Rattle.lsm_machine.specs.Calls.{Call}
+use Rattle.lsm_machine.specs.Calls.{CommitIf, Get}
+use Rattle.lsm_machine.specs.Machine.{Step, Called}
 use Rattle.lsm_trail.specs.History.{Event}
 use Rattle.lsm_trail.specs.Knowledge.{Known}
 

@@ -3,13 +3,13 @@ use Rattle.std.specs.Prelude.{◌≡◌, ◌⊎◌, ℕ, ◌+◌, ◌&&◌, Bool
 use Rattle.std.specs.FinMap as finite
 use Rattle.lsm_device.specs.declared.refusal.Refusal.{Refusal}
 use Rattle.lsm_device.specs.declared.refusal.Refusal.TheVariants.{NoMemory, Io, Stopped, BadLimit}
-use Rattle.lsm_open.specs.CrashState.{formatted as empty_store}
+use Rattle.lsm_machine.specs.CrashState.{formatted as empty_store}
 use Rattle.lsm_lives.specs.Leading.{HasNewCache}
 use Rattle.lsm_store.specs.Backing.{StoreView, IsBacked}
-use Rattle.lsm_store.specs.Calls.{Commit, CommitIf}
-use Rattle.lsm_store.specs.Crash.{reopened}
-use Rattle.lsm_store.specs.Machine.{Step, Called}
-use Rattle.lsm_store.specs.RecoveryPoints.{batch_count, present_map}
+use Rattle.lsm_machine.specs.Calls.{Commit, CommitIf}
+use Rattle.lsm_machine.specs.Crash.{reopened}
+use Rattle.lsm_machine.specs.Machine.{Step, Called}
+use Rattle.lsm_machine.specs.RecoveryPoints.{batch_count, present_map}
 use Rattle.lsm_trail.specs.Begins.{Begin}
 use Rattle.lsm_trail.specs.Entries.{is_number, told_in}
 use Rattle.lsm_trail.specs.History.{Event, TrailView, is_call}

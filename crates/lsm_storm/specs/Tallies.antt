@@ -1,7 +1,7 @@
 -- What a tally leaves, and what is counted of it.
 use Rattle.std.specs.Prelude.{◌≡◌, ℕ}
 use Rattle.lsm_store.specs.Backing.{StoreView}
-use Rattle.lsm_store.specs.RecoveryPoints.{present_map}
+use Rattle.lsm_machine.specs.RecoveryPoints.{present_map}
 use Rattle.lsm_trail.specs.History.{TrailView}
 use Rattle.lsm_storm.specs.Counters.{counted_in, AreCounting}
 use Rattle.lsm_storm.specs.Storms.{HasEndedFresh, accepted_in}

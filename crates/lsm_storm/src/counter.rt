@@ -2,7 +2,7 @@
 ghost use Rattle.std.specs.Prelude.{◌≡◌, option_map, IfErr, IfOk};
 ghost use Rattle.lsm_lives.specs.Calls.{call_of};
 ghost use Rattle.lsm_store.specs.Backing.{IsBacked};
-ghost use Rattle.lsm_store.specs.RecoveryPoints.{present_map};
+ghost use Rattle.lsm_machine.specs.RecoveryPoints.{present_map};
 ghost use Rattle.lsm_storm.specs.Counters.{counter_key, counted_in, count_said, unchanged, next_count, IsCounting, GoesOnCounting};
 ghost use Rattle.lsm_storm.specs.Storms.{IsSessionRefusal};
 

@@ -2,7 +2,7 @@
 ghost use Rattle.std.specs.Prelude.{◌≡◌, ◌*◌, ◌≤◌, length, None, IfErr, IfOk};
 ghost use Rattle.lsm_mem.specs.Paging.{pairs_in};
 ghost use Rattle.lsm_store.specs.Backing.{IsBacked};
-ghost use Rattle.lsm_store.specs.RecoveryPoints.{present_map};
+ghost use Rattle.lsm_machine.specs.RecoveryPoints.{present_map};
 ghost use Rattle.lsm_trail.specs.Entries.{is_number, told_in};
 ghost use Rattle.lsm_storm.specs.Storms.{is_commit, is_accepted, accepted_in, is_piece, pieces_in, keys_in, IsStormRefusal};
 

@@ -9,7 +9,7 @@ mod entry_place;
 mod entry_span;
 mod filling;
 mod image;
-mod laws;
+pub mod laws;
 mod layout;
 mod outline;
 mod table;
@@ -19,8 +19,4 @@ pub use entries::Entries;
 pub use entry_place::EntryPlace;
 pub use entry_span::EntrySpan;
 pub use image::Image;
-pub use laws::{
-    block_law, byte_law, data_block_law, one_division_law, one_layout_law, outline_law, stored_law,
-    table_count_law,
-};
 pub use table::Table;

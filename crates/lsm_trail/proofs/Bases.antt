@@ -4,16 +4,16 @@ use Rattle.std.specs.Prelude.{find, All, nat_le}
 use Rattle.std.proofs.lemmas.Bool.Decides.{nat_tests}
 use Rattle.std.proofs.lemmas.List.Elements.{All-head, All-tail}
 use Rattle.lsm_device.specs.declared.refusal.Refusal.TheVariants.{Io}
-use Rattle.lsm_store.specs.Calls.{Call, Reply}
-use Rattle.lsm_store.specs.Calls.{Commit, CommitIf, Sync, SyncTo, Get, Scan, Snapshot, Release, Rotate, LogRoom, Number, Done, Value, Rows, Given, Handed, Refused, Unread}
-use Rattle.lsm_store.specs.Effects.{after, next_taken, without, Use, use_of}
-use Rattle.lsm_store.specs.Effects.{Untouched, Reads, Changes}
-use Rattle.lsm_store.specs.RecoveryPoints.{present_map, all_synced}
-use Rattle.lsm_store.specs.Machine.{Machine, Step, Called, Worked}
-use Rattle.lsm_store.specs.Run.{after_fault, next, next_machine}
-use Rattle.lsm_store.specs.State.{State, LiveSnapshot, snapshot_of, may_ask, map_at, map_of_snapshot}
-use Rattle.lsm_store.specs.declared.asked.At.TheVariants.{Snap}
-use Rattle.lsm_store.proofs.WorkReplies.{work_keeps}
+use Rattle.lsm_machine.specs.Calls.{Call, Reply}
+use Rattle.lsm_machine.specs.Calls.{Commit, CommitIf, Sync, SyncTo, Get, Scan, Snapshot, Release, Rotate, LogRoom, Number, Done, Value, Rows, Given, Handed, Refused, Unread}
+use Rattle.lsm_machine.specs.Effects.{after, next_taken, without, Use, use_of}
+use Rattle.lsm_machine.specs.Effects.{Untouched, Reads, Changes}
+use Rattle.lsm_machine.specs.RecoveryPoints.{present_map, all_synced}
+use Rattle.lsm_machine.specs.Machine.{Machine, Step, Called, Worked}
+use Rattle.lsm_machine.specs.Run.{after_fault, next, next_machine}
+use Rattle.lsm_machine.specs.State.{State, LiveSnapshot, snapshot_of, may_ask, map_at, map_of_snapshot}
+use Rattle.lsm_machine.specs.declared.asked.At.TheVariants.{Snap}
+use Rattle.lsm_machine.proofs.WorkReplies.{work_keeps}
 use Rattle.lsm_trail.specs.Begins.{Begin, base_of, first_machine}
 use Rattle.lsm_trail.specs.History.{Event, AreServed, machine_behind, IsLegal, state_after}
 

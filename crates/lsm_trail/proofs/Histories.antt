@@ -5,12 +5,12 @@ use Rattle.std.proofs.lemmas.List.{append-nil}
 use Rattle.std.proofs.lemmas.List.Elements.{All-push}
 use Rattle.lsm_device.specs.declared.refusal.Refusal.TheVariants.{NoMemory}
 use Rattle.lsm_merge.specs.Inputs.{MergeInput}
-use Rattle.lsm_store.specs.Calls.{Reply}
-use Rattle.lsm_store.specs.Calls.{Release, Number, Done, Value, Rows, Given, Handed, Refused, Unread}
-use Rattle.lsm_store.specs.Machine.{Machine, Step, Called}
-use Rattle.lsm_store.specs.Run.{AllowsStep, AdmitsStep, GoesTo, next_machine, Run, last_machine}
-use Rattle.lsm_store.specs.State.{State}
-use Rattle.lsm_store.proofs.Steps.{stopped_run, stopped_last}
+use Rattle.lsm_machine.specs.Calls.{Reply}
+use Rattle.lsm_machine.specs.Calls.{Release, Number, Done, Value, Rows, Given, Handed, Refused, Unread}
+use Rattle.lsm_machine.specs.Machine.{Machine, Step, Called}
+use Rattle.lsm_machine.specs.Run.{AllowsStep, AdmitsStep, GoesTo, next_machine, Run, last_machine}
+use Rattle.lsm_machine.specs.State.{State}
+use Rattle.lsm_machine.proofs.Steps.{stopped_run, stopped_last}
 use Rattle.lsm_trail.specs.Begins.{Begin, base_of, first_machine, CanPin}
 use Rattle.lsm_trail.specs.Following.{MayFollow}
 use Rattle.lsm_trail.specs.History.{Event, steps_of, replies_of, machine_behind, AreServed, AreRun, handed, inputs_of, IsNextNumber, TakesResult, AreNumbered, IsLegal, machine_after, entries_by, is_call, is_lent, calls_in}

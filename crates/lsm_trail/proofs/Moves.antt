@@ -8,7 +8,7 @@ use lib.Seq.{set-get_or}
 use prog.Atomic.{either}
 use Rattle.atomic_table.specs.Table.{State, step, keeps, stepped, opening, Allows, Splits, Joins}
 use Rattle.atomic_table.proofs.Lists.{at_set, set_again}
-use Rattle.lsm_store.specs.RecoveryPoints.{batch_count}
+use Rattle.lsm_machine.specs.RecoveryPoints.{batch_count}
 use Rattle.lsm_trail.specs.Begins.{Begin, CanPin}
 use Rattle.lsm_trail.specs.History.{Event, IsLegal, entries_by, numbers}
 use Rattle.lsm_trail.specs.Knowledge.{Keeper, Known, Sees, View, known, keeping, view_of, nobody, hearing, telling}

@@ -7,13 +7,13 @@ use Rattle.lsm_lives.specs.declared.calls.Reply.{Reply as GivenReply}
 use Rattle.lsm_lives.specs.declared.calls.Reply.TheVariants as reply
 use Rattle.lsm_merge.specs.Inputs.{MergeInput}
 use Rattle.lsm_merge.specs.Results.{MergeResult}
-use Rattle.lsm_store.specs.Calls.{Reply}
+use Rattle.lsm_machine.specs.Calls.{Reply}
 use Rattle.lsm_device.specs.declared.refusal.Refusal.TheVariants.{Io}
 use Rattle.lsm_lives.proofs.Made.{called_told}
-use Rattle.lsm_store.specs.Calls.{Commit, CommitIf, Sync, SyncTo, Get, Scan, Snapshot, Release, Rotate, LogRoom, Number, Done, Value, Rows, Given, Handed, Refused, Unread, as_told}
-use Rattle.lsm_store.specs.Machine.{Step, Called, Worked}
+use Rattle.lsm_machine.specs.Calls.{Commit, CommitIf, Sync, SyncTo, Get, Scan, Snapshot, Release, Rotate, LogRoom, Number, Done, Value, Rows, Given, Handed, Refused, Unread, as_told}
+use Rattle.lsm_machine.specs.Machine.{Step, Called, Worked}
 use Rattle.lsm_store.specs.Serving.{reply_in}
-use Rattle.lsm_store.specs.State.{State}
+use Rattle.lsm_machine.specs.State.{State}
 use Rattle.lsm_trail.specs.Entries.{Beside, reply_behind, event_shown, is_build, is_number, MayBeEntered, IsOfStep, told_in}
 use Rattle.lsm_trail.specs.History.{is_lent}
 

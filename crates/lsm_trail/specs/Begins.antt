@@ -1,11 +1,11 @@
 -- With what a session begins, and its base: a snapshot that it pins from its begin to its end.
 use Rattle.std.specs.Prelude.{◌≡◌, ℕ, None}
 use Rattle.lsm_store.specs.Backing.{StoreView}
-use Rattle.lsm_store.specs.Calls.{Snapshot}
-use Rattle.lsm_store.specs.Effects.{after}
-use Rattle.lsm_store.specs.Machine.{Machine}
-use Rattle.lsm_store.specs.Refusals.{refusal}
-use Rattle.lsm_store.specs.State.{State, snapshot_of}
+use Rattle.lsm_machine.specs.Calls.{Snapshot}
+use Rattle.lsm_machine.specs.Effects.{after}
+use Rattle.lsm_machine.specs.Machine.{Machine}
+use Rattle.lsm_machine.specs.Refusals.{refusal}
+use Rattle.lsm_machine.specs.State.{State, snapshot_of}
 
 -- With what a session begins: the store, the most entries of its history, and the number of clients.
 pub record Begin : Type 0 where

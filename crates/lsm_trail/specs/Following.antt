@@ -2,9 +2,9 @@
 use Rattle.std.specs.Prelude.{◌≡◌, ◌≢◌, List, None, IsNone}
 use Rattle.lsm_device.specs.declared.refusal.Refusal.TheVariants.{NoMemory}
 use Rattle.lsm_store.specs.Backing.{IsBacked}
-use Rattle.lsm_store.specs.Calls.{Release, Given, Refused}
-use Rattle.lsm_store.specs.Machine.{Called}
-use Rattle.lsm_store.specs.Run.{AllowsStep, AdmitsStep, GoesTo, next_machine}
+use Rattle.lsm_machine.specs.Calls.{Release, Given, Refused}
+use Rattle.lsm_machine.specs.Machine.{Called}
+use Rattle.lsm_machine.specs.Run.{AllowsStep, AdmitsStep, GoesTo, next_machine}
 use Rattle.lsm_trail.specs.Begins.{Begin, base_of}
 use Rattle.lsm_trail.specs.History.{Event, inputs_of, IsNextNumber, TakesResult, machine_after}
 

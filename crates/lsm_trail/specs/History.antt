@@ -4,14 +4,14 @@ use Rattle.lsm_device.specs.declared.refusal.Refusal.TheVariants.{NoMemory}
 use Rattle.lsm_merge.specs.Inputs.{MergeInput, kept_of}
 use Rattle.lsm_merge.specs.Results.{MergeResult}
 use Rattle.lsm_merge.specs.Divisions.{AreTablesAt}
-use Rattle.lsm_store.specs.RecoveryPoints.{batch_count}
-use Rattle.lsm_store.specs.State.{State}
+use Rattle.lsm_machine.specs.RecoveryPoints.{batch_count}
+use Rattle.lsm_machine.specs.State.{State}
 use Rattle.lsm_store.specs.Backing.{IsBacked}
-use Rattle.lsm_store.specs.Calls.{Call, Reply}
-use Rattle.lsm_store.specs.Calls.{Release, Given, Handed, Refused}
-use Rattle.lsm_store.specs.Work.{Work, Ask, Accept}
-use Rattle.lsm_store.specs.Machine.{Machine, Step, Called, Worked}
-use Rattle.lsm_store.specs.Run.{AdmitsStep, GoesTo, Run, last_machine}
+use Rattle.lsm_machine.specs.Calls.{Call, Reply}
+use Rattle.lsm_machine.specs.Calls.{Release, Given, Handed, Refused}
+use Rattle.lsm_machine.specs.Work.{Work, Ask, Accept}
+use Rattle.lsm_machine.specs.Machine.{Machine, Step, Called, Worked}
+use Rattle.lsm_machine.specs.Run.{AdmitsStep, GoesTo, Run, last_machine}
 use Rattle.lsm_trail.specs.Begins.{Begin, base_of, first_machine, CanPin}
 use Rattle.lsm_trail.specs.declared.numbers.Numbers.{Numbers}
 

@@ -5,8 +5,8 @@ use Rattle.std.specs.FinMap as finite
 use Rattle.atomic_table.specs.Seated.{TableId}
 use Rattle.atomic_table.specs.declared.shared.Seat.{Seat}
 use Rattle.lsm_device.specs.Medium.{zeroed}
-use Rattle.lsm_store.specs.Crash.{reopened}
-use Rattle.lsm_store.specs.Work.{no_work}
+use Rattle.lsm_machine.specs.Crash.{reopened}
+use Rattle.lsm_machine.specs.Work.{no_work}
 use Rattle.lsm_trail.specs.Begins.{Begin}
 use Rattle.lsm_trail.specs.History.{Event, IsLegal, entries_by}
 use Rattle.lsm_trail.specs.declared.numbers.Numbers.{Numbers}

@@ -3,10 +3,10 @@ ghost use Rattle.std.specs.Prelude.{◌≡◌};
 ghost use Rattle.lsm_lives.specs.Asked.{Own, Replied};
 ghost use Rattle.lsm_lives.specs.Calls.{call_of, asked_of, asked_of_work, reply_of, told_of};
 ghost use Rattle.lsm_store.specs.Backing.{machine_of};
-ghost use Rattle.lsm_store.specs.Calls.{Refused};
-ghost use Rattle.lsm_store.specs.Machine.{Worked};
+ghost use Rattle.lsm_machine.specs.Calls.{Refused};
+ghost use Rattle.lsm_machine.specs.Machine.{Worked};
 ghost use Rattle.lsm_store.specs.Serving.{reply_in};
-ghost use Rattle.lsm_store.specs.Work.{Work as Piece, Ask};
+ghost use Rattle.lsm_machine.specs.Work.{Work as Piece, Ask};
 ghost use Rattle.lsm_trail.specs.Entries.{is_build, is_number, MayBeEntered, IsOfStep, told_in};
 ghost use Rattle.lsm_trail.specs.History.{called, worked, lent_to, accepted, is_call, is_lent};
 

@@ -1,8 +1,8 @@
 // Laws of histories.
 ghost use Rattle.std.specs.Prelude.{◌≡◌, List, true};
-ghost use Rattle.lsm_store.specs.RecoveryPoints.{present_map};
-ghost use Rattle.lsm_store.specs.State.{may_ask, map_at};
-ghost use Rattle.lsm_store.specs.declared.asked.At.TheVariants.{Snap};
+ghost use Rattle.lsm_machine.specs.RecoveryPoints.{present_map};
+ghost use Rattle.lsm_machine.specs.State.{may_ask, map_at};
+ghost use Rattle.lsm_machine.specs.declared.asked.At.TheVariants.{Snap};
 ghost use Rattle.lsm_trail.specs.Begins.{Begin, base_of};
 ghost use Rattle.lsm_trail.specs.History.{Event, IsLegal, state_after};
 

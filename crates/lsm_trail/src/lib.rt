@@ -15,9 +15,13 @@ mod trail;
 pub use counters::Counters;
 pub use entry::Entry;
 pub use knowledge::{Knowledge, Pass};
-pub use law::base_stays;
 pub use numbers::Numbers;
 pub use opened::Opened;
 pub use rule::{Compare, Deal, Hear, Law, Lend, Look, Note, Nothing, Peek, Publish, Put, Tell};
 pub use start::{SessionName, Start};
 pub use trail::Trail;
+
+/// Laws of the definitions: functions without a body, whose clauses are theorems.
+pub mod laws {
+    pub use crate::law::base_stays;
+}

@@ -1,7 +1,7 @@
 -- A flush that is tried first.
 use Rattle.std.proofs.Common.{◌≡◌, ◌∙◌, ◌⊎◌, ◌<◌, ◌&&◌, ℕ, Bool, true, false, not, is_some, true≢false, None, inl, inr, refl, sym, subst, arith}
 use Rattle.lsm_store.specs.Backing.{StoreView}
-use Rattle.lsm_store.specs.Calls.{Reply, Rotate}
+use Rattle.lsm_machine.specs.Calls.{Reply, Rotate}
 use Rattle.lsm_store.specs.Serving.{Serves}
 use Rattle.lsm_upkeep.specs.Finishing.{IsFinished, IsUndone, Taken}
 use Rattle.lsm_upkeep.specs.Flushing.{BeginsLog, FlushesFirst, IsIdle, IsMadeReady, OpensAnother, ReadiesLog, TriesNext}

@@ -2,8 +2,8 @@
 use Rattle.std.proofs.Common.{◌≡◌, ◌⊎◌, ◌<◌, ℕ, zero, suc, Option, Some, None, inl, inr}
 use Rattle.lsm_levels.specs.declared.choosing.Choice.{Choice}
 use Rattle.lsm_store.specs.Backing.{StoreView}
-use Rattle.lsm_store.specs.Calls.{Reply, Refused}
-use Rattle.lsm_store.specs.Work.{Work, Take, Read, Ask, Accept, Write, Install, Drop}
+use Rattle.lsm_machine.specs.Calls.{Reply, Refused}
+use Rattle.lsm_machine.specs.Work.{Work, Take, Read, Ask, Accept, Write, Install, Drop}
 use Rattle.lsm_store.specs.Working.{Works}
 use Rattle.lsm_upkeep.specs.Finishing.{HasLeft, IsFinished, IsGivenUp, DoesNotGoThrough, IsOffered, IsReadWhole, IsStuck, IsUndone, IsUnfinished, IsUnmerged, IsUnread, LeavesBlocksEachTime, Taken}
 use Rattle.lsm_upkeep.specs.Upkeep.{AreDone, FinishesJobs}

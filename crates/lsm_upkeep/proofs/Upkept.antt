@@ -3,10 +3,10 @@ use Rattle.std.proofs.Common.{◌≡◌, ℕ, zero, suc, Bool, true, false, Opti
 use Rattle.lsm_device.specs.declared.refusal.Refusal.{Refusal}
 use Rattle.lsm_levels.specs.declared.choosing.Choice.{Choice}
 use Rattle.lsm_store.specs.Backing.{StoreView}
-use Rattle.lsm_store.specs.Calls.{Reply, Number, Done, Rotate}
-use Rattle.lsm_store.specs.Machine.{Step, Called, Worked}
+use Rattle.lsm_machine.specs.Calls.{Reply, Number, Done, Rotate}
+use Rattle.lsm_machine.specs.Machine.{Step, Called, Worked}
 use Rattle.lsm_store.specs.Serving.{Serves}
-use Rattle.lsm_store.specs.Work.{Work}
+use Rattle.lsm_machine.specs.Work.{Work}
 use Rattle.lsm_store.specs.Working.{Works, ServesStep}
 use Rattle.lsm_upkeep.specs.Keeping.{KeepsMap}
 use Rattle.lsm_upkeep.specs.Finishing.{IsFinished, IsOffered, IsUndone, IsUnmerged, Taken}

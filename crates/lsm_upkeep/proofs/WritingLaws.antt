@@ -5,8 +5,8 @@ use Rattle.lsm_codec.specs.Map.{Operation}
 use Rattle.lsm_device.specs.declared.refusal.Refusal.{Refusal}
 use Rattle.lsm_device.specs.declared.refusal.Refusal.TheVariants.{LogFull, NoSpace}
 use Rattle.lsm_store.specs.Backing.{StoreView}
-use Rattle.lsm_store.specs.Calls.{Reply, Refused, Number, Done, Value, Rows, Given, Handed, Unread, reply_of}
-use Rattle.lsm_store.specs.State.{LiveSnapshot}
+use Rattle.lsm_machine.specs.Calls.{Reply, Refused, Number, Done, Value, Rows, Given, Handed, Unread, reply_of}
+use Rattle.lsm_machine.specs.State.{LiveSnapshot}
 use Rattle.lsm_upkeep.specs.Flushing.{IsMadeReady}
 use Rattle.lsm_upkeep.specs.Steps.{IsUpkept}
 use Rattle.lsm_upkeep.specs.Writing.{IsServed, Writes, commit_of, has_puts, wants_room, without_log_full}

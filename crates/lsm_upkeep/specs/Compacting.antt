@@ -1,8 +1,8 @@
 -- Where all tables are.
 use Rattle.std.specs.Prelude.{◌==◌, ◌&&◌, not, Bool, is_some, List, length}
 use Rattle.lsm_levels.specs.Levels.{Levels, level}
-use Rattle.lsm_store.specs.Machine.{Machine}
-use Rattle.lsm_store.specs.State.{are_waiting}
+use Rattle.lsm_machine.specs.Machine.{Machine}
+use Rattle.lsm_machine.specs.State.{are_waiting}
 
 -- whether there is none
 abbrev pub is_nil : {X : Type 0} → List X → Bool

@@ -6,8 +6,8 @@ use Rattle.lsm_merge.specs.Inputs.{MergeInput, kept_of}
 use Rattle.lsm_merge.specs.Results.{MergeResult}
 use Rattle.lsm_store.specs.Backing.{StoreView}
 use Rattle.lsm_levels.specs.declared.choosing.Choice.{Choice}
-use Rattle.lsm_store.specs.Calls.{Reply, Number, Done, Given, Handed, Refused}
-use Rattle.lsm_store.specs.Work.{Work, Take, Read, Ask, Accept, Write, Install, Drop}
+use Rattle.lsm_machine.specs.Calls.{Reply, Number, Done, Given, Handed, Refused}
+use Rattle.lsm_machine.specs.Work.{Work, Take, Read, Ask, Accept, Write, Install, Drop}
 use Rattle.lsm_store.specs.Working.{Works}
 
 -- a piece of work was refused

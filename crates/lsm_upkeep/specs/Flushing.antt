@@ -1,9 +1,9 @@
 -- A flush that waits is finished first, and a log with room is opened behind it.
 use Rattle.std.specs.Prelude.{◌≡◌, ◌⊎◌, zero, true, false, is_some, None}
 use Rattle.lsm_store.specs.Backing.{StoreView}
-use Rattle.lsm_store.specs.Calls.{Reply, Rotate, LogRoom, Number}
+use Rattle.lsm_machine.specs.Calls.{Reply, Rotate, LogRoom, Number}
 use Rattle.lsm_store.specs.Serving.{Serves}
-use Rattle.lsm_store.specs.State.{are_waiting}
+use Rattle.lsm_machine.specs.State.{are_waiting}
 use Rattle.lsm_upkeep.specs.Finishing.{Taken, IsFinished, IsUndone}
 use Rattle.lsm_upkeep.specs.Steps.{IsUpkept}
 

@@ -1,8 +1,8 @@
 -- What stays while a store is kept up.
 use Rattle.std.specs.Prelude.{◌≡◌}
 use Rattle.lsm_store.specs.Backing.{StoreView}
-use Rattle.lsm_store.specs.RecoveryPoints.{batch_count, present_map}
-use Rattle.lsm_store.specs.State.{State}
+use Rattle.lsm_machine.specs.RecoveryPoints.{batch_count, present_map}
+use Rattle.lsm_machine.specs.State.{State}
 
 -- The map after all batches, their count, and the snapshots.
 pub record IsSameMap (old new : State) : Type 0 where

@@ -3,7 +3,7 @@ use Rattle.std.specs.Prelude.{◌≡◌, ℕ, true, false, List, ◌++◌, codes
 use Rattle.lsm_extent.specs.Area.{Area, free_count}
 use Rattle.lsm_extent.specs.Gaps.{IsLongestGap, has_sure_room}
 use Rattle.lsm_store.specs.Backing.{StoreView}
-use Rattle.lsm_store.specs.State.{are_waiting}
+use Rattle.lsm_machine.specs.State.{are_waiting}
 use Rattle.lsm_upkeep.specs.declared.lacking.Shortage.{Shortage}
 use Rattle.lsm_upkeep.specs.declared.lacking.Lack.{Lack}
 use Rattle.lsm_upkeep.specs.declared.lacking.Lack.TheVariants.{FlushWants, Flush, StepWants, Step, Memory}

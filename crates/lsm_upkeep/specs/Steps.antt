@@ -1,8 +1,8 @@
 -- What is done to a store besides a call.
 use Rattle.std.specs.Prelude.{◌≡◌, ℕ, zero, suc}
 use Rattle.lsm_store.specs.Backing.{StoreView}
-use Rattle.lsm_store.specs.Calls.{Reply, Rotate}
-use Rattle.lsm_store.specs.Machine.{Step, Called, Worked}
+use Rattle.lsm_machine.specs.Calls.{Reply, Rotate}
+use Rattle.lsm_machine.specs.Machine.{Step, Called, Worked}
 use Rattle.lsm_store.specs.Working.{ServesStep}
 use Rattle.lsm_upkeep.specs.Keeping.{KeepsMap}
 

@@ -3,7 +3,7 @@ use Rattle.std.specs.Prelude.{◌≡◌, ◌<◌, ◌⊎◌, ◌&&◌, ◌||◌,
 use Rattle.lsm_levels.specs.Moving.{table_count}
 use Rattle.lsm_policy.specs.Room.{taken_blocks}
 use Rattle.lsm_store.specs.Backing.{StoreView}
-use Rattle.lsm_store.specs.Calls.{Reply, Rotate, LogRoom, Number}
+use Rattle.lsm_machine.specs.Calls.{Reply, Rotate, LogRoom, Number}
 use Rattle.lsm_store.specs.Serving.{Serves}
 use Rattle.lsm_store.specs.Stats.{blocks_in_no_table}
 use Rattle.lsm_upkeep.specs.Finishing.{Taken, IsFinished, IsUndone}

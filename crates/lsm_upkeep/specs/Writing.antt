@@ -5,9 +5,9 @@ use Rattle.lsm_codec.specs.Guards.{Condition}
 use Rattle.lsm_codec.specs.Map.{Operation}
 use Rattle.lsm_device.specs.declared.refusal.Refusal.TheVariants.{LogFull, NoSpace}
 use Rattle.lsm_store.specs.Backing.{StoreView}
-use Rattle.lsm_store.specs.Calls.{Call, Reply, Commit, CommitIf, Refused}
+use Rattle.lsm_machine.specs.Calls.{Call, Reply, Commit, CommitIf, Refused}
 use Rattle.lsm_store.specs.Serving.{Serves, reply_in}
-use Rattle.lsm_store.specs.State.{State}
+use Rattle.lsm_machine.specs.State.{State}
 use Rattle.lsm_upkeep.specs.Flushing.{IsMadeReady}
 use Rattle.lsm_upkeep.specs.Steps.{IsUpkept}
 

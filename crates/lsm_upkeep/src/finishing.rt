@@ -1,8 +1,8 @@
 //! One job, taken and finished.
 
 ghost use Rattle.std.specs.Prelude.{◌≡◌, true, false, Some, None, MatchResult};
-ghost use Rattle.lsm_store.specs.Calls.{Done};
-ghost use Rattle.lsm_store.specs.Work.{Read, Write};
+ghost use Rattle.lsm_machine.specs.Calls.{Done};
+ghost use Rattle.lsm_machine.specs.Work.{Read, Write};
 ghost use Rattle.lsm_upkeep.specs.Finishing.{GoesThrough, IsFinished, IsGivenUp, DoesNotGoThrough, IsOffered, IsReadWhole, IsStuck, IsUndone, IsUnmerged, IsUnread, Taken};
 
 use lsm_codec::Key;

@@ -1,7 +1,7 @@
 //! What waits for a flush is flushed, and room is made for it where it lacks.
 
 ghost use Rattle.std.specs.Prelude.{◌≡◌, ◌&&◌, not, is_some, true, false};
-ghost use Rattle.lsm_store.specs.State.{are_waiting};
+ghost use Rattle.lsm_machine.specs.State.{are_waiting};
 ghost use Rattle.lsm_upkeep.specs.Flushing.{IsIdle, TriesNext};
 ghost use Rattle.lsm_upkeep.specs.Steps.{IsUpkept};
 

@@ -1,7 +1,7 @@
 //! What a store lacks that is not compacted to the end.
 
 ghost use Rattle.std.specs.Prelude.{◌≡◌, true, IfSome};
-ghost use Rattle.lsm_store.specs.State.{are_waiting};
+ghost use Rattle.lsm_machine.specs.State.{are_waiting};
 ghost use Rattle.lsm_upkeep.specs.Lacking.{IsLacking, IsShortage};
 
 use crate::flushing::{MOST_RUNS, is_waiting};

@@ -1,7 +1,7 @@
 //! A commit that finds room.
 
 ghost use Rattle.std.specs.Prelude.{◌≡◌, option_map};
-ghost use Rattle.lsm_store.specs.Calls.{Number, reply_of};
+ghost use Rattle.lsm_machine.specs.Calls.{Number, reply_of};
 ghost use Rattle.lsm_upkeep.specs.Writing.{IsServed, Writes, commit_of, without_log_full};
 
 use crate::admitting::admit;

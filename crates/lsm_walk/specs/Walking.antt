@@ -5,9 +5,9 @@ use Rattle.lsm_device.specs.declared.refusal.Refusal.{Refusal}
 use Rattle.lsm_device.specs.declared.refusal.Refusal.TheVariants.{NoMemory}
 use Rattle.lsm_mem.specs.Paging.{Page}
 use Rattle.lsm_store.specs.Backing.{StoreView}
-use Rattle.lsm_store.specs.Calls.{Rows, Scan, Refused}
+use Rattle.lsm_machine.specs.Calls.{Rows, Scan, Refused}
 use Rattle.lsm_store.specs.Serving.{Serves}
-use Rattle.lsm_store.specs.declared.asked.At.{At}
+use Rattle.lsm_machine.specs.declared.asked.At.{At}
 
 -- the map that it goes over, and the key with which it goes on; none after the last page
 pub record WalkView : Type 0 where

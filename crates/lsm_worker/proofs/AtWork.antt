@@ -10,10 +10,10 @@ use Rattle.lsm_device.specs.declared.refusal.Refusal.{Refusal}
 use Rattle.lsm_device.specs.declared.refusal.Refusal.TheVariants.{BadLimit, NoSpace}
 use Rattle.lsm_merge.specs.Inputs.{MergeInput}
 use Rattle.lsm_merge.specs.Results.{MergeResult}
-use Rattle.lsm_store.specs.Calls.{Reply}
-use Rattle.lsm_store.specs.Calls.{Refused}
-use Rattle.lsm_store.specs.Machine.{Machine, Step}
-use Rattle.lsm_store.specs.Work.{Work}
+use Rattle.lsm_machine.specs.Calls.{Reply}
+use Rattle.lsm_machine.specs.Calls.{Refused}
+use Rattle.lsm_machine.specs.Machine.{Machine, Step}
+use Rattle.lsm_machine.specs.Work.{Work}
 use Rattle.lsm_lives.specs.Asked.{Told}
 use Rattle.lsm_lives.specs.declared.calls.Reply.{Reply as GivenReply}
 use Rattle.lsm_trail.specs.History.{Event, steps_of, is_call, calls_in}

@@ -7,7 +7,7 @@ use Rattle.lsm_device.specs.declared.refusal.Refusal.TheVariants.{BadLimit, NoMe
 use Rattle.lsm_table.specs.Division.{IsTables}
 use Rattle.lsm_merge.specs.Inputs.{MergeInput, kept_of}
 use Rattle.lsm_merge.specs.Results.{MergeResult}
-use Rattle.lsm_store.specs.Pieces.{next_piece}
+use Rattle.lsm_machine.specs.Pieces.{next_piece}
 use Rattle.lsm_lives.specs.Asked.{Told}
 use Rattle.lsm_trail.specs.History.{calls_in, machine_after}
 use Rattle.lsm_trail.specs.Knowledge.{Known}

@@ -5,16 +5,16 @@ use Rattle.std.specs.Prelude.{not, if◌then◌else◌}
 use Rattle.lsm_codec.specs.BatchText.{is_key}
 use Rattle.lsm_codec.specs.Keys.{Bytes}
 use Rattle.lsm_device.specs.declared.refusal.Refusal.TheVariants.{BadKey}
-use Rattle.lsm_open.specs.CrashState.{CrashState}
-use Rattle.lsm_store.specs.declared.asked.At.TheVariants.{Now}
+use Rattle.lsm_machine.specs.CrashState.{CrashState}
+use Rattle.lsm_machine.specs.declared.asked.At.TheVariants.{Now}
 use Rattle.lsm_store.specs.Backing.{StoreView, IsBacked}
-use Rattle.lsm_store.specs.Calls.{Reply}
-use Rattle.lsm_store.specs.Calls.{Get, Value}
-use Rattle.lsm_store.specs.Crash.{reopened}
-use Rattle.lsm_store.specs.Effects.{reply_by}
-use Rattle.lsm_store.specs.Run.{Allows}
+use Rattle.lsm_machine.specs.Calls.{Reply}
+use Rattle.lsm_machine.specs.Calls.{Get, Value}
+use Rattle.lsm_machine.specs.Crash.{reopened}
+use Rattle.lsm_machine.specs.Effects.{reply_by}
+use Rattle.lsm_machine.specs.Run.{Allows}
 use Rattle.lsm_store.specs.Serving.{Serves}
-use Rattle.lsm_store.specs.State.{State}
+use Rattle.lsm_machine.specs.State.{State}
 
 value_in : Reply → Option Bytes
 value_in (Value found) = found

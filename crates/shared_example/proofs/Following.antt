@@ -1,7 +1,7 @@
 -- What comes behind what was heard.
 use Rattle.std.proofs.Common.{◌≡◌, ℕ, List, [], ◌∷◌, ◌++◌, ap, sym, ◌∙◌, append_assoc, refl, subst}
 use mathlib.Core.List.{IsPrefix}
-use Rattle.lsm_store.specs.Calls.{Call}
+use Rattle.lsm_machine.specs.Calls.{Call}
 use Rattle.lsm_lives.specs.Asked.{Told}
 use Rattle.lsm_trail.specs.History.{Event, called}
 use Rattle.lsm_trail.specs.Knowledge.{Known, Sees}

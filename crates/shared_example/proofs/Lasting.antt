@@ -14,19 +14,19 @@ use Rattle.lsm_device.specs.Disk.{image}
 use Rattle.lsm_device.specs.Medium.{disk}
 use Rattle.lsm_device.specs.Outcomes.{Leaves}
 use Rattle.lsm_device.specs.declared.refusal.Refusal.TheVariants.{Stopped}
-use Rattle.lsm_open.specs.CrashState.{CrashState}
+use Rattle.lsm_machine.specs.CrashState.{CrashState}
 use Rattle.lsm_open.specs.Image.{StandFor}
 use Rattle.lsm_open.specs.Recovering.{StandForOne}
 use Rattle.lsm_store.specs.Backing.{StoreView, IsBacked}
-use Rattle.lsm_store.specs.Calls.{Call, Reply}
-use Rattle.lsm_store.specs.Calls.{Commit, Sync, Number, Done, Value, Rows, Given, Handed, Refused, Unread}
-use Rattle.lsm_store.specs.Crash.{may_leave}
-use Rattle.lsm_store.specs.Effects.{after, decided, reply_by}
-use Rattle.lsm_store.specs.Machine.{Machine, Step, Called, Worked}
-use Rattle.lsm_store.specs.RecoveryPoints.{present_map}
-use Rattle.lsm_store.specs.Refusals.{first_refusal}
-use Rattle.lsm_store.specs.Run.{Allows, AllowsStep, Run, next, next_machine, last_machine}
-use Rattle.lsm_store.specs.State.{State}
+use Rattle.lsm_machine.specs.Calls.{Call, Reply}
+use Rattle.lsm_machine.specs.Calls.{Commit, Sync, Number, Done, Value, Rows, Given, Handed, Refused, Unread}
+use Rattle.lsm_machine.specs.Crash.{may_leave}
+use Rattle.lsm_machine.specs.Effects.{after, decided, reply_by}
+use Rattle.lsm_machine.specs.Machine.{Machine, Step, Called, Worked}
+use Rattle.lsm_machine.specs.RecoveryPoints.{present_map}
+use Rattle.lsm_machine.specs.Refusals.{first_refusal}
+use Rattle.lsm_machine.specs.Run.{Allows, AllowsStep, Run, next, next_machine, last_machine}
+use Rattle.lsm_machine.specs.State.{State}
 use Rattle.lsm_lives.specs.Asked.{Replied}
 use Rattle.lsm_trail.specs.Begins.{Begin, first_machine}
 use Rattle.lsm_trail.specs.History.{Event, called, steps_of, replies_of, entries_by, is_call, calls_in, IsLegal, state_after, TrailView}

@@ -3,8 +3,8 @@ use Rattle.std.proofs.Common.{◌≡◌, List, [], ◌∷◌, ◌++◌, ℕ, Boo
 use Rattle.lsm_codec.specs.Guards.{Condition}
 use Rattle.lsm_codec.specs.Map.{Operation}
 use Rattle.lsm_device.specs.declared.refusal.Refusal.{Refusal}
-use Rattle.lsm_store.specs.Calls.{Call, Reply}
-use Rattle.lsm_store.specs.Calls.{Commit, CommitIf, Sync, Number, Done, Value, Rows, Given, Handed, Refused, Unread, as_told}
+use Rattle.lsm_machine.specs.Calls.{Call, Reply}
+use Rattle.lsm_machine.specs.Calls.{Commit, CommitIf, Sync, Number, Done, Value, Rows, Given, Handed, Refused, Unread, as_told}
 use Rattle.lsm_lives.specs.Asked.{Told, Replied}
 use Rattle.lsm_trail.specs.History.{Event, called}
 use Rattle.lsm_trail.specs.Knowledge.{Known}

@@ -8,21 +8,21 @@ use Rattle.lsm_codec.specs.Map.{Map, Operation, apply}
 use Rattle.lsm_device.specs.declared.refusal.Refusal.TheVariants.{Io}
 use Rattle.lsm_jobs.specs.Slots.{Slot}
 use Rattle.lsm_levels.specs.Pick.{is_flush}
-use Rattle.lsm_open.specs.CrashState.{CrashState}
-use Rattle.lsm_store.specs.Calls.{Call, Reply}
-use Rattle.lsm_store.specs.Calls.{Commit, CommitIf, Sync, SyncTo, Get, Scan, Snapshot, Release, Rotate, LogRoom, Refused, Unread}
-use Rattle.lsm_store.specs.Crash.{crash_state_at, left_with, left_besides, may_leave}
-use Rattle.lsm_store.specs.Effects.{Use, use_of, after, committed}
-use Rattle.lsm_store.specs.Effects.{Untouched, Reads, Changes}
-use Rattle.lsm_store.specs.Machine.{Machine, Step, Called, Worked}
-use Rattle.lsm_store.specs.RecoveryPoints.{points_from, last_map, present_map, all_synced}
-use Rattle.lsm_store.specs.Run.{after_fault, next, next_machine}
-use Rattle.lsm_store.specs.State.{State}
-use Rattle.lsm_store.specs.Work.{Work, Take, Read, Ask, Accept, Write, Install, Drop}
-use Rattle.lsm_store.specs.WorkEffects.{work_use, state_after, installed}
-use Rattle.lsm_store.specs.WorkRefusals.{held, of_slot}
-use Rattle.lsm_store.specs.WorkReplies.{work_left_besides, after_work_fault, next_worked}
-use Rattle.lsm_store.proofs.Membership.{none_in, in_cases}
+use Rattle.lsm_machine.specs.CrashState.{CrashState}
+use Rattle.lsm_machine.specs.Calls.{Call, Reply}
+use Rattle.lsm_machine.specs.Calls.{Commit, CommitIf, Sync, SyncTo, Get, Scan, Snapshot, Release, Rotate, LogRoom, Refused, Unread}
+use Rattle.lsm_machine.specs.Crash.{crash_state_at, left_with, left_besides, may_leave}
+use Rattle.lsm_machine.specs.Effects.{Use, use_of, after, committed}
+use Rattle.lsm_machine.specs.Effects.{Untouched, Reads, Changes}
+use Rattle.lsm_machine.specs.Machine.{Machine, Step, Called, Worked}
+use Rattle.lsm_machine.specs.RecoveryPoints.{points_from, last_map, present_map, all_synced}
+use Rattle.lsm_machine.specs.Run.{after_fault, next, next_machine}
+use Rattle.lsm_machine.specs.State.{State}
+use Rattle.lsm_machine.specs.Work.{Work, Take, Read, Ask, Accept, Write, Install, Drop}
+use Rattle.lsm_machine.specs.WorkEffects.{work_use, state_after, installed}
+use Rattle.lsm_machine.specs.WorkRefusals.{held, of_slot}
+use Rattle.lsm_machine.specs.WorkReplies.{work_left_besides, after_work_fault, next_worked}
+use Rattle.lsm_machine.proofs.Membership.{none_in, in_cases}
 
 -- a step leaves a key alone: whatever batch it commits has no operation on it
 abbrev pub LeavesAlone : Bytes → Step → Type 0

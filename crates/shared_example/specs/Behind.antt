@@ -1,7 +1,7 @@
 -- A call of a client that comes behind what it heard.
 use Rattle.std.specs.Prelude.{◌≡◌, ℕ, List, [], ◌∷◌, ◌++◌}
-use Rattle.lsm_store.specs.Calls.{Call, Reply, as_told}
-use Rattle.lsm_store.specs.Machine.{Machine}
+use Rattle.lsm_machine.specs.Calls.{Call, Reply, as_told}
+use Rattle.lsm_machine.specs.Machine.{Machine}
 use Rattle.lsm_lives.specs.Asked.{Told, Replied}
 use Rattle.lsm_trail.specs.History.{Event, called}
 use Rattle.lsm_trail.specs.Knowledge.{Known}

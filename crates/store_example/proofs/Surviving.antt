@@ -9,14 +9,14 @@ use Rattle.lsm_codec.specs.BatchText.{is_key}
 use Rattle.lsm_codec.specs.Keys.{Bytes, byte_order}
 use Rattle.lsm_codec.specs.Map.{Operation, apply}
 use Rattle.lsm_device.specs.declared.refusal.Refusal.TheVariants.{BadKey}
-use Rattle.lsm_open.specs.CrashState.{CrashState, formatted}
-use Rattle.lsm_store.specs.declared.asked.At.TheVariants.{Now}
-use Rattle.lsm_store.specs.Calls.{Reply, Commit, Sync, Get, Number, Done, Value}
-use Rattle.lsm_store.specs.Crash.{may_leave, reopened}
-use Rattle.lsm_store.specs.Effects.{reply_by}
-use Rattle.lsm_store.specs.Run.{Allows, next}
-use Rattle.lsm_store.specs.State.{State}
-use Rattle.lsm_store.proofs.Membership.{one_in}
+use Rattle.lsm_machine.specs.CrashState.{CrashState, formatted}
+use Rattle.lsm_machine.specs.declared.asked.At.TheVariants.{Now}
+use Rattle.lsm_machine.specs.Calls.{Reply, Commit, Sync, Get, Number, Done, Value}
+use Rattle.lsm_machine.specs.Crash.{may_leave, reopened}
+use Rattle.lsm_machine.specs.Effects.{reply_by}
+use Rattle.lsm_machine.specs.Run.{Allows, next}
+use Rattle.lsm_machine.specs.State.{State}
+use Rattle.lsm_machine.proofs.Membership.{one_in}
 
 -- the state of a new store after a batch and a sync
 abbrev pub synced_state : List Operation → ℕ → State

@@ -8,11 +8,11 @@ ghost use Rattle.std.specs.Prelude.{◌≡◌, ℕ, Some, option_map, IfOk, OnOk
 ghost use Rattle.lsm_device.specs.Disk.{seen};
 ghost use Rattle.lsm_device.specs.Medium.{disk};
 ghost use Rattle.lsm_device.specs.Memory.{medium_in};
-ghost use Rattle.lsm_open.specs.CrashState.{CrashState};
+ghost use Rattle.lsm_machine.specs.CrashState.{CrashState};
 ghost use Rattle.lsm_open.specs.Image.{StandFor};
 ghost use Rattle.lsm_store.specs.Backing.{IsBacked};
-ghost use Rattle.lsm_store.specs.Calls.{Commit, Sync, Number, Done};
-ghost use Rattle.lsm_store.specs.Run.{next};
+ghost use Rattle.lsm_machine.specs.Calls.{Commit, Sync, Number, Done};
+ghost use Rattle.lsm_machine.specs.Run.{next};
 
 pub use first_use::use_a_file;
 use lsm_codec::{Batch, Op};

@@ -4,7 +4,8 @@ ghost use Rattle.std.specs.Prelude.{◌<◌};
 
 use linked_list_allocator::LocalHeap;
 use lsm_device::Refusal;
-use lsm_extent::{Extent, Extents, extent_laws};
+use lsm_extent::laws::extent_laws;
+use lsm_extent::{Extent, Extents};
 use std::alloc::Allocator;
 use std::process::Abort;
 

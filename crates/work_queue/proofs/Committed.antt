@@ -8,19 +8,19 @@ use Rattle.lsm_codec.specs.Map.{Map, Operation, apply}
 use Rattle.lsm_codec.proofs.KeyOrder.{same_key}
 use Rattle.lsm_device.specs.declared.refusal.Refusal.{Refusal}
 use Rattle.lsm_device.specs.declared.refusal.Refusal.TheVariants.{Io, LogFull, Stopped, TooManyGuards, Exhausted, GuardFailed}
-use Rattle.lsm_open.specs.CrashState.{last_number}
+use Rattle.lsm_machine.specs.CrashState.{last_number}
 use Rattle.lsm_store.specs.Backing.{StoreView, IsBacked}
-use Rattle.lsm_store.specs.Calls.{Call, Reply, CommitIf, Get, Scan, Number, Done, Value, Rows, Given, Handed, Refused, Unread}
-use Rattle.lsm_store.specs.Effects.{reply_by}
-use Rattle.lsm_store.specs.Machine.{Step, Called, Worked}
-use Rattle.lsm_store.specs.RecoveryPoints.{batch_count, last_map, present_map}
-use Rattle.lsm_store.specs.Refusals.{first_refusal, full_refusal, most_guards}
-use Rattle.lsm_store.specs.Run.{next}
+use Rattle.lsm_machine.specs.Calls.{Call, Reply, CommitIf, Get, Scan, Number, Done, Value, Rows, Given, Handed, Refused, Unread}
+use Rattle.lsm_machine.specs.Effects.{reply_by}
+use Rattle.lsm_machine.specs.Machine.{Step, Called, Worked}
+use Rattle.lsm_machine.specs.RecoveryPoints.{batch_count, last_map, present_map}
+use Rattle.lsm_machine.specs.Refusals.{first_refusal, full_refusal, most_guards}
+use Rattle.lsm_machine.specs.Run.{next}
 use Rattle.lsm_store.specs.Serving.{Serves, reply_in}
-use Rattle.lsm_store.specs.State.{State, fits}
+use Rattle.lsm_machine.specs.State.{State, fits}
 use Rattle.lsm_store.specs.Working.{ServesStep}
-use Rattle.lsm_store.specs.declared.asked.At.TheVariants.{Now}
-use Rattle.lsm_store.proofs.Unrefused.{none_taken}
+use Rattle.lsm_machine.specs.declared.asked.At.TheVariants.{Now}
+use Rattle.lsm_machine.proofs.Unrefused.{none_taken}
 use Rattle.lsm_upkeep.specs.Steps.{UpkeepSteps, IsUpkept}
 use Rattle.lsm_upkeep.specs.Writing.{EndsWith, Writes, without_log_full}
 use Rattle.work_queue.specs.Tasks.{IsQueue, Claimed, claimed_key, last_key, number_of, status, waiting_key}

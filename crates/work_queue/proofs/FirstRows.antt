@@ -20,13 +20,13 @@ use Rattle.lsm_codec.proofs.Numbers.{byte_at-pow}
 use Rattle.lsm_device.specs.declared.refusal.Refusal.{Refusal}
 use Rattle.lsm_mem.specs.Paging.{Page, is_before, page_of, pairs_in}
 use Rattle.lsm_store.specs.Backing.{StoreView}
-use Rattle.lsm_store.specs.Calls.{Reply, Rows, Scan}
-use Rattle.lsm_store.specs.Effects.{reply_by}
-use Rattle.lsm_store.specs.Refusals.{full_refusal}
+use Rattle.lsm_machine.specs.Calls.{Reply, Rows, Scan}
+use Rattle.lsm_machine.specs.Effects.{reply_by}
+use Rattle.lsm_machine.specs.Refusals.{full_refusal}
 use Rattle.lsm_store.specs.Serving.{Serves}
-use Rattle.lsm_store.specs.State.{State}
-use Rattle.lsm_store.specs.RecoveryPoints.{present_map}
-use Rattle.lsm_store.specs.declared.asked.At.TheVariants.{Now}
+use Rattle.lsm_machine.specs.State.{State}
+use Rattle.lsm_machine.specs.RecoveryPoints.{present_map}
+use Rattle.lsm_machine.specs.declared.asked.At.TheVariants.{Now}
 use Rattle.work_queue.specs.Committing.{HoldsQueue, IsFirstOf, map_in}
 use Rattle.work_queue.specs.Tasks.{IsQueue, IsTaskKey, Waiting, claimed_key, first_task, last_given, last_key, number_bytes, number_in, status, waiting_key}
 use Rattle.work_queue.proofs.Doing.{last_small, waits}

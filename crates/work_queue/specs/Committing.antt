@@ -5,10 +5,10 @@ use Rattle.lsm_codec.specs.Keys.{Bytes}
 use Rattle.lsm_codec.specs.Map.{Map}
 use Rattle.lsm_device.specs.declared.refusal.Refusal.{Refusal}
 use Rattle.lsm_store.specs.Backing.{StoreView, IsBacked}
-use Rattle.lsm_store.specs.Calls.{Call, Reply, Get, Scan, Number, Refused}
-use Rattle.lsm_store.specs.RecoveryPoints.{present_map}
+use Rattle.lsm_machine.specs.Calls.{Call, Reply, Get, Scan, Number, Refused}
+use Rattle.lsm_machine.specs.RecoveryPoints.{present_map}
 use Rattle.lsm_store.specs.Serving.{Serves}
-use Rattle.lsm_store.specs.declared.asked.At.TheVariants.{Now}
+use Rattle.lsm_machine.specs.declared.asked.At.TheVariants.{Now}
 use Rattle.lsm_upkeep.specs.Writing.{Writes}
 use Rattle.work_queue.specs.Tasks.{Waiting, Claimed, IsQueue, last_given, status}
 use Rattle.work_queue.specs.Deeds.{Deed, Adds, Claims, Finishes, Does, MayBeDone, batch_of}

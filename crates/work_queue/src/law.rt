@@ -3,8 +3,8 @@ ghost use Rattle.std.specs.FinMap as finite;
 ghost use Rattle.std.specs.Prelude.{◌≡◌, ℕ, ◌++◌, List, Some, map, slice_get};
 ghost use Rattle.lsm_codec.specs.Keys.{Bytes};
 ghost use Rattle.lsm_codec.specs.Map.{Map, Operation, apply};
-ghost use Rattle.lsm_open.specs.CrashState.{CrashState};
-ghost use Rattle.lsm_store.specs.Lives.{IsAfter, IsPrefixFrom};
+ghost use Rattle.lsm_machine.specs.CrashState.{CrashState};
+ghost use Rattle.lsm_machine.specs.Lives.{IsAfter, IsPrefixFrom};
 ghost use Rattle.work_queue.specs.Deeds.{AreDone, Deed, Claims, Does, GoesOn, MayBeDone, Tells, TellsBeginning, batch_of, map_after};
 ghost use Rattle.work_queue.specs.Tasks.{IsQueue, status};
 

@@ -20,5 +20,9 @@ mod law;
 mod queue;
 mod rows;
 
-pub use law::{crashes_keep_tasks, deeds_are_told, deeds_change_one_task, deeds_go_on};
 pub use queue::Queue;
+
+/// Laws of the definitions: functions without a body, whose clauses are theorems.
+pub mod laws {
+    pub use crate::law::{crashes_keep_tasks, deeds_are_told, deeds_change_one_task, deeds_go_on};
+}

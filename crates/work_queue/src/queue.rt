@@ -1,6 +1,6 @@
 // A queue of tasks.
 ghost use Rattle.std.specs.Prelude.{◌≡◌, IfErr, IfOk, MatchOption, MatchResult};
-ghost use Rattle.lsm_store.specs.Calls.{Sync, Done, reply_of};
+ghost use Rattle.lsm_machine.specs.Calls.{Sync, Done, reply_of};
 ghost use Rattle.lsm_store.specs.Serving.{Serves};
 ghost use Rattle.work_queue.specs.Committing.{AddsTask, Asks, ClaimsOne, HasCommitted, HasFinished, HoldsQueue, IsAddedNext, IsFinishedNow, IsFirstClaimed, IsRefused, NoneWaits, map_in};
 ghost use Rattle.work_queue.specs.Deeds.{Adds, Claims, Finishes};

@@ -1,8 +1,8 @@
 use Rattle.std.proofs.Common.{ℕ, List, Vec, Global, option_map, refl, subst}
-use Rattle.lsm_store.specs.declared.asked.At.TheVariants.{Now}
-use Rattle.lsm_store.specs.Calls.{Get, Value}
-use Rattle.lsm_store.specs.Run.{Allows}
-use Rattle.lsm_store.specs.State.{State}
+use Rattle.lsm_machine.specs.declared.asked.At.TheVariants.{Now}
+use Rattle.lsm_machine.specs.Calls.{Get, Value}
+use Rattle.lsm_machine.specs.Run.{Allows}
+use Rattle.lsm_machine.specs.State.{State}
 use Rattle.store_example.proofs.Surviving.{found_in}
 use Rattle.store_example.proofs.look_up.Goals as goal
 

@@ -1,7 +1,7 @@
 use Rattle.std.proofs.Common.{◌∙◌, ap}
-use Rattle.lsm_store.specs.Calls.{Sync, Done}
-use Rattle.lsm_store.specs.Run.{next}
-use Rattle.lsm_store.specs.State.{State}
+use Rattle.lsm_machine.specs.Calls.{Sync, Done}
+use Rattle.lsm_machine.specs.Run.{next}
+use Rattle.lsm_machine.specs.State.{State}
 use Rattle.store_example.proofs.put_synced.Goals as goal
 
 pub returns-clause-backed : goal.returns-clause-backed

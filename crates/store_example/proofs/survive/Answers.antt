@@ -5,13 +5,13 @@ use Rattle.lsm_device.specs.Disk.{seen, image}
 use Rattle.lsm_device.specs.Medium.{Medium, disk, crashed}
 use Rattle.lsm_device.proofs.Outcomes.{seen_outcome}
 use Rattle.lsm_device.specs.Memory.{medium_in}
-use Rattle.lsm_open.specs.CrashState.{formatted}
+use Rattle.lsm_machine.specs.CrashState.{formatted}
 use Rattle.lsm_open.specs.Image.{StandFor}
 use Rattle.lsm_open.specs.Recovering.{StandForOne}
-use Rattle.lsm_store.specs.Calls.{Commit, Sync, Number, Done}
-use Rattle.lsm_store.specs.Crash.{may_leave}
-use Rattle.lsm_store.specs.Run.{next}
-use Rattle.lsm_store.specs.State.{State}
+use Rattle.lsm_machine.specs.Calls.{Commit, Sync, Number, Done}
+use Rattle.lsm_machine.specs.Crash.{may_leave}
+use Rattle.lsm_machine.specs.Run.{next}
+use Rattle.lsm_machine.specs.State.{State}
 use Rattle.store_example.proofs.Surviving.{synced_state, left_map, get_put}
 use Rattle.store_example.proofs.survive.Goals as goal
 

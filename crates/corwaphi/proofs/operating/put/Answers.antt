@@ -1,7 +1,7 @@
 use Rattle.std.proofs.Common.{Some, None, subst}
 use Rattle.lsm_codec.specs.Answers.{key_refusal, or_then, value_refusal}
 use Rattle.lsm_codec.specs.Map.{Operation}
-use Rattle.lsm_store.specs.Calls.{Number, reply_of}
+use Rattle.lsm_machine.specs.Calls.{Number, reply_of}
 use Rattle.corwaphi.specs.Writing.{WritesOne}
 use Rattle.corwaphi.proofs.WritingLaws.{one-refused, one-written}
 use Rattle.corwaphi.proofs.operating.put.Goals as goal

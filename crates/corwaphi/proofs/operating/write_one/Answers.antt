@@ -1,7 +1,7 @@
 use Rattle.std.proofs.Common.{List, None, refl, ap, subst, inl, inr}
 use Rattle.lsm_codec.specs.Map.{Operation}
 use Rattle.lsm_device.specs.declared.refusal.Refusal.{Refusal}
-use Rattle.lsm_store.specs.Calls.{Number, Refused, reply_of}
+use Rattle.lsm_machine.specs.Calls.{Number, Refused, reply_of}
 use Rattle.lsm_upkeep.specs.Writing.{Writes}
 use Rattle.corwaphi.proofs.operating.write_one.Goals as goal
 

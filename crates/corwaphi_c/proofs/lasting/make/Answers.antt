@@ -1,4 +1,4 @@
-use Rattle.lsm_store.specs.Calls.{Reply}
+use Rattle.lsm_machine.specs.Calls.{Reply}
 use Rattle.corwaphi_c.specs.Calls.{Answers, IsDone, sync_of}
 use Rattle.corwaphi_c.proofs.Moving.{made}
 use Rattle.corwaphi_c.proofs.lasting.make.Goals as goal

@@ -1,5 +1,5 @@
 use Rattle.std.proofs.Common.{Some}
-use Rattle.lsm_store.specs.Work.{Take}
+use Rattle.lsm_machine.specs.Work.{Take}
 use Rattle.lsm_upkeep.proofs.Upkept.{works}
 use Rattle.corwaphi_c.proofs.pieces.begin_chosen.Goals as goal
 

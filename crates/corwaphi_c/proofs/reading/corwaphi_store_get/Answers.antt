@@ -1,7 +1,7 @@
 use Rattle.std.proofs.Common.{◌∙◌, ap, subst, Option}
 use Rattle.lsm_store.specs.Backing.{StoreView}
-use Rattle.lsm_store.specs.Calls.{Get, Reply}
-use Rattle.lsm_store.specs.declared.asked.At.{At}
+use Rattle.lsm_machine.specs.Calls.{Get, Reply}
+use Rattle.lsm_machine.specs.declared.asked.At.{At}
 use Rattle.corwaphi_c.specs.Calls.{Answers, IsMade, IsValue}
 use Rattle.corwaphi_c.specs.declared.kept.Kept.{Kept}
 use Rattle.corwaphi_c.proofs.reading.corwaphi_store_get.Goals as goal

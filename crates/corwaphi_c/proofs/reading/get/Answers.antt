@@ -1,4 +1,4 @@
-use Rattle.lsm_store.specs.Calls.{Get, Reply}
+use Rattle.lsm_machine.specs.Calls.{Get, Reply}
 use Rattle.corwaphi_c.specs.Calls.{Answers, IsValue}
 use Rattle.corwaphi_c.proofs.Moving.{made}
 use Rattle.corwaphi_c.proofs.reading.get.Goals as goal

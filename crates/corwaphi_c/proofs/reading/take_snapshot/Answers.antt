@@ -1,6 +1,6 @@
 use Rattle.std.proofs.Common.{subst, sym}
 use Rattle.lsm_store.specs.Backing.{StoreView}
-use Rattle.lsm_store.specs.Calls.{Snapshot, Number, reply_of}
+use Rattle.lsm_machine.specs.Calls.{Snapshot, Number, reply_of}
 use Rattle.lsm_store.specs.Serving.{Serves}
 use Rattle.corwaphi_c.proofs.Moving.{same}
 use Rattle.corwaphi_c.proofs.reading.take_snapshot.Goals as goal

@@ -3,7 +3,7 @@ use Rattle.std.specs.Global.{Global}
 use Rattle.std.specs.declared.vec.Vec.{Vec}
 use Rattle.std.proofs.lemmas.List.{take_all, length-set}
 use Rattle.lsm_device.specs.Memory.{medium_in}
-use Rattle.lsm_store.specs.Calls.{Reply}
+use Rattle.lsm_machine.specs.Calls.{Reply}
 use Rattle.lsm_lives.specs.Batches.{replies_by}
 use Rattle.lsm_lives.specs.Calls.{reply_of}
 use Rattle.lsm_lives.specs.declared.calls.Reply.{Reply as GivenReply}

@@ -1,6 +1,6 @@
 use Rattle.std.proofs.Common.{List, map, ◌++◌, ap, ◌∙◌}
 use Rattle.lsm_device.specs.declared.refusal.Refusal.TheVariants.{Stopped}
-use Rattle.lsm_store.specs.Calls.{Reply, Refused}
+use Rattle.lsm_machine.specs.Calls.{Reply, Refused}
 use Rattle.lsm_lives.specs.declared.calls.Reply.TheVariants as reply
 use Rattle.lsm_lives.specs.Calls.{reply_of}
 use Rattle.corwaphi_lives.specs.Calls.{call_of}

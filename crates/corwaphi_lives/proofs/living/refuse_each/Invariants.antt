@@ -1,6 +1,6 @@
 use Rattle.std.proofs.Common.{◌≡◌, ◌≤◌, ◌+◌, ◌++◌, length, map, take, vec_len, vec_capacity}
 use Rattle.lsm_device.specs.declared.refusal.Refusal.TheVariants.{Stopped}
-use Rattle.lsm_store.specs.Calls.{Refused}
+use Rattle.lsm_machine.specs.Calls.{Refused}
 use Rattle.lsm_lives.specs.Calls.{reply_of}
 use Rattle.corwaphi_lives.specs.Calls.{call_of}
 use Rattle.corwaphi_lives.proofs.living.refuse_each.Given as goal

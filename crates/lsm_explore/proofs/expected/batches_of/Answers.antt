@@ -2,7 +2,7 @@ use Rattle.std.proofs.Common.{◌≡◌, ℕ, List, [], map, length, ap, sym, �
 use Rattle.std.specs.Prelude.{option_map}
 use Rattle.std.proofs.lemmas.List.{length-map}
 use Rattle.lsm_codec.specs.Map.{Operation}
-use Rattle.lsm_store.specs.Promise.{acknowledged_by}
+use Rattle.lsm_machine.specs.Promise.{acknowledged_by}
 use Rattle.lsm_lives.specs.Asked.{step_in}
 use Rattle.lsm_lives.specs.Calls.{asked_of, told_of}
 use Rattle.lsm_explore.specs.Expected.{as_list, reply_in, replies_of, steps_of}

@@ -3,7 +3,7 @@ use Rattle.std.proofs.lemmas.List.{map_push}
 use Rattle.std.specs.FinMap as finite
 use Rattle.lsm_codec.specs.Keys.{Bytes}
 use Rattle.lsm_codec.specs.Map.{Operation, apply}
-use Rattle.lsm_store.specs.Promise.{maps_after}
+use Rattle.lsm_machine.specs.Promise.{maps_after}
 use Rattle.lsm_mem.specs.declared.rows.RowRef.{RowRef}
 use Rattle.lsm_explore.specs.Plain.{AreRows, rows_of}
 use Rattle.lsm_explore.proofs.PlainMaps.{told_all, told_on}

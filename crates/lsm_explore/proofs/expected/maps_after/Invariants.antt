@@ -1,7 +1,7 @@
 use Rattle.std.proofs.Common.{◌≡◌, ◌≤◌, ◌∷◌, ◌++◌, map, drop, length}
 use Rattle.std.specs.FinMap as finite
 use Rattle.lsm_codec.specs.Map.{Map}
-use Rattle.lsm_store.specs.Promise.{maps_after}
+use Rattle.lsm_machine.specs.Promise.{maps_after}
 use Rattle.lsm_explore.specs.Plain.{AreRows, rows_of}
 use Rattle.lsm_explore.proofs.expected.maps_after.Given as goal
 

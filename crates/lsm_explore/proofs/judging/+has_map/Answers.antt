@@ -1,7 +1,7 @@
 use Rattle.std.proofs.Common.{length, None, ap, sym, ◌∙◌, arith, rules}
 use Rattle.lsm_mem.specs.Paging.{pairs_in}
-use Rattle.lsm_store.specs.RecoveryPoints.{present_map}
-use Rattle.lsm_store.specs.State.{State}
+use Rattle.lsm_machine.specs.RecoveryPoints.{present_map}
+use Rattle.lsm_machine.specs.State.{State}
 use Rattle.lsm_explore.specs.Plain.{rows_of}
 use Rattle.lsm_lives.proofs.Listing.{scanned, is_not, too_few, others, some_rows, more, last, pairs_behind}
 use Rattle.lsm_explore.proofs.ListedRows.{front_tells, back_tells, empty_tells, length-rows}

@@ -1,5 +1,5 @@
 use Rattle.std.proofs.Common.{◌≡◌, ◌-◌, ℕ, Some, slice_get, length, ap, sym, subst, ◌∙◌, arith}
-use Rattle.lsm_store.specs.RecoveryPoints.{batch_count, present_map}
+use Rattle.lsm_machine.specs.RecoveryPoints.{batch_count, present_map}
 use Rattle.lsm_explore.specs.Expected.{maps_from}
 use Rattle.lsm_explore.specs.Plain.{rows_of}
 use Rattle.lsm_lives.proofs.Listing.{all_pairs}

@@ -3,8 +3,8 @@ use Rattle.std.specs.Prelude.{IfErr, IfOk}
 use Rattle.lsm_codec.specs.Guards.{Condition}
 use Rattle.lsm_language.specs.Faults.{IsRefusalBy, reason_of}
 use Rattle.lsm_language.specs.declared.request.Request.TheVariants as request
-use Rattle.lsm_store.specs.Calls.{Get, Scan}
-use Rattle.lsm_store.specs.declared.asked.At.TheVariants.{Now}
+use Rattle.lsm_machine.specs.Calls.{Get, Scan}
+use Rattle.lsm_machine.specs.declared.asked.At.TheVariants.{Now}
 use Rattle.lsm_requests.specs.Answers.{HasFound, HasRows, IsRefusedOpened, OfOpened}
 use Rattle.lsm_requests.specs.Commits.{HasCommitted}
 use Rattle.lsm_requests.specs.Refusing.{RefusesToCommit, RefusesToTell}

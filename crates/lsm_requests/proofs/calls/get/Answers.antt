@@ -1,6 +1,6 @@
 use Rattle.std.proofs.lemmas.Result.{err_from_is_err_and}
-use Rattle.lsm_store.specs.Calls.{Get}
-use Rattle.lsm_store.specs.declared.asked.At.TheVariants.{Now}
+use Rattle.lsm_machine.specs.Calls.{Get}
+use Rattle.lsm_machine.specs.declared.asked.At.TheVariants.{Now}
 use Rattle.lsm_requests.specs.Answers.{HasFound}
 use Rattle.lsm_requests.specs.Refusing.{RefusesToTell}
 use Rattle.lsm_requests.proofs.RefusedLaws.{closed_answers, not_opened, opened_refuses}

@@ -1,7 +1,7 @@
 use Rattle.std.proofs.Common.{rules, None}
 use Rattle.std.proofs.lemmas.Result.{err_from_is_err_and}
-use Rattle.lsm_store.specs.Calls.{Scan}
-use Rattle.lsm_store.specs.declared.asked.At.TheVariants.{Now}
+use Rattle.lsm_machine.specs.Calls.{Scan}
+use Rattle.lsm_machine.specs.declared.asked.At.TheVariants.{Now}
 use Rattle.lsm_requests.proofs.RefusedLaws.{tell_refused}
 use Rattle.lsm_requests.proofs.calls.list.Goals as goal
 

@@ -1,5 +1,5 @@
 use Rattle.std.proofs.Common.{ap}
-use Rattle.lsm_store.specs.Machine.{Machine}
+use Rattle.lsm_machine.specs.Machine.{Machine}
 use Rattle.lsm_shared.proofs.Crashes.{free_leaves, ended_leaves, run_of}
 use Rattle.lsm_shared.proofs.law.trail_tells_what_a_crash_leaves.Goals as goal
 

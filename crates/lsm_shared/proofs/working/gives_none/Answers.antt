@@ -1,6 +1,6 @@
 use Rattle.std.proofs.Common.{Some, ◌∙◌}
 use Rattle.lsm_store.specs.Backing.{machine_of}
-use Rattle.lsm_store.specs.Work.{Take}
+use Rattle.lsm_machine.specs.Work.{Take}
 use Rattle.lsm_shared.proofs.Giving.{stat_tells, stopped_gives, told_by}
 use Rattle.lsm_shared.proofs.working.gives_none.Goals as goal
 

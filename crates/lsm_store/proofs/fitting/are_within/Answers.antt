@@ -1,5 +1,5 @@
 use Rattle.std.proofs.Common.{◌++◌, ◌-◌, length, arith}
-use Rattle.lsm_store.proofs.WithinInputs.{told_by_ends}
+use Rattle.lsm_machine.proofs.WithinInputs.{told_by_ends}
 use Rattle.lsm_store.proofs.fitting.are_within.Goals as goal
 
 pub returns-in-len1 : goal.returns-in-len1

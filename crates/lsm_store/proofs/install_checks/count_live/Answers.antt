@@ -1,7 +1,7 @@
 use Rattle.std.proofs.Common.{List, length, ap, arith}
 use Rattle.lsm_levels.specs.Levels.{all_tables}
 use Rattle.lsm_levels.specs.Tables.{Table}
-use Rattle.lsm_store.proofs.InstallRefusals.{places_counted}
+use Rattle.lsm_machine.proofs.InstallRefusals.{places_counted}
 use Rattle.lsm_store.proofs.install_checks.count_live.Goals as goal
 
 pub count_tables-requires : goal.count_tables-requires

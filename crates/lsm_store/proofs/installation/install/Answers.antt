@@ -5,20 +5,20 @@ use Rattle.lsm_device.specs.declared.refusal.Refusal.TheVariants.{NoMemory, BadT
 use Rattle.lsm_jobs.specs.Slots.{slot_of}
 use Rattle.lsm_store.specs.declared.memory.Memory.{Memory}
 use Rattle.lsm_store.specs.Backing.{machine_of}
-use Rattle.lsm_store.specs.Calls.{Done, Refused, reply_of}
+use Rattle.lsm_machine.specs.Calls.{Done, Refused, reply_of}
 use Rattle.lsm_levels.specs.Pick.{is_flush}
 use Rattle.lsm_open.specs.Layout.{Layout, layout_of}
 use Rattle.lsm_store.specs.InstalledJobs.{layout_after}
 use Rattle.lsm_store.specs.InstalledMemory.{next_layout, after_install_fault}
 use Rattle.lsm_store.specs.Memory.{AreConsistent, IsInside, LieWithin, state_of, work_of, view_of}
-use Rattle.lsm_store.specs.Work.{Install}
-use Rattle.lsm_store.specs.WorkRefusals.{work_refusal}
-use Rattle.lsm_store.specs.WorkReplies.{IsUnfit}
+use Rattle.lsm_machine.specs.Work.{Install}
+use Rattle.lsm_machine.specs.WorkRefusals.{work_refusal}
+use Rattle.lsm_machine.specs.WorkReplies.{IsUnfit}
 use Rattle.lsm_store.specs.Working.{Works}
-use Rattle.lsm_store.specs.Machine.{Machine}
+use Rattle.lsm_machine.specs.Machine.{Machine}
 use Rattle.lsm_store.proofs.InstallRoots.{unrefused_install, written_held, not_installed, installing_root, install_works, install_fault_works}
 use Rattle.lsm_store.proofs.InstalledMemory.{next_generation, next_lies, to_kept, to_inside, install_fault_kept, install_fault_inside}
-use Rattle.lsm_store.proofs.Unrefused.{err_of}
+use Rattle.lsm_machine.proofs.Unrefused.{err_of}
 use Rattle.lsm_store.proofs.Works.{works_refused}
 use Rattle.lsm_store.proofs.installation.install.Goals as goal
 

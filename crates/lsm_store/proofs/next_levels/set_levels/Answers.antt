@@ -1,6 +1,6 @@
 use Rattle.std.proofs.Common.{◌≡◌, List, get_or, sym, ◌∙◌, subst}
 use Rattle.lsm_levels.specs.Tables.{Table}
-use Rattle.lsm_store.proofs.SharedLevels.{level_set}
+use Rattle.lsm_machine.proofs.SharedLevels.{level_set}
 use Rattle.lsm_store.proofs.next_levels.set_levels.Goals as goal
 
 pub loop-below-preserved : goal.loop-below-preserved

@@ -1,5 +1,5 @@
 use Rattle.std.proofs.Common.{sym, ◌∙◌, ap}
-use Rattle.lsm_store.proofs.NextPieces.{work_of_turn, turn_told}
+use Rattle.lsm_machine.proofs.NextPieces.{work_of_turn, turn_told}
 use Rattle.lsm_store.proofs.pieces.piece_of.Goals as goal
 
 pub returns-in-Read : goal.returns-in-Read

@@ -13,9 +13,9 @@ use Rattle.lsm_store.specs.Guarding.{AsksGuards, AnswersGuards, MayEndGuards}
 use Rattle.lsm_codec.specs.Guards.{Condition}
 use Rattle.lsm_store.specs.Memory.{work_of}
 use Rattle.lsm_store.specs.Reading.{ReadsThrough}
-use Rattle.lsm_store.specs.Work.{versions_in}
+use Rattle.lsm_machine.specs.Work.{versions_in}
 use Rattle.lsm_store.proofs.GuardReads.{readable_on, first_rest, then_reads, may_end_later, answers_false, answers_later, asks_later}
-use Rattle.lsm_store.proofs.Unrefused.{err_of}
+use Rattle.lsm_machine.proofs.Unrefused.{err_of}
 use Rattle.lsm_store.proofs.reading.+ask_guards.Goals as goal
 
 pub returns-then-not-branch-clause-refused : goal.returns-then-not-branch-clause-refused

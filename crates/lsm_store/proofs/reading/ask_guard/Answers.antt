@@ -15,7 +15,7 @@ use Rattle.lsm_mem.specs.Versions.{map_of}
 use Rattle.lsm_open.specs.Tables.{first_data}
 use Rattle.lsm_levels.proofs.NamedBlocks.{named_law}
 use Rattle.lsm_store.specs.Reading.{ReadsThrough}
-use Rattle.lsm_store.proofs.ReadViews.{Parts, same_parts}
+use Rattle.lsm_machine.proofs.ReadViews.{Parts, same_parts}
 use Rattle.lsm_store.proofs.reading.ask_guard.Goals as goal
 
 pub meets_guard-requires : goal.meets_guard-requires

@@ -18,7 +18,7 @@ use Rattle.lsm_mem.specs.Versions.{map_of}
 use Rattle.lsm_open.specs.Tables.{first_data}
 use Rattle.lsm_levels.proofs.NamedBlocks.{named_law}
 use Rattle.lsm_store.specs.Reading.{ReadsThrough}
-use Rattle.lsm_store.proofs.ReadViews.{Parts, same_parts, same_faults}
+use Rattle.lsm_machine.proofs.ReadViews.{Parts, same_parts, same_faults}
 use Rattle.lsm_store.proofs.reading.page.Goals as goal
 
 pub scan-requires : goal.scan-requires

@@ -6,15 +6,15 @@ use Rattle.lsm_open.specs.Layout.{layout_of}
 use Rattle.lsm_open.specs.Switching.{IsRotated}
 use Rattle.lsm_store.specs.declared.memory.Memory.{Memory}
 use Rattle.lsm_store.specs.declared.memory.Status.TheVariants.{Stopped}
-use Rattle.lsm_store.specs.Calls.{Rotate, Done, Refused, reply_of}
-use Rattle.lsm_store.specs.Effects.{after}
+use Rattle.lsm_machine.specs.Calls.{Rotate, Done, Refused, reply_of}
+use Rattle.lsm_machine.specs.Effects.{after}
 use Rattle.lsm_store.specs.Memory.{AreConsistent, IsInside, LieWithin, numbered_layout, view_of}
-use Rattle.lsm_store.specs.Refusals.{refusal}
-use Rattle.lsm_store.specs.Run.{stopped_in}
+use Rattle.lsm_machine.specs.Refusals.{refusal}
+use Rattle.lsm_machine.specs.Run.{stopped_in}
 use Rattle.lsm_store.specs.Serving.{Serves}
 use Rattle.lsm_store.proofs.Refusing.{serves_refused, serves_no_memory}
 use Rattle.lsm_store.proofs.RotatedMemory.{next_within, next_inside, installing_next, installed_next, rotation_kept, rotation_serves, fault_kept, fault_serves}
-use Rattle.lsm_store.proofs.Unrefused.{err_of}
+use Rattle.lsm_machine.proofs.Unrefused.{err_of}
 use Rattle.lsm_store.proofs.rotation.rotate.Goals as goal
 
 pub returns-in_err-check_rotate-clause-serves : goal.returns-in_err-check_rotate-clause-serves

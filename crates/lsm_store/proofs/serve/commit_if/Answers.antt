@@ -5,13 +5,13 @@ use Rattle.lsm_device.proofs.Counting.{AtMost-joined}
 use Rattle.lsm_levels.specs.Asking.{Source}
 use Rattle.lsm_levels.specs.Levels.{places}
 use Rattle.lsm_open.specs.Tables.{first_data}
-use Rattle.lsm_store.specs.Calls.{CommitIf, Number, Refused, reply_of}
+use Rattle.lsm_machine.specs.Calls.{CommitIf, Number, Refused, reply_of}
 use Rattle.lsm_store.specs.Memory.{state_of, view_of, work_of}
-use Rattle.lsm_store.specs.RecoveryPoints.{present_map}
-use Rattle.lsm_store.specs.Refusals.{refusal, first_refusal, guard_refusals}
+use Rattle.lsm_machine.specs.RecoveryPoints.{present_map}
+use Rattle.lsm_machine.specs.Refusals.{refusal, first_refusal, guard_refusals}
 use Rattle.lsm_store.specs.Serving.{Serves, reply_in}
 use Rattle.lsm_store.proofs.Guarding.{asked_none, asked_some, told_early, told_asked, present_answers, then_committed, few_guards, asks_end, asks_commit}
-use Rattle.lsm_store.proofs.Unrefused.{err_of}
+use Rattle.lsm_machine.proofs.Unrefused.{err_of}
 use Rattle.lsm_store.proofs.serve.commit_if.Goals as goal
 
 pub returns-in_err-check_commit_if-clause-serves : goal.returns-in_err-check_commit_if-clause-serves

@@ -1,4 +1,5 @@
-use Rattle.lsm_store.proofs.Accounts.{accounts_law, accounted_law}
+use Rattle.lsm_store.proofs.Accounted.{accounted_law}
+use Rattle.lsm_machine.proofs.Accounts.{accounts_law}
 use Rattle.lsm_store.proofs.work_law.extents_stay_accounted_for.Goals as goal
 
 pub returns-clause-placed : goal.returns-clause-placed

@@ -1,6 +1,6 @@
 use Rattle.lsm_store.proofs.Cuts.{cuts_law}
-use Rattle.lsm_store.proofs.AnsweredWork.{jobs_law}
-use Rattle.lsm_store.proofs.PlacedImages.{placing_law, placed_versions_law}
+use Rattle.lsm_machine.proofs.AnsweredWork.{jobs_law}
+use Rattle.lsm_machine.proofs.PlacedImages.{placing_law, placed_versions_law}
 use Rattle.lsm_store.proofs.work_law.slots_answer_the_work.Goals as goal
 
 pub returns-clause-placing : goal.returns-clause-placing

@@ -1,4 +1,4 @@
-use Rattle.lsm_store.proofs.TableLimits.{few_law}
+use Rattle.lsm_store.proofs.FewTables.{few_law}
 use Rattle.lsm_store.proofs.work_law.tables_stay_few.Goals as goal
 
 pub returns : goal.returns

@@ -2,12 +2,12 @@ use Rattle.std.proofs.Common.{Some, sym, ◌∙◌, ap, subst}
 use Rattle.std.specs.Prelude.{Result}
 use Rattle.lsm_device.specs.declared.refusal.Refusal.{Refusal}
 use Rattle.lsm_store.specs.Backing.{machine_of}
-use Rattle.lsm_store.specs.Calls.{Done, Refused, reply_of}
+use Rattle.lsm_machine.specs.Calls.{Done, Refused, reply_of}
 use Rattle.lsm_store.specs.Memory.{view_of}
-use Rattle.lsm_store.specs.Work.{Accept}
+use Rattle.lsm_machine.specs.Work.{Accept}
 use Rattle.lsm_store.specs.Working.{Works}
 use Rattle.lsm_store.proofs.AcceptedResults.{accept_unchanged, accept_done}
-use Rattle.lsm_store.proofs.Unrefused.{err_of}
+use Rattle.lsm_machine.proofs.Unrefused.{err_of}
 use Rattle.lsm_store.proofs.WorkingMemory.{accepted_kept, unaccepted_kept}
 use Rattle.lsm_store.proofs.Works.{moved_on, stopped_refuses, runs_then, works_refused}
 use Rattle.lsm_extent.specs.Area.{Area}

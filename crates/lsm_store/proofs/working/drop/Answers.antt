@@ -2,11 +2,11 @@ use Rattle.std.proofs.Common.{Some, sym, ◌∙◌, ap, subst}
 use Rattle.std.specs.Prelude.{Result}
 use Rattle.lsm_device.specs.declared.refusal.Refusal.{Refusal}
 use Rattle.lsm_store.specs.Backing.{machine_of}
-use Rattle.lsm_store.specs.Calls.{Done, reply_of}
+use Rattle.lsm_machine.specs.Calls.{Done, reply_of}
 use Rattle.lsm_store.specs.Memory.{view_of}
-use Rattle.lsm_store.specs.Work.{Drop}
+use Rattle.lsm_machine.specs.Work.{Drop}
 use Rattle.lsm_store.specs.Working.{Works}
-use Rattle.lsm_store.proofs.Unrefused.{err_of}
+use Rattle.lsm_machine.proofs.Unrefused.{err_of}
 use Rattle.lsm_store.proofs.WorkAnswers.{drop_works}
 use Rattle.lsm_store.proofs.WorkingMemory.{outputs_held, dropped_kept, dropped_blocks}
 use Rattle.lsm_store.proofs.Works.{stopped_refuses, runs_then, works_refused}

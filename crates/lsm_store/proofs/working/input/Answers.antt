@@ -6,10 +6,10 @@ use Rattle.lsm_device.specs.declared.refusal.Refusal.{Refusal}
 use Rattle.lsm_merge.specs.Inputs.{MergeInput}
 use Rattle.lsm_store.specs.Backing.{machine_of}
 use Rattle.lsm_store.specs.Memory.{view_of}
-use Rattle.lsm_store.specs.Work.{Ask}
+use Rattle.lsm_machine.specs.Work.{Ask}
 use Rattle.lsm_store.specs.Working.{Works}
-use Rattle.lsm_store.specs.Calls.{Handed, reply_of}
-use Rattle.lsm_store.proofs.Unrefused.{err_of}
+use Rattle.lsm_machine.specs.Calls.{Handed, reply_of}
+use Rattle.lsm_machine.proofs.Unrefused.{err_of}
 use Rattle.lsm_store.proofs.WorkAnswers.{input_works}
 use Rattle.lsm_store.proofs.Works.{stopped_refuses, runs_then, works_refused}
 use Rattle.lsm_store.proofs.working.input.Goals as goal

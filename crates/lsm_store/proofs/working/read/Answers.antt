@@ -3,11 +3,11 @@ use Rattle.std.specs.Prelude.{Result}
 use Rattle.lsm_device.specs.declared.refusal.Refusal.{Refusal}
 use Rattle.lsm_jobs.specs.Reading.{JobCanBeRead}
 use Rattle.lsm_store.specs.Backing.{machine_of}
-use Rattle.lsm_store.specs.Calls.{Number, reply_of}
+use Rattle.lsm_machine.specs.Calls.{Number, reply_of}
 use Rattle.lsm_store.specs.Memory.{view_of}
-use Rattle.lsm_store.specs.Work.{Read}
+use Rattle.lsm_machine.specs.Work.{Read}
 use Rattle.lsm_store.specs.Working.{Works}
-use Rattle.lsm_store.proofs.Unrefused.{err_of}
+use Rattle.lsm_machine.proofs.Unrefused.{err_of}
 use Rattle.lsm_store.proofs.WorkingMemory.{can_be_read, read_kept}
 use Rattle.lsm_store.proofs.WorkedReads.{read_works}
 use Rattle.lsm_store.proofs.Works.{stopped_refuses, runs_then, works_refused}

@@ -9,13 +9,13 @@ use Rattle.lsm_jobs.specs.Refusing.{RefusesWrite}
 use Rattle.lsm_jobs.specs.Slots.{JobSlots, slot_of, outputs_of}
 use Rattle.lsm_jobs.specs.Writing.{WritesBlocks, next_of}
 use Rattle.lsm_store.specs.Backing.{machine_of}
-use Rattle.lsm_store.specs.Calls.{Number, Refused, reply_of}
+use Rattle.lsm_machine.specs.Calls.{Number, Refused, reply_of}
 use Rattle.lsm_store.specs.Memory.{AreConsistent, view_of}
-use Rattle.lsm_store.specs.Work.{Write}
+use Rattle.lsm_machine.specs.Work.{Write}
 use Rattle.lsm_store.specs.Working.{Works}
 use Rattle.lsm_store.specs.declared.memory.Memory.{Memory}
 use Rattle.lsm_store.proofs.States.{stopped_kept}
-use Rattle.lsm_store.proofs.Unrefused.{err_of}
+use Rattle.lsm_machine.proofs.Unrefused.{err_of}
 use Rattle.lsm_store.proofs.WrittenMemory.{outputs_within, stopped_same, written_kept}
 use Rattle.lsm_store.proofs.WrittenWorks.{step_at, write_done, write_io, write_refused}
 use Rattle.lsm_store.proofs.Works.{stopped_refuses, runs_then, works_refused}

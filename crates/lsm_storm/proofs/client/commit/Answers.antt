@@ -1,6 +1,6 @@
 use Rattle.std.proofs.Common.{refl}
 use Rattle.lsm_lives.specs.Calls.{call_of, told_of}
-use Rattle.lsm_store.specs.Calls.{Commit}
+use Rattle.lsm_machine.specs.Calls.{Commit}
 use Rattle.lsm_storm.proofs.Crewing.{stays}
 use Rattle.lsm_storm.proofs.client.commit.Goals as goal
 

@@ -1,5 +1,5 @@
 use Rattle.lsm_lives.specs.Calls.{told_of}
-use Rattle.lsm_store.specs.Calls.{Rotate}
+use Rattle.lsm_machine.specs.Calls.{Rotate}
 use Rattle.lsm_storm.proofs.Crewing.{stays}
 use Rattle.lsm_storm.proofs.client.rotate_in_the_middle.Goals as goal
 

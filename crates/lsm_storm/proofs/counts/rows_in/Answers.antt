@@ -1,5 +1,5 @@
 use Rattle.std.proofs.Common.{◌∙◌}
-use Rattle.lsm_store.specs.RecoveryPoints.{present_map}
+use Rattle.lsm_machine.specs.RecoveryPoints.{present_map}
 use Rattle.lsm_storm.proofs.Pages.{all_rows}
 use Rattle.lsm_storm.proofs.counts.rows_in.Goals as goal
 

@@ -1,4 +1,4 @@
-use Rattle.lsm_store.specs.Calls.{Done, reply_of}
+use Rattle.lsm_machine.specs.Calls.{Done, reply_of}
 use Rattle.lsm_upkeep.proofs.FlushingLaws.{begins, begins-not, begins-upkept}
 use Rattle.lsm_upkeep.proofs.admitting.next_log.Goals as goal
 

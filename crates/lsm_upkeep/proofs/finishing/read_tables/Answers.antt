@@ -1,5 +1,5 @@
 use Rattle.std.proofs.lemmas.Result.{err_from_is_err_and}
-use Rattle.lsm_store.specs.Work.{Read}
+use Rattle.lsm_machine.specs.Work.{Read}
 use Rattle.lsm_upkeep.proofs.FinishingLaws.{left-first, left-again, held_up-first, held_up-later, held_up-no_fewer, none-left, refused-holds}
 use Rattle.lsm_upkeep.proofs.finishing.read_tables.Goals as goal
 

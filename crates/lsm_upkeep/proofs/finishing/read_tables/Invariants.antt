@@ -1,4 +1,4 @@
-use Rattle.lsm_store.specs.Work.{Read}
+use Rattle.lsm_machine.specs.Work.{Read}
 use Rattle.lsm_upkeep.specs.Finishing.{HasLeft}
 use Rattle.lsm_upkeep.proofs.finishing.read_tables.Given as goal
 

@@ -1,4 +1,4 @@
-use Rattle.lsm_store.specs.Work.{Write}
+use Rattle.lsm_machine.specs.Work.{Write}
 use Rattle.lsm_upkeep.specs.Finishing.{HasLeft}
 use Rattle.lsm_upkeep.proofs.finishing.write.Given as goal
 

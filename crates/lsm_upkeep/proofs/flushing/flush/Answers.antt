@@ -1,5 +1,5 @@
 use Rattle.std.proofs.Common.{refl, arith}
-use Rattle.lsm_store.specs.State.{are_waiting}
+use Rattle.lsm_machine.specs.State.{are_waiting}
 use Rattle.lsm_upkeep.proofs.FlushingLaws.{idle-not_waiting, idle-not_true, tries-before, tries-upkept}
 use Rattle.lsm_upkeep.proofs.Upkept.{stays, then}
 use Rattle.lsm_upkeep.proofs.flushing.flush.Goals as goal

@@ -1,4 +1,4 @@
-use Rattle.lsm_store.specs.Work.{Drop}
+use Rattle.lsm_machine.specs.Work.{Drop}
 use Rattle.lsm_upkeep.proofs.Upkept.{works}
 use Rattle.lsm_upkeep.proofs.piecework.end_of.Goals as goal
 

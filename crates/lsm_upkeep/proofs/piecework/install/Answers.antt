@@ -1,4 +1,4 @@
-use Rattle.lsm_store.specs.Work.{Install}
+use Rattle.lsm_machine.specs.Work.{Install}
 use Rattle.lsm_upkeep.proofs.Upkept.{then, works}
 use Rattle.lsm_upkeep.proofs.piecework.install.Goals as goal
 

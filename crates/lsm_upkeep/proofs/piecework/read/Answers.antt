@@ -1,4 +1,4 @@
-use Rattle.lsm_store.specs.Work.{Read}
+use Rattle.lsm_machine.specs.Work.{Read}
 use Rattle.lsm_upkeep.proofs.Upkept.{then, works}
 use Rattle.lsm_upkeep.proofs.piecework.read.Goals as goal
 

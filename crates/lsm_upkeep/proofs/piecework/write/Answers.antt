@@ -1,4 +1,4 @@
-use Rattle.lsm_store.specs.Work.{Write}
+use Rattle.lsm_machine.specs.Work.{Write}
 use Rattle.lsm_upkeep.proofs.Upkept.{then, works}
 use Rattle.lsm_upkeep.proofs.piecework.write.Goals as goal
 

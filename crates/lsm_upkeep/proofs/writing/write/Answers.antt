@@ -1,5 +1,5 @@
 use Rattle.std.specs.Prelude.{option_map}
-use Rattle.lsm_store.specs.Calls.{Number, reply_of}
+use Rattle.lsm_machine.specs.Calls.{Number, reply_of}
 use Rattle.lsm_upkeep.proofs.WritingLaws.{writes-refused, writes-served}
 use Rattle.lsm_upkeep.proofs.writing.write.Goals as goal
 

@@ -2,9 +2,9 @@ use Rattle.std.proofs.Common.{ℕ, true, ap, List, length, replicate, refl, subs
 use Rattle.lsm_device.specs.Medium.{disk}
 use Rattle.lsm_device.specs.Memory.{medium_in}
 use Rattle.lsm_device.proofs.Outcomes.{seen_outcome}
-use Rattle.lsm_open.specs.CrashState.{formatted}
+use Rattle.lsm_machine.specs.CrashState.{formatted}
 use Rattle.lsm_open.specs.Image.{StandFor}
-use Rattle.lsm_store.specs.State.{State}
+use Rattle.lsm_machine.specs.State.{State}
 use Rattle.shared_example.proofs.sharing.new_store.Goals as goal
 
 pub returns-in-Ok-open : goal.returns-in-Ok-open

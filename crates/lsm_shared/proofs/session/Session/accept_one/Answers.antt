@@ -1,8 +1,8 @@
 use Rattle.std.proofs.Common.{Some, ap, sym, ◌∙◌, subst}
 use Rattle.lsm_store.specs.Backing.{machine_of}
-use Rattle.lsm_store.specs.Calls.{Reply}
-use Rattle.lsm_store.specs.Machine.{Worked}
-use Rattle.lsm_store.specs.Work.{Accept}
+use Rattle.lsm_machine.specs.Calls.{Reply}
+use Rattle.lsm_machine.specs.Machine.{Worked}
+use Rattle.lsm_machine.specs.Work.{Accept}
 use Rattle.lsm_store.specs.Working.{Works}
 use Rattle.lsm_trail.specs.Knowledge.{Known}
 use Rattle.lsm_shared.proofs.Giving.{accept_gives, work_gives}

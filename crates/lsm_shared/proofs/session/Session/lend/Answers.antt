@@ -1,9 +1,9 @@
 use Rattle.std.proofs.Common.{[], refl, ap, sym, ◌∙◌}
 use Rattle.lsm_merge.specs.Inputs.{MergeInput}
 use Rattle.lsm_store.specs.Backing.{machine_of}
-use Rattle.lsm_store.specs.Machine.{Worked}
+use Rattle.lsm_machine.specs.Machine.{Worked}
 use Rattle.lsm_trail.specs.History.{lent_to}
-use Rattle.lsm_store.specs.Work.{Ask}
+use Rattle.lsm_machine.specs.Work.{Ask}
 use Rattle.lsm_trail.specs.Knowledge.{Known}
 use Rattle.lsm_shared.proofs.Holds.{place_left, none_left, session_entered, entered_one}
 use Rattle.lsm_shared.proofs.Turning.{lent_at, put_back_at}

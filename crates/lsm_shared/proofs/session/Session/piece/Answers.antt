@@ -1,5 +1,5 @@
 use Rattle.std.proofs.Common.{ap, sym, ◌∙◌}
-use Rattle.lsm_store.specs.Pieces.{places_from}
+use Rattle.lsm_machine.specs.Pieces.{places_from}
 use Rattle.lsm_trail.specs.Knowledge.{Known}
 use Rattle.lsm_shared.proofs.Turning.{turn_begun}
 use Rattle.lsm_shared.proofs.session.Session.piece.Goals as goal

@@ -1,7 +1,7 @@
 use Rattle.std.proofs.Common.{refl, ap, sym, ◌∙◌}
 use Rattle.lsm_lives.specs.declared.calls.Reply.TheVariants as reply
-use Rattle.lsm_store.specs.Machine.{Worked}
-use Rattle.lsm_store.specs.Work.{Ask}
+use Rattle.lsm_machine.specs.Machine.{Worked}
+use Rattle.lsm_machine.specs.Work.{Ask}
 use Rattle.lsm_trail.specs.History.{Event}
 use Rattle.lsm_trail.specs.Knowledge.{Known}
 use Rattle.lsm_shared.proofs.Holds.{place_left, none_left, may_follow, session_entered, entered_one, entered_step}

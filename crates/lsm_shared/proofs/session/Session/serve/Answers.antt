@@ -1,5 +1,5 @@
 use Rattle.std.proofs.Common.{ap, sym, ◌∙◌}
-use Rattle.lsm_store.specs.Machine.{Called}
+use Rattle.lsm_machine.specs.Machine.{Called}
 use Rattle.lsm_trail.specs.Knowledge.{Known}
 use Rattle.lsm_lives.specs.Calls.{call_of, reply_of}
 use Rattle.lsm_shared.proofs.Holds.{session_kept, refused_with, short_was, place_left, may_follow, keeps_base, session_entered, lost_in, made_in, number_in, entered_one, knows_then, called_step}

@@ -1,8 +1,8 @@
 use Rattle.std.proofs.Common.{◌≡◌, Some, None, ◌∙◌, refl, subst}
 use Rattle.lsm_store.specs.Backing.{machine_of}
-use Rattle.lsm_store.specs.Calls.{Given}
-use Rattle.lsm_store.specs.Work.{Take}
-use Rattle.lsm_store.specs.WorkReplies.{work_decided}
+use Rattle.lsm_machine.specs.Calls.{Given}
+use Rattle.lsm_machine.specs.Work.{Take}
+use Rattle.lsm_machine.specs.WorkReplies.{work_decided}
 use Rattle.lsm_shared.specs.Sessions.{SessionView}
 use Rattle.lsm_shared.specs.Turns.{Gives}
 use Rattle.lsm_shared.proofs.Choosing.{only_seen, piece_put_back, piece_made}

@@ -1,6 +1,6 @@
 use Rattle.std.proofs.Common.{Some, ◌∙◌, refl, subst}
 use Rattle.lsm_store.specs.Backing.{machine_of}
-use Rattle.lsm_store.specs.Work.{Take}
+use Rattle.lsm_machine.specs.Work.{Take}
 use Rattle.lsm_shared.specs.Sessions.{SessionView}
 use Rattle.lsm_shared.specs.Turns.{Gives, MayChoose}
 use Rattle.lsm_shared.proofs.Choosing.{only_seen, piece_put_back, piece_made}

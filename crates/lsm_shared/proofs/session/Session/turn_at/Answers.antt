@@ -1,8 +1,8 @@
 use Rattle.std.proofs.Common.{Some, None, ap, sym, ◌∙◌, subst}
 use Rattle.lsm_store.specs.Backing.{machine_of}
-use Rattle.lsm_store.specs.Pieces.{work_of_piece}
-use Rattle.lsm_store.specs.Work.{Take, Read, Write}
-use Rattle.lsm_store.specs.declared.pieces.Piece.{Piece}
+use Rattle.lsm_machine.specs.Pieces.{work_of_piece}
+use Rattle.lsm_machine.specs.Work.{Take, Read, Write}
+use Rattle.lsm_machine.specs.declared.piece.Piece.{Piece}
 use Rattle.lsm_shared.specs.Sessions.{SessionView}
 use Rattle.lsm_shared.specs.Turns.{Gives}
 use Rattle.lsm_shared.proofs.Giving.{next_gives, read_gives, write_gives}

@@ -1,5 +1,5 @@
 use Rattle.std.proofs.Common.{ap, sym, ◌∙◌, subst}
-use Rattle.lsm_store.specs.Machine.{Worked}
+use Rattle.lsm_machine.specs.Machine.{Worked}
 use Rattle.lsm_lives.specs.Asked.{Asked, Told}
 use Rattle.lsm_trail.specs.Entries.{MayBeEntered}
 use Rattle.lsm_trail.specs.History.{Event}

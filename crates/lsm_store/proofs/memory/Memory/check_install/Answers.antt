@@ -6,10 +6,10 @@ use Rattle.lsm_jobs.specs.Refusing.{IsNotWritten}
 use Rattle.lsm_jobs.specs.Slots.{slot_of}
 use Rattle.lsm_levels.specs.Tables.{Table}
 use Rattle.lsm_store.specs.Memory.{state_of, work_of}
-use Rattle.lsm_store.specs.Work.{Install}
-use Rattle.lsm_store.specs.WorkRefusals.{work_refusal}
+use Rattle.lsm_machine.specs.Work.{Install}
+use Rattle.lsm_machine.specs.WorkRefusals.{work_refusal}
 use Rattle.lsm_store.proofs.InstallTests.{told_slot, live_few, live_most, live_taken, tells_not_written, tells_many_runs, tells_many_tables, tells_exhausted, tells_none}
-use Rattle.lsm_store.proofs.Unrefused.{err_of}
+use Rattle.lsm_machine.proofs.Unrefused.{err_of}
 use Rattle.lsm_store.proofs.memory.Memory.check_install.Goals as goal
 
 pub returns-in_err-written : goal.returns-in_err-written

@@ -1,5 +1,5 @@
 use Rattle.std.proofs.Common.{[], List, map, ◌∙◌, ap}
-use Rattle.lsm_store.specs.Work.{each_once}
+use Rattle.lsm_machine.specs.Work.{each_once}
 use Rattle.lsm_store.specs.declared.snapshots.Mark.{Mark}
 use Rattle.lsm_store.specs.LiveMarks.{marks}
 use Rattle.lsm_store.proofs.WorkingMemory.{cuts_counted}

@@ -1,5 +1,5 @@
-use Rattle.lsm_store.specs.Calls.{Sync}
-use Rattle.lsm_store.specs.Effects.{after}
+use Rattle.lsm_machine.specs.Calls.{Sync}
+use Rattle.lsm_machine.specs.Effects.{after}
 use Rattle.lsm_store.proofs.memory.Memory.mark_synced.Given as goal
 
 abbrev pub ghost-then : goal.ghost-then

@@ -1,6 +1,6 @@
 use Rattle.std.proofs.Common.{◌∙◌, ap}
 use Rattle.lsm_store.specs.Memory.{is_stopped, state_of, work_of}
-use Rattle.lsm_store.proofs.NextPieces.{told_beyond, told_stopped, told_running}
+use Rattle.lsm_machine.proofs.NextPieces.{told_beyond, told_stopped, told_running}
 use Rattle.lsm_store.proofs.memory.Memory.piece_at.Goals as goal
 
 pub returns-then-place-ge-SLOT_COUNT : goal.returns-then-place-ge-SLOT_COUNT

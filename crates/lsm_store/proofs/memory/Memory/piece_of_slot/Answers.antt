@@ -1,6 +1,6 @@
 use Rattle.std.proofs.Common.{None, slice_index_or}
 use Rattle.lsm_store.specs.Memory.{state_of, work_of}
-use Rattle.lsm_store.proofs.NextPieces.{held_told, free_told}
+use Rattle.lsm_machine.proofs.NextPieces.{held_told, free_told}
 use Rattle.lsm_store.proofs.memory.Memory.piece_of_slot.Goals as goal
 
 pub returns-in-Some : goal.returns-in-Some

@@ -1,5 +1,5 @@
-use Rattle.lsm_store.specs.Calls.{Rotate}
-use Rattle.lsm_store.specs.Effects.{after}
+use Rattle.lsm_machine.specs.Calls.{Rotate}
+use Rattle.lsm_machine.specs.Effects.{after}
 use Rattle.lsm_store.proofs.memory.Memory.rotate_to.Given as goal
 
 abbrev pub ghost-then : goal.ghost-then

@@ -6,7 +6,7 @@ use Rattle.lsm_store.specs.declared.stat.Stat.{Stat}
 use Rattle.lsm_store.specs.Memory.{state_of, work_of}
 use Rattle.lsm_store.specs.Stats.{stat_answer}
 use Rattle.lsm_store.proofs.InstallTests.{live_few}
-use Rattle.lsm_store.proofs.Unrefused.{err_of}
+use Rattle.lsm_machine.proofs.Unrefused.{err_of}
 use Rattle.lsm_store.proofs.Stats.{told_stat, told_stopped}
 use Rattle.lsm_store.proofs.memory.Memory.stat.Goals as goal
 

@@ -1,5 +1,5 @@
-use Rattle.lsm_store.specs.Calls.{Commit}
-use Rattle.lsm_store.specs.Run.{stopped_in}
+use Rattle.lsm_machine.specs.Calls.{Commit}
+use Rattle.lsm_machine.specs.Run.{stopped_in}
 use Rattle.lsm_store.proofs.memory.Memory.stop_in_commit.Given as goal
 
 abbrev pub ghost-then_by_batch : goal.ghost-then_by_batch

@@ -1,5 +1,5 @@
-use Rattle.lsm_store.specs.Calls.{Rotate}
-use Rattle.lsm_store.specs.Run.{stopped_in}
+use Rattle.lsm_machine.specs.Calls.{Rotate}
+use Rattle.lsm_machine.specs.Run.{stopped_in}
 use Rattle.lsm_store.proofs.memory.Memory.stop_in_rotation.Given as goal
 
 abbrev pub ghost-then : goal.ghost-then

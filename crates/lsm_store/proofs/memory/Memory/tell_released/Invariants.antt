@@ -1,5 +1,5 @@
-use Rattle.lsm_store.specs.Calls.{Release}
-use Rattle.lsm_store.specs.Effects.{after}
+use Rattle.lsm_machine.specs.Calls.{Release}
+use Rattle.lsm_machine.specs.Effects.{after}
 use Rattle.lsm_store.proofs.memory.Memory.tell_released.Given as goal
 
 abbrev pub ghost-then_by_number : goal.ghost-then_by_number

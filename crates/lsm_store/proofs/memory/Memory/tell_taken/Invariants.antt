@@ -1,5 +1,5 @@
-use Rattle.lsm_store.specs.Calls.{Snapshot}
-use Rattle.lsm_store.specs.Effects.{after}
+use Rattle.lsm_machine.specs.Calls.{Snapshot}
+use Rattle.lsm_machine.specs.Effects.{after}
 use Rattle.lsm_store.proofs.memory.Memory.tell_taken.Given as goal
 
 abbrev pub ghost-then : goal.ghost-then

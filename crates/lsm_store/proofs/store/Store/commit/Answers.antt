@@ -1,7 +1,7 @@
 use Rattle.std.proofs.Common.{subst}
 use Rattle.lsm_device.specs.Calls.{AtMost}
 use Rattle.lsm_store.specs.Backing.{StoreView}
-use Rattle.lsm_store.specs.Calls.{Commit, Number, reply_of}
+use Rattle.lsm_machine.specs.Calls.{Commit, Number, reply_of}
 use Rattle.lsm_store.specs.Memory.{view_of}
 use Rattle.lsm_store.specs.Serving.{Serves}
 use Rattle.lsm_store.proofs.store.Store.commit.Goals as goal

@@ -2,10 +2,10 @@ use Rattle.std.proofs.Common.{subst}
 use Rattle.std.specs.Prelude.{IsNone}
 use Rattle.lsm_device.specs.Calls.{AtMost}
 use Rattle.lsm_store.specs.Backing.{StoreView}
-use Rattle.lsm_store.specs.Calls.{CommitIf, Number, reply_of}
+use Rattle.lsm_machine.specs.Calls.{CommitIf, Number, reply_of}
 use Rattle.lsm_store.specs.Guarding.{AsksThenCommits}
 use Rattle.lsm_store.specs.Memory.{view_of}
-use Rattle.lsm_store.specs.Refusals.{refusal}
+use Rattle.lsm_machine.specs.Refusals.{refusal}
 use Rattle.lsm_store.specs.Serving.{Serves, reply_in}
 use Rattle.lsm_store.proofs.store.Store.commit_if.Goals as goal
 

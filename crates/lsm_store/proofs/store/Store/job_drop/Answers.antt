@@ -1,8 +1,8 @@
 use Rattle.std.proofs.Common.{subst}
 use Rattle.lsm_store.specs.Backing.{StoreView}
-use Rattle.lsm_store.specs.Calls.{Done, reply_of}
+use Rattle.lsm_machine.specs.Calls.{Done, reply_of}
 use Rattle.lsm_store.specs.Memory.{view_of}
-use Rattle.lsm_store.specs.Work.{Drop}
+use Rattle.lsm_machine.specs.Work.{Drop}
 use Rattle.lsm_store.specs.Working.{Works}
 use Rattle.lsm_store.proofs.store.Store.job_drop.Goals as goal
 

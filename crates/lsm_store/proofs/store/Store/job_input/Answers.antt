@@ -3,9 +3,9 @@ use Rattle.std.specs.Arc.{arc_value}
 use Rattle.std.specs.declared.sync.Arc.{Arc}
 use Rattle.lsm_merge.specs.Inputs.{MergeInput}
 use Rattle.lsm_store.specs.Backing.{StoreView}
-use Rattle.lsm_store.specs.Work.{Ask}
+use Rattle.lsm_machine.specs.Work.{Ask}
 use Rattle.lsm_store.specs.Working.{Works}
-use Rattle.lsm_store.specs.Calls.{Handed, reply_of}
+use Rattle.lsm_machine.specs.Calls.{Handed, reply_of}
 use Rattle.lsm_store.proofs.store.Store.job_input.Goals as goal
 
 pub returns : goal.returns

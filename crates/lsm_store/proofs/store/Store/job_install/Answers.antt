@@ -1,9 +1,9 @@
 use Rattle.std.proofs.Common.{◌≡◌, subst}
 use Rattle.std.specs.Prelude.{OnOk}
 use Rattle.lsm_store.specs.Backing.{StoreView}
-use Rattle.lsm_store.specs.Calls.{Done, reply_of}
+use Rattle.lsm_machine.specs.Calls.{Done, reply_of}
 use Rattle.lsm_store.specs.Memory.{view_of}
-use Rattle.lsm_store.specs.Work.{Install}
+use Rattle.lsm_machine.specs.Work.{Install}
 use Rattle.lsm_store.specs.Working.{Works}
 use Rattle.lsm_store.proofs.store.Store.job_install.Goals as goal
 

@@ -1,8 +1,8 @@
 use Rattle.std.proofs.Common.{subst}
 use Rattle.lsm_store.specs.Backing.{StoreView}
-use Rattle.lsm_store.specs.Calls.{Number, reply_of}
+use Rattle.lsm_machine.specs.Calls.{Number, reply_of}
 use Rattle.lsm_store.specs.Memory.{view_of}
-use Rattle.lsm_store.specs.Work.{Read}
+use Rattle.lsm_machine.specs.Work.{Read}
 use Rattle.lsm_store.specs.Working.{Works}
 use Rattle.lsm_store.proofs.store.Store.job_read.Goals as goal
 

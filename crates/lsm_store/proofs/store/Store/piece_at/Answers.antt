@@ -1,6 +1,6 @@
 use Rattle.std.proofs.Common.{◌∙◌, ap}
 use Rattle.lsm_store.specs.Backing.{StoreView, machine_of}
-use Rattle.lsm_store.specs.Pieces.{piece_at}
+use Rattle.lsm_machine.specs.Pieces.{piece_at}
 use Rattle.lsm_store.proofs.store.Store.piece_at.Goals as goal
 
 pub returns : goal.returns

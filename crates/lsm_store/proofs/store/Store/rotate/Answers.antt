@@ -2,9 +2,9 @@ use Rattle.std.proofs.Common.{subst, OnOk}
 use Rattle.lsm_open.specs.Layout.{layout_of}
 use Rattle.lsm_open.specs.Switching.{IsRotated}
 use Rattle.lsm_store.specs.Backing.{StoreView}
-use Rattle.lsm_store.specs.Calls.{Rotate, Done, reply_of}
+use Rattle.lsm_machine.specs.Calls.{Rotate, Done, reply_of}
 use Rattle.lsm_store.specs.Memory.{view_of}
-use Rattle.lsm_store.specs.RecoveryPoints.{batch_count}
+use Rattle.lsm_machine.specs.RecoveryPoints.{batch_count}
 use Rattle.lsm_store.specs.Serving.{Serves}
 use Rattle.lsm_store.proofs.store.Store.rotate.Goals as goal
 

@@ -1,6 +1,6 @@
 use Rattle.std.proofs.Common.{subst}
 use Rattle.lsm_store.specs.Backing.{StoreView}
-use Rattle.lsm_store.specs.Calls.{Sync, Done, reply_of}
+use Rattle.lsm_machine.specs.Calls.{Sync, Done, reply_of}
 use Rattle.lsm_store.specs.Memory.{view_of}
 use Rattle.lsm_store.specs.Serving.{Serves}
 use Rattle.lsm_store.proofs.store.Store.sync.Goals as goal

@@ -1,6 +1,6 @@
 use Rattle.std.proofs.Common.{subst}
 use Rattle.lsm_store.specs.Backing.{StoreView}
-use Rattle.lsm_store.specs.Calls.{SyncTo, Done, reply_of}
+use Rattle.lsm_machine.specs.Calls.{SyncTo, Done, reply_of}
 use Rattle.lsm_store.specs.Memory.{view_of}
 use Rattle.lsm_store.specs.Serving.{Serves}
 use Rattle.lsm_store.proofs.store.Store.sync_to.Goals as goal

@@ -23,7 +23,7 @@ use denote.Triple.Entry.{alive}
 use denote.Triple.Spec.{Meets, triple_of}
 use denote.Triple.Table.{entered}
 use denote.Triple.Walked.{says, Stays, walk_of, ends_at, walk_Meets}
-use Rattle.lsm_store.proofs.Walks.{none, none_made}
+use Rattle.lsm_machine.proofs.Walks.{none, none_made}
 use Rattle.lsm_store.specs.contracts.told.Told as Told
 use Rattle.lsm_store.specs.contracts.told.Told.of as F
 use Rattle.lsm_store.specs.contracts.told.Told.of.Key.{name as #self}

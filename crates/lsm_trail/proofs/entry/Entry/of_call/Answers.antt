@@ -1,7 +1,7 @@
 use Rattle.std.proofs.Common.{sym, subst}
 use Rattle.lsm_lives.specs.Asked.{Told, Own}
 use Rattle.lsm_lives.specs.Calls.{call_of}
-use Rattle.lsm_store.specs.Machine.{Called}
+use Rattle.lsm_machine.specs.Machine.{Called}
 use Rattle.lsm_trail.specs.Entries.{MayBeEntered}
 use Rattle.lsm_trail.proofs.entry.Entry.of_call.Goals as goal
 

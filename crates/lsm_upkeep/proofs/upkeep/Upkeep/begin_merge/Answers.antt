@@ -1,5 +1,5 @@
 use Rattle.std.proofs.Common.{Some}
-use Rattle.lsm_store.specs.Work.{Take}
+use Rattle.lsm_machine.specs.Work.{Take}
 use Rattle.lsm_upkeep.proofs.Upkept.{works}
 use Rattle.lsm_upkeep.proofs.upkeep.Upkeep.begin_merge.Goals as goal
 

@@ -1,7 +1,7 @@
 use Rattle.std.proofs.Common.{ℕ, ◌+◌, ◌<◌, ◌^◌, List, Vec, Global, option_map, inr, refl, arith}
 use Rattle.std.proofs.lemmas.Result.{err_from_is_err_and}
-use Rattle.lsm_store.specs.Calls.{Get, Number, Refused, Value}
-use Rattle.lsm_store.specs.declared.asked.At.TheVariants.{Now}
+use Rattle.lsm_machine.specs.Calls.{Get, Number, Refused, Value}
+use Rattle.lsm_machine.specs.declared.asked.At.TheVariants.{Now}
 use Rattle.work_queue.specs.Committing.{AddsTask, HasCommitted}
 use Rattle.work_queue.specs.Deeds.{Adds}
 use Rattle.work_queue.specs.Tasks.{last_key}

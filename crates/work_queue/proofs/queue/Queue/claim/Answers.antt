@@ -4,8 +4,8 @@ use Rattle.std.proofs.lemmas.Result.{err_from_is_err_and}
 use Rattle.lsm_codec.specs.Guards.{Condition}
 use Rattle.lsm_codec.specs.Map.{Operation}
 use Rattle.lsm_store.specs.Backing.{StoreView}
-use Rattle.lsm_store.specs.Calls.{Number, Refused, Rows, Scan}
-use Rattle.lsm_store.specs.declared.asked.At.TheVariants.{Now}
+use Rattle.lsm_machine.specs.Calls.{Number, Refused, Rows, Scan}
+use Rattle.lsm_machine.specs.declared.asked.At.TheVariants.{Now}
 use Rattle.work_queue.specs.Committing.{Asks, ClaimsOne, HasCommitted, IsFirstOf, map_in}
 use Rattle.work_queue.specs.Deeds.{Claims, batch_of}
 use Rattle.work_queue.specs.Tasks.{waiting_key}

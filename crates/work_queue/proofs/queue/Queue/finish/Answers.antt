@@ -3,8 +3,8 @@ use Rattle.std.specs.FinMap as finite
 use Rattle.std.proofs.lemmas.Result.{err_from_is_err_and}
 use Rattle.lsm_codec.specs.Guards.{Condition}
 use Rattle.lsm_codec.specs.Keys.{Bytes}
-use Rattle.lsm_store.specs.Calls.{Get, Number, Refused, Value}
-use Rattle.lsm_store.specs.declared.asked.At.TheVariants.{Now}
+use Rattle.lsm_machine.specs.Calls.{Get, Number, Refused, Value}
+use Rattle.lsm_machine.specs.declared.asked.At.TheVariants.{Now}
 use Rattle.work_queue.specs.Committing.{HasFinished, map_in}
 use Rattle.work_queue.specs.Deeds.{Deed, Finishes}
 use Rattle.work_queue.specs.Tasks.{claimed_key}
