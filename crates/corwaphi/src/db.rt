@@ -24,9 +24,9 @@ ghost use Rattle.corwaphi.specs.Opening.{OpensDb};
 ghost use Rattle.corwaphi.specs.Upkeep.{CompactsWhole};
 ghost use Rattle.corwaphi.specs.Writing.{WritesOne};
 
-use crate::Options;
 use crate::opening::readied;
 use crate::operating::{delete, put};
+use crate::{OpenOnError, Options};
 use lsm_codec::{Batch, Guard};
 use lsm_device::{Device, Refusal};
 use lsm_policy::Policy;
@@ -73,33 +73,33 @@ impl<D: Device> Db<D> {
     /// Opens the store on a device, also after a crash, with the cache that the options say. A flush that waits is finished, and a log is
     /// opened where none is open, as far as there is room and memory for it: so openings with writes between them go on for ever.
     ///
-    /// It is refused as `Store::open` is, and then hands the device back: with `BadLimit` for a cache outside 1 to 4,096 blocks, with
+    /// It is refused as `Store::open` is, with an error that holds refusal and device: with `BadLimit` for a cache outside 1 to 4,096 blocks, with
     /// `BadGeometry` for a device of another size than its store or outside the limits, with `NoMemory` and `Io`, and with `NotAStore`,
     /// `BadSuper`, `BadManifest`, `BadTable` or `Exhausted` for what the device holds.
-    pub fn on<R: AllocGlobal>(rt: &R, device: D, options: Options) -> Result<Db<D>, (Refusal, D)>
+    pub fn on<R: AllocGlobal>(rt: &R, device: D, options: Options) -> Result<Db<D>, OpenOnError<D>>
         ensures opens { IfOk result (λ db. OpensDb options.cache (D.medium device) db) }
 
         // Where it is refused: with BadLimit for the cache before any device call, and else with what refuses an opening, which is what
         // the device holds, or want of memory, or a fault. Nothing that a crash left is lost then.
-        ensures size { IsTrue (is_cache_size options.cache) → (IsDeviceSize (D.medium device).size → ⊥) → result ≡ Err (Refusal.BadGeometry, device) }
-        ensures cache { is_cache_size options.cache ≡ false → result ≡ Err (Refusal.BadLimit, device) }
-        ensures refused { IsTrue (is_cache_size options.cache) → IfErr result (λ e. IsOpeningRefusal e.0) }
+        ensures size { IsTrue (is_cache_size options.cache) → (IsDeviceSize (D.medium device).size → ⊥) → result ≡ Err (record { refusal = Refusal.BadGeometry; device = device }) }
+        ensures cache { is_cache_size options.cache ≡ false → result ≡ Err (record { refusal = Refusal.BadLimit; device = device }) }
+        ensures refused { IsTrue (is_cache_size options.cache) → IfErr result (λ e. IsOpeningRefusal e.refusal) }
         ensures refusal { IsTrue (is_cache_size options.cache) → IsDeviceSize (D.medium device).size → IsTrue (D.medium device).lasting.tells → MatchResult result
             (λ db. opening_refusal (seen (disk (D.medium device))) ≡ None)
-            (λ e. (opening_refusal (seen (disk (D.medium device))) ≡ Some e.0) ⊎ ((e.0 ≡ Refusal.NoMemory) ⊎ (e.0 ≡ Refusal.Io))) }
+            (λ e. (opening_refusal (seen (disk (D.medium device))) ≡ Some e.refusal) ⊎ ((e.refusal ≡ Refusal.NoMemory) ⊎ (e.refusal ≡ Refusal.Io))) }
         ensures fails { IsTrue (is_cache_size options.cache) → (log_sectors : ℕ) (left : CrashState) → IsTrue (D.medium device).lasting.tells → StandFor log_sectors left (seen (disk (D.medium device)))
-            → IfErr result (λ e. FailsToOpen (D.medium device) log_sectors left e.0 (D.medium e.1)) }
+            → IfErr result (λ e. FailsToOpen (D.medium device) log_sectors left e.refusal (D.medium e.device)) }
 
         // A refusal is Io exactly where a device call faulted. It comes before any device call, or behind a sync as the first one.
-        ensures faults { IfErr result (λ e. (D.medium e.1).calls.faults ≡ faults_after (is_no_fault e.0) (D.medium device).calls.faults) }
+        ensures faults { IfErr result (λ e. (D.medium e.device).calls.faults ≡ faults_after (is_no_fault e.refusal) (D.medium device).calls.faults) }
         ensures called { IsTrue (is_cache_size options.cache) → IsDeviceSize (D.medium device).size
-            → IfErr result (λ e. IsUncalled e.0 (D.medium device) (D.medium e.1) ⊎ IsRefusedBehindSync (D.medium device) e.0 (D.medium e.1)) }
-        ensures same_size { IfErr result (λ e. (D.medium e.1).size ≡ (D.medium device).size) }
-        ensures same_lasting { IfErr result (λ e. (D.medium e.1).lasting ≡ (D.medium device).lasting) }
+            → IfErr result (λ e. IsUncalled e.refusal (D.medium device) (D.medium e.device) ⊎ IsRefusedBehindSync (D.medium device) e.refusal (D.medium e.device)) }
+        ensures same_size { IfErr result (λ e. (D.medium e.device).size ≡ (D.medium device).size) }
+        ensures same_lasting { IfErr result (λ e. (D.medium e.device).lasting ≡ (D.medium device).lasting) }
     {
         match Store::open(rt.alloc(), device, options.cache) {
             Ok(store) => Ok(Db::of(rt.alloc(), readied(rt.alloc(), store))),
-            Err(refused) => Err(refused),
+            Err((refusal, device)) => Err(OpenOnError { refusal, device }),
         }
     }
 

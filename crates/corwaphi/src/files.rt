@@ -97,7 +97,7 @@ fn over<R: AllocGlobal>(
 {
     match Db::on(rt, device, options) {
         Ok(db) => Ok(db),
-        Err((refusal, _)) => Err(OpenDbError::Store(refusal)),
+        Err(refused) => Err(OpenDbError::from(refused)),
     }
 }
 

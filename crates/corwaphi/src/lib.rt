@@ -18,6 +18,7 @@
 mod db;
 mod files;
 mod open_error;
+mod open_on_error;
 mod opening;
 mod operating;
 mod options;
@@ -31,6 +32,7 @@ pub use lsm_device::{Device, FileDevice, MemDevice, OpenError, Refusal};
 pub use lsm_open::format;
 pub use lsm_store::{At, Page, RowRef, Rows, Stat};
 pub use open_error::OpenDbError;
+pub use open_on_error::OpenOnError;
 pub use options::Options;
 pub use pages::Pages;
 pub use range_rows::RangeRows;

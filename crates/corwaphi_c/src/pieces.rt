@@ -35,14 +35,15 @@ impl Did {
     }
 }
 
-/// What is to be reached, how far that is, and how the last attempt went. A job that was taken for it is in the store's first slot, since
-/// jobs are taken one at a time.
+/// What is to be reached, how far that is, how the last attempt went, and which job was taken for it: one at a time.
 #[derive(Drop)]
 pub struct Upkeep {
     plan: Plan,
     went: Went,
     /// How far the store was made ready for the batch that is to be written.
     admit: AdmitState,
+    /// The number of the job that was taken.
+    job: Option<u64>,
     /// The keys at which the result of the job that was taken is to be divided.
     divisions: Option<Vec<Key>>,
 }
@@ -54,6 +55,7 @@ impl Upkeep {
             plan: Plan::to(goal),
             went: Went::On,
             admit: AdmitState::new(),
+            job: None,
             divisions: None,
         }
     }
@@ -85,18 +87,33 @@ impl Upkeep {
         ensures { IsUpkept store.old store.new }
     {
         store.stat()?;
-        match do_piece(alloc, store, &mut self.divisions) {
-            PieceDone::NoJob => Ok(self.attempt(alloc, store)),
-            PieceDone::GoesOn | PieceDone::Built => Ok(Did::Piece),
+        Ok(match self.job {
+            Some(job) => self.go_on_with(alloc, store, job),
+            None => self.attempt(alloc, store),
+        })
+    }
+
+    // Does the next piece of a job.
+    fn go_on_with<D: Device>(&mut self, alloc: Global, store: &mut Store<D>, job: u64) -> Did
+        ensures { IsUpkept store.old store.new }
+    {
+        match do_piece(alloc, store, job, &mut self.divisions) {
+            PieceDone::GoesOn | PieceDone::Built => Did::Piece,
             PieceDone::Finished => {
-                self.went = Went::On;
-                Ok(Did::Job)
+                self.end(Went::On);
+                Did::Job
             }
-            PieceDone::GivenUp => {
-                self.went = Went::Nowhere;
-                Ok(Did::Piece)
+            PieceDone::GivenUp | PieceDone::NoJob => {
+                self.end(Went::Nowhere);
+                Did::Piece
             }
         }
+    }
+
+    // The job that was taken has ended so.
+    fn end(&mut self, went: Went) {
+        self.job = None;
+        self.went = went;
     }
 
     // Makes the next attempt. If that is a job it goes on in the next pieces.
@@ -115,7 +132,7 @@ impl Upkeep {
         ensures { IsUpkept store.old store.new }
     {
         match attempt {
-            Attempt::NextJob => begin_next(store),
+            Attempt::NextJob => self.begin_next(store),
             Attempt::Step(way) => self.begin_step(alloc, store, way),
             Attempt::Rotate => rotate(store),
         }
@@ -127,10 +144,37 @@ impl Upkeep {
         match next_step(alloc, store, way) {
             Ok(Some(step)) => {
                 self.divisions = Some(step.divisions);
-                begin_chosen(store, step.choice)
+                self.begin_chosen(store, step.choice)
             }
             Ok(None) => Went::ToTheEnd,
             Err(_) => Went::Nowhere,
+        }
+    }
+
+    // Takes the job that comes next.
+    fn begin_next<D: Device>(&mut self, store: &mut Store<D>) -> Went
+        ensures { IsUpkept store.old store.new }
+    {
+        let taken = store.job_take();
+        self.begun(taken)
+    }
+
+    // Takes the job of a choice.
+    fn begin_chosen<D: Device>(&mut self, store: &mut Store<D>, choice: Choice) -> Went
+        ensures { IsUpkept store.old store.new }
+    {
+        let taken = store.job_take_of(choice);
+        self.begun(taken)
+    }
+
+    // How an attempt goes whose job was taken or not.
+    fn begun(&mut self, taken: Result<Option<TakenJob>, Refusal>) -> Went {
+        match taken {
+            Ok(Some(taken)) => {
+                self.job = Some(taken.number);
+                Went::On
+            }
+            Ok(None) | Err(_) => Went::Nowhere,
         }
     }
 }
@@ -141,28 +185,4 @@ fn rotate<D: Device>(store: &mut Store<D>) -> Went
 {
     let _ = store.rotate();
     Went::On
-}
-
-// Takes the job that comes next.
-fn begin_next<D: Device>(store: &mut Store<D>) -> Went
-    ensures { IsUpkept store.old store.new }
-{
-    let taken = store.job_take();
-    begun(taken)
-}
-
-// Takes the job of a choice.
-fn begin_chosen<D: Device>(store: &mut Store<D>, choice: Choice) -> Went
-    ensures { IsUpkept store.old store.new }
-{
-    let taken = store.job_take_of(choice);
-    begun(taken)
-}
-
-// How an attempt goes whose job was taken or not.
-fn begun(taken: Result<Option<TakenJob>, Refusal>) -> Went {
-    match taken {
-        Ok(Some(_)) => Went::On,
-        Ok(None) | Err(_) => Went::Nowhere,
-    }
 }

@@ -12,7 +12,7 @@ ghost use Rattle.corwaphi_lives.specs.Leading.{life_of, AddsReplies, BeginsDb, I
 
 use crate::calls::{DbCall, DbLife};
 use crate::serving::serve;
-use corwaphi::{Db, Device, MemDevice, Options, Refusal};
+use corwaphi::{Db, Device, MemDevice, OpenOnError, Options, Refusal};
 use lsm_lives::{CACHE_BLOCKS, Reply};
 use std::alloc::{AllocError, Global};
 
@@ -110,7 +110,7 @@ fn open_and_serve<R: AllocGlobal, D: Device>(
             serve_each(&mut db, calls, replies);
             db.into_device()
         }
-        Err((refusal, device)) => {
+        Err(OpenOnError { refusal, device }) => {
             replies.push_reserved(Reply::Refused(refusal));
             refuse_each(calls, replies);
             device
@@ -119,9 +119,9 @@ fn open_and_serve<R: AllocGlobal, D: Device>(
 }
 
 // Opens the `Db` on a device that tells what it holds.
-fn opened<R: AllocGlobal, D: Device>(rt: &R, device: D) -> Result<Db<D>, (Refusal, D)>
+fn opened<R: AllocGlobal, D: Device>(rt: &R, device: D) -> Result<Db<D>, OpenOnError<D>>
     requires tells { IsTrue (D.medium device).lasting.tells }
-    ensures { MatchResult result (λ db. BeginsDb (D.medium device) db) (λ e. FailsOn (D.medium device) e.0 (D.medium e.1)) }
+    ensures { MatchResult result (λ db. BeginsDb (D.medium device) db) (λ e. FailsOn (D.medium device) e.refusal (D.medium e.device)) }
 {
     let options = Options {
         cache: CACHE_BLOCKS,

@@ -6,6 +6,8 @@ mod calls;
 #[cfg(test)]
 mod files;
 #[cfg(test)]
+mod openings;
+#[cfg(test)]
 mod options;
 #[cfg(test)]
 mod pages;

@@ -46,7 +46,7 @@ pub(crate) fn opened<R: AllocGlobal + Abort, D: Device + Drop>(rt: &R, device: D
             alloc: rt.alloc(),
             db,
         },
-        Err((refusal, _)) => rt.panic(refusal.name()),
+        Err(refused) => rt.panic(refused.refusal.name()),
     }
 }
 

@@ -4,7 +4,7 @@ use crate::book::{Book, Gathered};
 use crate::draws::Draws;
 use crate::stream::{Deed, KEYS, Stream};
 use crate::trouble::Trouble;
-use corwaphi::{Db, Options};
+use corwaphi::{Db, OpenOnError, Options};
 use lsm_device::{MemDevice, Refusal};
 use lsm_open::format;
 use lsm_store::{At, Page};
@@ -87,7 +87,7 @@ fn begun<R: AllocGlobal>(rt: &R, sectors: u32, log_sectors: u16) -> Result<Db<Me
 fn opened<R: AllocGlobal>(rt: &R, device: MemDevice) -> Result<Db<MemDevice>, Trouble> {
     match Db::on(rt, device, Options::default()) {
         Ok(db) => Ok(db),
-        Err((refusal, _)) => Err(Trouble::Opening(refusal)),
+        Err(refused) => Err(Trouble::Opening(refused.refusal)),
     }
 }
 
@@ -95,8 +95,13 @@ fn opened<R: AllocGlobal>(rt: &R, device: MemDevice) -> Result<Db<MemDevice>, Tr
 fn opened_again<R: AllocGlobal>(rt: &R, device: MemDevice) -> Result<Db<MemDevice>, Trouble> {
     match Db::on(rt, device, Options::default()) {
         Ok(db) => Ok(db),
-        Err((Refusal::Io, device)) => opened(rt, device.crash(&[])),
-        Err((refusal, _)) => Err(Trouble::Opening(refusal)),
+        Err(
+            OpenOnError {
+                refusal: Refusal::Io,
+                device,
+            },
+        ) => opened(rt, device.crash(&[])),
+        Err(refused) => Err(Trouble::Opening(refused.refusal)),
     }
 }
 

@@ -10,14 +10,14 @@ use Rattle.lsm_machine.specs.CrashState.{CrashState, in_next_generation, last_nu
 use Rattle.lsm_machine.specs.Calls.{Call, Reply}
 use Rattle.lsm_machine.specs.Calls.{Commit, CommitIf, Sync, SyncTo, Get, Scan, Snapshot, Release, Rotate, LogRoom, Number, Done, Value, Rows, Given, Handed, Refused, Unread}
 use Rattle.lsm_machine.specs.Crash.{crash_state_at, left_besides, left_with}
-use Rattle.lsm_machine.specs.Effects.{Use, Untouched, Reads, Changes, after, use_of}
+use Rattle.lsm_machine.specs.Effects.{Use, Untouched, Reads, Changes, after, use_of, installed}
 use Rattle.lsm_machine.specs.Lives.{IsAnswered, Life, left_by_life}
 use Rattle.lsm_machine.specs.Machine.{Machine, Step, Called, Worked}
 use Rattle.lsm_machine.specs.RecoveryPoints.{RecoveryPoint, all_synced, recovery_points}
 use Rattle.lsm_machine.specs.Run.{Run, after_fault, last_machine, next, next_machine}
 use Rattle.lsm_machine.specs.State.{State}
 use Rattle.lsm_machine.specs.Work.{Work, Take, Read, Ask, Accept, Write, Install, Drop}
-use Rattle.lsm_machine.specs.WorkEffects.{installed, state_after, work_use}
+use Rattle.lsm_machine.specs.WorkEffects.{state_after, work_use}
 use Rattle.lsm_machine.specs.WorkRefusals.{held, of_slot}
 use Rattle.lsm_machine.specs.WorkReplies.{after_work_fault, next_worked, work_left_besides}
 use Rattle.lsm_machine.proofs.CrashStates.{stays_stopped}

@@ -17,7 +17,7 @@ use Rattle.lsm_open.specs.Image.{StandFor}
 use Rattle.lsm_machine.specs.Calls.{Call, Reply}
 use Rattle.lsm_machine.specs.Calls.{Commit, CommitIf, Sync, SyncTo, Rotate, Number, Done, Value, Rows, Given, Handed, Refused, Unread, as_told}
 use Rattle.lsm_machine.specs.Crash.{last_crash_state}
-use Rattle.lsm_machine.specs.Effects.{Use}
+use Rattle.lsm_machine.specs.Effects.{Use, installed}
 use Rattle.lsm_machine.specs.Effects.{Untouched, Reads, Changes}
 use Rattle.lsm_machine.specs.Lives.{KeepsLife, KeepsLives, all_stopped, IsAfter, IsPrefixFrom}
 use Rattle.lsm_machine.specs.Machine.{Machine, Step, Called, Worked}
@@ -25,7 +25,7 @@ use Rattle.lsm_machine.specs.Promise.{accepted_by, accepted, acknowledged_by, ac
 use Rattle.lsm_machine.specs.Run.{Allows, next, AllowsStep, next_machine, Run, last_machine}
 use Rattle.lsm_machine.specs.State.{State}
 use Rattle.lsm_machine.specs.Work.{Work, Take, Read, Ask, Accept, Write, Install, Drop}
-use Rattle.lsm_machine.specs.WorkEffects.{installed, state_after, work_use}
+use Rattle.lsm_machine.specs.WorkEffects.{state_after, work_use}
 use Rattle.lsm_machine.specs.WorkRefusals.{held, of_slot, work_refusals, running_refusal, work_refusal}
 use Rattle.lsm_machine.specs.WorkReplies.{WorkAllows, work_decided, work_left_besides, after_work_fault, next_worked}
 use Rattle.lsm_machine.proofs.Accounts.{first_not}

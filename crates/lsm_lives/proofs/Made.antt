@@ -9,7 +9,7 @@ use Rattle.lsm_merge.specs.Inputs.{MergeInput}
 use Rattle.lsm_merge.specs.Results.{MergeResult}
 use Rattle.lsm_machine.specs.CrashState.{last_number}
 use Rattle.lsm_store.specs.Backing.{StoreView, machine_of}
-use Rattle.lsm_machine.specs.Calls.{Call, Reply}
+use Rattle.lsm_machine.specs.Calls.{Call, Reply, taken_reply}
 use Rattle.lsm_machine.specs.Calls.{Commit, CommitIf, Sync, SyncTo, Get, Scan, Snapshot, Release, Rotate, LogRoom, Number, Done, Value, Rows, Given, Handed, Refused, Unread, as_told}
 use Rattle.lsm_machine.specs.Machine.{Machine, Step, Called}
 use Rattle.lsm_store.specs.Serving.{Serves, reply_in}
@@ -18,7 +18,7 @@ use Rattle.lsm_machine.specs.Refusals.{first_refusal}
 use Rattle.lsm_machine.specs.Work.{Ask, Accept}
 use Rattle.lsm_machine.specs.WorkRefusals.{held, of_slot, is_own, tables_made, placing, work_refusal}
 use Rattle.lsm_machine.specs.WorkReplies.{work_reply_by, work_decided}
-use Rattle.lsm_store.specs.Working.{Works, ServesStep, taken_reply}
+use Rattle.lsm_store.specs.Working.{Works, ServesStep}
 use Rattle.lsm_lives.specs.Calls.{reply_of, told_of}
 use Rattle.lsm_lives.specs.declared.calls.Reply.{Reply as GivenReply}
 use Rattle.lsm_lives.specs.declared.calls.Reply.TheVariants as given

@@ -13,7 +13,7 @@ use Rattle.lsm_machine.specs.Machine.{Called, Worked}
 use Rattle.lsm_machine.specs.Run.{Allows, next}
 use Rattle.lsm_machine.specs.State.{State}
 use Rattle.lsm_machine.specs.Work.{Install}
-use Rattle.lsm_machine.specs.WorkEffects.{installed}
+use Rattle.lsm_machine.specs.Effects.{installed}
 use Rattle.lsm_lives.specs.Asked.{Asked, Told, Own, Replied, Built}
 use Rattle.lsm_lives.specs.Calls.{call_of, reply_of}
 use Rattle.lsm_lives.specs.declared.calls.Reply.{Reply as GivenReply}

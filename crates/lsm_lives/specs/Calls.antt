@@ -8,11 +8,10 @@ use Rattle.lsm_lives.specs.declared.calls.Step.{Step as GivenStep}
 use Rattle.lsm_lives.specs.declared.calls.Step.TheVariants as step
 use Rattle.lsm_lives.specs.declared.calls.Reply.{Reply as GivenReply}
 use Rattle.lsm_lives.specs.declared.calls.Reply.TheVariants as reply
-use Rattle.lsm_machine.specs.Calls.{Call, Reply}
+use Rattle.lsm_machine.specs.Calls.{Call, Reply, taken_reply}
 use Rattle.lsm_machine.specs.Calls.{Commit, CommitIf, Sync, SyncTo, Get, Scan, Snapshot, Release, Rotate, LogRoom, Number, Done, Value, Rows, Refused}
 use Rattle.lsm_machine.specs.Machine.{Called, Worked}
 use Rattle.lsm_machine.specs.Work.{Take, Read, Write, Install, Drop}
-use Rattle.lsm_store.specs.Working.{taken_reply}
 use Rattle.lsm_lives.specs.Asked.{Asked, Told, Own, Build, AcceptBuilt, Replied, Built}
 
 abbrev pub call_of : {A : Type 0} → GivenCall A → Call

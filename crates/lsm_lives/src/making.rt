@@ -4,9 +4,9 @@ ghost use Rattle.lsm_device.specs.declared.refusal.Refusal.TheVariants.{NoMemory
 ghost use Rattle.lsm_lives.specs.Asked.{Build, Replied, result_of};
 ghost use Rattle.lsm_lives.specs.Calls.{asked_of, asked_of_work, told_of, reply_of};
 ghost use Rattle.lsm_lives.specs.Replaying.{IsLent, Makes};
-ghost use Rattle.lsm_machine.specs.Calls.{Number, Done, Refused, reply_of as reply_by};
+ghost use Rattle.lsm_machine.specs.Calls.{Number, Done, Refused, reply_of as reply_by, taken_reply};
 ghost use Rattle.lsm_machine.specs.Work.{Accept};
-ghost use Rattle.lsm_store.specs.Working.{Works, taken_reply};
+ghost use Rattle.lsm_store.specs.Working.{Works};
 
 use crate::calls::{Reply, Step, Work};
 use crate::serving::{done, serve};

@@ -28,3 +28,5 @@ pub mod Accounts
 pub mod FewNumbers
 pub mod TableLimits
 pub mod NextPieces
+pub mod SameMaps
+pub mod Replaced

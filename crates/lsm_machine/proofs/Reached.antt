@@ -16,14 +16,14 @@ use Rattle.lsm_machine.specs.State.{State}
 use Rattle.lsm_machine.specs.Calls.{Call, Reply}
 use Rattle.lsm_machine.specs.Calls.{Commit, CommitIf, Sync, SyncTo, Get, Scan, Snapshot, Release, Rotate, LogRoom, Number, Done, Value, Rows, Given, Handed, Refused, Unread}
 use Rattle.lsm_machine.specs.Refusals.{full_refusal}
-use Rattle.lsm_machine.specs.Effects.{answer, after, decided, completed, reply_by, state_by, Use, use_of, use_first}
+use Rattle.lsm_machine.specs.Effects.{answer, after, decided, completed, reply_by, state_by, Use, use_of, use_first, installed}
 use Rattle.lsm_machine.specs.Effects.{Untouched, Reads, Changes}
 use Rattle.lsm_machine.specs.Crash.{last_crash_state, left_besides}
 use Rattle.lsm_machine.specs.Machine.{Machine, Step, Called, Worked}
 use Rattle.lsm_machine.specs.Run.{Allows, after_fault, next, AllowsStep, next_machine, Run, last_machine}
 use Rattle.lsm_machine.specs.Promise.{accepted_by, accepted, acknowledged_by, acknowledged_from, in_flight, beginnings}
 use Rattle.lsm_machine.specs.Work.{Work, Take, Read, Ask, Accept, Write, Install, Drop}
-use Rattle.lsm_machine.specs.WorkEffects.{work_answer, installed, state_after, work_use}
+use Rattle.lsm_machine.specs.WorkEffects.{work_answer, state_after, work_use}
 use Rattle.lsm_machine.specs.WorkRefusals.{held, of_slot, work_refusals, running_refusal, work_refusal}
 use Rattle.lsm_machine.specs.WorkReplies.{work_decided, WorkAllows, work_left_besides, after_work_fault}
 use Rattle.lsm_machine.proofs.Accounts.{first_not}

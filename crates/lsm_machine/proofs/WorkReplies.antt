@@ -10,12 +10,12 @@ use Rattle.lsm_machine.specs.CrashState.{CrashState}
 use Rattle.lsm_machine.specs.Calls.{Reply}
 use Rattle.lsm_machine.specs.Calls.{Number, Done, Value, Rows, Given, Handed, Refused, Unread}
 use Rattle.lsm_machine.specs.Crash.{crash_state_at, left_between, may_leave, last_crash_state}
-use Rattle.lsm_machine.specs.Effects.{Use}
+use Rattle.lsm_machine.specs.Effects.{Use, installed}
 use Rattle.lsm_machine.specs.Effects.{Untouched, Reads, Changes}
 use Rattle.lsm_machine.specs.Machine.{Machine}
 use Rattle.lsm_machine.specs.State.{State}
 use Rattle.lsm_machine.specs.Work.{Work, Take, Read, Ask, Accept, Write, Install, Drop}
-use Rattle.lsm_machine.specs.WorkEffects.{work_answer, work_after, installed, state_after, work_use}
+use Rattle.lsm_machine.specs.WorkEffects.{work_answer, work_after, state_after, work_use}
 use Rattle.lsm_machine.specs.WorkRefusals.{held, of_slot, work_refusals, running_refusal, work_refusal}
 use Rattle.lsm_machine.specs.WorkReplies.{work_reply_by, work_decided, WorkAllows, MayFindNoTable, WorkAdmits, work_left_besides, work_left_inside, after_work_fault, next_worked, worked_by}
 use Rattle.lsm_machine.proofs.CrashStates.{IsAnswer, between_may_leave, with_others}

@@ -1,11 +1,12 @@
 -- The calls of a store, and the replies.
-use Rattle.std.specs.Prelude.{ℕ, List, Option, Result, Ok, Err}
+use Rattle.std.specs.Prelude.{ℕ, List, Option, Result, Ok, Err, option_map}
 use Rattle.lsm_codec.specs.Keys.{Bytes}
 use Rattle.lsm_codec.specs.Map.{Operation}
 use Rattle.lsm_device.specs.declared.refusal.Refusal.{Refusal}
 use Rattle.lsm_device.specs.declared.refusal.Refusal.TheVariants.{Io}
 use Rattle.lsm_codec.specs.Guards.{Condition}
 use Rattle.lsm_machine.specs.declared.asked.At.{At}
+use Rattle.lsm_jobs.specs.declared.taking.TakenJob.{TakenJob}
 use Rattle.lsm_mem.specs.Paging.{Page}
 use Rattle.lsm_merge.specs.Inputs.{MergeInput}
 
@@ -57,3 +58,7 @@ reply_of f (Err e) = Refused e
 abbrev pub as_told : Reply → Reply
 as_told Unread = Refused Io
 as_told reply = reply
+
+-- what is told of a job that was taken, if there was one
+abbrev pub taken_reply : Option TakenJob → Reply
+taken_reply taken = Given (option_map (λ t. (t.number, t.level)) taken)

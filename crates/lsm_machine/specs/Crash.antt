@@ -4,7 +4,7 @@ use Rattle.lsm_machine.specs.CrashState.{CrashState}
 use Rattle.lsm_machine.specs.RecoveryPoints.{RecoveryPoint, recovery_points, present_point}
 use Rattle.lsm_machine.specs.State.{OpenLog, State}
 use Rattle.lsm_machine.specs.Calls.{Call}
-use Rattle.lsm_machine.specs.Calls.{Commit, CommitIf, Sync, SyncTo, Get, Scan, Snapshot, Release, Rotate, LogRoom}
+use Rattle.lsm_machine.specs.Calls.{Commit, CommitIf, Rotate}
 use Rattle.lsm_machine.specs.Refusals.{full_refusal}
 use Rattle.lsm_machine.specs.Effects.{after}
 
@@ -40,14 +40,8 @@ last_crash_state s = crash_state_at s (present_point s.points)
 abbrev pub left_besides : State → Call → List CrashState
 left_besides s (Commit batch) = last_crash_state (after s (Commit batch)) ∷ []
 left_besides s (CommitIf guards batch) = last_crash_state (after s (CommitIf guards batch)) ∷ []
-left_besides s Sync = []
-left_besides s (SyncTo number) = []
-left_besides s (Get at key) = []
-left_besides s (Scan at from to limit) = []
-left_besides s Snapshot = []
-left_besides s (Release number) = []
 left_besides s Rotate = last_crash_state (after s Rotate) ∷ []
-left_besides s LogRoom = []
+left_besides s other = []
 
 -- What a crash inside a call may leave: what the state before it may leave, and what the call adds to that where
 -- nothing refuses it.

@@ -14,14 +14,11 @@ use Rattle.lsm_machine.specs.Refusals.{first_refusal, later_refusals, full_refus
 abbrev pub answer : State → Call → Reply
 answer s (Commit batch) = Number (batch_count s.points + 1)
 answer s (CommitIf guards batch) = Number (batch_count s.points + 1)
-answer s Sync = Done
-answer s (SyncTo number) = Done
 answer s (Get at key) = Value (finite.get (map_at s at) key)
 answer s (Scan at from to limit) = Rows (page_of (map_at s at) from to limit)
 answer s Snapshot = Number s.next_snapshot
-answer s (Release number) = Done
-answer s Rotate = Done
 answer s LogRoom = Number (log_room s)
+answer s other = Done
 
 -- the open log with the sectors of one batch more
 abbrev pub with_sectors : List Operation → OpenLog → OpenLog
@@ -44,6 +41,10 @@ rotated s = record s {
   generation = s.generation + 1;
 }
 
+-- after an install: all batches are synced, and after a flush no closed region holds batches that are in no table
+abbrev pub installed : Bool → State → State
+installed flush s = record s { points = all_synced s.points; generation = s.generation + 1; closed = if flush then 0 else s.closed }
+
 -- the state after a batch was added
 abbrev pub committed : State → List Operation → State
 committed s batch = record s { points = with_batch s.points batch; open_log = option_map (with_sectors batch) s.open_log }
@@ -54,12 +55,10 @@ after s (Commit batch) = committed s batch
 after s (CommitIf guards batch) = committed s batch
 after s Sync = record s { points = all_synced s.points }
 after s (SyncTo number) = if nat_le number s.points.synced then s else record s { points = all_synced s.points }
-after s (Get at key) = s
-after s (Scan at from to limit) = s
 after s Snapshot = record s { snapshots = s.snapshots ++ next_taken s ∷ []; next_snapshot = s.next_snapshot + 1 }
 after s (Release number) = record s { snapshots = without number s.snapshots }
 after s Rotate = rotated s
-after s LogRoom = s
+after s other = s
 
 abbrev pub reply_by : State → Call → Option Refusal → Reply
 reply_by s call (Some e) = Refused e
@@ -95,14 +94,11 @@ takes_memory LogRoom = false
 abbrev pub wants_memory : State → Call → Bool
 wants_memory s (Commit batch) = true
 wants_memory s (CommitIf guards batch) = is_none (first_refusal (later_refusals s (CommitIf guards batch)))
-wants_memory s Sync = false
-wants_memory s (SyncTo number) = false
 wants_memory s (Get at key) = is_some (finite.get (map_at s at) key)
 wants_memory s (Scan at from to limit) = true
 wants_memory s Snapshot = true
-wants_memory s (Release number) = false
 wants_memory s Rotate = true
-wants_memory s LogRoom = false
+wants_memory s other = false
 
 -- what a call that nothing refuses may do with the device
 pub data Use : Type 0 where
@@ -120,10 +116,8 @@ use_of s Sync = Changes
 use_of s (SyncTo number) = if nat_le number s.points.synced then Untouched else Changes
 use_of s (Get at key) = Reads
 use_of s (Scan at from to limit) = Reads
-use_of s Snapshot = Untouched
-use_of s (Release number) = Untouched
 use_of s Rotate = Changes
-use_of s LogRoom = Untouched
+use_of s other = Untouched
 
 -- what it may do with the device before it changes anything: a commit reads what its guards ask
 abbrev pub use_first : Call → Use

@@ -10,7 +10,7 @@ use Rattle.lsm_machine.specs.RecoveryPoints.{batch_count, present_map}
 use Rattle.lsm_machine.specs.State.{State, are_waiting, snapshot_of, may_ask, fits, is_unused}
 use Rattle.lsm_mem.specs.Paging.{is_backwards}
 use Rattle.lsm_machine.specs.Calls.{Call}
-use Rattle.lsm_machine.specs.Calls.{Commit, CommitIf, Sync, SyncTo, Get, Scan, Snapshot, Release, Rotate, LogRoom}
+use Rattle.lsm_machine.specs.Calls.{Commit, CommitIf, SyncTo, Get, Scan, Snapshot, Release, Rotate}
 
 -- how many snapshots may be live
 abbrev pub most_snapshots : ℕ
@@ -28,14 +28,13 @@ is_limit rows = nat_le 1 rows && nat_le rows 64
 abbrev pub refusals : State → Call → List (Bool × Refusal)
 refusals s (Commit batch) = (batch_count s.points == last_number, Exhausted) ∷ (not (fits s batch), LogFull) ∷ []
 refusals s (CommitIf guards batch) = (nat_lt most_guards (length guards), TooManyGuards) ∷ (batch_count s.points == last_number, Exhausted) ∷ (not (fits s batch), LogFull) ∷ []
-refusals s Sync = []
 refusals s (SyncTo number) = (nat_lt (batch_count s.points) number, NoSuchBatch) ∷ []
 refusals s (Get at key) = (not (is_key key), BadKey) ∷ (not (may_ask s at), NoSuchSnapshot) ∷ []
 refusals s (Scan at from to limit) = (not (is_limit limit), BadLimit) ∷ (is_backwards from to, BadRange) ∷ (not (may_ask s at), NoSuchSnapshot) ∷ []
 refusals s Snapshot = (nat_le most_snapshots (length s.snapshots), TooManySnapshots) ∷ (nat_lt last_number s.next_snapshot, Exhausted) ∷ []
 refusals s (Release number) = (not (is_some (snapshot_of s number)), NoSuchSnapshot) ∷ []
 refusals s Rotate = (are_waiting s, SealedWaiting) ∷ (is_unused s.open_log, NothingToRotate) ∷ (s.generation == last_number, Exhausted) ∷ []
-refusals s LogRoom = []
+refusals s other = []
 
 -- the first whose condition holds
 abbrev pub first_refusal : List (Bool × Refusal) → Option Refusal

@@ -1,5 +1,5 @@
 -- What a piece of work answers that nothing refuses, and what it leaves.
-use Rattle.std.specs.Prelude.{ℕ, ◌+◌, ◌-◌, ◌==◌, Bool, List, [], length, Option, Some, None, option_map, if◌then◌else◌}
+use Rattle.std.specs.Prelude.{ℕ, ◌+◌, ◌-◌, ◌==◌, List, [], length, Option, Some, None, option_map, if◌then◌else◌}
 use Rattle.lsm_mem.specs.EntryOrder.{with_batch}
 use Rattle.lsm_levels.specs.Tables.{Table}
 use Rattle.lsm_levels.specs.Pick.{inputs, is_flush, installed_levels}
@@ -8,12 +8,11 @@ use Rattle.lsm_jobs.specs.Taking.{level_of, with_taken}
 use Rattle.lsm_jobs.specs.Reading.{stage_with}
 use Rattle.lsm_jobs.specs.Outputs.{placed_blocks}
 use Rattle.lsm_jobs.specs.Placing.{all_handed_out, all_given_back}
-use Rattle.lsm_machine.specs.RecoveryPoints.{batch_count, all_synced}
+use Rattle.lsm_machine.specs.RecoveryPoints.{batch_count}
 use Rattle.lsm_machine.specs.State.{State}
 use Rattle.lsm_machine.specs.Calls.{Call, Reply}
 use Rattle.lsm_machine.specs.Calls.{Commit, CommitIf, Rotate, Number, Done, Given, Handed, Refused, Unread}
-use Rattle.lsm_machine.specs.Effects.{Use}
-use Rattle.lsm_machine.specs.Effects.{Untouched, Reads, Changes}
+use Rattle.lsm_machine.specs.Effects.{Use, installed, Untouched, Reads, Changes}
 use Rattle.lsm_machine.specs.Work.{WorkView, Work, Take, Read, Ask, Accept, Write, Install, Drop, cuts_of}
 use Rattle.lsm_machine.specs.WorkRefusals.{job_given, held, of_slot, placing}
 use Rattle.lsm_machine.specs.Machine.{Machine}
@@ -71,10 +70,6 @@ work_after m (Install job) = of_slot m.work (with_installed m.work job) (held m 
 work_after m (Drop job) = without_job m.work job (held m job)
 
 -- ---- the state after it
-
--- after an install: all batches are synced, and after a flush no closed region holds batches that are in no table
-abbrev pub installed : Bool → State → State
-installed flush s = record s { points = all_synced s.points; generation = s.generation + 1; closed = if flush then 0 else s.closed }
 
 -- of the pieces of work an install alone changes the state
 abbrev pub state_after : Machine → Work → State

@@ -1,28 +1,21 @@
 -- What a merge puts in the place of its inputs stands for the same map.
 use Rattle.std.proofs.Common.{◌≡◌, inl, inr, ℕ, ◌<◌, Bool, true, false, cond, ltb, leb, List, [], ◌∷◌, ◌++◌, Option, Some, None, refl, ap, sym, ◌∙◌, subst, arith, option_and_then}
 use Rattle.std.specs.List.{AllByRecursion}
-use Rattle.std.specs.Cmp.Lexicographic.{nat_list_cmp_total}
-use Rattle.std.specs.FinMap.{same_map}
 use Rattle.std.proofs.lemmas.Bool.{le-ltb, and_parts}
 use Rattle.lsm_codec.specs.Keys.{Bytes}
 use Rattle.lsm_codec.specs.Versions.{Version, is_same_key, is_version_of, newer_of, newest}
 use Rattle.lsm_levels.specs.Among.{IsAmong}
 use Rattle.lsm_levels.specs.Orders.{IsNewerPlace}
-use Rattle.lsm_mem.specs.Versions.{value_at, map_of}
+use Rattle.lsm_mem.specs.Versions.{value_at}
 use Rattle.lsm_merge.specs.Laws.{HaveSameMap}
 use Rattle.lsm_table.specs.Division.{ShareNoKey}
-use Rattle.lsm_codec.proofs.KeyOrder.{same_keys, same_key}
+use Rattle.lsm_codec.proofs.KeyOrder.{same_key}
 use Rattle.lsm_codec.proofs.Lists.{all_map, all_append, all_left, all_right}
-use Rattle.lsm_mem.proofs.Maps.{get-map_of}
 use Rattle.lsm_open.specs.Replacing.{HaveSameNewest, AreAmong}
 use Rattle.lsm_open.proofs.NewestFound.{newer_found, newer_joins, newest-append}
 
 abbrev Versions : Type 0
 Versions = List Version
-
--- maps of versions with the same values are equal
-pub map_of-values : (n m : ℕ) (vs ws : List Version) → ((q : Bytes) → value_at vs n q ≡ value_at ws m q) → map_of vs n ≡ map_of ws m
-map_of-values n m vs ws h = same_map nat_list_cmp_total same_keys (map_of vs n) (map_of ws m) (λ q. get-map_of vs n q ∙ h q ∙ sym (get-map_of ws m q))
 
 -- ---- what is found
 

@@ -45,3 +45,6 @@ pub mod OpenedStores
 pub mod OpeningAnswers
 pub mod OpeningReads
 pub mod OpeningMoments
+pub mod ManifestRecords
+pub mod NumberedApart
+pub mod Growing

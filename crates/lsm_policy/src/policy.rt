@@ -32,6 +32,17 @@ pub struct Policy {
     pub taken_for_each_free: u32,
 }
 
+impl Default for Policy {
+    ghost use Rattle.std.specs.Prelude.{◌≡◌};
+
+    ghost is_default = { λ p. (p.most_tables ≡ 768) × (p.taken_for_each_free ≡ 2) };
+
+    /// Those of [`Policy::new`].
+    fn default() -> Self {
+        Policy::new()
+    }
+}
+
 impl Policy {
     /// Three runs; limits of 224, 1,400 and 8,192 blocks; 1,024 blocks; 768 tables; two blocks for each that is free.
     ///

@@ -2,9 +2,9 @@
 ghost use Rattle.std.specs.Prelude.{◌≡◌};
 ghost use Rattle.lsm_lives.specs.Asked.{Own as OfItself, Replied};
 ghost use Rattle.lsm_lives.specs.Calls.{asked_of_work, reply_of, told_of};
-ghost use Rattle.lsm_machine.specs.Calls.{Done, reply_of as reply_by};
+ghost use Rattle.lsm_machine.specs.Calls.{Done, reply_of as reply_by, taken_reply};
 ghost use Rattle.lsm_machine.specs.Machine.{Worked};
-ghost use Rattle.lsm_store.specs.Working.{Works, taken_reply};
+ghost use Rattle.lsm_store.specs.Working.{Works};
 ghost use Rattle.lsm_shared.specs.Pieces.{work_of};
 
 use lsm_device::{Device, Refusal};

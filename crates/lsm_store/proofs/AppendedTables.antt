@@ -45,7 +45,7 @@ use Rattle.lsm_store.specs.Stored.{open_log_of}
 use Rattle.lsm_store.specs.StoredTables.{IsStateOver, IsStoredIn, KeepsExtents, with_log}
 use Rattle.lsm_store.proofs.Carrying.{may_leave_running}
 use Rattle.lsm_machine.proofs.CrashStates.{closed_same, between_goes}
-use Rattle.lsm_store.proofs.Growing.{outside_region}
+use Rattle.lsm_open.proofs.Growing.{outside_region}
 use Rattle.lsm_store.proofs.LeftStates.{LeavesOver, leaves_over, none_if_closed, may_be_left, begins_at, all_within}
 use Rattle.lsm_machine.proofs.Points.{with_batch_beginnings}
 

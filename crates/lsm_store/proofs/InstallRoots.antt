@@ -32,7 +32,7 @@ use Rattle.lsm_store.specs.Memory.{AreConsistent, state_of, view_of, work_of}
 use Rattle.lsm_machine.specs.RecoveryPoints.{batch_count}
 use Rattle.lsm_machine.specs.State.{State}
 use Rattle.lsm_machine.specs.Work.{Install}
-use Rattle.lsm_machine.specs.WorkEffects.{installed}
+use Rattle.lsm_machine.specs.Effects.{installed}
 use Rattle.lsm_machine.specs.WorkRefusals.{held, of_slot, work_refusals, running_refusal, work_refusal}
 use Rattle.lsm_machine.specs.WorkReplies.{IsUnfit}
 use Rattle.lsm_store.specs.Working.{Works}

@@ -27,7 +27,8 @@ use Rattle.lsm_machine.specs.State.{State}
 use Rattle.lsm_machine.specs.StateMaps.{points_of, HaveMaps}
 use Rattle.lsm_machine.specs.Work.{WorkView, Work, Take, Read, Ask, Accept, Write, Install, Drop, versions_in}
 use Rattle.lsm_machine.specs.WorkRefusals.{held, of_slot, running_refusal}
-use Rattle.lsm_machine.specs.WorkEffects.{with_installed, installed, work_after, state_after}
+use Rattle.lsm_machine.specs.WorkEffects.{with_installed, work_after, state_after}
+use Rattle.lsm_machine.specs.Effects.{installed}
 use Rattle.lsm_machine.specs.WorkMaps.{AreVersions, IsAsked, IsJobOf, MayBePutIn}
 use Rattle.lsm_machine.specs.WorkSound.{IsSound, IsServed, SoundLaw}
 use Rattle.lsm_machine.specs.Machine.{Machine}
@@ -35,7 +36,7 @@ use Rattle.lsm_store.proofs.InstalledMaps.{merge_versions, table_versions, has_i
 use Rattle.lsm_jobs.proofs.Outcomes.{kept_among}
 use Rattle.lsm_machine.proofs.Unrefused.{none_taken}
 use Rattle.lsm_machine.proofs.Remembering.{all_synced-points_of}
-use Rattle.lsm_store.proofs.Replaced.{IsReplacing}
+use Rattle.lsm_machine.proofs.Replaced.{IsReplacing}
 use Rattle.lsm_machine.proofs.StateMaps.{count_is, synced_is, alone, points_alone}
 use Rattle.lsm_store.proofs.WorkSounds.{Goes, job_goes, machine, there, numbered, found, freed, read_sound, write_sound, accept_sound, drop_sound, take_sound}
 

@@ -26,13 +26,13 @@ use Rattle.lsm_machine.specs.Accounts.{outputs_in, tables_placed, AreNumbered}
 use Rattle.lsm_store.specs.Backing.{StoreView, IsRunOn, IsBacked, placement_of, machine_of}
 use Rattle.lsm_machine.specs.Calls.{Done, Refused, Reply}
 use Rattle.lsm_machine.specs.Crash.{may_leave, last_crash_state}
-use Rattle.lsm_machine.specs.Effects.{Use}
+use Rattle.lsm_machine.specs.Effects.{Use, installed}
 use Rattle.lsm_machine.specs.Effects.{Untouched, Changes}
 use Rattle.lsm_machine.specs.RecoveryPoints.{batch_count}
 use Rattle.lsm_machine.specs.State.{State}
 use Rattle.lsm_store.specs.StoredTables.{MayGoOn}
 use Rattle.lsm_machine.specs.Work.{Install}
-use Rattle.lsm_machine.specs.WorkEffects.{installed, with_installed, work_after, state_after}
+use Rattle.lsm_machine.specs.WorkEffects.{with_installed, work_after, state_after}
 use Rattle.lsm_machine.specs.WorkRefusals.{held, of_slot, running_refusal, work_refusal}
 use Rattle.lsm_store.specs.Working.{work_use_before, work_use_by, IsWorkUsed, Works}
 use Rattle.lsm_machine.specs.Machine.{Machine}

@@ -30,7 +30,7 @@ use Rattle.lsm_open.specs.declared.regions.OpenRegion.{OpenRegion}
 use Rattle.lsm_machine.specs.Accounts.{AllLieApart}
 use Rattle.lsm_store.specs.InstalledJobs.{first_open, installed_layout}
 use Rattle.lsm_store.specs.Memory.{LieWithin}
-use Rattle.lsm_store.proofs.ManifestRecords.{records_count}
+use Rattle.lsm_open.proofs.ManifestRecords.{records_count}
 use Rattle.lsm_store.proofs.NamedTables.{IsSized, MayBeNamed, sized_by, named_inside, named_fit, named_within}
 use Rattle.lsm_store.proofs.StoredLevels.{installed_have}
 use Rattle.lsm_machine.proofs.TableNumbers.{in_all, in_each_run}

@@ -28,7 +28,7 @@ use Rattle.lsm_machine.specs.Work.{WorkView, versions_in}
 use Rattle.lsm_machine.specs.WorkEffects.{with_installed}
 use Rattle.lsm_machine.specs.WorkMaps.{AreVersions, IsAsked, IsJobOf, MayBePutIn, InstallLaw, RotationLaw, CommitLaw}
 use Rattle.lsm_machine.specs.Machine.{Machine}
-use Rattle.lsm_store.proofs.Replaced.{IsReplacing, replaced_maps}
+use Rattle.lsm_machine.proofs.Replaced.{IsReplacing, replaced_maps}
 use Rattle.lsm_jobs.proofs.GatheredRuns.{joined_runs}
 use Rattle.lsm_jobs.proofs.Outcomes.{kept_among}
 

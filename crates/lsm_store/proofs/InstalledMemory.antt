@@ -30,7 +30,8 @@ use Rattle.lsm_store.specs.Memory.{AreConsistent, CanTake, Agrees, IsInside, Lie
 use Rattle.lsm_machine.specs.RecoveryPoints.{batch_count}
 use Rattle.lsm_machine.specs.TableLimits.{AreFew}
 use Rattle.lsm_machine.specs.Work.{Install}
-use Rattle.lsm_machine.specs.WorkEffects.{installed, with_installed}
+use Rattle.lsm_machine.specs.WorkEffects.{with_installed}
+use Rattle.lsm_machine.specs.Effects.{installed}
 use Rattle.lsm_machine.specs.WorkRefusals.{work_refusals, running_refusal, work_refusal, of_slot}
 use Rattle.lsm_machine.specs.Machine.{Machine}
 use Rattle.lsm_machine.proofs.Accounts.{accounts_law, first_not, behind_not, tests_behind}

@@ -41,8 +41,7 @@ use Rattle.lsm_machine.specs.RecoveryPoints.{batch_count, present_map}
 use Rattle.lsm_machine.specs.State.{OpenLog, State, map_at}
 use Rattle.lsm_store.specs.Stored.{open_log_of}
 use Rattle.lsm_store.specs.StoredTables.{IsStateOver, IsStoredIn, KeepsExtents, MayGoOn}
-use Rattle.lsm_machine.specs.Effects.{rotated}
-use Rattle.lsm_machine.specs.WorkEffects.{installed}
+use Rattle.lsm_machine.specs.Effects.{rotated, installed}
 use Rattle.lsm_machine.specs.declared.asked.At.{At}
 use Rattle.lsm_machine.specs.declared.asked.At.TheVariants.{Now, Snap}
 use Rattle.lsm_store.proofs.Carrying.{may_leave_running}

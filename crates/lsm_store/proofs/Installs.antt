@@ -42,7 +42,8 @@ use Rattle.lsm_machine.specs.RecoveryPoints.{batch_count}
 use Rattle.lsm_machine.specs.State.{State}
 use Rattle.lsm_store.specs.StoredTables.{IsStoredIn, IsStoredWithJobs, KeepsExtents, MayGoOn}
 use Rattle.lsm_machine.specs.Work.{Install}
-use Rattle.lsm_machine.specs.WorkEffects.{installed, with_installed}
+use Rattle.lsm_machine.specs.WorkEffects.{with_installed}
+use Rattle.lsm_machine.specs.Effects.{installed}
 use Rattle.lsm_machine.specs.WorkRefusals.{held, of_slot, running_refusal}
 use Rattle.lsm_machine.specs.WorkSound.{IsSound}
 use Rattle.lsm_machine.specs.Machine.{Machine}

@@ -18,10 +18,9 @@ use Rattle.lsm_root.specs.Installed.{IsInstalled}
 use Rattle.lsm_root.specs.Roots.{Stands}
 use Rattle.lsm_machine.specs.Calls.{Sync}
 use Rattle.lsm_machine.specs.Crash.{may_leave}
-use Rattle.lsm_machine.specs.Effects.{after}
+use Rattle.lsm_machine.specs.Effects.{after, installed}
 use Rattle.lsm_machine.specs.State.{State}
 use Rattle.lsm_store.specs.StoredTables.{IsStoredIn, IsStoredWithJobs, with_log}
-use Rattle.lsm_machine.specs.WorkEffects.{installed}
 use Rattle.lsm_store.proofs.AppendedTables.{area_elsewhere, outside_extent}
 use Rattle.lsm_store.proofs.InstalledTables.{some_sectors, next_stored, flush_goes_on, merge_goes_on}
 use Rattle.lsm_store.proofs.StoredTables.{free_stored, free_each, synced_stored}

@@ -1,5 +1,4 @@
 pub mod Carrying
-pub mod Growing
 pub mod Reopening
 pub mod Backed
 pub mod Serving
@@ -17,7 +16,6 @@ pub mod Appends
 pub mod Accepting
 pub mod Opened
 pub mod Cuts
-pub mod Replaced
 pub mod InstalledMaps
 pub mod WorkSounds
 pub mod InstallSounds
@@ -39,7 +37,6 @@ pub mod InstalledMemory
 pub mod InstallTests
 pub mod Installs
 pub mod StoredLevels
-pub mod NumberedApart
 pub mod VersionPoints
 pub mod UpperRuns
 pub mod InstalledRecords
@@ -55,7 +52,6 @@ pub mod NumberedJobs
 pub mod MergeInputs
 pub mod MergeParts
 pub mod WrittenMerge
-pub mod ManifestRecords
 pub mod NamedTables
 pub mod InstalledLayouts
 pub mod Works

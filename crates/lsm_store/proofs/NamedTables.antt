@@ -21,7 +21,7 @@ use Rattle.lsm_open.specs.Tables.{first_data}
 use Rattle.lsm_open.specs.ToldTables.{records_of_runs, records_of_levels, records_of, IsOutlined}
 use Rattle.lsm_root.specs.Layout.{IsGeometry, LieInside}
 use Rattle.lsm_machine.specs.Accounts.{LieApart, AllLieApart}
-use Rattle.lsm_store.proofs.ManifestRecords.{records_within, records_in_order, records_have_runs}
+use Rattle.lsm_open.proofs.ManifestRecords.{records_within, records_in_order, records_have_runs}
 
 -- ---- tables, and their records one by one
 

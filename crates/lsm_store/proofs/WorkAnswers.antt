@@ -30,13 +30,13 @@ use Rattle.lsm_store.proofs.PlacedJobs.{taken_placed, none_of_held}
 use Rattle.lsm_store.proofs.PlacedOutputs.{gone_stored}
 use Rattle.lsm_open.specs.Writing.{PlacedTable}
 use Rattle.lsm_levels.specs.Tables.{Table}
-use Rattle.lsm_machine.specs.Calls.{Done, Refused, Given, Handed, reply_of}
+use Rattle.lsm_machine.specs.Calls.{Done, Refused, Given, Handed, reply_of, taken_reply}
 use Rattle.lsm_store.specs.Memory.{view_of, state_of, work_of}
 use Rattle.lsm_machine.specs.State.{are_waiting}
 use Rattle.lsm_machine.specs.Work.{Work, Take, Ask, Drop, cuts_of}
 use Rattle.lsm_machine.specs.WorkEffects.{work_answer, work_after}
 use Rattle.lsm_machine.specs.WorkRefusals.{job_given, held, running_refusal, work_refusal}
-use Rattle.lsm_store.specs.Working.{taken_reply, Works}
+use Rattle.lsm_store.specs.Working.{Works}
 use Rattle.lsm_machine.specs.Machine.{Machine}
 use Rattle.lsm_machine.specs.WorkReplies.{work_reply_by, work_decided, next_worked}
 use Rattle.lsm_machine.proofs.AnsweredWork.{ask_answers}

@@ -37,7 +37,7 @@ use Rattle.lsm_machine.proofs.Accounts.{accounts_law, first_none}
 use Rattle.lsm_store.proofs.HeldTables.{job_can_be_read, dropped_tables, placed_tables, read_tables, taken_tables, no_outputs}
 use Rattle.lsm_store.proofs.NumberedJobs.{taken_numbered, held_numbered, gone_numbered, placed_numbered, placed_outlined}
 use Rattle.lsm_machine.proofs.ExtentCounts.{back_blocks}
-use Rattle.lsm_machine.proofs.TableLimits.{records_counted}
+use Rattle.lsm_store.proofs.FewTables.{records_counted}
 
 module _ {A : Type 0} (m : Memory A) (kept : AreConsistent m) where
   abbrev pub with_jobs : JobSlots → Area → Memory A

@@ -26,7 +26,7 @@ use Rattle.lsm_merge.specs.Inputs.{joined, kept_of}
 use Rattle.lsm_merge.specs.Keeping.{keep}
 use Rattle.lsm_merge.specs.Laws.{IsKeptAt}
 use Rattle.lsm_open.proofs.FreeWrites.{held_synced}
-use Rattle.lsm_open.proofs.InPlace.{map_of-values}
+use Rattle.lsm_machine.proofs.SameMaps.{map_of-values}
 use Rattle.lsm_open.proofs.ListPairs.{All-left, All-right}
 use Rattle.lsm_open.proofs.TableFrames.{numbered_tables}
 use Rattle.lsm_open.proofs.VersionOrders.{share_none_back}

@@ -14,7 +14,7 @@ use Rattle.lsm_machine.specs.Crash.{last_crash_state}
 use Rattle.lsm_store.specs.InstalledJobs.{first_open, layout_after}
 use Rattle.lsm_store.specs.Memory.{state_of}
 use Rattle.lsm_machine.specs.State.{State}
-use Rattle.lsm_machine.specs.WorkEffects.{installed}
+use Rattle.lsm_machine.specs.Effects.{installed}
 
 -- the layout once the batches in the closed regions are in tables, behind so many batches
 abbrev pub with_none_closed : ℕ → Layout → Layout

@@ -1,14 +1,13 @@
 -- What one piece of work of a store does.
-use Rattle.std.specs.Prelude.{◌≡◌, ℕ, is_some, Option, option_map, if◌then◌else◌}
+use Rattle.std.specs.Prelude.{◌≡◌, ℕ, is_some, if◌then◌else◌}
 use Rattle.lsm_device.specs.Calls.{AtMost, faults_after}
 use Rattle.lsm_device.specs.History.{EachSince}
 use Rattle.lsm_device.specs.Medium.{Medium}
 use Rattle.lsm_device.specs.Outcomes.{Leaves}
 use Rattle.lsm_device.specs.declared.refusal.Refusal.TheVariants.{NoMemory, BadTable}
 use Rattle.lsm_jobs.specs.Reading.{JobReadsOn}
-use Rattle.lsm_jobs.specs.declared.taking.TakenJob.{TakenJob}
 use Rattle.lsm_open.specs.Recovering.{StandForOne}
-use Rattle.lsm_machine.specs.Calls.{Reply, Number, Given, Refused}
+use Rattle.lsm_machine.specs.Calls.{Reply, Number, Refused}
 use Rattle.lsm_machine.specs.Effects.{Use}
 use Rattle.lsm_machine.specs.Effects.{Untouched, Reads, Changes}
 use Rattle.lsm_store.specs.Backing.{StoreView, IsBacked, data_start, machine_of}
@@ -18,10 +17,6 @@ use Rattle.lsm_machine.specs.Work.{WorkView, Work, Read, Install}
 use Rattle.lsm_machine.specs.WorkRefusals.{work_refusal}
 use Rattle.lsm_machine.specs.WorkEffects.{work_after, work_use}
 use Rattle.lsm_machine.specs.WorkReplies.{WorkAllows, WorkAdmits, work_left_inside, next_worked}
-
--- what is told of a job that was taken, if there was one
-abbrev pub taken_reply : Option TakenJob → Reply
-taken_reply taken = Given (option_map (λ t. (t.number, t.level)) taken)
 
 -- ---- the device
 

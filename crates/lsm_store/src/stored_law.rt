@@ -34,13 +34,12 @@ ghost use Rattle.lsm_root.specs.Installed.{IsReady, IsOldOrNew, IsInstalled};
 ghost use Rattle.lsm_root.specs.Roots.{Root, Stands};
 ghost use Rattle.lsm_machine.specs.Calls.{Commit, Sync};
 ghost use Rattle.lsm_machine.specs.Crash.{may_leave, last_crash_state, left_besides, reopened};
-ghost use Rattle.lsm_machine.specs.Effects.{after, rotated};
+ghost use Rattle.lsm_machine.specs.Effects.{after, rotated, installed};
 ghost use Rattle.lsm_machine.specs.RecoveryPoints.{batch_count};
 ghost use Rattle.lsm_machine.specs.Run.{stopped_in};
 ghost use Rattle.lsm_machine.specs.State.{OpenLog, State, map_at};
 ghost use Rattle.lsm_machine.specs.StateMaps.{points_of};
 ghost use Rattle.lsm_store.specs.StoredTables.{IsStoredIn, IsStoredWithJobs, KeepsExtents, with_log, with_next, MayGoOn};
-ghost use Rattle.lsm_machine.specs.WorkEffects.{installed};
 ghost use Rattle.lsm_machine.specs.declared.asked.At.{At};
 
 /// Every crash of a running store's device leaves what its state may leave, also where a fault stops it that leaves the device

@@ -3,10 +3,10 @@ ghost use Rattle.std.specs.Prelude.{◌≡◌, ℕ, length, Option, Some, None, 
 ghost use Rattle.std.specs.Arc.{arc_value};
 ghost use Rattle.lsm_cache.specs.Recency.{Cached};
 ghost use Rattle.lsm_device.specs.Medium.{Medium, disk};
-ghost use Rattle.lsm_machine.specs.Calls.{Number, Done, Handed, reply_of};
+ghost use Rattle.lsm_machine.specs.Calls.{Number, Done, Handed, reply_of, taken_reply};
 ghost use Rattle.lsm_store.specs.Memory.{AreConsistent, IsInside, view_of};
 ghost use Rattle.lsm_machine.specs.Work.{Take, Read, Ask, Accept, Write, Drop};
-ghost use Rattle.lsm_store.specs.Working.{Works, taken_reply};
+ghost use Rattle.lsm_store.specs.Working.{Works};
 
 use crate::memory::Memory;
 use lsm_codec::LogRecord;

@@ -11,7 +11,7 @@ use Rattle.lsm_levels.specs.Pick.{is_flush}
 use Rattle.lsm_store.specs.Backing.{StoreView}
 use Rattle.lsm_machine.specs.Calls.{Call, Reply}
 use Rattle.lsm_machine.specs.Calls.{Commit, CommitIf, Sync, SyncTo, Get, Scan, Snapshot, Release, Rotate, LogRoom, Number, Done, Value, Rows, Given, Handed, Refused, Unread}
-use Rattle.lsm_machine.specs.Effects.{Use, use_of, after, answer, reply_by}
+use Rattle.lsm_machine.specs.Effects.{Use, use_of, after, answer, reply_by, installed}
 use Rattle.lsm_machine.specs.Effects.{Untouched, Reads, Changes}
 use Rattle.lsm_machine.specs.Machine.{Machine, Step, Called, Worked}
 use Rattle.lsm_machine.specs.RecoveryPoints.{RecoveryPoints, batch_count, present_map, all_synced}
@@ -19,7 +19,7 @@ use Rattle.lsm_machine.specs.Refusals.{refusal}
 use Rattle.lsm_machine.specs.Run.{Admits, AdmitsStep, asks_page, asks_value, after_fault, next, next_machine}
 use Rattle.lsm_machine.specs.State.{State}
 use Rattle.lsm_machine.specs.Work.{Work, Take, Read, Ask, Accept, Write, Install, Drop}
-use Rattle.lsm_machine.specs.WorkEffects.{work_use, state_after, installed}
+use Rattle.lsm_machine.specs.WorkEffects.{work_use, state_after}
 use Rattle.lsm_machine.specs.WorkRefusals.{held, of_slot}
 use Rattle.lsm_machine.specs.WorkReplies.{after_work_fault, next_worked}
 use Rattle.lsm_trail.specs.Begins.{Begin, base_of, first_machine}

@@ -6,9 +6,9 @@ use Rattle.lsm_merge.specs.Divisions.{AreTablesAt}
 use Rattle.lsm_merge.specs.Inputs.{MergeInput, kept_of}
 use Rattle.lsm_merge.specs.Results.{MergeResult}
 use Rattle.lsm_store.specs.Backing.{StoreView}
-use Rattle.lsm_machine.specs.Calls.{Number, Done, Given, Handed, Refused, reply_of}
+use Rattle.lsm_machine.specs.Calls.{Number, Done, Given, Handed, Refused, reply_of, taken_reply}
 use Rattle.lsm_machine.specs.Work.{Work, Take, Ask, Accept, Write, Install}
-use Rattle.lsm_store.specs.Working.{Works, taken_reply}
+use Rattle.lsm_store.specs.Working.{Works}
 use Rattle.lsm_jobs.specs.declared.taking.TakenJob.{TakenJob}
 use Rattle.lsm_levels.specs.declared.choosing.Choice.{Choice}
 use Rattle.lsm_upkeep.specs.Finishing.{LeavesBlocksEachTime, HasLeft, GoesThrough, DoesNotGoThrough, IsReadWhole, IsOffered, IsUnmerged, IsFinished, IsStuck, Taken}

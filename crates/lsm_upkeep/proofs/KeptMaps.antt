@@ -5,7 +5,7 @@ use Rattle.lsm_jobs.specs.Slots.{Slot}
 use Rattle.lsm_levels.specs.Pick.{is_flush}
 use Rattle.lsm_store.specs.Backing.{StoreView, machine_of}
 use Rattle.lsm_machine.specs.Calls.{Reply, Refused, Rotate, Unread}
-use Rattle.lsm_machine.specs.Effects.{Use, use_of}
+use Rattle.lsm_machine.specs.Effects.{Use, use_of, installed}
 use Rattle.lsm_machine.specs.Effects.{Untouched, Reads, Changes}
 use Rattle.lsm_machine.specs.Machine.{Machine}
 use Rattle.lsm_machine.specs.RecoveryPoints.{RecoveryPoint}
@@ -13,7 +13,7 @@ use Rattle.lsm_machine.specs.Run.{after_fault, next}
 use Rattle.lsm_store.specs.Serving.{Serves}
 use Rattle.lsm_machine.specs.State.{State}
 use Rattle.lsm_machine.specs.Work.{Work, Take, Read, Ask, Accept, Write, Install, Drop}
-use Rattle.lsm_machine.specs.WorkEffects.{installed, state_after, work_use}
+use Rattle.lsm_machine.specs.WorkEffects.{state_after, work_use}
 use Rattle.lsm_machine.specs.WorkRefusals.{held, of_slot}
 use Rattle.lsm_machine.specs.WorkReplies.{after_work_fault, next_worked}
 use Rattle.lsm_store.specs.Working.{Works}

@@ -13,20 +13,20 @@ const PIECES_BEFORE_WRITE: u32 = 8;
 /// A merge has fewer pieces than so many: it takes in at most 1,024 blocks, and brings out at most twice as many and some.
 const MOST_PIECES: u32 = 4_096;
 
-/// Does some pieces of a merge that was begun, up to one that builds its result or installs it, and tells what became of it.
-pub(crate) fn do_some_pieces<D: Device>(alloc: Global, store: &mut Store<D>) -> PieceDone
+/// Does some pieces of the merge of a number, up to one that builds its result or installs it, and tells what became of it.
+pub(crate) fn do_some_pieces<D: Device>(alloc: Global, store: &mut Store<D>, job: u64) -> PieceDone
     ensures { IsUpkept store.old store.new }
 {
-    do_pieces(alloc, store, PIECES_BEFORE_WRITE)
+    do_pieces(alloc, store, job, PIECES_BEFORE_WRITE)
 }
 
-/// Finishes a merge that was begun, if one was. It tells whether a piece was left of it.
-pub(crate) fn finish_begun<D: Device>(alloc: Global, store: &mut Store<D>) -> bool
+/// Finishes the merge of a number, if a slot has it. It tells whether a piece was left of it.
+pub(crate) fn finish_begun<D: Device>(alloc: Global, store: &mut Store<D>, job: u64) -> bool
     ensures { IsUpkept store.old store.new }
 {
     let mut left = false;
     for _ in 0..MOST_PIECES {
-        match do_piece(alloc, store, &mut None) {
+        match do_piece(alloc, store, job, &mut None) {
             PieceDone::GoesOn | PieceDone::Built => left = true,
             PieceDone::Finished | PieceDone::GivenUp => return true,
             PieceDone::NoJob => return left,
@@ -35,11 +35,11 @@ pub(crate) fn finish_begun<D: Device>(alloc: Global, store: &mut Store<D>) -> bo
     left
 }
 
-fn do_pieces<D: Device>(alloc: Global, store: &mut Store<D>, most: u32) -> PieceDone
+fn do_pieces<D: Device>(alloc: Global, store: &mut Store<D>, job: u64, most: u32) -> PieceDone
     ensures { IsUpkept store.old store.new }
 {
     for _ in 0..most {
-        let done = do_piece(alloc, store, &mut None);
+        let done = do_piece(alloc, store, job, &mut None);
         if !matches!(done, PieceDone::GoesOn) {
             return done;
         }

@@ -8,10 +8,10 @@ use lsm_device::Device;
 use lsm_store::{Piece, Store};
 use std::alloc::Global;
 
-/// What became of the job in the first slot.
+/// What became of a job that was to go on.
 #[derive(Clone, Copy)]
 pub enum PieceDone {
-    /// No job is there.
+    /// No slot has it.
     NoJob,
     /// Blocks of it were read or written, and more is to be done.
     GoesOn,
@@ -23,21 +23,45 @@ pub enum PieceDone {
     GivenUp,
 }
 
-/// Does the next piece of the job in the first slot, if one is there: reads at most eight blocks, builds its result, divided at these keys
+/// So many slots hold jobs.
+const SLOTS: usize = 4;
+
+/// Does the next piece of the job of this number, if a slot has it: reads at most eight blocks, builds its result, divided at these keys
 /// too, writes at most eight blocks, or installs it. A job of which a piece is refused is given up.
 pub fn do_piece<D: Device>(
     alloc: Global,
     store: &mut Store<D>,
+    job: u64,
     divisions: &mut Option<Vec<Key>>,
 ) -> PieceDone
     ensures { IsUpkept store.old store.new }
 {
-    match store.piece_at(0) {
-        Some(Piece::Read(job)) => read(store, job),
-        Some(Piece::Build(job)) => build(alloc, store, job, divisions.take()),
-        Some(Piece::Write(job)) => write(store, job),
-        Some(Piece::Install(job)) => install(store, job),
+    match piece_of(store, job) {
+        Some(Piece::Read(_)) => read(store, job),
+        Some(Piece::Build(_)) => build(alloc, store, job, divisions.take()),
+        Some(Piece::Write(_)) => write(store, job),
+        Some(Piece::Install(_)) => install(store, job),
         Some(Piece::Take) | None => PieceDone::NoJob,
+    }
+}
+
+// The piece for which the slot of a job waits.
+fn piece_of<D: Device>(store: &Store<D>, job: u64) -> Option<Piece> {
+    for place in 0..SLOTS {
+        match store.piece_at(place) {
+            Some(piece) if is_of(piece, job) => return Some(piece),
+            Some(_) | None => {}
+        }
+    }
+    None
+}
+
+fn is_of(piece: Piece, job: u64) -> bool {
+    match piece {
+        Piece::Read(held) | Piece::Build(held) | Piece::Write(held) | Piece::Install(held) => {
+            held == job
+        }
+        Piece::Take => false,
     }
 }
 

@@ -15,17 +15,16 @@ use lsm_policy::Policy;
 use lsm_store::Store;
 use std::alloc::Global;
 
-/// What is kept beside a store between its writes: whether merges are due, whether one was begun, and how much more may come into memory
-/// before the store is asked again whether there is room. It may be of another store, or of an older state: then it costs time, and
-/// nothing else.
+/// What is kept beside a store between its writes: whether merges are due, which one was begun, and how much more may come into memory
+/// before the store is asked again whether there is room. Each store has one of its own.
 #[derive(Clone, Copy)]
 pub struct Upkeep {
     allowance: Allowance,
     /// Whether merges wait for the next writes.
     waits: bool,
     is_due: bool,
-    /// Whether a merge may have been begun, which holds the first slot then.
-    is_begun: bool,
+    /// The number of the merge that was begun.
+    begun: Option<u64>,
 }
 
 impl Upkeep {
@@ -36,7 +35,7 @@ impl Upkeep {
             allowance: Allowance::none(),
             waits: true,
             is_due: false,
-            is_begun: true,
+            begun: None,
         }
     }
 
@@ -44,7 +43,6 @@ impl Upkeep {
     pub fn at_once() -> Upkeep {
         Upkeep {
             waits: false,
-            is_begun: false,
             ..Upkeep::new()
         }
     }
@@ -53,11 +51,10 @@ impl Upkeep {
     pub fn finish_begun<D: Device>(&mut self, alloc: Global, store: &mut Store<D>) -> bool
         ensures { IsUpkept store.old store.new }
     {
-        if !self.is_begun {
-            return false;
+        match self.begun.take() {
+            Some(job) => finish_begun(alloc, store, job),
+            None => false,
         }
-        self.is_begun = false;
-        finish_begun(alloc, store)
     }
 
     /// Goes on with the merge that was begun, or begins one of those that are due. Where another log was opened they are due from now on.
@@ -66,30 +63,34 @@ impl Upkeep {
     {
         if opened {
             self.merge(alloc, store);
-        } else if self.is_begun {
-            self.go_on_with_begun(alloc, store);
-        } else if self.is_due {
-            self.begin(alloc, store);
+            return;
+        }
+        match self.begun {
+            Some(job) => self.go_on_with(alloc, store, job),
+            None => self.begin_if_due(alloc, store),
         }
     }
 
-    fn go_on_with_begun<D: Device>(&mut self, alloc: Global, store: &mut Store<D>)
+    fn go_on_with<D: Device>(&mut self, alloc: Global, store: &mut Store<D>, job: u64)
         ensures { IsUpkept store.old store.new }
     {
-        match do_some_pieces(alloc, store) {
+        match do_some_pieces(alloc, store, job) {
             PieceDone::GoesOn | PieceDone::Built => {}
-            PieceDone::Finished | PieceDone::NoJob => self.is_begun = false,
+            PieceDone::Finished | PieceDone::NoJob => self.begun = None,
             PieceDone::GivenUp => {
-                self.is_begun = false;
+                self.begun = None;
                 self.is_due = false;
             }
         }
     }
 
-    // Begins what the policy wants, if it wants something.
-    fn begin<D: Device>(&mut self, alloc: Global, store: &mut Store<D>)
+    // Begins what the policy wants, if merges are due and it wants something.
+    fn begin_if_due<D: Device>(&mut self, alloc: Global, store: &mut Store<D>)
         ensures { IsUpkept store.old store.new }
     {
+        if !self.is_due {
+            return;
+        }
         match wanted_by(&Policy::new(), store) {
             Wanted::Nothing => self.is_due = false,
             Wanted::Step => self.is_due = matches!(step_down(alloc, store), Went::On),
@@ -100,9 +101,11 @@ impl Upkeep {
     fn begin_merge<D: Device>(&mut self, store: &mut Store<D>, choice: Choice)
         ensures { IsUpkept store.old store.new }
     {
-        let taken = matches!(store.job_take_of(choice), Ok(Some(_)));
-        self.is_begun = taken;
-        self.is_due = taken;
+        self.begun = match store.job_take_of(choice) {
+            Ok(Some(taken)) => Some(taken.number),
+            Ok(None) | Err(_) => None,
+        };
+        self.is_due = self.begun.is_some();
     }
 
     /// Whether what is demanded is admitted, and the log has room for it. Where it isn't admitted, the merge that was begun is finished, and

@@ -12,14 +12,14 @@ use Rattle.lsm_machine.specs.CrashState.{CrashState}
 use Rattle.lsm_machine.specs.Calls.{Call, Reply}
 use Rattle.lsm_machine.specs.Calls.{Commit, CommitIf, Sync, SyncTo, Get, Scan, Snapshot, Release, Rotate, LogRoom, Refused, Unread}
 use Rattle.lsm_machine.specs.Crash.{crash_state_at, left_with, left_besides, may_leave}
-use Rattle.lsm_machine.specs.Effects.{Use, use_of, after, committed}
+use Rattle.lsm_machine.specs.Effects.{Use, use_of, after, committed, installed}
 use Rattle.lsm_machine.specs.Effects.{Untouched, Reads, Changes}
 use Rattle.lsm_machine.specs.Machine.{Machine, Step, Called, Worked}
 use Rattle.lsm_machine.specs.RecoveryPoints.{points_from, last_map, present_map, all_synced}
 use Rattle.lsm_machine.specs.Run.{after_fault, next, next_machine}
 use Rattle.lsm_machine.specs.State.{State}
 use Rattle.lsm_machine.specs.Work.{Work, Take, Read, Ask, Accept, Write, Install, Drop}
-use Rattle.lsm_machine.specs.WorkEffects.{work_use, state_after, installed}
+use Rattle.lsm_machine.specs.WorkEffects.{work_use, state_after}
 use Rattle.lsm_machine.specs.WorkRefusals.{held, of_slot}
 use Rattle.lsm_machine.specs.WorkReplies.{work_left_besides, after_work_fault, next_worked}
 use Rattle.lsm_machine.proofs.Membership.{none_in, in_cases}

@@ -30,7 +30,7 @@ fn opened<R: AllocGlobal + Abort>(rt: &R, device: MemDevice) -> Subject {
         Ok(db) => Subject {
             queue: Queue::on(rt.alloc(), db),
         },
-        Err((refusal, _)) => rt.panic(refusal.name()),
+        Err(refused) => rt.panic(refused.refusal.name()),
     }
 }
 

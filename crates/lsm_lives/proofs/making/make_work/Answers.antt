@@ -1,8 +1,7 @@
 use Rattle.std.proofs.Common.{Some, None, ap, ◌∙◌}
-use Rattle.lsm_machine.specs.Calls.{Number, Done, reply_of as reply_by}
+use Rattle.lsm_machine.specs.Calls.{Number, Done, reply_of as reply_by, taken_reply}
 use Rattle.lsm_machine.specs.Machine.{Worked}
 use Rattle.lsm_machine.specs.Work.{Take, Read, Write, Install, Drop}
-use Rattle.lsm_store.specs.Working.{taken_reply}
 use Rattle.lsm_lives.specs.Asked.{Replied}
 use Rattle.lsm_lives.specs.Calls.{asked_of_work}
 use Rattle.lsm_lives.proofs.Made.{makes_own, makes_accept}

@@ -1,4 +1,4 @@
-use Rattle.lsm_store.proofs.NumberedApart.{named_apart}
+use Rattle.lsm_open.proofs.NumberedApart.{named_apart}
 use Rattle.lsm_store.proofs.StoredLevels.{levels_kept, blocks_kept, levels_installed, jobs_stored}
 use Rattle.lsm_store.proofs.stored_law.levels_stay_stored.Goals as goal
 

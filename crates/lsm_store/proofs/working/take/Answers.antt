@@ -5,10 +5,10 @@ use Rattle.lsm_device.specs.declared.refusal.Refusal.TheVariants.{Exhausted}
 use Rattle.lsm_mem.specs.Versions.{sealed_versions}
 use Rattle.lsm_jobs.specs.declared.taking.TakenJob.{TakenJob}
 use Rattle.lsm_store.specs.Backing.{machine_of}
-use Rattle.lsm_machine.specs.Calls.{Refused, reply_of}
+use Rattle.lsm_machine.specs.Calls.{Refused, reply_of, taken_reply}
 use Rattle.lsm_store.specs.Memory.{view_of}
 use Rattle.lsm_machine.specs.Work.{Take}
-use Rattle.lsm_store.specs.Working.{Works, taken_reply}
+use Rattle.lsm_store.specs.Working.{Works}
 use Rattle.lsm_machine.proofs.Unrefused.{err_of}
 use Rattle.lsm_store.proofs.WorkAnswers.{take_told, take_past, take_free, take_short, ok_no_err, mapped_some}
 use Rattle.lsm_store.proofs.WorkingMemory.{waits_told, told_waits, told_sealed, told_is, cuts_made, take_kept}

@@ -1,4 +1,4 @@
-use Rattle.lsm_machine.specs.WorkEffects.{installed}
+use Rattle.lsm_machine.specs.Effects.{installed}
 use Rattle.lsm_store.proofs.memory.Memory.install_to.Given as goal
 
 abbrev pub ghost-then_by_flag : goal.ghost-then_by_flag

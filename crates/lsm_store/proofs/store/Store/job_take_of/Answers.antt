@@ -2,8 +2,8 @@ use Rattle.std.proofs.Common.{Some, subst}
 use Rattle.lsm_store.specs.Backing.{StoreView}
 use Rattle.lsm_store.specs.Memory.{view_of}
 use Rattle.lsm_machine.specs.Work.{Take}
-use Rattle.lsm_store.specs.Working.{Works, taken_reply}
-use Rattle.lsm_machine.specs.Calls.{reply_of}
+use Rattle.lsm_store.specs.Working.{Works}
+use Rattle.lsm_machine.specs.Calls.{taken_reply, reply_of}
 use Rattle.lsm_store.proofs.store.Store.job_take_of.Goals as goal
 
 pub invariant_of-self : goal.invariant_of-self

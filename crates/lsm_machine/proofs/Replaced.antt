@@ -9,7 +9,7 @@ use Rattle.lsm_merge.specs.Keeping.{keep}
 use Rattle.lsm_merge.specs.Laws.{IsKeptAt, HaveSameMap}
 use Rattle.lsm_merge.proofs.MapLaws.{keep_law}
 use Rattle.lsm_levels.specs.Among.{IsAmong}
-use Rattle.lsm_open.proofs.InPlace.{map_of-values}
+use Rattle.lsm_machine.proofs.SameMaps.{map_of-values}
 use Rattle.lsm_machine.specs.WorkMaps.{IsUnique}
 use Rattle.lsm_machine.proofs.NewestAmong.{IsNewest, key_of, newest_is, none_is}
 
