@@ -18,9 +18,8 @@
 //! committed, and a [`Plan`] what is to be attempted next until that is done.
 //!
 //! ```
-//! let policy = Policy::new();
-//! keep_up(alloc, &mut store, &policy);
-//! let number = write(alloc, &mut store, None, &batch)?;
+//! let mut upkeep = Upkeep::new();
+//! let number = write(alloc, &mut store, &mut upkeep, None, &batch)?;
 //! ```
 #![tactic(auto)]
 
