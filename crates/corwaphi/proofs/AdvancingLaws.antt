@@ -1,20 +1,19 @@
 -- What asking for the next row comes to.
-use Rattle.std.proofs.Common.{◌≡◌, ◌⊎◌, inl, inr, ◌+◌, ℕ, zero, suc, List, [], ◌∷◌, ◌++◌, drop, Option, Some, None, Result, Ok, Err, refl, sym, ap, subst, ◌∙◌, arith}
+use Rattle.std.proofs.Common.{◌≡◌, inl, inr, ◌+◌, ℕ, zero, suc, List, [], ◌∷◌, ◌++◌, drop, Option, Some, None, Result, Ok, Err, refl, sym, ap, subst, ◌∙◌, arith}
 use Rattle.std.specs.Prelude.{slice_get}
 use Rattle.lsm_codec.specs.Keys.{Bytes}
-use Rattle.lsm_codec.specs.Map.{Map}
 use Rattle.lsm_device.specs.declared.refusal.Refusal.{Refusal}
-use Rattle.lsm_device.specs.declared.refusal.Refusal.TheVariants.{NoMemory, Io}
+use Rattle.lsm_device.specs.declared.refusal.Refusal.TheVariants.{Io}
 use Rattle.lsm_mem.specs.Paging.{Page, pairs_in, page_of}
-use Rattle.lsm_store.specs.Backing.{StoreView, IsBacked}
+use Rattle.lsm_store.specs.Backing.{IsBacked}
 use Rattle.lsm_machine.specs.Calls.{Reply, Rows, Refused, Scan}
 use Rattle.lsm_machine.specs.Effects.{reply_by}
 use Rattle.lsm_machine.specs.Refusals.{full_refusal}
-use Rattle.lsm_machine.specs.Run.{Allows, next}
+use Rattle.lsm_machine.specs.Run.{next}
 use Rattle.lsm_machine.specs.State.{State, map_at}
 use Rattle.lsm_machine.specs.declared.asked.At.{At}
 use Rattle.corwaphi.specs.declared.row.Row.{Row}
-use Rattle.corwaphi.specs.Advancing.{Standing, ReadsPage, HasRead, IsPageRefused, IsFirst, TakesRow, TellsRow, TellsNextRow, ComesNext, AsksRow, pair_of, pairs_from, rows_to_come}
+use Rattle.corwaphi.specs.Advancing.{Standing, ReadsPage, HasRead, IsPageRefused, IsFirst, TakesRow, AsksRow, pair_of, pairs_from, rows_to_come}
 use Rattle.corwaphi.proofs.Behind.{page_and_rest, none_behind}
 
 pub is_first : (rows : List (Bytes × Bytes)) (told : ℕ) (row : Option (Bytes × Bytes)) → row ≡ slice_get rows told → IsFirst row (drop told rows) (drop (told + 1) rows)

@@ -8,7 +8,7 @@ use Rattle.std.specs.Ordering.{is_lt, is_le}
 use Rattle.std.specs.FinMap as finite
 use Rattle.std.specs.FinMap.{is_sorted, entries_sorted}
 use Rattle.std.specs.FinMap.Entries.{below_all}
-use Rattle.std.proofs.lemmas.List.{append-nil, take-append-drop}
+use Rattle.std.proofs.lemmas.List.{take-append-drop}
 use Rattle.lsm_codec.specs.Keys.{Bytes, byte_order}
 use Rattle.lsm_codec.specs.Map.{Map}
 use Rattle.lsm_codec.proofs.KeyOrder.{is_lt_Less, is_eq_Equal, key_itself, less_greater, below_both, tied_below}

@@ -1,5 +1,6 @@
 mod AdvancingLaws
 mod Behind
+mod Buffers
 mod Opened
 mod Room
 mod WritingLaws

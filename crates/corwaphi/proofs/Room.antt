@@ -1,5 +1,5 @@
 -- The blocks that rows fill.
-use Rattle.std.proofs.Common.{◌≡◌, ◌+◌, ◌*◌, ◌/◌, ◌%◌, ◌<◌, ◌≤◌, ℕ, subst, arith}
+use Rattle.std.proofs.Common.{◌≡◌, ◌+◌, ◌*◌, ◌/◌, ◌%◌, ◌<◌, ◌≤◌, ℕ, arith}
 use Rattle.std.proofs.lemmas.Nat.{div-add-mod', le-div, mod_below, mul-le, mul-add-lt}
 
 -- rows of so many bytes fit into as many blocks as there are when each has all that it has room for

@@ -1,4 +1,5 @@
 pub mod Advancing
+pub mod Buffering
 pub mod Opening
 pub mod Paging
 pub mod Sizes

@@ -15,6 +15,9 @@
 //! (`IsUpkept`).
 #![tactic(auto)]
 
+mod buffer;
+mod buffer_law;
+mod buffered;
 mod db;
 mod files;
 mod open_error;
@@ -26,6 +29,7 @@ mod pages;
 mod range_rows;
 mod row;
 
+pub use buffered::BufferedDb;
 pub use db::Db;
 pub use lsm_codec::{Batch, Guard, Op};
 pub use lsm_device::{Device, FileDevice, MemDevice, OpenError, Refusal};
@@ -37,3 +41,8 @@ pub use options::Options;
 pub use pages::Pages;
 pub use range_rows::RangeRows;
 pub use row::Row;
+
+/// Laws of the definitions: functions without a body, whose clauses are theorems.
+pub mod laws {
+    pub use crate::buffer_law::buffers_show_one_map;
+}

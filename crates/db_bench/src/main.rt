@@ -1,5 +1,5 @@
-//! How fast the front door is, with all that it does besides: keys of 16 bytes in an order that looks random are put once, and put again,
-//! got, and read in order. Its words are the path of a file, which is made anew, how many keys there are, how many bytes each value has,
+//! How fast the front door is, with all that it does besides: keys of 16 bytes in an order that looks random are put once, put again, put
+//! again by way of a buffer, got, and read in order. Its words are the path of a file, which is made anew, how many keys there are, how many bytes each value has,
 //! and how many sectors a log region has. Of each workload it prints how many a second there were, and the longest wait for one.
 //!
 //! With no words it does so with few keys, and prints how many values were right alone.
@@ -47,6 +47,7 @@ fn main(rt: HostRuntime) -> Result<ExitCode> {
     if !words.is_empty() {
         print_rate(&rt, "fill", told.fill)?;
         print_rate(&rt, "overwrite", told.overwrite)?;
+        print_rate(&rt, "overwrite, buffered", told.buffered)?;
         print_rate(&rt, "get", told.gets)?;
         print_rate(&rt, "rows", told.rows)?;
         println!(rt; "{} tables, {} blocks free", told.tables, told.free_blocks)?;

@@ -1,7 +1,7 @@
 //! The workloads, and the time that each takes.
 
 use anyhow::Result;
-use corwaphi::{Db, FileDevice, OpenDbError, Options};
+use corwaphi::{BufferedDb, Db, FileDevice, OpenDbError, Options};
 use std::fs::{File, Files};
 use std::rt::Clock;
 use std::time::Instant;
@@ -53,6 +53,7 @@ impl Told {
 pub(crate) struct AllTold {
     pub(crate) fill: Told,
     pub(crate) overwrite: Told,
+    pub(crate) buffered: Told,
     pub(crate) gets: Told,
     pub(crate) rows: Told,
     pub(crate) right: u32,
@@ -96,6 +97,25 @@ fn put_all<R: Clock>(
         told.add(since(rt, start));
     }
     Ok(told)
+}
+
+// Puts the same values again, but has them wait for a commit of some 16 KiB.
+fn put_buffered<R: Clock>(
+    rt: &R,
+    db: Db<FileDevice>,
+    keys: u32,
+    value: &[u8],
+) -> Result<(Told, Db<FileDevice>)> {
+    let mut buffered = BufferedDb::on(db);
+    let mut told = Told::none();
+    for number in 0..keys {
+        let start = Instant::now(rt).ok();
+        buffered.put(&key_of(number), value)?;
+        told.add(since(rt, start));
+    }
+    buffered.commit()?;
+    let (db, _) = buffered.into_parts();
+    Ok((told, db))
 }
 
 // Gets each key, and counts the values that are right.
@@ -163,12 +183,14 @@ pub(crate) fn measure<R: Files<File = File> + Clock + AllocGlobal>(
     value.resize(sizes.value_bytes as usize, 0_u8)?;
     let fill = put_all(rt, &mut db, sizes.keys, &mut value, b'1')?;
     let overwrite = put_all(rt, &mut db, sizes.keys, &mut value, b'2')?;
+    let (buffered, mut db) = put_buffered(rt, db, sizes.keys, &value)?;
     let (gets, right) = get_all(rt, &mut db, sizes.keys, &value)?;
     let (rows, row_count) = read_all(rt, &mut db)?;
     let stat = db.stat()?;
     Ok(AllTold {
         fill,
         overwrite,
+        buffered,
         gets,
         rows,
         right,

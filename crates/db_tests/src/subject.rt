@@ -55,6 +55,11 @@ impl<D: Device> Subject<D> {
         Subject { alloc, db }
     }
 
+    pub(crate) fn into_db(self) -> Db<D> {
+        let Subject { alloc: _, db } = self;
+        db
+    }
+
     pub(crate) fn into_device(self) -> D {
         let Subject { alloc: _, db } = self;
         db.into_device()
