@@ -110,10 +110,10 @@ fn open_and_serve<R: AllocGlobal, D: Device>(
             serve_each(&mut db, calls, replies);
             db.into_device()
         }
-        Err(OpenOnError { refusal, device }) => {
-            replies.push_reserved(Reply::Refused(refusal));
+        Err(refused) => {
+            replies.push_reserved(Reply::Refused(refused.refusal));
             refuse_each(calls, replies);
-            device
+            refused.device
         }
     }
 }

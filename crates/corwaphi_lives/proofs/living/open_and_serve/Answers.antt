@@ -18,7 +18,7 @@ returns-in-Ok g c =
 pub returns-in-Err : goal.returns-in-Err
 returns-in-Err g c =
     let calls = map call_of c.args.calls.now in
-    let refusal = c.in-Err.refusal in
-    led_refused (g.D.Device.medium c.args.device) calls (map reply_of c.refuse_each.new.replies.items) (g.D.Device.medium c.in-Err.device) refusal c.in-Err.ensures
+    let refusal = c.in-Err.refused.refusal in
+    led_refused (g.D.Device.medium c.args.device) calls (map reply_of c.refuse_each.new.replies.items) (g.D.Device.medium c.in-Err.refused.device) refusal c.in-Err.ensures
     (c.refuse_each.ensures ∙ ap (λ (l : List Reply). l ++ map (λ _. Refused Stopped) calls)
     (reply_first c.args.replies.now.items c.push_reserved-in-Err.new.self.items (reply.Refused refusal) c.requires.none_yet c.push_reserved-in-Err.ensures.items))
