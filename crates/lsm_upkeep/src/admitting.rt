@@ -38,7 +38,7 @@ pub fn admit<D: Device>(
         return Ok(());
     }
     let is_full = matches!(store.log_room(), Ok(0));
-    begin_write(alloc, store, upkeep, is_full);
+    begin_write(alloc, store, upkeep, is_full, batch.text_len());
     let demand = Demand::of(store, batch);
     let has_log = demand.has_log(store);
     if upkeep.admits(alloc, store, &demand, has_log) {
@@ -52,14 +52,21 @@ pub fn admit<D: Device>(
     make_room(alloc, store, upkeep, Demand::of(store, batch))
 }
 
-// Opens a log where the open one has no room, before which a merge that was begun is finished, and goes on with merges.
-fn begin_write<D: Device>(alloc: Global, store: &mut Store<D>, upkeep: &mut Upkeep, is_full: bool)
+// Before so many bytes are written: opens a log where the open one has no room, before which a merge that was begun is finished, and goes on
+// with merges.
+fn begin_write<D: Device>(
+    alloc: Global,
+    store: &mut Store<D>,
+    upkeep: &mut Upkeep,
+    is_full: bool,
+    bytes: usize,
+)
     ensures upkept { IsUpkept store.old store.new }
     ensures readies { (ready : StoreView) × ReadiesLog store.old ready × IsUpkept ready store.new }
 {
     finish_before_flush(alloc, store, upkeep, is_full);
     open_log(alloc, store);
-    upkeep.go_on(alloc, store, is_full);
+    upkeep.go_on(alloc, store, is_full, bytes);
 }
 
 // Finishes the merge that was begun, where a flush comes next.

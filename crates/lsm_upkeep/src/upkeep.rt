@@ -15,6 +15,9 @@ use lsm_policy::Policy;
 use lsm_store::Store;
 use std::alloc::Global;
 
+/// Before a write of more bytes than so many a merge goes on more than once.
+const BYTES_A_TIME: usize = 2_048;
+
 /// What is kept beside a store between its writes: whether merges are due, which one was begun, and how much more may come into memory
 /// before the store is asked again whether there is room. Each store has one of its own.
 #[derive(Clone, Copy)]
@@ -29,7 +32,8 @@ pub struct Upkeep {
 
 impl Upkeep {
     /// That of who writes again and again: where a log is full, the merges that are due then are done in pieces before the next writes, so
-    /// that no write waits for a whole one. Before each at most 64 blocks are read or written, or one result is built.
+    /// that no write waits for a whole one. Before each, and once more for each 2 KiB of it, at most 64 blocks are read or written, or one
+    /// result is built.
     pub fn new() -> Upkeep {
         Upkeep {
             allowance: Allowance::none(),
@@ -57,14 +61,40 @@ impl Upkeep {
         }
     }
 
-    /// Goes on with the merge that was begun, or begins one of those that are due. Where another log was opened they are due from now on.
-    pub(crate) fn go_on<D: Device>(&mut self, alloc: Global, store: &mut Store<D>, opened: bool)
+    /// Goes on with the merge that was begun, or begins one of those that are due: the further, the more bytes are written then. Where another
+    /// log was opened they are due from now on.
+    pub(crate) fn go_on<D: Device>(
+        &mut self,
+        alloc: Global,
+        store: &mut Store<D>,
+        opened: bool,
+        bytes: usize,
+    )
         ensures { IsUpkept store.old store.new }
     {
         if opened {
             self.merge(alloc, store);
-            return;
+        } else {
+            self.go_on_times(alloc, store, bytes / BYTES_A_TIME);
         }
+    }
+
+    // Does so once and so many times more, as long as a merge is begun.
+    fn go_on_times<D: Device>(&mut self, alloc: Global, store: &mut Store<D>, more: usize)
+        ensures { IsUpkept store.old store.new }
+    {
+        self.go_on_once(alloc, store);
+        for _ in 0..more {
+            if self.begun.is_none() {
+                return;
+            }
+            self.go_on_once(alloc, store);
+        }
+    }
+
+    fn go_on_once<D: Device>(&mut self, alloc: Global, store: &mut Store<D>)
+        ensures { IsUpkept store.old store.new }
+    {
         match self.begun {
             Some(job) => self.go_on_with(alloc, store, job),
             None => self.begin_if_due(alloc, store),
