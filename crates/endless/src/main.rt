@@ -2,43 +2,42 @@
 //!
 //! Its arguments are numbers: the seed of the first store; how many stores there are; how many batches each gets in a round at most, for
 //! each MiB that its tables may take; its sectors and those of a log region, where 0 stands for several sizes; how many calls of the device
-//! fail in a round, of one store in 25; and how many rows are replaced one by one in a store that was once stuck, where 0 leaves out all
-//! of these. Standard error has each store that went wrong, and counts.
+//! fail in a round, of one store in 25; how many rows are replaced one by one in a store that was once stuck, where 0 leaves out all
+//! of these; and whether other calls come between the batches, where 0 says no. Standard error has each store that went wrong, and counts.
 #![tactic(auto)]
 
-mod book;
-mod draws;
-mod feeding;
-mod stream;
-mod striking;
-mod subject;
-mod tally;
-mod tries;
-mod trouble;
-
-use crate::feeding::{Feeding, feed_all};
-use crate::tally::Tally;
-use crate::tries::try_all;
 use anyhow::Result;
+use random_stores::{Feeding, Tally, feed_all, try_all};
 use std::env;
 use std::process::ExitCode;
 
 fn main(rt: HostRuntime) -> Result<ExitCode> {
     let mut words = env::args(&rt)?.skip(1);
-    let mut numbers: [u64; 7] = [1, 100, 1_000, 0, 0, 20, 200];
+    let mut numbers: [u64; 8] = [1, 100, 1_000, 0, 0, 20, 200, 0];
     for number in numbers.iter_mut() {
         if let Some(word) = words.next() {
             *number = word.parse::<u64>()?;
         }
     }
-    let [seed, stores, lines, sectors, log_sectors, strikes, replaced] = numbers;
+    let [
+        seed,
+        stores,
+        lines,
+        sectors,
+        log_sectors,
+        strikes,
+        replaced,
+        mixed,
+    ] = numbers;
     let feeding = Feeding {
         seed,
+        apart: 1,
         stores,
         lines: u32::try_from(lines).unwrap_or(u32::MAX),
         sectors: u32::try_from(sectors).unwrap_or(u32::MAX),
         log_sectors: u16::try_from(log_sectors).unwrap_or(0),
         strikes: u32::try_from(strikes).unwrap_or(u32::MAX),
+        is_mixed: mixed != 0,
     };
     let mut tally = Tally::new(rt.alloc());
     feed_all(&rt, feeding, &mut tally);

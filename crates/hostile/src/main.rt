@@ -8,6 +8,7 @@ mod deeds;
 mod explorations;
 mod faults;
 mod foreign;
+mod front_doors;
 mod growths;
 mod lives;
 mod old_images;
@@ -50,6 +51,7 @@ fn main(rt: HostRuntime) -> Result<ExitCode> {
         ("foreign images", found.images),
         ("random lives", found.lives),
         ("old images", found.old_images),
+        ("lives of a front door", found.front_doors),
     ] {
         let Tally {
             cases,

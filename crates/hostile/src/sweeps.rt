@@ -6,7 +6,8 @@ use crate::explorations::TOURS;
 use crate::scripts::LISTS;
 use crate::tally::Tally;
 use crate::{
-    explorations, faults, foreign, growths, lives, old_images, openings, replays, sessions,
+    explorations, faults, foreign, front_doors, growths, lives, old_images, openings, replays,
+    sessions,
 };
 use compared_steps::trouble::Trouble;
 use lsm_device::Refusal;
@@ -65,12 +66,19 @@ impl Extent {
     }
 }
 
+/// How a store differs: from the plain machine, or that of a seed, behind a front door, from a plain list.
+#[derive(Clone, Copy, Debug)]
+pub(crate) enum Differs {
+    Machine(Trouble),
+    List(u64, random_stores::Trouble),
+}
+
 /// A difference, and where it was found.
 #[derive(Clone, Copy, Debug)]
 pub(crate) struct Difference {
     pub(crate) sweep: &'static str,
     pub(crate) list: &'static str,
-    pub(crate) trouble: Trouble,
+    pub(crate) trouble: Differs,
 }
 
 /// What the sweeps tried, and what they found.
@@ -84,6 +92,7 @@ pub(crate) struct Found {
     pub(crate) images: Tally,
     pub(crate) lives: Tally,
     pub(crate) old_images: Tally,
+    pub(crate) front_doors: Tally,
     /// Whether there were old images of each kind.
     has_each_kind: bool,
     pub(crate) differences: Vec<Difference>,
@@ -100,6 +109,7 @@ impl Found {
             images: Tally::NONE,
             lives: Tally::NONE,
             old_images: Tally::NONE,
+            front_doors: Tally::NONE,
             has_each_kind: false,
             differences: Vec::new(alloc),
         }
@@ -111,7 +121,7 @@ impl Found {
         let is_met = self.faults.failed > 0 && self.growths.refused > 0;
         let is_shared = self.sessions.failed > 0 && self.sessions.refused > 0;
         let lives = self.lives.failed > 0 && self.lives.tables > 0;
-        let are_drawn = lives && self.has_each_kind;
+        let are_drawn = lives && self.has_each_kind && self.front_doors.failed > 0;
         if is_met && is_shared && self.replays.refused > 0 && images && are_drawn {
             return "calls failed, growths were refused, images were refused and opened, old ones too";
         }
@@ -128,7 +138,7 @@ impl Found {
             self.differences.push(Difference {
                 sweep,
                 list,
-                trouble,
+                trouble: Differs::Machine(trouble),
             })?;
         }
         Ok(())
@@ -248,8 +258,26 @@ impl Found {
         }
     }
 
-    /// The sweep at a place: those of the lists, and then seven others.
-    fn sweep_at<R: Threads + Wait + Sync>(
+    fn lead_stores<R: AllocGlobal>(
+        &mut self,
+        rt: &R,
+        alloc: Global,
+        extent: Extent,
+    ) -> Result<(), Refusal> {
+        let stores = (extent.part / 100).max(1);
+        let led = front_doors::sweep(rt, alloc, stores, &mut self.front_doors);
+        for (seed, trouble) in led.troubles.iter() {
+            self.differences.push(Difference {
+                sweep: "front doors",
+                list: "random",
+                trouble: Differs::List(*seed, *trouble),
+            })?;
+        }
+        Ok(())
+    }
+
+    /// The sweep at a place: those of the lists, and then eight others.
+    fn sweep_at<R: AllocGlobal + Threads + Wait + Sync>(
         &mut self,
         rt: &R,
         alloc: Global,
@@ -269,12 +297,13 @@ impl Found {
             3 => self.share(rt, alloc, extent),
             4 => self.explore(rt, alloc, extent),
             5 => self.live(rt, alloc, extent),
-            _ => self.try_old(rt, alloc, extent),
+            6 => self.try_old(rt, alloc, extent),
+            _ => self.lead_stores(rt, alloc, extent),
         }
     }
 
     /// All sweeps, or the one at a place alone.
-    pub(crate) fn sweep<R: Threads + Wait + Sync>(
+    pub(crate) fn sweep<R: AllocGlobal + Threads + Wait + Sync>(
         &mut self,
         rt: &R,
         alloc: Global,
@@ -284,7 +313,7 @@ impl Found {
         if let Some(place) = alone {
             return self.sweep_at(rt, alloc, place, extent);
         }
-        for place in 0..LISTS.len().wrapping_add(7) {
+        for place in 0..LISTS.len().wrapping_add(8) {
             self.sweep_at(rt, alloc, place, extent)?;
         }
         Ok(())

@@ -37,6 +37,13 @@ impl Tally {
         self.tables = self.tables.wrapping_add((tables > 0).into());
     }
 
+    /// Counts random stores, each as a case.
+    pub(crate) fn count_stores(&mut self, led: &random_stores::Tally) {
+        self.cases = self.cases.wrapping_add(led.stores);
+        self.failed = self.failed.wrapping_add(led.stops);
+        self.openings = self.openings.wrapping_add(led.openings);
+    }
+
     pub(crate) fn count_opening(&mut self) {
         self.openings = self.openings.wrapping_add(1);
     }

@@ -1,5 +1,6 @@
 //! Stores that are fed with random streams until they are full.
 
+use crate::calls::Calls;
 use crate::draws::Draws;
 use crate::stream::Stream;
 use crate::striking::strike_all;
@@ -29,9 +30,12 @@ const ROUNDS: u32 = 3;
 
 /// Which stores are fed, and with how much.
 #[derive(Clone, Copy)]
-pub(crate) struct Feeding {
-    /// The seed of the first store.
+pub struct Feeding {
+    /// The seed of the first store, and how much larger that of each next one is. Of those that leave 18 when they are divided by 25 calls of
+    /// the device fail, and their logs are short.
     pub seed: u64,
+    pub apart: u64,
+    /// How many stores there are.
     pub stores: u64,
     /// How many batches a store gets in a round at most, for each MiB that its tables may take.
     pub lines: u32,
@@ -39,8 +43,11 @@ pub(crate) struct Feeding {
     pub sectors: u32,
     /// The sectors of each log region, 0 for several sizes.
     pub log_sectors: u16,
-    /// How many calls of a device fail in a round.
+    /// How many calls of a device fail in a round, of a store of which some do.
     pub strikes: u32,
+    /// Whether other calls come between the batches, as guarded ones, reads, syncs and compactions; each store is led for three rounds then,
+    /// whether it gets full or not, and crashes come behind batches that were not synced.
+    pub is_mixed: bool,
 }
 
 /// Takes one of some numbers out of them.
@@ -70,7 +77,7 @@ fn rescue(subject: &mut Subject, stream: &mut Stream) -> Result<(), Trouble> {
 fn fed<R: AllocGlobal>(
     rt: &R,
     subject: Subject,
-    stream: &mut Stream,
+    (stream, calls): (&mut Stream, &mut Calls),
     lines: u32,
 ) -> Result<(Subject, bool), Trouble> {
     let mut subject = subject;
@@ -84,9 +91,9 @@ fn fed<R: AllocGlobal>(
                 subject.let_go()?;
                 subject = subject.reopened(rt)?;
             }
-            1 | 2 => subject.hold()?,
+            1 | 2 => subject.hold(1)?,
             3..=9 => subject.let_go()?,
-            _ => {}
+            _ => calls.may_make(&mut subject, stream)?,
         }
     }
     subject.let_go()?;
@@ -96,27 +103,26 @@ fn fed<R: AllocGlobal>(
 /// Leads a store through its rounds.
 fn lead<R: AllocGlobal>(rt: &R, feeding: Feeding, seed: u64) -> Result<Course, Trouble> {
     let mut stream = Stream::new(rt.alloc(), seed);
+    let mut calls = Calls::new(seed, feeding.is_mixed);
     let key_len = stream.draws.one_of(&[2, 2, 4, 16, 255]);
     let (sectors, log_sectors) = feeding.shape(seed);
     let lines = feeding
         .lines
         .saturating_mul(mebibytes(sectors, log_sectors));
     let mut subject = Subject::new(rt, sectors, log_sectors, key_len)?;
-    let mut refusals: u64 = 0;
     for _ in 0..ROUNDS {
-        let (next, is_full) = fed(rt, subject, &mut stream, lines)?;
-        subject = strike_all(rt, next, &mut stream, feeding.strikes_of(seed))?;
-        if !is_full {
+        let (next, is_full) = fed(rt, subject, (&mut stream, &mut calls), lines)?;
+        let strikes = feeding.strikes_of(seed);
+        subject = strike_all(rt, next, (&mut stream, &mut calls), strikes)?;
+        if is_full {
+            subject.course.count_refusal();
+            rescue(&mut subject, &mut stream)?;
+        } else if !feeding.is_mixed {
             break;
         }
-        refusals = refusals.saturating_add(1);
-        rescue(&mut subject, &mut stream)?;
     }
     subject.compare()?;
-    Ok(Course {
-        refusals,
-        stops: subject.stops(),
-    })
+    Ok(subject.course)
 }
 
 /// The MiB that tables may take, at least one.
@@ -178,10 +184,10 @@ fn short(turn: u64) -> u16 {
     }
 }
 
-/// Feeds so many stores.
-pub(crate) fn feed_all<R: AllocGlobal>(rt: &R, feeding: Feeding, tally: &mut Tally) {
+/// Feeds stores, and counts what comes of each.
+pub fn feed_all<R: AllocGlobal>(rt: &R, feeding: Feeding, tally: &mut Tally) {
     for i in 0..feeding.stores {
-        let seed = feeding.seed.wrapping_add(i);
+        let seed = feeding.seed.wrapping_add(i.wrapping_mul(feeding.apart));
         tally.count(seed, lead(rt, feeding, seed));
     }
 }

@@ -4,7 +4,6 @@ use crate::stream::{Deed, KEYS};
 use lsm_codec::{Batch, Op};
 use lsm_device::Refusal;
 use std::alloc::{AllocError, Global};
-use std::mem;
 
 /// The most bytes of a value.
 const MOST: usize = 2_048;
@@ -21,16 +20,14 @@ impl Drop for Gathered {
     }
 }
 
-impl Gathered {
-    /// Whether one of the operations puts a value.
-    pub fn has_put(&self) -> bool {
-        for deed in self.deeds.iter() {
-            if deed.value.is_some() {
-                return true;
-            }
+/// Whether one of some operations puts a value.
+pub(crate) fn has_put(deeds: &[Deed]) -> bool {
+    for deed in deeds {
+        if deed.value.is_some() {
+            return true;
         }
-        false
     }
+    false
 }
 
 /// The values that the keys are to have.
@@ -55,7 +52,7 @@ impl Drop for Book {
     }
 }
 
-/// What is kept of a value.
+/// What is kept of a value, of its length and its byte.
 fn row_of(length: u32, byte: u32) -> u32 {
     if length == 0 {
         return 1;
@@ -125,6 +122,11 @@ impl Book {
         byte
     }
 
+    /// The value that a put of so many bytes gives in the next batch.
+    pub fn next_value(&self, length: u32) -> Result<Vec<u8>, AllocError> {
+        Ok(Vec::from_slice(self.alloc, part(&[self.byte(); MOST], length))?)
+    }
+
     fn op(&self, deed: Deed) -> Result<Op, Refusal> {
         let key = self.key(deed.key)?;
         match deed.value {
@@ -175,14 +177,14 @@ impl Book {
         self.count = self.count.wrapping_add(1);
     }
 
-    /// What is noted now.
-    pub fn rows_then(&self) -> Result<Vec<u32>, AllocError> {
-        Ok(Vec::from_slice(self.alloc, &self.rows)?)
-    }
-
-    /// Goes by what was noted at another time, and answers what was noted up to now.
-    pub fn turn_to(&mut self, rows: Vec<u32>) -> Vec<u32> {
-        mem::replace(&mut self.rows, rows)
+    /// A copy of what is noted now.
+    pub fn copy(&self) -> Result<Book, AllocError> {
+        Ok(Book {
+            alloc: self.alloc,
+            rows: Vec::from_slice(self.alloc, &self.rows)?,
+            key_len: self.key_len,
+            count: self.count,
+        })
     }
 
     /// The numbers of the keys that have values.
@@ -200,6 +202,24 @@ impl Book {
         match self.rows.get(number as usize) {
             Some(row) => *row,
             None => 0,
+        }
+    }
+
+    /// The value that the key of a number is to have, if any.
+    pub fn value(&self, number: u32) -> Result<Option<Vec<u8>>, AllocError> {
+        let Some(told) = self.row(number).checked_sub(1) else {
+            return Ok(None);
+        };
+        let [_, _, _, byte] = told.to_be_bytes();
+        Ok(Some(Vec::from_slice(self.alloc, part(&[byte; MOST], told / 256))?))
+    }
+
+    /// Whether a value, or that there is none, is what the key of a number is to have.
+    pub fn is_value(&self, number: u32, value: &Option<Vec<u8>>) -> bool {
+        let row = self.row(number);
+        match value {
+            Some(value) => row != 0 && row == told_row(value),
+            None => row == 0,
         }
     }
 

@@ -65,7 +65,7 @@ fn fill(subject: &mut Subject, it: Try) -> Result<u32, Trouble> {
         if rows >= MOST {
             break;
         }
-        let deeds = next_puts(subject.alloc(), it, rows)?;
+        let deeds = next_puts(subject.alloc, it, rows)?;
         if let Went::Full = subject.make_all(&deeds)? {
             break;
         }
@@ -154,8 +154,9 @@ fn between<R: AllocGlobal>(rt: &R) -> Result<Course, Trouble> {
     put_between(&mut subject)
 }
 
-/// Leads all of them, and replaces rows for so many turns; with no turn it does nothing.
-pub(crate) fn try_all<R: AllocGlobal>(rt: &R, turns: u32, tally: &mut Tally) {
+/// Leads the stores that were once stuck the same way again, and replaces rows of one of them for so many turns. With no turn it does
+/// nothing. They are counted from 0 where they stand for seeds.
+pub fn try_all<R: AllocGlobal>(rt: &R, turns: u32, tally: &mut Tally) {
     if turns == 0 {
         return;
     }

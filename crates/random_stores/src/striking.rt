@@ -1,8 +1,11 @@
 //! Stores of whose device calls fail.
 
 use crate::book::Gathered;
+use crate::calls::Calls;
+use crate::opening::Failure;
+use crate::risking::risk_all;
 use crate::stream::Stream;
-use crate::subject::{Failure, Subject, Went};
+use crate::subject::{Subject, Went};
 use crate::trouble::Trouble;
 
 /// So many batches are made at most until the call fails.
@@ -35,10 +38,16 @@ fn risked(subject: &mut Subject, stream: &mut Stream) -> Result<Option<Gathered>
 fn strike<R: AllocGlobal>(
     rt: &R,
     subject: Subject,
-    stream: &mut Stream,
+    (stream, calls): (&mut Stream, &mut Calls),
     failure: Failure,
 ) -> Result<Subject, Trouble> {
     let mut subject = subject.armed(rt, failure)?;
+    if calls.is_mixed {
+        let pending = risk_all(&mut subject, stream, &mut calls.draws)?;
+        let mut subject = subject.crashed(rt, &mut stream.draws)?;
+        pending.settle(&mut subject)?;
+        return Ok(subject);
+    }
     let last = risked(&mut subject, stream)?;
     let mut subject = subject.crashed(rt, &mut stream.draws)?;
     subject.settle(last)?;
@@ -49,7 +58,7 @@ fn strike<R: AllocGlobal>(
 pub(crate) fn strike_all<R: AllocGlobal>(
     rt: &R,
     subject: Subject,
-    stream: &mut Stream,
+    (stream, calls): (&mut Stream, &mut Calls),
     count: u32,
 ) -> Result<Subject, Trouble> {
     let apart = stream.draws.one_of(&[1, 17, 61, 149]);
@@ -60,7 +69,7 @@ pub(crate) fn strike_all<R: AllocGlobal>(
             in_opening: turn % 4 == 3,
             kept: turn % 2 == 0,
         };
-        subject = strike(rt, subject, stream, failure)?;
+        subject = strike(rt, subject, (&mut *stream, &mut *calls), failure)?;
     }
     Ok(subject)
 }
