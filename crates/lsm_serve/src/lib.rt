@@ -1,7 +1,7 @@
 //! A store that is served: lines are read as they come, and each is answered before the next one is read.
 //!
 //! ```
-//! let mut lines = BufReader::with_capacity(alloc, 65_536, input)?;
+//! let mut lines = buffered(alloc, input)?;
 //! serve(alloc, &mut store, &mut lines, output)?;
 //! ```
 #![tactic(auto)]

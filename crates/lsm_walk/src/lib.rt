@@ -2,7 +2,10 @@
 //!
 //! ```
 //! let mut walk = Walk::new(alloc, At::Now, &[])?;
-//! while let Some(page) = walk.next_page(alloc, &mut store)? {
+//! for _ in 0..u64::MAX {
+//!     let Some(page) = walk.next_page(alloc, &mut store)? else {
+//!         break;
+//!     };
 //!     for row in page.rows() {
 //!         show(row.key, row.value)?;
 //!     }

@@ -13,9 +13,12 @@
 //!
 //! ```
 //! let policy = Policy::new();
-//! while !stopping() {
-//!     if work(rt, alloc, &shared, &mut me, &policy, 4, 1_000)? {
-//!         pause();
+//! for _ in rt.forever() {
+//!     if *stopping.lock(rt) {
+//!         break;
+//!     }
+//!     if work(rt, alloc, shared, me, &policy, 4, 1_000)? {
+//!         sleep(rt, Duration::from_millis(10));
 //!     }
 //! }
 //! ```

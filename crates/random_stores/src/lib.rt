@@ -1,7 +1,7 @@
 //! Stores behind a front door ([`corwaphi::Db`]), on devices in memory, that are fed with random streams beside a plain list of the rows
 //! that they are to have: until they are full, rescued by deletes, and fed again. Calls of a device fail, and crashes come behind them.
 //!
-//! ```
+//! ```text
 //! let mut tally = Tally::new(rt.alloc());
 //! feed_all(rt, feeding, &mut tally);
 //! ```

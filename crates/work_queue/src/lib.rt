@@ -5,7 +5,8 @@
 //! said by laws on maps and batches alone ([`crashes_keep_tasks`]).
 //!
 //! ```
-//! let mut queue = Queue::on(rt.alloc(), Db::open_or_create(rt, "tasks.img", Options::default())?);
+//! let db = Db::open_or_create(rt, "tasks.img", Options::default())?;
+//! let mut queue = Queue::on(rt.alloc(), db);
 //! let number = queue.add(b"sweep the yard")?;
 //! queue.sync()?;
 //! if let Some((number, task)) = queue.claim()? {
