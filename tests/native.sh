@@ -33,7 +33,7 @@ cp -r "$tests/../clients/c" "$source"
 cp "$tests/../VERSION" "$room/VERSION"
 makes() { runs make -s -C "$source" ARCHIVE="$archive" BUILD="$build" "$@"; }
 sed -i 's|\.\./\.\./VERSION|../VERSION|' "$source/Makefile"
-makes CFLAGS='-O2 -g -Werror' all "$build/example" "$build"/{calls,random,fill,killed,crash,faults}
+makes CFLAGS='-O2 -g -Werror' all "$build/example" "$build"/{calls,random,fill,killed,journal,crash,faults}
 lines=$(cat "$source/corwaphi.c" "$source/files.c" | wc -l)
 for compiler in clang c++; do
     command -v $compiler >/dev/null || continue
@@ -72,18 +72,35 @@ runs "$build/calls" "$folder/calls.img" && last
 runs "$build/random" "$folder/random.img" "$(some 20000)" 1 && last
 runs "$build/fill" "$folder/fill.img" 1 && last
 runs "$build/killed" "$folder/killed.img" "$(some 100)" 1 && last
+runs "$build/journal" && last
 runs "$build/crash" "$(some 3000)" 1 && last
 runs "$build/faults" "$folder/faults.img" && last
 
-# A host that leaves syncs out is found out.
-cc -std=c11 -D_DEFAULT_SOURCE -DBAD -O1 -I"$source" "$source/tests/crash.c" "$build/libcorwaphi.a" -lpthread -o "$build/bad"
-if "$build/bad" 3000 1 >"$room/said" 2>&1; then fail 'a host that leaves syncs out passes'; fi
+# Hosts that are wrong are found out: `found TEST WHAT SED` tries one by a test.
+wrapped=(-std=c11 -D_DEFAULT_SOURCE -O1 -I"$source" '-Wl,--wrap=pwrite,--wrap=fdatasync')
+found() {
+    sed "$3" "$source/files.c" >"$room/wrong.c"
+    if cmp -s "$source/files.c" "$room/wrong.c"; then fail "$2: nothing was changed"; fi
+    cc "${wrapped[@]}" "$source/tests/$1.c" "$room/wrong.c" "$build/libcorwaphi.a" -lpthread -o "$build/wrong"
+    if "$build/wrong" 3000 1 >"$room/said" 2>&1; then fail "a host passes $1 that $2"; fi
+}
+for it in journal crash; do
+    found "$it" 'leaves syncs out' 's/if (!count && !synced(file->descriptor))/if (false)/'
+    found "$it" 'passes over a sync that failed' 's/if (!count && !synced(file->descriptor))/if (!count \&\& !synced(file->descriptor) \&\& false)/'
+    found "$it" 'writes behind a sync what stands in front of it' '
+        s/^    for (size_t at = 0; at < used;) {/    bool is_early = false;\n&/
+        s/if (!count && !synced/if (!count \&\& !is_early \&\& !synced/
+        s/^        if (count && !written(/        if (count)\n            is_early = at + SECTOR * count < used \&\& !little(journal + at + SECTOR * count + 4) \&\& synced(file->descriptor);\n&/'
+done
+found journal 'trusts the lengths of a journal' 's/if (!is_journal(file, journal, used))/if (false)/'
+found journal 'writes behind the end of the file' 's/ || (count && sector + count > file->length \/ SECTOR)//'
 
 # The sanitizers find nothing in the host.
 if cc -fsanitize=address,undefined -x c -o "$room/sane" - <<<'int main(void) { return 0; }' 2>/dev/null; then
     build=$room/sane.build
-    makes CFLAGS='-O1 -g -fsanitize=address,undefined -fno-sanitize-recover=all' "$build"/{calls,random}
+    makes CFLAGS='-O1 -g -fsanitize=address,undefined -fno-sanitize-recover=all' "$build"/{calls,random,journal}
     runs "$build/calls" "$folder/calls.img"
+    runs "$build/journal"
     runs "$build/random" "$folder/random.img" "$(some 4000)" 2 && last
     build=$room/build
 fi

@@ -12,6 +12,8 @@
 #include <unistd.h>
 
 #define SECTOR ((size_t)512)
+/* The bytes of a record of a journal before its sectors. */
+#define HEAD ((size_t)8)
 
 pthread_mutex_t corwaphi_table = PTHREAD_MUTEX_INITIALIZER;
 
@@ -57,11 +59,27 @@ static bool synced_whole(int file)
     return !result;
 }
 
+/* Whether a journal is one of records that end where it ends, and of sectors that the file has. */
+static bool is_journal(const struct file *file, const uint8_t *journal, size_t used)
+{
+    size_t at = 0;
+    while (used - at >= HEAD) {
+        size_t sector = little(journal + at), count = little(journal + at + 4);
+        at += HEAD;
+        if (count > (used - at) / SECTOR || (count && sector + count > file->length / SECTOR))
+            return false;
+        at += SECTOR * count;
+    }
+    return at == used;
+}
+
 bool corwaphi_file_make(const struct file *file, const uint8_t *journal, size_t used)
 {
+    if (!is_journal(file, journal, used))
+        return false;
     for (size_t at = 0; at < used;) {
         uint32_t sector = little(journal + at), count = little(journal + at + 4);
-        at += 8;
+        at += HEAD;
         if (!count && !synced(file->descriptor))
             return false;
         if (count && !written(file->descriptor, journal + at, SECTOR * count, (off_t)(SECTOR * sector)))
@@ -159,6 +177,7 @@ static uint32_t formatted(struct file *file, const struct corwaphi_options *opti
 {
     static const uint8_t zeros[65536];
     size_t room = CORWAPHI_STORE_FORMAT(options->log_sectors), end = SECTOR * options->sectors;
+    file->length = end;
     file->journal = malloc(room);
     if (!file->journal)
         return CORWAPHI_NO_MEMORY;

@@ -17,7 +17,8 @@ struct file {
 /* Held while a descriptor or a mapping comes or goes, and through each fork: so no child gets one that it doesn't know of. */
 extern pthread_mutex_t corwaphi_table;
 
-/* Makes what a call wrote, in its order. */
+/* Makes what a call wrote, in its order. Nothing is written of a journal that has half a record, or sectors that the file doesn't have: then,
+ * or if a call of the system fails, it returns false. */
 bool corwaphi_file_make(const struct file *file, const uint8_t *journal, size_t used);
 
 /* Opens a file for this store alone, by a descriptor above those of the standard streams; flags are 0 or O_CREAT. */

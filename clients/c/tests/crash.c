@@ -1,10 +1,15 @@
-/* Crashes of journals: `crash CRASHES SEED`. The disk is a model: sectors that stand, and writes that pend. A crash comes at any write or sync
- * of any journal, of openings too, keeps any of the writes that pend and drops the others; then the store is opened again, and its map has
- * to be that of some batch between the last one that was synced and the last one that was written. */
+/* Crashes of journals: `crash CRASHES SEED`. The host makes them (corwaphi_file_make) by system calls that a model of a disk takes the place
+ * of: sectors that stand, and writes that pend. A crash comes at any write or sync of any journal, of openings too, keeps any of the writes
+ * that pend and drops the others; then the store is opened again, and its map has to be that of some batch between the last one that was
+ * synced and the last one that was written. */
 #include "model.h"
-#include "../store.h"
+#include "../files.h"
+
+#include <errno.h>
+#include <unistd.h>
 
 #define SECTORS 8192
+#define DISK 1000
 #define NAMES 24
 #define MOST_BATCHES 400000
 #define MOST_PENDING 8192
@@ -18,10 +23,13 @@ static struct {
 } pending[MOST_PENDING];
 static int pending_count;
 static uint8_t journal[CORWAPHI_STORE_JOURNAL];
+static const struct file file = {.descriptor = DISK, .length = (size_t)SECTORS * 512};
 static uint16_t (*maps)[NAMES]; /* by the number of batches; 0 for no value */
 static struct corwaphi_store_handle handle;
 static uint64_t crashes, within_openings, openings, operations, jobs, tables_most;
+static uint64_t generation; /* of the manifest that stands */
 static uint32_t one_in = 60;
+static bool is_calm = true; /* whether no crash comes */
 
 #define HANDLE handle, &handle
 #define IMAGE image[0], (size_t)SECTORS * 512
@@ -38,44 +46,63 @@ static void crash(void)
     crashes++;
 }
 
-static uint32_t number_in(const uint8_t *at) { return (uint32_t)(at[0] | at[1] << 8 | at[2] << 16) | (uint32_t)at[3] << 24; }
+/* A call of the system that fails, since the crash has come. */
+static int crashes_in(uint32_t calls)
+{
+    if (is_calm || below(calls))
+        return 0;
+    crash();
+    errno = EIO;
+    return -1;
+}
 
-/* Makes a journal on the disk; false if a crash comes. BAD is a host that leaves syncs out, of which this test has to find out. */
+/* The system's calls on the model: DISK is its descriptor. */
+ssize_t __wrap_pwrite(int descriptor, const void *bytes, size_t length, off_t at);
+ssize_t __wrap_pwrite(int descriptor, const void *bytes, size_t length, off_t at)
+{
+    CHECK(descriptor == DISK && length && length % 512 == 0 && at % 512 == 0 && (size_t)at + length <= (size_t)SECTORS * 512);
+    for (size_t done = 0; done < length; done += 512) {
+        if (crashes_in(one_in * 10))
+            return -1;
+        CHECK(pending_count < MOST_PENDING);
+        pending[pending_count].at = (uint32_t)(((size_t)at + done) / 512);
+        memcpy(pending[pending_count].bytes, (const uint8_t *)bytes + done, 512);
+        memcpy(image[pending[pending_count].at], (const uint8_t *)bytes + done, 512);
+        pending_count++;
+        operations++;
+    }
+    return (ssize_t)length;
+}
+
+int __wrap_fdatasync(int descriptor);
+int __wrap_fdatasync(int descriptor)
+{
+    CHECK(descriptor == DISK);
+    if (crashes_in(one_in))
+        return -1;
+    for (int place = 0; place < pending_count; place++)
+        memcpy(stands[pending[place].at], pending[place].bytes, 512);
+    pending_count = 0;
+    operations++;
+    return 0;
+}
+
+/* Makes a journal on the disk; false if a crash comes. */
 static bool make(size_t used)
 {
-    for (size_t at = 0; at < used;) {
-        uint32_t first = number_in(journal + at), count = number_in(journal + at + 4);
-        at += 8;
-        CHECK(at + 512 * (size_t)count <= used && first + count <= SECTORS);
-        if (!count) {
-            if (!below(one_in)) {
-                crash();
-                return false;
-            }
-#ifndef BAD
-            for (int place = 0; place < pending_count; place++)
-                memcpy(stands[pending[place].at], pending[place].bytes, 512);
-            pending_count = 0;
-#endif
-            operations++;
-        }
-        for (; count; count--, first++, at += 512) {
-            if (!below(one_in * 10)) {
-                crash();
-                return false;
-            }
-            CHECK(pending_count < MOST_PENDING);
-            pending[pending_count].at = first;
-            memcpy(pending[pending_count++].bytes, journal + at, 512);
-            memcpy(image[first], journal + at, 512);
-            operations++;
-        }
-    }
-    if (!below(one_in * 10)) {
-        crash();
-        return false;
-    }
-    return true;
+    uint64_t before = crashes;
+    bool made = corwaphi_file_make(&file, journal, used);
+    CHECK(made == (crashes == before));
+    return made && !crashes_in(one_in * 10);
+}
+
+/* A manifest stands durably, once the call that wrote it is made: nothing pends. */
+static void check_manifest(void)
+{
+    struct corwaphi_numbers numbers;
+    EXPECT(CORWAPHI_OK, corwaphi_store_stat(HANDLE, &numbers));
+    CHECK(numbers.generation == generation || pending_count == 0);
+    generation = numbers.generation;
 }
 
 static void open_store(void)
@@ -84,26 +111,24 @@ static void open_store(void)
         size_t used = 0;
         EXPECT(CORWAPHI_OK, corwaphi_store_open(&handle, IMAGE, JOURNAL, SECTORS, 16));
         openings++;
-        if (make(used))
+        if (make(used)) {
+            check_manifest();
             return;
+        }
         within_openings++;
         corwaphi_store_close(handle);
     }
 }
 
+/* A store is made on a disk that doesn't crash. */
 static void begin(void)
 {
     size_t used, room = CORWAPHI_STORE_FORMAT(128);
     uint8_t *format = malloc(room);
     EXPECT(CORWAPHI_OK, corwaphi_store_format(format, room, &used, SECTORS, 128));
-    for (size_t at = 0; at < used;) {
-        uint32_t first = number_in(format + at), count = number_in(format + at + 4);
-        at += 8;
-        for (; count; count--, first++, at += 512)
-            memcpy(stands[first], format + at, 512);
-    }
+    CHECK(corwaphi_file_make(&file, format, used));
     free(format);
-    memcpy(image, stands, (size_t)SECTORS * 512);
+    is_calm = false;
     open_store();
 }
 
@@ -127,7 +152,10 @@ static bool work(uint32_t *did)
     size_t used;
     EXPECT(CORWAPHI_OK, corwaphi_store_work(HANDLE, IMAGE, JOURNAL, did));
     jobs += *did == CORWAPHI_STORE_JOB;
-    return make(used);
+    if (!make(used))
+        return false;
+    check_manifest();
+    return true;
 }
 
 /* Writes a batch once the work is done that comes first; false if a crash comes. */
@@ -189,6 +217,7 @@ int main(int argument_count, char **words)
         } else if (what < 10) {
             EXPECT(CORWAPHI_OK, corwaphi_store_sync(HANDLE, IMAGE, JOURNAL));
             is_up = make(used);
+            CHECK(!is_up || pending_count == 0);
         } else if (what < 19) {
             uint32_t did;
             if (!below(40))

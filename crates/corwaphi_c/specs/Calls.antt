@@ -1,15 +1,23 @@
 -- What a call in C makes of the store that its handle leads to, and what it answers.
-use Rattle.std.specs.Prelude.{◌≡◌, ◌⊎◌, ◌<◌, ℕ, List, [], ◌∷◌, length, take, Option, Some, None, true, ◌==◌, if◌then◌else◌}
+use Rattle.std.specs.Prelude.{◌≡◌, ◌⊎◌, ◌<◌, ℕ, Bool, List, [], ◌∷◌, length, take, map, Option, Some, None, option_map, true, ◌==◌, if◌then◌else◌, MatchResult}
+use Rattle.lsm_codec.specs.BatchText.{batch_of}
 use Rattle.lsm_codec.specs.Guards.{Condition}
+use Rattle.lsm_codec.specs.Keys.{Bytes}
 use Rattle.lsm_codec.specs.Map.{Operation}
 use Rattle.lsm_device.specs.Refusals.{number_of}
 use Rattle.lsm_device.specs.declared.refusal.Refusal.{Refusal}
-use Rattle.lsm_store.specs.Backing.{StoreView}
-use Rattle.lsm_machine.specs.Calls.{Call, Reply, Number, Done, Value, Refused, Sync, SyncTo}
+use Rattle.lsm_device.specs.declared.refusal.Refusal.TheVariants.{GuardFailed}
+use Rattle.lsm_store.specs.Backing.{StoreView, machine_of}
+use Rattle.lsm_store.specs.Stats.{stat_answer}
+use Rattle.lsm_store.specs.declared.stat.Stat.{Stat}
+use Rattle.lsm_machine.specs.Calls.{Call, Reply, Number, Done, Value, Rows, Refused, Sync, SyncTo}
 use Rattle.lsm_store.specs.Serving.{Serves}
 use Rattle.lsm_machine.specs.declared.asked.At.{At}
 use Rattle.lsm_machine.specs.declared.asked.At.TheVariants.{Now, Snap}
 use Rattle.lsm_upkeep.specs.Writing.{IsServed, commit_of, wants_room, without_log_full}
+use Rattle.corwaphi_c.specs.Pages.{IsPage}
+use Rattle.corwaphi_c.specs.declared.answers.PageTold.{PageTold}
+use Rattle.corwaphi_c.specs.declared.numbers.Numbers.{Numbers}
 
 -- ---- the store
 
@@ -36,6 +44,25 @@ Makes R store = (s : StoreView) → store ≡ Some s → (kept : Option StoreVie
 abbrev pub at_of : ℕ → At
 at_of n = if n == 18446744073709551615 then Now else Snap n
 
+-- the end of a range, where there is one
+abbrev pub end_of : Bool → Bytes → Option Bytes
+end_of has_end end = if has_end then Some end else None
+
+-- the operations of a text as guards: a put says that its key has its value, a delete that its key has none
+abbrev pub condition_of : Operation → Condition
+condition_of operation = record { key = operation.key; value = operation.value }
+
+-- the guards that a text says, no bytes none of them
+abbrev pub guards_of : List ℕ → Option (List Condition)
+guards_of [] = Some []
+guards_of (first ∷ rest) = option_map (map condition_of) (batch_of (first ∷ rest))
+
+-- the guards and the batch that two texts say, where each says some
+abbrev pub both_of : Option (List Condition) → Option (List Operation) → Option (List Condition × List Operation)
+both_of (Some guards) (Some batch) = Some (guards, batch)
+both_of (Some guards) None = None
+both_of None batch = None
+
 -- ---- what is answered
 
 -- nothing but that it is done, or was refused
@@ -57,6 +84,36 @@ IsValue (Value None) answer room size = answer ≡ 32
 IsValue (Refused e) answer room size = answer ≡ number_of e
 IsValue other answer room size = ⊥
 
+-- the place of the guard that is false
+abbrev pub IsPlace : Reply → ℕ → Type 0
+IsPlace (Refused (GuardFailed n)) place = place ≡ n
+IsPlace other place = Unit {0}
+
+-- a page, or a refusal
+abbrev pub IsRows : Reply → ℕ → List ℕ → PageTold → Type 0
+IsRows (Rows page) answer room told = IsPage page answer room told
+IsRows (Refused e) answer room told = answer ≡ number_of e
+IsRows other answer room told = ⊥
+
+-- the numbers of a store, and how many of its batches are synced
+abbrev pub numbers_of : Stat → ℕ → Numbers
+numbers_of stat synced = record {
+  generation = stat.generation;
+  batches = stat.batches;
+  synced = synced;
+  runs = stat.runs;
+  tables = stat.tables;
+  log_room = stat.room;
+  free_blocks = stat.free_blocks;
+  waiting = stat.waiting;
+}
+
+-- the numbers of a store are told, or it is stopped
+abbrev pub IsStat : StoreView → ℕ → Numbers → Type 0
+IsStat s answer numbers = MatchResult (stat_answer (machine_of s))
+    (λ stat. (answer ≡ 0) × (numbers ≡ numbers_of stat s.state.points.synced))
+    (λ e. answer ≡ number_of e)
+
 -- ---- calls
 
 -- the sync up to a number, or of all batches
@@ -68,19 +125,36 @@ sync_of None = Sync
 abbrev pub Answers : Call → (Reply → Type 0) → StoreView → StoreView → Type 0
 Answers call told lent left = (reply : Reply) × Serves lent call reply left × told reply
 
--- A batch was committed, where guards are given under them, and its number answered; it was refused with NoSpace (13), which only one is
+-- A batch was committed, where guards are given under them, and its reply told so; it was refused with NoSpace (13), which only one is
 -- that wants room; or work comes first (64). LogFull is answered as NoSpace.
-abbrev pub Commits : Option (List Condition) → List Operation → ℕ → ℕ → StoreView → StoreView → Type 0
-Commits guards batch answer number lent left =
-    ((reply : Reply) × IsServed (commit_of guards batch) lent reply left × IsNumber (without_log_full reply) answer number)
+abbrev pub Commits : Option (List Condition) → List Operation → (Reply → Type 0) → ℕ → StoreView → StoreView → Type 0
+Commits guards batch told answer lent left =
+    ((reply : Reply) × IsServed (commit_of guards batch) lent reply left × told (without_log_full reply))
     ⊎ (((answer ≡ 13) × (wants_room batch lent.state ≡ true) × (left ≡ lent))
     ⊎ ((answer ≡ 64) × (left ≡ lent)))
 
 -- So it is of one operation, unless this refuses it, or there was no memory for its batch (1).
 abbrev pub CommitsOneIn : Option Refusal → Operation → ℕ → ℕ → StoreView → Option StoreView → Type 0
 CommitsOneIn (Some e) operation answer number s kept = answer ≡ number_of e
-CommitsOneIn None operation answer number s kept = IsMade (Commits None (operation ∷ []) answer number) s kept ⊎ (answer ≡ 1)
+CommitsOneIn None operation answer number s kept = IsMade (Commits None (operation ∷ []) (λ reply. IsNumber reply answer number) answer) s kept ⊎ (answer ≡ 1)
 
 -- the same of the store that a handle leads to, whatever it is
 abbrev pub CommitsOne : Option Refusal → Operation → ℕ → ℕ → Option StoreView → Type 0
 CommitsOne refusal operation answer number store = (s : StoreView) → store ≡ Some s → (kept : Option StoreView) × CommitsOneIn refusal operation answer number s kept
+
+-- A text was not read: there was no memory for it (1), or it says nothing (34).
+abbrev pub IsUnread : {X : Type 0} → Option X → ℕ → Type 0
+IsUnread said answer = (answer ≡ 1) ⊎ ((answer ≡ 34) × (said ≡ None))
+
+-- This was made of what a text says; or it was not read, and the store is kept as it was.
+abbrev pub MakesOf : {X : Type 0} → Option X → (X → StoreView → StoreView → Type 0) → ℕ → StoreView → Option StoreView → Type 0
+MakesOf {X} said R answer s kept = ((x : X) × (said ≡ Some x) × IsMade (R x) s kept) ⊎ (IsUnread said answer × (kept ≡ Some s))
+
+-- so a batch is committed that is given by its text
+abbrev pub CommitsText : List ℕ → ℕ → ℕ → StoreView → Option StoreView → Type 0
+CommitsText text answer number = MakesOf (batch_of text) (λ batch. Commits None batch (λ reply. IsNumber reply answer number) answer) answer
+
+-- and so under guards, which are given as a text too
+abbrev pub CommitsTextIf : List ℕ → List ℕ → ℕ → ℕ → ℕ → StoreView → Option StoreView → Type 0
+CommitsTextIf guards text answer number place = MakesOf (both_of (guards_of guards) (batch_of text))
+    (λ both. Commits (Some both.0) both.1 (λ reply. IsNumber reply answer number × IsPlace reply place) answer) answer

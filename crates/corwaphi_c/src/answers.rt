@@ -1,12 +1,14 @@
 // Answers as numbers and bytes.
 
-ghost use Rattle.std.specs.Prelude.{◌≡◌, ◌⊎◌, ◌<◌, length, take};
+ghost use Rattle.std.specs.Prelude.{◌≡◌, ◌⊎◌, ◌<◌, false, length, option_map, take};
+ghost use Rattle.std.specs.List.{flat_map, list_any};
 ghost use Rattle.lsm_device.specs.Refusals.{number_of};
 ghost use Rattle.lsm_machine.specs.Calls.{Done, Number, reply_of};
 ghost use Rattle.corwaphi_c.specs.Calls.{IsDone, IsNumber, at_of};
+ghost use Rattle.corwaphi_c.specs.Pages.{ArePut, IsPage, is_wide, is_wide_next, next_text, row_text};
 
 use lsm_device::Refusal;
-use lsm_store::{At, Page};
+use lsm_store::{At, Page, Rows};
 
 /// It went well.
 pub(crate) const OK: u32 = 0;
@@ -86,28 +88,48 @@ pub struct PageTold {
 
 /// Puts the rows of a page, each as the length of its key and that of its value, each a u16 in little endian, the key and the value; and
 /// behind them the next key, as a row with an empty value, where there is one.
-pub(crate) fn put_page(page: &Page, room: &mut [u8], told: &mut PageTold) -> u32 {
-    let mut at = 0;
-    for row in page.rows() {
-        match put_row(row.key, row.value, room, at) {
-            Some(end) => at = end,
-            None => return SHORT_BUFFER,
-        }
-    }
-    told.has_next = false;
-    if let Some(key) = page.next_key() {
-        match put_row(key, b"", room, at) {
-            Some(end) => at = end,
-            None => return SHORT_BUFFER,
-        }
-        told.has_next = true;
-    }
-    told.rows = page.rows().len();
-    told.length = at;
+pub(crate) fn put_page(page: &Page, room: &mut [u8], told: &mut PageTold) -> u32
+    ensures { IsPage page.now result room.new told.new }
+{
+    let Some(at) = put_rows(page.rows(), room) else {
+        return SHORT_BUFFER;
+    };
+    let next = page.next_key();
+    let Some(length) = put_next(next, room, at) else {
+        return SHORT_BUFFER;
+    };
+    *told = PageTold {
+        length,
+        rows: page.rows().len(),
+        has_next: next.is_some(),
+    };
     OK
 }
 
-fn put_row(key: &[u8], value: &[u8], room: &mut [u8], at: usize) -> Option<usize> {
+// Puts rows from the front on, and tells the place behind them; none where the room ends before.
+fn put_rows(rows: Rows<'_>, room: &mut [u8]) -> Option<usize>
+    ensures { ArePut 0 (flat_map row_text rows.entry) (list_any is_wide rows.entry) room.old result room.new }
+{
+    let mut at = 0;
+    for row in rows {
+        at = put_row(row.key, row.value, room, at)?;
+    }
+    Some(at)
+}
+
+// Puts the next key as a row with an empty value, where there is one.
+fn put_next(next: Option<&[u8]>, room: &mut [u8], at: usize) -> Option<usize>
+    ensures { ArePut at (next_text (option_map (λ key. key.now) next.entry)) (is_wide_next (option_map (λ key. key.now) next.entry)) room.old result room.new }
+{
+    match next {
+        Some(key) => put_row(key, b"", room, at),
+        None => Some(at),
+    }
+}
+
+fn put_row(key: &[u8], value: &[u8], room: &mut [u8], at: usize) -> Option<usize>
+    ensures { ArePut at (row_text (key.now, value.now)) (is_wide (key.now, value.now)) room.old result room.new }
+{
     let (Ok(key_length), Ok(value_length)) = (u16::try_from(key.len()), u16::try_from(value.len()))
     else {
         return None;
@@ -119,7 +141,9 @@ fn put_row(key: &[u8], value: &[u8], room: &mut [u8], at: usize) -> Option<usize
 }
 
 // Puts bytes at a place, and tells that behind them; none where the room ends before.
-fn put(bytes: &[u8], room: &mut [u8], at: usize) -> Option<usize> {
+fn put(bytes: &[u8], room: &mut [u8], at: usize) -> Option<usize>
+    ensures { ArePut at bytes.now false room.old result room.new }
+{
     if at > room.len() || bytes.len() > room.len() - at {
         return None;
     }

@@ -3,6 +3,7 @@
 ghost use Rattle.std.specs.Prelude.{◌≡◌, Some};
 ghost use Rattle.lsm_store.specs.Backing.{StoreView};
 ghost use Rattle.lsm_machine.specs.RecoveryPoints.{batch_count};
+ghost use Rattle.corwaphi_c.specs.Calls.{IsStat};
 
 use crate::answers::{OK, code};
 use crate::handle::{Handle, Slot};
@@ -32,7 +33,9 @@ pub struct Numbers {
 
 /// Tells the numbers of a store. It is refused with Stopped.
 #[unsafe(no_mangle)]
-pub extern "C" fn corwaphi_store_stat(handle: Handle, slot: &mut Slot, out: &mut Numbers) -> u32 {
+pub extern "C" fn corwaphi_store_stat(handle: Handle, slot: &mut Slot, out: &mut Numbers) -> u32
+    ensures { (s : StoreView) → handle.value.store ≡ Some s → IsStat s result out.new }
+{
     let kept = handle.into_box();
     let answer = match &kept.store {
         Some(store) => match store.stat() {

@@ -1,9 +1,9 @@
 //! Values and rows are read, now or at a snapshot. That writes nothing.
 
-ghost use Rattle.std.specs.Prelude.{◌≡◌, Some};
+ghost use Rattle.std.specs.Prelude.{◌≡◌, Some, option_map};
 ghost use Rattle.lsm_store.specs.Backing.{StoreView};
-ghost use Rattle.lsm_machine.specs.Calls.{Get, Snapshot, Release};
-ghost use Rattle.corwaphi_c.specs.Calls.{Answers, IsDone, IsMade, IsNumber, IsValue, Makes, at_of};
+ghost use Rattle.lsm_machine.specs.Calls.{Get, Scan, Snapshot, Release};
+ghost use Rattle.corwaphi_c.specs.Calls.{Answers, IsDone, IsMade, IsNumber, IsRows, IsValue, Makes, at_of, end_of};
 
 use crate::answers::{NO_VALUE, PageTold, at, code, copy, done, number, put_page};
 use crate::handle::{Handle, Slot};
@@ -73,23 +73,59 @@ pub extern "C" fn corwaphi_store_rows(
     limit: u64,
     room: &mut [u8],
     told: &mut PageTold,
-) -> u32 {
+) -> u32
+    ensures { Makes (Answers (Scan (at_of snapshot) from.now (end_of has_to to.now) limit) (λ reply. IsRows reply result room.new told.new)) handle.value.store }
+{
     let mut kept = handle.into_box();
-    let mut journal = [0; 8];
-    let answer = match kept.lend(image, &mut journal) {
-        None => code(Refusal::Stopped),
-        Some(mut store) => {
-            let to = if has_to { Some(to) } else { None };
-            let page = store.scan(at(snapshot), from, to, limit);
-            kept.park(store);
-            match page {
-                Ok(page) => put_page(&page, room, told),
-                Err(refusal) => code(refusal),
-            }
-        }
-    };
+    let to = end(to, has_to);
+    let answer = rows(&mut kept, image, at(snapshot), from, to, limit, room, told);
     slot.put(kept);
     answer
+}
+
+// The end of a range, where there is one.
+fn end(to: &[u8], has_to: bool) -> Option<&[u8]>
+    ensures { option_map (λ to. to.now) result ≡ end_of has_to to.now }
+{
+    if has_to { Some(to) } else { None }
+}
+
+fn rows(
+    kept: &mut Kept,
+    image: &[u8],
+    at: At,
+    from: &[u8],
+    to: Option<&[u8]>,
+    limit: u64,
+    room: &mut [u8],
+    told: &mut PageTold,
+) -> u32
+    ensures { (s : StoreView) → kept.old.store ≡ Some s → IsMade (Answers (Scan at from.now (option_map (λ to. to.now) to.entry) limit) (λ reply. IsRows reply result room.new told.new)) s kept.new.store }
+{
+    let mut journal = [0; 8];
+    let Some(mut store) = kept.lend(image, &mut journal) else {
+        return code(Refusal::Stopped);
+    };
+    let answer = rows_in(&mut store, at, from, to, limit, room, told);
+    kept.park(store);
+    answer
+}
+
+fn rows_in<D: Device>(
+    store: &mut Store<D>,
+    at: At,
+    from: &[u8],
+    to: Option<&[u8]>,
+    limit: u64,
+    room: &mut [u8],
+    told: &mut PageTold,
+) -> u32
+    ensures { Answers (Scan at from.now (option_map (λ to. to.now) to.entry) limit) (λ reply. IsRows reply result room.new told.new) store.old store.new }
+{
+    match store.scan(at, from, to, limit) {
+        Ok(page) => put_page(&page, room, told),
+        Err(refusal) => code(refusal),
+    }
 }
 
 /// Takes a snapshot of the present map, and tells its number. It is refused as `Store::snapshot`.

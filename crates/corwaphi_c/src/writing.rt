@@ -6,10 +6,12 @@
 //! they find none though all tables were brought down as far as they go; and one of deletes is so only while a snapshot is live. That
 //! the log is full is never told: where no log could be opened that has room, that is NoSpace too.
 
-ghost use Rattle.std.specs.Prelude.{◌≡◌, ◌≤◌, ℕ, Some, None, length};
+ghost use Rattle.std.specs.Prelude.{◌≡◌, ◌≤◌, ◌++◌, ◌∷◌, [], Option, Some, None, option_map, length, map, MatchResult};
 ghost use Rattle.lsm_codec.specs.Answers.{key_refusal, or_then, value_refusal};
+ghost use Rattle.lsm_codec.specs.BatchText.{IsChange, batch_of};
 ghost use Rattle.lsm_store.specs.Backing.{StoreView};
-ghost use Rattle.corwaphi_c.specs.Calls.{Commits, CommitsOne, CommitsOneIn, IsMade};
+ghost use Rattle.lsm_machine.specs.Calls.{Number, reply_of};
+ghost use Rattle.corwaphi_c.specs.Calls.{Commits, CommitsOne, CommitsOneIn, CommitsText, CommitsTextIf, IsMade, IsNumber, IsPlace, IsUnread, condition_of, guards_of};
 
 use crate::answers::{BAD_TEXT, OK, WORK_FIRST, code, number};
 use crate::handle::{Handle, Slot};
@@ -129,19 +131,37 @@ pub extern "C" fn corwaphi_store_write(
     used: &mut usize,
     text: &[u8],
     number: &mut u64,
-) -> u32 {
+) -> u32
+    ensures { 65664 ≤ length journal.old → (s : StoreView) → handle.value.store ≡ Some s → (kept : Option StoreView) × CommitsText text.now result number.new s kept }
+{
     let mut kept = handle.into_box();
     *used = 0;
-    let answer = match batch_of(alloc, text) {
-        Ok(batch) => commit(&mut kept, image, journal, used, &batch, number),
-        Err(answer) => answer,
-    };
+    let answer = write(alloc, &mut kept, image, journal, used, text, number);
     slot.put(kept);
     answer
 }
 
+fn write(
+    alloc: Global,
+    kept: &mut Kept,
+    image: &[u8],
+    journal: &mut [u8],
+    used: &mut usize,
+    text: &[u8],
+    number: &mut u64,
+) -> u32
+    ensures { (s : StoreView) → kept.old.store ≡ Some s → 65664 ≤ length journal.old → CommitsText text.now result number.new s kept.new.store }
+{
+    match read_batch(alloc, text) {
+        Ok(batch) => commit(kept, image, journal, used, &batch, number),
+        Err(answer) => answer,
+    }
+}
+
 // The batch that a text says.
-fn batch_of(alloc: Global, text: &[u8]) -> Result<Batch, u32> {
+fn read_batch(alloc: Global, text: &[u8]) -> Result<Batch, u32>
+    ensures { MatchResult result (λ batch. batch_of text.now ≡ Some batch) (λ answer. IsUnread (batch_of text.now) answer) }
+{
     match Batch::decode(alloc, text) {
         Ok(Some(batch)) => Ok(batch),
         Ok(None) => Err(BAD_TEXT),
@@ -157,7 +177,7 @@ fn commit(
     batch: &Batch,
     out: &mut u64,
 ) -> u32
-    ensures { (s : StoreView) → kept.old.store ≡ Some s → 65664 ≤ length journal.old → IsMade (Commits None batch.now result out.new) s kept.new.store }
+    ensures { (s : StoreView) → kept.old.store ≡ Some s → 65664 ≤ length journal.old → IsMade (Commits None batch.now (λ reply. IsNumber reply result out.new) result) s kept.new.store }
 {
     if journal.len() < JOURNAL_BYTES {
         return code(Refusal::BadLimit);
@@ -177,7 +197,7 @@ fn commit_in<D: Device>(
     batch: &Batch,
     out: &mut u64,
 ) -> u32
-    ensures { Commits None batch.now result out.new store.old store.new }
+    ensures { Commits None batch.now (λ reply. IsNumber reply result out.new) result store.old store.new }
 {
     match upkeep.admit(store, batch) {
         Verdict::Commit => number(without_log_full(store.commit(batch)), out),
@@ -201,25 +221,16 @@ pub extern "C" fn corwaphi_store_write_if(
     text: &[u8],
     number: &mut u64,
     place: &mut u8,
-) -> u32 {
+) -> u32
+    ensures { 65664 ≤ length journal.old → (s : StoreView) → handle.value.store ≡ Some s → (kept : Option StoreView) × CommitsTextIf guards.now text.now result number.new place.new s kept }
+{
     let mut kept = handle.into_box();
     *used = 0;
-    let told = Told {
-        used,
-        number,
-        place,
-    };
-    let answer = write_if(alloc, &mut kept, image, journal, guards, text, told);
+    let answer = write_if(
+        alloc, &mut kept, image, journal, used, guards, text, number, place,
+    );
     slot.put(kept);
     answer
-}
-
-// Where the answer of a guarded write goes.
-#[derive(Drop)]
-struct Told<'a> {
-    used: &'a mut usize,
-    number: &'a mut u64,
-    place: &'a mut u8,
 }
 
 fn write_if(
@@ -227,16 +238,20 @@ fn write_if(
     kept: &mut Kept,
     image: &[u8],
     journal: &mut [u8],
+    used: &mut usize,
     guards: &[u8],
     text: &[u8],
-    told: Told<'_>,
-) -> u32 {
-    let guards = match guards_of(alloc, guards) {
+    number: &mut u64,
+    place: &mut u8,
+) -> u32
+    ensures { (s : StoreView) → kept.old.store ≡ Some s → 65664 ≤ length journal.old → CommitsTextIf guards.now text.now result number.new place.new s kept.new.store }
+{
+    let guards = match read_guards(alloc, guards) {
         Ok(guards) => guards,
         Err(answer) => return answer,
     };
-    match batch_of(alloc, text) {
-        Ok(batch) => commit_if(kept, image, journal, &guards, &batch, told),
+    match read_batch(alloc, text) {
+        Ok(batch) => commit_if(kept, image, journal, used, &guards, &batch, number, place),
         Err(answer) => answer,
     }
 }
@@ -245,17 +260,14 @@ fn commit_if(
     kept: &mut Kept,
     image: &[u8],
     journal: &mut [u8],
+    used: &mut usize,
     guards: &[Guard],
     batch: &Batch,
-    told: Told<'_>,
+    number: &mut u64,
+    place: &mut u8,
 ) -> u32
-    ensures { (s : StoreView) → kept.old.store ≡ Some s → 65664 ≤ length journal.old → (number : ℕ) × IsMade (Commits (Some guards.now) batch.now result number) s kept.new.store }
+    ensures { (s : StoreView) → kept.old.store ≡ Some s → 65664 ≤ length journal.old → IsMade (Commits (Some guards.now) batch.now (λ reply. IsNumber reply result number.new × IsPlace reply place.new) result) s kept.new.store }
 {
-    let Told {
-        used,
-        number,
-        place,
-    } = told;
     if journal.len() < JOURNAL_BYTES {
         return code(Refusal::BadLimit);
     }
@@ -276,7 +288,7 @@ fn commit_under<D: Device>(
     out: &mut u64,
     place: &mut u8,
 ) -> u32
-    ensures { Commits (Some guards.now) batch.now result out.new store.old store.new }
+    ensures { Commits (Some guards.now) batch.now (λ reply. IsNumber reply result out.new × IsPlace reply place.new) result store.old store.new }
 {
     match upkeep.admit(store, batch) {
         Verdict::Commit => {
@@ -290,7 +302,9 @@ fn commit_under<D: Device>(
 }
 
 // Tells the place of the guard by which a commit was refused, if it was.
-fn tell_place(reply: &Result<u64, Refusal>, out: &mut u8) {
+fn tell_place(reply: &Result<u64, Refusal>, out: &mut u8)
+    ensures { IsPlace (reply_of Number reply.now) out.new }
+{
     if let Err(refusal) = reply {
         if let Some(place) = refusal.place() {
             *out = place;
@@ -299,25 +313,48 @@ fn tell_place(reply: &Result<u64, Refusal>, out: &mut u8) {
 }
 
 // The guards that a text says.
-fn guards_of(alloc: Global, text: &[u8]) -> Result<Vec<Guard>, u32> {
-    let mut guards = Vec::new(alloc);
+fn read_guards(alloc: Global, text: &[u8]) -> Result<Vec<Guard>, u32>
+    ensures { MatchResult result (λ guards. guards_of text.now ≡ Some guards.items) (λ answer. IsUnread (guards_of text.now) answer) }
+{
     if text.is_empty() {
-        return Ok(guards);
+        return Ok(Vec::new(alloc));
     }
-    let list = batch_of(alloc, text)?;
-    for operation in list.operations() {
-        let guard = match operation.value {
-            Some(value) => Guard::holds(alloc, operation.key, value),
-            None => Guard::absent(alloc, operation.key),
-        };
-        match guard {
-            Ok(guard) => {
-                if guards.push(guard).is_err() {
-                    return Err(code(Refusal::NoMemory));
-                }
-            }
-            Err(refusal) => return Err(code(refusal)),
-        }
+    match read_batch(alloc, text) {
+        Ok(batch) => guards_in(alloc, &batch),
+        Err(answer) => Err(answer),
+    }
+}
+
+// The operations of a batch as guards.
+fn guards_in(alloc: Global, batch: &Batch) -> Result<Vec<Guard>, u32>
+    ensures { MatchResult result (λ guards. guards.items ≡ map condition_of batch.now) (λ answer. answer ≡ 1) }
+{
+    let mut guards = Vec::new(alloc);
+    for operation in batch.operations() {
+        push_guard(alloc, &mut guards, operation.key, operation.value)?;
     }
     Ok(guards)
+}
+
+// Adds the guard of an operation.
+fn push_guard(
+    alloc: Global,
+    guards: &mut Vec<Guard>,
+    key: &[u8],
+    value: Option<&[u8]>,
+) -> Result<(), u32>
+    requires { IsChange key.now (option_map (λ v. v.now) value) }
+    ensures { MatchResult result (λ _. guards.new.items ≡ guards.old.items ++ record { key = key.now; value = option_map (λ v. v.now) value.entry } ∷ []) (λ answer. answer ≡ 1) }
+{
+    let guard = match value {
+        Some(value) => Guard::holds(alloc, key, value),
+        None => Guard::absent(alloc, key),
+    };
+    match guard {
+        Ok(guard) => match guards.push(guard) {
+            Ok(()) => Ok(()),
+            Err(_) => Err(code(Refusal::NoMemory)),
+        },
+        Err(refusal) => Err(code(refusal)),
+    }
 }

@@ -1,0 +1,11 @@
+use Rattle.std.proofs.Common.{List, None, inl, subst}
+use Rattle.lsm_codec.specs.Map.{Operation}
+use Rattle.lsm_machine.specs.Calls.{Reply}
+use Rattle.corwaphi_c.specs.Calls.{Commits, IsMade, IsNumber}
+use Rattle.corwaphi_c.proofs.writing.commit_one.Goals as goal
+
+pub returns-in-Ok : goal.returns-in-Ok
+returns-in-Ok c = λ s is enough. inl (subst
+    (λ (batch : List Operation). IsMade (Commits None batch (λ (reply : Reply). IsNumber reply c.commit.result c.commit.new.out) c.commit.result) s c.commit.new.kept.store)
+    c.in-Ok.ensures
+    (c.commit.ensures s is enough))
