@@ -13,3 +13,4 @@ pub mod OwnWork
 pub mod Endings
 pub mod Faults
 mod Advising
+mod Places

@@ -23,9 +23,10 @@ use Rattle.lsm_lives.specs.declared.calls.Reply.{Reply as GivenReply}
 use Rattle.lsm_trail.specs.History.{Event, lent_to, machine_after, IsLegal, entries_by}
 use Rattle.lsm_trail.specs.Knowledge.{SessionId, Known, Sees}
 use Rattle.lsm_shared.specs.Clients.{Adds, MakesCall, Denies, IsNoCall}
+use Rattle.lsm_shared.specs.Due.{places_due, next_due, MayMerge}
 use Rattle.lsm_shared.specs.Holds.{IsPutBack, IsTakenOf, IsNotTakenOf, IsTakenNext, IsNotTakenNext, TakesAmong, StopsAmong, IsBroughtBy, StopsBringing}
 use Rattle.lsm_shared.specs.Sessions.{SessionView, Enters, EntersStep, IsMade, IsRefused}
-use Rattle.lsm_shared.specs.Turns.{Gives, MayChoose, MakesPiece, IsNoPiece, TakesOf, IsNotTaken, TakesNext, IsNoNext, IsTurn, MayRest, TakesTurn, StopsBefore, DeniesWork, IsNoTurn, HasLent, Brings, IsNotBrought}
+use Rattle.lsm_shared.specs.Turns.{Gives, MayChoose, MakesPiece, IsNoPiece, TakesOf, IsNotTaken, TakesNext, IsNoNext, IsTurn, MayRest, TakesTurn, StopsBefore, DeniesWork, IsNoTurn, MayPause, TakesDue, IsNotDue, HasLent, Brings, IsNotBrought}
 use Rattle.lsm_shared.specs.declared.turn.Turn.{Turn}
 use Rattle.lsm_shared.specs.declared.turn.Turn.TheVariants as turn
 
@@ -147,18 +148,61 @@ tells_turn (Ok taken) id old new c d t = takes_turn id old new c d taken t
 tells_turn (Err r) id old new c d s = no_turn id old new c d r s
 
 -- what a turn handed out was lent by its last entry
-has_lent : {A : Type 0} (c d : Known) (taken : Turn A) → TakesTurn c taken d → HasLent taken d
-has_lent c d turn.Idle t = tt
-has_lent c d (turn.Did reply) t = tt
-has_lent c d (turn.Merge job result input) t =
-    let (passed, behind, is, are) = t.takes in
+has_lent : {A : Type 0} (c d : Known) (others entries : List Event) (m : Machine) (places : List ℕ) (taken : Turn A) → Adds c others entries d → IsTurn m places c.number taken entries → HasLent taken d
+has_lent c d others entries m places turn.Idle adds t = tt
+has_lent c d others entries m places (turn.Did reply) adds t = tt
+has_lent c d others entries m places (turn.Merge job result input) adds t =
+    let (passed, behind, is, are) = t in
     let e = lent_to c.number job (arc_value input) result behind in
-    let mine : d.mine ≡ (c.mine ++ passed) ++ e ∷ [] = t.adds.mine ∙ ap (λ (l : List Event). c.mine ++ l) is ∙ sym (append_assoc c.mine passed (e ∷ [])) in
+    let mine : d.mine ≡ (c.mine ++ passed) ++ e ∷ [] = adds.mine ∙ ap (λ (l : List Event). c.mine ++ l) is ∙ sym (append_assoc c.mine passed (e ∷ [])) in
     record { client = c.number; machine = behind; among = subst (λ (l : List Event). Contains l e) (sym mine) (Contains-push (c.mine ++ passed) e) }
 
 pub tells_lent : {A : Type 0} (res : Result (Turn A) Refusal) (c d : Known) → MatchResult res (λ taken. TakesTurn c taken d) (λ r. IsNoTurn c r d) → IfOk res (λ taken. HasLent taken d)
-tells_lent (Ok taken) c d t = has_lent c d taken t
+tells_lent (Ok taken) c d t = has_lent c d t.others t.entries _ _ taken t.adds t.takes
 tells_lent (Err r) c d t = tt
+
+-- ---- turns over the places that are due
+
+-- the places that are due where a hold found the machine
+abbrev due_at : SessionView → Known → List ℕ
+due_at old c = places_due (machine_of old.store) c.number
+
+pauses_then : {A : Type 0} (id : SessionId) (old new : SessionView) (c d : Known) (taken : Turn A) → TakesAmong id old c (due_at old c) taken new d → MayPause taken d
+pauses_then id old new c d turn.Idle t =
+    let e = t.enters in
+    let machine : machine_after d.begin d.seen ≡ machine_of old.store = sym (machine_left id old new c d t.entries e) ∙ t.stays in
+    (λ i. next_due (machine i) (number_is id old new c d t.entries e i)) ∙ t.takes.ends
+pauses_then id old new c d (turn.Did reply) t = tt
+pauses_then id old new c d (turn.Merge job result input) t = tt
+
+takes_due : {A : Type 0} (id : SessionId) (old new : SessionView) (c d : Known) (taken : Turn A) → TakesAmong id old c (due_at old c) taken new d → TakesDue c taken d
+takes_due id old new c d taken t = record {
+  others = others id old new c d t.entries t.enters;
+  entries = t.entries;
+  adds = adds id old new c d t.entries t.enters;
+  takes = subst (λ (m : Machine). IsTurn m (places_due m c.number) c.number taken t.entries) (machine_found id old new c d t.entries t.enters) t.takes;
+  rests = pauses_then id old new c d taken t;
+}
+
+not_due : (id : SessionId) (old new : SessionView) (c d : Known) (r : Refusal) → StopsAmong id old c (due_at old c) r new d → IsNotDue c r d
+not_due id old new c d r s = record {
+  others = others id old new c d s.entries s.enters;
+  entries = s.entries;
+  adds = adds id old new c d s.entries s.enters;
+  left = s.left;
+  stops = subst (λ (m : Machine). StopsBefore m (places_due m c.number) s.entries s.left) (machine_found id old new c d s.entries s.enters) s.stops;
+  denied = denied_then id old new c d s.entries s.enters s.left r s.denied;
+}
+
+pub tells_due : {A : Type 0} (res : Result (Turn A) Refusal) (id : SessionId) (old new : SessionView) (c d : Known)
+    → MatchResult res (λ taken. TakesAmong id old c (due_at old c) taken new d) (λ r. StopsAmong id old c (due_at old c) r new d)
+    → MatchResult res (λ taken. TakesDue c taken d) (λ r. IsNotDue c r d)
+tells_due (Ok taken) id old new c d t = takes_due id old new c d taken t
+tells_due (Err r) id old new c d s = not_due id old new c d r s
+
+pub tells_due_lent : {A : Type 0} (res : Result (Turn A) Refusal) (c d : Known) → MatchResult res (λ taken. TakesDue c taken d) (λ r. IsNotDue c r d) → IfOk res (λ taken. HasLent taken d)
+tells_due_lent (Ok taken) c d t = has_lent c d t.others t.entries _ _ taken t.adds t.takes
+tells_due_lent (Err r) c d t = tt
 
 -- ---- one piece
 
@@ -206,6 +250,7 @@ tells_next (Ok (Some reply)) id old new c d t = record {
   choice = t.choice;
   piece = made_piece id old new c d (Take (Some t.choice)) (told_of reply) t.step;
   may = subst (λ (m : Machine). MayChoose m t.choice) (machine_found id old new c d _ t.step.one.enters) t.may;
+  next = subst MayMerge (machine_found id old new c d _ t.step.one.enters) t.next;
 }
 tells_next (Err r) id old new c d t = (t.0, not_taken id old new c d t.0 r t.1)
 

@@ -14,6 +14,7 @@ use Rattle.lsm_lives.specs.Asked.{Told, Replied}
 use Rattle.lsm_lives.specs.Replaying.{Replays}
 use Rattle.lsm_trail.specs.History.{Event, steps_of, replies_of}
 use Rattle.lsm_trail.specs.Knowledge.{SessionId, Known}
+use Rattle.lsm_shared.specs.Due.{MayMerge}
 use Rattle.lsm_shared.specs.Sessions.{SessionView, Enters, EntersStep, IsLost}
 use Rattle.lsm_shared.specs.Turns.{Gives, MayChoose, IsTurn, DeniesWork, StopsBefore, IsBrought, IsLeftOfBringing}
 use Rattle.lsm_shared.specs.declared.turn.Turn.{Turn}
@@ -50,11 +51,12 @@ pub record IsNotTakenOf (id : SessionId) (old : SessionView) (c : Known) (choice
   pub piece : IsPutBack id old c (Take (Some choice)) e new d
   pub gives : Gives (machine_of old.store) (Take (Some choice))
 
--- It took the job of some choice that could be taken, and told the reply.
+-- It took the job of some choice that could be taken, where no flush was to be taken first and no merge was held, and told the reply.
 pub record IsSomeTaken (id : SessionId) (old : SessionView) (c : Known) (answer : Told) (new : SessionView) (d : Known) : Type 0 where
   pub choice : Choice
   pub step : EntersStep id old c (Worked (Take (Some choice))) 0 answer new d
   pub may : MayChoose (machine_of old.store) choice
+  pub next : MayMerge (machine_of old.store)
 
 -- It took such a job, or none: then all is as it was, but that the client has seen the history.
 abbrev pub IsTakenNext : SessionId → SessionView → Known → Option Told → SessionView → Known → Type 0

@@ -1,4 +1,5 @@
 pub mod Clients
+pub mod Due
 pub mod Holds
 pub mod Pieces
 pub mod Sessions

@@ -20,6 +20,7 @@ use Rattle.lsm_trail.specs.Begins.{Begin}
 use Rattle.lsm_trail.specs.History.{Event, worked, lent_to, accepted, steps_of, machine_after}
 use Rattle.lsm_trail.specs.Knowledge.{Known, Sees}
 use Rattle.lsm_shared.specs.Clients.{Adds}
+use Rattle.lsm_shared.specs.Due.{places_due, next_due, MayMerge}
 use Rattle.lsm_shared.specs.declared.turn.Turn.{Turn}
 use Rattle.lsm_shared.specs.declared.turn.Turn.TheVariants as turn
 
@@ -99,6 +100,32 @@ pub record IsNoTurn (c : Known) (e : Refusal) (d : Known) : Type 0 where
   pub stops : StopsBefore (machine_after d.begin (c.seen ++ others)) (places_from c.number) entries left
   pub denied : DeniesWork d.begin d.seen left e
 
+-- ---- turns over the places that are due
+
+-- An idle client has seen a history behind which nothing is left for it to do at the places that are due: no job that is held, but
+-- for installs that are put off, and no flush for which a slot is free.
+abbrev pub MayPause : {A : Type 0} → Turn A → Known → Type 0
+MayPause turn.Idle d = next_due (machine_after d.begin d.seen) d.number ≡ None
+MayPause (turn.Did reply) d = Unit {0}
+MayPause (turn.Merge job result input) d = Unit {0}
+
+-- A client took a turn over the places that are due behind all that it had seen and what others did since.
+pub record TakesDue {A : Type 0} (c : Known) (turn : Turn A) (d : Known) : Type 0 where
+  pub others : List Event
+  pub entries : List Event
+  pub adds : Adds c others entries d
+  pub takes : IsTurn (machine_after d.begin (c.seen ++ others)) (places_due (machine_after d.begin (c.seen ++ others)) c.number) c.number turn entries
+  pub rests : MayPause turn d
+
+-- It took no whole one: what it did stands, and then came a piece that is no entry.
+pub record IsNotDue (c : Known) (e : Refusal) (d : Known) : Type 0 where
+  pub others : List Event
+  pub entries : List Event
+  pub adds : Adds c others entries d
+  pub left : Work
+  pub stops : StopsBefore (machine_after d.begin (c.seen ++ others)) (places_due (machine_after d.begin (c.seen ++ others)) c.number) entries left
+  pub denied : DeniesWork d.begin d.seen left e
+
 -- ---- one piece
 
 -- A client did one piece of work, which the store does by itself, behind all that it had seen and what others did since, and was
@@ -134,11 +161,13 @@ pub record IsNotTaken (c : Known) (choice : Choice) (e : Refusal) (d : Known) : 
 abbrev pub MayChoose : Machine → Choice → Type 0
 MayChoose m choice = is_some (chosen m.work.levels (held_jobs m.work.jobs.slots) choice) ≡ true
 
--- A client took the job of some choice that could be taken behind all that it had seen and what others did since.
+-- A client took the job of some choice that could be taken behind all that it had seen and what others did since, where no flush was
+-- to be taken first and no merge was held.
 pub record TakesSome (c : Known) (answer : Told) (d : Known) : Type 0 where
   pub choice : Choice
   pub piece : MakesPiece c (Take (Some choice)) answer d
   pub may : MayChoose (machine_after d.begin (c.seen ++ piece.others)) choice
+  pub next : MayMerge (machine_after d.begin (c.seen ++ piece.others))
 
 -- It took such a job and was told the reply, or took none and saw the history.
 abbrev pub TakesNext : Known → Option Told → Known → Type 0

@@ -5,7 +5,7 @@ ghost use Rattle.lsm_lives.specs.Calls.{call_of, told_of};
 ghost use Rattle.lsm_trail.specs.History.{numbers};
 ghost use Rattle.lsm_trail.specs.Knowledge.{known, Sees, known_of, IsClientPass};
 ghost use Rattle.lsm_shared.specs.Clients.{MakesCall, IsNoCall};
-ghost use Rattle.lsm_shared.specs.Turns.{TakesOf, IsNotTaken, TakesNext, IsNoNext, TakesTurn, IsNoTurn, HasLent, WasLent, Brings, IsNotBrought};
+ghost use Rattle.lsm_shared.specs.Turns.{TakesOf, IsNotTaken, TakesNext, IsNoNext, TakesTurn, IsNoTurn, TakesDue, IsNotDue, HasLent, WasLent, Brings, IsNotBrought};
 
 use crate::seen::Seen;
 use crate::shared::Shared;
@@ -137,6 +137,23 @@ impl<A: Allocator + Clone, B: SessionName> Client<A, B> {
         shared.hold(rt).piece(&shared.counters, self)
     }
 
+    /// Does the next piece of work as [`turn`](Client::turn) does, but only at the slots that are due: a free slot takes a flush, before
+    /// all else, if one waits that no slot holds, and never a merge; then the slots that hold jobs are asked, from that of the
+    /// client's number on. So a client that takes such turns chooses itself which merges begin ([`take_next`](Client::take_next)).
+    ///
+    /// It is refused as a turn is, and what was entered before stands.
+    pub fn turn_due<D: Device, R: Wait>(
+        &mut self,
+        rt: &R,
+        shared: &Shared<D, A, B>,
+    ) -> Result<Turn<A>, Refusal>
+        ensures taken { MatchResult result (λ turn. TakesDue self.old turn self.new) (λ e. IsNotDue self.old e self.new) }
+        // What was built of the input may be brought, then and later.
+        ensures lent { IfOk result (λ turn. HasLent turn self.new) }
+    {
+        shared.hold(rt).piece_due(&shared.counters, self)
+    }
+
     /// Takes the job of a choice, in one hold of the lock: neighbouring tables of a level from 1 to 3, or so many of the oldest
     /// runs of level 0, with the tables of the next level that meet their hull; or neighbouring tables of a level from 1 to 4, which
     /// are written anew in their own place. None where the store has no such job to give, which is no entry. What the store refuses
@@ -156,11 +173,14 @@ impl<A: Allocator + Clone, B: SessionName> Client<A, B> {
         shared.hold(rt).take(&shared.counters, self, choice)
     }
 
-    /// Takes the job that a policy advises, in one hold of the lock: none, which is no entry, where it advises nothing, where a flush
-    /// is to be taken first, where no slot is free, and where the store is stopped. Turns of whatever clients do the rest of the job,
-    /// so a client that asks before each turn works by the policy.
+    /// Takes the merge that a policy advises, in one hold of the lock: none, which is no entry, where it advises nothing, where a flush
+    /// is to be taken first, where a merge is held, and where the store is stopped. So slots are left for flushes. Turns of whatever
+    /// clients do the rest of the merge, so a client that asks whenever nothing is due works by the policy.
     ///
-    /// No clause says what a policy advises, nor when nothing is taken: one that never took anything would meet this contract, and
+    /// One merge at a time is enough: all pieces of merges are done in holds of the one lock, but the builds, which have threads of
+    /// their own. A second one could take single tables alone, and each block that it takes in so is written more often.
+    ///
+    /// No clause says what a policy advises, nor that anything is taken: one that never took anything would meet this contract, and
     /// only tests exclude it.
     ///
     /// It is refused with `TrailFull` where there is something to take and the trail has no place for another entry, and with

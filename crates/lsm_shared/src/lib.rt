@@ -22,6 +22,7 @@
 
 mod answer;
 mod client;
+mod due;
 mod ending;
 mod history;
 mod law;

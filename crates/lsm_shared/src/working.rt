@@ -13,6 +13,7 @@ ghost use Rattle.lsm_machine.specs.Work.{Take, Ask, Accept, Install};
 ghost use Rattle.lsm_machine.specs.WorkRefusals.{job_given};
 ghost use Rattle.lsm_machine.specs.WorkReplies.{work_decided};
 ghost use Rattle.lsm_store.specs.Working.{Works};
+ghost use Rattle.lsm_shared.specs.Due.{places_due, MayMerge};
 ghost use Rattle.lsm_shared.specs.Holds.{IsPutBack, IsTakenOf, IsNotTakenOf, IsTakenNext, IsNotTakenNext, TakesAmong, StopsAmong, IsBroughtBy, StopsBringing};
 ghost use Rattle.lsm_shared.specs.Pieces.{work_of};
 ghost use Rattle.lsm_shared.specs.Sessions.{HasSeen, EntersStep};
@@ -20,11 +21,11 @@ ghost use Rattle.lsm_shared.specs.Turns.{Gives, MayChoose, WasLent, tells_full_l
 
 use crate::answer::answer_of;
 use crate::client::Client;
+use crate::due::{is_flush_due, places_due, places_from};
 use crate::pieces::{OwnPiece, done};
 use crate::session::Session;
 use crate::turn::Turn;
 use lsm_device::{Device, Refusal};
-use lsm_jobs::Slots;
 use lsm_levels::HeldJobs;
 use lsm_lives::Reply;
 use lsm_merge::{Built, Input};
@@ -33,9 +34,6 @@ use lsm_store::{Choice, Piece, Store};
 use lsm_trail::{Counters, Entry, SessionName};
 use std::alloc::Allocator;
 use std::sync::Arc;
-
-/// How many slots there are.
-const SLOTS: usize = 4;
 
 impl<D: Device, A: Allocator + Clone, B: SessionName> Session<D, A, B> {
     /// Takes a turn of the client, as [`Client::turn`] says. The client sees the history first.
@@ -49,14 +47,23 @@ impl<D: Device, A: Allocator + Clone, B: SessionName> Session<D, A, B> {
             (λ e. StopsAmong B.id self.old me.old (places_from me.old.number) e self.new me.new) }
     {
         self.show(counters, me);
-        let first = me.number as usize;
-        let places = [
-            first % SLOTS,
-            (first + 1) % SLOTS,
-            (first + 2) % SLOTS,
-            (first + 3) % SLOTS,
-        ];
+        let places = places_from(me.number);
         self.turn_among(counters, me, &places)
+    }
+
+    /// Takes a turn of the client over the places that are due, as [`Client::turn_due`] says. The client sees the history first.
+    pub fn piece_due(
+        &mut self,
+        counters: &Counters<D, A, B>,
+        me: &mut Client<A, B>,
+    ) -> Result<Turn<A>, Refusal>
+        ensures { MatchResult result
+            (λ turn. TakesAmong B.id self.old me.old (places_due (machine_of self.old.store) me.old.number) turn self.new me.new)
+            (λ e. StopsAmong B.id self.old me.old (places_due (machine_of self.old.store) me.old.number) e self.new me.new) }
+    {
+        self.show(counters, me);
+        let due = places_due(&self.store, me.number);
+        self.turn_among(counters, me, &due)
     }
 
     /// Takes the job of a choice, as [`Client::take`] says. The client sees the history first.
@@ -315,18 +322,19 @@ impl<D: Device, A: Allocator + Clone, B: SessionName> Session<D, A, B> {
     }
 }
 
-// What a policy advises to take: nothing where the store is stopped, a flush is to be taken first, or no slot is free.
+// What a policy advises to take: nothing where the store is stopped, a flush is to be taken first, or a merge is held. So slots are
+// left for flushes.
 fn advised<D: Device, A: Allocator>(store: &Store<D, A>, policy: &Policy) -> Option<Choice>
-    ensures { IfSome result (λ choice. MayChoose (machine_of store.now) choice × Gives (machine_of store.now) (Take (Some choice))) }
+    ensures { IfSome result (λ choice. MayMerge (machine_of store.now) × MayChoose (machine_of store.now) choice × Gives (machine_of store.now) (Take (Some choice))) }
 {
     let Ok(stat) = store.stat() else {
         return None;
     };
-    let jobs = store.jobs();
-    if stat.waiting && !jobs.has_flush() {
+    if is_flush_due(store) {
         return None;
     }
-    if !has_free_slot(jobs) {
+    let jobs = store.jobs();
+    if jobs.has_merge() {
         return None;
     }
     let Some(choice) = policy.next_choice(store.levels(), stat.free_blocks, jobs) else {
@@ -359,11 +367,6 @@ fn has_job<D: Device, A: Allocator>(store: &Store<D, A>, choice: Choice) -> bool
         Ok(given) => given,
         Err(_exhausted) => true,
     }
-}
-
-// Whether a slot is free for a job.
-fn has_free_slot<A: Allocator>(jobs: &Slots<A>) -> bool {
-    (0..SLOTS).any(|place| jobs.turn_at(place).is_none())
 }
 
 // Whether a refusal tells of want of memory.

@@ -1,7 +1,7 @@
 -- What turns of a worker, and results that it brings, add to its entries.
 use Rattle.std.proofs.Common.{◌≡◌, ◌⊎◌, ◌<◌, ◌≤◌, inl, inr, ⊎_elim, ℕ, suc, ◌+◌, List, [], ◌∷◌, ◌++◌, refl, ap, sym, subst, ◌∙◌, arith}
 use Rattle.std.proofs.lemmas.Bool.{cases_lt}
-use Rattle.std.specs.Prelude.{Result, Ok, Err, Bool, true, false, is_some, Option, Some, None, if◌then◌else◌}
+use Rattle.std.specs.Prelude.{Ok, Err, Bool, true, false, is_some, Option, Some, None, if◌then◌else◌}
 use Rattle.std.specs.Arc.{arc_value}
 use Rattle.std.specs.Global.{Global}
 use Rattle.std.specs.Option.{option_map}
@@ -16,13 +16,14 @@ use Rattle.lsm_machine.specs.Machine.{Machine, Step}
 use Rattle.lsm_machine.specs.Work.{Work}
 use Rattle.lsm_lives.specs.Asked.{Told}
 use Rattle.lsm_lives.specs.declared.calls.Reply.{Reply as GivenReply}
-use Rattle.lsm_trail.specs.History.{Event, steps_of, is_call, calls_in}
+use Rattle.lsm_trail.specs.History.{Event, steps_of, is_call, calls_in, machine_after}
 use Rattle.lsm_trail.specs.Knowledge.{Known, Sees}
 use Rattle.lsm_shared.specs.Clients.{Adds}
-use Rattle.lsm_shared.specs.Turns.{as_steps, pieces_among, IsTurn, TakesNext, IsNoNext, TakesTurn, IsNoTurn, IsBrought, Brings, IsLeftOfBringing, IsNotBrought}
+use Rattle.lsm_shared.specs.Due.{next_due}
+use Rattle.lsm_shared.specs.Turns.{as_steps, pieces_among, IsTurn, TakesNext, IsNoNext, TakesDue, IsNotDue, IsBrought, Brings, IsLeftOfBringing, IsNotBrought}
 use Rattle.lsm_shared.specs.declared.turn.Turn.{Turn}
 use Rattle.lsm_shared.specs.declared.turn.Turn.TheVariants as turn
-use Rattle.lsm_worker.specs.Working.{MakesNoCall, MayPart, Delivers, DeliversNot, EndsTurn, EndsInVain, TakesWhole, TakesTurns, TakesUpTo}
+use Rattle.lsm_worker.specs.Working.{MakesNoCall, Rests, MayPart, Delivers, DeliversNot, EndsTurn, Chooses, FindsIdle, EndsInVain, TakesWhole, TakesTurns, TakesUpTo}
 
 -- how many calls are among steps
 abbrev calls_among : List Step → ℕ
@@ -65,21 +66,17 @@ of_turn m places number (turn.Did reply) entries (passed, work, answer, behind, 
 of_turn m places number (turn.Merge job result input) entries (passed, behind, are, is) = of_pieces entries (pieces_among m places) is.steps
 
 -- a turn
-pub turns : {A : Type 0} (c d : Known) (turn : Turn A) → TakesTurn c turn d → MakesNoCall c d
+pub turns : {A : Type 0} (c d : Known) (turn : Turn A) → TakesDue c turn d → MakesNoCall c d
 turns c d turn takes = adds_none c d takes.others takes.entries takes.adds (of_turn _ _ _ turn takes.entries takes.takes)
 
 -- a turn that ended before its last piece
-pub no_turns : (c d : Known) (e : Refusal) → IsNoTurn c e d → MakesNoCall c d
+pub no_turns : (c d : Known) (e : Refusal) → IsNotDue c e d → MakesNoCall c d
 no_turns c d e takes = adds_none c d takes.others takes.entries takes.adds (of_first takes.entries _ _ takes.stops.steps)
 
 -- a policy advised something, or nothing
-pub some_next : {A : Type 0} (f : A → Told) (taken : Option A) (c d : Known) → is_some taken ≡ true → TakesNext c (option_map f taken) d → (answer : Told) × TakesNext c (Some answer) d
-some_next f None c d is takes = absurd (cc is)
-some_next f (Some x) c d is takes = (f x, takes)
-
-pub none_next : {A : Type 0} (f : A → Told) (taken : Option A) (c d : Known) → is_some taken ≡ false → TakesNext c (option_map f taken) d → TakesNext c None d
-none_next f None c d is takes = takes
-none_next f (Some x) c d is takes = absurd (cc is)
+pub chooses : {A : Type 0} (f : A → Told) (taken : Option A) (busy : Bool) (c d : Known) → busy ≡ is_some taken → TakesNext c (option_map f taken) d → Chooses busy c d
+chooses f None busy c d is takes = subst (λ (b : Bool). Chooses b c d) (sym is) takes
+chooses f (Some x) busy c d is takes = subst (λ (b : Bool). Chooses b c d) (sym is) (f x, takes)
 
 -- a job that a policy advised
 pub nexts : (c d : Known) (answer : Told) → TakesNext c (Some answer) d → MakesNoCall c d
@@ -87,6 +84,15 @@ nexts c d answer takes = adds_none c d takes.piece.others _ takes.piece.adds ref
 
 pub no_nexts : (c d : Known) (e : Refusal) → IsNoNext c e d → MakesNoCall c d
 no_nexts c d e takes = adds_none c d takes.1.piece.others [] takes.1.piece.adds refl
+
+-- a look at the history
+pub looks : (c d : Known) → Sees c d → MakesNoCall c d
+looks c d sees = record { number = sees.number; calls = ap calls_in sees.mine }
+
+-- whether one was taken or not
+pub asks : (busy : Bool) (c d : Known) → Chooses busy c d → MakesNoCall c d
+asks true c d (answer, takes) = nexts c d answer takes
+asks false c d sees = looks c d sees
 
 of_result : (number job result : ℕ) (made : MergeResult) (reply : Reply) (entries : List Event) → IsBrought number job result made reply entries → calls_in entries ≡ 0
 of_result number job result made (Refused NoSpace) entries brought = ap calls_in brought.3
@@ -105,10 +111,6 @@ of_left number job result made (e ∷ f ∷ more) left is = absurd is
 -- a result that could not be brought wholly
 pub brings_not : (c d : Known) (job result : ℕ) (made : MergeResult) (e : Refusal) → IsNotBrought c job result made e d → MakesNoCall c d
 brings_not c d job result made e brought = adds_none c d brought.others brought.entries brought.adds (of_left _ _ _ _ brought.entries brought.left brought.behind)
-
--- a look at the history
-pub looks : (c d : Known) → Sees c d → MakesNoCall c d
-looks c d sees = record { number = sees.number; calls = ap calls_in sees.mine }
 
 pub stays : (c d e : Known) → MakesNoCall c d → MakesNoCall d e → MakesNoCall c e
 stays c d e one two = record { number = two.number ∙ one.number; calls = two.calls ∙ one.calls }
@@ -130,17 +132,26 @@ parted parts x limit = (
 
 -- ---- how a turn ended
 
-pub idle_ends : (parts : ℕ) (taken : Turn Global) (mid : Known) → taken ≡ turn.Idle → EndsTurn parts taken false mid mid
-idle_ends parts taken mid is = subst (λ (t : Turn Global). EndsTurn parts t false mid mid) (sym is) (refl, refl)
+pub idle_found : (taken : Turn Global) (old mid : Known) → taken ≡ turn.Idle → TakesDue old taken mid → FindsIdle old mid
+idle_found taken old mid is takes = subst (λ (t : Turn Global). TakesDue old t mid) is takes
 
-pub did_ends : (parts : ℕ) (taken : Turn Global) (reply : GivenReply Global) (mid : Known) → taken ≡ turn.Did reply → EndsTurn parts taken true mid mid
-did_ends parts taken reply mid is = subst (λ (t : Turn Global). EndsTurn parts t true mid mid) (sym is) (refl, refl)
+pub did_ends : (parts : ℕ) (taken : Turn Global) (reply : GivenReply Global) (mid : Known) → taken ≡ turn.Did reply → EndsTurn parts taken mid mid
+did_ends parts taken reply mid is = subst (λ (t : Turn Global). EndsTurn parts t mid mid) (sym is) refl
 
-pub merge_ends : (parts : ℕ) (taken : Turn Global) (job result : ℕ) (input : Arc MergeInput Global) (mid new : Known) → taken ≡ turn.Merge job result input → Delivers parts job result (arc_value input) mid new → EndsTurn parts taken true mid new
-merge_ends parts taken job result input mid new is d = subst (λ (t : Turn Global). EndsTurn parts t true mid new) (sym is) (refl, d)
+pub merge_ends : (parts : ℕ) (taken : Turn Global) (job result : ℕ) (input : Arc MergeInput Global) (mid new : Known) → taken ≡ turn.Merge job result input → Delivers parts job result (arc_value input) mid new → EndsTurn parts taken mid new
+merge_ends parts taken job result input mid new is d = subst (λ (t : Turn Global). EndsTurn parts t mid new) (sym is) d
 
 pub merge_ends_not : (parts : ℕ) (e : Refusal) (taken : Turn Global) (job result : ℕ) (input : Arc MergeInput Global) (mid new : Known) → taken ≡ turn.Merge job result input → DeliversNot parts e job result (arc_value input) mid new → EndsInVain parts e taken mid new
 merge_ends_not parts e taken job result input mid new is d = subst (λ (t : Turn Global). EndsInVain parts e t mid new) (sym is) d
+
+-- a client that found nothing due, and took no merge, rests
+pub rests_then : (busy : Bool) (old mid new : Known) → FindsIdle old mid → Chooses busy mid new → busy ≡ false → Rests new
+rests_then true old mid new idle took none = absurd (cc none)
+rests_then false old mid new idle sees none = record {
+  seen = mid.seen;
+  before = sees.seen;
+  none = (λ i. next_due (machine_after (sees.begin i) mid.seen) (sees.number i)) ∙ idle.rests;
+}
 
 -- ---- turns one after another
 

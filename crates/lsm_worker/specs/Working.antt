@@ -1,17 +1,18 @@
 -- What a worker does.
-use Rattle.std.specs.Prelude.{◌≡◌, ◌⊎◌, ◌<◌, ◌≤◌, ℕ, zero, suc, Bool, true, false, Some, None}
+use Rattle.std.specs.Prelude.{◌≡◌, ◌⊎◌, ◌<◌, ◌≤◌, ℕ, zero, suc, Bool, true, false, List, Some, None}
 use Rattle.std.specs.Arc.{arc_value}
 use Rattle.std.specs.Global.{Global}
+use mathlib.Core.List.{IsPrefix}
 use Rattle.lsm_device.specs.declared.refusal.Refusal.{Refusal}
 use Rattle.lsm_device.specs.declared.refusal.Refusal.TheVariants.{BadLimit, NoMemory}
 use Rattle.lsm_table.specs.Division.{IsTables}
 use Rattle.lsm_merge.specs.Inputs.{MergeInput, kept_of}
 use Rattle.lsm_merge.specs.Results.{MergeResult}
-use Rattle.lsm_machine.specs.Pieces.{next_piece}
 use Rattle.lsm_lives.specs.Asked.{Told}
-use Rattle.lsm_trail.specs.History.{calls_in, machine_after}
+use Rattle.lsm_trail.specs.History.{Event, calls_in, machine_after}
 use Rattle.lsm_trail.specs.Knowledge.{Known}
-use Rattle.lsm_shared.specs.Turns.{TakesNext, IsNoNext, TakesTurn, IsNoTurn, Brings, IsNotBrought}
+use Rattle.lsm_shared.specs.Due.{next_due}
+use Rattle.lsm_shared.specs.Turns.{TakesNext, IsNoNext, TakesDue, IsNotDue, Brings, IsNotBrought}
 use Rattle.lsm_shared.specs.declared.turn.Turn.{Turn}
 use Rattle.lsm_shared.specs.declared.turn.Turn.TheVariants as turn
 
@@ -20,9 +21,12 @@ pub record MakesNoCall (old new : Known) : Type 0 where
   pub number : new.number ≡ old.number
   pub calls : calls_in new.mine ≡ calls_in old.mine
 
--- a client has seen a history behind which nothing is left for it to do
-abbrev pub Rests : Known → Type 0
-Rests me = next_piece (machine_after me.begin me.seen) me.number ≡ None
+-- A client has seen a history behind which nothing is left for it to do: no job that is held can go on, but for installs that are put
+-- off, and no flush waits for which a slot is free.
+pub record Rests (me : Known) : Type 0 where
+  pub seen : List Event
+  pub before : IsPrefix seen me.seen
+  pub none : next_due (machine_after me.begin seen) me.number ≡ None
 
 -- ---- a result
 
@@ -55,16 +59,26 @@ pub data DeliversNot (parts : ℕ) (e : Refusal) (job result : ℕ) (input : Mer
 
 -- ---- a turn with all that it asks for
 
--- Behind its turn a client was not busy where the turn was idle. Else it was, and what it was lent to build it delivered.
-abbrev pub EndsTurn : ℕ → Turn Global → Bool → Known → Known → Type 0
-EndsTurn parts turn.Idle busy mid new = (busy ≡ false) × (new ≡ mid)
-EndsTurn parts (turn.Did reply) busy mid new = (busy ≡ true) × (new ≡ mid)
-EndsTurn parts (turn.Merge job result input) busy mid new = (busy ≡ true) × Delivers parts job result (arc_value input) mid new
+-- A turn over the slots that are due was not idle, and what it lent the client to build the client delivered.
+abbrev pub EndsTurn : ℕ → Turn Global → Known → Known → Type 0
+EndsTurn parts turn.Idle mid new = ⊥
+EndsTurn parts (turn.Did reply) mid new = new ≡ mid
+EndsTurn parts (turn.Merge job result input) mid new = Delivers parts job result (arc_value input) mid new
 
--- A client took the job that a policy advised; or it advised none, and the client took a turn, and delivered what it was lent to build.
+-- A client was busy with the taking of the merge that a policy advised, or not where it took none.
+abbrev pub Chooses : Bool → Known → Known → Type 0
+Chooses true old new = (answer : Told) × TakesNext old (Some answer) new
+Chooses false old new = TakesNext old None new
+
+-- a client found the slots that are due idle
+abbrev pub FindsIdle : Known → Known → Type 0
+FindsIdle old mid = TakesDue {A = Global} old turn.Idle mid
+
+-- A client took a turn over the slots that are due, and delivered what it was lent to build; or that was idle, and then it asked a
+-- policy for a merge.
 pub data TakesWhole (parts : ℕ) (busy : Bool) (old new : Known) : Type 0 where
-  chosen : (answer : Told) → busy ≡ true → TakesNext old (Some answer) new → TakesWhole parts busy old new
-  turned : (seen : Known) → TakesNext old None seen → (taken : Turn Global) → (mid : Known) → TakesTurn seen taken mid → EndsTurn parts taken busy mid new → TakesWhole parts busy old new
+  turned : busy ≡ true → (taken : Turn Global) → (mid : Known) → TakesDue old taken mid → EndsTurn parts taken mid new → TakesWhole parts busy old new
+  asked : (mid : Known) → FindsIdle old mid → Chooses busy mid new → TakesWhole parts busy old new
 
 -- what it was lent to build it did not deliver
 abbrev pub EndsInVain : ℕ → Refusal → Turn Global → Known → Known → Type 0
@@ -72,11 +86,11 @@ EndsInVain parts e turn.Idle mid new = ⊥
 EndsInVain parts e (turn.Did reply) mid new = ⊥
 EndsInVain parts e (turn.Merge job result input) mid new = DeliversNot parts e job result (arc_value input) mid new
 
--- It could not take what was advised; or it took no whole turn; or it took one, and did not deliver what it was lent to build.
+-- It took no whole turn; or it took one, and did not deliver what it was lent to build; or it could not take what was advised.
 pub data TakesPart (parts : ℕ) (e : Refusal) (old new : Known) : Type 0 where
-  not_chosen : IsNoNext old e new → TakesPart parts e old new
-  not_turned : (seen : Known) → TakesNext old None seen → IsNoTurn seen e new → TakesPart parts e old new
-  in_vain : (seen : Known) → TakesNext old None seen → (taken : Turn Global) → (mid : Known) → TakesTurn seen taken mid → EndsInVain parts e taken mid new → TakesPart parts e old new
+  not_turned : IsNotDue old e new → TakesPart parts e old new
+  in_vain : (taken : Turn Global) → (mid : Known) → TakesDue old taken mid → EndsInVain parts e taken mid new → TakesPart parts e old new
+  not_chosen : (mid : Known) → FindsIdle old mid → IsNoNext mid e new → TakesPart parts e old new
 
 -- ---- turns, one after another
 

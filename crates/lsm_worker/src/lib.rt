@@ -6,7 +6,8 @@
 //! | [`take_turn`] | one turn, and what it hands out is built and brought |
 //! | [`work`] | such turns until nothing is left to do |
 //!
-//! Merges are taken as a policy advises (`lsm_policy`), before a turn would take the next one by itself.
+//! A flush that waits is taken before all else. Merges are taken as a policy advises (`lsm_policy`), one at a time, and only when no job
+//! that is held can go on: so a slot is always left for a flush.
 //!
 //! A worker makes no call of the store: whatever it enters in the trail are pieces of work. If it is idle it has seen a
 //! history after which nothing is left for it to do; others go on, so it is asked again later.

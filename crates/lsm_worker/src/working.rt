@@ -1,10 +1,9 @@
 //! Turns of a worker.
 
-ghost use Rattle.std.specs.Prelude.{◌≡◌, false, true, None, IfOk, MatchResult};
+ghost use Rattle.std.specs.Prelude.{◌≡◌, false, true, IfOk, MatchResult};
 ghost use Rattle.std.specs.Arc.{arc_value};
-ghost use Rattle.lsm_shared.specs.Turns.{TakesNext, WasLent};
-ghost use Rattle.lsm_trail.specs.Knowledge.{Known};
-ghost use Rattle.lsm_worker.specs.Working.{MakesNoCall, Rests, Delivers, DeliversNot, TakesWhole, TakesPart, TakesUpTo, StopsWithin};
+ghost use Rattle.lsm_shared.specs.Turns.{IsNoNext, WasLent};
+ghost use Rattle.lsm_worker.specs.Working.{MakesNoCall, Rests, Delivers, DeliversNot, Chooses, TakesWhole, TakesPart, TakesUpTo, StopsWithin};
 
 use lsm_device::{Device, Refusal};
 use lsm_merge::{Input, build};
@@ -36,36 +35,30 @@ fn merge<D: Device, B: SessionName, R: Threads + Wait + Sync>(
     Ok(())
 }
 
-// Takes a turn, behind a policy that advised nothing.
-fn turn<D: Device, B: SessionName, R: Threads + Wait + Sync>(
+// Takes the merge that a policy advises. Whether there was one.
+fn choose<D: Device, B: SessionName, R: Threads + Wait + Sync>(
     rt: &R,
-    alloc: Global,
     shared: &Shared<D, Global, B>,
     me: &mut Client<Global, B>,
-    parts: u8,
+    policy: &Policy,
 ) -> Result<bool, Refusal>
-    ensures takes { (old : Known) → TakesNext old None me.old → MatchResult result (λ busy. TakesWhole parts busy old me.new) (λ e. TakesPart parts e old me.new) }
-    ensures works { MakesNoCall me.old me.new }
-    ensures rests { IfOk result (λ busy. busy ≡ false → Rests me.new) }
+    ensures { MatchResult result (λ busy. Chooses busy me.old me.new) (λ e. IsNoNext me.old e me.new) }
 {
-    match me.turn(rt, shared)? {
-        Turn::Idle => Ok(false),
-        Turn::Did(_) => Ok(true),
-        Turn::Merge { job, result, input } => {
-            merge(rt, alloc, shared, me, (job, result, input), parts)?;
-            Ok(true)
-        }
-    }
+    let taken = me.take_next(rt, shared, policy)?;
+    Ok(taken.is_some())
 }
 
-/// Takes the merge that a policy advises; if it advises none, takes a turn at the jobs of a store. If that hands out an input, the
-/// result is built in so many parts, 1 to 8, each in a thread of its own and with no lock in hand, and brought. It returns
-/// whether there was something to do.
+/// Takes a turn at the jobs of a store: a flush that waits is taken first, and then the next piece of a job that is held is done. If that
+/// hands out an input, the result is built in so many parts, 1 to 8, each in a thread of its own and with no lock in hand, and brought.
+/// If nothing of the kind is left to do, and no merge is held, the merge that a policy advises is taken. It returns whether there was
+/// something to do.
+///
+/// So there is one merge at a time, and a slot is left for each flush.
 ///
 /// It is refused as a turn and a bringing are, with `TrailFull` and `NoMemory`, and with `BadLimit` where a result is to be built in
 /// another number of parts. What was entered before stands.
 ///
-/// No clause says that the policy is asked first, nor how many threads there are: the tables of a result are the same for each number
+/// No clause says that the policy is asked, nor how many threads there are: the tables of a result are the same for each number
 /// of parts. Tests show the first.
 pub fn take_turn<D: Device, B: SessionName, R: Threads + Wait + Sync>(
     rt: &R,
@@ -79,10 +72,17 @@ pub fn take_turn<D: Device, B: SessionName, R: Threads + Wait + Sync>(
     ensures works { MakesNoCall me.old me.new }
     ensures rests { IfOk result (λ busy. busy ≡ false → Rests me.new) }
 {
-    if me.take_next(rt, shared, policy)?.is_some() {
-        return Ok(true);
+    match me.turn_due(rt, shared)? {
+        Turn::Idle => {
+            let busy = choose(rt, shared, me, policy)?;
+            Ok(busy)
+        }
+        Turn::Did(_) => Ok(true),
+        Turn::Merge { job, result, input } => {
+            merge(rt, alloc, shared, me, (job, result, input), parts)?;
+            Ok(true)
+        }
     }
-    turn(rt, alloc, shared, me, parts)
 }
 
 /// Takes turns by a policy until nothing is left to do, or so many. It returns whether nothing was left.

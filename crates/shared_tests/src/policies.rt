@@ -1,14 +1,15 @@
 //! Workers that go by a policy.
 
-use crate::asks::{Ask, Told, ask_all};
+use crate::asks::{Ask, Asked, Told, ask_all};
 use crate::sessions::{Deeds, lead};
 use crate::setup::small;
 use lsm_device::MemDevice;
 use lsm_lives::Reply;
 use lsm_policy::Policy;
 use lsm_shared::{Client, Shared};
+use lsm_store::{Piece, Store};
 use lsm_trail::SessionName;
-use lsm_worker::work;
+use lsm_worker::{take_turn, work};
 use std::alloc::Global;
 use std::process::Abort;
 use std::sync::Wait;
@@ -50,15 +51,14 @@ fn takes<B: SessionName, R: Wait + Abort>(
     }
 }
 
-/// Brings each of five keys into a table of level 1 of its own. Then four of the tables go into a job each, and no slot is left for
-/// the fifth.
-pub fn go_by_policies<B: SessionName, R: Threads + Wait + Abort + Sync>(
+// Brings each of three keys into a table of level 1 of its own.
+fn fill<B: SessionName, R: Threads + Wait + Abort + Sync>(
     rt: &R,
     alloc: Global,
     shared: &Shared<MemDevice, Global, B>,
     clients: &mut [Client<Global, B>],
 ) {
-    for (key, number) in [(0x61, 1), (0x62, 2), (0x63, 3), (0x64, 4), (0x65, 5)] {
+    for (key, number) in [(0x61, 1), (0x62, 2), (0x63, 3)] {
         let table = [
             (0, Ask::Put(key), Told::Number(number)),
             (0, Ask::Rotate, Told::Done),
@@ -67,16 +67,44 @@ pub fn go_by_policies<B: SessionName, R: Threads + Wait + Abort + Sync>(
         let me = clients.first_mut().expect(rt, "a client");
         assert!(rt; works(rt, alloc, shared, me));
     }
+}
+
+const FOURTH: &[Asked] = &[
+    (1, Ask::Put(0x64), Told::Number(4)),
+    (1, Ask::Rotate, Told::Done),
+];
+
+/// Each of three tables of level 1 may go down, and one does, in slot 0. Client 0, whose turns begin there, takes one turn more once a
+/// flush waits.
+pub fn go_by_policies<B: SessionName, R: Threads + Wait + Abort + Sync>(
+    rt: &R,
+    alloc: Global,
+    shared: &Shared<MemDevice, Global, B>,
+    clients: &mut [Client<Global, B>],
+) {
+    fill(rt, alloc, shared, clients);
     let me = clients.first_mut().expect(rt, "a client");
-    for slot in 0..5u32 {
-        assert!(rt; takes(rt, shared, me) == (slot < 4));
+    for merge in 0..3u32 {
+        assert!(rt; takes(rt, shared, me) == (merge == 0));
     }
+    ask_all(rt, alloc, shared, clients, FOURTH);
+    let me = clients.first_mut().expect(rt, "a client");
+    assert!(rt; !takes(rt, shared, me));
+    assert!(rt; matches!(take_turn(rt, alloc, shared, me, &eager(0), 2), Ok(true)));
+}
+
+// Whether a merge in slot 0 is to be read and a flush in slot 1 to be built, and no other slot is held.
+fn flushes_beside_a_merge(store: &Store<MemDevice>) -> bool {
+    matches!(store.piece_at(0), Some(Piece::Read(_)))
+        && matches!(store.piece_at(1), Some(Piece::Build(_)))
+        && store.piece_at(2).is_none()
+        && store.piece_at(3).is_none()
 }
 
 #[test]
-fn a_worker_takes_what_its_policy_advises(rt: HostRuntime) {
+fn a_worker_takes_one_merge_and_each_flush_first(rt: HostRuntime) {
     let store = small(&rt, rt.alloc());
     let left = lead(&rt, rt.alloc(), store, (2, 65_536), Deeds::ByPolicies);
-    assert!(rt; matches!(left.store.stat(), Ok(stat) if stat.tables == 5 && stat.runs == 0));
-    assert!(rt; left.store.jobs().turn_at(3).is_some());
+    assert!(rt; matches!(left.store.stat(), Ok(stat) if stat.tables == 3 && stat.runs == 0));
+    assert!(rt; flushes_beside_a_merge(&left.store));
 }

@@ -1,30 +1,50 @@
-use Rattle.std.proofs.Common.{refl, sym, ◌∙◌}
+use Rattle.std.proofs.Common.{refl}
 use Rattle.std.proofs.lemmas.Result.{err_from_is_err_and}
-use Rattle.lsm_lives.specs.Calls.{told_of}
-use Rattle.lsm_worker.proofs.AtWork.{looks, nexts, no_nexts, some_next, none_next, stays}
-use Rattle.lsm_worker.specs.Working.{chosen, not_chosen}
+use Rattle.lsm_worker.proofs.AtWork.{turns, no_turns, asks, no_nexts, stays, idle_found, did_ends, merge_ends, merge_ends_not, rests_then}
+use Rattle.lsm_worker.specs.Working.{turned, asked, not_turned, in_vain, not_chosen}
 use Rattle.lsm_worker.proofs.working.take_turn.Goals as goal
 
-pub returns-in_err-take_next-clause-works : goal.returns-in_err-take_next-clause-works
-returns-in_err-take_next-clause-works g c = no_nexts _ _ _ c.in_err-take_next.ensures
+pub returns-in_err-turn_due-clause-works : goal.returns-in_err-turn_due-clause-works
+returns-in_err-turn_due-clause-works g c = no_turns _ _ _ c.in_err-turn_due.ensures.taken
 
-pub returns-in_err-take_next-clause-takes : goal.returns-in_err-take_next-clause-takes
-returns-in_err-take_next-clause-takes g c =
+pub returns-in_err-turn_due-clause-takes : goal.returns-in_err-turn_due-clause-takes
+returns-in_err-turn_due-clause-takes g c =
     let p = err_from_is_err_and c.from_residual.result c.from_residual.ensures.1 in
-    rw (p.1, p.2) (not_chosen c.in_err-take_next.ensures)
+    rw (p.1, p.2) (not_turned c.in_err-turn_due.ensures.taken)
 
-pub returns-then-is_some-clause-works : goal.returns-then-is_some-clause-works
-returns-then-is_some-clause-works g c =
-    let next = some_next told_of c.in_ok-take_next.field-0 _ _ (sym c.is_some.ensures ∙ c.if-is_some.true) c.in_ok-take_next.ensures in
-    nexts _ _ next.0 next.1
+pub returns-in_err-busy-in-Idle-clause-works : goal.returns-in_err-busy-in-Idle-clause-works
+returns-in_err-busy-in-Idle-clause-works g c = stays _ _ _ (turns _ _ _ c.in_ok-turn_due.ensures.taken) (no_nexts _ _ _ c.in_err-busy-in-Idle.ensures)
 
-pub returns-then-is_some-clause-takes : goal.returns-then-is_some-clause-takes
-returns-then-is_some-clause-takes g c =
-    let next = some_next told_of c.in_ok-take_next.field-0 _ _ (sym c.is_some.ensures ∙ c.if-is_some.true) c.in_ok-take_next.ensures in
-    chosen next.0 refl next.1
+pub returns-in_err-busy-in-Idle-clause-takes : goal.returns-in_err-busy-in-Idle-clause-takes
+returns-in_err-busy-in-Idle-clause-takes g c =
+    let p = err_from_is_err_and c.from_residual-in_err-busy-in-Idle.result c.from_residual-in_err-busy-in-Idle.ensures.1 in
+    rw (p.1, p.2) (not_chosen _ (idle_found _ _ _ c.in-Idle.is c.in_ok-turn_due.ensures.taken) c.in_err-busy-in-Idle.ensures)
+
+pub returns-in-Idle-clause-works : goal.returns-in-Idle-clause-works
+returns-in-Idle-clause-works g c = stays _ _ _ (turns _ _ _ c.in_ok-turn_due.ensures.taken) (asks _ _ _ c.in_ok-busy-in-Idle.ensures)
+
+pub returns-in-Idle-clause-takes : goal.returns-in-Idle-clause-takes
+returns-in-Idle-clause-takes g c = asked _ (idle_found _ _ _ c.in-Idle.is c.in_ok-turn_due.ensures.taken) c.in_ok-busy-in-Idle.ensures
+
+pub returns-in-Idle-clause-rests : goal.returns-in-Idle-clause-rests
+returns-in-Idle-clause-rests g c = λ none. rests_then _ _ _ _ (idle_found _ _ _ c.in-Idle.is c.in_ok-turn_due.ensures.taken) c.in_ok-busy-in-Idle.ensures none
+
+pub returns-in-Did-clause-works : goal.returns-in-Did-clause-works
+returns-in-Did-clause-works g c = turns _ _ _ c.in_ok-turn_due.ensures.taken
+
+pub returns-in-Did-clause-takes : goal.returns-in-Did-clause-takes
+returns-in-Did-clause-takes g c = turned refl _ _ c.in_ok-turn_due.ensures.taken (did_ends _ _ _ _ c.in-Did.is)
+
+pub returns-in_err-merge-in-Merge-clause-works : goal.returns-in_err-merge-in-Merge-clause-works
+returns-in_err-merge-in-Merge-clause-works g c = stays _ _ _ (turns _ _ _ c.in_ok-turn_due.ensures.taken) c.merge.ensures.works
+
+pub returns-in_err-merge-in-Merge-clause-takes : goal.returns-in_err-merge-in-Merge-clause-takes
+returns-in_err-merge-in-Merge-clause-takes g c =
+    let p = err_from_is_err_and c.from_residual-in_err-merge-in-Merge.result c.from_residual-in_err-merge-in-Merge.ensures.1 in
+    rw (p.1, p.2) (in_vain _ _ c.in_ok-turn_due.ensures.taken (merge_ends_not _ _ _ _ _ _ _ _ c.in-Merge.is c.in_err-merge-in-Merge.ensures.delivers))
 
 pub returns-clause-works : goal.returns-clause-works
-returns-clause-works g c = stays _ _ _ (looks _ _ (none_next told_of c.in_ok-take_next.field-0 _ _ (sym c.is_some.ensures ∙ c.if-is_some.false) c.in_ok-take_next.ensures)) c.turn.ensures.works
+returns-clause-works g c = stays _ _ _ (turns _ _ _ c.in_ok-turn_due.ensures.taken) c.merge.ensures.works
 
 pub returns-clause-takes : goal.returns-clause-takes
-returns-clause-takes g c = c.turn.ensures.takes _ (none_next told_of c.in_ok-take_next.field-0 _ _ (sym c.is_some.ensures ∙ c.if-is_some.false) c.in_ok-take_next.ensures)
+returns-clause-takes g c = turned refl _ _ c.in_ok-turn_due.ensures.taken (merge_ends _ _ _ _ _ _ _ c.in-Merge.is c.in_ok-merge-in-Merge.ensures.delivers)

@@ -1,0 +1,9 @@
+use Rattle.std.proofs.Common.{ap, sym, ◌∙◌}
+use Rattle.lsm_trail.specs.Knowledge.{Known}
+use Rattle.lsm_shared.proofs.Places.{due_begun}
+use Rattle.lsm_shared.proofs.session.Session.piece_due.Goals as goal
+
+pub returns : goal.returns
+returns g c =
+    let number = sym c.me.invariant.1 ∙ ap (λ (k : Known). k.number) (c.me.view_is ∙ c.show.ensures.known) in
+    due_begun c.turn_among.result _ _ _ _ _ _ _ _ _ _ _ c.self.view_is c.show.ensures.same c.places_due-due.ensures number c.show.ensures.finds c.show.ensures.known c.turn_among.ensures
