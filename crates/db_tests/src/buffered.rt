@@ -16,7 +16,7 @@ impl Drop for Buffer {
     }
 }
 
-fn buffer<R: AllocGlobal + Abort>(rt: &R) -> Buffer {
+fn empty_buffer<R: AllocGlobal + Abort>(rt: &R) -> Buffer {
     Buffer {
         buffered: BufferedDb::on(begun(rt).into_db()),
     }
@@ -58,7 +58,7 @@ impl Buffer {
 
 #[test]
 fn what_waits_is_read(rt: HostRuntime) {
-    let mut buffer = buffer(&rt);
+    let mut buffer = empty_buffer(&rt);
     let put = buffer.put(b"apple", b"red");
     let again = buffer.put(b"apple", b"green");
     let deleted = buffer.delete(b"pear");
@@ -68,7 +68,7 @@ fn what_waits_is_read(rt: HostRuntime) {
 
 #[test]
 fn what_waits_is_one_batch(rt: HostRuntime) {
-    let mut buffer = buffer(&rt);
+    let mut buffer = empty_buffer(&rt);
     let put = buffer.put(b"apple", b"red");
     let other = buffer.put(b"pear", b"green");
     assert!(rt; put == Ok(()) && other == Ok(()));
@@ -80,7 +80,7 @@ fn what_waits_is_one_batch(rt: HostRuntime) {
 
 #[test]
 fn a_sync_keeps_what_waits(rt: HostRuntime) {
-    let mut buffer = buffer(&rt);
+    let mut buffer = empty_buffer(&rt);
     let put = buffer.put(b"apple", b"red");
     let synced = buffer.sync();
     let lost = buffer.put(b"pear", b"green");
@@ -92,7 +92,7 @@ fn a_sync_keeps_what_waits(rt: HostRuntime) {
 // 16,384 bytes of text are 17 such puts, and a few more make another batch.
 #[test]
 fn a_full_buffer_is_committed(rt: HostRuntime) {
-    let mut buffer = buffer(&rt);
+    let mut buffer = empty_buffer(&rt);
     for number in 0..20_u8 {
         let put = buffer.put(&[number], &[number; 1_000]);
         assert!(rt; put == Ok(()));
@@ -105,7 +105,7 @@ fn a_full_buffer_is_committed(rt: HostRuntime) {
 
 #[test]
 fn a_refused_write_does_not_wait(rt: HostRuntime) {
-    let mut buffer = buffer(&rt);
+    let mut buffer = empty_buffer(&rt);
     let no_key = buffer.put(b"", b"red");
     let long = buffer.put(b"apple", &[0; 2_049]);
     let no_delete = buffer.delete(&[1; 256]);
