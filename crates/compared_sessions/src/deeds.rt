@@ -1,6 +1,7 @@
 //! What the clients of a session do.
 
 use compared_steps::lists::Line;
+use lsm_store::Choice;
 
 /// How many clients a session has, and how many places its trail.
 #[derive(Clone, Copy)]
@@ -14,6 +15,8 @@ pub struct Sizes {
 pub enum Deed {
     /// It makes a call.
     Call(u32, Line),
+    /// It takes the job of a choice.
+    Take(u32, Choice),
     /// It takes a turn. What that hands out is built and brought.
     Turn(u32),
 }

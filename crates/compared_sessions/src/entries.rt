@@ -48,7 +48,7 @@ fn is_work_of(work: &Work, step: Step) -> bool {
         Work::Write(job) => matches!(step, Step::Write(wanted) if wanted == *job),
         Work::Install(job) => matches!(step, Step::Install(wanted) if wanted == *job),
         Work::Drop(job) => matches!(step, Step::Drop(wanted) if wanted == *job),
-        Work::TakeOf(_) => false,
+        Work::TakeOf(choice) => matches!(step, Step::TakeOf(wanted) if wanted == *choice),
     }
 }
 

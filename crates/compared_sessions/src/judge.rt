@@ -4,6 +4,7 @@ use crate::entries::{Entries, is_entered};
 use crate::session::{Brought, Turned};
 use compared_steps::trouble::{Trouble, agree, unrefused};
 use lsm_device::Refusal;
+use lsm_store::Choice;
 use lsm_trail::{Numbers, Trail};
 use merge_tests::budget::Budget;
 use plain_machine::{Answer, Machine, PARTS, Step};
@@ -166,6 +167,24 @@ impl<'h> Judge<'h> {
             }
             Answer::Refused(Refusal::Io) => self.hear_fault(client, step),
             _ => self.compare(client, step, found),
+        }
+    }
+
+    /// Hears what a client is answered to the taking of a choice. Where there is no such job there is no entry, in a full trail neither.
+    pub(crate) fn hear_taken(
+        &mut self,
+        client: u32,
+        choice: Choice,
+        found: Option<Answer>,
+    ) -> Result<Heard, Trouble> {
+        let step = Step::TakeOf(choice);
+        match found {
+            Some(Answer::Taken(None)) => Err(Trouble::Turn { step: Some(step) }),
+            Some(answer) => self.hear(client, step, answer),
+            None => {
+                agree(step, Answer::Taken(None), self.machine.answer(step))?;
+                Ok(Heard::Same)
+            }
         }
     }
 

@@ -11,6 +11,7 @@ use lsm_device::{MemDevice, Refusal};
 use lsm_lives::Reply;
 use lsm_merge::{Input, build};
 use lsm_shared::{Client, Shared, Turn, prepare};
+use lsm_store::Choice;
 use lsm_trail::{Numbers, Opened, SessionName, Trail};
 use plain_machine::{Answer, PARTS, Step};
 use std::alloc::Allocator;
@@ -171,6 +172,18 @@ impl<N: SessionName, A: Allocator + Copy, B: Allocator> Session<N, A, B> {
         match self.call(rt, client, step) {
             Ok(reply) => told_call(&reply),
             Err(refusal) => Answer::Refused(refusal),
+        }
+    }
+
+    /// What a client is answered to the taking of a choice, none where there is no such job.
+    pub(crate) fn take<R: Wait>(&mut self, rt: &R, client: u32, choice: Choice) -> Option<Answer> {
+        let Some(me) = self.clients.get_mut(client as usize) else {
+            return Some(Answer::Refused(Refusal::TooManyClients));
+        };
+        match me.take(rt, &self.shared, choice) {
+            Ok(Some(reply)) => Some(told_work(&reply)),
+            Ok(None) => None,
+            Err(refusal) => Some(Answer::Refused(refusal)),
         }
     }
 

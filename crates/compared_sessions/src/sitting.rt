@@ -55,6 +55,9 @@ fn hear<N: SessionName, R: Threads + Wait + Sync, A: Allocator + Copy + Send + S
             Some(step) => judge.hear(client, step, session.answer(rt, client, step)),
             None => Ok(Heard::Same),
         },
+        Deed::Take(client, choice) => {
+            judge.hear_taken(client, choice, session.take(rt, client, choice))
+        }
         Deed::Turn(client) => judge.hear_turn(client, session.turn(rt, client)),
     }
 }
@@ -74,6 +77,7 @@ fn hear_and_watch<
     let heard = hear(rt, session, judge, deed)?;
     let client = match deed {
         Deed::Call(client, _) => client,
+        Deed::Take(client, _) => client,
         Deed::Turn(client) => client,
     };
     judge.has_numbers(session.numbers(client))?;

@@ -3,8 +3,8 @@
 use crate::subject::{batch_of, told_page, told_taken, value_of};
 use lsm_device::Refusal;
 use lsm_lives::{Call, Reply, Step as Asked, Work};
-use lsm_store::{At, Choice};
-use plain_machine::{Answer, Change, Step};
+use lsm_store::At;
+use plain_machine::{Answer, Change, PARTS, Step};
 use std::alloc::Allocator;
 
 fn commit_of<A: Allocator + Clone>(alloc: &A, change: Change) -> Result<Call<A>, Refusal> {
@@ -51,7 +51,7 @@ pub fn call_of<A: Allocator + Clone>(alloc: &A, step: Step) -> Result<Call<A>, R
 fn work_of(step: Step, number: u64) -> Option<Work> {
     match step {
         Step::Take => Some(Work::Take),
-        Step::TakeRuns(count) => Some(Work::TakeOf(Choice::OldestRuns { count })),
+        Step::TakeOf(choice) => Some(Work::TakeOf(choice)),
         Step::Read(job) => Some(Work::Read(job)),
         Step::Build(job, parts) => Some(Work::Build {
             job,
@@ -73,6 +73,14 @@ fn asked_of<A: Allocator + Clone>(alloc: &A, step: Step, number: u64) -> Result<
     match work_of(step, number) {
         Some(work) => Ok(Asked::Work(work)),
         None => Ok(Asked::Call(call_of(alloc, step)?)),
+    }
+}
+
+/// A step as a replay can make it, in which no result is divided at keys.
+pub fn undivided(step: Step) -> Step {
+    match step {
+        Step::Divide(job, _) => Step::Build(job, PARTS),
+        other => other,
     }
 }
 

@@ -5,7 +5,7 @@
 //! |---|---|
 //! | `lists` | lists of steps, written in a few words, or drawn |
 //! | `disk`, `image`, `layout` | devices, what stands on them, and where the fields of that lie |
-//! | `subject`, `asking` | a store that answers steps, and steps as values that it replies to |
+//! | `subject`, `tables`, `asking` | a store that answers steps, what is told of its tables, and steps as values that it replies to |
 //! | `trouble` | how a store differs from the machine |
 //! | `playing`, `beginnings` | steps that both make, crashes behind them, and the images that they leave |
 #![tactic(auto)]
@@ -19,4 +19,5 @@ pub mod layout;
 pub mod lists;
 pub mod playing;
 pub mod subject;
+mod tables;
 pub mod trouble;

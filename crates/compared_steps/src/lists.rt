@@ -2,8 +2,8 @@
 
 use crate::draws::Draws;
 use lsm_device::Refusal;
-use lsm_store::At;
-use plain_machine::{Change, Machine, Step};
+use lsm_store::{At, Choice};
+use plain_machine::{Change, Division, Machine, Step};
 use std::alloc::Global;
 
 /// One or more steps, in a word.
@@ -20,6 +20,8 @@ pub enum Line {
     One(Step),
     /// All pieces of work on the job of a number, one after another.
     Job(u64),
+    /// All pieces of work on the job of a choice and of a number, whose result is divided at keys.
+    Chosen(Choice, u64, Division),
     /// Puts a value of one byte under a key, and flushes it as the job of a number.
     Flush(u8, u64),
 }
@@ -38,6 +40,26 @@ fn push_job(steps: &mut Vec<Step>, job: u64) -> Result<(), Refusal> {
     Ok(())
 }
 
+/// All pieces of work on the job of a choice, whose outputs may want two writes.
+fn push_chosen(
+    steps: &mut Vec<Step>,
+    choice: Choice,
+    job: u64,
+    division: Division,
+) -> Result<(), Refusal> {
+    let pieces = [
+        Step::TakeOf(choice),
+        Step::Read(job),
+        Step::Divide(job, division),
+        Step::Accept(job),
+        Step::Write(job),
+        Step::Write(job),
+        Step::Install(job),
+    ];
+    steps.extend_from_slice(&pieces)?;
+    Ok(())
+}
+
 /// The step of a line that is one step.
 pub fn step_of(line: Line) -> Option<Step> {
     match line {
@@ -47,7 +69,7 @@ pub fn step_of(line: Line) -> Option<Step> {
         Line::Get(key) => Some(Step::Get(At::Now, key)),
         Line::Scan(from, limit) => Some(Step::Scan(At::Now, from, limit)),
         Line::One(step) => Some(step),
-        Line::Job(_) | Line::Flush(_, _) => None,
+        Line::Job(_) | Line::Chosen(_, _, _) | Line::Flush(_, _) => None,
     }
 }
 
@@ -60,10 +82,11 @@ fn push(steps: &mut Vec<Step>, line: Line) -> Result<(), Refusal> {
         steps.push(Step::Rotate)?;
         return push_job(steps, job);
     }
-    if let Line::Job(job) = line {
-        return push_job(steps, job);
+    match line {
+        Line::Job(job) => push_job(steps, job),
+        Line::Chosen(choice, job, division) => push_chosen(steps, choice, job, division),
+        _ => Ok(()),
     }
-    Ok(())
 }
 
 /// The steps of some lines.
@@ -122,12 +145,53 @@ fn call(draws: &mut Draws, machine: &Machine) -> Step {
     }
 }
 
+/// Keys to divide a result at.
+fn division(draws: &mut Draws) -> Division {
+    Division {
+        first: draws.byte() % 60,
+        second: draws.byte() % 60,
+    }
+}
+
+/// The number of a table at a place of a level, or one that may be none.
+fn table(machine: &Machine, level: usize, place: usize) -> u64 {
+    match machine.table_at(level, place) {
+        Some(number) => number,
+        None => place as u64,
+    }
+}
+
+/// The numbers of two tables of a level from 1 on, the second of which is mostly the first or the last of the level.
+fn tables(draws: &mut Draws, machine: &Machine) -> (u64, u64) {
+    let level = draws.place(4).wrapping_add(1);
+    let count = machine.tables_in(level);
+    let first = draws.place(count);
+    let last = match draws.below(8) {
+        0 => draws.place(6),
+        1..=4 => count.saturating_sub(1),
+        _ => first,
+    };
+    (table(machine, level, first), table(machine, level, last))
+}
+
+/// Some of the oldest runs, or some tables, whether they can be taken or not.
+fn choice(draws: &mut Draws, machine: &Machine) -> Choice {
+    let (first, last) = tables(draws, machine);
+    match draws.below(5) {
+        0 => Choice::OldestRuns {
+            count: draws.place(5),
+        },
+        1 | 2 => Choice::Tables { first, last },
+        _ => Choice::Rewrite { first, last },
+    }
+}
+
 /// A piece of work on one of the first jobs, whether there is one or not.
 fn piece(draws: &mut Draws) -> Step {
     let job = u64::from(draws.below(6)) + 1;
     match draws.below(8) {
         0 => Step::Take,
-        1 => Step::TakeRuns(draws.place(5)),
+        1 => Step::Divide(job, division(draws)),
         2 => Step::Read(job),
         3 => Step::Build(job, 1),
         4 => Step::Accept(job),
@@ -137,12 +201,17 @@ fn piece(draws: &mut Draws) -> Step {
     }
 }
 
-/// A step that a machine may be asked for: a call, a piece of work that comes next, or any other one.
+/// A step that a machine may be asked for: a call, a piece of work that comes next, the job of a choice, or any other piece.
 fn step(draws: &mut Draws, machine: &Machine) -> Step {
     match (draws.below(16), machine.turn_of(draws.below(4))) {
         (0, _) => piece(draws),
-        (1..=5, Some(Step::Build(job, _))) if draws.below(2) == 0 => Step::Accept(job),
-        (1..=5, Some(step)) => step,
+        (1, _) => Step::TakeOf(choice(draws, machine)),
+        (2..=6, Some(Step::Build(job, _))) => match draws.below(5) {
+            0 | 1 => Step::Accept(job),
+            2 | 3 => Step::Divide(job, division(draws)),
+            _ => Step::Build(job, 2),
+        },
+        (2..=6, Some(step)) => step,
         _ => call(draws, machine),
     }
 }

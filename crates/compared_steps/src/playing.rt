@@ -68,7 +68,19 @@ pub fn crash<A: Allocator + Clone, B: Allocator>(
     find(alloc, subject.into_disk().crashed(mask), machine)
 }
 
-/// Whether a store is in the state of the machine, as its numbers tell.
+/// Whether a store has the tables of the machine in its levels.
+fn has_tables<A: Allocator + Clone, B: Allocator>(
+    subject: &Subject<A, B>,
+    machine: &Machine,
+) -> Result<(), Trouble> {
+    let (found, wanted) = (subject.tables(), machine.tables());
+    if found == wanted {
+        return Ok(());
+    }
+    Err(Trouble::Tables { found, wanted })
+}
+
+/// Whether a store is in the state of the machine, as its numbers and its tables tell.
 pub fn is_unchanged<A: Allocator + Clone, B: Allocator>(
     subject: &mut Subject<A, B>,
     machine: &mut Machine,
@@ -77,6 +89,7 @@ pub fn is_unchanged<A: Allocator + Clone, B: Allocator>(
         let (count, _) = subject.counts();
         return Err(Trouble::Count(count));
     }
+    has_tables(subject, machine)?;
     let found = subject.answer_alone(Step::Stat);
     agree(Step::Stat, found, machine.answer(Step::Stat))
 }

@@ -1,12 +1,13 @@
 //! A store on a device in memory, whose calls tell the prover nothing.
 
 use crate::disk::Disk;
-use lsm_codec::{Batch, Op};
+use crate::tables::told_tables;
+use lsm_codec::{Batch, Key, Op};
 use lsm_device::{MemDevice, Refusal};
 use lsm_lives::{Reply, Step as Asked, replay};
-use lsm_merge::{Built, Input, build};
+use lsm_merge::{Built, Input, build, build_divided};
 use lsm_store::{At, Choice, Page, Store, TakenJob};
-use plain_machine::{Answer, Change, Operation, RowsTold, Step, Value, told};
+use plain_machine::{Answer, Change, Division, Operation, RowsTold, Step, TablesTold, Value, told};
 use std::alloc::{AllocError, Allocator, Global};
 use std::sync::Arc;
 use std::thread::Threads;
@@ -186,9 +187,8 @@ impl<A: Allocator + Clone, B: Allocator> Subject<A, B> {
         Ok(Answer::Numbers(self.store.stat()?))
     }
 
-    fn take_runs(&mut self, count: usize) -> Result<Answer, Refusal> {
-        let taken = self.store.job_take_of(Choice::OldestRuns { count })?;
-        Ok(told_taken(taken))
+    fn take_of(&mut self, choice: Choice) -> Result<Answer, Refusal> {
+        Ok(told_taken(self.store.job_take_of(choice)?))
     }
 
     fn read(&mut self, job: u64) -> Result<Answer, Refusal> {
@@ -222,7 +222,7 @@ impl<A: Allocator + Clone, B: Allocator> Subject<A, B> {
     fn worked(&mut self, step: Step) -> Result<Answer, Refusal> {
         match step {
             Step::Take => Ok(told_taken(self.store.job_take()?)),
-            Step::TakeRuns(count) => self.take_runs(count),
+            Step::TakeOf(choice) => self.take_of(choice),
             Step::Read(job) => self.read(job),
             Step::Accept(job) => self.accept(job),
             Step::Write(job) => self.write(job),
@@ -257,6 +257,11 @@ impl<A: Allocator + Clone, B: Allocator> Subject<A, B> {
     /// How many batches there are, and how many of them are synced, also of a stopped store.
     pub fn counts(&self) -> (u64, u64) {
         (self.store.batch_count(), self.store.synced_count())
+    }
+
+    /// The tables of all levels, also of a stopped store.
+    pub fn tables(&self) -> TablesTold {
+        told_tables(self.store.levels())
     }
 
     /// How many calls the device has had.
@@ -313,6 +318,23 @@ fn merged<R: Threads + Sync, A: Allocator + Clone + Send + Sync>(
     Ok(built)
 }
 
+/// In how many parts a result is built that is divided at keys.
+const DIVIDED_PARTS: u8 = 2;
+
+/// The result of a merge that is divided at keys.
+fn divided<R: Threads + Sync, A: Allocator + Clone + Send + Sync>(
+    rt: &R,
+    alloc: &A,
+    input: Arc<Input<A>, A>,
+    division: Division,
+) -> Result<Built<A>, Refusal> {
+    let mut keys = Vec::new(alloc.clone()?);
+    keys.push(Key::from_slice(alloc.clone()?, &[division.first])?)?;
+    keys.push(Key::from_slice(alloc.clone()?, &[division.second])?)?;
+    let built = build_divided(rt, alloc.clone()?, input, DIVIDED_PARTS, keys)?;
+    Ok(built)
+}
+
 impl<A: Allocator + Clone + Send + Sync, B: Allocator> Subject<A, B> {
     fn result_of<R: Threads + Sync>(
         &self,
@@ -326,9 +348,25 @@ impl<A: Allocator + Clone + Send + Sync, B: Allocator> Subject<A, B> {
 
     fn build<R: Threads + Sync>(&mut self, rt: &R, job: u64, parts: u8) -> Result<Answer, Refusal> {
         let built = self.result_of(rt, job, parts)?;
+        Ok(self.keep(built))
+    }
+
+    fn divide<R: Threads + Sync>(
+        &mut self,
+        rt: &R,
+        job: u64,
+        division: Division,
+    ) -> Result<Answer, Refusal> {
+        let input = self.store.job_input(job)?;
+        let built = divided(rt, &self.alloc, input, division)?;
+        Ok(self.keep(built))
+    }
+
+    /// A result was built.
+    fn keep(&mut self, built: Built<A>) -> Answer {
         let tables = built.images().len();
         self.result = Some(built);
-        Ok(Answer::Built(tables))
+        Answer::Built(tables)
     }
 
     /// What a replay of these steps replies.
@@ -346,6 +384,7 @@ impl<A: Allocator + Clone + Send + Sync, B: Allocator> Subject<A, B> {
     pub fn answer<R: Threads + Sync>(&mut self, rt: &R, step: Step) -> Answer {
         match step {
             Step::Build(job, parts) => told(self.build(rt, job, parts)),
+            Step::Divide(job, division) => told(self.divide(rt, job, division)),
             _ => self.answer_alone(step),
         }
     }

@@ -1,7 +1,7 @@
 //! How a store differs from what it should do.
 
 use lsm_device::Refusal;
-use plain_machine::{Answer, Step};
+use plain_machine::{Answer, Step, TablesTold};
 use std::alloc::{AllocError, AllocFailed};
 
 /// How a store differs.
@@ -25,6 +25,11 @@ pub enum Trouble {
     Count(u64),
     /// An opening has so many batches, and another map than they make.
     Map(u64),
+    /// The levels have other tables.
+    Tables {
+        found: TablesTold,
+        wanted: TablesTold,
+    },
     /// A refusal that is not in the list of the call, or that comes where none is due.
     Refusal(Refusal),
     /// A check found something else than with ample memory on a device that doesn't fail.

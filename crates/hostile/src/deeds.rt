@@ -3,7 +3,7 @@
 use crate::scripts::{BATCHES, FOUR_RUNS};
 use compared_sessions::deeds::{Deed, Sitting, Sizes};
 use compared_steps::lists::Line;
-use lsm_store::At;
+use lsm_store::{At, Choice};
 use plain_machine::{Change, Step};
 
 /// One client, with a flush between its calls.
@@ -34,8 +34,8 @@ const FLUSHED: [Deed; 24] = [
     Deed::Call(0, Line::Scan(0, 64)),
 ];
 
-/// One client, with a merge, and a flush behind it.
-const MERGED: [Deed; 16] = [
+/// One client, with a merge, and a flush behind it, and the rewrite of what was merged.
+const MERGED: [Deed; 20] = [
     Deed::Turn(0),
     Deed::Call(0, Line::Put(5)),
     Deed::Turn(0),
@@ -52,6 +52,10 @@ const MERGED: [Deed; 16] = [
     Deed::Turn(0),
     Deed::Call(0, Line::Delete(5)),
     Deed::Call(0, Line::Scan(0, 64)),
+    Deed::Take(0, Choice::Rewrite { first: 5, last: 5 }),
+    Deed::Turn(0),
+    Deed::Turn(0),
+    Deed::Take(0, Choice::Tables { first: 5, last: 5 }),
 ];
 
 /// Two clients, with a flush and a merge side by side.
@@ -76,8 +80,8 @@ const SIDE_BY_SIDE: [Deed; 18] = [
     Deed::Call(0, Line::One(Step::Sync)),
 ];
 
-/// Four clients, each of which commits and syncs, until the trail has no place left.
-const FOUR: [Deed; 14] = [
+/// Four clients, each of which commits and syncs, until the trail has no place left. A choice without a job needs none.
+const FOUR: [Deed; 16] = [
     Deed::Call(0, Line::Put(1)),
     Deed::Call(1, Line::Long(2, 600)),
     Deed::Call(1, Line::One(Step::Sync)),
@@ -92,6 +96,8 @@ const FOUR: [Deed; 14] = [
     Deed::Turn(3),
     Deed::Call(0, Line::Put(5)),
     Deed::Call(1, Line::One(Step::Sync)),
+    Deed::Take(2, Choice::OldestRuns { count: 1 }),
+    Deed::Take(3, Choice::Rewrite { first: 1, last: 1 }),
 ];
 
 /// The sessions.

@@ -4,7 +4,7 @@ use crate::attacked::{Attacked, List, prepare};
 use crate::sweeps::Extent;
 use crate::tally::Tally;
 use compared_steps::disk::{MASKS, Mask};
-use compared_steps::playing::{crash, is_unchanged};
+use compared_steps::playing::{crash, is_left, is_unchanged};
 use compared_steps::subject::Subject;
 use compared_steps::trouble::{Trouble, agree, unrefused};
 use lsm_device::Refusal;
@@ -124,6 +124,7 @@ pub(crate) fn make_all<R: Threads + Sync>(
     if !course.met && subject.calls().wrapping_sub(start) > fault.n {
         return Err(Trouble::Calls { step: None });
     }
+    is_left(subject, machine)?;
     Ok(course.met)
 }
 

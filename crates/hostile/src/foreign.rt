@@ -112,7 +112,7 @@ fn is_due_of_call(step: Step, refusal: Refusal) -> bool {
 
 /// Whether a piece of work may be refused so.
 fn is_due_of_work(step: Step, refusal: Refusal) -> bool {
-    if matches!(step, Step::Take) {
+    if matches!(step, Step::Take | Step::TakeOf(_)) {
         return refusal == Refusal::Exhausted;
     }
     if refusal == Refusal::NoSuchJob {
@@ -120,7 +120,9 @@ fn is_due_of_work(step: Step, refusal: Refusal) -> bool {
     }
     match step {
         Step::Read(_) => matches!(refusal, Refusal::WrongState | Refusal::BadTable),
-        Step::Build(_, _) | Step::Write(_) => refusal == Refusal::WrongState,
+        Step::Build(_, _) | Step::Divide(_, _) | Step::Write(_) => {
+            refusal == Refusal::WrongState
+        }
         Step::Accept(_) => matches!(
             refusal,
             Refusal::WrongState | Refusal::ForeignResult | Refusal::Exhausted | Refusal::NoSpace

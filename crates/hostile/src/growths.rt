@@ -7,7 +7,7 @@ use compared_steps::beginnings::begun;
 use compared_steps::disk::mask_of;
 use compared_steps::draws::Draws;
 use compared_steps::lists::drawn;
-use compared_steps::playing::{crash, is_unchanged};
+use compared_steps::playing::{crash, is_left, is_unchanged};
 use compared_steps::subject::Subject;
 use compared_steps::trouble::{Trouble, agree, unrefused};
 use lsm_device::Refusal;
@@ -109,6 +109,7 @@ fn attack_in<R: Threads + Sync>(
     )?;
     let met = heap.has_refused();
     heap.allow(u64::MAX);
+    is_left(&mut subject, &mut machine)?;
     crash(&heap, subject, &machine, mask_of(growth.n))?;
     Ok(met)
 }

@@ -3,7 +3,7 @@
 use crate::attacked::{Attacked, List, prepare};
 use crate::sweeps::Extent;
 use crate::tally::Tally;
-use compared_steps::asking::{asked_all, told_step};
+use compared_steps::asking::{asked_all, told_step, undivided};
 use compared_steps::disk::mask_of;
 use compared_steps::playing::{crash, is_left, is_unchanged};
 use compared_steps::subject::Subject;
@@ -180,7 +180,10 @@ pub(crate) fn sweep<R: Threads + Sync>(
     extent: Extent,
     tally: &mut Tally,
 ) -> Result<(), Trouble> {
-    let attacked = prepare(rt, alloc, list)?;
+    let mut attacked = prepare(rt, alloc, list)?;
+    for step in attacked.steps.iter_mut() {
+        *step = undivided(*step);
+    }
     for turn in 0..MOST {
         let n = turn.wrapping_mul(extent.every);
         let met = attack(rt, alloc, &attacked, n)?;

@@ -3,8 +3,8 @@
 use crate::attacked::List;
 use compared_steps::beginnings::After;
 use compared_steps::lists::Line;
-use lsm_store::At;
-use plain_machine::{Change, Step};
+use lsm_store::{At, Choice};
+use plain_machine::{Change, Division, Step};
 
 /// Four runs of level 0, of which the merge of the oldest comes next.
 pub(crate) const FOUR_RUNS: [Line; 4] = [
@@ -82,14 +82,14 @@ const MERGED: [Line; 6] = [
 
 /// The merge of the oldest three runs, and of those behind it there are too few for another.
 const THREE_MERGED: [Line; 10] = [
-    Line::One(Step::TakeRuns(3)),
+    Line::One(Step::TakeOf(Choice::OldestRuns { count: 3 })),
     Line::One(Step::Read(1)),
     Line::Put(5),
     Line::One(Step::Build(1, 2)),
     Line::One(Step::Accept(1)),
     Line::One(Step::Write(1)),
     Line::One(Step::Install(1)),
-    Line::One(Step::TakeRuns(2)),
+    Line::One(Step::TakeOf(Choice::OldestRuns { count: 2 })),
     Line::One(Step::Stat),
     Line::Scan(0, 64),
 ];
@@ -209,8 +209,67 @@ const DELETES: [Line; 8] = [
     Line::Scan(0, 64),
 ];
 
+const AT_2_AND_3: Division = Division {
+    first: 2,
+    second: 3,
+};
+
+/// Three neighbours of level 1: of key 1, of key 2, and of keys 3 and 4.
+const NEIGHBOURS: [Line; 5] = [
+    Line::Flush(1, 1),
+    Line::Flush(2, 2),
+    Line::Flush(3, 3),
+    Line::Flush(4, 4),
+    Line::Chosen(Choice::OldestRuns { count: 4 }, 5, AT_2_AND_3),
+];
+
+/// A rewrite of neighbours in their own place, beside which a flush goes on and no other merge, and one that keeps nothing, since its
+/// delete hides nothing more.
+const REWRITTEN: [Line; 19] = [
+    Line::One(Step::TakeOf(Choice::Rewrite { first: 5, last: 6 })),
+    Line::One(Step::TakeOf(Choice::Tables { first: 7, last: 7 })),
+    Line::One(Step::Snapshot),
+    Line::Delete(2),
+    Line::One(Step::Rotate),
+    Line::Job(2),
+    Line::One(Step::Read(1)),
+    Line::One(Step::Build(1, 1)),
+    Line::One(Step::Accept(1)),
+    Line::One(Step::Write(1)),
+    Line::One(Step::Install(1)),
+    Line::One(Step::TakeOf(Choice::Rewrite { first: 5, last: 7 })),
+    Line::Chosen(Choice::OldestRuns { count: 1 }, 3, AT_2_AND_3),
+    Line::One(Step::Release(1)),
+    Line::Chosen(
+        Choice::Rewrite {
+            first: 11,
+            last: 11,
+        },
+        4,
+        Division::NONE,
+    ),
+    Line::One(Step::TakeOf(Choice::Rewrite { first: 10, last: 7 })),
+    Line::Get(2),
+    Line::One(Step::Stat),
+    Line::Scan(0, 64),
+];
+
+/// Neighbours go down, alone and several, until a delete meets what it hides.
+const LOWERED: [Line; 10] = [
+    Line::One(Step::TakeOf(Choice::Tables { first: 1, last: 1 })),
+    Line::One(Step::TakeOf(Choice::Rewrite { first: 1, last: 1 })),
+    Line::One(Step::TakeOf(Choice::Tables { first: 3, last: 3 })),
+    Line::One(Step::Drop(1)),
+    Line::Chosen(Choice::Rewrite { first: 4, last: 4 }, 2, AT_2_AND_3),
+    Line::Chosen(Choice::Tables { first: 6, last: 7 }, 3, AT_2_AND_3),
+    Line::Chosen(Choice::Tables { first: 9, last: 9 }, 4, Division::NONE),
+    Line::Get(2),
+    Line::One(Step::Stat),
+    Line::Scan(0, 64),
+];
+
 /// The lists.
-pub(crate) const LISTS: [List; 14] = [
+pub(crate) const LISTS: [List; 16] = [
     List {
         name: "a store with a torn batch",
         past: &BATCHES,
@@ -322,6 +381,22 @@ pub(crate) const LISTS: [List; 14] = [
         is_opened: false,
         before: &[],
         steps: &DELETES,
+    },
+    List {
+        name: "rewrites in their own place",
+        past: &NEIGHBOURS,
+        after: After::Nothing,
+        is_opened: false,
+        before: &[],
+        steps: &REWRITTEN,
+    },
+    List {
+        name: "neighbours that go down",
+        past: &FIVE_RUNS,
+        after: After::Spread,
+        is_opened: false,
+        before: &[],
+        steps: &LOWERED,
     },
 ];
 

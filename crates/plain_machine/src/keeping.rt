@@ -1,7 +1,7 @@
 //! What a merge of a plain machine keeps.
 
 use crate::batches::Batches;
-use crate::step::Value;
+use crate::step::{Division, Value};
 use lsm_device::Refusal;
 use std::alloc::Global;
 
@@ -23,11 +23,12 @@ impl Version {
     }
 }
 
-/// What a merge is given: versions run by run, newer runs first, the counts whose maps stay, and whether no older version
-/// of these keys is in a lower level.
+/// What a merge is given: versions run by run, newer runs first, how many stand before each run, the counts whose maps stay, and
+/// whether no older version of these keys is in a lower level.
 #[derive(Drop)]
 pub(crate) struct Input {
     pub(crate) versions: Vec<Version>,
+    pub(crate) starts: Vec<u64>,
     pub(crate) cuts: Vec<u64>,
     pub(crate) bottom: bool,
 }
@@ -35,6 +36,7 @@ pub(crate) struct Input {
 impl Input {
     pub(crate) fn is_same(&self, other: &Input) -> bool {
         self.versions.as_slice() == other.versions.as_slice()
+            && self.starts.as_slice() == other.starts.as_slice()
             && self.cuts.as_slice() == other.cuts.as_slice()
             && self.bottom == other.bottom
     }
@@ -114,6 +116,22 @@ fn insert(versions: &mut Vec<Version>, version: Version) -> Result<(), Refusal> 
         versions.insert(place, version)?;
     }
     Ok(())
+}
+
+/// Of versions those that stand in a part of a division.
+pub(crate) fn part_of(
+    alloc: Global,
+    versions: &[Version],
+    division: Division,
+    part: u8,
+) -> Result<Vec<Version>, Refusal> {
+    let mut found = Vec::new(alloc);
+    for version in versions {
+        if division.part(version.key) == part {
+            found.push(*version)?;
+        }
+    }
+    Ok(found)
 }
 
 /// Adds the versions that one batch made: of each key its last operation.

@@ -5,11 +5,12 @@
 //! | item | what it is |
 //! |---|---|
 //! | [`Step`], [`Change`] | what is done with a store, and what a batch does |
-//! | [`Answer`] | what is answered |
+//! | [`Answer`], [`TablesTold`] | what is answered, and what is told of the tables of all levels |
 //! | [`Machine`] | makes steps, and tells which batches a crash may leave |
 #![tactic(auto)]
 
 mod batches;
+mod choosing;
 mod keeping;
 mod machine;
 mod pieces;
@@ -19,5 +20,7 @@ mod turns;
 mod working;
 
 pub use machine::{LOG_SECTORS, Machine};
-pub use step::{Answer, Change, Operation, RowsTold, Step, Value, told};
+pub use step::{
+    Answer, Change, Division, Operation, RowsTold, Step, TableTold, TablesTold, Value, told,
+};
 pub use turns::PARTS;

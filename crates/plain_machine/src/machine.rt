@@ -1,7 +1,7 @@
 //! The machine: what it answers, and what a crash may leave of it.
 
 use crate::batches::{Batches, Map, rows_of, sectors_of, value_in};
-use crate::step::{Answer, Change, RowsTold, Step, told};
+use crate::step::{Answer, Change, Division, RowsTold, Step, TablesTold, told};
 use crate::turns::piece_in;
 use crate::working::{MOST_JOBS, Working};
 use lsm_device::Refusal;
@@ -102,6 +102,21 @@ impl Machine {
         self.working.spread();
     }
 
+    /// The tables of all levels, level by level.
+    pub fn tables(&self) -> TablesTold {
+        self.working.told()
+    }
+
+    /// How many tables a level has.
+    pub fn tables_in(&self, level: usize) -> usize {
+        self.working.tables_in(level)
+    }
+
+    /// The number of the table at a place of a level, counted by keys, and in level 0 from the newest run on.
+    pub fn table_at(&self, level: usize, place: usize) -> Option<u64> {
+        self.working.table_at(level, place)
+    }
+
     /// How many batches there are, and how many of them are synced.
     pub fn counts(&self) -> (u64, u64) {
         (self.batches.count(), self.batches.synced)
@@ -160,6 +175,7 @@ impl Machine {
     /// A new root stands.
     fn advance(&mut self) {
         self.generation = self.generation.wrapping_add(1);
+        self.working.next_told = self.working.next_table;
         self.batches.sync();
     }
 
@@ -231,9 +247,10 @@ impl Machine {
     fn work(&mut self, step: Step) -> Result<Answer, Refusal> {
         match step {
             Step::Take => self.working.take(self.alloc, &self.batches, None),
-            Step::TakeRuns(count) => self.working.take(self.alloc, &self.batches, Some(count)),
+            Step::TakeOf(choice) => self.working.take(self.alloc, &self.batches, Some(choice)),
             Step::Read(job) => self.working.read(job),
-            Step::Build(job, _) => self.working.build(self.alloc, job),
+            Step::Build(job, _) => self.working.build(self.alloc, job, Division::NONE),
+            Step::Divide(job, division) => self.working.build(self.alloc, job, division),
             Step::Accept(job) => self.working.accept(self.alloc, job),
             Step::Write(job) => self.working.write(job),
             Step::Install(job) => self.install(job),

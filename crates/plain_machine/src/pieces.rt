@@ -1,9 +1,9 @@
 //! Pieces of work on the jobs of a plain machine.
 
-use crate::keeping::{Input, Version};
-use crate::step::Answer;
-use crate::table::Table;
-use crate::working::{Job, Row, Share, Stage, Working, add_all};
+use crate::keeping::{Input, Version, part_of};
+use crate::step::{Answer, Division};
+use crate::table::{Hull, Place, Table, put};
+use crate::working::{Built, Job, Output, Row, Share, Stage, Working, add_all, owned};
 use lsm_device::Refusal;
 use std::alloc::Global;
 
@@ -12,17 +12,6 @@ const PIECE: u64 = 8;
 
 /// With so many runs of level 0 no flush is installed.
 const MOST_RUNS: usize = 12;
-
-/// The versions of an owner.
-fn owned(alloc: Global, rows: &[Row], owner: u64) -> Result<Vec<Version>, Refusal> {
-    let mut versions = Vec::new(alloc);
-    for row in rows {
-        if row.owner == owner {
-            versions.push(row.version)?;
-        }
-    }
-    Ok(versions)
-}
 
 /// The numbers of a job.
 fn shared(alloc: Global, shares: &[Share], job: u64) -> Result<Vec<u64>, Refusal> {
@@ -33,6 +22,36 @@ fn shared(alloc: Global, shares: &[Share], job: u64) -> Result<Vec<u64>, Refusal
         }
     }
     Ok(numbers)
+}
+
+/// Of versions those whose keys a range has.
+fn within(alloc: Global, versions: &[Version], hull: Hull) -> Result<Vec<Version>, Refusal> {
+    let mut found = Vec::new(alloc);
+    for version in versions {
+        if hull.has(version.key) {
+            found.push(*version)?;
+        }
+    }
+    Ok(found)
+}
+
+/// The tables of versions that are divided, under the numbers from one on, which is that of their run.
+fn divided(
+    alloc: Global,
+    versions: &[Version],
+    division: Division,
+    place: Place,
+) -> Result<Vec<Table>, Refusal> {
+    let mut tables = Vec::new(alloc);
+    let mut number = place.run;
+    for part in 0..3_u8 {
+        let part = part_of(alloc, versions, division, part)?;
+        if !part.is_empty() {
+            tables.push(Table::of(number, place, &part))?;
+            number = number.wrapping_add(1);
+        }
+    }
+    Ok(tables)
 }
 
 impl Working {
@@ -68,8 +87,15 @@ impl Working {
                 taken_in.push(*share)?;
             }
         }
+        let mut outputs = Vec::new(alloc);
+        for output in self.outputs.iter() {
+            if output.job != number {
+                outputs.push(*output)?;
+            }
+        }
         self.jobs = jobs;
         self.taken_in = taken_in;
+        self.outputs = outputs;
         Ok(())
     }
 
@@ -91,6 +117,7 @@ impl Working {
     fn input(&self, alloc: Global, job: Job) -> Result<Input, Refusal> {
         Ok(Input {
             versions: owned(alloc, &self.inputs, job.number)?,
+            starts: shared(alloc, &self.starts, job.number)?,
             cuts: shared(alloc, &self.cuts, job.number)?,
             bottom: job.bottom,
         })
@@ -111,12 +138,22 @@ impl Working {
         Err(Refusal::ForeignResult)
     }
 
-    pub(crate) fn build(&mut self, alloc: Global, number: u64) -> Result<Answer, Refusal> {
+    pub(crate) fn build(
+        &mut self,
+        alloc: Global,
+        number: u64,
+        division: Division,
+    ) -> Result<Answer, Refusal> {
         let job = self.frozen(number)?;
         let input = self.input(alloc, job)?;
-        let tables = if input.kept(alloc)?.is_empty() { 0 } else { 1 };
-        self.built = Some(input);
-        Ok(Answer::Built(tables))
+        let kept = input.kept(alloc)?;
+        let tables = divided(alloc, &kept, division, self.next_place(job))?;
+        self.built = Some(Built {
+            input,
+            kept,
+            division,
+        });
+        Ok(Answer::Built(tables.len()))
     }
 
     /// Whether a result was built.
@@ -124,32 +161,55 @@ impl Working {
         self.built.is_some()
     }
 
-    /// The table of what a job keeps by the result that was built last, if it keeps something.
-    fn output(&self, alloc: Global, job: Job) -> Result<Option<Table>, Refusal> {
-        let input = self.input(alloc, job)?;
-        match &self.built {
-            Some(built) if input.is_same(built) => {}
-            _ => return Err(Refusal::ForeignResult),
-        }
-        let kept = input.kept(alloc)?;
-        if kept.is_empty() {
-            return Ok(None);
-        }
+    /// Where the outputs of a job come to stand that are numbered now.
+    fn next_place(&self, job: Job) -> Place {
         let level = match job.level {
-            Some(level) => level.wrapping_add(1),
+            Some(above) => above.wrapping_add(1),
             None => 0,
         };
-        Ok(Some(Table::of(self.next_table, level, &kept)))
+        Place {
+            level,
+            run: self.next_table,
+        }
+    }
+
+    /// The tables of what a job keeps by the result that was built last.
+    fn result_of(&self, alloc: Global, job: Job) -> Result<Vec<Table>, Refusal> {
+        let input = self.input(alloc, job)?;
+        match &self.built {
+            Some(built) if input.is_same(&built.input) => {
+                divided(alloc, &built.kept, built.division, self.next_place(job))
+            }
+            _ => Err(Refusal::ForeignResult),
+        }
+    }
+
+    /// The versions that tables of the result have that was built last.
+    fn versions_of(&self, alloc: Global, tables: &[Table]) -> Result<Vec<Row>, Refusal> {
+        let mut rows = Vec::new(alloc);
+        if let Some(built) = &self.built {
+            for table in tables {
+                let versions = within(alloc, &built.kept, table.hull)?;
+                add_all(&mut rows, table.number, &versions)?;
+            }
+        }
+        Ok(rows)
     }
 
     pub(crate) fn accept(&mut self, alloc: Global, number: u64) -> Result<Answer, Refusal> {
         let mut job = self.frozen(number)?;
-        job.output = self.output(alloc, job)?;
-        let mut blocks = 0;
-        if let Some(output) = job.output {
-            blocks = output.blocks();
-            self.next_table = self.next_table.wrapping_add(1);
+        let tables = self.result_of(alloc, job)?;
+        let made = self.versions_of(alloc, &tables)?;
+        self.made.extend_from_slice(&made)?;
+        let mut blocks = 0_u64;
+        for table in tables.iter() {
+            self.outputs.push(Output {
+                job: number,
+                table: *table,
+            })?;
+            blocks = blocks.wrapping_add(table.blocks());
         }
+        self.next_table = self.next_table.wrapping_add(tables.len() as u64);
         job.stage = Stage::Writing(blocks);
         self.set_job(job);
         Ok(Answer::Done)
@@ -166,7 +226,7 @@ impl Working {
         Ok(Answer::Left(left))
     }
 
-    /// The tables that a job doesn't take in, and its output.
+    /// The tables that a job doesn't take in, and its outputs.
     fn tables_after(&self, alloc: Global, job: Job) -> Result<Vec<Table>, Refusal> {
         let mut tables = Vec::new(alloc);
         for table in self.tables.iter() {
@@ -174,8 +234,10 @@ impl Working {
                 tables.push(*table)?;
             }
         }
-        if let Some(output) = job.output {
-            tables.push(output)?;
+        for output in self.outputs.iter() {
+            if output.job == job.number {
+                put(&mut tables, output.table)?;
+            }
         }
         Ok(tables)
     }
@@ -188,14 +250,16 @@ impl Working {
                 rows.push(*row)?;
             }
         }
-        if let Some(output) = job.output {
-            let kept = self.input(alloc, job)?.kept(alloc)?;
-            add_all(&mut rows, output.number, &kept)?;
+        for output in self.outputs.iter() {
+            if output.job == job.number {
+                let versions = owned(alloc, &self.made, output.table.number)?;
+                add_all(&mut rows, output.table.number, &versions)?;
+            }
         }
         Ok(rows)
     }
 
-    /// Puts a job's output in the place of what it took in. It tells whether it was a flush.
+    /// Puts a job's outputs in the place of what it took in. It tells whether it was a flush.
     pub(crate) fn install(&mut self, alloc: Global, number: u64) -> Result<bool, Refusal> {
         let job = self.job(number)?;
         let Stage::Writing(0) = job.stage else {

@@ -1,7 +1,7 @@
 //! What is done with a store, and what it answers.
 
 use lsm_device::Refusal;
-use lsm_store::{At, Stat};
+use lsm_store::{At, Choice, Stat};
 
 /// A value: so many equal bytes.
 #[derive(Clone, Copy, Debug, PartialEq, Eq)]
@@ -74,6 +74,32 @@ impl Change {
     }
 }
 
+/// The keys at which a result is divided: its tables begin at each of them, if it keeps something before and behind.
+#[derive(Clone, Copy, Debug, PartialEq, Eq)]
+pub struct Division {
+    pub first: u8,
+    pub second: u8,
+}
+
+impl Division {
+    /// At no key that stands behind another.
+    pub const NONE: Division = Division {
+        first: 0,
+        second: 0,
+    };
+
+    /// Which of the parts that it makes has a key, of three.
+    pub fn part(self, key: u8) -> u8 {
+        if key < self.first {
+            0
+        } else if key < self.second {
+            1
+        } else {
+            2
+        }
+    }
+}
+
 /// A call of a store, or a piece of work on a job of it.
 #[derive(Clone, Copy, Debug)]
 pub enum Step {
@@ -89,11 +115,13 @@ pub enum Step {
     Room,
     Stat,
     Take,
-    /// Takes the merge of so many of the oldest runs of level 0.
-    TakeRuns(usize),
+    /// Takes the job of a choice.
+    TakeOf(Choice),
     Read(u64),
     /// Builds a result of a job's input, in so many parts.
     Build(u64, u8),
+    /// Builds one that is divided at keys.
+    Divide(u64, Division),
     /// For a job, the result that was built last.
     Accept(u64),
     Write(u64),
@@ -116,6 +144,24 @@ pub struct RowsTold {
     pub next: Option<u8>,
 }
 
+/// The tables of all levels, as two stores that differ tell apart: their number, and one number of all that is told of them.
+#[derive(Clone, Copy, Debug, PartialEq, Eq)]
+pub struct TablesTold {
+    pub count: usize,
+    pub mixed: u64,
+}
+
+/// What is told of a table.
+#[derive(Clone, Copy)]
+pub struct TableTold {
+    pub number: u64,
+    pub level: usize,
+    /// Its least and its greatest key.
+    pub first: u8,
+    pub last: u8,
+    pub blocks: u64,
+}
+
 /// What is answered to a step.
 #[derive(Clone, Copy, Debug, PartialEq, Eq)]
 pub enum Answer {
@@ -124,7 +170,7 @@ pub enum Answer {
     Number(u64),
     Found(Option<Value>),
     Rows(RowsTold),
-    /// The number of a job, and the level of its upper tables where it is a merge; none where no job comes next.
+    /// The number of a job, and the level above that of its outputs where it is a merge; none where there is no such job.
     Taken(Option<(u64, Option<usize>)>),
     /// How many blocks are left.
     Left(u64),
@@ -157,6 +203,26 @@ impl RowsTold {
             count: self.count.wrapping_add(1),
             mixed: mix(mixed, u64::from(value.length)),
             next: self.next,
+        }
+    }
+}
+
+impl TablesTold {
+    /// No table.
+    pub const NONE: TablesTold = TablesTold {
+        count: 0,
+        mixed: 0xcbf2_9ce4_8422_2325,
+    };
+
+    /// With one table more.
+    pub fn and(self, table: TableTold) -> TablesTold {
+        let mixed = mix(self.mixed, table.number);
+        let mixed = mix(mixed, table.level as u64);
+        let mixed = mix(mixed, u64::from(table.first));
+        let mixed = mix(mixed, u64::from(table.last));
+        TablesTold {
+            count: self.count.wrapping_add(1),
+            mixed: mix(mixed, table.blocks),
         }
     }
 }

@@ -1,17 +1,16 @@
 //! Tables and jobs of a plain machine.
 
 use crate::batches::Batches;
+use crate::choosing::Next;
 use crate::keeping::{Input, Version, versions_of};
-use crate::step::Answer;
+use crate::step::{Answer, Division, TablesTold};
 use crate::table::{Hull, Table, Upper};
 use lsm_device::Refusal;
+use lsm_store::Choice;
 use std::alloc::Global;
 
 /// How many jobs there are at most.
 pub(crate) const MOST_JOBS: usize = 4;
-
-/// How many runs of level 0 make a merge come next.
-const MERGED_RUNS: usize = 4;
 
 /// How far a job is.
 #[derive(Clone, Copy)]
@@ -23,22 +22,31 @@ pub(crate) enum Stage {
     Writing(u64),
 }
 
-/// A job: its slot, the level of its upper table where it is a merge, and its output once a result was accepted.
+/// A job: its slot, the level above that of its outputs where it is a merge, and whether it is a rewrite or a merge of several
+/// tables of a level from 1 on.
 #[derive(Clone, Copy)]
 pub(crate) struct Job {
     pub(crate) number: u64,
     pub(crate) slot: usize,
     pub(crate) level: Option<usize>,
+    pub(crate) is_several: bool,
     pub(crate) bottom: bool,
     pub(crate) stage: Stage,
-    pub(crate) output: Option<Table>,
 }
 
-/// The job that is taken: a flush, or the merge of some tables and those of the next level that they meet.
+/// A table that is written for a job.
 #[derive(Clone, Copy)]
-enum Next {
-    Flush,
-    Merge(Upper),
+pub(crate) struct Output {
+    pub(crate) job: u64,
+    pub(crate) table: Table,
+}
+
+/// A result: what it was built of, what it keeps of that, and where it is divided.
+#[derive(Drop)]
+pub(crate) struct Built {
+    pub(crate) input: Input,
+    pub(crate) kept: Vec<Version>,
+    pub(crate) division: Division,
 }
 
 /// A version of a table or of what a job takes in.
@@ -48,25 +56,32 @@ pub(crate) struct Row {
     pub(crate) version: Version,
 }
 
-/// A table that a job takes in, or a count whose map it keeps.
+/// A table that a job takes in, or a count whose map it keeps, or how many versions stand before a run of its input.
 #[derive(Clone, Copy)]
 pub(crate) struct Share {
     pub(crate) job: u64,
     pub(crate) number: u64,
 }
 
-/// The tables, the jobs, the result that was built last, and which batches are in tables and which wait for a flush. No number is
-/// given twice, so what belonged to a table or a job that is gone may stay.
+/// The tables, level by level, of level 0 the newer first and of the others by their keys; the jobs, the result that was built last,
+/// and which batches are in tables and which wait for a flush. While a store is open no number is given twice, so what belonged to a
+/// table or a job that is gone may stay.
 pub(crate) struct Working {
     pub(crate) tables: Vec<Table>,
     pub(crate) rows: Vec<Row>,
     pub(crate) jobs: Vec<Job>,
+    pub(crate) outputs: Vec<Output>,
+    /// The versions of outputs.
+    pub(crate) made: Vec<Row>,
     pub(crate) taken_in: Vec<Share>,
     pub(crate) inputs: Vec<Row>,
+    pub(crate) starts: Vec<Share>,
     pub(crate) cuts: Vec<Share>,
-    pub(crate) built: Option<Input>,
+    pub(crate) built: Option<Built>,
     pub(crate) next_job: u64,
     pub(crate) next_table: u64,
+    /// The number of the next table as the last root tells it, which the next opening goes on with.
+    pub(crate) next_told: u64,
     /// The batches up to this number are in tables.
     pub(crate) base: u64,
     /// Those up to this number are in tables or sealed.
@@ -79,12 +94,16 @@ impl Drop for Working {
             tables: _,
             rows: _,
             jobs: _,
+            outputs: _,
+            made: _,
             taken_in: _,
             inputs: _,
+            starts: _,
             cuts: _,
             built: _,
             next_job: _,
             next_table: _,
+            next_told: _,
             base: _,
             sealed_to: _,
         } = self;
@@ -106,6 +125,25 @@ pub(crate) fn add_all(
     Ok(())
 }
 
+/// The versions of an owner.
+pub(crate) fn owned(alloc: Global, rows: &[Row], owner: u64) -> Result<Vec<Version>, Refusal> {
+    let mut versions = Vec::new(alloc);
+    for row in rows {
+        if row.owner == owner {
+            versions.push(row.version)?;
+        }
+    }
+    Ok(versions)
+}
+
+/// Whether a table goes on with the run of the one before it, if there is one.
+fn goes_on(before: Option<Table>, table: Table) -> bool {
+    match before {
+        Some(before) => before.hull.ends_before(table.hull),
+        None => false,
+    }
+}
+
 impl Working {
     /// Neither a table nor a job, and so many batches are in tables.
     fn begun(alloc: Global, next_table: u64, base: u64, sealed_to: u64) -> Working {
@@ -113,12 +151,16 @@ impl Working {
             tables: Vec::new(alloc),
             rows: Vec::new(alloc),
             jobs: Vec::new(alloc),
+            outputs: Vec::new(alloc),
+            made: Vec::new(alloc),
             taken_in: Vec::new(alloc),
             inputs: Vec::new(alloc),
+            starts: Vec::new(alloc),
             cuts: Vec::new(alloc),
             built: None,
             next_job: 1,
             next_table,
+            next_told: next_table,
             base,
             sealed_to,
         }
@@ -131,7 +173,7 @@ impl Working {
 
     /// What an opening finds, of so many batches: the tables, and no job.
     pub(crate) fn reopened(&self, alloc: Global, count: u64) -> Result<Working, Refusal> {
-        let mut working = Working::begun(alloc, self.next_table, self.base, count);
+        let mut working = Working::begun(alloc, self.next_told, self.base, count);
         working.tables.extend_from_slice(&self.tables)?;
         working.rows.extend_from_slice(&self.rows)?;
         Ok(working)
@@ -139,10 +181,10 @@ impl Working {
 
     /// The newest table stays in level 0, the next is of level 1, and so on.
     pub(crate) fn spread(&mut self) {
-        let mut level = self.tables.len();
+        let mut level = 0_usize;
         for table in self.tables.iter_mut() {
-            level = level.wrapping_sub(1);
             table.level = level;
+            level = level.wrapping_add(1);
         }
     }
 
@@ -151,15 +193,45 @@ impl Working {
         self.tables.len()
     }
 
-    /// How many runs level 0 has, each of one table.
+    /// How many runs level 0 has.
     pub(crate) fn runs(&self) -> usize {
         let mut runs = 0_usize;
         for table in self.tables.iter() {
-            if table.level == 0 {
-                runs = runs.wrapping_add(1);
-            }
+            runs = runs.wrapping_add(table.begins_run().into());
         }
         runs
+    }
+
+    /// The number of the table at a place of a level, if there is one.
+    pub(crate) fn table_at(&self, level: usize, place: usize) -> Option<u64> {
+        let mut found = 0_usize;
+        for table in self.tables.iter() {
+            if table.level == level {
+                if found == place {
+                    return Some(table.number);
+                }
+                found = found.wrapping_add(1);
+            }
+        }
+        None
+    }
+
+    /// How many tables a level has.
+    pub(crate) fn tables_in(&self, level: usize) -> usize {
+        let mut tables = 0_usize;
+        for table in self.tables.iter() {
+            tables = tables.wrapping_add((table.level == level).into());
+        }
+        tables
+    }
+
+    /// The tables of all levels.
+    pub(crate) fn told(&self) -> TablesTold {
+        let mut told = TablesTold::NONE;
+        for table in self.tables.iter() {
+            told = told.and(table.told());
+        }
+        told
     }
 
     /// How many blocks the tables and the placed outputs take.
@@ -168,10 +240,8 @@ impl Working {
         for table in self.tables.iter() {
             blocks = blocks.wrapping_add(table.blocks());
         }
-        for job in self.jobs.iter() {
-            if let Some(output) = job.output {
-                blocks = blocks.wrapping_add(output.blocks());
-            }
+        for output in self.outputs.iter() {
+            blocks = blocks.wrapping_add(output.table.blocks());
         }
         blocks
     }
@@ -186,16 +256,6 @@ impl Working {
         None
     }
 
-    /// Whether a job of a level is held, or a flush.
-    fn holds(&self, level: Option<usize>) -> bool {
-        for job in self.jobs.iter() {
-            if job.level == level {
-                return true;
-            }
-        }
-        false
-    }
-
     /// Whether a job takes a table in.
     pub(crate) fn takes_in(&self, job: u64, table: u64) -> bool {
         for share in self.taken_in.iter() {
@@ -206,81 +266,6 @@ impl Working {
         false
     }
 
-    /// Whether no job takes a table in.
-    fn is_free(&self, table: u64) -> bool {
-        for job in self.jobs.iter() {
-            if self.takes_in(job.number, table) {
-                return false;
-            }
-        }
-        true
-    }
-
-    /// Whether no job takes in a table that a merge takes in.
-    fn can_merge(&self, upper: Upper) -> bool {
-        for table in self.tables.iter() {
-            if upper.takes_in(*table) && !self.is_free(table.number) {
-                return false;
-            }
-        }
-        true
-    }
-
-    /// So many of the oldest runs of level 0, if there are as many: flushes are installed in their order.
-    fn oldest(&self, count: usize) -> Option<Upper> {
-        let mut oldest: Option<Upper> = None;
-        let mut found = 0_usize;
-        for table in self.tables.iter() {
-            if table.level == 0 && found < count {
-                oldest = match oldest {
-                    Some(upper) => Some(upper.and(*table)),
-                    None => Some(table.alone()),
-                };
-                found = found.wrapping_add(1);
-            }
-        }
-        if found < count { None } else { oldest }
-    }
-
-    /// The merge of so many of the oldest runs, if it can be taken.
-    fn merge_of_runs(&self, count: usize) -> Option<Next> {
-        if self.jobs.len() >= MOST_JOBS || self.holds(Some(0)) {
-            return None;
-        }
-        let upper = self.oldest(count)?;
-        if self.can_merge(upper) {
-            return Some(Next::Merge(upper));
-        }
-        None
-    }
-
-    /// Of the tables of a level that are mostly deletes and can be merged the least-numbered.
-    fn next_of_deletes(&self, level: usize) -> Option<Table> {
-        let mut least = None;
-        for table in self.tables.iter() {
-            let is_wanted = table.level == level && table.is_mostly_deletes;
-            if is_wanted && self.can_merge(table.alone()) && table.is_less(least) {
-                least = Some(*table);
-            }
-        }
-        least
-    }
-
-    /// The merge that comes next. With so few blocks no level is over its limit.
-    fn next_merge(&self) -> Option<Next> {
-        if self.runs() >= MERGED_RUNS {
-            if let Some(next) = self.merge_of_runs(1) {
-                return Some(next);
-            }
-        }
-        for level in 1..4_usize {
-            if let Some(table) = self.next_of_deletes(level) {
-                return Some(Next::Merge(table.alone()));
-            }
-        }
-        None
-    }
-
     /// The first slot that holds no job.
     fn free_slot(&self) -> usize {
         for slot in 0..MOST_JOBS {
@@ -289,22 +274,6 @@ impl Working {
             }
         }
         MOST_JOBS
-    }
-
-    /// Whether a job comes next.
-    pub(crate) fn has_next(&self) -> bool {
-        self.next().is_some()
-    }
-
-    /// The job that comes next.
-    fn next(&self) -> Option<Next> {
-        if self.jobs.len() >= MOST_JOBS {
-            return None;
-        }
-        if self.base < self.sealed_to && !self.holds(None) {
-            return Some(Next::Flush);
-        }
-        self.next_merge()
     }
 
     /// The job of the next number takes in the tables of a merge. It answers the range of their keys, and their data blocks.
@@ -324,15 +293,34 @@ impl Working {
         Ok((hull, blocks))
     }
 
-    /// The versions of the tables that the job of the next number takes in.
-    fn gathered(&self, alloc: Global) -> Result<Vec<Version>, Refusal> {
-        let mut versions = Vec::new(alloc);
-        for row in self.rows.iter() {
-            if self.takes_in(self.next_job, row.owner) {
-                versions.push(row.version)?;
+    /// The tables that a job takes in, level by level.
+    fn tables_of(&self, alloc: Global, job: u64) -> Result<Vec<Table>, Refusal> {
+        let mut tables = Vec::new(alloc);
+        for table in self.tables.iter() {
+            if self.takes_in(job, table.number) {
+                tables.push(*table)?;
             }
         }
-        Ok(versions)
+        Ok(tables)
+    }
+
+    /// The job of the next number takes in the versions of its tables, one behind another. A run of them goes on while the next table
+    /// begins behind the one before.
+    fn gather_versions(&mut self, alloc: Global) -> Result<(), Refusal> {
+        let job = self.next_job;
+        let tables = self.tables_of(alloc, job)?;
+        let mut before = None;
+        let mut number = 0_u64;
+        for table in tables.iter() {
+            if !goes_on(before, *table) {
+                self.starts.push(Share { job, number })?;
+            }
+            let versions = owned(alloc, &self.rows, table.number)?;
+            add_all(&mut self.inputs, job, &versions)?;
+            number = number.wrapping_add(versions.len() as u64);
+            before = Some(*table);
+        }
+        Ok(())
     }
 
     /// Whether no table below the output of a merge of a level has a key of a range.
@@ -346,29 +334,31 @@ impl Working {
     }
 
     fn merge(&mut self, alloc: Global, upper: Upper) -> Result<Job, Refusal> {
+        let is_several = self.is_several(upper);
         let (hull, blocks) = self.gather(upper)?;
-        let versions = self.gathered(alloc)?;
-        add_all(&mut self.inputs, self.next_job, &versions)?;
+        self.gather_versions(alloc)?;
         Ok(Job {
             number: self.next_job,
-            level: Some(upper.level),
             slot: self.free_slot(),
-            bottom: self.is_bottom(upper.level, hull),
+            level: Some(upper.above()),
+            is_several,
+            bottom: self.is_bottom(upper.above(), hull),
             stage: Stage::Reading(blocks),
-            output: None,
         })
     }
 
     fn flush(&mut self, alloc: Global, batches: &Batches) -> Result<Job, Refusal> {
+        let job = self.next_job;
         let versions = versions_of(alloc, batches, self.base, self.sealed_to)?;
-        add_all(&mut self.inputs, self.next_job, &versions)?;
+        self.starts.push(Share { job, number: 0 })?;
+        add_all(&mut self.inputs, job, &versions)?;
         Ok(Job {
-            number: self.next_job,
+            number: job,
             slot: self.free_slot(),
             level: None,
+            is_several: false,
             bottom: false,
             stage: Stage::Frozen,
-            output: None,
         })
     }
 
@@ -383,15 +373,15 @@ impl Working {
         Ok(())
     }
 
-    /// Takes the job that comes next, or the merge of so many of the oldest runs, if there is one.
+    /// Takes the job of a choice, or where there is none the one that comes next.
     pub(crate) fn take(
         &mut self,
         alloc: Global,
         batches: &Batches,
-        runs: Option<usize>,
+        asked: Option<Choice>,
     ) -> Result<Answer, Refusal> {
-        let taken = match runs {
-            Some(count) => self.merge_of_runs(count),
+        let taken = match asked {
+            Some(choice) => self.chosen(choice),
             None => self.next(),
         };
         let Some(next) = taken else {
