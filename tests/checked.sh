@@ -386,6 +386,7 @@ patch other 528 401 00
 checks 1 other 'finding Filter table 1'
 cp table other && patch other 528 401 00
 checks 1 other 'finding Filter table 1'
+says absent get other 61
 
 # The second of three keys is above the third.
 { echo 'commit +61=31 +62=32 +63=33'; flush 1; } | made three

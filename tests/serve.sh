@@ -194,7 +194,7 @@ status=0
 if has python3 'random lines'; then
     rm -f F
     "$program" format F 8192 128 >out || fail "format: $(cat out)"
-    python3 "$tests/serve.py" compare "$program" F "$lines" || fail 'random lines'
+    timeout -k 10 900 python3 "$tests/serve.py" compare "$program" F "$lines" || fail "random lines ended with $?"
     "$program" check F >out || fail "after a kill: $(cat out)"
 fi
 echo "serve.sh: all is as it should be"

@@ -21,6 +21,15 @@ pub enum Deed {
     Turn(u32),
 }
 
+/// A result that comes late: the last client takes a turn, and is handed out an input. It builds that and brings the result only once
+/// others have done something.
+#[derive(Clone, Copy)]
+pub struct Late {
+    pub meanwhile: &'static [Deed],
+    /// What is done then.
+    pub behind: &'static [Deed],
+}
+
 /// What is done by the clients of a session, over the image that some lines make.
 #[derive(Clone, Copy)]
 pub struct Sitting {
@@ -28,4 +37,6 @@ pub struct Sitting {
     pub past: &'static [Line],
     pub sizes: Sizes,
     pub deeds: &'static [Deed],
+    /// What comes behind the deeds, if something does.
+    pub late: Option<Late>,
 }

@@ -35,7 +35,7 @@ fn is_call_of<A: Allocator>(call: &Call<A>, step: Step) -> bool {
         Call::Release(number) => matches!(step, Step::Release(wanted) if wanted == *number),
         Call::Rotate => matches!(step, Step::Rotate),
         Call::Room => matches!(step, Step::Room),
-        Call::CommitIf(_, _) => false,
+        Call::CommitIf(_, _) => matches!(step, Step::CommitIf(_, _, _)),
     }
 }
 
@@ -69,7 +69,8 @@ fn is_as_wanted<A: Allocator>(entry: &Entry<A>, wanted: Wanted) -> bool {
 pub(crate) fn is_entered(answer: Answer) -> bool {
     !matches!(
         answer,
-        Answer::Refused(Refusal::NoMemory | Refusal::TrailFull | Refusal::NotYours)
+        Answer::Taken(None)
+            | Answer::Refused(Refusal::NoMemory | Refusal::TrailFull | Refusal::NotYours)
     )
 }
 
@@ -77,6 +78,7 @@ fn is_call(step: Step) -> bool {
     matches!(
         step,
         Step::Commit(_)
+            | Step::CommitIf(_, _, _)
             | Step::Sync
             | Step::SyncTo(_)
             | Step::Get(_, _)

@@ -13,6 +13,9 @@ use std::alloc::{Allocator, Global};
 /// The number of the snapshot that a session pins, the first behind an opening.
 const BASE: u64 = 1;
 
+/// How many slots a turn asks.
+const SLOTS: usize = 4;
+
 /// What is done behind the step that a harm meets and that may be made again.
 #[derive(Clone, Copy, PartialEq, Eq)]
 pub enum Then {
@@ -112,7 +115,7 @@ impl<'h> Judge<'h> {
     /// A call of the device failed, for the first time: that which was to, or since now a write for which it has no memory.
     fn fail(&mut self, step: Step) -> Result<(), Trouble> {
         let is_due = match self.harm.heap {
-            Some(heap) => heap.has_refused() && !self.is_before && !step.is_read(),
+            Some(heap) => heap.has_refused() && !self.is_before && !self.machine.only_reads(step),
             None => true,
         };
         if self.is_met || !is_due {
@@ -146,7 +149,7 @@ impl<'h> Judge<'h> {
         self.fail(step)?;
         self.entries
             .add(client, step, Answer::Refused(Refusal::Io))?;
-        if step.is_read() {
+        if self.machine.only_reads(step) {
             return Ok(Heard::Failed);
         }
         unrefused(step, self.machine.stop(step))?;
@@ -189,28 +192,43 @@ impl<'h> Judge<'h> {
     }
 
     /// The input of a job was handed out, for the result of the next number.
-    fn lend(&mut self, client: u32, job: u64, brought: Brought) -> Result<(), Trouble> {
-        let is_next = brought.job == job && brought.result == self.entries.next_result();
-        if !is_next || self.entries.is_full() {
-            return Err(Trouble::Turn {
-                step: Some(Step::Build(job, PARTS)),
-            });
+    fn lend(&mut self, client: u32, due: Option<Step>, lent: (u64, u64)) -> Result<(), Trouble> {
+        let wanted = (built_of(due), self.entries.next_result());
+        if wanted != (Some(lent.0), lent.1) || self.entries.is_full() {
+            return Err(Trouble::Turn { step: due });
         }
-        let number = Answer::Number(brought.result);
-        self.entries.add(client, Step::Build(job, PARTS), number)?;
+        let number = Answer::Number(lent.1);
+        self.entries
+            .add(client, Step::Build(lent.0, PARTS), number)?;
         Ok(())
     }
 
-    /// A result was built and brought. The entry of the build stands whatever comes behind it.
-    fn merge(&mut self, client: u32, job: u64, brought: Brought) -> Result<Heard, Trouble> {
-        self.lend(client, job, brought)?;
+    /// A result was built and brought, where so many tables are due. The entry of the build stands whatever comes behind it.
+    fn merge(&mut self, client: u32, brought: Brought, tables: Answer) -> Result<Heard, Trouble> {
         if brought.built == Answer::Refused(Refusal::NoMemory) {
             self.miss()?;
             return Ok(Heard::Unmade);
         }
-        let step = Step::Build(job, PARTS);
-        agree(step, brought.built, self.machine.answer(step))?;
-        self.hear(client, Step::Accept(job), brought.accepted)
+        agree(Step::Build(brought.job, PARTS), brought.built, tables)?;
+        self.hear(client, Step::Accept(brought.job), brought.accepted)
+    }
+
+    /// An input was handed out to a client, which brings its result later. It tells how many tables that has.
+    pub(crate) fn hear_lent(&mut self, client: u32, lent: (u64, u64)) -> Result<Answer, Trouble> {
+        let due = self.pass_over(client)?;
+        self.lend(client, due, lent)?;
+        Ok(self.machine.answer(Step::Build(lent.0, PARTS)))
+    }
+
+    /// Its result was built and brought. Where the job still waits for one, that is of the same input.
+    pub(crate) fn hear_late(
+        &mut self,
+        client: u32,
+        brought: Brought,
+        tables: Answer,
+    ) -> Result<Heard, Trouble> {
+        let _built = self.machine.answer(Step::Build(brought.job, PARTS));
+        self.merge(client, brought, tables)
     }
 
     /// Hears what a piece of work was answered that is to be this one.
@@ -233,15 +251,29 @@ impl<'h> Judge<'h> {
         due: Option<Step>,
         brought: Brought,
     ) -> Result<Heard, Trouble> {
-        match built_of(due) {
-            Some(job) => self.merge(client, job, brought),
-            None => Err(Trouble::Turn { step: due }),
+        self.lend(client, due, (brought.job, brought.result))?;
+        let tables = self.machine.answer(Step::Build(brought.job, PARTS));
+        self.merge(client, brought, tables)
+    }
+
+    /// What a turn of a client is to come to. The installs that it passes over before are entered, where there is a place.
+    fn pass_over(&mut self, client: u32) -> Result<Option<Step>, Trouble> {
+        for behind in 0..SLOTS {
+            let Some(step) = self.machine.piece_of(client, behind) else {
+                continue;
+            };
+            if self.entries.is_full() || !self.machine.is_put_off(step) {
+                return Ok(Some(step));
+            }
+            let put_off = self.machine.answer(step);
+            self.entries.add(client, step, put_off)?;
         }
+        Ok(None)
     }
 
     /// Hears what a turn of a client came to.
     pub(crate) fn hear_turn(&mut self, client: u32, turned: Turned) -> Result<Heard, Trouble> {
-        let due = self.machine.turn_of(client);
+        let due = self.pass_over(client)?;
         match turned {
             Turned::Idle if due.is_none() => Ok(Heard::Same),
             Turned::Idle => Err(Trouble::Turn { step: due }),

@@ -1,12 +1,13 @@
 //! A session of a store, whose calls tell the prover nothing.
 
-ghost use Rattle.std.specs.Prelude.{◌≡◌};
+ghost use Rattle.std.specs.Prelude.{◌≡◌, IfOk};
 ghost use Rattle.std.specs.Arc.{arc_value};
-ghost use Rattle.lsm_shared.specs.Turns.{WasLent};
+ghost use Rattle.lsm_shared.specs.Turns.{HasLent, WasLent};
 
 use crate::deeds::Sizes;
 use compared_steps::asking::{call_of, told_call, told_work};
 use compared_steps::subject::Subject;
+use compared_steps::trouble::Trouble;
 use lsm_device::{MemDevice, Refusal};
 use lsm_lives::Reply;
 use lsm_merge::{Input, build};
@@ -90,26 +91,32 @@ pub(crate) fn prepared<A: Allocator + Copy, B: Allocator>(
     }
 }
 
-/// Builds a result of an input, and brings it. It answers what was answered to both.
+/// Builds a result of an input, and brings it. It tells what was answered to both.
 fn bring<N: SessionName, R: Threads + Wait + Sync, A: Allocator + Copy + Send + Sync, B: Allocator>(
     rt: &R,
     alloc: A,
     shared: &Shared<MemDevice<B>, A, N>,
     me: &mut Client<A, N>,
     lent: (u64, u64, Arc<Input<A>, A>),
-) -> (Answer, Answer)
+) -> Brought
     requires { WasLent me.old.mine lent.0 lent.1 (arc_value lent.2) }
 {
-    let (job, number, input) = lent;
-    match build(rt, alloc, input, PARTS) {
+    let (job, result, input) = lent;
+    let (built, accepted) = match build(rt, alloc, input, PARTS) {
         Ok(built) => {
             let tables = Answer::Built(built.images().len());
-            match me.bring(rt, shared, job, number, &built) {
+            match me.bring(rt, shared, job, result, &built) {
                 Ok(reply) => (tables, told_work(&reply)),
                 Err(refusal) => (tables, Answer::Refused(refusal)),
             }
         }
         Err(refusal) => (Answer::Refused(refusal), Answer::NoResult),
+    };
+    Brought {
+        job,
+        result,
+        built,
+        accepted,
     }
 }
 
@@ -124,13 +131,7 @@ fn take_turn<
         Ok(Turn::Idle) => Turned::Idle,
         Ok(Turn::Did(reply)) => Turned::Did(told_work(&reply)),
         Ok(Turn::Merge { job, result, input }) => {
-            let (built, accepted) = bring(rt, alloc, shared, me, (job, result, input));
-            Turned::Merged(Brought {
-                job,
-                result,
-                built,
-                accepted,
-            })
+            Turned::Merged(bring(rt, alloc, shared, me, (job, result, input)))
         }
         Err(refusal) => Turned::Did(Answer::Refused(refusal)),
     }
@@ -187,6 +188,24 @@ impl<N: SessionName, A: Allocator + Copy, B: Allocator> Session<N, A, B> {
         }
     }
 
+    /// The last client, which leaves the others alone for a while.
+    pub(crate) fn leave(&mut self) -> Option<Client<A, N>> {
+        self.clients.pop()
+    }
+
+    /// It comes back.
+    pub(crate) fn join(&mut self, me: Client<A, N>) -> Result<(), Trouble> {
+        self.clients.push(me)?;
+        Ok(())
+    }
+
+    /// What a turn of it comes to, which builds nothing.
+    pub(crate) fn turn_of<R: Wait>(&self, rt: &R, me: &mut Client<A, N>) -> Result<Turn<A>, Refusal>
+        ensures { IfOk result (λ turn. HasLent turn me.new) }
+    {
+        me.turn(rt, &self.shared)
+    }
+
     /// The numbers of the history, as a client reads them without the lock.
     pub(crate) fn numbers(&mut self, client: u32) -> Option<Numbers> {
         match self.clients.get_mut(client as usize) {
@@ -213,6 +232,18 @@ impl<N: SessionName, A: Allocator + Copy, B: Allocator> Session<N, A, B> {
 }
 
 impl<N: SessionName, A: Allocator + Copy + Send + Sync, B: Allocator> Session<N, A, B> {
+    /// Builds a result of an input that a client which has left was handed out, and brings it.
+    pub(crate) fn bring<R: Threads + Wait + Sync>(
+        &self,
+        rt: &R,
+        me: &mut Client<A, N>,
+        lent: (u64, u64, Arc<Input<A>, A>),
+    ) -> Brought
+        requires { WasLent me.old.mine lent.0 lent.1 (arc_value lent.2) }
+    {
+        bring(rt, self.alloc, &self.shared, me, lent)
+    }
+
     /// A turn of a client. What it hands out is built and brought.
     pub(crate) fn turn<R: Threads + Wait + Sync>(&mut self, rt: &R, client: u32) -> Turned {
         match self.clients.get_mut(client as usize) {

@@ -1,19 +1,25 @@
 //! A session over a store, led deed by deed beside its judge.
 
 ghost use Rattle.std.specs.Prelude.{◌≡◌};
+ghost use Rattle.std.specs.Arc.{arc_value};
+ghost use Rattle.lsm_shared.specs.Turns.{WasLent};
 
-use crate::deeds::{Deed, Sitting, Sizes};
+use crate::deeds::{Deed, Late, Sitting};
 use crate::judge::{Heard, Judge, Then};
-use crate::session::{Session, prepared};
+use crate::session::{Session, Turned, prepared};
+use compared_steps::asking::told_work;
 use compared_steps::lists::step_of;
 use compared_steps::playing::is_unchanged;
 use compared_steps::subject::Subject;
 use compared_steps::trouble::Trouble;
 use lsm_device::{MemDevice, Refusal};
+use lsm_merge::Input;
+use lsm_shared::{Client, Turn};
 use lsm_trail::{Opened, SessionName};
+use plain_machine::Answer;
 use std::alloc::Allocator;
 use std::marker::Brand;
-use std::sync::Wait;
+use std::sync::{Arc, Wait};
 use std::thread::Threads;
 
 /// A store behind a session, or one whose session has not begun for want of memory.
@@ -122,7 +128,19 @@ fn do_one<
     judge: &mut Judge<'_>,
     deed: Deed,
 ) -> Result<bool, Trouble> {
-    match hear_and_watch(rt, session, judge, deed)? {
+    let heard = hear_and_watch(rt, session, judge, deed)?;
+    go_on(rt, session, judge, deed, heard)
+}
+
+/// Behind a deed of which this was heard. It tells whether the session goes on.
+fn go_on<N: SessionName, R: Threads + Wait + Sync, A: Allocator + Copy + Send + Sync, B: Allocator>(
+    rt: &R,
+    session: &mut Session<N, A, B>,
+    judge: &mut Judge<'_>,
+    deed: Deed,
+    heard: Heard,
+) -> Result<bool, Trouble> {
+    match heard {
         Heard::Same => Ok(true),
         Heard::Stopped => Ok(judge.harm.then != Then::End),
         Heard::Failed | Heard::Unmade => do_again(rt, session, judge, deed),
@@ -139,11 +157,97 @@ fn do_all<
     session: &mut Session<N, A, B>,
     judge: &mut Judge<'_>,
     deeds: &[Deed],
-) -> Result<(), Trouble> {
+) -> Result<bool, Trouble> {
     for deed in deeds {
         if !do_one(rt, session, judge, *deed)? {
-            return Ok(());
+            return Ok(false);
         }
+    }
+    Ok(true)
+}
+
+/// A client that has left builds what it was handed out and brings the result, once others have done something. It tells what is heard
+/// of that, where the session goes on.
+fn bring_late<
+    N: SessionName,
+    R: Threads + Wait + Sync,
+    A: Allocator + Copy + Send + Sync,
+    B: Allocator,
+>(
+    rt: &R,
+    session: &mut Session<N, A, B>,
+    judge: &mut Judge<'_>,
+    me: &mut Client<A, N>,
+    lent: (u64, u64, Arc<Input<A>, A>),
+    meanwhile: &[Deed],
+) -> Result<Option<Heard>, Trouble>
+    requires { WasLent me.old.mine lent.0 lent.1 (arc_value lent.2) }
+{
+    let number = me.number();
+    let tables = judge.hear_lent(number, (lent.0, lent.1))?;
+    if !do_all(rt, session, judge, meanwhile)? {
+        return Ok(None);
+    }
+    judge.go_on();
+    let brought = session.bring(rt, me, lent);
+    Ok(Some(judge.hear_late(number, brought, tables)?))
+}
+
+/// The last client leaves, and takes a turn. It tells what is heard of that, where the session goes on.
+fn turn_late<
+    N: SessionName,
+    R: Threads + Wait + Sync,
+    A: Allocator + Copy + Send + Sync,
+    B: Allocator,
+>(
+    rt: &R,
+    session: &mut Session<N, A, B>,
+    judge: &mut Judge<'_>,
+    me: &mut Client<A, N>,
+    meanwhile: &[Deed],
+) -> Result<Option<Heard>, Trouble> {
+    judge.go_on();
+    let number = me.number();
+    match session.turn_of(rt, me) {
+        Ok(Turn::Merge { job, result, input }) => {
+            bring_late(rt, session, judge, me, (job, result, input), meanwhile)
+        }
+        Ok(Turn::Did(reply)) => {
+            Ok(Some(judge.hear_turn(number, Turned::Did(told_work(&reply)))?))
+        }
+        Ok(Turn::Idle) => Ok(Some(judge.hear_turn(number, Turned::Idle)?)),
+        Err(refusal) => {
+            let refused = Turned::Did(Answer::Refused(refusal));
+            Ok(Some(judge.hear_turn(number, refused)?))
+        }
+    }
+}
+
+/// A result comes late, and the clients do what comes behind it.
+fn do_late<
+    N: SessionName,
+    R: Threads + Wait + Sync,
+    A: Allocator + Copy + Send + Sync,
+    B: Allocator,
+>(
+    rt: &R,
+    session: &mut Session<N, A, B>,
+    judge: &mut Judge<'_>,
+    late: Late,
+) -> Result<(), Trouble> {
+    let Some(last) = session.leave() else {
+        return Ok(());
+    };
+    let mut me = last;
+    let number = me.number();
+    let heard = turn_late(rt, session, judge, &mut me, late.meanwhile)?;
+    session.join(me)?;
+    let Some(heard) = heard else {
+        return Ok(());
+    };
+    judge.has_numbers(session.numbers(number))?;
+    if go_on(rt, session, judge, Deed::Turn(number), heard)? {
+        let _is_whole = do_all(rt, session, judge, late.behind)?;
     }
     Ok(())
 }
@@ -153,11 +257,15 @@ fn sit<N: SessionName, R: Threads + Wait + Sync, A: Allocator + Copy + Send + Sy
     rt: &R,
     session: Session<N, A, B>,
     judge: &mut Judge<'_>,
-    deeds: &[Deed],
+    sitting: &Sitting,
 ) -> Result<Subject<A, B>, Trouble> {
     let mut session = session;
     judge.pin(session.base())?;
-    do_all(rt, &mut session, judge, deeds)?;
+    if do_all(rt, &mut session, judge, sitting.deeds)? {
+        if let Some(late) = sitting.late {
+            do_late(rt, &mut session, judge, late)?;
+        }
+    }
     let left = session.end()?;
     judge.unpin(&left.trail)?;
     Ok(left.into_subject())
@@ -169,13 +277,13 @@ fn begin<N: SessionName, R: Threads + Wait + Sync, A: Allocator + Copy + Send + 
     alloc: A,
     opened: Opened<MemDevice<B>, A>,
     judge: &mut Judge<'_>,
-    deeds: &[Deed],
+    sitting: &Sitting,
 ) -> Result<Led<A, B>, Trouble>
     requires { opened ≡ N.id }
 {
     match Session::<N, A, B>::begin(alloc, opened) {
         Ok(session) => Ok(Led {
-            subject: sit(rt, session, judge, deeds)?,
+            subject: sit(rt, session, judge, sitting)?,
             is_begun: true,
         }),
         Err((refusal, subject)) => unbegun(refusal, subject),
@@ -202,10 +310,10 @@ fn try_to_lead<R: Threads + Wait + Sync, A: Allocator + Copy + Send + Sync, B: A
     alloc: A,
     subject: Subject<A, B>,
     judge: &mut Judge<'_>,
-    (sizes, deeds): (Sizes, &[Deed]),
+    sitting: &Sitting,
 ) -> Result<Led<A, B>, Trouble> {
-    match prepared(subject, sizes) {
-        Ok(opened) => begin::<Brand, R, A, B>(rt, alloc, opened, judge, deeds),
+    match prepared(subject, sitting.sizes) {
+        Ok(opened) => begin::<Brand, R, A, B>(rt, alloc, opened, judge, sitting),
         Err((refusal, subject)) => unbegun(refusal, subject),
     }
 }
@@ -219,8 +327,7 @@ pub fn lead<R: Threads + Wait + Sync, A: Allocator + Copy + Send + Sync, B: Allo
     judge: &mut Judge<'_>,
     sitting: &Sitting,
 ) -> Result<Subject<A, B>, Trouble> {
-    let of = (sitting.sizes, sitting.deeds);
-    let led = try_to_lead(rt, alloc, subject, judge, of)?;
+    let led = try_to_lead(rt, alloc, subject, judge, sitting)?;
     if led.is_begun {
         return Ok(led.into_subject());
     }
@@ -228,7 +335,7 @@ pub fn lead<R: Threads + Wait + Sync, A: Allocator + Copy + Send + Sync, B: Allo
     judge.go_on();
     let mut subject = led.into_subject();
     is_unchanged(&mut subject, &mut judge.machine)?;
-    let led = try_to_lead(rt, alloc, subject, judge, of)?;
+    let led = try_to_lead(rt, alloc, subject, judge, sitting)?;
     if led.is_begun {
         return Ok(led.into_subject());
     }

@@ -1,14 +1,23 @@
 //! Steps as values of a session or a replay, and what these reply.
 
-use crate::subject::{batch_of, told_page, told_taken, value_of};
+use crate::subject::{batch_of, guards_of, told_page, told_taken, value_of};
 use lsm_device::Refusal;
 use lsm_lives::{Call, Reply, Step as Asked, Work};
 use lsm_store::At;
-use plain_machine::{Answer, Change, PARTS, Step};
+use plain_machine::{Answer, Change, Condition, PARTS, Step};
 use std::alloc::Allocator;
 
 fn commit_of<A: Allocator + Clone>(alloc: &A, change: Change) -> Result<Call<A>, Refusal> {
     Ok(Call::Commit(batch_of(alloc, change)?))
+}
+
+fn commit_if_of<A: Allocator + Clone>(
+    alloc: &A,
+    (first, second): (Condition, Condition),
+    change: Change,
+) -> Result<Call<A>, Refusal> {
+    let guards = guards_of(alloc, first, second)?;
+    Ok(Call::CommitIf(guards, batch_of(alloc, change)?))
 }
 
 fn get_of<A: Allocator + Clone>(alloc: &A, at: At, key: u8) -> Result<Call<A>, Refusal> {
@@ -35,6 +44,7 @@ fn scan_of<A: Allocator + Clone>(
 pub fn call_of<A: Allocator + Clone>(alloc: &A, step: Step) -> Result<Call<A>, Refusal> {
     match step {
         Step::Commit(change) => commit_of(alloc, change),
+        Step::CommitIf(first, second, change) => commit_if_of(alloc, (first, second), change),
         Step::Sync => Ok(Call::Sync),
         Step::SyncTo(number) => Ok(Call::SyncTo(number)),
         Step::Get(at, key) => get_of(alloc, at, key),

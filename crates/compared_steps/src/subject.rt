@@ -2,12 +2,14 @@
 
 use crate::disk::Disk;
 use crate::tables::told_tables;
-use lsm_codec::{Batch, Key, Op};
+use lsm_codec::{Batch, Guard, Key, Op};
 use lsm_device::{MemDevice, Refusal};
 use lsm_lives::{Reply, Step as Asked, replay};
 use lsm_merge::{Built, Input, build, build_divided};
 use lsm_store::{At, Choice, Page, Store, TakenJob};
-use plain_machine::{Answer, Change, Division, Operation, RowsTold, Step, TablesTold, Value, told};
+use plain_machine::{
+    Answer, Change, Condition, Division, Operation, RowsTold, Step, TablesTold, Value, told,
+};
 use std::alloc::{AllocError, Allocator, Global};
 use std::sync::Arc;
 use std::thread::Threads;
@@ -125,6 +127,28 @@ pub(crate) fn batch_of<A: Allocator + Clone>(
     Ok(batch)
 }
 
+fn guard_of<A: Allocator + Clone>(alloc: &A, condition: Condition) -> Result<Guard<A>, Refusal> {
+    match condition.value {
+        Some(value) => {
+            let bytes = bytes_of(alloc.clone()?, value)?;
+            Guard::holds(alloc.clone()?, &[condition.key], &bytes)
+        }
+        None => Guard::absent(alloc.clone()?, &[condition.key]),
+    }
+}
+
+/// The guards that ask for both.
+pub(crate) fn guards_of<A: Allocator + Clone>(
+    alloc: &A,
+    first: Condition,
+    second: Condition,
+) -> Result<Vec<Guard<A>, A>, Refusal> {
+    let mut guards = Vec::new(alloc.clone()?);
+    guards.push(guard_of(alloc, first)?)?;
+    guards.push(guard_of(alloc, second)?)?;
+    Ok(guards)
+}
+
 /// Opens the store on a device.
 pub fn open<A: Allocator + Clone, B: Allocator>(
     alloc: A,
@@ -141,6 +165,16 @@ impl<A: Allocator + Clone, B: Allocator> Subject<A, B> {
     fn commit(&mut self, change: Change) -> Result<Answer, Refusal> {
         let batch = batch_of(&self.alloc, change)?;
         Ok(Answer::Number(self.store.commit(&batch)?))
+    }
+
+    fn commit_if(
+        &mut self,
+        (first, second): (Condition, Condition),
+        change: Change,
+    ) -> Result<Answer, Refusal> {
+        let guards = guards_of(&self.alloc, first, second)?;
+        let batch = batch_of(&self.alloc, change)?;
+        Ok(Answer::Number(self.store.commit_if(&guards, &batch)?))
     }
 
     fn get(&mut self, at: At, key: u8) -> Result<Answer, Refusal> {
@@ -236,6 +270,7 @@ impl<A: Allocator + Clone, B: Allocator> Subject<A, B> {
     fn made(&mut self, step: Step) -> Result<Answer, Refusal> {
         match step {
             Step::Commit(change) => self.commit(change),
+            Step::CommitIf(first, second, change) => self.commit_if((first, second), change),
             Step::Sync => self.sync(),
             Step::SyncTo(number) => self.sync_to(number),
             Step::Get(at, key) => self.get(at, key),

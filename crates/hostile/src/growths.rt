@@ -48,7 +48,7 @@ fn make_again<R: Threads + Sync>(
         return Ok(());
     }
     let wanted = machine.answer(step);
-    if !matches!(step, Step::Commit(_)) {
+    if !matches!(step, Step::Commit(_) | Step::CommitIf(_, _, _)) {
         unrefused(step, wanted)?;
     }
     agree(step, subject.answer(rt, step), wanted)

@@ -4,7 +4,7 @@ use crate::attacked::List;
 use compared_steps::beginnings::After;
 use compared_steps::lists::Line;
 use lsm_store::{At, Choice};
-use plain_machine::{Change, Division, Step};
+use plain_machine::{Change, Condition, Division, Step, Value};
 
 /// Four runs of level 0, of which the merge of the oldest comes next.
 pub(crate) const FOUR_RUNS: [Line; 4] = [
@@ -12,6 +12,22 @@ pub(crate) const FOUR_RUNS: [Line; 4] = [
     Line::Flush(2, 2),
     Line::Flush(3, 3),
     Line::Flush(4, 4),
+];
+
+/// As many runs of level 0 as may be there.
+pub(crate) const TWELVE_RUNS: [Line; 12] = [
+    Line::Flush(1, 1),
+    Line::Flush(2, 2),
+    Line::Flush(3, 3),
+    Line::Flush(4, 4),
+    Line::Flush(5, 5),
+    Line::Flush(6, 6),
+    Line::Flush(7, 7),
+    Line::Flush(8, 8),
+    Line::Flush(9, 9),
+    Line::Flush(10, 10),
+    Line::Flush(11, 11),
+    Line::Flush(12, 12),
 ];
 
 /// Three runs of level 0, a table of level 1, and two batches behind them.
@@ -116,8 +132,24 @@ const SIDE_BY_SIDE: [Line; 18] = [
     Line::Scan(0, 64),
 ];
 
-/// Commits of one sector and of two, and syncs.
-const COMMITS: [Line; 10] = [
+/// A guard that asks for the value of one byte, the key's, and those that ask for none.
+const HAS_3: Condition = Condition {
+    key: 3,
+    value: Some(Value { byte: 3, length: 1 }),
+};
+
+pub(crate) const LACKS_1: Condition = Condition {
+    key: 1,
+    value: None,
+};
+
+pub(crate) const LACKS_9: Condition = Condition {
+    key: 9,
+    value: None,
+};
+
+/// Commits of one sector and of two, also under guards of keys in memory, and syncs.
+const COMMITS: [Line; 12] = [
     Line::Put(1),
     Line::Long(2, 600),
     Line::One(Step::Sync),
@@ -127,6 +159,8 @@ const COMMITS: [Line; 10] = [
     Line::One(Step::SyncTo(4)),
     Line::One(Step::SyncTo(3)),
     Line::Put(3),
+    Line::One(Step::CommitIf(HAS_3, LACKS_9, Change::Put(4, 4, 600))),
+    Line::One(Step::CommitIf(HAS_3, LACKS_1, Change::Delete(3))),
     Line::Scan(0, 64),
 ];
 

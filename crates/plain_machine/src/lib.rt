@@ -21,6 +21,7 @@ mod working;
 
 pub use machine::{LOG_SECTORS, Machine};
 pub use step::{
-    Answer, Change, Division, Operation, RowsTold, Step, TableTold, TablesTold, Value, told,
+    Answer, Change, Condition, Division, Operation, RowsTold, Step, TableTold, TablesTold, Value,
+    told,
 };
 pub use turns::PARTS;

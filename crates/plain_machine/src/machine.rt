@@ -1,8 +1,8 @@
 //! The machine: what it answers, and what a crash may leave of it.
 
 use crate::batches::{Batches, Map, rows_of, sectors_of, value_in};
-use crate::step::{Answer, Change, Division, RowsTold, Step, TablesTold, told};
-use crate::turns::piece_in;
+use crate::step::{Answer, Change, Condition, Division, RowsTold, Step, TablesTold, told};
+use crate::turns::{is_put_off, piece_in};
 use crate::working::{MOST_JOBS, Working};
 use lsm_device::Refusal;
 use lsm_store::{At, Stat};
@@ -122,7 +122,8 @@ impl Machine {
         (self.batches.count(), self.batches.synced)
     }
 
-    fn commit(&mut self, change: Change) -> Result<Answer, Refusal> {
+    /// The log behind a batch, if that has room there.
+    fn log_behind(&self, change: Change) -> Result<Log, Refusal> {
         let Some(log) = self.log else {
             return Err(Refusal::LogFull);
         };
@@ -131,7 +132,29 @@ impl Machine {
             return Err(Refusal::LogFull);
         }
         let first = log.first;
-        self.log = Some(Log { first, used });
+        Ok(Log { first, used })
+    }
+
+    fn commit(&mut self, change: Change) -> Result<Answer, Refusal> {
+        self.log = Some(self.log_behind(change)?);
+        Ok(Answer::Number(self.batches.add(change)?))
+    }
+
+    fn commit_if(
+        &mut self,
+        first: Condition,
+        second: Condition,
+        change: Change,
+    ) -> Result<Answer, Refusal> {
+        let log = self.log_behind(change)?;
+        let map = self.batches.map(self.batches.count());
+        if value_in(&map, first.key) != first.value {
+            return Err(Refusal::GuardFailed(0));
+        }
+        if value_in(&map, second.key) != second.value {
+            return Err(Refusal::GuardFailed(1));
+        }
+        self.log = Some(log);
         Ok(Answer::Number(self.batches.add(change)?))
     }
 
@@ -228,6 +251,7 @@ impl Machine {
     fn call(&mut self, step: Step) -> Result<Answer, Refusal> {
         match step {
             Step::Commit(change) => self.commit(change),
+            Step::CommitIf(first, second, change) => self.commit_if(first, second, change),
             Step::Sync => {
                 self.batches.sync();
                 Ok(Answer::Done)
@@ -293,19 +317,43 @@ impl Machine {
         self.stopped
     }
 
-    /// The piece of work that comes next for a client, which asks the four slots in turn, from that of its number on.
-    pub fn turn_of(&self, client: u32) -> Option<Step> {
-        if self.stopped {
+    /// What a client's turn finds in the slot that it asks behind so many others, from that of its number on. There are four.
+    pub fn piece_of(&self, client: u32, behind: usize) -> Option<Step> {
+        if self.stopped || behind >= MOST_JOBS {
             return None;
         }
         let first = client as usize;
-        for next in 0..MOST_JOBS {
-            let slot = first.wrapping_add(next) % MOST_JOBS;
-            if let Some(step) = piece_in(&self.working, slot) {
-                return Some(step);
+        piece_in(&self.working, first.wrapping_add(behind) % MOST_JOBS)
+    }
+
+    /// Whether a turn passes over this piece of work: level 0 has no place for the run of a flush.
+    pub fn is_put_off(&self, step: Step) -> bool {
+        is_put_off(&self.working, step)
+    }
+
+    /// The piece of work that comes next for a client, which asks the slots in turn.
+    pub fn turn_of(&self, client: u32) -> Option<Step> {
+        for behind in 0..MOST_JOBS {
+            match self.piece_of(client, behind) {
+                Some(step) if !self.is_put_off(step) => return Some(step),
+                _ => {}
             }
         }
         None
+    }
+
+    /// Whether a step makes no call of the device but reads.
+    pub fn only_reads(&self, step: Step) -> bool {
+        step.is_read() || self.is_denied(step)
+    }
+
+    /// Whether one of a step's guards is false.
+    fn is_denied(&self, step: Step) -> bool {
+        let Step::CommitIf(first, second, _) = step else {
+            return false;
+        };
+        let map = self.batches.map(self.batches.count());
+        value_in(&map, first.key) != first.value || value_in(&map, second.key) != second.value
     }
 
     /// Whether an opening that finds this generation tells that the last root is lost: a write or a sync of it met a fault.

@@ -259,16 +259,24 @@ impl Working {
         Ok(rows)
     }
 
+    /// Whether a job is a flush for whose run level 0 has no place.
+    pub(crate) fn lacks_place(&self, number: u64) -> bool {
+        match self.job(number) {
+            Ok(job) => job.level.is_none() && self.runs() >= MOST_RUNS,
+            Err(_) => false,
+        }
+    }
+
     /// Puts a job's outputs in the place of what it took in. It tells whether it was a flush.
     pub(crate) fn install(&mut self, alloc: Global, number: u64) -> Result<bool, Refusal> {
         let job = self.job(number)?;
         let Stage::Writing(0) = job.stage else {
             return Err(Refusal::WrongState);
         };
-        let is_flush = job.level.is_none();
-        if is_flush && self.runs() >= MOST_RUNS {
+        if self.lacks_place(number) {
             return Err(Refusal::TooManyRuns);
         }
+        let is_flush = job.level.is_none();
         self.rows = self.rows_after(alloc, job)?;
         self.tables = self.tables_after(alloc, job)?;
         self.end(alloc, number)?;

@@ -17,6 +17,13 @@ pub struct Operation {
     pub value: Option<Value>,
 }
 
+/// What a guard asks for: that a key has this value, or that it has none.
+#[derive(Clone, Copy, Debug)]
+pub struct Condition {
+    pub key: u8,
+    pub value: Option<Value>,
+}
+
 /// What a batch does.
 #[derive(Clone, Copy, Debug)]
 pub enum Change {
@@ -104,6 +111,8 @@ impl Division {
 #[derive(Clone, Copy, Debug)]
 pub enum Step {
     Commit(Change),
+    /// Commits under two guards.
+    CommitIf(Condition, Condition, Change),
     Sync,
     SyncTo(u64),
     Get(At, u8),

@@ -16,11 +16,19 @@ fn piece_of(job: Job) -> Step {
     }
 }
 
-/// What a slot waits for: a free one for a job, where one comes next. So few runs are in level 0 that no install is put off.
+/// What a slot waits for: a free one for a job, where one comes next.
 pub(crate) fn piece_in(working: &Working, slot: usize) -> Option<Step> {
     match working.job_in(slot) {
         Some(job) => Some(piece_of(job)),
         None if working.has_next() => Some(Step::Take),
         None => None,
+    }
+}
+
+/// Whether a piece of work is the install of a flush for whose run level 0 has no place.
+pub(crate) fn is_put_off(working: &Working, step: Step) -> bool {
+    match step {
+        Step::Install(job) => working.lacks_place(job),
+        _ => false,
     }
 }
