@@ -1,6 +1,6 @@
 #!/usr/bin/env bash
 # Fills stores with random streams until they are refused, rescues them by deletes, and fills them again; and leads those that were once
-# stuck. Of one store in 25 calls of the device fail. Then a tenth as many have other calls between their batches: guarded ones, reads at
+# stuck. Of one store in 25 calls of the device fail. Then as many have other calls between their batches: guarded ones, reads at
 # snapshots, syncs and compactions.
 #
 #     tests/filled.sh PROGRAM [STORES [SEED]]
@@ -18,7 +18,7 @@ seed=${3:-1}
 }
 echo "filled.sh: $(tail -n 1 "$room/counts"): $(cat "$room/said")"
 
-"$endless" "$seed" $((stores / 10)) 40 0 0 8 0 1 >"$room/said" 2>"$room/counts" || {
+"$endless" "$seed" "$stores" 100 0 0 8 0 1 >"$room/said" 2>"$room/counts" || {
     cat "$room/counts" "$room/said" >&2
     fail "endless with other calls ends with $?"
 }
