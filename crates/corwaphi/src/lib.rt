@@ -26,6 +26,8 @@ mod opening;
 mod operating;
 mod options;
 mod pages;
+mod prefix;
+mod prefix_law;
 mod range_rows;
 mod row;
 
@@ -45,4 +47,5 @@ pub use row::Row;
 /// Laws of the definitions: functions without a body, whose clauses are theorems.
 pub mod laws {
     pub use crate::buffer_law::buffers_show_one_map;
+    pub use crate::prefix_law::prefixes_are_ranges;
 }

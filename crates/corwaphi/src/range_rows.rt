@@ -4,10 +4,12 @@ ghost use Rattle.std.specs.Prelude.{◌≡◌, ◌<◌, ◌+◌, ◌^◌, ◌-�
 ghost use Rattle.std.specs.Iterator.{at_most};
 ghost use Rattle.lsm_device.specs.declared.refusal.Refusal.TheVariants.{NoMemory};
 ghost use Rattle.lsm_mem.specs.Rows.{shown_row};
+ghost use Rattle.corwaphi.specs.Prefix.{behind_prefix};
 ghost use Rattle.corwaphi.specs.Advancing.{AsksRow, GivesNext, HasRead, IsFirst, IsPageRefused, TakesRow, calls_left, key_behind, lender, rows_behind, standing, stands_before};
 ghost use Rattle.lsm_machine.specs.declared.asked.At.TheVariants.{Now};
 
 use crate::pages::{PAGE, copied, slice_of};
+use crate::prefix::behind_prefix;
 use crate::{Db, Row};
 use lsm_device::{Device, Refusal};
 use lsm_store::{At, Page, RowRef};
@@ -38,6 +40,18 @@ impl<D: Device> Db<D> {
         ensures refused { IfErr result (λ e. e ≡ NoMemory) }
     {
         self.rows_at(At::Now, from, to)
+    }
+
+    /// The rows of the present map whose keys begin with a prefix: those of the range from it to what is behind it. It is refused as
+    /// [`rows`](Db::rows) is.
+    pub fn rows_with_prefix(&mut self, prefix: &[u8]) -> Result<RangeRows<'_, D>, Refusal>
+        ensures begins { IfOk result (λ rows. standing rows ≡ stands_before Now prefix.now (behind_prefix prefix.now) self.old) }
+        ensures calls { IfOk result (λ rows. calls_left rows ≡ 2 ^ 64 - 1) }
+        ensures same_store { IfOk result (λ rows. lender rows ≡ self.entry.ghost_name) }
+        ensures refused { IfErr result (λ e. e ≡ NoMemory) }
+    {
+        let end = behind_prefix(self.alloc(), prefix)?;
+        self.rows_at(At::Now, prefix, slice_of(&end))
     }
 
     /// The rows of the present map, or of that of a snapshot, as [`rows`](Db::rows) gives them.

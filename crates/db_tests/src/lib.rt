@@ -14,6 +14,8 @@ mod options;
 #[cfg(test)]
 mod pages;
 #[cfg(test)]
+mod prefixes;
+#[cfg(test)]
 mod room;
 #[cfg(test)]
 mod rows;

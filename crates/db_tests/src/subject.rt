@@ -169,6 +169,10 @@ impl<D: Device> Subject<D> {
         self.db.rows_at(at, from, to)
     }
 
+    pub(crate) fn rows_with_prefix(&mut self, prefix: &[u8]) -> Result<RangeRows<'_, D>, Refusal> {
+        self.db.rows_with_prefix(prefix)
+    }
+
     pub(crate) fn pages<R: Abort>(&mut self, rt: &R, from: &[u8], to: Option<&[u8]>) -> Pages {
         self.db.pages(from, to).expect(rt, "pages")
     }
