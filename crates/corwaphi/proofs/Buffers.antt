@@ -14,48 +14,14 @@ use Rattle.lsm_machine.specs.Run.{next}
 use Rattle.lsm_machine.specs.State.{State}
 use Rattle.lsm_store.specs.Backing.{StoreView}
 use Rattle.lsm_store.specs.Serving.{Serves, reply_in}
-use Rattle.lsm_upkeep.specs.Writing.{EndsWith, Writes, without_log_full}
+use Rattle.lsm_upkeep.specs.Writing.{EndsWith, Writes}
+use Rattle.lsm_upkeep.proofs.Told.{apply-append, is_number, last_map-append, number_told, refusal_told}
 use Rattle.corwaphi.specs.Buffering.{Buffered, Buffers, BufferLaw, Commits, IsNotBuffered, buffered_map, later_on, value_of}
-
--- ---- what is told of a commit
-
-abbrev is_number : Reply → Bool
-is_number (Number n) = true
-is_number other = false
-
-number_told : (reply : Reply) (number : ℕ) → Number number ≡ without_log_full reply → reply ≡ Number number
-number_told (Number n) number is = sym is
-number_told (Refused LogFull) number is = absurd (true≢false (ap is_number is))
-number_told (Refused other) number is = absurd (true≢false (ap is_number is))
-number_told Done number is = absurd (true≢false (ap is_number is))
-number_told (Value v) number is = absurd (true≢false (ap is_number is))
-number_told (Rows page) number is = absurd (true≢false (ap is_number is))
-number_told (Given job) number is = absurd (true≢false (ap is_number is))
-number_told (Handed input) number is = absurd (true≢false (ap is_number is))
-number_told Unread number is = absurd (true≢false (ap is_number is))
-
-abbrev is_refusal : Reply → Bool
-is_refusal (Refused e) = true
-is_refusal other = false
-
-refusal_told : (reply : Reply) (e : Refusal) → Refused e ≡ without_log_full reply → (r : Refusal) × (reply ≡ Refused r)
-refusal_told (Refused r) e is = (r, refl)
-refusal_told (Number n) e is = absurd (true≢false (ap is_refusal is))
-refusal_told Done e is = absurd (true≢false (ap is_refusal is))
-refusal_told (Value v) e is = absurd (true≢false (ap is_refusal is))
-refusal_told (Rows page) e is = absurd (true≢false (ap is_refusal is))
-refusal_told (Given job) e is = absurd (true≢false (ap is_refusal is))
-refusal_told (Handed input) e is = absurd (true≢false (ap is_refusal is))
-refusal_told Unread e is = absurd (true≢false (ap is_refusal is))
 
 -- ---- a commit
 
 abbrev map_in : StoreView → Map
 map_in s = present_map s.state.points
-
-last_map-append : (m : Map) (later : List Map) (last : Map) → last_map m (later ++ last ∷ []) ≡ last
-last_map-append m [] last = refl
-last_map-append m (next ∷ later) last = last_map-append next later last
 
 refused_map : (s : State) (batch : List Operation) (e : Refusal) → present_map (next s (Commit batch) (Refused e)).points ≡ present_map s.points
 refused_map s batch Io = refl
@@ -66,7 +32,7 @@ module _ (batch : List Operation) (old new : StoreView) where
   written : (number : ℕ) → Writes None batch old (Number number) new → map_in new ≡ apply (map_in old) batch
   written number w = by w.ends
     where
-      by : EndsWith None batch w.kept (Number number) new → map_in new ≡ apply (map_in old) batch
+      by : EndsWith None batch old w.kept (Number number) new → map_in new ≡ apply (map_in old) batch
       by (inl (reply, serves, is)) =
           let served = subst (λ (r : Reply). Serves w.kept (Commit batch) (reply_in (Commit batch) new.state r) new) (number_told reply number is) serves in
           ap (λ (s : State). last_map s.points.first s.points.later) served.state ∙ last_map-append w.kept.state.points.first w.kept.state.points.later (apply (map_in w.kept) batch)
@@ -77,7 +43,7 @@ module _ (batch : List Operation) (old new : StoreView) where
   unwritten : (e : Refusal) → Writes None batch old (Refused e) new → map_in new ≡ map_in old
   unwritten e w = by w.ends ∙ w.upkeep.keeps.map
     where
-      by : EndsWith None batch w.kept (Refused e) new → map_in new ≡ map_in w.kept
+      by : EndsWith None batch old w.kept (Refused e) new → map_in new ≡ map_in w.kept
       by (inl (reply, serves, is)) =
           let told = refusal_told reply e is in
           let served = subst (λ (r : Reply). Serves w.kept (Commit batch) (reply_in (Commit batch) new.state r) new) told.1 serves in
@@ -85,10 +51,6 @@ module _ (batch : List Operation) (old new : StoreView) where
       by (inr (so, wants, same)) = ap map_in same
 
 -- ---- the map with what waits
-
-apply-append : (m : Map) (first second : List Operation) → apply m (first ++ second) ≡ apply (apply m first) second
-apply-append m [] second = refl
-apply-append m (operation ∷ first) second = apply-append (changed m operation.key operation.value) first second
 
 law_written : (operation : Operation) (old new : Buffered) → Buffers operation old new → buffered_map new ≡ apply (buffered_map old) (operation ∷ [])
 law_written operation old new (inl (same, waits)) =

@@ -202,14 +202,14 @@ written guards batch live asked rest old mid new told plain writes has more =
     kept_has : HasLive live writes.kept
     kept_has = upkept_live live old writes.kept writes.upkeep has
 
-    by : EndsWith guards batch writes.kept told mid → AreSteps live writes.kept (Some (commit_of guards batch) ∷ asked) (told ∷ rest) new
+    by : EndsWith guards batch old writes.kept told mid → AreSteps live writes.kept (Some (commit_of guards batch) ∷ asked) (told ∷ rest) new
     by (inl (reply, serves, so)) =
         served asked rest mid new live (commit_of guards batch) (no_rotation guards batch) writes.kept (reply_in (commit_of guards batch) mid.state reply) told serves
         (so ∙ ap without_log_full (sym (told_in guards batch mid.state reply (plain_reply reply told so plain)))) kept_has more
-    by (inr (so, wants, same)) =
+    by (inr (so, none, same)) =
         subst (λ (s : StoreView). AreSteps live s (Some (commit_of guards batch) ∷ asked) (told ∷ rest) new) same
         (unserved asked rest mid new live (commit_of guards batch) told so
-        (may_want guards batch live writes.kept wants kept_has) (subst (HasLive live) (sym same) kept_has) more)
+        (may_want guards batch live writes.kept none.wants kept_has) (subst (HasLive live) (sym same) kept_has) more)
 
 -- ---- calls one after another
 

@@ -1,6 +1,6 @@
 //! The memory table of a log that is closed.
 
-ghost use Rattle.std.specs.Prelude.{◌≡◌, IfOk, IfErr, option_map, option_and_then, filter, filter_map};
+ghost use Rattle.std.specs.Prelude.{◌≡◌, [], IfOk, IfErr, option_map, option_and_then, filter, filter_map};
 ghost use Rattle.std.specs.Arc.{arc_value};
 ghost use Rattle.std.specs.List.{AllByRecursion};
 ghost use Rattle.std.specs.Ordering.{is_le};
@@ -9,6 +9,7 @@ ghost use Rattle.lsm_codec.specs.Keys.{byte_order};
 ghost use Rattle.lsm_codec.specs.References.{shown};
 ghost use Rattle.lsm_codec.specs.Versions.{newest, IsEntry, AreOrdered};
 ghost use Rattle.lsm_mem.specs.Versions.{map_of};
+ghost use Rattle.lsm_mem.specs.Sizes.{no_size};
 ghost use Rattle.lsm_mem.specs.Ranges.{newest_each, from_key, put_pair, HaveAscendingKeys};
 
 use crate::iter::Range;
@@ -87,7 +88,9 @@ impl<A: Allocator> Sealed<A> {
     }
 
     /// How large the versions are at most.
-    pub fn size(&self) -> MemSize {
+    pub fn size(&self) -> MemSize
+        ensures { self.now ≡ [] → result ≡ no_size }
+    {
         self.mem.size()
     }
 

@@ -1,5 +1,9 @@
 //! How large versions are, by numbers that each batch raises.
 
+ghost use Rattle.std.specs.Prelude.{◌≡◌, ◌∷◌, []};
+ghost use Rattle.lsm_codec.specs.References.{shown_operation};
+ghost use Rattle.lsm_mem.specs.Sizes.{AreTogether, GrowsBy, IsAnEntry, no_size};
+
 use lsm_codec::{Batch, OpRef, Operations};
 use std::alloc::Allocator;
 
@@ -29,7 +33,9 @@ pub struct MemSize {
 
 impl MemSize {
     /// The size of no version.
-    pub fn empty() -> MemSize {
+    pub fn empty() -> MemSize
+        ensures { result ≡ no_size }
+    {
         MemSize {
             entries: 0,
             bytes: 0,
@@ -41,52 +47,72 @@ impl MemSize {
     }
 
     /// This size and that of what a batch makes of its keys.
-    pub fn with_batch<A: Allocator>(self, batch: &Batch<A>) -> MemSize {
+    pub fn with_batch<A: Allocator>(self, batch: &Batch<A>) -> MemSize
+        ensures { GrowsBy batch.now self result }
+    {
         self.with_operations(batch.operations())
     }
 
-    fn with_operations(self, operations: Operations<'_>) -> MemSize {
+    fn with_operations(self, operations: Operations<'_>) -> MemSize
+        ensures { GrowsBy operations.entry self result }
+    {
         let mut size = self;
         for operation in operations {
-            size = size.with_operation(operation);
+            size = size.and(MemSize::of_operation(operation));
         }
         size
     }
 
-    fn with_operation(self, operation: OpRef<'_>) -> MemSize {
-        let key = operation.key.len() as u64;
+    // The size of what an operation makes of its key.
+    fn of_operation(operation: OpRef<'_>) -> MemSize
+        ensures { GrowsBy (shown_operation operation.entry ∷ []) no_size result }
+    {
+        let key = FRAME.saturating_add(operation.key.len() as u64);
         match operation.value {
-            Some(value) => self.with_put(
-                FRAME.saturating_add(key).saturating_add(value.len() as u64),
-            ),
-            None => self.with_delete(FRAME.saturating_add(key)),
+            Some(value) => MemSize::of_put(key.saturating_add(value.len() as u64)),
+            None => MemSize::of_delete(key),
         }
     }
 
-    // This size and that of a put of so many bytes.
-    fn with_put(self, bytes: u64) -> MemSize {
-        let large = if bytes >= LARGE { 1 } else { 0 };
+    // The size of a put of so many bytes.
+    fn of_put(bytes: u64) -> MemSize
+        ensures { IsAnEntry bytes result }
+    {
         MemSize {
-            large: self.large.saturating_add(large),
-            ..self.with_entry(bytes)
+            entries: 1,
+            bytes,
+            large: if bytes >= LARGE { 1 } else { 0 },
+            deletes: 0,
+            delete_bytes: 0,
+            largest: bytes,
         }
     }
 
-    // This size and that of a delete of so many bytes.
-    fn with_delete(self, bytes: u64) -> MemSize {
+    // The size of a delete of so many bytes.
+    fn of_delete(bytes: u64) -> MemSize
+        ensures { IsAnEntry bytes result }
+    {
         MemSize {
-            deletes: self.deletes.saturating_add(1),
-            delete_bytes: self.delete_bytes.saturating_add(bytes),
-            ..self.with_entry(bytes)
+            entries: 1,
+            bytes,
+            large: 0,
+            deletes: 1,
+            delete_bytes: bytes,
+            largest: bytes,
         }
     }
 
-    fn with_entry(self, bytes: u64) -> MemSize {
+    // Both sizes together.
+    fn and(self, other: MemSize) -> MemSize
+        ensures { AreTogether self other result }
+    {
         MemSize {
-            entries: self.entries.saturating_add(1),
-            bytes: self.bytes.saturating_add(bytes),
-            largest: self.largest.max(bytes),
-            ..self
+            entries: self.entries.saturating_add(other.entries),
+            bytes: self.bytes.saturating_add(other.bytes),
+            large: self.large.saturating_add(other.large),
+            deletes: self.deletes.saturating_add(other.deletes),
+            delete_bytes: self.delete_bytes.saturating_add(other.delete_bytes),
+            largest: self.largest.max(other.largest),
         }
     }
 }

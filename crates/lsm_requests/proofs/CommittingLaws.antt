@@ -1,10 +1,10 @@
 -- What a write makes of the map, and what a compaction comes to.
-use Rattle.std.proofs.Common.{◌≡◌, ◌∙◌, ℕ, Bool, true, false, true≢false, List, [], ◌∷◌, ◌++◌, None, inl, inr, refl, ap, subst, sym}
+use Rattle.std.proofs.Common.{◌≡◌, ◌∙◌, ℕ, Bool, true, true≢false, List, None, inl, inr, refl, ap, subst, sym}
 use Rattle.lsm_codec.specs.Map.{Map, Operation, apply}
 use Rattle.lsm_device.specs.declared.refusal.Refusal.{Refusal}
-use Rattle.lsm_device.specs.declared.refusal.Refusal.TheVariants.{Io, LogFull}
+use Rattle.lsm_device.specs.declared.refusal.Refusal.TheVariants.{Io}
 use Rattle.lsm_store.specs.Backing.{StoreView, machine_of}
-use Rattle.lsm_machine.specs.Calls.{Reply, Commit, Number, Done, Value, Rows, Given, Handed, Refused, Unread}
+use Rattle.lsm_machine.specs.Calls.{Reply, Commit, Number, Refused}
 use Rattle.lsm_machine.specs.RecoveryPoints.{last_map}
 use Rattle.lsm_machine.specs.Run.{next}
 use Rattle.lsm_store.specs.Serving.{Serves}
@@ -13,18 +13,14 @@ use Rattle.lsm_upkeep.specs.Compacting.{is_compacted}
 use Rattle.lsm_upkeep.specs.Flushing.{FlushesFirst}
 use Rattle.lsm_upkeep.specs.Keeping.{IsSameMap, KeepsMap}
 use Rattle.lsm_upkeep.specs.Steps.{IsUpkept}
-use Rattle.lsm_upkeep.specs.Writing.{EndsWith, without_log_full}
+use Rattle.lsm_upkeep.specs.Writing.{EndsWith}
 use Rattle.lsm_upkeep.proofs.KeptMaps.{onward, stays}
+use Rattle.lsm_upkeep.proofs.Told.{is_number, number_told, refusal_told, last_map-append}
 use Rattle.lsm_upkeep.proofs.Upkept.{stays as is_same, then}
 use Rattle.lsm_serve.specs.Committing.{CompactsWhole}
 use Rattle.lsm_requests.specs.Answers.{HasCompacted, TellsCompacted}
 use Rattle.lsm_requests.specs.declared.answer.Output.{Output}
 use Rattle.lsm_requests.specs.Commits.{Adds, AddsNot, IsKeptUp, Puts, map_in}
-
--- the last of some maps
-last_map-append : (m : Map) (later : List Map) (last : Map) → last_map m (later ++ last ∷ []) ≡ last
-last_map-append m [] last = refl
-last_map-append m (next ∷ later) last = last_map-append next later last
 
 -- a batch that was accepted
 puts-accepted : (batch : List Operation) (number : ℕ) (old new : StoreView) → Serves old (Commit batch) (Number number) new → Puts batch old new
@@ -40,37 +36,6 @@ refused_state s batch other = record { map = refl; count = refl; snapshots = ref
 keeps-refused : (batch : List Operation) (e : Refusal) (old new : StoreView) → Serves old (Commit batch) (Refused e) new → KeepsMap old new
 keeps-refused batch e old new serves = subst (IsSameMap old.state) (sym serves.state) (refused_state old.state batch e)
 
--- ---- of which reply it was told
-
-abbrev is_number : Reply → Bool
-is_number (Number n) = true
-is_number other = false
-
-number_told : (reply : Reply) (number : ℕ) → Number number ≡ without_log_full reply → reply ≡ Number number
-number_told (Number n) number is = sym is
-number_told (Refused LogFull) number is = absurd (true≢false (ap is_number is))
-number_told (Refused other) number is = absurd (true≢false (ap is_number is))
-number_told Done number is = absurd (true≢false (ap is_number is))
-number_told (Value v) number is = absurd (true≢false (ap is_number is))
-number_told (Rows page) number is = absurd (true≢false (ap is_number is))
-number_told (Given job) number is = absurd (true≢false (ap is_number is))
-number_told (Handed input) number is = absurd (true≢false (ap is_number is))
-number_told Unread number is = absurd (true≢false (ap is_number is))
-
-abbrev is_refusal : Reply → Bool
-is_refusal (Refused e) = true
-is_refusal other = false
-
-refusal_told : (reply : Reply) (e : Refusal) → Refused e ≡ without_log_full reply → (r : Refusal) × (reply ≡ Refused r)
-refusal_told (Refused r) e is = (r, refl)
-refusal_told (Number n) e is = absurd (true≢false (ap is_refusal is))
-refusal_told Done e is = absurd (true≢false (ap is_refusal is))
-refusal_told (Value v) e is = absurd (true≢false (ap is_refusal is))
-refusal_told (Rows page) e is = absurd (true≢false (ap is_refusal is))
-refusal_told (Given job) e is = absurd (true≢false (ap is_refusal is))
-refusal_told (Handed input) e is = absurd (true≢false (ap is_refusal is))
-refusal_told Unread e is = absurd (true≢false (ap is_refusal is))
-
 -- ---- a write
 
 puts-behind : (batch : List Operation) (old mid new : StoreView) → KeepsMap old mid → Puts batch mid new → Puts batch old new
@@ -79,7 +44,7 @@ puts-behind batch old mid new keeps puts = puts ∙ ap (λ (m : Map). apply m ba
 pub adds-puts : (batch : List Operation) (old new : StoreView) → Adds batch old new → Puts batch old new
 adds-puts batch old new (number, w) = by w.ends
   where
-    by : EndsWith None batch w.kept (Number number) new → Puts batch old new
+    by : EndsWith None batch old w.kept (Number number) new → Puts batch old new
     by (inl (reply, serves, is)) =
         puts-behind batch old w.kept new w.upkeep.keeps
         (puts-accepted batch number w.kept new (subst (λ (r : Reply). Serves w.kept (Commit batch) r new) (number_told reply number is) serves))
@@ -89,7 +54,7 @@ adds-puts batch old new (number, w) = by w.ends
 pub adds_not-keeps : (batch : List Operation) (e : Refusal) (old new : StoreView) → AddsNot batch old e new → KeepsMap old new
 adds_not-keeps batch e old new w = onward old w.kept new w.upkeep.keeps (by w.ends)
   where
-    by : EndsWith None batch w.kept (Refused e) new → KeepsMap w.kept new
+    by : EndsWith None batch old w.kept (Refused e) new → KeepsMap w.kept new
     by (inl (reply, serves, is)) =
         let told = refusal_told reply e is in
         keeps-refused batch told.0 w.kept new (subst (λ (r : Reply). Serves w.kept (Commit batch) r new) told.1 serves)

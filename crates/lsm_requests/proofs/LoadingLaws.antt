@@ -1,7 +1,7 @@
 -- How a loading goes on.
 use Rattle.std.proofs.Common.{◌≡◌, ◌∙◌, ◌+◌, ℕ, zero, suc, Bool, true, false, true≢false, List, [], ◌∷◌, ◌++◌, length, Option, Some, None, Result, Ok, Err, is_some, ◌&&◌, inl, inr, refl, sym, ap, subst, append_assoc, append-nil, length-append}
 use Rattle.std.specs.Prelude.{IfErr, IfOk, IfSome}
-use Rattle.lsm_codec.specs.Map.{Map, Operation, apply, changed}
+use Rattle.lsm_codec.specs.Map.{Map, Operation, apply}
 use Rattle.lsm_device.specs.declared.refusal.Refusal.{Refusal}
 use Rattle.lsm_language.specs.declared.fault.Fault.{Fault}
 use Rattle.lsm_language.specs.declared.fault.Fault.TheVariants.{Failed, Input as InputFault, Output as OutputFault, Refused, Unopened, Usage}
@@ -15,6 +15,7 @@ use Rattle.lsm_machine.specs.RecoveryPoints.{present_map}
 use Rattle.lsm_store.specs.Serving.{Serves}
 use Rattle.lsm_machine.specs.State.{State}
 use Rattle.lsm_upkeep.specs.Keeping.{KeepsMap}
+use Rattle.lsm_upkeep.proofs.Told.{apply-append}
 use Rattle.lsm_requests.specs.declared.loading.Loading.{Loading}
 use Rattle.lsm_requests.specs.declared.loading.Loaded.{Loaded}
 use Rattle.lsm_requests.specs.declared.answer.Answer.{Answer}
@@ -26,12 +27,6 @@ use Rattle.lsm_requests.specs.Loading.{AddsWaiting, AreFirstRows, ArePut, AreRea
 use Rattle.lsm_requests.proofs.CommittingLaws.{adds-puts, adds_not-keeps}
 use Rattle.lsm_requests.proofs.RefusedLaws.{not_opened, opened_refused, refuses, told_as}
 
--- ---- maps
-
-pub apply-append : (m : Map) (first second : List Operation) → apply (apply m first) second ≡ apply m (first ++ second)
-apply-append m [] second = refl
-apply-append m (operation ∷ first) second = apply-append (changed m operation.key operation.value) first second
-
 -- ---- batches
 
 -- rows that were put are in the map
@@ -39,7 +34,7 @@ pub puts_rows-map : (batches : ℕ) (rows : List Operation) (old new : StoreView
 puts_rows-map zero rows old new (none, same) = ap map_in same ∙ ap (apply (map_in old)) (sym none)
 puts_rows-map (suc batches) rows old new (earlier, batch, between, is, puts, adds) =
     adds-puts batch between new adds ∙ ap (λ (m : Map). apply m batch) (puts_rows-map batches earlier old between puts)
-    ∙ apply-append (map_in old) earlier batch ∙ ap (apply (map_in old)) (sym is)
+    ∙ sym (apply-append (map_in old) earlier batch) ∙ ap (apply (map_in old)) (sym is)
 
 -- ---- those that wait are committed
 

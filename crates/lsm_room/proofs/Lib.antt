@@ -1,2 +1,12 @@
+pub mod KeptBlocks
+pub mod Enough
+pub mod Filling
+pub mod Growths
+pub mod Images
+pub mod Inputs
+pub mod Keeping
+pub mod Making
+pub mod Measures
+pub mod Raising
 pub mod Rooms
 pub mod TrialGaps

@@ -2,13 +2,14 @@
 use Rattle.std.proofs.Common.{◌≡◌, ℕ, ◌+◌, ◌<◌, ◌≤◌, List, [], ◌∷◌, ◌++◌, length, sym, ap, ◌∙◌, arith, sum}
 use Prim.Native.Nat.{min}
 use Rattle.std.specs.List.{AllByRecursion}
-use Rattle.std.proofs.lemmas.List.Sums.{sum_by-cons}
+use Rattle.std.proofs.lemmas.List.Sums.{sum_by-append, sum_by-cons}
 use Rattle.std.proofs.lemmas.List.{length-append}
 use Rattle.lsm_extent.specs.Area.{Area}
 use Rattle.lsm_extent.specs.Gaps.{SurelyFit, FindRoom}
 use Rattle.lsm_levels.specs.Tables.{Table}
 use Rattle.lsm_levels.specs.Levels.{Levels, all_tables}
 use Rattle.lsm_levels.specs.Moving.{table_count}
+use Rattle.lsm_policy.specs.Room.{blocks_of, taken_blocks}
 use Rattle.lsm_levels.proofs.OldestRuns.{tables_append}
 
 -- sizes of so many blocks in all have no more each
@@ -39,4 +40,12 @@ pub all_counted : (levels : Levels) (runs deeper : List (List Table)) → runs �
 all_counted levels runs deeper runs_are deeper_are limit first both first_is both_is =
     let whole : length (all_tables runs) + length (all_tables deeper) ≡ table_count levels =
     sym (length-append (all_tables runs) (all_tables deeper)) ∙ ap length (sym (tables_append runs deeper)) ∙ (λ i. length (all_tables (runs_are i ++ deeper_are i)))
+    in omega (arith, first_is, both_is, whole)
+
+-- so many blocks are in all tables, up to a limit
+pub all_taken : (levels : Levels) (runs deeper : List (List Table)) → runs ≡ levels.runs → deeper ≡ levels.deeper → (limit first both : ℕ)
+    → first ≡ min (0 + blocks_of (all_tables runs)) limit → both ≡ min (first + blocks_of (all_tables deeper)) limit → both ≡ min (taken_blocks levels) limit
+all_taken levels runs deeper runs_are deeper_are limit first both first_is both_is =
+    let whole : blocks_of (all_tables runs) + blocks_of (all_tables deeper) ≡ taken_blocks levels =
+    sym (sum_by-append (λ t. t.blocks) (all_tables runs) (all_tables deeper)) ∙ ap blocks_of (sym (tables_append runs deeper)) ∙ (λ i. blocks_of (all_tables (runs_are i ++ deeper_are i)))
     in omega (arith, first_is, both_is, whole)

@@ -1,2 +1,5 @@
+pub mod Crowding
 pub mod Gaps
+pub mod Measuring
+pub mod Outputs
 pub mod Taking

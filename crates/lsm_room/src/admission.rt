@@ -1,5 +1,12 @@
 //! Whether a batch may be taken: what it makes of its keys will find room, in a flush and in the last level.
 
+ghost use Rattle.std.specs.Prelude.{◌≡◌, ◌≤◌, ◌<◌, ◌+◌, ◌*◌, ◌/◌, true, false};
+ghost use Rattle.std.specs.Int.{div_ceil};
+ghost use Rattle.lsm_extent.specs.Area.{free_count};
+ghost use Rattle.lsm_levels.specs.Moving.{table_count};
+ghost use Rattle.lsm_policy.specs.Room.{taken_blocks};
+ghost use Rattle.lsm_room.specs.Crowding.{IsCrowded, blocks_for};
+
 use crate::bounds::{Sizes, blocks_with, filled, packed, tables_of};
 use crate::standing::Standing;
 use lsm_levels::HeldJobs;
@@ -32,12 +39,16 @@ pub struct Reserve {
 
 impl Reserve {
     /// Those of an area of so many blocks.
-    pub fn of(area: u64) -> Reserve {
+    pub fn of(area: u64) -> Reserve
+        ensures { result.area ≡ area }
+    {
         Reserve { area }
     }
 
     /// What steps want: one table is cut, or one goes down.
-    pub fn for_steps(self) -> u64 {
+    pub fn for_steps(self) -> u64
+        ensures { result ≤ 200 }
+    {
         if self.area < 400 {
             100
         } else if self.area < 1_000 {
@@ -48,14 +59,18 @@ impl Reserve {
     }
 
     /// What puts leave: for steps, and for deletes that come after them; and at least a sixth of the area.
-    pub fn for_puts(self) -> u64 {
+    pub fn for_puts(self) -> u64
+        ensures { result ≤ 280 + self.area / 6 }
+    {
         self.for_steps()
             .saturating_add(DELETE_BLOCKS)
             .max(self.area / 6)
     }
 
     /// What is free besides behind steps that are taken for puts, so that each few puts don't ask for them again.
-    pub fn to_spare(self) -> u64 {
+    pub fn to_spare(self) -> u64
+        ensures { result ≡ self.area / 24 }
+    {
         self.area / 24
     }
 
@@ -105,7 +120,10 @@ pub fn flush_blocks(memory: MemSize) -> u64 {
 }
 
 /// What is in memory, where a live snapshot keeps each delete.
-fn counted(memory: MemSize, live: bool) -> MemSize {
+fn counted(memory: MemSize, live: bool) -> MemSize
+    ensures bytes { result.bytes ≡ memory.bytes }
+    ensures entries { result.entries ≡ memory.entries }
+{
     if !live {
         return memory;
     }
@@ -124,6 +142,11 @@ fn charge_of(memory: MemSize) -> u64 {
         .saturating_add(memory.large)
 }
 
+// Whether memory is small enough for its deletes, and so that more may come into it.
+fn may_join(reserve: Reserve, memory: MemSize) -> bool {
+    delete_blocks(memory) <= DELETE_BLOCKS && is_small(reserve, memory)
+}
+
 /// Whether memory is small enough that more may come into it, where there is some.
 pub fn is_small(reserve: Reserve, memory: MemSize) -> bool {
     delete_blocks(memory) <= reserve.deletes() && flush_blocks(memory) <= reserve.flush()
@@ -131,20 +154,21 @@ pub fn is_small(reserve: Reserve, memory: MemSize) -> bool {
 
 impl<'a, H: HeldJobs, A: Allocator> Standing<'a, H, A> {
     /// The blocks that the store keeps free.
-    pub fn reserve(&self) -> Reserve {
+    pub fn reserve(&self) -> Reserve
+        ensures { result.area ≤ taken_blocks self.now.levels.now + free_count self.now.extents.now }
+    {
         Reserve::of(self.area())
     }
 
     /// Whether memory may become so much, of which `before` was there: its flush will find room, and so will what it makes of the last
-    /// level. Of deletes alone less is asked.
-    pub fn admits(&self, before: MemSize, after: MemSize, puts: bool) -> bool {
+    /// level. Of deletes alone less is asked. Where nothing was there, puts are taken unless the store is crowded.
+    pub fn admits(&self, before: MemSize, after: MemSize, puts: bool) -> bool
+        ensures crowded { result ≡ false → before.entries ≡ 0 → puts ≡ true → IsCrowded (taken_blocks self.now.levels.now) (free_count self.now.extents.now) (table_count self.now.levels.now) (blocks_for after.bytes after.entries) }
+    {
         let memory = counted(after, self.live);
         let taken = self.taken();
         let reserve = Reserve::of(taken.saturating_add(self.free()));
-        if delete_blocks(memory) > DELETE_BLOCKS {
-            return false;
-        }
-        if before.entries > 0 && !is_small(reserve, memory) {
+        if before.entries > 0 && !may_join(reserve, memory) {
             return false;
         }
         if !puts && charge_of(memory) == 0 {
@@ -182,40 +206,51 @@ impl<'a, H: HeldJobs, A: Allocator> Standing<'a, H, A> {
     }
 
     /// Whether besides the reserve of puts some blocks are free to spare.
-    pub fn has_spare(&self) -> bool {
+    pub fn has_spare(&self) -> bool
+        ensures { result ≡ false → IsCrowded (taken_blocks self.now.levels.now) (free_count self.now.extents.now) (table_count self.now.levels.now) 0 }
+    {
         let reserve = self.reserve();
         self.free() >= reserve.for_puts().saturating_add(reserve.to_spare())
     }
 
     fn admits_deletes(&self, memory: MemSize, reserve: Reserve) -> bool {
-        delete_blocks(memory).saturating_add(reserve.for_steps()) <= self.free()
+        let blocks = delete_blocks(memory);
+        blocks <= DELETE_BLOCKS
+            && blocks.saturating_add(reserve.for_steps()) <= self.free()
             && self.tables() <= TABLES_FOR_DELETES
             && self.levels.runs().len() < RUNS_FOR_DELETES
     }
 
     // Whether so many blocks are left where all that stands and memory has come to the last level.
-    fn leaves(&self, memory: MemSize, area: u64, blocks: u64) -> bool {
+    fn leaves(&self, memory: MemSize, area: u64, blocks: u64) -> bool
+        ensures { result ≡ false → 8 * free_count self.now.extents.now < 9 * taken_blocks self.now.levels.now + 18 * div_ceil memory.bytes 4094 + 33 * (table_count self.now.levels.now + memory.entries / 3200) + 83 + 8 * blocks }
+    {
         self.growth(memory, area).saturating_add(blocks) <= self.free()
     }
 
     // By how many blocks all tables and memory grow at most until all is in the last level.
-    fn growth(&self, memory: MemSize, area: u64) -> u64 {
-        let last = self.last_level_of(area);
-        let mut above = Sizes::none().with_runs(self.levels.runs());
-        let mut below = Sizes::none();
-        for (place, run) in self.levels.deeper().iter().enumerate() {
-            if place.saturating_add(1) == last {
-                below = below.with_all(run.tables());
-            } else {
-                above = above.with_all(run.tables());
-            }
+    fn growth(&self, memory: MemSize, area: u64) -> u64
+        ensures { 8 * result ≤ 9 * taken_blocks self.now.levels.now + 18 * div_ceil memory.bytes 4094 + 33 * (table_count self.now.levels.now + memory.entries / 3200) + 83 }
+    {
+        let above = Sizes::none().with_runs(self.levels.runs());
+        let deeper = self.levels.deeper();
+        let last = self.last_level_of(area).saturating_sub(1).min(deeper.len());
+        let (upper, lower) = deeper.split_at(last);
+        match lower.split_first() {
+            Some((level, deepest)) => grown(
+                above.with_runs(upper).with_runs(deepest),
+                Sizes::none().with_all(level.tables()),
+                memory,
+            ),
+            None => grown(above.with_runs(upper), Sizes::none(), memory),
         }
-        grown(above, below, memory)
     }
 }
 
 // By how many blocks tables above the last level, those in it and memory grow at most.
-fn grown(above: Sizes, below: Sizes, memory: MemSize) -> u64 {
+fn grown(above: Sizes, below: Sizes, memory: MemSize) -> u64
+    ensures { 8 * result ≤ 9 * (above.«data» + below.«data») + 18 * div_ceil memory.bytes 4094 + 33 * (above.entries / 3200 + memory.entries / 3200) + 83 }
+{
     let charge = charge_of(memory);
     if charge == 0 && above.entries == 0 {
         return 0;

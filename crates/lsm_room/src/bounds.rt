@@ -1,5 +1,17 @@
 //! How many blocks the outputs of a merge take at most.
 
+ghost use Rattle.std.specs.Prelude.{◌≡◌, ◌≤◌, ◌<◌, ◌⊎◌, ◌+◌, ◌-◌, ◌*◌, ◌/◌, ◌&&◌, length, not, false, if◌then◌else◌};
+ghost use Rattle.std.specs.Int.{div_ceil};
+ghost use Prim.Native.Nat.{min};
+ghost use Rattle.lsm_levels.specs.Levels.{all_tables};
+ghost use Rattle.lsm_levels.specs.Tables.{IsRun};
+ghost use Rattle.lsm_levels.specs.Held.{IsHeld};
+ghost use Rattle.lsm_levels.specs.Pick.{is_bottom, is_flush};
+ghost use Rattle.lsm_levels.specs.Picks.{job_of};
+ghost use Rattle.lsm_policy.specs.Room.{blocks_of as blocks_in};
+ghost use Rattle.lsm_room.specs.Outputs.{MakesAtMost};
+ghost use Rattle.lsm_room.specs.Measuring.{AreEnough, AreEnoughOver, AreMerged, AreRaised, HoldImages, IsRaised, most_images, no_sizes};
+
 use lsm_levels::{Levels, Pick, PlacedTable, Run};
 use std::alloc::Allocator;
 
@@ -53,7 +65,11 @@ pub(crate) struct Sizes {
 }
 
 impl Sizes {
-    pub fn none() -> Sizes {
+    pub fn none() -> Sizes
+        ensures entries { result.entries ≡ 0 }
+        ensures space { result.«data» ≡ 0 }
+        ensures sizes { result ≡ no_sizes }
+    {
         Sizes {
             entries: 0,
             deletes: 0,
@@ -63,9 +79,23 @@ impl Sizes {
         }
     }
 
+    /// How many entries come into an output at most, where it `drops` deletes.
+    fn kept(self, drops: bool) -> u64
+        ensures { result ≡ (if drops then self.entries - self.deletes else self.entries) }
+    {
+        if drops {
+            return self.entries.saturating_sub(self.deletes);
+        }
+        self.entries
+    }
+
     /// These and a table.
-    pub fn with<A: Allocator>(self, table: &PlacedTable<A>) -> Sizes {
-        let entries = u64::from(table.entries());
+    pub fn with<A: Allocator>(self, table: &PlacedTable<A>) -> Sizes
+        ensures entries { result.entries ≤ self.entries + 3200 }
+        ensures space { result.«data» ≤ self.«data» + table.now.blocks }
+        ensures raised { IsRaised self table.now result }
+    {
+        let entries = u64::from(table.table().entries());
         let deletes = u64::from(table.deletes());
         let data = data_of(table);
         let largest = table.largest_entry() as u64;
@@ -84,7 +114,11 @@ impl Sizes {
     }
 
     /// These and some tables.
-    pub fn with_all<A: Allocator>(self, tables: &[PlacedTable<A>]) -> Sizes {
+    pub fn with_all<A: Allocator>(self, tables: &[PlacedTable<A>]) -> Sizes
+        ensures entries { result.entries ≤ self.entries + 3200 * length tables.now }
+        ensures space { result.«data» ≤ self.«data» + blocks_in tables.now }
+        ensures raised { AreRaised self tables.now result }
+    {
         let mut sizes = self;
         for table in tables {
             sizes = sizes.with(table);
@@ -93,9 +127,13 @@ impl Sizes {
     }
 
     /// These and the tables of runs.
-    pub fn with_runs<A: Allocator>(self, runs: &[Run<A>]) -> Sizes {
+    pub fn with_runs<A: Allocator>(self, runs: &[Run<A>]) -> Sizes
+        ensures entries { result.entries ≤ self.entries + 3200 * length (all_tables runs.now) }
+        ensures space { result.«data» ≤ self.«data» + blocks_in (all_tables runs.now) }
+        ensures raised { AreRaised self (all_tables runs.now) result }
+    {
         let mut sizes = self;
-        for run in runs.iter() {
+        for run in runs {
             sizes = sizes.with_all(run.tables());
         }
         sizes
@@ -104,7 +142,14 @@ impl Sizes {
 
 /// The blocks of some tables.
 pub(crate) fn blocks_of<A: Allocator>(tables: &[PlacedTable<A>]) -> u64 {
-    let mut blocks: u64 = 0;
+    blocks_with_those(0, tables)
+}
+
+/// Some blocks and those of some tables.
+pub(crate) fn blocks_with_those<A: Allocator>(before: u64, tables: &[PlacedTable<A>]) -> u64
+    ensures { result ≡ min (before + blocks_in tables.now) 18446744073709551615 }
+{
+    let mut blocks = before;
     for table in tables {
         blocks = blocks.saturating_add(u64::from(table.blocks()));
     }
@@ -112,40 +157,57 @@ pub(crate) fn blocks_of<A: Allocator>(tables: &[PlacedTable<A>]) -> u64 {
 }
 
 /// The data blocks of a table.
-pub(crate) fn data_of<A: Allocator>(table: &PlacedTable<A>) -> u64 {
+pub(crate) fn data_of<A: Allocator>(table: &PlacedTable<A>) -> u64
+    ensures within { result ≤ table.now.blocks }
+    ensures count { result ≡ length table.now.outline.edges }
+{
     table.table().data_blocks() as u64
 }
 
 /// The blocks of images of so many data blocks, each with an index, a filter and a footer.
-pub(crate) fn blocks_with(data: u64, tables: u64) -> u64 {
+pub(crate) fn blocks_with(data: u64, tables: u64) -> u64
+    ensures most { result ≤ «data» + 264 * «data» / 4096 + 1 + 3 * tables }
+    ensures least { result < 4294967296 → «data» + (div_ceil (264 * «data») 4096 + 3 * tables) ≤ result }
+{
     let index = data.saturating_mul(INDEX_BYTES).div_ceil(BLOCK);
     data.saturating_add(index)
         .saturating_add(tables.saturating_mul(3))
 }
 
 /// How many images there are at most of so many data blocks and entries.
-pub(crate) fn tables_of(data: u64, entries: u64) -> u64 {
+pub(crate) fn tables_of(data: u64, entries: u64) -> u64
+    ensures { result ≤ «data» / 64 + entries / 3200 + 1 }
+{
     (data / MOST_DATA)
         .saturating_add(entries / MOST_ENTRIES)
         .saturating_add(1)
 }
 
 /// The data blocks that entries take at most in any division, where they take so many in one, and none has more bytes.
-pub(crate) fn packed(data: u64, largest: u64) -> u64 {
+pub(crate) fn packed(data: u64, largest: u64) -> u64
+    ensures most { result ≤ 2 * «data» + 1 }
+    ensures small { result < 4294967296 → largest ≤ 2047 → (4094 * «data») / (4095 - largest) + 1 ≤ result }
+    ensures any { result < 4294967296 → 2047 < largest → 2 * «data» + 1 ≤ result }
+    ensures some { 0 < result }
+{
     if largest > HALF {
         return data.saturating_mul(2).saturating_add(1);
     }
     let bytes = data.saturating_mul(BLOCK - 2);
-    let least = (BLOCK - 1).saturating_sub(largest);
-    bytes
-        .checked_div(least)
-        .unwrap_or(u64::MAX)
-        .saturating_add(1)
+    let least = BLOCK - 1 - largest;
+    (bytes / least).saturating_add(1)
 }
 
 /// The data blocks that so many entries take at most, where none has more bytes: each block but the last has as many of them as of the
 /// largest have room.
-pub(crate) fn filled(entries: u64, largest: u64) -> u64 {
+pub(crate) fn filled(entries: u64, largest: u64) -> u64
+    ensures small { result < 4294967296 → 0 < largest → largest ≤ 4094 → entries / (4094 / largest) + 1 ≤ result }
+    ensures any { result < 4294967296 → 4094 < largest → entries + 1 ≤ result }
+    ensures some { 0 < result }
+{
+    if largest > BLOCK - 2 {
+        return entries.saturating_add(2);
+    }
     let each = (BLOCK - 2).checked_div(largest).unwrap_or(1);
     entries
         .checked_div(each)
@@ -153,9 +215,23 @@ pub(crate) fn filled(entries: u64, largest: u64) -> u64 {
         .saturating_add(2)
 }
 
+/// How many images a merge makes at most of so many data blocks and entries. Where a snapshot is live, a table may end up to 33 entries
+/// before it is full, since those of a key stay together.
+fn images_of(data: u64, entries: u64, live: bool) -> u64
+    ensures { result < 4294967296 → most_images live «data» entries ≤ result }
+{
+    let (least_data, least_entries) = if live { (31, 3_168) } else { (63, 3_200) };
+    let by_entries = entries / least_entries;
+    (data.saturating_add(by_entries) / least_data)
+        .saturating_add(by_entries)
+        .saturating_add(1)
+}
+
 /// The outputs of so many data blocks and entries.
-fn outputs_with(data: u64, entries: u64) -> Outputs {
-    let tables = tables_of(data, entries);
+fn outputs_with(data: u64, entries: u64, live: bool) -> Outputs
+    ensures { HoldImages live «data» entries result }
+{
+    let tables = images_of(data, entries, live);
     let data = data.saturating_add(tables.saturating_sub(1));
     Outputs {
         blocks: blocks_with(data, tables),
@@ -164,83 +240,109 @@ fn outputs_with(data: u64, entries: u64) -> Outputs {
     }
 }
 
-/// The outputs of a merge of upper tables with lower ones. Where it `drops` deletes, none of the upper ones comes into an output.
-pub(crate) fn merged(upper: Sizes, lower: Sizes, drops: bool) -> Outputs {
-    let entries = upper.entries.saturating_add(lower.entries);
-    if lower.data == 0 {
-        return outputs_with(upper.data, entries);
-    }
-    mixed(upper, lower, drops)
+/// The outputs of a run that goes down alone, or is written anew.
+fn alone(sizes: Sizes, live: bool) -> Outputs
+    ensures { AreEnough live sizes result }
+{
+    outputs_with(sizes.data.max(1), sizes.entries, live)
 }
 
-// Those of a merge whose inputs lie in each other.
-fn mixed(upper: Sizes, lower: Sizes, drops: bool) -> Outputs {
-    let kept = if drops {
-        upper.entries.saturating_sub(upper.deletes)
-    } else {
-        upper.entries
-    };
-    let by_entries = lower.data.saturating_add(kept).saturating_add(upper.large);
+/// The outputs of a merge of a run with the run below it. Where it `drops` deletes, none of the upper ones comes into an output.
+pub(crate) fn merged(upper: Sizes, lower: Sizes, drops: bool, live: bool) -> Outputs
+    ensures alone { lower.«data» ≡ 0 → AreEnough live upper result }
+    ensures over { AreEnoughOver live drops upper lower result ⊎ (lower.«data» ≡ 0) }
+{
+    if lower.data == 0 {
+        return alone(upper, live);
+    }
+    mixed(upper, lower, drops, live)
+}
+
+// Those of upper tables over a run.
+fn mixed(upper: Sizes, lower: Sizes, drops: bool, live: bool) -> Outputs
+    ensures { AreEnoughOver live drops upper lower result }
+{
+    let kept = upper.kept(drops);
+    let by_entries = lower
+        .data
+        .max(1)
+        .saturating_add(kept)
+        .saturating_add(upper.large);
     let largest = upper.largest.max(lower.largest);
     let by_bytes = packed(upper.data.saturating_add(lower.data), largest);
     let by_count = filled(kept.saturating_add(lower.entries), largest);
     outputs_with(
         by_entries.min(by_bytes).min(by_count),
         upper.entries.saturating_add(lower.entries),
+        live,
     )
 }
 
-/// The outputs of one run that goes into an empty level: each table is at most a block larger.
-fn moved<A: Allocator>(tables: &[PlacedTable<A>]) -> Outputs {
-    let mut outputs = Outputs::none();
-    for table in tables {
-        let blocks = u64::from(table.blocks()).saturating_add(1);
-        outputs = Outputs {
-            blocks: outputs.blocks.saturating_add(blocks),
-            largest: outputs.largest.max(blocks),
-            tables: outputs.tables.saturating_add(1),
-        };
+// Those of a merge of runs of level 0.
+fn of_runs<A: Allocator>(
+    runs: &[Run<A>],
+    lower: &[PlacedTable<A>],
+    drops: bool,
+    live: bool,
+) -> Outputs
+    ensures { AreMerged live drops (all_tables runs.now) lower.now result }
+{
+    let upper = Sizes::none().with_runs(runs);
+    let below = Sizes::none().with_all(lower);
+    if let [run] = runs {
+        let _tables = run.tables();
+        return merged(upper, below, drops, live);
     }
-    outputs
+    mixed(upper, below, drops, live)
 }
 
-// Those of a merge of runs.
-fn of_runs<A: Allocator>(runs: &[Run<A>], lower: &[PlacedTable<A>], drops: bool) -> Outputs {
-    if let [run] = runs {
-        if lower.is_empty() {
-            return moved(run.tables());
-        }
-    }
-    let upper = Sizes::none().with_runs(runs);
-    mixed(upper, Sizes::none().with_all(lower), drops)
+// Whether a merge drops deletes: nothing lies below, and no snapshot is live.
+fn drops_deletes<A: Allocator>(levels: &Levels<A>, job: &Pick<'_, A>, live: bool) -> bool
+    ensures { result ≡ (not live && is_bottom levels.now (job_of job.now)) }
+{
+    !live && levels.is_bottom(job)
 }
 
 /// The outputs of a job, undivided, where a snapshot is live or none is.
-pub(crate) fn outputs_of<A: Allocator>(
-    levels: &Levels<A>,
-    job: &Pick<'_, A>,
-    live: bool,
-) -> Outputs {
-    let drops = !live && levels.is_bottom(job);
+pub(crate) fn outputs_of<A: Allocator>(levels: &Levels<A>, job: &Pick<'_, A>, live: bool) -> Outputs
+    ensures { result.blocks < 4294967296 → IsHeld levels.now (is_bottom levels.now (job_of job.now)) (job_of job.now) → is_flush (job_of job.now) ≡ false → MakesAtMost levels.now live (job_of job.now) result.blocks result.largest }
+{
+    let _runs = levels.runs();
+    let drops = drops_deletes(levels, job, live);
     match job {
-        Pick::Flush => outputs_with(0, 0),
-        Pick::OldestRuns { runs, lower } => of_runs(runs, lower, drops),
+        Pick::Flush => Outputs::none(),
+        Pick::OldestRuns { runs, lower } => of_runs(runs, lower, drops, live),
         Pick::OneTable { upper, lower, .. } => merged(
             Sizes::none().with(upper),
             Sizes::none().with_all(lower),
             drops,
+            live,
         ),
-        Pick::Neighbours { upper, lower, .. } => merged(
-            Sizes::none().with_all(upper),
-            Sizes::none().with_all(lower),
-            drops,
-        ),
-        Pick::Rewrite { tables, .. } => merged(
-            Sizes::none().with_all(tables),
-            Sizes::none(),
-            false,
-        ),
+        Pick::Neighbours {
+            level,
+            upper,
+            lower,
+        } => of_neighbours(*level, upper, lower, drops, live),
+        Pick::Rewrite { tables, .. } => alone(Sizes::none().with_all(tables), live),
     }
+}
+
+// Those of a merge of neighbours, which are a run in a level from 1 on.
+fn of_neighbours<A: Allocator>(
+    level: usize,
+    upper: &[PlacedTable<A>],
+    lower: &[PlacedTable<A>],
+    drops: bool,
+    live: bool,
+) -> Outputs
+    ensures { (IsRun upper.now ⊎ (level ≡ 0)) → AreMerged live drops upper.now lower.now result }
+{
+    let above = Sizes::none().with_all(upper);
+    let below = Sizes::none().with_all(lower);
+    if level > 0 {
+        return merged(above, below, drops, live);
+    }
+    mixed(above, below, drops, live)
 }
 
 /// The blocks that a job takes in.

@@ -1,5 +1,8 @@
 //! Tables that are moved so that free blocks come to lie side by side.
 
+ghost use Rattle.std.specs.Prelude.{◌≡◌, false, IfOk, IfSome};
+ghost use Rattle.lsm_room.specs.Taking.{goes_down};
+
 use crate::cutting::{blocks_of_piece, length_within, push_cut};
 use crate::gaps::{gaps_of, longest_below, longest_with, take_lowest};
 use crate::standing::Standing;
@@ -23,7 +26,9 @@ const MOST_TABLES: u64 = 1_000;
 pub(crate) fn move_of<H: HeldJobs, A: Allocator + Clone>(
     standing: &Standing<'_, H, A>,
     alloc: &A,
-) -> Result<Option<Step<A>>, AllocError> {
+) -> Result<Option<Step<A>>, AllocError>
+    ensures { IfOk result (λ step. IfSome step (λ s. goes_down s.choice ≡ false)) }
+{
     if let Some(table) = best_anywhere(standing, alloc)? {
         return Ok(Some(step_of(standing, alloc, table, u32::MAX)?));
     }
@@ -133,7 +138,9 @@ fn step_of<H: HeldJobs, A: Allocator + Clone>(
     alloc: &A,
     table: &PlacedTable<A>,
     below: u32,
-) -> Result<Step<A>, AllocError> {
+) -> Result<Step<A>, AllocError>
+    ensures { IfOk result (λ step. goes_down step.choice ≡ false) }
+{
     let mut gaps = gaps_of(alloc, standing.extents)?;
     let mut divisions: Vec<Key<A>, A> = Vec::new(alloc.clone()?);
     let mut left = table.table().edges();

@@ -1,13 +1,18 @@
 //! What a choice is made over.
 
-ghost use Rattle.std.specs.Prelude.{◌≡◌, ◌+◌, ◌≤◌, ◌<◌, true, length, is_some};
+ghost use Rattle.std.specs.Prelude.{◌≡◌, ◌+◌, ◌≤◌, ◌<◌, true, length, is_some, Some};
 ghost use Prim.Native.Nat.{min};
+ghost use Rattle.lsm_extent.specs.Area.{free_count};
 ghost use Rattle.lsm_extent.specs.Gaps.{SurelyFit};
 ghost use Rattle.lsm_levels.specs.Levels.{all_tables};
 ghost use Rattle.lsm_levels.specs.Moving.{table_count};
+ghost use Rattle.lsm_policy.specs.Room.{taken_blocks, blocks_of as blocks_in};
+ghost use Rattle.lsm_levels.specs.Choices.{chosen};
+ghost use Rattle.lsm_levels.specs.Pick.{Job};
+ghost use Rattle.lsm_room.specs.Outputs.{FindsRoom};
 ghost use Rattle.lsm_room.specs.Taking.{may_take};
 
-use crate::bounds::{Outputs, blocks_of, count_in, outputs_of, taken_in};
+use crate::bounds::{Outputs, blocks_with_those, count_in, outputs_of, taken_in};
 use lsm_extent::Extents;
 use lsm_levels::{Choice, HeldJobs, Levels, Run};
 use std::alloc::{Allocator, Global};
@@ -36,25 +41,24 @@ pub struct Standing<'a, H: HeldJobs, A: Allocator = Global> {
 
 impl<'a, H: HeldJobs, A: Allocator> Standing<'a, H, A> {
     /// The blocks of the data area.
-    pub(crate) fn area(&self) -> u64 {
+    pub(crate) fn area(&self) -> u64
+        ensures { result ≤ taken_blocks self.now.levels.now + free_count self.now.extents.now }
+    {
         self.taken().saturating_add(self.free())
     }
 
     /// The blocks that are free.
-    pub(crate) fn free(&self) -> u64 {
+    pub(crate) fn free(&self) -> u64
+        ensures { result ≡ free_count self.now.extents.now }
+    {
         u64::from(self.extents.free_blocks())
     }
 
     /// The blocks of all tables.
-    pub(crate) fn taken(&self) -> u64 {
-        let mut blocks: u64 = 0;
-        for run in self.levels.runs() {
-            blocks = blocks.saturating_add(blocks_of(run.tables()));
-        }
-        for run in self.levels.deeper() {
-            blocks = blocks.saturating_add(blocks_of(run.tables()));
-        }
-        blocks
+    pub(crate) fn taken(&self) -> u64
+        ensures { result ≡ min (taken_blocks self.now.levels.now) 18446744073709551615 }
+    {
+        blocks_of_runs(blocks_of_runs(0, self.levels.runs()), self.levels.deeper())
     }
 
     /// The number of all tables.
@@ -97,6 +101,7 @@ impl<'a, H: HeldJobs, A: Allocator> Standing<'a, H, A> {
     pub(crate) fn places(&self, outputs: Outputs, gone: u64) -> bool
         ensures room { result ≡ true → SurelyFit self.now.extents.now outputs.blocks outputs.largest }
         ensures number { result ≡ true → 0 < outputs.blocks → table_count self.now.levels.now + outputs.tables ≤ gone + 1024 }
+        ensures few { result ≡ true → outputs.blocks < 4294967296 }
     {
         outputs.blocks == 0 || (self.has_tables(outputs, gone) && self.has_room(outputs))
     }
@@ -111,8 +116,12 @@ impl<'a, H: HeldJobs, A: Allocator> Standing<'a, H, A> {
 
     // Whether images of so many blocks are sure to find room, whatever the size of each.
     fn has_room(&self, outputs: Outputs) -> bool
-        ensures { result ≡ true → SurelyFit self.now.extents.now outputs.blocks outputs.largest }
+        ensures room { result ≡ true → SurelyFit self.now.extents.now outputs.blocks outputs.largest }
+        ensures few { result ≡ true → outputs.blocks < 4294967296 }
     {
+        if outputs.blocks > u64::from(u32::MAX) {
+            return false;
+        }
         match u32::try_from(outputs.largest.min(outputs.blocks)) {
             Ok(largest) => self.extents.surely_places(outputs.blocks, largest),
             Err(_) => false,
@@ -134,10 +143,12 @@ impl<'a, H: HeldJobs, A: Allocator> Standing<'a, H, A> {
         Some(outputs_of(self.levels, &job, self.live))
     }
 
-    /// Whether a choice may be taken, and its outputs are sure to find room. Several tables take in so many blocks at most.
+    /// Whether a choice may be taken, and its outputs, undivided, are sure to find room. Several tables take in so many blocks at most.
     pub fn is_sure(&self, choice: Choice, most_blocks: u64) -> bool
-        ensures { result ≡ true → may_take self.now.levels.now (H.jobs self.now.held.now) choice ≡ true }
+        ensures may { result ≡ true → may_take self.now.levels.now (H.jobs self.now.held.now) choice ≡ true }
+        ensures room { result ≡ true → (job : Job) → chosen self.now.levels.now (H.jobs self.now.held.now) choice ≡ Some job → FindsRoom self.now.extents.now self.now.levels.now self.now.live job }
     {
+        let _runs = self.levels.runs();
         match self.levels.choose(choice, self.held) {
             Some(job) => {
                 taken_in(&job) <= most_blocks
@@ -146,6 +157,17 @@ impl<'a, H: HeldJobs, A: Allocator> Standing<'a, H, A> {
             None => false,
         }
     }
+}
+
+/// Some blocks and those of the tables of runs.
+fn blocks_of_runs<A: Allocator>(before: u64, runs: &[Run<A>]) -> u64
+    ensures { result ≡ min (before + blocks_in (all_tables runs.now)) 18446744073709551615 }
+{
+    let mut blocks = before;
+    for run in runs {
+        blocks = blocks_with_those(blocks, run.tables());
+    }
+    blocks
 }
 
 /// So many tables and those of runs.

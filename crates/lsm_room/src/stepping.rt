@@ -1,7 +1,7 @@
 //! The next step down, where room is scarce.
 
-ghost use Rattle.std.specs.Prelude.{◌≡◌, true, IfOk, IfSome};
-ghost use Rattle.lsm_room.specs.Taking.{may_take, MayFollow};
+ghost use Rattle.std.specs.Prelude.{◌≡◌, [], true, false, IfOk, IfSome};
+ghost use Rattle.lsm_room.specs.Taking.{may_take, goes_down, AdvisesRoom, IsPlaced, MayFollow};
 
 use crate::bounds::{Outputs, data_of};
 use crate::cutting::{cut_at, cuts_behind, parts_at, pieces_of};
@@ -35,7 +35,8 @@ pub enum Advice<A: Allocator = Global> {
 impl<A: Allocator + Clone> Step<A> {
     /// A merge with its result in one division.
     pub fn whole(alloc: &A, choice: Choice) -> Result<Step<A>, AllocError>
-        ensures { IfOk result (λ step. step.choice ≡ choice) }
+        ensures choice { IfOk result (λ step. step.choice ≡ choice) }
+        ensures whole { IfOk result (λ step. step.divisions.items ≡ []) }
     {
         let divisions = Vec::new(alloc.clone()?);
         Ok(Step { choice, divisions })
@@ -49,7 +50,8 @@ impl<'a, H: HeldJobs, A: Allocator + Clone> Standing<'a, H, A> {
     /// these that is: the table is cut at one of those it meets; or the larger of the two is halved. Else a table is moved so that free
     /// blocks come to lie side by side.
     pub fn step_down(&self, alloc: &A) -> Result<Advice<A>, AllocError>
-        ensures { IfOk result (λ advice. MayFollow self.now.levels.now (H.jobs self.now.held.now) advice) }
+        ensures may { IfOk result (λ advice. MayFollow self.now.levels.now (H.jobs self.now.held.now) advice) }
+        ensures room { IfOk result (λ advice. AdvisesRoom self.now.extents.now self.now.levels.now self.now.live (H.jobs self.now.held.now) advice) }
     {
         let last = self.last_level();
         Ok(self.step_down_to(alloc, last)?)
@@ -57,7 +59,8 @@ impl<'a, H: HeldJobs, A: Allocator + Clone> Standing<'a, H, A> {
 
     /// The next step of those that bring all tables into a level.
     pub fn step_down_to(&self, alloc: &A, last: usize) -> Result<Advice<A>, AllocError>
-        ensures { IfOk result (λ advice. MayFollow self.now.levels.now (H.jobs self.now.held.now) advice) }
+        ensures may { IfOk result (λ advice. MayFollow self.now.levels.now (H.jobs self.now.held.now) advice) }
+        ensures room { IfOk result (λ advice. AdvisesRoom self.now.extents.now self.now.levels.now self.now.live (H.jobs self.now.held.now) advice) }
     {
         let advice = self.next_step(alloc, last)?;
         Ok(self.unless_held(advice))
@@ -65,7 +68,8 @@ impl<'a, H: HeldJobs, A: Allocator + Clone> Standing<'a, H, A> {
 
     // A step, where no job that holds a slot stands in its way.
     fn if_free(&self, step: Step<A>) -> Option<Step<A>>
-        ensures { IfSome result (λ s. may_take self.now.levels.now (H.jobs self.now.held.now) s.choice ≡ true) }
+        ensures same { IfSome result (λ s. s ≡ step) }
+        ensures may { IfSome result (λ s. may_take self.now.levels.now (H.jobs self.now.held.now) s.choice ≡ true) }
     {
         if self.may_take(step.choice) {
             return Some(step);
@@ -75,7 +79,8 @@ impl<'a, H: HeldJobs, A: Allocator + Clone> Standing<'a, H, A> {
 
     // The advice, where no job that holds a slot stands in its way.
     fn unless_held(&self, advice: Advice<A>) -> Advice<A>
-        ensures { MayFollow self.now.levels.now (H.jobs self.now.held.now) result }
+        ensures may { MayFollow self.now.levels.now (H.jobs self.now.held.now) result }
+        ensures room { AdvisesRoom self.now.extents.now self.now.levels.now self.now.live (H.jobs self.now.held.now) advice → AdvisesRoom self.now.extents.now self.now.levels.now self.now.live (H.jobs self.now.held.now) result }
     {
         match advice {
             Advice::Take(step) => self.take_if_free(step),
@@ -85,7 +90,8 @@ impl<'a, H: HeldJobs, A: Allocator + Clone> Standing<'a, H, A> {
     }
 
     fn take_if_free(&self, step: Step<A>) -> Advice<A>
-        ensures { MayFollow self.now.levels.now (H.jobs self.now.held.now) result }
+        ensures may { MayFollow self.now.levels.now (H.jobs self.now.held.now) result }
+        ensures room { IsPlaced self.now.extents.now self.now.levels.now self.now.live (H.jobs self.now.held.now) step → AdvisesRoom self.now.extents.now self.now.levels.now self.now.live (H.jobs self.now.held.now) result }
     {
         let choice = step.choice;
         let wanted = Outputs::none();
@@ -96,22 +102,37 @@ impl<'a, H: HeldJobs, A: Allocator + Clone> Standing<'a, H, A> {
     }
 
     // The next step, whatever holds slots.
-    fn next_step(&self, alloc: &A, last: usize) -> Result<Advice<A>, AllocError> {
+    fn next_step(&self, alloc: &A, last: usize) -> Result<Advice<A>, AllocError>
+        ensures { IfOk result (λ advice. AdvisesRoom self.now.extents.now self.now.levels.now self.now.live (H.jobs self.now.held.now) advice) }
+    {
         match self.deepest(last) {
             0 => self.step_of_runs(alloc),
             level => self.step_of_level(alloc, level, last),
         }
     }
 
+    // A merge, undivided, if it is sure to find room.
+    fn if_sure(&self, alloc: &A, choice: Choice, most: u64) -> Result<Option<Advice<A>>, AllocError>
+        ensures { IfOk result (λ advice. IfSome advice (AdvisesRoom self.now.extents.now self.now.levels.now self.now.live (H.jobs self.now.held.now))) }
+    {
+        if !self.is_sure(choice, most) {
+            return Ok(None);
+        }
+        let step = Step::whole(alloc, choice)?;
+        Ok(Some(Advice::Take(step)))
+    }
+
     // The oldest runs, as many as are sure to find room.
-    fn step_of_runs(&self, alloc: &A) -> Result<Advice<A>, AllocError> {
+    fn step_of_runs(&self, alloc: &A) -> Result<Advice<A>, AllocError>
+        ensures { IfOk result (λ advice. AdvisesRoom self.now.extents.now self.now.levels.now self.now.live (H.jobs self.now.held.now) advice) }
+    {
         let all = self.levels.runs().len();
         for newer in 0..all {
             let count = all - newer;
             let choice = Choice::OldestRuns { count };
             let most = if count > 1 { MOST_BLOCKS } else { u64::MAX };
-            if self.is_sure(choice, most) {
-                return Ok(Advice::Take(Step::whole(alloc, choice)?));
+            if let Some(advice) = self.if_sure(alloc, choice, most)? {
+                return Ok(advice);
             }
         }
         let oldest = Choice::OldestRuns { count: 1 };
@@ -122,7 +143,9 @@ impl<'a, H: HeldJobs, A: Allocator + Clone> Standing<'a, H, A> {
     }
 
     // A step of the tables of a level from 1 to 3.
-    fn step_of_level(&self, alloc: &A, level: usize, last: usize) -> Result<Advice<A>, AllocError> {
+    fn step_of_level(&self, alloc: &A, level: usize, last: usize) -> Result<Advice<A>, AllocError>
+        ensures { IfOk result (λ advice. AdvisesRoom self.now.extents.now self.now.levels.now self.now.live (H.jobs self.now.held.now) advice) }
+    {
         let deeper = self.levels.deeper();
         let (Some(run), Some(next)) = (deeper.get(level.saturating_sub(1)), deeper.get(level))
         else {
@@ -130,7 +153,9 @@ impl<'a, H: HeldJobs, A: Allocator + Clone> Standing<'a, H, A> {
         };
         let drops = !self.live && level.saturating_add(1) >= last;
         if let Some(choice) = cheapest(self, run.tables(), next.tables(), drops) {
-            return Ok(Advice::Take(Step::whole(alloc, choice)?));
+            if let Some(advice) = self.if_sure(alloc, choice, u64::MAX)? {
+                return Ok(advice);
+            }
         }
         match fewest_met(run.tables(), next.tables()) {
             Some(table) => self.step_of_table(alloc, table, met(next.tables(), table)),
@@ -144,7 +169,9 @@ impl<'a, H: HeldJobs, A: Allocator + Clone> Standing<'a, H, A> {
         alloc: &A,
         table: &PlacedTable<A>,
         below: &[PlacedTable<A>],
-    ) -> Result<Advice<A>, AllocError> {
+    ) -> Result<Advice<A>, AllocError>
+        ensures { IfOk result (λ advice. AdvisesRoom self.now.extents.now self.now.levels.now self.now.live (H.jobs self.now.held.now) advice) }
+    {
         let (cut, divisions, parts) = match below {
             [lower] if data_of(lower) >= data_of(table) => halved(alloc, lower)?,
             [] | [_] => halved(alloc, table)?,
@@ -165,12 +192,9 @@ impl<'a, H: HeldJobs, A: Allocator + Clone> Standing<'a, H, A> {
     }
 
     // A step that makes room for a choice, where so much is wanted.
-    fn make_room(
-        &self,
-        alloc: &A,
-        choice: Choice,
-        wanted: Outputs,
-    ) -> Result<Advice<A>, AllocError> {
+    fn make_room(&self, alloc: &A, choice: Choice, wanted: Outputs) -> Result<Advice<A>, AllocError>
+        ensures { IfOk result (λ advice. AdvisesRoom self.now.extents.now self.now.levels.now self.now.live (H.jobs self.now.held.now) advice) }
+    {
         match move_of(self, alloc)? {
             Some(step) => Ok(Advice::Take(step)),
             None => Ok(Advice::Lacks { choice, wanted }),
@@ -202,7 +226,9 @@ impl<'a, H: HeldJobs, A: Allocator + Clone> Standing<'a, H, A> {
 }
 
 /// The rewriting of a table.
-pub(crate) fn rewrite_of<A: Allocator>(table: &PlacedTable<A>) -> Choice {
+pub(crate) fn rewrite_of<A: Allocator>(table: &PlacedTable<A>) -> Choice
+    ensures { goes_down result ≡ false }
+{
     Choice::Rewrite {
         first: table.number(),
         last: table.number(),

@@ -122,7 +122,10 @@ fn cheapest_from<H: HeldJobs, A: Allocator>(
         if i > 0 && next.own.saturating_add(next.below) > MOST_BLOCKS {
             return found;
         }
-        if !standing.places(merged(next.upper, next.lower, drops), next.count) {
+        if !standing.places(
+            merged(next.upper, next.lower, drops, standing.live),
+            next.count,
+        ) {
             return found;
         }
         found = cheaper(found, next);

@@ -97,7 +97,7 @@ written guards batch told outcome tell before after w = by w.writes.ends
     upkeep : Passes before w.writes.kept
     upkeep = passes before w.writes.kept w.writes.upkeep
 
-    by : EndsWith guards batch w.writes.kept w.reply after → IsLine (AreFor (asks_call (commit_of guards batch)) outcome) before after
+    by : EndsWith guards batch before w.writes.kept w.reply after → IsLine (AreFor (asks_call (commit_of guards batch)) outcome) before after
     by (inl (reply, serves, is)) =
         called (commit_of guards batch) told outcome tell before w.writes.kept after upkeep (reply_in (commit_of guards batch) after.state reply) serves
         (w.is ∙ ap as_told is ∙ told_commit guards batch after.state reply)

@@ -4,3 +4,5 @@ pub mod Jobs
 pub mod KeptMaps
 pub mod Upkept
 pub mod WritingLaws
+pub mod RoomLaws
+pub mod Told

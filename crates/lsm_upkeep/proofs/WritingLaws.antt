@@ -9,7 +9,7 @@ use Rattle.lsm_machine.specs.Calls.{Reply, Refused, Number, Done, Value, Rows, G
 use Rattle.lsm_machine.specs.State.{LiveSnapshot}
 use Rattle.lsm_upkeep.specs.Flushing.{IsMadeReady}
 use Rattle.lsm_upkeep.specs.Steps.{IsUpkept}
-use Rattle.lsm_upkeep.specs.Writing.{IsServed, Writes, commit_of, has_puts, wants_room, without_log_full}
+use Rattle.lsm_upkeep.specs.Writing.{FindsNoRoom, IsServed, Writes, commit_of, has_puts, wants_room, without_log_full}
 
 -- upkeep changes no snapshot, so that a batch wants room as before
 pub wants-upkept : (batch : List Operation) (old new : StoreView) → IsUpkept old new → wants_room batch old.state ≡ true → wants_room batch new.state ≡ true
@@ -44,11 +44,11 @@ module _ (guards : Option (List Condition)) (batch : List Operation) (old kept :
     room = λ full. true≢false (sym (ap is_full full) ∙ ap is_full is ∙ never_full reply);
   }
 
-  pub writes-refused : (refusal : Refusal) → refusal ≡ NoSpace → wants_room batch kept.state ≡ true → Writes guards batch old (Refused refusal) kept
-  writes-refused refusal is wants = record {
+  pub writes-refused : (refusal : Refusal) → refusal ≡ NoSpace → FindsNoRoom batch old kept → Writes guards batch old (Refused refusal) kept
+  writes-refused refusal is none = record {
     kept = kept;
     upkeep = upkeep;
     ready = ready;
-    ends = inr (ap (λ (r : Refusal). Refused r) is, wants, refl);
+    ends = inr (ap (λ (r : Refusal). Refused r) is, none, refl);
     room = λ full. true≢false (sym (ap is_full full) ∙ ap (λ (r : Refusal). is_full (Refused r)) is);
   }

@@ -40,6 +40,14 @@ pub record BeginsLog (old new : StoreView) : Type 0 where
   pub upkeep : IsUpkept old flushed
   pub opens : Rotates flushed new ⊎ (TriesNext old flushed × (new ≡ flushed))
 
+-- so it was, amid other upkeep
+pub record BeginsLogAmid (old new : StoreView) : Type 0 where
+  pub before : StoreView
+  pub begun : StoreView
+  pub upkeep : IsUpkept old before
+  pub begins : BeginsLog before begun
+  pub behind : IsUpkept begun new
+
 -- where the open log had no room, or none was open, so it was
 abbrev pub IsBegunAt : Reply → StoreView → StoreView → Type 0
 IsBegunAt (Number zero) old new = BeginsLog old new

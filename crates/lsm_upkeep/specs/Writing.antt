@@ -1,14 +1,20 @@
 -- What a commit does that finds room.
-use Rattle.std.specs.Prelude.{◌≡◌, ◌≢◌, ◌⊎◌, ◌||◌, Bool, true, is_some, nat_lt, length, List, Option, Some, None}
+use Rattle.std.specs.Prelude.{ℕ, ◌≡◌, ◌≢◌, ◌⊎◌, ◌||◌, Bool, true, is_some, nat_lt, length, sum_by, List, [], Option, Some, None}
 use Rattle.std.specs.List.{list_any}
 use Rattle.lsm_codec.specs.Guards.{Condition}
 use Rattle.lsm_codec.specs.Map.{Operation}
 use Rattle.lsm_device.specs.declared.refusal.Refusal.TheVariants.{LogFull, NoSpace}
+use Rattle.lsm_extent.specs.Area.{free_count}
+use Rattle.lsm_levels.specs.Moving.{table_count}
+use Rattle.lsm_mem.specs.Sizes.{bytes_of}
+use Rattle.lsm_policy.specs.Room.{taken_blocks}
+use Rattle.lsm_room.specs.Crowding.{IsCrowded, blocks_for}
 use Rattle.lsm_store.specs.Backing.{StoreView}
 use Rattle.lsm_machine.specs.Calls.{Call, Reply, Commit, CommitIf, Refused}
 use Rattle.lsm_store.specs.Serving.{Serves, reply_in}
 use Rattle.lsm_machine.specs.State.{State}
-use Rattle.lsm_upkeep.specs.Flushing.{IsMadeReady}
+use Rattle.lsm_machine.specs.Work.{WorkView}
+use Rattle.lsm_upkeep.specs.Flushing.{BeginsLogAmid, IsMadeReady}
 use Rattle.lsm_upkeep.specs.Steps.{IsUpkept}
 
 -- the call that commits a batch, where guards are given under them
@@ -33,16 +39,31 @@ abbrev pub without_log_full : Reply → Reply
 without_log_full (Refused LogFull) = Refused NoSpace
 without_log_full other = other
 
--- how a commit ended: the store served it, or it was refused for want of room in tables, which only a batch is that wants it
-abbrev pub EndsWith : Option (List Condition) → List Operation → StoreView → Reply → StoreView → Type 0
-EndsWith guards batch kept told new = ((reply : Reply) × IsServed (commit_of guards batch) kept reply new × (told ≡ without_log_full reply))
-    ⊎ ((told ≡ Refused NoSpace) × (wants_room batch kept.state ≡ true) × (new ≡ kept))
+-- Few blocks are free beside the tables for so many more, or the tables are many.
+abbrev pub IsCrowdedIn : WorkView → ℕ → Type 0
+IsCrowdedIn w blocks = IsCrowded (taken_blocks w.levels) (free_count w.area) (table_count w.levels) blocks
+
+-- with nothing in memory a store is crowded for a batch
+abbrev pub LacksRoom : List Operation → StoreView → Type 0
+LacksRoom batch s = s.work.memory ≡ [] → IsCrowdedIn s.work (blocks_for (sum_by bytes_of batch) (length batch))
+
+-- A batch that wants room found none: what was in memory was flushed, and a log begun, or that was tried at least, and then the store was
+-- crowded.
+pub record FindsNoRoom (batch : List Operation) (old kept : StoreView) : Type 0 where
+  pub wants : wants_room batch kept.state ≡ true
+  pub begins : BeginsLogAmid old kept
+  pub lacks : LacksRoom batch kept
+
+-- how a commit ended: the store served it, or it was refused since it found no room in tables
+abbrev pub EndsWith : Option (List Condition) → List Operation → StoreView → StoreView → Reply → StoreView → Type 0
+EndsWith guards batch old kept told new = ((reply : Reply) × IsServed (commit_of guards batch) kept reply new × (told ≡ without_log_full reply))
+    ⊎ ((told ≡ Refused NoSpace) × FindsNoRoom batch old kept × (new ≡ kept))
 
 -- The store was made ready for a commit, which is upkeep, and served it then; or there was no room for its batch, and that is told.
 pub record Writes (guards : Option (List Condition)) (batch : List Operation) (old : StoreView) (told : Reply) (new : StoreView) : Type 0 where
   pub kept : StoreView
   pub upkeep : IsUpkept old kept
   pub ready : IsMadeReady old kept
-  pub ends : EndsWith guards batch kept told new
+  pub ends : EndsWith guards batch old kept told new
   -- that the log is full is never told
   pub room : told ≢ Refused LogFull

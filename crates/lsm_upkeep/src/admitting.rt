@@ -3,9 +3,9 @@
 ghost use Rattle.std.specs.Prelude.{◌≡◌, true, IfErr};
 ghost use Rattle.lsm_device.specs.declared.refusal.Refusal.TheVariants.{NoSpace};
 ghost use Rattle.lsm_store.specs.Backing.{StoreView};
-ghost use Rattle.lsm_upkeep.specs.Flushing.{BeginsLog, IsMadeReady, OpensAnother, ReadiesLog};
+ghost use Rattle.lsm_upkeep.specs.Flushing.{BeginsLog, BeginsLogAmid, IsMadeReady, OpensAnother, ReadiesLog};
 ghost use Rattle.lsm_upkeep.specs.Steps.{IsUpkept};
-ghost use Rattle.lsm_upkeep.specs.Writing.{wants_room};
+ghost use Rattle.lsm_upkeep.specs.Writing.{FindsNoRoom, LacksRoom, wants_room};
 
 use crate::demand::Demand;
 use crate::flushing::{flush, is_waiting};
@@ -32,7 +32,7 @@ pub fn admit<D: Device>(
 ) -> Result<(), Refusal>
     ensures upkept { IsUpkept store.old store.new }
     ensures ready { IsMadeReady store.old store.new }
-    ensures refused { IfErr result (λ e. (e ≡ NoSpace) × (wants_room batch.now store.new.state ≡ true)) }
+    ensures refused { IfErr result (λ e. (e ≡ NoSpace) × FindsNoRoom batch.now store.old store.new) }
 {
     if store.stat().is_err() {
         return Ok(());
@@ -49,7 +49,7 @@ pub fn admit<D: Device>(
         return Ok(());
     }
     change_log(alloc, store, upkeep, has_log);
-    make_room(alloc, store, upkeep, Demand::of(store, batch))
+    make_room(alloc, store, upkeep, batch)
 }
 
 // Before so many bytes are written: opens a log where the open one has no room, before which a merge that was begun is finished, and goes on
@@ -115,7 +115,8 @@ fn next_log<D: Device>(alloc: Global, store: &mut Store<D>)
 
 // Opens another log, behind the merge that was begun. Where the one before had no room for a batch, that is the time to merge.
 fn change_log<D: Device>(alloc: Global, store: &mut Store<D>, upkeep: &mut Upkeep, had_room: bool)
-    ensures { IsUpkept store.old store.new }
+    ensures upkept { IsUpkept store.old store.new }
+    ensures begins { BeginsLogAmid store.old store.new }
 {
     upkeep.finish_begun(alloc, store);
     next_log(alloc, store);
@@ -124,25 +125,26 @@ fn change_log<D: Device>(alloc: Global, store: &mut Store<D>, upkeep: &mut Upkee
     }
 }
 
-// Finishes the merges that are due, and brings tables down, until what is demanded is admitted. It is refused where puts are not.
+// Finishes the merges that are due, and brings tables down, until a batch is admitted. It is refused where puts are not.
 fn make_room<D: Device>(
     alloc: Global,
     store: &mut Store<D>,
     upkeep: &mut Upkeep,
-    demand: Demand,
+    batch: &Batch,
 ) -> Result<(), Refusal>
     ensures upkept { IsUpkept store.old store.new }
-    ensures refused { IfErr result (λ e. (e ≡ NoSpace) × (demand.puts ≡ true)) }
+    ensures refused { IfErr result (λ e. (e ≡ NoSpace) × (wants_room batch.now store.new.state ≡ true) × LacksRoom batch.now store.new) }
 {
-    if demand.is_met(store) {
+    if Demand::of(store, batch).is_met(store) {
         return Ok(());
     }
     upkeep.finish(alloc, store);
+    let demand = Demand::of(store, batch);
     if demand.is_met(store) {
         return Ok(());
     }
     push(alloc, store, Some(demand));
-    if demand.puts && !(demand.is_met(store) && Demand::has_spare(store)) {
+    if Demand::of(store, batch).is_refused(store) {
         return Err(Refusal::NoSpace);
     }
     Ok(())

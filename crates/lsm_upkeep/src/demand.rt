@@ -1,7 +1,9 @@
 //! What a batch demands of a store.
 
-ghost use Rattle.std.specs.Prelude.{◌≡◌, ◌||◌};
-ghost use Rattle.lsm_upkeep.specs.Writing.{has_puts, wants_room};
+ghost use Rattle.std.specs.Prelude.{◌≡◌, ◌||◌, [], true, false};
+ghost use Rattle.lsm_mem.specs.Sizes.{GrowsBy, no_size};
+ghost use Rattle.lsm_room.specs.Crowding.{blocks_for};
+ghost use Rattle.lsm_upkeep.specs.Writing.{IsCrowdedIn, has_puts, wants_room};
 
 use crate::stepping::standing;
 use lsm_codec::{Batch, Operations};
@@ -26,7 +28,9 @@ pub struct Demand {
 impl Demand {
     /// That of a batch, of a store as it now is.
     pub(crate) fn of<D: Device>(store: &Store<D>, batch: &Batch) -> Demand
-        ensures { result.puts ≡ wants_room batch.now store.now.state }
+        ensures puts { result.puts ≡ wants_room batch.now store.now.state }
+        ensures before { store.now.work.memory ≡ [] → result.before ≡ no_size }
+        ensures after { store.now.work.memory ≡ [] → GrowsBy batch.now no_size result.after }
     {
         let before = store.memtable_size();
         Demand {
@@ -46,7 +50,9 @@ impl Demand {
     }
 
     /// Whether it is admitted.
-    pub(crate) fn is_met<D: Device>(&self, store: &Store<D>) -> bool {
+    pub(crate) fn is_met<D: Device>(&self, store: &Store<D>) -> bool
+        ensures { result ≡ false → self.now.before.entries ≡ 0 → self.now.puts ≡ true → IsCrowdedIn store.now.work (blocks_for self.now.after.bytes self.now.after.entries) }
+    {
         standing(store).admits(self.before, self.after, self.puts)
     }
 
@@ -84,8 +90,19 @@ impl Demand {
         standing(store).admits_easily(self.before, self.after, self.puts)
     }
 
+    /// Whether it is refused, where tables were brought down as far as they go: it puts values, and isn't admitted, or no blocks are to
+    /// spare.
+    pub(crate) fn is_refused<D: Device>(&self, store: &Store<D>) -> bool
+        ensures puts { result ≡ true → self.now.puts ≡ true }
+        ensures crowded { result ≡ true → self.now.before.entries ≡ 0 → IsCrowdedIn store.now.work (blocks_for self.now.after.bytes self.now.after.entries) }
+    {
+        self.puts && !(self.is_met(store) && Demand::has_spare(store))
+    }
+
     /// Whether blocks are free to spare.
-    pub(crate) fn has_spare<D: Device>(store: &Store<D>) -> bool {
+    fn has_spare<D: Device>(store: &Store<D>) -> bool
+        ensures { result ≡ false → IsCrowdedIn store.now.work 0 }
+    {
         standing(store).has_spare()
     }
 

@@ -37,14 +37,12 @@ enum Stage {
     End,
 }
 
-/// How far a goal was pursued. Its attempts are those that `admit`, `open_log`, `compact` and `compact_all` make, in their order.
+/// How far a goal was pursued. Its attempts are those that `admit`, `open_log`, `compact` and `compact_all` make, in their order. The caller
+/// takes the job of each, does its pieces, and tells how it went.
 ///
 /// ```
 /// let mut plan = Plan::to(Goal::Whole);
-/// let mut went = Went::On;
-/// while let Some(attempt) = plan.next(&store, went) {
-///     went = made(&mut store, attempt);
-/// }
+/// let first = plan.next(&store, Went::On);
 /// ```
 #[derive(Clone, Copy)]
 pub struct Plan {

@@ -1,7 +1,7 @@
 //! How far a store was made ready for a batch, for callers that do one piece of work at a time.
 
 ghost use Rattle.std.specs.Prelude.{◌≡◌, true};
-ghost use Rattle.lsm_upkeep.specs.Writing.{wants_room};
+ghost use Rattle.lsm_upkeep.specs.Writing.{LacksRoom, wants_room};
 ghost use Rattle.lsm_upkeep.specs.declared.readying.Verdict.TheVariants.{Refuse};
 
 use crate::allowing::Allowance;
@@ -65,9 +65,11 @@ impl AdmitState {
         }
     }
 
-    /// What is to be done next with a batch. It is refused only where it puts values, or a snapshot keeps what it deletes.
+    /// What is to be done next with a batch. It is refused only where it puts values, or a snapshot keeps what it deletes, and with nothing
+    /// in memory only in a store that is crowded.
     pub fn next<D: Device>(&mut self, store: &Store<D>, batch: &Batch) -> Verdict
         ensures refused { result ≡ Refuse → wants_room batch.now store.now.state ≡ true }
+        ensures crowded { result ≡ Refuse → LacksRoom batch.now store.now }
     {
         if store.stat().is_err() {
             return Verdict::Commit;
@@ -75,13 +77,13 @@ impl AdmitState {
         if let Some(goal) = self.log_goal(store) {
             return Verdict::After(goal);
         }
-        let demand = Demand::of(store, batch);
         match self.done {
             Done::Nothing | Done::Flush | Done::Log | Done::PushToJoin => self.with_log(
-                store, demand,
+                store,
+                Demand::of(store, batch),
             ),
-            Done::NextLog => self.with_next_log(store, demand),
-            Done::Push => behind_push(store, demand),
+            Done::NextLog => self.with_next_log(store, Demand::of(store, batch)),
+            Done::Push => behind_push(store, batch),
         }
     }
 
@@ -131,10 +133,11 @@ impl AdmitState {
     }
 }
 
-fn behind_push<D: Device>(store: &Store<D>, demand: Demand) -> Verdict
-    ensures { result ≡ Refuse → demand.puts ≡ true }
+fn behind_push<D: Device>(store: &Store<D>, batch: &Batch) -> Verdict
+    ensures refused { result ≡ Refuse → wants_room batch.now store.now.state ≡ true }
+    ensures crowded { result ≡ Refuse → LacksRoom batch.now store.now }
 {
-    if demand.puts && !(demand.is_met(store) && Demand::has_spare(store)) {
+    if Demand::of(store, batch).is_refused(store) {
         return Verdict::Refuse;
     }
     Verdict::Commit

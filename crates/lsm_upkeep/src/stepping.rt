@@ -1,5 +1,6 @@
 //! Steps by which tables go down where room is scarce.
 
+ghost use Rattle.std.specs.Prelude.{◌≡◌};
 ghost use Rattle.lsm_upkeep.specs.Steps.{IsUpkept};
 
 use crate::finishing::finish_step;
@@ -38,7 +39,10 @@ pub enum Way {
 }
 
 /// What stands in a store.
-pub(crate) fn standing<D: Device>(store: &Store<D>) -> Standing<'_, Slots> {
+pub(crate) fn standing<D: Device>(store: &Store<D>) -> Standing<'_, Slots>
+    ensures levels { result.levels.now ≡ store.now.work.levels }
+    ensures extents { result.extents.now ≡ store.now.work.area }
+{
     Standing {
         levels: store.levels(),
         extents: store.extents(),

@@ -22,7 +22,8 @@ use Rattle.lsm_store.specs.Working.{ServesStep}
 use Rattle.lsm_machine.specs.declared.asked.At.TheVariants.{Now}
 use Rattle.lsm_machine.proofs.Unrefused.{none_taken}
 use Rattle.lsm_upkeep.specs.Steps.{UpkeepSteps, IsUpkept}
-use Rattle.lsm_upkeep.specs.Writing.{EndsWith, Writes, without_log_full}
+use Rattle.lsm_upkeep.specs.Writing.{EndsWith, Writes}
+use Rattle.lsm_upkeep.proofs.Told.{is_number, last_map-append, number_told, refusal_told}
 use Rattle.work_queue.specs.Tasks.{IsQueue, Claimed, claimed_key, last_key, number_of, status, waiting_key}
 use Rattle.work_queue.specs.Deeds.{Adds, Claims, Deed, Does, Finishes, MayBeDone, batch_of}
 use Rattle.work_queue.specs.Committing.{Asks, CommitsUnder, HasCommitted, HasCommittedUnder, HoldsQueue, IsQuestion, IsRefused, IsRefusedUnder, map_in}
@@ -128,42 +129,7 @@ steps_backed (suc n) old new (mid, step, reply, is, serves, rest) backed = steps
 pub upkept_backed : (old new : StoreView) → IsUpkept old new → IsBacked old → IsBacked new
 upkept_backed old new u backed = steps_backed u.count old new u.steps backed
 
--- ---- what was told of a commit
-
-abbrev is_number : Reply → Bool
-is_number (Number n) = true
-is_number other = false
-
-number_told : (reply : Reply) (number : ℕ) → Number number ≡ without_log_full reply → reply ≡ Number number
-number_told (Number n) number is = sym is
-number_told (Refused LogFull) number is = absurd (true≢false (ap is_number is))
-number_told (Refused other) number is = absurd (true≢false (ap is_number is))
-number_told Done number is = absurd (true≢false (ap is_number is))
-number_told (Value v) number is = absurd (true≢false (ap is_number is))
-number_told (Rows page) number is = absurd (true≢false (ap is_number is))
-number_told (Given job) number is = absurd (true≢false (ap is_number is))
-number_told (Handed input) number is = absurd (true≢false (ap is_number is))
-number_told Unread number is = absurd (true≢false (ap is_number is))
-
-abbrev is_refusal : Reply → Bool
-is_refusal (Refused e) = true
-is_refusal other = false
-
-refusal_told : (reply : Reply) (e : Refusal) → Refused e ≡ without_log_full reply → (r : Refusal) × (reply ≡ Refused r)
-refusal_told (Refused r) e is = (r, refl)
-refusal_told (Number n) e is = absurd (true≢false (ap is_refusal is))
-refusal_told Done e is = absurd (true≢false (ap is_refusal is))
-refusal_told (Value v) e is = absurd (true≢false (ap is_refusal is))
-refusal_told (Rows page) e is = absurd (true≢false (ap is_refusal is))
-refusal_told (Given job) e is = absurd (true≢false (ap is_refusal is))
-refusal_told (Handed input) e is = absurd (true≢false (ap is_refusal is))
-refusal_told Unread e is = absurd (true≢false (ap is_refusal is))
-
 -- ---- a commit under a guard
-
-last_map-append : (m : Map) (later : List Map) (last : Map) → last_map m (later ++ last ∷ []) ≡ last
-last_map-append m [] last = refl
-last_map-append m (next ∷ later) last = last_map-append next later last
 
 not_false : (b : Bool) → not b ≡ false → b ≡ true
 not_false true h = refl
@@ -199,7 +165,7 @@ module _ (deed : Deed) (old new : StoreView) where
   pub committed : (number : ℕ) → CommitsUnder deed old (Number number) new → HoldsQueue old → MayBeDone (map_in old) deed × (map_in new ≡ apply (map_in old) (batch_of deed))
   committed number c h = by c.writes.ends
     where
-      by : EndsWith (Some (c.guard ∷ [])) (batch_of deed) c.writes.kept (Number number) new → MayBeDone (map_in old) deed × (map_in new ≡ apply (map_in old) (batch_of deed))
+      by : EndsWith (Some (c.guard ∷ [])) (batch_of deed) old c.writes.kept (Number number) new → MayBeDone (map_in old) deed × (map_in new ≡ apply (map_in old) (batch_of deed))
       by (inl (reply, serves, is)) =
           let kept = c.writes.kept in
           let call = CommitIf (c.guard ∷ []) (batch_of deed) in
@@ -216,7 +182,7 @@ module _ (deed : Deed) (old new : StoreView) where
   pub backs : (told : Reply) → CommitsUnder deed old told new → IsBacked old → IsBacked new
   backs told c backed = by c.writes.ends
     where
-      by : EndsWith (Some (c.guard ∷ [])) (batch_of deed) c.writes.kept told new → IsBacked new
+      by : EndsWith (Some (c.guard ∷ [])) (batch_of deed) old c.writes.kept told new → IsBacked new
       by (inl (reply, serves, is)) = serves.backed (upkept_backed old c.writes.kept c.writes.upkeep backed)
       by (inr (so, wants, same)) = subst IsBacked (sym same) (upkept_backed old c.writes.kept c.writes.upkeep backed)
 
@@ -224,7 +190,7 @@ module _ (deed : Deed) (old new : StoreView) where
   pub refused_same : (e : Refusal) → CommitsUnder deed old (Refused e) new → map_in new ≡ map_in old
   refused_same e c = by c.writes.ends ∙ c.writes.upkeep.keeps.map
     where
-      by : EndsWith (Some (c.guard ∷ [])) (batch_of deed) c.writes.kept (Refused e) new → map_in new ≡ map_in c.writes.kept
+      by : EndsWith (Some (c.guard ∷ [])) (batch_of deed) old c.writes.kept (Refused e) new → map_in new ≡ map_in c.writes.kept
       by (inl (reply, serves, is)) =
           let told = refusal_told reply e is in
           let call = CommitIf (c.guard ∷ []) (batch_of deed) in

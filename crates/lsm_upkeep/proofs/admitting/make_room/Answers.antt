@@ -8,5 +8,5 @@ returns-then-is_met-clause-upkept g c = stays c.args.store.now c.args.store.now 
 pub returns-clause-upkept : goal.returns-clause-upkept
 returns-clause-upkept g c = then c.args.store.now c.finish.new.store c.push.new.store c.finish.ensures c.push.ensures
 
-pub returns-then-not-has_spare-clause-upkept : goal.returns-then-not-has_spare-clause-upkept
-returns-then-not-has_spare-clause-upkept g c = then c.args.store.now c.finish.new.store c.push.new.store c.finish.ensures c.push.ensures
+pub returns-then-is_refused-clause-upkept : goal.returns-then-is_refused-clause-upkept
+returns-then-is_refused-clause-upkept g c = then c.args.store.now c.finish.new.store c.push.new.store c.finish.ensures c.push.ensures
