@@ -9,9 +9,13 @@ use Rattle.std_heap.proofs.Global.TheLaws as heap
 use Rattle.corwaphi_c.specs.contracts.kept.Kept as Inner
 use Rattle.corwaphi_c.proofs.kept.Kept.TheLaws as inner
 use Rattle.corwaphi_c.specs.contracts.handle.Handle as Handle
+use Rattle.corwaphi_c.specs.contracts.parts.Parts as Parts
 
 abbrev pub E : Bx
 E = record { row = Inner.the_row; laws = inner.the_row_laws; al = record { row = Heap.the_row; laws = heap.the_row_laws; g = ghosts; d = dict; drops = impl [] tnil dnil } }
 
 abbrev pub FromHandle : Slot 0
 FromHandle = plain (λ _. Handle.the_row)
+
+abbrev pub FromParts : Slot 0
+FromParts = plain (λ _. Parts.the_row Inner.the_row Heap.the_row ghosts)

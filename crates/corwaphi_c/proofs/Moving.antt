@@ -2,7 +2,8 @@
 use Rattle.std.proofs.Common.{◌≡◌, ◌∙◌, Option, Some, None, refl, sym, ap, subst}
 use Rattle.lsm_device.specs.Medium.{Medium}
 use Rattle.lsm_store.specs.Backing.{StoreView}
-use Rattle.corwaphi_c.specs.Calls.{IsMade, IsMoved}
+use Rattle.corwaphi_c.specs.Calls.{IsMade, IsMoved, store_in}
+use Rattle.corwaphi_c.specs.declared.kept.Kept.{Kept}
 
 pub moved : (store new : StoreView) (m : Medium) → new ≡ record store { device = m } → m.size ≡ store.device.size → IsMoved store new
 moved store new m on size = record {
@@ -33,3 +34,8 @@ made R s store left kept (x, goes, is) r (parked, back, put) = record {
   back = back;
   is = put;
 }
+
+-- what holds of a store that was kept and of the one that is, where a handle leads to the first, and the second was put into a slot
+pub handed : (Q : Option StoreView → Option StoreView → Type 0) (from old new : Kept) (slot : Option Kept) → old ≡ from → slot ≡ Some new → Q old.store new.store → Q from.store (store_in slot)
+handed Q from old new slot was put q =
+    subst (λ (k : Option Kept). Q from.store (store_in k)) (sym put) (subst (λ (k : Kept). Q k.store new.store) was q)

@@ -10,13 +10,15 @@ use Rattle.lsm_device.specs.declared.refusal.Refusal.TheVariants.{GuardFailed}
 use Rattle.lsm_store.specs.Backing.{StoreView, machine_of}
 use Rattle.lsm_store.specs.Stats.{stat_answer}
 use Rattle.lsm_store.specs.declared.stat.Stat.{Stat}
+use Rattle.lsm_machine.specs.Machine.{Machine}
 use Rattle.lsm_machine.specs.Calls.{Call, Reply, Number, Done, Value, Rows, Refused, Sync, SyncTo}
 use Rattle.lsm_store.specs.Serving.{Serves}
 use Rattle.lsm_machine.specs.declared.asked.At.{At}
 use Rattle.lsm_machine.specs.declared.asked.At.TheVariants.{Now, Snap}
-use Rattle.lsm_upkeep.specs.Writing.{IsServed, commit_of, wants_room, without_log_full}
+use Rattle.lsm_upkeep.specs.Writing.{IsServed, LacksRoom, commit_of, wants_room, without_log_full}
 use Rattle.corwaphi_c.specs.Pages.{IsPage}
 use Rattle.corwaphi_c.specs.declared.answers.PageTold.{PageTold}
+use Rattle.corwaphi_c.specs.declared.kept.Kept.{Kept}
 use Rattle.corwaphi_c.specs.declared.numbers.Numbers.{Numbers}
 
 -- ---- the store
@@ -25,6 +27,11 @@ use Rattle.corwaphi_c.specs.declared.numbers.Numbers.{Numbers}
 pub record IsMoved (old new : StoreView) : Type 0 where
   pub is : new ≡ record old { device = new.device }
   pub same_size : new.device.size ≡ old.device.size
+
+-- the store that is kept in a slot
+abbrev pub store_in : Option Kept → Option StoreView
+store_in (Some kept) = kept.store
+store_in None = None
 
 -- On the host's mapping this was made of a store, which was kept then.
 pub record IsMade (R : StoreView → StoreView → Type 0) (old : StoreView) (kept : Option StoreView) : Type 0 where
@@ -36,9 +43,13 @@ pub record IsMade (R : StoreView → StoreView → Type 0) (old : StoreView) (ke
   pub back : IsMoved left parked
   pub is : kept ≡ Some parked
 
--- This was made of the store that a handle leads to, whatever it is.
-abbrev pub Makes : (StoreView → StoreView → Type 0) → Option StoreView → Type 0
-Makes R store = (s : StoreView) → store ≡ Some s → (kept : Option StoreView) × IsMade R s kept
+-- This was made of the store that was kept, which is kept again.
+abbrev pub Makes : (StoreView → StoreView → Type 0) → Option StoreView → Option StoreView → Type 0
+Makes R store kept = (s : StoreView) → store ≡ Some s → IsMade R s kept
+
+-- So it was made with no mapping.
+abbrev pub MakesParked : (StoreView → StoreView → Type 0) → Option StoreView → Option StoreView → Type 0
+MakesParked R store kept = (s : StoreView) → store ≡ Some s → (left : StoreView) × R s left × (kept ≡ Some left)
 
 -- the map that a number names: the present one by the last of 64 bits, and else that of a snapshot
 abbrev pub at_of : ℕ → At
@@ -114,6 +125,10 @@ IsStat s answer numbers = MatchResult (stat_answer (machine_of s))
     (λ stat. (answer ≡ 0) × (numbers ≡ numbers_of stat s.state.points.synced))
     (λ e. answer ≡ number_of e)
 
+-- something was asked of a store: a stopped one refuses it
+abbrev pub IsAsked : Machine → ℕ → Type 0
+IsAsked m answer = MatchResult (stat_answer m) (λ _. answer ≡ 0) (λ e. answer ≡ number_of e)
+
 -- ---- calls
 
 -- the sync up to a number, or of all batches
@@ -126,35 +141,35 @@ abbrev pub Answers : Call → (Reply → Type 0) → StoreView → StoreView →
 Answers call told lent left = (reply : Reply) × Serves lent call reply left × told reply
 
 -- A batch was committed, where guards are given under them, and its reply told so; it was refused with NoSpace (13), which only one is
--- that wants room; or work comes first (64). LogFull is answered as NoSpace.
+-- that wants room, with nothing in memory only by a store that is crowded for it; or work comes first (64). LogFull is answered as NoSpace.
 abbrev pub Commits : Option (List Condition) → List Operation → (Reply → Type 0) → ℕ → StoreView → StoreView → Type 0
 Commits guards batch told answer lent left =
     ((reply : Reply) × IsServed (commit_of guards batch) lent reply left × told (without_log_full reply))
-    ⊎ (((answer ≡ 13) × (wants_room batch lent.state ≡ true) × (left ≡ lent))
+    ⊎ (((answer ≡ 13) × (wants_room batch lent.state ≡ true) × LacksRoom batch lent × (left ≡ lent))
     ⊎ ((answer ≡ 64) × (left ≡ lent)))
 
--- So it is of one operation, unless this refuses it, or there was no memory for its batch (1).
+-- So it is of one operation, unless this refuses it, or there was no memory for its batch (1): then the store is kept as it was.
 abbrev pub CommitsOneIn : Option Refusal → Operation → ℕ → ℕ → StoreView → Option StoreView → Type 0
-CommitsOneIn (Some e) operation answer number s kept = answer ≡ number_of e
-CommitsOneIn None operation answer number s kept = IsMade (Commits None (operation ∷ []) (λ reply. IsNumber reply answer number) answer) s kept ⊎ (answer ≡ 1)
+CommitsOneIn (Some e) operation answer number s kept = (answer ≡ number_of e) × (kept ≡ Some s)
+CommitsOneIn None operation answer number s kept = IsMade (Commits None (operation ∷ []) (λ reply. IsNumber reply answer number) answer) s kept ⊎ ((answer ≡ 1) × (kept ≡ Some s))
 
--- the same of the store that a handle leads to, whatever it is
-abbrev pub CommitsOne : Option Refusal → Operation → ℕ → ℕ → Option StoreView → Type 0
-CommitsOne refusal operation answer number store = (s : StoreView) → store ≡ Some s → (kept : Option StoreView) × CommitsOneIn refusal operation answer number s kept
+-- the same of the store that was kept
+abbrev pub CommitsOne : Option Refusal → Operation → ℕ → ℕ → Option StoreView → Option StoreView → Type 0
+CommitsOne refusal operation answer number store kept = (s : StoreView) → store ≡ Some s → CommitsOneIn refusal operation answer number s kept
 
 -- A text was not read: there was no memory for it (1), or it says nothing (34).
 abbrev pub IsUnread : {X : Type 0} → Option X → ℕ → Type 0
 IsUnread said answer = (answer ≡ 1) ⊎ ((answer ≡ 34) × (said ≡ None))
 
 -- This was made of what a text says; or it was not read, and the store is kept as it was.
-abbrev pub MakesOf : {X : Type 0} → Option X → (X → StoreView → StoreView → Type 0) → ℕ → StoreView → Option StoreView → Type 0
-MakesOf {X} said R answer s kept = ((x : X) × (said ≡ Some x) × IsMade (R x) s kept) ⊎ (IsUnread said answer × (kept ≡ Some s))
+abbrev pub MakesOf : {X : Type 0} → Option X → (X → StoreView → StoreView → Type 0) → ℕ → Option StoreView → Option StoreView → Type 0
+MakesOf {X} said R answer store kept = (s : StoreView) → store ≡ Some s → ((x : X) × (said ≡ Some x) × IsMade (R x) s kept) ⊎ (IsUnread said answer × (kept ≡ Some s))
 
 -- so a batch is committed that is given by its text
-abbrev pub CommitsText : List ℕ → ℕ → ℕ → StoreView → Option StoreView → Type 0
+abbrev pub CommitsText : List ℕ → ℕ → ℕ → Option StoreView → Option StoreView → Type 0
 CommitsText text answer number = MakesOf (batch_of text) (λ batch. Commits None batch (λ reply. IsNumber reply answer number) answer) answer
 
 -- and so under guards, which are given as a text too
-abbrev pub CommitsTextIf : List ℕ → List ℕ → ℕ → ℕ → ℕ → StoreView → Option StoreView → Type 0
+abbrev pub CommitsTextIf : List ℕ → List ℕ → ℕ → ℕ → ℕ → Option StoreView → Option StoreView → Type 0
 CommitsTextIf guards text answer number place = MakesOf (both_of (guards_of guards) (batch_of text))
     (λ both. Commits (Some both.0) both.1 (λ reply. IsNumber reply answer number × IsPlace reply place) answer) answer

@@ -1,9 +1,8 @@
 //! Batches are made durable.
 
-ghost use Rattle.std.specs.Prelude.{◌≡◌, ◌≤◌, Option, Some, None, length};
-ghost use Rattle.lsm_store.specs.Backing.{StoreView};
+ghost use Rattle.std.specs.Prelude.{◌≤◌, Option, Some, None, length};
 ghost use Rattle.lsm_machine.specs.Calls.{Call, Sync, SyncTo};
-ghost use Rattle.corwaphi_c.specs.Calls.{Answers, IsDone, IsMade, Makes, sync_of};
+ghost use Rattle.corwaphi_c.specs.Calls.{Answers, IsDone, Makes, store_in, sync_of};
 
 use crate::answers::{code, done};
 use crate::handle::{Handle, Slot};
@@ -20,7 +19,7 @@ pub extern "C" fn corwaphi_store_sync(
     journal: &mut [u8],
     used: &mut usize,
 ) -> u32
-    ensures { 65664 ≤ length journal.old → Makes (Answers Sync (λ reply. IsDone reply result)) handle.value.store }
+    ensures { 65664 ≤ length journal.old → Makes (Answers Sync (λ reply. IsDone reply result)) handle.value.store (store_in slot.new.value) }
 {
     let mut kept = handle.into_box();
     let answer = make(&mut kept, image, journal, used, None);
@@ -39,7 +38,7 @@ pub extern "C" fn corwaphi_store_sync_to(
     used: &mut usize,
     number: u64,
 ) -> u32
-    ensures { 65664 ≤ length journal.old → Makes (Answers (SyncTo number) (λ reply. IsDone reply result)) handle.value.store }
+    ensures { 65664 ≤ length journal.old → Makes (Answers (SyncTo number) (λ reply. IsDone reply result)) handle.value.store (store_in slot.new.value) }
 {
     let mut kept = handle.into_box();
     let answer = make(&mut kept, image, journal, used, Some(number));
@@ -55,7 +54,7 @@ fn make(
     used: &mut usize,
     last: Option<u64>,
 ) -> u32
-    ensures { (s : StoreView) → kept.old.store ≡ Some s → 65664 ≤ length journal.old → IsMade (Answers (sync_of last) (λ reply. IsDone reply result)) s kept.new.store }
+    ensures { 65664 ≤ length journal.old → Makes (Answers (sync_of last) (λ reply. IsDone reply result)) kept.old.store kept.new.store }
 {
     *used = 0;
     if journal.len() < JOURNAL_BYTES {

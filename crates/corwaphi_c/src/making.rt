@@ -1,10 +1,14 @@
 //! A store is made, opened and closed.
 
+ghost use Rattle.std.specs.Prelude.{◌≡◌, ◌≤◌, ◌<◌, ◌⊎◌, length, MatchResult};
+ghost use Rattle.corwaphi_c.specs.Calls.{store_in};
+ghost use Rattle.corwaphi_c.specs.Making.{Formats, FormatsHere, IsKeptOpened, IsOpenedHere, IsOpenedOn, IsRefusedHere, IsRefusedOn, Opens};
+
 use crate::answers::{OK, code};
 use crate::handle::{Handle, Slot};
 use crate::kept::{JOURNAL_BYTES, Kept};
 use crate::pieces::Upkeep;
-use lsm_device::Refusal;
+use lsm_device::{Device, Refusal};
 use lsm_mapped::MappedDevice;
 use lsm_open::format;
 use lsm_store::Store;
@@ -21,19 +25,29 @@ pub extern "C" fn corwaphi_store_format(
     used: &mut usize,
     sectors: u32,
     log_sectors: u16,
-) -> u32 {
+) -> u32
+    ensures { FormatsHere sectors log_sectors result }
+{
     // A format reads nothing.
     let device = MappedDevice::new(&[], journal, sectors);
-    let (answer, device) = match format(alloc, device, log_sectors) {
-        Ok(device) => (OK, device),
-        Err((refusal, device)) => (code(refusal), device),
-    };
+    let (answer, device) = format_on(alloc, device, log_sectors);
     *used = device.used();
     answer
 }
 
+// Makes a device an empty store.
+fn format_on<D: Device>(alloc: Global, device: D, log_sectors: u16) -> (u32, D)
+    ensures { Formats log_sectors result.0 (D.medium device) (D.medium result.1) }
+{
+    match format(alloc, device, log_sectors) {
+        Ok(device) => (OK, device),
+        Err((refusal, device)) => (code(refusal), device),
+    }
+}
+
 /// Opens the store in an image, with a cache of so many blocks, and puts its handle into the slot. The journal is to be made also where
-/// the opening is refused. Then `corwaphi_store_work` finishes what waits, and opens a log where the open one has no room. It is refused as `Store::open` is, and with BadLimit for a journal of less than 65,664 bytes.
+/// the opening is refused. Then `corwaphi_store_work` finishes what waits, and opens a log where the open one has no room. It is refused
+/// as `Store::open` is, and with BadLimit for a journal of less than 65,664 bytes; then the slot is left as it is.
 #[unsafe(no_mangle)]
 pub extern "C" fn corwaphi_store_open(
     alloc: Global,
@@ -43,22 +57,17 @@ pub extern "C" fn corwaphi_store_open(
     used: &mut usize,
     sectors: u32,
     cache: u32,
-) -> u32 {
+) -> u32
+    ensures opens { 65664 ≤ length journal.old → Opens sectors cache result (store_in slot.new.value) }
+    ensures short { length journal.old < 65664 → result ≡ 28 }
+    ensures refused { (result ≡ 0 → ⊥) → slot.new ≡ slot.old }
+{
     *used = 0;
     if journal.len() < JOURNAL_BYTES {
         return code(Refusal::BadLimit);
     }
-    let kept = Kept {
-        store: None,
-        upkeep: Upkeep::to(Goal::Opened),
-    };
-    let mut kept = match Box::new(alloc, kept) {
-        Ok(kept) => kept,
-        Err(_) => return code(Refusal::NoMemory),
-    };
-    match opened(alloc, image, journal, used, sectors, cache) {
-        Ok(store) => {
-            *used = kept.park(store);
+    match open_kept(alloc, image, journal, used, sectors, cache) {
+        Ok(kept) => {
             slot.put(kept);
             OK
         }
@@ -66,22 +75,62 @@ pub extern "C" fn corwaphi_store_open(
     }
 }
 
+// The store in an image, to be kept, or why there is none.
+fn open_kept(
+    alloc: Global,
+    image: &[u8],
+    journal: &mut [u8],
+    used: &mut usize,
+    sectors: u32,
+    cache: u32,
+) -> Result<Box<Kept>, u32>
+    ensures { MatchResult result (λ kept. IsKeptOpened sectors cache kept.value.store) (λ answer. (answer ≡ 1) ⊎ IsRefusedHere sectors cache answer) }
+{
+    let kept = Kept {
+        store: None,
+        upkeep: Upkeep::to(Goal::Opened),
+    };
+    let mut kept = match Box::new(alloc, kept) {
+        Ok(kept) => kept,
+        Err(_) => return Err(code(Refusal::NoMemory)),
+    };
+    match open_here(alloc, image, journal, used, sectors, cache) {
+        Ok(store) => {
+            *used = kept.park(store);
+            Ok(kept)
+        }
+        Err(answer) => Err(answer),
+    }
+}
+
 // The store in an image, or why there is none.
-fn opened<'a>(
+fn open_here<'a>(
     alloc: Global,
     image: &'a [u8],
     journal: &'a mut [u8],
     used: &mut usize,
     sectors: u32,
     cache: u32,
-) -> Result<Store<MappedDevice<'a>>, u32> {
-    match Store::open(alloc, MappedDevice::new(image, journal, sectors), cache) {
+) -> Result<Store<MappedDevice<'a>>, u32>
+    ensures { MatchResult result (λ s. IsOpenedHere sectors cache s) (λ answer. IsRefusedHere sectors cache answer) }
+{
+    match open_on(alloc, MappedDevice::new(image, journal, sectors), cache) {
         Ok(store) => Ok(store),
         Err(refused) => {
-            let (refusal, device) = refused;
+            let (answer, device) = refused;
             *used = device.used();
-            Err(code(refusal))
+            Err(answer)
         }
+    }
+}
+
+// The store on a device, or why there is none.
+fn open_on<D: Device>(alloc: Global, device: D, cache: u32) -> Result<Store<D>, (u32, D)>
+    ensures { MatchResult result (λ s. IsOpenedOn cache (D.medium device) s) (λ e. IsRefusedOn cache e.0 (D.medium device) (D.medium e.1)) }
+{
+    match Store::open(alloc, device, cache) {
+        Ok(store) => Ok(store),
+        Err((refusal, device)) => Err((code(refusal), device)),
     }
 }
 

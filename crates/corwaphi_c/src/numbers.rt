@@ -34,7 +34,8 @@ pub struct Numbers {
 /// Tells the numbers of a store. It is refused with Stopped.
 #[unsafe(no_mangle)]
 pub extern "C" fn corwaphi_store_stat(handle: Handle, slot: &mut Slot, out: &mut Numbers) -> u32
-    ensures { (s : StoreView) → handle.value.store ≡ Some s → IsStat s result out.new }
+    ensures told { (s : StoreView) → handle.value.store ≡ Some s → IsStat s result out.new }
+    ensures kept { slot.new.value ≡ Some handle.value }
 {
     let kept = handle.into_box();
     let answer = match &kept.store {
@@ -66,7 +67,8 @@ pub extern "C" fn corwaphi_store_counts(
     batches: &mut u64,
     synced: &mut u64,
 ) -> u32
-    ensures { (s : StoreView) → handle.value.store ≡ Some s → (result ≡ 0) × ((batches.new ≡ batch_count s.state.points) × (synced.new ≡ s.state.points.synced)) }
+    ensures told { (s : StoreView) → handle.value.store ≡ Some s → (result ≡ 0) × ((batches.new ≡ batch_count s.state.points) × (synced.new ≡ s.state.points.synced)) }
+    ensures kept { slot.new.value ≡ Some handle.value }
 {
     let kept = handle.into_box();
     let answer = match &kept.store {

@@ -2,7 +2,7 @@
 
 ghost use Rattle.std.specs.Prelude.{◌≡◌, true};
 ghost use Rattle.lsm_upkeep.specs.Steps.{IsUpkept};
-ghost use Rattle.lsm_upkeep.specs.Writing.{wants_room};
+ghost use Rattle.lsm_upkeep.specs.Writing.{LacksRoom, wants_room};
 ghost use Rattle.lsm_upkeep.specs.declared.readying.Verdict.TheVariants.{Refuse};
 
 use lsm_codec::{Batch, Key};
@@ -68,7 +68,8 @@ impl Upkeep {
 
     /// What is to be done with a batch. Where a goal is to be reached before, it is from now on.
     pub(crate) fn admit<D: Device>(&mut self, store: &Store<D>, batch: &Batch) -> Verdict
-        ensures { result ≡ Refuse → wants_room batch.now store.now.state ≡ true }
+        ensures refused { result ≡ Refuse → wants_room batch.now store.now.state ≡ true }
+        ensures crowded { result ≡ Refuse → LacksRoom batch.now store.now }
     {
         let verdict = self.admit.next(store, batch);
         match verdict {

@@ -1,9 +1,8 @@
 //! Values and rows are read, now or at a snapshot. That writes nothing.
 
-ghost use Rattle.std.specs.Prelude.{◌≡◌, Some, option_map};
-ghost use Rattle.lsm_store.specs.Backing.{StoreView};
+ghost use Rattle.std.specs.Prelude.{◌≡◌, option_map};
 ghost use Rattle.lsm_machine.specs.Calls.{Get, Scan, Snapshot, Release};
-ghost use Rattle.corwaphi_c.specs.Calls.{Answers, IsDone, IsMade, IsNumber, IsRows, IsValue, Makes, at_of, end_of};
+ghost use Rattle.corwaphi_c.specs.Calls.{Answers, IsDone, IsNumber, IsRows, IsValue, Makes, MakesParked, at_of, end_of, store_in};
 
 use crate::answers::{NO_VALUE, PageTold, at, code, copy, done, number, put_page};
 use crate::handle::{Handle, Slot};
@@ -23,7 +22,7 @@ pub extern "C" fn corwaphi_store_get(
     room: &mut [u8],
     size: &mut usize,
 ) -> u32
-    ensures { Makes (Answers (Get (at_of snapshot) key.now) (λ reply. IsValue reply result room.new size.new)) handle.value.store }
+    ensures { Makes (Answers (Get (at_of snapshot) key.now) (λ reply. IsValue reply result room.new size.new)) handle.value.store (store_in slot.new.value) }
 {
     let mut kept = handle.into_box();
     let answer = get(&mut kept, image, at(snapshot), key, room, size);
@@ -32,7 +31,7 @@ pub extern "C" fn corwaphi_store_get(
 }
 
 fn get(kept: &mut Kept, image: &[u8], at: At, key: &[u8], room: &mut [u8], size: &mut usize) -> u32
-    ensures { (s : StoreView) → kept.old.store ≡ Some s → IsMade (Answers (Get at key.now) (λ reply. IsValue reply result room.new size.new)) s kept.new.store }
+    ensures { Makes (Answers (Get at key.now) (λ reply. IsValue reply result room.new size.new)) kept.old.store kept.new.store }
 {
     let mut journal = [0; 8];
     let Some(mut store) = kept.lend(image, &mut journal) else {
@@ -74,7 +73,7 @@ pub extern "C" fn corwaphi_store_rows(
     room: &mut [u8],
     told: &mut PageTold,
 ) -> u32
-    ensures { Makes (Answers (Scan (at_of snapshot) from.now (end_of has_to to.now) limit) (λ reply. IsRows reply result room.new told.new)) handle.value.store }
+    ensures { Makes (Answers (Scan (at_of snapshot) from.now (end_of has_to to.now) limit) (λ reply. IsRows reply result room.new told.new)) handle.value.store (store_in slot.new.value) }
 {
     let mut kept = handle.into_box();
     let to = end(to, has_to);
@@ -100,7 +99,7 @@ fn rows(
     room: &mut [u8],
     told: &mut PageTold,
 ) -> u32
-    ensures { (s : StoreView) → kept.old.store ≡ Some s → IsMade (Answers (Scan at from.now (option_map (λ to. to.now) to.entry) limit) (λ reply. IsRows reply result room.new told.new)) s kept.new.store }
+    ensures { Makes (Answers (Scan at from.now (option_map (λ to. to.now) to.entry) limit) (λ reply. IsRows reply result room.new told.new)) kept.old.store kept.new.store }
 {
     let mut journal = [0; 8];
     let Some(mut store) = kept.lend(image, &mut journal) else {
@@ -131,7 +130,7 @@ fn rows_in<D: Device>(
 /// Takes a snapshot of the present map, and tells its number. It is refused as `Store::snapshot`.
 #[unsafe(no_mangle)]
 pub extern "C" fn corwaphi_store_snapshot(handle: Handle, slot: &mut Slot, out: &mut u64) -> u32
-    ensures { (s : StoreView) → handle.value.store ≡ Some s → (left : StoreView) × Answers Snapshot (λ reply. IsNumber reply result out.new) s left }
+    ensures { MakesParked (Answers Snapshot (λ reply. IsNumber reply result out.new)) handle.value.store (store_in slot.new.value) }
 {
     let mut kept = handle.into_box();
     let answer = take_snapshot(&mut kept, out);
@@ -140,7 +139,7 @@ pub extern "C" fn corwaphi_store_snapshot(handle: Handle, slot: &mut Slot, out: 
 }
 
 fn take_snapshot(kept: &mut Kept, out: &mut u64) -> u32
-    ensures { (s : StoreView) → kept.old.store ≡ Some s → (left : StoreView) × Answers Snapshot (λ reply. IsNumber reply result out.new) s left }
+    ensures { MakesParked (Answers Snapshot (λ reply. IsNumber reply result out.new)) kept.old.store kept.new.store }
 {
     match &mut kept.store {
         Some(store) => number(store.snapshot(), out),
@@ -151,7 +150,7 @@ fn take_snapshot(kept: &mut Kept, out: &mut u64) -> u32
 /// Forgets a snapshot. It is refused as `Store::release`.
 #[unsafe(no_mangle)]
 pub extern "C" fn corwaphi_store_release(handle: Handle, slot: &mut Slot, snapshot: u64) -> u32
-    ensures { (s : StoreView) → handle.value.store ≡ Some s → (left : StoreView) × Answers (Release snapshot) (λ reply. IsDone reply result) s left }
+    ensures { MakesParked (Answers (Release snapshot) (λ reply. IsDone reply result)) handle.value.store (store_in slot.new.value) }
 {
     let mut kept = handle.into_box();
     let answer = release(&mut kept, snapshot);
@@ -160,7 +159,7 @@ pub extern "C" fn corwaphi_store_release(handle: Handle, slot: &mut Slot, snapsh
 }
 
 fn release(kept: &mut Kept, snapshot: u64) -> u32
-    ensures { (s : StoreView) → kept.old.store ≡ Some s → (left : StoreView) × Answers (Release snapshot) (λ reply. IsDone reply result) s left }
+    ensures { MakesParked (Answers (Release snapshot) (λ reply. IsDone reply result)) kept.old.store kept.new.store }
 {
     match &mut kept.store {
         Some(store) => done(store.release(snapshot)),

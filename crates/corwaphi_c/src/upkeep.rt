@@ -1,9 +1,9 @@
 //! Flushes and merges, piece by piece. A piece only reads or only writes, so that none reads what it wrote.
 
 ghost use Rattle.std.specs.Prelude.{◌≡◌, ◌≤◌, Some, length};
-ghost use Rattle.lsm_store.specs.Backing.{StoreView};
+ghost use Rattle.lsm_store.specs.Backing.{StoreView, machine_of};
 ghost use Rattle.lsm_upkeep.specs.Steps.{IsUpkept};
-ghost use Rattle.corwaphi_c.specs.Calls.{IsMade, Makes};
+ghost use Rattle.corwaphi_c.specs.Calls.{IsAsked, Makes, store_in};
 
 use crate::answers::{OK, code};
 use crate::handle::{Handle, Slot};
@@ -27,7 +27,7 @@ pub extern "C" fn corwaphi_store_work(
     used: &mut usize,
     did: &mut u32,
 ) -> u32
-    ensures { 65664 ≤ length journal.old → Makes IsUpkept handle.value.store }
+    ensures { 65664 ≤ length journal.old → Makes IsUpkept handle.value.store (store_in slot.new.value) }
 {
     let mut kept = handle.into_box();
     let answer = work(alloc, &mut kept, image, journal, Told { used, did });
@@ -43,7 +43,7 @@ struct Told<'a> {
 }
 
 fn work(alloc: Global, kept: &mut Kept, image: &[u8], journal: &mut [u8], told: Told<'_>) -> u32
-    ensures { (s : StoreView) → kept.old.store ≡ Some s → 65664 ≤ length journal.old → IsMade IsUpkept s kept.new.store }
+    ensures { 65664 ≤ length journal.old → Makes IsUpkept kept.old.store kept.new.store }
 {
     *told.used = 0;
     *told.did = 0;
@@ -67,14 +67,20 @@ fn work(alloc: Global, kept: &mut Kept, image: &[u8], journal: &mut [u8], told: 
 /// Asks that what is in memory comes into tables, and all tables into the last level, as far as they find room: `corwaphi_store_work` does
 /// it. It is refused with Stopped.
 #[unsafe(no_mangle)]
-pub extern "C" fn corwaphi_store_compact(handle: Handle, slot: &mut Slot) -> u32 {
+pub extern "C" fn corwaphi_store_compact(handle: Handle, slot: &mut Slot) -> u32
+    ensures asked { (s : StoreView) → handle.value.store ≡ Some s → IsAsked (machine_of s) result }
+    ensures kept { store_in slot.new.value ≡ handle.value.store }
+{
     let mut kept = handle.into_box();
     let answer = compact(&mut kept);
     slot.put(kept);
     answer
 }
 
-fn compact(kept: &mut Kept) -> u32 {
+fn compact(kept: &mut Kept) -> u32
+    ensures asked { (s : StoreView) → kept.old.store ≡ Some s → IsAsked (machine_of s) result }
+    ensures kept { kept.new.store ≡ kept.old.store }
+{
     let Some(store) = &kept.store else {
         return code(Refusal::Stopped);
     };

@@ -6,12 +6,11 @@
 //! they find none though all tables were brought down as far as they go; and one of deletes is so only while a snapshot is live. That
 //! the log is full is never told: where no log could be opened that has room, that is NoSpace too.
 
-ghost use Rattle.std.specs.Prelude.{◌≡◌, ◌≤◌, ◌++◌, ◌∷◌, [], Option, Some, None, option_map, length, map, MatchResult};
+ghost use Rattle.std.specs.Prelude.{◌≡◌, ◌≤◌, ◌++◌, ◌∷◌, [], Some, None, option_map, length, map, MatchResult};
 ghost use Rattle.lsm_codec.specs.Answers.{key_refusal, or_then, value_refusal};
 ghost use Rattle.lsm_codec.specs.BatchText.{IsChange, batch_of};
-ghost use Rattle.lsm_store.specs.Backing.{StoreView};
 ghost use Rattle.lsm_machine.specs.Calls.{Number, reply_of};
-ghost use Rattle.corwaphi_c.specs.Calls.{Commits, CommitsOne, CommitsOneIn, CommitsText, CommitsTextIf, IsMade, IsNumber, IsPlace, IsUnread, condition_of, guards_of};
+ghost use Rattle.corwaphi_c.specs.Calls.{Commits, CommitsOne, CommitsText, CommitsTextIf, IsNumber, IsPlace, IsUnread, Makes, condition_of, guards_of, store_in};
 
 use crate::answers::{BAD_TEXT, OK, WORK_FIRST, code, number};
 use crate::handle::{Handle, Slot};
@@ -36,7 +35,7 @@ pub extern "C" fn corwaphi_store_put(
     value: &[u8],
     number: &mut u64,
 ) -> u32
-    ensures { 65664 ≤ length journal.old → CommitsOne (or_then (key_refusal key.now) (value_refusal value.now)) (record { key = key.now; value = Some value.now }) result number.new handle.value.store }
+    ensures { 65664 ≤ length journal.old → CommitsOne (or_then (key_refusal key.now) (value_refusal value.now)) (record { key = key.now; value = Some value.now }) result number.new handle.value.store (store_in slot.new.value) }
 {
     let mut kept = handle.into_box();
     *used = 0;
@@ -55,7 +54,7 @@ fn put(
     value: &[u8],
     number: &mut u64,
 ) -> u32
-    ensures { (s : StoreView) → kept.old.store ≡ Some s → 65664 ≤ length journal.old → CommitsOneIn (or_then (key_refusal key.now) (value_refusal value.now)) (record { key = key.now; value = Some value.now }) result number.new s kept.new.store }
+    ensures { 65664 ≤ length journal.old → CommitsOne (or_then (key_refusal key.now) (value_refusal value.now)) (record { key = key.now; value = Some value.now }) result number.new kept.old.store kept.new.store }
 {
     match Op::put(alloc, key, value) {
         Ok(operation) => commit_one(alloc, kept, image, journal, used, operation, number),
@@ -75,7 +74,7 @@ pub extern "C" fn corwaphi_store_delete(
     key: &[u8],
     number: &mut u64,
 ) -> u32
-    ensures { 65664 ≤ length journal.old → CommitsOne (key_refusal key.now) (record { key = key.now; value = None }) result number.new handle.value.store }
+    ensures { 65664 ≤ length journal.old → CommitsOne (key_refusal key.now) (record { key = key.now; value = None }) result number.new handle.value.store (store_in slot.new.value) }
 {
     let mut kept = handle.into_box();
     *used = 0;
@@ -93,7 +92,7 @@ fn delete(
     key: &[u8],
     number: &mut u64,
 ) -> u32
-    ensures { (s : StoreView) → kept.old.store ≡ Some s → 65664 ≤ length journal.old → CommitsOneIn (key_refusal key.now) (record { key = key.now; value = None }) result number.new s kept.new.store }
+    ensures { 65664 ≤ length journal.old → CommitsOne (key_refusal key.now) (record { key = key.now; value = None }) result number.new kept.old.store kept.new.store }
 {
     match Op::delete(alloc, key) {
         Ok(operation) => commit_one(alloc, kept, image, journal, used, operation, number),
@@ -111,7 +110,7 @@ fn commit_one(
     operation: Op,
     number: &mut u64,
 ) -> u32
-    ensures { (s : StoreView) → kept.old.store ≡ Some s → 65664 ≤ length journal.old → CommitsOneIn None operation result number.new s kept.new.store }
+    ensures { 65664 ≤ length journal.old → CommitsOne None operation result number.new kept.old.store kept.new.store }
 {
     match Batch::new(alloc, operation) {
         Ok(batch) => commit(kept, image, journal, used, &batch, number),
@@ -132,7 +131,7 @@ pub extern "C" fn corwaphi_store_write(
     text: &[u8],
     number: &mut u64,
 ) -> u32
-    ensures { 65664 ≤ length journal.old → (s : StoreView) → handle.value.store ≡ Some s → (kept : Option StoreView) × CommitsText text.now result number.new s kept }
+    ensures { 65664 ≤ length journal.old → CommitsText text.now result number.new handle.value.store (store_in slot.new.value) }
 {
     let mut kept = handle.into_box();
     *used = 0;
@@ -150,7 +149,7 @@ fn write(
     text: &[u8],
     number: &mut u64,
 ) -> u32
-    ensures { (s : StoreView) → kept.old.store ≡ Some s → 65664 ≤ length journal.old → CommitsText text.now result number.new s kept.new.store }
+    ensures { 65664 ≤ length journal.old → CommitsText text.now result number.new kept.old.store kept.new.store }
 {
     match read_batch(alloc, text) {
         Ok(batch) => commit(kept, image, journal, used, &batch, number),
@@ -177,7 +176,7 @@ fn commit(
     batch: &Batch,
     out: &mut u64,
 ) -> u32
-    ensures { (s : StoreView) → kept.old.store ≡ Some s → 65664 ≤ length journal.old → IsMade (Commits None batch.now (λ reply. IsNumber reply result out.new) result) s kept.new.store }
+    ensures { 65664 ≤ length journal.old → Makes (Commits None batch.now (λ reply. IsNumber reply result out.new) result) kept.old.store kept.new.store }
 {
     if journal.len() < JOURNAL_BYTES {
         return code(Refusal::BadLimit);
@@ -222,7 +221,7 @@ pub extern "C" fn corwaphi_store_write_if(
     number: &mut u64,
     place: &mut u8,
 ) -> u32
-    ensures { 65664 ≤ length journal.old → (s : StoreView) → handle.value.store ≡ Some s → (kept : Option StoreView) × CommitsTextIf guards.now text.now result number.new place.new s kept }
+    ensures { 65664 ≤ length journal.old → CommitsTextIf guards.now text.now result number.new place.new handle.value.store (store_in slot.new.value) }
 {
     let mut kept = handle.into_box();
     *used = 0;
@@ -244,7 +243,7 @@ fn write_if(
     number: &mut u64,
     place: &mut u8,
 ) -> u32
-    ensures { (s : StoreView) → kept.old.store ≡ Some s → 65664 ≤ length journal.old → CommitsTextIf guards.now text.now result number.new place.new s kept.new.store }
+    ensures { 65664 ≤ length journal.old → CommitsTextIf guards.now text.now result number.new place.new kept.old.store kept.new.store }
 {
     let guards = match read_guards(alloc, guards) {
         Ok(guards) => guards,
@@ -266,7 +265,7 @@ fn commit_if(
     number: &mut u64,
     place: &mut u8,
 ) -> u32
-    ensures { (s : StoreView) → kept.old.store ≡ Some s → 65664 ≤ length journal.old → IsMade (Commits (Some guards.now) batch.now (λ reply. IsNumber reply result number.new × IsPlace reply place.new) result) s kept.new.store }
+    ensures { 65664 ≤ length journal.old → Makes (Commits (Some guards.now) batch.now (λ reply. IsNumber reply result number.new × IsPlace reply place.new) result) kept.old.store kept.new.store }
 {
     if journal.len() < JOURNAL_BYTES {
         return code(Refusal::BadLimit);

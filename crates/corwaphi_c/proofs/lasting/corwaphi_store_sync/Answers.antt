@@ -1,6 +1,8 @@
-use Rattle.std.proofs.Common.{◌∙◌, ap}
-use Rattle.corwaphi_c.specs.declared.kept.Kept.{Kept}
+use Rattle.std.proofs.Common.{◌∙◌}
+use Rattle.lsm_machine.specs.Calls.{Reply, Sync}
+use Rattle.corwaphi_c.specs.Calls.{Answers, IsDone, Makes}
+use Rattle.corwaphi_c.proofs.Moving.{handed}
 use Rattle.corwaphi_c.proofs.lasting.corwaphi_store_sync.Goals as goal
 
 pub returns : goal.returns
-returns c = λ enough s is. (c.make-answer.new.kept.store, c.make-answer.ensures s (ap (λ (k : Kept). k.store) (c.deref_mut.ensures.value ∙ c.into_box-kept.ensures) ∙ is) enough)
+returns c = λ enough. handed (Makes (Answers Sync (λ (reply : Reply). IsDone reply c.make-answer.result))) c.args.handle.value _ c.make-answer.new.kept _ (c.deref_mut.ensures.value ∙ c.into_box-kept.ensures) c.put.ensures (c.make-answer.ensures enough)

@@ -4,4 +4,4 @@ use Rattle.corwaphi_c.proofs.Moving.{made}
 use Rattle.corwaphi_c.proofs.lasting.make.Goals as goal
 
 pub returns : goal.returns
-returns c = λ s is enough. made (Answers (sync_of c.args.last) (λ (reply : Reply). IsDone reply c.sync-answer.result)) s c.in-Some.store c.sync-answer.new.store c.park.new.self.store (c.in-Some.ensures.lent s is) c.sync-answer.ensures c.park.ensures
+returns c = λ enough s is. made (Answers (sync_of c.args.last) (λ (reply : Reply). IsDone reply c.sync-answer.result)) s c.in-Some.store c.sync-answer.new.store c.park.new.self.store (c.in-Some.ensures.lent s is) c.sync-answer.ensures c.park.ensures

@@ -1,6 +1,8 @@
-use Rattle.std.proofs.Common.{◌∙◌, ap}
-use Rattle.corwaphi_c.specs.declared.kept.Kept.{Kept}
+use Rattle.std.proofs.Common.{◌∙◌}
+use Rattle.lsm_machine.specs.Calls.{Reply, Release}
+use Rattle.corwaphi_c.specs.Calls.{Answers, IsDone, MakesParked}
+use Rattle.corwaphi_c.proofs.Moving.{handed}
 use Rattle.corwaphi_c.proofs.reading.corwaphi_store_release.Goals as goal
 
 pub returns : goal.returns
-returns c = λ s is. c.release-answer.ensures s (ap (λ (k : Kept). k.store) (c.deref_mut.ensures.value ∙ c.into_box-kept.ensures) ∙ is)
+returns c = handed (MakesParked (Answers (Release c.args.snapshot) (λ (reply : Reply). IsDone reply c.release-answer.result))) c.args.handle.value _ c.release-answer.new.kept _ (c.deref_mut.ensures.value ∙ c.into_box-kept.ensures) c.put.ensures c.release-answer.ensures

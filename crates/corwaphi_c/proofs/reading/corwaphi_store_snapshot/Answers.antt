@@ -1,6 +1,8 @@
-use Rattle.std.proofs.Common.{◌∙◌, ap}
-use Rattle.corwaphi_c.specs.declared.kept.Kept.{Kept}
+use Rattle.std.proofs.Common.{◌∙◌}
+use Rattle.lsm_machine.specs.Calls.{Reply, Snapshot}
+use Rattle.corwaphi_c.specs.Calls.{Answers, IsNumber, MakesParked}
+use Rattle.corwaphi_c.proofs.Moving.{handed}
 use Rattle.corwaphi_c.proofs.reading.corwaphi_store_snapshot.Goals as goal
 
 pub returns : goal.returns
-returns c = λ s is. c.take_snapshot-answer.ensures s (ap (λ (k : Kept). k.store) (c.deref_mut.ensures.value ∙ c.into_box-kept.ensures) ∙ is)
+returns c = handed (MakesParked (Answers Snapshot (λ (reply : Reply). IsNumber reply c.take_snapshot-answer.result c.take_snapshot-answer.new.out))) c.args.handle.value _ c.take_snapshot-answer.new.kept _ (c.deref_mut.ensures.value ∙ c.into_box-kept.ensures) c.put.ensures c.take_snapshot-answer.ensures

@@ -1,6 +1,8 @@
-use Rattle.std.proofs.Common.{◌∙◌, ap}
-use Rattle.corwaphi_c.specs.declared.kept.Kept.{Kept}
+use Rattle.std.proofs.Common.{◌∙◌}
+use Rattle.lsm_upkeep.specs.Steps.{IsUpkept}
+use Rattle.corwaphi_c.specs.Calls.{Makes}
+use Rattle.corwaphi_c.proofs.Moving.{handed}
 use Rattle.corwaphi_c.proofs.upkeep.corwaphi_store_work.Goals as goal
 
 pub returns : goal.returns
-returns c = λ enough s is. (c.work-answer.new.kept.store, c.work-answer.ensures s (ap (λ (k : Kept). k.store) (c.deref_mut.ensures.value ∙ c.into_box-kept.ensures) ∙ is) enough)
+returns c = λ enough. handed (Makes IsUpkept) c.args.handle.value _ c.work-answer.new.kept _ (c.deref_mut.ensures.value ∙ c.into_box-kept.ensures) c.put.ensures (c.work-answer.ensures enough)

@@ -5,6 +5,6 @@ use Rattle.corwaphi_c.proofs.Moving.{made}
 use Rattle.corwaphi_c.proofs.writing.commit_if.Goals as goal
 
 pub returns : goal.returns
-returns c = λ s is enough. made
+returns c = λ enough s is. made
     (Commits (Some c.args.guards.now) c.args.batch.now (λ (reply : Reply). IsNumber reply c.commit_under-answer.result c.commit_under-answer.new.out × IsPlace reply c.commit_under-answer.new.place) c.commit_under-answer.result)
     s c.in-Some.store c.commit_under-answer.new.store c.park.new.self.store (c.in-Some.ensures.lent s is) c.commit_under-answer.ensures c.park.ensures
