@@ -1,7 +1,15 @@
 -- Places that are due, and turns over them.
-use Rattle.std.proofs.Common.{◌≡◌, ℕ, Bool, true, false, Option, Some, None, List, [], ◌∷◌, ◌++◌, filter, Result, Ok, Err, refl, ap, sym, ◌∙◌, arith, if◌then◌else◌}
-use Rattle.std.specs.Prelude.{MatchResult}
+use Rattle.std.proofs.Common.{◌≡◌, ◌↔◌, ◌≤◌, ℕ, Bool, true, false, not, Option, Some, None, option_map, List, [], ◌∷◌, ◌++◌, length, filter, Result, Ok, Err, refl, ap, sym, ◌∙◌, subst, arith, if◌then◌else◌}
+use Rattle.std.specs.List.{AllByRecursion}
+use Rattle.std.specs.Prelude.{IsTrue, MatchResult}
 use Rattle.lsm_device.specs.declared.refusal.Refusal.{Refusal}
+use Rattle.lsm_levels.specs.Pick.{inputs}
+use Rattle.lsm_levels.specs.Stored.{LiesWithin}
+use Rattle.lsm_levels.specs.Tables.{Table}
+use Rattle.lsm_jobs.specs.Reading.{CanBeRead, JobCanBeRead}
+use Rattle.lsm_jobs.specs.Slots.{Slot, Slots, slot_of}
+use Rattle.lsm_jobs.specs.Turns.{turn_of}
+use Rattle.lsm_jobs.specs.declared.turns.JobTurn.{JobTurn}
 use Rattle.lsm_store.specs.Backing.{StoreView, machine_of}
 use Rattle.lsm_machine.specs.Machine.{Machine}
 use Rattle.lsm_machine.specs.Pieces.{piece_at, unless_put_off, next_among, places_from}
@@ -9,13 +17,63 @@ use Rattle.lsm_machine.specs.Work.{Work, Ask}
 use Rattle.lsm_machine.proofs.NextPieces.{told_beyond}
 use Rattle.lsm_trail.specs.History.{Event}
 use Rattle.lsm_trail.specs.Knowledge.{SessionId, Known, known}
-use Rattle.lsm_shared.specs.Due.{is_held, is_free_for_flush, places_due, or_none, due_or_none}
+use Rattle.lsm_shared.specs.Due.{has_flush_at, has_merge_at, are_none, takes_in_none, is_for_flush, is_for_merge, places_due, or_none, due_or_none}
 use Rattle.lsm_shared.specs.Holds.{TakesAmong, StopsAmong}
 use Rattle.lsm_shared.specs.Sessions.{SessionView, Finds}
 use Rattle.lsm_shared.specs.Turns.{with_piece, pieces_among, as_steps, AreOfTurn, IsTurn}
 use Rattle.lsm_shared.specs.declared.turn.Turn.{Turn}
 use Rattle.lsm_shared.specs.declared.turn.Turn.TheVariants as turn
 use Rattle.lsm_shared.proofs.Turning.{turn_begun}
+
+-- ---- what a slot holds
+
+-- tables lie within no sector where there are none, and then alone
+of_tables : (read : Bool) (tables : List Table) → (read ≡ true → AllByRecursion (LiesWithin 0 1) tables) → (length tables ≤ 1024 → AllByRecursion (LiesWithin 0 1) tables → read ≡ true) → read ≡ are_none tables
+of_tables read [] lie told = told (omega arith) tt
+of_tables true (t ∷ more) lie told = absurd (omega (arith, (lie refl).0.ends))
+of_tables false (t ∷ more) lie told = refl
+
+same_slot : (a b : Slot) → Some a ≡ Some b → a ≡ b
+same_slot a b is = cc
+
+-- whether those of a job do
+pub told_none : (read : Bool) (job : ℕ) (slots : Slots) → IsTrue read ↔ JobCanBeRead 0 1 job slots → read ≡ takes_in_none (slot_of job slots)
+told_none read job slots told = by (slot_of job slots) refl
+  where
+    by : (o : Option Slot) → slot_of job slots ≡ o → read ≡ takes_in_none o
+    by None none = told.1 (record { is = λ slot some. absurd (cc (sym none ∙ some)) })
+    by (Some slot) some = of_tables read (inputs slot.job)
+        (λ yes. ((told.0 yes).is slot some).within)
+        (λ few within. told.1 (record { is = λ other also. subst (λ (s : Slot). CanBeRead 0 1 s.job) (same_slot slot other (sym some ∙ also)) (record { few = few; within = within }) }))
+
+none_here : (o : Option Slot) → None ≡ option_map turn_of o → o ≡ None
+none_here None is = refl
+none_here (Some slot) is = absurd (cc is)
+
+same_turn : (a b : JobTurn) → Some a ≡ Some b → a ≡ b
+same_turn a b is = cc
+
+turn_here : (turn : JobTurn) (o : Option Slot) → Some turn ≡ option_map turn_of o → (slot : Slot) × (o ≡ Some slot) × (turn.job ≡ slot.number)
+turn_here turn None is = absurd (cc is)
+turn_here turn (Some slot) is = (slot, refl, ap (λ (t : JobTurn). t.job) (same_turn turn (turn_of slot) is))
+
+-- a free slot, and one that holds a job, by what is told of its turn
+module _ (slots : Slots) (o : Option Slot) where
+  pub free_for_flush : (due : Bool) → None ≡ option_map turn_of o → due ≡ is_for_flush due slots o
+  free_for_flush due none = sym (ap (is_for_flush due slots) (none_here o none))
+
+  pub free_for_merge : None ≡ option_map turn_of o → false ≡ is_for_merge slots o
+  free_for_merge none = sym (ap (is_for_merge slots) (none_here o none))
+
+  pub held_for_flush : (due : Bool) (turn : JobTurn) (told : Bool) → Some turn ≡ option_map turn_of o → told ≡ takes_in_none (slot_of turn.job slots) → told ≡ is_for_flush due slots o
+  held_for_flush due turn told some is =
+      let here = turn_here turn o some in
+      is ∙ ap (λ (job : ℕ). takes_in_none (slot_of job slots)) here.2 ∙ sym (ap (is_for_flush due slots) here.1)
+
+  pub held_for_merge : (turn : JobTurn) (told : Bool) → Some turn ≡ option_map turn_of o → told ≡ takes_in_none (slot_of turn.job slots) → not told ≡ is_for_merge slots o
+  held_for_merge turn told some is =
+      let here = turn_here turn o some in
+      ap not (is ∙ ap (λ (job : ℕ). takes_in_none (slot_of job slots)) here.2) ∙ sym (ap (is_for_merge slots) here.1)
 
 -- ---- places that are asked alike
 
@@ -55,7 +113,7 @@ module _ (m : Machine) where
   passed_last passes (place ∷ rest) = last_first (passes place) place (or_none passes rest) (filter passes rest) (passed_last passes rest)
 
   due_alike : (number : ℕ) → Alike m (due_or_none m number) (places_due m number)
-  due_alike number = passed (is_free_for_flush m) (places_from number) (or_none (is_held m) (places_from number)) (filter (is_held m) (places_from number)) (passed_last (is_held m) (places_from number))
+  due_alike number = passed (has_flush_at m) (places_from number) (or_none (has_merge_at m) (places_from number)) (filter (has_merge_at m) (places_from number)) (passed_last (has_merge_at m) (places_from number))
 
 -- ---- turns over them
 

@@ -137,9 +137,10 @@ impl<A: Allocator + Clone, B: SessionName> Client<A, B> {
         shared.hold(rt).piece(&shared.counters, self)
     }
 
-    /// Does the next piece of work as [`turn`](Client::turn) does, but only at the slots that are due: a free slot takes a flush, before
-    /// all else, if one waits that no slot holds, and never a merge; then the slots that hold jobs are asked, from that of the
-    /// client's number on. So a client that takes such turns chooses itself which merges begin ([`take_next`](Client::take_next)).
+    /// Does the next piece of work as [`turn`](Client::turn) does, but only at the slots that are due, and a flush comes before merges: a
+    /// free slot takes a flush if one waits that no slot holds, and never a merge, or the slot that holds a flush is asked; and then
+    /// those that hold merges, from that of the client's number on. So a flush waits for one piece of a merge at most, or for its
+    /// build, and a client that takes such turns chooses itself which merges begin ([`take_next`](Client::take_next)).
     ///
     /// It is refused as a turn is, and what was entered before stands.
     pub fn turn_due<D: Device, R: Wait>(

@@ -1,8 +1,9 @@
 // Which slots are due.
-ghost use Rattle.std.specs.Prelude.{◌≡◌, ◌&&◌, None, not, is_some, slice_index_or, if◌then◌else◌};
+ghost use Rattle.std.specs.Prelude.{◌≡◌, None, slice_index_or, if◌then◌else◌};
+ghost use Rattle.lsm_jobs.specs.Slots.{slot_of};
 ghost use Rattle.lsm_machine.specs.Pieces.{places_from};
 ghost use Rattle.lsm_store.specs.Backing.{machine_of};
-ghost use Rattle.lsm_shared.specs.Due.{is_flush_due, due_or_none};
+ghost use Rattle.lsm_shared.specs.Due.{is_flush_due, is_for_flush, is_for_merge, takes_in_none, due_or_none};
 
 use lsm_device::Device;
 use lsm_jobs::Slots;
@@ -26,8 +27,8 @@ pub(crate) fn places_from(number: u32) -> [usize; 4]
     ]
 }
 
-/// The places that are due, from that of a client's number on, round: the free ones, if a flush is due, and then those that hold jobs.
-/// Each other one is replaced by the place of no slot.
+/// The places that are due, from that of a client's number on, round: first that of the flush, or the free ones if one is due, and then
+/// those of merges. Each other one is replaced by the place of no slot.
 pub(crate) fn places_due<D: Device, A: Allocator>(store: &Store<D, A>, number: u32) -> [usize; 8]
     ensures { result ≡ due_or_none (machine_of store.now) number }
 {
@@ -35,14 +36,14 @@ pub(crate) fn places_due<D: Device, A: Allocator>(store: &Store<D, A>, number: u
     let is_due = is_flush_due(store);
     let [first, second, third, fourth] = places_from(number);
     [
-        if_free(jobs, is_due, first),
-        if_free(jobs, is_due, second),
-        if_free(jobs, is_due, third),
-        if_free(jobs, is_due, fourth),
-        if_held(jobs, first),
-        if_held(jobs, second),
-        if_held(jobs, third),
-        if_held(jobs, fourth),
+        if_for_flush(jobs, is_due, first),
+        if_for_flush(jobs, is_due, second),
+        if_for_flush(jobs, is_due, third),
+        if_for_flush(jobs, is_due, fourth),
+        if_for_merge(jobs, first),
+        if_for_merge(jobs, second),
+        if_for_merge(jobs, third),
+        if_for_merge(jobs, fourth),
     ]
 }
 
@@ -56,24 +57,49 @@ pub(crate) fn is_flush_due<D: Device, A: Allocator>(store: &Store<D, A>) -> bool
     }
 }
 
-// This place, where a flush is due and the slot is free for it.
-fn if_free<A: Allocator>(jobs: &Slots<A>, is_due: bool, place: usize) -> usize
-    ensures { result ≡ (if is_due && not (is_some (slice_index_or jobs.now.slots place None)) then place else 4) }
+// This place, where the slot is free and a flush is due, or where it holds a flush.
+fn if_for_flush<A: Allocator>(jobs: &Slots<A>, is_due: bool, place: usize) -> usize
+    ensures { result ≡ (if is_for_flush is_due jobs.now.slots (slice_index_or jobs.now.slots place None) then place else 4) }
 {
-    if is_due && jobs.turn_at(place).is_none() {
+    if is_for_flush(jobs, is_due, place) {
         place
     } else {
         SLOTS
     }
 }
 
-// This place, where the slot holds a job.
-fn if_held<A: Allocator>(jobs: &Slots<A>, place: usize) -> usize
-    ensures { result ≡ (if is_some (slice_index_or jobs.now.slots place None) then place else 4) }
+fn is_for_flush<A: Allocator>(jobs: &Slots<A>, is_due: bool, place: usize) -> bool
+    ensures { result ≡ is_for_flush is_due jobs.now.slots (slice_index_or jobs.now.slots place None) }
 {
-    if jobs.turn_at(place).is_some() {
+    match jobs.turn_at(place) {
+        Some(turn) => takes_in_none(jobs, turn.job),
+        None => is_due,
+    }
+}
+
+// This place, where the slot holds a merge.
+fn if_for_merge<A: Allocator>(jobs: &Slots<A>, place: usize) -> usize
+    ensures { result ≡ (if is_for_merge jobs.now.slots (slice_index_or jobs.now.slots place None) then place else 4) }
+{
+    if is_for_merge(jobs, place) {
         place
     } else {
         SLOTS
     }
+}
+
+fn is_for_merge<A: Allocator>(jobs: &Slots<A>, place: usize) -> bool
+    ensures { result ≡ is_for_merge jobs.now.slots (slice_index_or jobs.now.slots place None) }
+{
+    match jobs.turn_at(place) {
+        Some(turn) => !takes_in_none(jobs, turn.job),
+        None => false,
+    }
+}
+
+// Whether a job takes in no table, as only a flush does: no table lies within 0 sectors.
+fn takes_in_none<A: Allocator>(jobs: &Slots<A>, job: u64) -> bool
+    ensures { result ≡ takes_in_none (slot_of job jobs.now.slots) }
+{
+    jobs.can_be_read(job, 0, 1)
 }

@@ -24,6 +24,8 @@ pub enum Ask {
     Release(u64),
     /// The next piece of work.
     Turn,
+    /// The next piece that is due.
+    Due,
     /// Turns of a worker, until nothing is left to do.
     Work,
     /// The job of so many of the oldest runs of level 0.
@@ -39,6 +41,8 @@ pub enum Told {
     Done,
     /// Its turn did a piece of work.
     Did,
+    /// Its turn handed out the input of a job.
+    Lent(u64),
     /// There is no work for it.
     Idle,
     /// There is no such job.
@@ -79,6 +83,20 @@ fn turn<B: SessionName, R: Wait>(
         Ok(Turn::Idle) => Told::Idle,
         Ok(Turn::Did(_)) => Told::Did,
         _ => Told::Other,
+    }
+}
+
+// What it is told of a turn over the slots that are due.
+fn turn_due<B: SessionName, R: Wait>(
+    rt: &R,
+    shared: &Shared<MemDevice, Global, B>,
+    me: &mut Client<Global, B>,
+) -> Told {
+    match me.turn_due(rt, shared) {
+        Ok(Turn::Idle) => Told::Idle,
+        Ok(Turn::Did(_)) => Told::Did,
+        Ok(Turn::Merge { job, .. }) => Told::Lent(job),
+        Err(refusal) => Told::Refused(refusal),
     }
 }
 
@@ -138,6 +156,7 @@ pub fn ask_all<B: SessionName, R: Threads + Wait + Abort + Sync>(
             Ask::Rotate => call(rt, shared, me, Call::Rotate),
             Ask::Release(number) => call(rt, shared, me, Call::Release(number)),
             Ask::Turn => turn(rt, shared, me),
+            Ask::Due => turn_due(rt, shared, me),
             Ask::Work => work_on(rt, alloc, shared, me),
             Ask::Take(count) => take(rt, shared, me, count),
             Ask::Watch => watch(shared, me),

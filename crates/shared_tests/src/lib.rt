@@ -15,6 +15,8 @@ mod asks;
 #[cfg(test)]
 mod example;
 #[cfg(test)]
+mod flushes;
+#[cfg(test)]
 mod order;
 #[cfg(test)]
 mod parts;

@@ -4,6 +4,7 @@ ghost use Rattle.std.specs.Prelude.{◌≡◌};
 
 use crate::clock::{now, since};
 use crate::keys::{batch_of, key_of};
+use crate::workers::{Filled, Filling, fill};
 use lsm_device::{Device, Refusal};
 use lsm_lives::{Call, Reply};
 use lsm_shared::{Client, Shared, prepare};
@@ -12,7 +13,7 @@ use lsm_trail::{Opened, SessionName};
 use std::alloc::Global;
 use std::marker::Brand;
 use std::rt::Clock;
-use std::sync::Wait;
+use std::sync::{Mutex, Wait};
 use std::thread::{Threads, for_each_mut};
 use std::time::Instant;
 
@@ -20,7 +21,7 @@ use std::time::Instant;
 const MOST_THREADS: usize = 64;
 
 /// What clients do: each makes so many commits of one put, of numbers of its own, in a round, and syncs each or not. Before each it
-/// gets the value of its key so often. The trail has so many places, and who finds it full comes back.
+/// gets the value of its key so often. The trail has so many places, and who finds it full comes back. Or it is a filling by the first.
 #[derive(Clone, Copy)]
 pub(crate) struct Task {
     pub(crate) clients: u32,
@@ -29,12 +30,14 @@ pub(crate) struct Task {
     pub(crate) places: u32,
     pub(crate) synced: bool,
     pub(crate) round: u8,
+    pub(crate) filling: Option<Filling>,
 }
 
-/// The nanoseconds of a session's work, those of its beginning and its end, and how many entries it had.
+/// The nanoseconds of a session's work, the most of a put of a filling, those of its beginning and its end, and how many entries it had.
 #[derive(Clone, Copy)]
 pub(crate) struct Times {
     pub(crate) nanos: u64,
+    pub(crate) longest: u64,
     pub(crate) change: u64,
     pub(crate) entries: u32,
 }
@@ -75,13 +78,18 @@ fn put<D: Device, B: SessionName, R: Wait>(
 }
 
 /// What one client does, until a call is refused.
-fn take_part<D: Device, B: SessionName, R: Wait>(
+fn take_part<D: Device, B: SessionName, R: Threads + Wait + Clock + Sync>(
     rt: &R,
     alloc: Global,
     shared: &Shared<D, Global, B>,
     me: &mut Client<Global, B>,
     task: Task,
+    filled: &Mutex<Filled>,
 ) {
+    if let Some(filling) = task.filling {
+        fill(rt, alloc, shared, me, filling, filled);
+        return;
+    }
     let first = me.number().wrapping_mul(task.commits);
     for place in 0..task.commits {
         if put(rt, alloc, shared, me, first.wrapping_add(place), task).is_none() {
@@ -90,22 +98,24 @@ fn take_part<D: Device, B: SessionName, R: Wait>(
     }
 }
 
-/// All clients do their part at the same time. It answers the nanoseconds.
+/// All clients do their part at the same time. It answers the nanoseconds, and the most of a put of a filling.
 fn timed<D: Device + Send, B: SessionName + Send + Sync, R: Threads + Wait + Clock + Sync>(
     rt: &R,
     alloc: Global,
     shared: &Shared<D, Global, B>,
     clients: &mut [Client<Global, B>],
     task: Task,
-) -> u64 {
+) -> (u64, u64) {
+    let filled = Mutex::new(Filled::NOTHING);
     let start = now(rt);
     for_each_mut(
         rt,
         clients,
         MOST_THREADS,
-        &|_, me| { take_part(rt, alloc, shared, me, task) },
+        &|_, me| { take_part(rt, alloc, shared, me, task, &filled) },
     );
-    since(rt, start)
+    let nanos = since(rt, start);
+    (nanos, filled.into_inner().longest)
 }
 
 /// Ends a session, and lets its trail go. It answers the store, and how many entries there were.
@@ -137,12 +147,13 @@ fn run<D: Device + Drop + Send, B: SessionName + Send + Sync, R: Threads + Wait 
         Err((refusal, _)) => return Err(refusal),
     };
     let begin = since(rt, start);
-    let nanos = timed(rt, alloc, &shared, &mut clients, task);
+    let (nanos, longest) = timed(rt, alloc, &shared, &mut clients, task);
     let end = now(rt);
     let (store, entries) = ended(shared, clients)?;
     let change = begin.saturating_add(since(rt, end));
     let times = Times {
         nanos,
+        longest,
         change,
         entries,
     };

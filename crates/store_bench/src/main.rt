@@ -5,6 +5,7 @@
 //! - `upkeep FILE KEYS RUNS`: loads of so many keys, with all rotations and jobs, by the job that comes next and by the policy;
 //! - `gets FILE KEYS RUNS`: gets and pages of a store of so many keys, from the device and from the cache;
 //! - `rounds FILE RUNS`: changes of rounds, of sessions whose trails are full;
+//! - `workers FILE KEYS RUNS`: a fill by one client without a worker, and with one;
 //! - `memory`, `merges`, or `openings BATCHES TIMES`: a layer.
 //!
 //! With `answers` the workloads are done in small, in memory, where their answers alone are looked at; with no words all layers are
@@ -26,6 +27,7 @@ mod runs;
 mod settling;
 mod sizes;
 mod subject;
+mod workers;
 mod workloads;
 
 use crate::memtable::time_memory;
@@ -33,7 +35,7 @@ use crate::merging::time_merges;
 use crate::openings::time_openings;
 use crate::runs::{check, compare};
 use crate::sizes::{FULL, Sizes};
-use crate::workloads::{KEPT, LOOKS, ROUNDS, WORKLOADS, Workload};
+use crate::workloads::{BESIDE, KEPT, LOOKS, ROUNDS, WORKLOADS, Workload};
 use anyhow::{Error, Result};
 use lsm_device::Refusal;
 use std::env;
@@ -108,6 +110,7 @@ fn measure<R: Files<File = File> + Clock + Threads + Wait + Print + Eprint + All
         "upkeep" => return measure_named(rt, words, &KEPT, true),
         "gets" => return measure_named(rt, words, &LOOKS, true),
         "rounds" => return measure_named(rt, words, &ROUNDS, false),
+        "workers" => return measure_named(rt, words, &BESIDE, true),
         file => return compare(rt, file, FULL, &WORKLOADS, number(words, 1, RUNS)?),
     }
     Ok(true)

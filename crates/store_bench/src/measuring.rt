@@ -7,6 +7,7 @@ use crate::reads::{Asked, count_right, scan};
 use crate::settling::{USUAL, Upkeep, Written};
 use crate::sizes::{CACHE, Sizes};
 use crate::subject::Subject;
+use crate::workers::Filling;
 use crate::workloads::{HUNDRED, SINGLE, Way, Work, Workload};
 use lsm_device::{Device, Refusal};
 use std::alloc::Global;
@@ -25,7 +26,7 @@ pub(crate) struct Measured {
     pub(crate) written: Written,
     /// How many blocks tables hold more than before a load when it is done.
     pub(crate) held: u32,
-    /// The most nanoseconds that a put waits for the jobs of a load, or those of a change of rounds.
+    /// The most nanoseconds that a put waits for the jobs of a load, or takes in a session with them; or those of a change of rounds.
     pub(crate) wait: u64,
 }
 
@@ -184,6 +185,26 @@ fn fill<R: Clock + Threads + Wait + Sync, D: Device + Drop + Send>(
     Ok(measured)
 }
 
+/// A session in which one client fills an empty store, alone or beside a worker, with all flushes and merges in the time. Its wait is
+/// the longest put.
+fn fill_beside<R: Clock + Threads + Wait + Sync, D: Device + Drop + Send>(
+    rt: &R,
+    alloc: Global,
+    subject: &mut Subject<D>,
+    filling: Filling,
+) -> Result<Measured, Refusal> {
+    subject.renew(alloc)?;
+    let mut measured = Measured::of(filling.puts);
+    let free = subject.stat()?.free_blocks;
+    let times = subject.share(rt, alloc, USUAL, filling.task())?;
+    measured.nanos = times.nanos;
+    measured.wait = times.longest;
+    measured.held = free.saturating_sub(subject.stat()?.free_blocks);
+    let batches = u64::from(filling.puts);
+    measured.right = right_of(subject, batches, Asked::Put, filling.puts, filling.round)?;
+    Ok(measured)
+}
+
 /// How many puts a way of committing makes.
 fn count_of(sizes: Sizes, way: Way) -> u32 {
     if way.synced && way.puts == 1 {
@@ -241,6 +262,17 @@ fn task_of(sizes: Sizes, clients: u32, round: u8) -> Task {
         places: 8_192,
         synced: false,
         round,
+        filling: None,
+    }
+}
+
+/// The same of a session whose trail they fill.
+fn full_task_of(sizes: Sizes, clients: u32, round: u8) -> Task {
+    Task {
+        commits: sizes.places,
+        places: sizes.places,
+        gets: 39,
+        ..task_of(sizes, clients, round)
     }
 }
 
@@ -275,12 +307,10 @@ pub(crate) fn measure<R: Clock + Threads + Wait + Sync, D: Device + Drop + Send>
             task.synced = true;
             share(rt, alloc, subject, task, 1)
         }
-        Work::Fill(clients) => {
-            let mut task = task_of(sizes, clients, round);
-            task.commits = sizes.places;
-            task.places = sizes.places;
-            task.gets = 39;
-            fill(rt, alloc, subject, task)
+        Work::Fill(clients) => fill(rt, alloc, subject, full_task_of(sizes, clients, round)),
+        Work::Beside { has_worker } => {
+            let filling = Filling::of(sizes, round, has_worker);
+            fill_beside(rt, alloc, subject, filling)
         }
     }
 }

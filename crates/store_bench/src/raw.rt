@@ -88,7 +88,9 @@ fn calls_of(sizes: Sizes, work: Work, measured: Measured) -> Calls {
             (sizes.logged, Call::ReadSector),
             (2, Call::WriteSynced(1)),
         ],
-        Work::Share(_) | Work::Fill(_) => [(count, Call::Write(1)), NONE, NONE],
+        Work::Share(_) | Work::Fill(_) | Work::Beside { .. } => {
+            [(count, Call::Write(1)), NONE, NONE]
+        }
         Work::ShareSynced(_) => [(count, Call::WriteSynced(1)), NONE, NONE],
     };
     let times = match work {

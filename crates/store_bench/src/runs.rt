@@ -6,7 +6,7 @@ use crate::report::{Sample, report};
 use crate::sizes::{SMALL, Sizes};
 use crate::subject::Subject;
 use crate::told;
-use crate::workloads::{KEPT, LOOKS, ROUNDS, WORKLOADS, Workload};
+use crate::workloads::{BESIDE, KEPT, LOOKS, ROUNDS, WORKLOADS, Workload};
 use anyhow::Result;
 use lsm_device::{Device, FileDevice, MemDevice, Refusal};
 use std::alloc::Global;
@@ -67,7 +67,13 @@ pub(crate) fn check<R: Clock + Threads + Wait + Print + AllocGlobal + Sync>(
     rt: &R,
 ) -> Result<bool> {
     let mut right = true;
-    for workloads in [&WORKLOADS[..], &KEPT[..], &ROUNDS[..], &LOOKS[..]] {
+    for workloads in [
+        &WORKLOADS[..],
+        &KEPT[..],
+        &ROUNDS[..],
+        &LOOKS[..],
+        &BESIDE[..],
+    ] {
         let mut samples = Vec::new(rt.alloc());
         run_small(rt, rt.alloc(), workloads, &mut samples).map_err(told)?;
         for (sample, workload) in samples.iter().zip(workloads) {

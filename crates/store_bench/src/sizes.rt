@@ -27,7 +27,8 @@ pub(crate) struct Sizes {
     pub(crate) keys: u32,
     /// The puts that are committed and synced one by one, by the caller or by the clients of a session.
     pub(crate) synced: u32,
-    /// The puts that a log has when a store is opened, and those of all clients of a session.
+    /// The puts that a log has when a store is opened, or where one client fills it beside a worker; and those of all clients of a
+    /// session.
     pub(crate) logged: u32,
     /// How often the whole map is scanned.
     pub(crate) scans: u32,

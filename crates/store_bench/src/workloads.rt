@@ -47,6 +47,8 @@ pub(crate) enum Work {
     ShareSynced(u32),
     /// So many clients fill the trail of one session: each asks for a value 39 times, and then puts one.
     Fill(u32),
+    /// One client of a session fills an empty store, alone or beside a worker, with all rotations, flushes and merges in the time.
+    Beside { has_worker: bool },
 }
 
 /// A workload with its name, and the ratio of its rate to that of the raw calls, in thousandths, that the store aims at.
@@ -367,5 +369,21 @@ pub(crate) const LOOKS: [Workload; 5] = [
         work: Work::Scan,
         aim: 200,
         round: 8,
+    },
+];
+
+/// The same fill without a worker and with one. They have no aim.
+pub(crate) const BESIDE: [Workload; 2] = [
+    Workload {
+        name: "fill, no worker",
+        work: Work::Beside { has_worker: false },
+        aim: 0,
+        round: 1,
+    },
+    Workload {
+        name: "fill, a worker",
+        work: Work::Beside { has_worker: true },
+        aim: 0,
+        round: 2,
     },
 ];
