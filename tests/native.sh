@@ -1,6 +1,6 @@
 #!/usr/bin/env bash
 # Tests the store in the process of programs in C, Rust and Python: builds the libraries of clients/c, and runs their tests, those of
-# clients/rust, and those of the Python engine over them; and exchanges files with `lsmctl`.
+# clients/rust, and those of the Python engine over them; exchanges files with `lsmctl`; and runs the lines of README.md for C and Rust.
 #
 #     tests/native.sh PROGRAM [PART]
 #
@@ -128,6 +128,30 @@ if command -v pkg-config >/dev/null; then
 fi
 echo "native.sh: libcorwaphi.a and .so: a host of $lines lines, without a warning, as it should be"
 
+# ---- as README.md says it
+
+# Its lines for a language run as they stand there, in a copy of what they name. Only `rt lib` is another one: it takes the archive from above.
+reader=$room/reader
+mkdir -p "$reader"/{clients,crates/corwaphi_c,bin}
+cp -r "$tests/../clients/c" "$tests/../clients/rust" "$reader/clients"
+cp "$tests/../VERSION" "$reader"
+rm -rf "$reader"/clients/{c/build,rust/target}
+cat >"$reader/bin/rt" <<END
+#!/bin/sh
+if [ "\$1" != lib ]; then exec "$(command -v rt)" "\$@"; fi
+mkdir -p out && cp "$(realpath "$archive")" out/libcorwaphi_c.a
+END
+chmod +x "$reader/bin/rt"
+as_told() {
+    what="the lines of README.md for $1"
+    awk -v head="In $1:" '$0 == head {begun = 1; next} begun && /^    / {print substr($0, 5); some = 1; next} some {exit}' "$tests/../README.md" >"$room/lines"
+    [ "$(wc -l <"$room/lines")" = 3 ] || fail 'they are not three'
+    (cd "$reader" && PATH=$reader/bin:$PATH CARGO_TARGET_DIR=$room/target runs bash -e "$room/lines")
+    grep -qx 'pear = ripe' "$room/said" || { cat "$room/said" >&2 && fail 'they print something else'; }
+    what=
+}
+as_told C
+
 # ---- other languages
 
 if has cargo 'the Rust crate'; then
@@ -136,7 +160,8 @@ if has cargo 'the Rust crate'; then
     cargo_runs test --offline
     cargo_runs run --offline --example first -- "$image"
     RUSTDOCFLAGS='-D warnings' cargo_runs doc --offline --no-deps
-    echo 'native.sh: the Rust crate: its tests, its page and its example, as it should be'
+    as_told Rust
+    echo 'native.sh: the Rust crate: its tests, its page, its example and the lines of README.md, as it should be'
 fi
 (
     cd "$tests/../clients/python/tests"

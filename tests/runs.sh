@@ -480,9 +480,10 @@ compacts_halfway() {
     count=$((count + 1))
 }
 
-# A run of level 0 takes 154 of 239 blocks, in tables of 67, 67 and 20, and goes down as a whole, which takes as many, and a block more for
-# each table at most. So it stays where it is, and so do as many keys again that wait for a flush: 145 data blocks, 10 for their keys in
-# indexes and 3 for each of 3 tables at most.
+# A run of level 0 takes 154 of 239 blocks, in tables of 67, 67 and 20, and goes down as a whole. What comes of its 145 data blocks takes 166
+# at most: one more at each of two borders between tables, 10 for their keys in indexes, and 3 for each of 3 tables; and the largest table 72:
+# 64, 5 and 3. So it stays where it is, and so do as many keys again that wait for a flush: 145 data blocks, 10 for their keys in indexes and
+# 3 for each of 3 tables at most.
 halfway() {
     local free='85 are free, at most 85 of them side by side'
     {
@@ -494,7 +495,7 @@ halfway() {
     } >space
     scripts <space
     compacts_halfway half 'generation 5 batches 5 room 2048 waiting 0 runs 1 tables 3 free 85' \
-        "the next step wants up to 157 blocks, up to 68 of them side by side; $free"
+        "the next step wants up to 166 blocks, up to 72 of them side by side; $free"
     {
         echo 'replay half |'
         full_commits 6 5
