@@ -20,7 +20,7 @@ mod spots;
 mod sweeps;
 mod tally;
 
-use crate::sweeps::{Extent, Found};
+use crate::sweeps::{Extent, sweep_all, sweep_one};
 use crate::tally::Tally;
 use anyhow::Result;
 use std::env;
@@ -40,8 +40,14 @@ fn main(rt: HostRuntime) -> Result<ExitCode> {
         None => None,
     };
     let alloc = rt.alloc();
-    let mut found = Found::new(alloc);
-    let ended = found.sweep(&rt, alloc, Extent::of(part), alone);
+    let extent = Extent::of(part);
+    let swept = match alone {
+        Some(place) => sweep_one(&rt, alloc, extent, place),
+        None => sweep_all(&rt, alloc, extent),
+    };
+    let Ok(found) = swept else {
+        return Ok(ExitCode::FAILURE);
+    };
     for (sweep, tally) in [
         ("one call fails", found.faults),
         ("one growth is refused", found.growths),
@@ -69,7 +75,7 @@ fn main(rt: HostRuntime) -> Result<ExitCode> {
     }
     let differences = found.differences.len();
     println!(rt; "{}: {differences} differences", found.told())?;
-    if ended.is_err() || differences > 0 {
+    if differences > 0 {
         return Ok(ExitCode::FAILURE);
     }
     Ok(ExitCode::SUCCESS)

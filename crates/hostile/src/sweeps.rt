@@ -13,7 +13,7 @@ use compared_steps::trouble::Trouble;
 use lsm_device::Refusal;
 use std::alloc::Global;
 use std::sync::Wait;
-use std::thread::Threads;
+use std::thread::{Threads, join};
 
 /// All cases, where a part of them is told in ten-thousandths.
 pub(crate) const WHOLE: u64 = 10_000;
@@ -302,20 +302,94 @@ impl Found {
         }
     }
 
-    /// All sweeps, or the one at a place alone.
-    pub(crate) fn sweep<R: AllocGlobal + Threads + Wait + Sync>(
-        &mut self,
-        rt: &R,
-        alloc: Global,
-        extent: Extent,
-        alone: Option<usize>,
-    ) -> Result<(), Refusal> {
-        if let Some(place) = alone {
-            return self.sweep_at(rt, alloc, place, extent);
-        }
-        for place in 0..LISTS.len().wrapping_add(8) {
-            self.sweep_at(rt, alloc, place, extent)?;
-        }
-        Ok(())
+    /// What these sweeps and others found, all together.
+    fn and(self, others: Found) -> Result<Found, Refusal> {
+        let Found {
+            faults,
+            growths,
+            openings,
+            sessions,
+            replays,
+            images,
+            lives,
+            old_images,
+            front_doors,
+            has_each_kind,
+            mut differences,
+        } = self;
+        differences.extend_from_slice(&others.differences)?;
+        Ok(Found {
+            faults: faults.and(others.faults),
+            growths: growths.and(others.growths),
+            openings: openings.and(others.openings),
+            sessions: sessions.and(others.sessions),
+            replays: replays.and(others.replays),
+            images: images.and(others.images),
+            lives: lives.and(others.lives),
+            old_images: old_images.and(others.old_images),
+            front_doors: front_doors.and(others.front_doors),
+            has_each_kind: has_each_kind || others.has_each_kind,
+            differences,
+        })
     }
+}
+
+/// The sweep at a place alone.
+pub(crate) fn sweep_one<R: AllocGlobal + Threads + Wait + Sync>(
+    rt: &R,
+    alloc: Global,
+    extent: Extent,
+    place: usize,
+) -> Result<Found, Refusal> {
+    let mut found = Found::new(alloc);
+    found.sweep_at(rt, alloc, place, extent)?;
+    Ok(found)
+}
+
+/// In how many threads all sweeps are made.
+const THREADS: usize = 4;
+
+/// The sweeps of one thread: those at each fourth place.
+fn sweep_share<R: AllocGlobal + Threads + Wait + Sync>(
+    rt: &R,
+    alloc: Global,
+    extent: Extent,
+    share: usize,
+) -> Result<Found, Refusal> {
+    let mut found = Found::new(alloc);
+    for place in 0..LISTS.len().wrapping_add(8) {
+        if place % THREADS == share {
+            found.sweep_at(rt, alloc, place, extent)?;
+        }
+    }
+    Ok(found)
+}
+
+/// The sweeps of two threads.
+fn sweep_two<R: AllocGlobal + Threads + Wait + Sync>(
+    rt: &R,
+    alloc: Global,
+    extent: Extent,
+    (one, two): (usize, usize),
+) -> Result<Found, Refusal> {
+    let (first, second) = join(
+        rt,
+        || -> Result<Found, Refusal> { sweep_share(rt, alloc, extent, one) },
+        || -> Result<Found, Refusal> { sweep_share(rt, alloc, extent, two) },
+    );
+    first?.and(second?)
+}
+
+/// All sweeps, in threads.
+pub(crate) fn sweep_all<R: AllocGlobal + Threads + Wait + Sync>(
+    rt: &R,
+    alloc: Global,
+    extent: Extent,
+) -> Result<Found, Refusal> {
+    let (first, second) = join(
+        rt,
+        || -> Result<Found, Refusal> { sweep_two(rt, alloc, extent, (0, 1)) },
+        || -> Result<Found, Refusal> { sweep_two(rt, alloc, extent, (2, 3)) },
+    );
+    first?.and(second?)
 }

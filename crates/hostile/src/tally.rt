@@ -21,6 +21,17 @@ impl Tally {
         tables: 0,
     };
 
+    /// What was tried in both.
+    pub(crate) fn and(self, other: Tally) -> Tally {
+        Tally {
+            cases: self.cases.wrapping_add(other.cases),
+            failed: self.failed.wrapping_add(other.failed),
+            refused: self.refused.wrapping_add(other.refused),
+            openings: self.openings.wrapping_add(other.openings),
+            tables: self.tables.wrapping_add(other.tables),
+        }
+    }
+
     pub(crate) fn count_case(&mut self) {
         self.cases = self.cases.wrapping_add(1);
     }
