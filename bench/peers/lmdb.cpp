@@ -53,7 +53,7 @@ private:
 
 class Store {
 public:
-    Store(const std::string& folder, std::size_t) {
+    Store(const std::string& folder, std::uint32_t, std::size_t) {
         check(mdb_env_create(&env_));
         check(mdb_env_set_mapsize(env_, ROOM));
         check(mdb_env_open(env_, folder.c_str(), MDB_NOSYNC, 0644));

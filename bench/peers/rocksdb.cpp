@@ -21,7 +21,7 @@ void check(const rocksdb::Status& status) {
 
 class Store {
 public:
-    Store(const std::string& folder, std::size_t buffer) {
+    Store(const std::string& folder, std::uint32_t, std::size_t buffer) {
         rocksdb::Options options;
         options.create_if_missing = true;
         if (buffer != 0) {

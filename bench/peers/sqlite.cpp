@@ -9,7 +9,7 @@ namespace {
 
 class Store {
 public:
-    Store(const std::string& folder, std::size_t) {
+    Store(const std::string& folder, std::uint32_t, std::size_t) {
         check(sqlite3_open((folder + "/map.db").c_str(), &db_));
         execute("PRAGMA journal_mode=WAL");
         execute("PRAGMA synchronous=NORMAL");

@@ -1,10 +1,13 @@
 // The workloads, over any store that has
 //
-//     Store(folder, buffer)       opens it, with a write buffer of so many bytes, or of as many as it takes by itself
-//     where they are 0 set_synced(synced)          whether what is put from here on is synced put(key, value) puts one
+//     Store(folder, keys, buffer)          opens it for so many keys, with a write buffer of so many bytes, or where
+//                                          they are 0 of as many as it takes by itself
+//     set_synced(synced)                   whether what is put from here on is synced
+//     put(key, value)                      puts one
 //     begin(), add(key, value), commit()   puts many at once
-//     get(key, look)              has `look` see the value, and tells whether there is one
-//     rows(from, most, look)      has `look` see so many keys and values, and answers the key behind them, or none
+//     get(key, look)                       has `look` see the value, and tells whether there is one
+//     rows(from, most, look)               has `look` see so many keys and values, and answers the key behind them, or
+//                                          none
 #pragma once
 
 #include "keys.hpp"
@@ -85,7 +88,7 @@ private:
     // Closes the store and opens it again, so that nothing is in its own caches.
     void open_again() {
         store_.reset();
-        store_ = std::make_unique<Store>(folder_, buffer_);
+        store_ = std::make_unique<Store>(folder_, keys_, buffer_);
         rest();
     }
 
@@ -94,7 +97,7 @@ private:
         store_.reset();
         std::filesystem::remove_all(folder_);
         std::filesystem::create_directories(folder_);
-        store_ = std::make_unique<Store>(folder_, buffer_);
+        store_ = std::make_unique<Store>(folder_, keys_, buffer_);
     }
 
     // Loads the store where no row before has filled it.
