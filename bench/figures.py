@@ -20,9 +20,11 @@ ROWS = (
     "keys in order",
 )
 OURS = "ours"
+FROM_C = "corwaphi-c"
 # The engines with their names. A peer counts for the best one where it is as its options are by default.
 ENGINES = {
     OURS: "Corwaphi",
+    FROM_C: "Corwaphi from C",
     "leveldb": "LevelDB",
     "rocksdb": "RocksDB",
     "lmdb": "LMDB",

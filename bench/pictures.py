@@ -8,7 +8,7 @@ from dataclasses import dataclass
 from typing import Callable, Optional
 from xml.sax.saxutils import escape
 
-from figures import ENGINES, OURS, ROWS, Results, caption, missing
+from figures import ENGINES, FROM_C, OURS, ROWS, Results, caption, missing
 
 TEXT = "#777777"
 LINE = "#8a8a8a"
@@ -27,6 +27,7 @@ class Look:
 
 LOOKS = {
     OURS: Look("#d1621a", "circle", width=3),
+    FROM_C: Look("#d1621a", "circle", "5 3"),
     "leveldb": Look("#0e86c7", "square"),
     "leveldb-buffer": Look("#0e86c7", "square", "5 3"),
     "rocksdb": Look("#0a9a70", "triangle"),

@@ -15,7 +15,7 @@ from build_test import TOP, load
 sys.path.insert(0, str(TOP / "bench"))
 import figures  # noqa: E402
 import pictures  # noqa: E402
-from figures import ENGINES, OURS, ROWS, Figure, Results, Sample  # noqa: E402
+from figures import ENGINES, FROM_C, OURS, ROWS, Figure, Results, Sample  # noqa: E402
 
 run = load("bench/run")
 
@@ -66,8 +66,9 @@ def made(sizes: tuple[int, ...] = (20_000, 200_000, 1_000_000)) -> Results:
     results = Results({"machine": "A Processor", "processors": "4", "disk": "a disk", "file system": "ext4", "sync": "0.1 ms", "runs": "3"})
     for keys in sizes:
         for place, row in enumerate(ROWS):
-            for number, engine in enumerate(it for it in ENGINES if it != OURS):
+            for number, engine in enumerate(it for it in ENGINES if it not in (OURS, FROM_C)):
                 results.figures.append(figure(row, keys, engine, 1e6 / (number + 1) / math.log10(keys)))
+            results.figures.append(figure(row, keys, FROM_C, 3e4 * 2**place / math.log10(keys)))
             if row != "keys in order" and keys < 1_000_000:
                 results.figures.append(figure(row, keys, OURS, 2e4 * 2**place / math.log10(keys)))
     return results
@@ -109,6 +110,13 @@ class Tables(unittest.TestCase):
         self.assertEqual(results.ratio("fill", 100, results.best("fill", 100)), 0.75)
         self.assertIsNone(results.ratio("fill", 100, "sqlite"))
         self.assertIsNone(results.best("fill", 200))
+
+    def test_the_library_for_c_stands_beside_ours_and_is_no_peer(self) -> None:
+        results = made()
+        self.assertTrue(figures.rates_table(results, 20_000).startswith("| row | Corwaphi | Corwaphi from C | LevelDB |"))
+        rates = [results.rate("keys in order", 20_000, it) or 0 for it in (FROM_C, "leveldb")]
+        self.assertGreater(*rates)
+        self.assertEqual(results.best("keys in order", 20_000), "leveldb")
 
     def test_what_is_missing(self) -> None:
         told = figures.missing(made())
@@ -197,6 +205,8 @@ class Runs(unittest.TestCase):
     def test_words(self) -> None:
         words = run.words_of(["quiet", "--keys", "1000,200", "--runs", "5", "--rows", "load,fill", "--engines", "sqlite,leveldb"])
         self.assertEqual((words.keys, words.runs, words.rows, words.engines), ([1000, 200], 5, ["fill", "load"], ["leveldb", "sqlite"]))
+        words = run.words_of(["quiet", "--library", "some.a"])
+        self.assertEqual((words.library, words.engines), (Path("some.a"), [it for it in ENGINES if it not in (OURS, "rocksdb-buffer")]))
         for bad in (lambda: run.odd("4"), lambda: run.numbers("150"), lambda: run.chosen("fil", ["fill"])):
             self.assertRaises(argparse.ArgumentTypeError, bad)
 
@@ -207,9 +217,33 @@ class Runs(unittest.TestCase):
     def test_what_is_not_installed_is_skipped(self) -> None:
         with tempfile.TemporaryDirectory() as folder, unittest.mock.patch.dict("os.environ", CXX="false"):
             with unittest.mock.patch.object(run, "tell") as told:
-                self.assertEqual(run.build(Path(folder), ["leveldb", "leveldb-buffer", "sqlite"]), {})
-        self.assertEqual(told.call_count, 2)
-        self.assertIn("apt-get install libsqlite3-dev", told.call_args[0][0])
+                engines = ["corwaphi-c", "leveldb", "leveldb-buffer", "sqlite"]
+                self.assertEqual(run.build(Path(folder), engines, Path(folder) / "none.a"), {})
+        lines = [it.args[0] for it in told.call_args_list]
+        self.assertEqual([it.partition(" is ")[0] for it in lines], ["Corwaphi from C", "LevelDB", "SQLite"])
+        self.assertIn("rt lib in crates/corwaphi_c, or --library ARCHIVE", lines[0])
+        self.assertIn("apt-get install libsqlite3-dev", lines[2])
+
+    def test_what_is_named_has_to_be_there(self) -> None:
+        for word in ("--ours", "--library"):
+            self.assertRaisesRegex(SystemExit, "none is no file", run.measure, run.words_of(["name", word, "/none"]), Path())
+
+    def test_the_library_for_c_is_built_over_an_archive(self) -> None:
+        with tempfile.TemporaryDirectory() as name, unittest.mock.patch.object(run.subprocess, "run") as ran:
+            folder = Path(name).resolve()
+            (folder / "some.a").touch()
+            programs = run.build(folder, ["corwaphi-c"], folder / "some.a")
+        self.assertEqual(programs, {"corwaphi-c": folder / "corwaphi-c"})
+        library, program = (it.args[0] for it in ran.call_args_list)
+        self.assertEqual((library[0], library[-1]), ("make", str(folder / "c" / "libcorwaphi.a")))
+        self.assertIn(f"ARCHIVE={folder / 'some.a'}", library)
+        for word in (str(run.PEERS / "corwaphi.cpp"), str(folder / "corwaphi-c"), library[-1]):
+            self.assertIn(word, program)
+
+    def test_each_engine_has_a_program(self) -> None:
+        programs = {it: run.program_of(it) for it in ENGINES if it != OURS}
+        self.assertEqual([it for it, program in programs.items() if it != program], ["leveldb-buffer", "rocksdb-buffer"])
+        self.assertEqual(set(programs.values()), {FROM_C, *run.LIBRARIES})
 
     def test_ours_is_asked_once_for_what_it_refuses(self) -> None:
         with tempfile.TemporaryDirectory() as name:
