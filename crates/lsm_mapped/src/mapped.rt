@@ -1,12 +1,15 @@
 // A device over a mapping, for one call.
-ghost use Rattle.std.specs.Prelude.{◌≡◌, ◌<◌, ◌^◌, false, is_ok};
+ghost use Rattle.std.specs.Prelude.{◌≡◌, ◌↔◌, ◌<◌, ◌≤◌, ◌^◌, ◌+◌, ◌*◌, All, IsTrue, is_ok, length, take, drop};
+ghost use Rattle.lsm_mapped.specs.Disks.{IsWithin};
+ghost use Rattle.lsm_mapped.specs.Journals.{records_in};
 
 use crate::Journal;
 use lsm_device::{Calls, Device, Fault};
 
 const SECTOR_BYTES: usize = 512;
 
-/// The host's mapping of a file, and room for a journal of what a call writes. Contracts are told nothing of what it holds.
+/// The host's mapping of a file, and room for a journal of what a call writes. Contracts are told the disks that the file has had once
+/// the records of the journal are made on it. Where the mapping ends before the sectors do, it is as if zeros followed.
 ///
 /// A read of sectors that the mapping doesn't have is a fault, and so is a write or a sync for which the journal has no room. A read
 /// behind a write is a fault too, since the mapping doesn't have that write yet: no call of a store makes one.
@@ -17,12 +20,24 @@ pub struct MappedDevice<'a> {
     sectors: u32,
     calls: Calls,
     ghost fits: { sectors < 2 ^ 32 },
+    ghost bytes: { All (λ b. b < 2 ^ 8) image.now },
+    ghost within: { All (IsWithin sectors) (records_in journal) },
 }
 
 impl<'a> MappedDevice<'a> {
+    ghost use Rattle.std.specs.Prelude.{[], ◌∷◌};
+    ghost use Rattle.lsm_device.specs.Disk.{at_rest};
+    ghost use Rattle.lsm_mapped.specs.Devices.{image_on, records_on};
+    ghost use Rattle.lsm_mapped.specs.Disks.{after_records, mapped};
+    ghost use Rattle.lsm_mapped.specs.Journals.{loan_in, room_in};
+    ghost use Rattle.lsm_mapped.specs.Records.{syncs_in, text_of, writes_in};
+
     /// The device of so many sectors over a mapping, which has 512 bytes for each of them, and with an empty journal.
     pub fn new(image: &'a [u8], journal: &'a mut [u8], sectors: u32) -> MappedDevice<'a>
         ensures size { (⟦<MappedDevice<'a> as Device>⟧.medium result).size ≡ sectors }
+        ensures medium { ⟦<MappedDevice<'a> as Device>⟧.medium result ≡ mapped sectors image.now journal.entry.ghost_name }
+        ensures records { records_on result ≡ [] }
+        ensures room { room_in result.journal ≡ length journal.old }
     {
         MappedDevice {
             image,
@@ -32,8 +47,17 @@ impl<'a> MappedDevice<'a> {
         }
     }
 
-    /// How many bytes of the journal are filled.
-    pub fn used(&self) -> usize {
+    /// How many bytes of the journal are filled: with the text of its records, and nothing else.
+    pub fn used(&self) -> usize
+        ensures text { take result self.now.journal.bytes.now ≡ text_of (records_on self.now) }
+        ensures size { result ≡ length (text_of (records_on self.now)) }
+        ensures within { result ≤ room_in self.now.journal }
+        ensures loan { (⟦<MappedDevice<'a> as Device>⟧.medium self.now).lasting.times_set ≡ loan_in self.now.journal }
+
+        // The disks that it tells are those that the mapping has had once the records are made on it: one for each write and each sync.
+        ensures made { (⟦<MappedDevice<'a> as Device>⟧.medium self.now).history ≡ after_records (records_on self.now) (at_rest (image_on self.now) ∷ []) }
+        ensures many { length (⟦<MappedDevice<'a> as Device>⟧.medium self.now).history ≡ 1 + writes_in (records_on self.now) + syncs_in (records_on self.now) }
+    {
         self.journal.used()
     }
 }
@@ -44,27 +68,34 @@ fn answer(ok: bool) -> Result<(), Fault>
     if ok { Ok(()) } else { Err(Fault) }
 }
 
-fn copy(image: &[u8], at: u32, out: &mut [u8; 512]) -> bool {
+// Copies a sector of the mapping, where it has it.
+fn copy(image: &[u8], at: u32, out: &mut [u8; 512]) -> bool
+    ensures there { IsTrue result ↔ (512 * at + 512 ≤ length image.now) }
+    ensures bytes { IsTrue result → out.new ≡ take 512 (drop (512 * at) image.now) }
+{
     let from = SECTOR_BYTES * at as usize;
-    match image.get(from..from + SECTOR_BYTES) {
-        Some(sector) => {
-            out.copy_from_slice(sector);
-            true
-        }
-        None => false,
+    if image.len() < from + SECTOR_BYTES {
+        return false;
     }
+    out.copy_from_slice(&image[from..from + SECTOR_BYTES]);
+    true
 }
 
 impl<'a> Device for MappedDevice<'a> {
-    ghost use Rattle.std.specs.Prelude.{false, []};
-    ghost use Rattle.std.proofs.lemmas.Bool.{false≢true};
-    ghost use Rattle.lsm_device.specs.Medium.{silent};
+    ghost use Rattle.std.specs.Prelude.{◌≡◌, ◌↔◌, ◌<◌, ◌≤◌, ◌⊎◌, ◌+◌, ◌*◌, false, length, IsTrue, OnOk, OnErr, is_ok, slice_get, Some};
+    ghost use Rattle.lsm_device.specs.Calls.{after_read, after_write, after_sync};
+    ghost use Rattle.lsm_device.specs.Disk.{seen, appended, synced};
+    ghost use Rattle.lsm_device.specs.History.{Becomes};
+    ghost use Rattle.lsm_device.specs.Medium.{disk};
+    ghost use Rattle.lsm_mapped.specs.Devices.{fuses_on_kept, history_on_sound, medium_on, records_on};
+    ghost use Rattle.lsm_mapped.specs.Journals.{room_in, wrote_in};
+    ghost use Rattle.lsm_mapped.specs.Records.{text_of, with_sync, with_write};
 
-    ghost medium = { λ d. record { size = d.sectors; lasting = silent; calls = d.calls; history = [] } };
+    ghost medium = { medium_on };
 
-    ghost sound = { λ d t. absurd (false≢true t) };
+    ghost sound = { λ d t. history_on_sound d };
 
-    ghost keeps_fuses = { λ d t. absurd (false≢true t) };
+    ghost keeps_fuses = { λ d t. fuses_on_kept d };
 
     ghost small = { λ d. d.fits };
 
@@ -72,19 +103,58 @@ impl<'a> Device for MappedDevice<'a> {
         self.sectors
     }
 
-    fn read(&mut self, at: u32, out: &mut [u8; 512]) -> Result<(), Fault> {
+    fn read(&mut self, at: u32, out: &mut [u8; 512]) -> Result<(), Fault>
+        requires { at < (medium_on self.old).size }
+        ensures bytes { OnOk result (slice_get (seen (disk (medium_on self.old))) at ≡ Some out.new) }
+        ensures unchanged { (medium_on self.new).history ≡ (medium_on self.old).history }
+        ensures counted { (medium_on self.new).calls ≡ after_read (is_ok result) (medium_on self.old).calls }
+        ensures same_size { (medium_on self.new).size ≡ (medium_on self.old).size }
+        ensures same_lasting { (medium_on self.new).lasting ≡ (medium_on self.old).lasting }
+
+        // It answers Ok where no write was tried and the mapping has the sector.
+        ensures answers { IsTrue (is_ok result) ↔ ((wrote_in self.old.journal ≡ false) × (512 * at + 512 ≤ length self.old.image.now)) }
+        ensures same_journal { self.new.journal ≡ self.old.journal }
+    {
         let ok = !self.journal.has_write() && copy(self.image, at, out);
         self.calls.count_read(ok);
         answer(ok)
     }
 
-    fn write(&mut self, at: u32, bytes: &[u8; 512]) -> Result<(), Fault> {
+    fn write(&mut self, at: u32, bytes: &[u8; 512]) -> Result<(), Fault>
+        requires { at < (medium_on self.old).size }
+        ensures pends { OnOk result (Becomes (appended (record { at = at; bytes = bytes.now }) (disk (medium_on self.old)))
+            (medium_on self.old).history (medium_on self.new).history) }
+        ensures may_pend { OnErr result (((medium_on self.new).history ≡ (medium_on self.old).history)
+            ⊎ Becomes (appended (record { at = at; bytes = bytes.now }) (disk (medium_on self.old)))
+            (medium_on self.old).history (medium_on self.new).history) }
+        ensures counted { (medium_on self.new).calls ≡ after_write (is_ok result) (medium_on self.old).calls }
+        ensures same_size { (medium_on self.new).size ≡ (medium_on self.old).size }
+        ensures same_lasting { (medium_on self.new).lasting ≡ (medium_on self.old).lasting }
+
+        // It answers Ok where the journal has room, and only then it changes the records, and pends.
+        ensures answers { IsTrue (is_ok result) ↔ (length (text_of (with_write at bytes.now (records_on self.old))) ≤ room_in self.old.journal) }
+        ensures written { OnOk result (records_on self.new ≡ with_write at bytes.now (records_on self.old)) }
+        ensures refused { OnErr result (records_on self.new ≡ records_on self.old) }
+        ensures same_room { room_in self.new.journal ≡ room_in self.old.journal }
+    {
         let ok = self.journal.write(at, bytes);
         self.calls.count_write(ok);
         answer(ok)
     }
 
-    fn sync(&mut self) -> Result<(), Fault> {
+    fn sync(&mut self) -> Result<(), Fault>
+        ensures stands { OnOk result (Becomes (synced (disk (medium_on self.old))) (medium_on self.old).history (medium_on self.new).history) }
+        ensures unchanged { OnErr result ((medium_on self.new).history ≡ (medium_on self.old).history) }
+        ensures counted { (medium_on self.new).calls ≡ after_sync (is_ok result) (medium_on self.old).calls }
+        ensures same_size { (medium_on self.new).size ≡ (medium_on self.old).size }
+        ensures same_lasting { (medium_on self.new).lasting ≡ (medium_on self.old).lasting }
+
+        // It answers Ok where the journal has room, and only then it changes the records.
+        ensures answers { IsTrue (is_ok result) ↔ (length (text_of (with_sync (records_on self.old))) ≤ room_in self.old.journal) }
+        ensures recorded { OnOk result (records_on self.new ≡ with_sync (records_on self.old)) }
+        ensures refused { OnErr result (records_on self.new ≡ records_on self.old) }
+        ensures same_room { room_in self.new.journal ≡ room_in self.old.journal }
+    {
         let ok = self.journal.sync();
         self.calls.count_sync(ok);
         answer(ok)
