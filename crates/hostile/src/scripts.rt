@@ -302,8 +302,11 @@ const LOWERED: [Line; 10] = [
     Line::Scan(0, 64),
 ];
 
+/// How many lists there are.
+pub(crate) const COUNT: usize = 16;
+
 /// The lists.
-pub(crate) const LISTS: [List; 16] = [
+pub(crate) const LISTS: [List; COUNT] = [
     List {
         name: "a store with a torn batch",
         past: &BATCHES,

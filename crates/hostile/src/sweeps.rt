@@ -3,16 +3,19 @@
 use crate::attacked::List;
 use crate::deeds::SITTINGS;
 use crate::explorations::TOURS;
-use crate::scripts::LISTS;
+use crate::scripts::{COUNT, LISTS};
 use crate::tally::Tally;
 use crate::{
     explorations, faults, foreign, front_doors, growths, lives, old_images, openings, replays,
     sessions,
 };
+use compared_steps::disk::formatted;
 use compared_steps::trouble::Trouble;
 use lsm_device::Refusal;
+use plain_machine::LOG_SECTORS;
 use std::alloc::Global;
 use std::sync::Wait;
+use std::sync::atomic::{AtomicUsize, Ordering};
 use std::thread::{Threads, join};
 
 /// All cases, where a part of them is told in ten-thousandths.
@@ -26,6 +29,9 @@ const EACH: u64 = 1_000;
 
 /// Each of so many first calls is tried in any part: a short list has few syncs.
 const FIRST: u64 = 16;
+
+/// How many sweeps there are: those of the lists, and eight others.
+const PLACES: usize = COUNT + 8;
 
 /// How much is tried.
 #[derive(Clone, Copy)]
@@ -99,7 +105,19 @@ pub(crate) struct Found {
 }
 
 impl Found {
-    pub(crate) fn new(alloc: Global) -> Found {
+    /// Nothing yet. The memory of a device stays with the program as long as this does: the next device is made where one was before, and
+    /// since the list of differences stands behind that place, the allocator doesn't give it back to the system. Otherwise half of a
+    /// run is the system's work on memory that is touched for the first time.
+    fn keeping_memory(alloc: Global) -> Result<Found, Refusal> {
+        // By the first one that is let go the allocator learns how large the blocks are that it may keep.
+        drop(formatted(alloc, LOG_SECTORS)?);
+        let device = formatted(alloc, LOG_SECTORS)?;
+        let differences = Vec::with_capacity(alloc, 64)?;
+        drop(device);
+        Ok(Found::with(differences))
+    }
+
+    fn with(differences: Vec<Difference>) -> Found {
         Found {
             faults: Tally::NONE,
             growths: Tally::NONE,
@@ -111,7 +129,7 @@ impl Found {
             old_images: Tally::NONE,
             front_doors: Tally::NONE,
             has_each_kind: false,
-            differences: Vec::new(alloc),
+            differences,
         }
     }
 
@@ -341,55 +359,55 @@ pub(crate) fn sweep_one<R: AllocGlobal + Threads + Wait + Sync>(
     extent: Extent,
     place: usize,
 ) -> Result<Found, Refusal> {
-    let mut found = Found::new(alloc);
+    let mut found = Found::keeping_memory(alloc)?;
     found.sweep_at(rt, alloc, place, extent)?;
     Ok(found)
 }
 
-/// In how many threads all sweeps are made.
-const THREADS: usize = 4;
-
-/// The sweeps of one thread: those at each fourth place.
-fn sweep_share<R: AllocGlobal + Threads + Wait + Sync>(
+/// The sweeps of one thread. The next place is the number that is left, less one: the last places take longest.
+fn sweep_some<R: AllocGlobal + Threads + Wait + Sync>(
     rt: &R,
     alloc: Global,
     extent: Extent,
-    share: usize,
+    left: &AtomicUsize,
 ) -> Result<Found, Refusal> {
-    let mut found = Found::new(alloc);
-    for place in 0..LISTS.len().wrapping_add(8) {
-        if place % THREADS == share {
-            found.sweep_at(rt, alloc, place, extent)?;
+    let mut found = Found::keeping_memory(alloc)?;
+    for _ in 0..PLACES {
+        let place = left.fetch_sub(1, Ordering::SeqCst).wrapping_sub(1);
+        if place >= PLACES {
+            return Ok(found);
         }
+        found.sweep_at(rt, alloc, place, extent)?;
     }
     Ok(found)
 }
 
 /// The sweeps of two threads.
-fn sweep_two<R: AllocGlobal + Threads + Wait + Sync>(
+fn sweep_more<R: AllocGlobal + Threads + Wait + Sync>(
     rt: &R,
     alloc: Global,
     extent: Extent,
-    (one, two): (usize, usize),
+    left: &AtomicUsize,
 ) -> Result<Found, Refusal> {
     let (first, second) = join(
         rt,
-        || -> Result<Found, Refusal> { sweep_share(rt, alloc, extent, one) },
-        || -> Result<Found, Refusal> { sweep_share(rt, alloc, extent, two) },
+        || -> Result<Found, Refusal> { sweep_some(rt, alloc, extent, left) },
+        || -> Result<Found, Refusal> { sweep_some(rt, alloc, extent, left) },
     );
     first?.and(second?)
 }
 
-/// All sweeps, in threads.
+/// All sweeps, in four threads.
 pub(crate) fn sweep_all<R: AllocGlobal + Threads + Wait + Sync>(
     rt: &R,
     alloc: Global,
     extent: Extent,
 ) -> Result<Found, Refusal> {
+    let left = AtomicUsize::new(PLACES);
     let (first, second) = join(
         rt,
-        || -> Result<Found, Refusal> { sweep_two(rt, alloc, extent, (0, 1)) },
-        || -> Result<Found, Refusal> { sweep_two(rt, alloc, extent, (2, 3)) },
+        || -> Result<Found, Refusal> { sweep_more(rt, alloc, extent, &left) },
+        || -> Result<Found, Refusal> { sweep_more(rt, alloc, extent, &left) },
     );
     first?.and(second?)
 }
