@@ -83,16 +83,7 @@ after_within s Rotate = omega arith
 after_within s LogRoom = omega arith
 
 besides_within : (b : ℕ) (s : State) (call : Call) → s.generation ≤ b → AreWithin (b + 1) (left_besides s call)
-besides_within b s (Commit batch) is = (omega (arith, is), tt)
-besides_within b s (CommitIf guards batch) is = (omega (arith, is), tt)
-besides_within b s Sync is = tt
-besides_within b s (SyncTo number) is = tt
-besides_within b s (Get at key) is = tt
-besides_within b s (Scan at from to limit) is = tt
-besides_within b s Snapshot is = tt
-besides_within b s (Release number) is = tt
-besides_within b s Rotate is = (omega (arith, is), tt)
-besides_within b s LogRoom is = tt
+besides_within b s call is = (omega (arith, after_within s call, is), tt)
 
 answered : (b : ℕ) (s : State) (call : Call) → IsWithin b s → IsWithin (b + 1) (after s call)
 answered b s call is = record {

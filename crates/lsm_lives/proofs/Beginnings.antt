@@ -33,7 +33,7 @@ use Rattle.lsm_machine.proofs.CrashStates.{IsAnswer}
 use Rattle.lsm_machine.proofs.Unrefused.{none_taken}
 use Rattle.lsm_machine.proofs.WorkReplies.{answered_unrefused, never_unread}
 use Rattle.lsm_lives.specs.Asked.{Asked, Told, Own, Build, AcceptBuilt, Replied, Built, result_of, step_in, HasNoResult, IsTold, AreTold}
-use Rattle.lsm_lives.specs.Batches.{Act, Calls, Installs, Works, GoesByInstall, GoesByWork, Goes, taken_by, taken, synced_by, synced_from, flying, KeepsOn, KeepsBatches, act_of, acts_by, replies_by, act_asked, reply_told, acts_asked, replies_told}
+use Rattle.lsm_lives.specs.Batches.{Act, Calls, Installs, Works, GoesByWork, Goes, taken_by, taken, synced_by, synced_from, flying, KeepsOn, KeepsBatches, act_of, acts_by, replies_by, act_asked, reply_told, acts_asked, replies_told}
 use Rattle.lsm_lives.specs.Calls.{asked_of, reply_of, told_of}
 use Rattle.lsm_lives.specs.Devices.{KeepsBatchesOn}
 use Rattle.lsm_lives.specs.Living.{IsLifeTold, AreLivesTold, asked_by, told_by, KeepPromise}
@@ -49,8 +49,7 @@ use Rattle.lsm_lives.specs.declared.living.Life.{Life as GivenLife}
 -- the state goes so by an act that was answered so
 abbrev GoesOne : State → Act → Reply → State → Type 0
 GoesOne s (Calls call) reply to = Allows s call reply × (to ≡ next s call reply)
-GoesOne s Installs reply to = GoesByInstall s reply to
-GoesOne s Works reply to = GoesByWork s reply to
+GoesOne s act reply to = GoesByWork s act reply to
 
 goes_on : (s to last : State) (act : Act) (reply : Reply) (acts : List Act) (replies : List Reply) → GoesOne s act reply to → Goes to acts replies last → Goes s (act ∷ acts) (reply ∷ replies) last
 goes_on s to last (Calls call) reply acts replies one more = (one.0, subst (λ (t : State). Goes t acts replies last) one.1 more)
@@ -112,15 +111,15 @@ none_is (Some x) h = absurd cc
 
 -- a piece that is no install
 module _ (m : Machine) (piece : Work) (kept : state_after m piece ≡ m.state) (besides : work_left_besides m piece ≡ []) where
-  fault_goes : IsNone (work_refusal m piece) → GoesByWork m.state (Refused Io) (next_worked m piece (Refused Io)).state
+  fault_goes : IsNone (work_refusal m piece) → GoesByWork m.state Works (Refused Io) (next_worked m piece (Refused Io)).state
   fault_goes none = by (work_use m piece)
     where
-      by : (used : Use) → GoesByWork m.state (Refused Io) (after_work_fault m piece used).state
+      by : (used : Use) → GoesByWork m.state Works (Refused Io) (after_work_fault m piece used).state
       by Untouched = inl refl
       by Reads = inl refl
       by Changes = inr (unrefused_runs m piece (none_is (work_refusal m piece) none), ap (λ (os : List CrashState). record m.state { stopped = Some os }) besides)
 
-  work_goes : (reply : Reply) → WorkAllows m piece reply → GoesByWork m.state reply (next_worked m piece reply).state
+  work_goes : (reply : Reply) → WorkAllows m piece reply → GoesByWork m.state Works reply (next_worked m piece reply).state
   work_goes (Refused Io) may = fault_goes may.0
   work_goes (Refused e) may = refl
   work_goes (Number n) may = kept
@@ -153,7 +152,7 @@ module _ (m : Machine) (job : ℕ) where
   none_but_done : (reply : Reply) → IsAnswer reply → reply ≡ work_decided m (Install job) → reply ≡ Done
   none_but_done reply answer is = (answered_unrefused m (Install job) reply answer is).1
 
-  install_goes : (reply : Reply) → WorkAllows m (Install job) reply → GoesByInstall m.state reply (next_worked m (Install job) reply).state
+  install_goes : (reply : Reply) → WorkAllows m (Install job) reply → GoesByWork m.state Installs reply (next_worked m (Install job) reply).state
   install_goes Done may =
       let none = (answered_unrefused m (Install job) Done tt may).0 in
       let to = installs none in
@@ -186,11 +185,11 @@ module _ (m : Machine) (job : ℕ) where
 
 -- a build, of which something else is told than what the store replied
 module _ (m : Machine) (job : ℕ) (input : MergeInput) (reply : Reply) (lent : reply ≡ Handed input) where
-  build_heard : (told : Reply) → told ≡ as_told told → ((s : State) → GoesByWork s told s) → IsHeard m (Worked (Ask job)) reply Works told
+  build_heard : (told : Reply) → told ≡ as_told told → ((s : State) → GoesByWork s Works told s) → IsHeard m (Worked (Ask job)) reply Works told
   build_heard told is quiet = record {
     made = told;
     told_so = is;
-    goes = subst (GoesByWork m.state told) (ap (λ (r : Reply). (next_worked m (Ask job) r).state) (sym lent)) (quiet m.state);
+    goes = subst (GoesByWork m.state Works told) (ap (λ (r : Reply). (next_worked m (Ask job) r).state) (sym lent)) (quiet m.state);
     taken = refl;
     synced = λ opened done known. refl;
     flies = λ steps replies acts others same. same;

@@ -1,10 +1,10 @@
 -- Ring 1 of the theorem: what lives on a device come to in the words of calls, replies, batches and maps alone. Of pieces of work
 -- it says only that they change no map, and that an install makes all batches outlast a crash.
-use Rattle.std.specs.Prelude.{◌≡◌, ◌⊎◌, ℕ, ◌+◌, nat_le, Bool, List, [], ◌∷◌, ◌++◌, length, map, Some, IsNone, Contains, if◌then◌else◌}
+use Rattle.std.specs.Prelude.{◌≡◌, ◌≢◌, ◌⊎◌, ℕ, ◌+◌, nat_le, Bool, List, [], ◌∷◌, ◌++◌, length, map, Some, IsNone, Contains, if◌then◌else◌}
 use Rattle.std.specs.declared.vec.Vec.{Vec}
 use Rattle.lsm_codec.specs.Map.{Operation}
 use Rattle.lsm_device.specs.declared.refusal.Refusal.TheVariants.{Io, Stopped}
-use Rattle.lsm_machine.specs.CrashState.{CrashState, MayOpen, MayRefuseOpening, left_by_opening}
+use Rattle.lsm_machine.specs.CrashState.{CrashState, last_number, MayRefuseOpening, left_by_opening}
 use Rattle.lsm_machine.specs.Calls.{Call, Reply}
 use Rattle.lsm_machine.specs.Calls.{Commit, CommitIf, Sync, SyncTo, Rotate, Number, Done, Refused, as_told}
 use Rattle.lsm_machine.specs.Crash.{may_leave, last_crash_state, reopened}
@@ -48,24 +48,20 @@ replies_by answers = map (λ replies. map reply_of replies.items) answers
 
 -- ---- a run
 
--- The state after an install. Where it is done all batches outlast a crash; after a flush no closed log is waited for. A fault
--- stops the store, and a crash may then find it done. Nothing else changes the state, and nothing changes its map.
-abbrev pub GoesByInstall : State → Reply → State → Type 0
-GoesByInstall s Done to = IsNone s.stopped × (flush : Bool) × (to ≡ installed flush s)
-GoesByInstall s (Refused Io) to = IsNone s.stopped × (flush : Bool) × (to ≡ record s { stopped = Some (last_crash_state (installed flush s) ∷ []) })
-GoesByInstall s other to = to ≡ s
-
--- The state after any other piece of work. A fault may stop the store; nothing else changes the state.
-abbrev pub GoesByWork : State → Reply → State → Type 0
-GoesByWork s (Refused Io) to = (to ≡ s) ⊎ (IsNone s.stopped × (to ≡ record s { stopped = Some [] }))
-GoesByWork s other to = to ≡ s
+-- The state after a piece of work. After an install that is done all batches outlast a crash, and after a flush no closed log is waited
+-- for; a fault stops the store, and a crash may then find it done. A fault of any other piece may stop the store. Nothing else changes
+-- the state, and nothing changes its map.
+abbrev pub GoesByWork : State → Act → Reply → State → Type 0
+GoesByWork s Installs Done to = IsNone s.stopped × (flush : Bool) × (to ≡ installed flush s)
+GoesByWork s Installs (Refused Io) to = IsNone s.stopped × (flush : Bool) × (to ≡ record s { stopped = Some (last_crash_state (installed flush s) ∷ []) })
+GoesByWork s Works (Refused Io) to = (to ≡ s) ⊎ (IsNone s.stopped × (to ≡ record s { stopped = Some [] }))
+GoesByWork s act other to = to ≡ s
 
 -- These replies may be made one after another, and leave this state: the state allows each reply to a call, with its refusals.
 abbrev pub Goes : State → List Act → List Reply → State → Type 0
 Goes s [] [] last = last ≡ s
 Goes s (Calls call ∷ acts) (reply ∷ replies) last = Allows s call reply × Goes (next s call reply) acts replies last
-Goes s (Installs ∷ acts) (reply ∷ replies) last = (to : State) × GoesByInstall s reply to × Goes to acts replies last
-Goes s (Works ∷ acts) (reply ∷ replies) last = (to : State) × GoesByWork s reply to × Goes to acts replies last
+Goes s (act ∷ acts) (reply ∷ replies) last = (to : State) × GoesByWork s act reply to × Goes to acts replies last
 Goes s acts replies last = ⊥
 
 -- ---- batches
@@ -107,7 +103,7 @@ flying acts replies = []
 -- A life, at whose end a crash leaves this. Its opening answers the count of batches that were left, and the replies go on from
 -- the map that was left; or it is refused fairly, and each step is answered that the store is stopped.
 abbrev pub IsLife : ℕ → CrashState → List Act → List Reply → CrashState → Type 0
-IsLife log_sectors opened acts (Number n ∷ replies) left = MayOpen opened × (n ≡ opened.count) × (last : State) × Goes (reopened log_sectors opened) acts replies last × Contains (may_leave last) left
+IsLife log_sectors opened acts (Number n ∷ replies) left = (opened.generation ≢ last_number) × (n ≡ opened.count) × (last : State) × Goes (reopened log_sectors opened) acts replies last × Contains (may_leave last) left
 IsLife log_sectors opened acts (Refused e ∷ replies) left = MayRefuseOpening opened e × (replies ≡ map (λ _. Refused Stopped) acts) × Contains (left_by_opening opened) left
 IsLife log_sectors opened acts replies left = ⊥
 

@@ -47,19 +47,19 @@ commit_goes s batch left found =
 pub between_goes : (s : State) (call : Call) (left : CrashState) → Contains (left_between (after s call)) left → Contains (left_between s ++ left_besides s call) left
 between_goes s (Commit batch) left found = commit_goes s batch left found
 between_goes s (CommitIf guards batch) left found = commit_goes s batch left found
-between_goes s Sync left found = Contains-append_left (left_between s) [] left (subst (Contains (left_between s)) (sym (one_in (last_crash_state s) left found)) (last_between s))
-between_goes s (SyncTo number) left found = by (nat_le number s.points.synced) found
+between_goes s Sync left found = Contains-append_left (left_between s) _ left (subst (Contains (left_between s)) (sym (one_in (last_crash_state s) left found)) (last_between s))
+between_goes s (SyncTo number) left found = Contains-append_left (left_between s) _ left (by (nat_le number s.points.synced) found)
   where
-    by : (b : Bool) → Contains (left_between (cond b s (record s { points = all_synced s.points }))) left → Contains (left_between s ++ []) left
-    by true h = Contains-append_left (left_between s) [] left h
-    by false h = Contains-append_left (left_between s) [] left (subst (Contains (left_between s)) (sym (one_in (last_crash_state s) left h)) (last_between s))
-between_goes s (Get at key) left found = Contains-append_left (left_between s) [] left found
-between_goes s (Scan at from to limit) left found = Contains-append_left (left_between s) [] left found
-between_goes s Snapshot left found = Contains-append_left (left_between s) [] left found
-between_goes s (Release number) left found = Contains-append_left (left_between s) [] left found
+    by : (b : Bool) → Contains (left_between (cond b s (record s { points = all_synced s.points }))) left → Contains (left_between s) left
+    by true h = h
+    by false h = subst (Contains (left_between s)) (sym (one_in (last_crash_state s) left h)) (last_between s)
+between_goes s (Get at key) left found = Contains-append_left (left_between s) _ left found
+between_goes s (Scan at from to limit) left found = Contains-append_left (left_between s) _ left found
+between_goes s Snapshot left found = Contains-append_left (left_between s) _ left found
+between_goes s (Release number) left found = Contains-append_left (left_between s) _ left found
 between_goes s Rotate left found = Contains-append_right (left_between s) (left_besides s Rotate) left
     (subst (λ (x : CrashState). Contains (x ∷ []) left) (ap (crash_state_at (after s Rotate)) (sym (present_synced s.points))) found)
-between_goes s LogRoom left found = Contains-append_left (left_between s) [] left found
+between_goes s LogRoom left found = Contains-append_left (left_between s) _ left found
 
 pub stays_stopped : (s : State) (call : Call) → (after s call).stopped ≡ s.stopped
 stays_stopped s (Commit batch) = refl

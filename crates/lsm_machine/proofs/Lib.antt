@@ -2,6 +2,7 @@ pub mod Openings
 pub mod Beginnings
 pub mod Membership
 pub mod Points
+pub mod GuardReads
 pub mod Running
 pub mod CrashStates
 pub mod WorkReplies

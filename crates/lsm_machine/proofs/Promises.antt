@@ -25,7 +25,7 @@ use Rattle.lsm_machine.specs.WorkReplies.{work_left_besides}
 use Rattle.lsm_machine.proofs.Flights.{IsMore, flight_more}
 use Rattle.lsm_machine.proofs.Membership.{none_in, one_in, in_cases, map_cases}
 use Rattle.lsm_machine.proofs.Points.{in_beginnings, present_beginnings, count_beginnings, with_batch_beginnings}
-use Rattle.lsm_machine.proofs.Reached.{IsPresent, rotated_present, work_present, IsWithFlight, IsReached, IsRunning, reached}
+use Rattle.lsm_machine.proofs.Reached.{IsPresent, call_present, work_present, IsWithFlight, IsReached, IsRunning, reached}
 
 module _ (opened : CrashState) (done : List (List Operation)) (known : ℕ) (flight : List (List Operation)) (t : State) (here : IsReached opened.count opened.map done known flight t) where
   -- a recovery point
@@ -104,18 +104,22 @@ module _ (opened : CrashState) (done : List (List Operation)) (known : ℕ) (fli
       by None runs besides = besides
       by (Some others) runs besides = absurd (false≢true (sym runs))
 
+  -- what a call adds that adds no batch
+  kept_after : (call : Call) → in_flight (Called call ∷ []) [] ≡ [] → (left : CrashState) → Contains (left_besides t call) left → IsAfterBeginning opened (done ++ []) known left
+  kept_after call adds left found = kept_present left (subst (IsPresent t) (sym (one_in (last_crash_state (after t call)) left found)) (call_present t call adds))
+
   -- what a call adds
   kept_by_call : (call : Call) (left : CrashState) → Contains (left_besides t call) left → IsAfterBeginning opened (done ++ in_flight (Called call ∷ []) []) known left
   kept_by_call (Commit batch) left found = kept_whole batch left (one_in (last_crash_state (after t (Commit batch))) left found)
   kept_by_call (CommitIf guards batch) left found = kept_whole batch left (one_in (last_crash_state (after t (Commit batch))) left found)
-  kept_by_call Sync left found = absurd (none_in left found)
-  kept_by_call (SyncTo number) left found = absurd (none_in left found)
-  kept_by_call (Get at key) left found = absurd (none_in left found)
-  kept_by_call (Scan at from to limit) left found = absurd (none_in left found)
-  kept_by_call Snapshot left found = absurd (none_in left found)
-  kept_by_call (Release number) left found = absurd (none_in left found)
-  kept_by_call Rotate left found = kept_present left (subst (IsPresent t) (sym (one_in (last_crash_state (after t Rotate)) left found)) (rotated_present t))
-  kept_by_call LogRoom left found = absurd (none_in left found)
+  kept_by_call Sync left found = kept_after Sync refl left found
+  kept_by_call (SyncTo number) left found = kept_after (SyncTo number) refl left found
+  kept_by_call (Get at key) left found = kept_after (Get at key) refl left found
+  kept_by_call (Scan at from to limit) left found = kept_after (Scan at from to limit) refl left found
+  kept_by_call Snapshot left found = kept_after Snapshot refl left found
+  kept_by_call (Release number) left found = kept_after (Release number) refl left found
+  kept_by_call Rotate left found = kept_after Rotate refl left found
+  kept_by_call LogRoom left found = kept_after LogRoom refl left found
 
   -- what a step adds to what the state may leave, where nothing refuses it
   module _ (step : Step) (longer : List (List Operation)) (more : IsMore flight (in_flight (step ∷ []) []) longer) (left : CrashState) where

@@ -28,6 +28,7 @@ use Rattle.lsm_machine.specs.WorkRefusals.{held, of_slot, work_refusals, running
 use Rattle.lsm_machine.specs.WorkReplies.{work_decided, WorkAllows, work_left_besides, after_work_fault}
 use Rattle.lsm_machine.proofs.Accounts.{first_not}
 use Rattle.lsm_machine.proofs.CrashStates.{IsAnswer}
+use Rattle.lsm_machine.proofs.GuardReads.{unread_reads}
 use Rattle.lsm_machine.proofs.Points.{present_synced, with_batch_beginnings, all_synced_beginnings}
 use Rattle.lsm_machine.proofs.Running.{decided_goes}
 use Rattle.lsm_machine.proofs.Steps.{admits_step, step_stopped, step_stays, stopped_last}
@@ -38,9 +39,26 @@ use Rattle.lsm_machine.proofs.WorkReplies.{answered_unrefused, goes_by_answer, n
 abbrev pub IsPresent : State → CrashState → Type 0
 IsPresent s left = (left.count ≡ batch_count s.points) × (left.map ≡ present_map s.points)
 
--- so a crash behind a rotation leaves it
-pub rotated_present : (s : State) → IsPresent s (last_crash_state (after s Rotate))
-rotated_present s = (ap (λ (p : RecoveryPoint). p.count) (present_synced s.points), refl)
+-- so a crash behind a sync leaves it
+synced_present : (s : State) → IsPresent s (last_crash_state (after s Sync))
+synced_present s = (ap (λ (p : RecoveryPoint). p.count) (present_synced s.points), refl)
+
+-- and so does one behind each call that adds no batch
+pub call_present : (s : State) (call : Call) → in_flight (Called call ∷ []) [] ≡ [] → IsPresent s (last_crash_state (after s call))
+call_present s (Commit batch) adds = absurd (omega (arith, ap length adds))
+call_present s (CommitIf guards batch) adds = absurd (omega (arith, ap length adds))
+call_present s Sync adds = synced_present s
+call_present s (SyncTo number) adds = by (nat_le number s.points.synced)
+  where
+    by : (b : Bool) → IsPresent s (last_crash_state (cond b s (record s { points = all_synced s.points })))
+    by true = (refl, refl)
+    by false = synced_present s
+call_present s (Get at key) adds = (refl, refl)
+call_present s (Scan at from to limit) adds = (refl, refl)
+call_present s Snapshot adds = (refl, refl)
+call_present s (Release number) adds = (refl, refl)
+call_present s Rotate adds = synced_present s
+call_present s LogRoom adds = (refl, refl)
 
 -- and so does one behind an install
 install_present : (s : State) (o : Option Slot) → IsPresent s (last_crash_state (of_slot s (λ slot. installed (is_flush slot.job) s) o))
@@ -278,17 +296,17 @@ module _ (k : ℕ) (m : Map) (x : Machine) (done : List (List Operation)) (known
   call_fault : (call : Call) → Leads (Called call) (Refused Io)
   call_fault (Commit batch) = inr (record { others = left_besides s (Commit batch); is = refl; flies = λ steps replies none. refl; besides = refl }, refl)
   call_fault (CommitIf guards batch) = inr (record { others = left_besides s (CommitIf guards batch); is = refl; flies = λ steps replies none. refl; besides = refl }, refl)
-  call_fault Sync = sync_fault Sync refl (λ steps replies. refl) tt
+  call_fault Sync = sync_fault Sync refl (λ steps replies. refl) (call_present s Sync refl, tt)
   call_fault (SyncTo number) = by (nat_le number s.points.synced) refl
     where
       by : (b : Bool) → nat_le number s.points.synced ≡ b → Leads (Called (SyncTo number)) (Refused Io)
       by true is = read_fault (SyncTo number) (ap (λ (c : Bool). after_fault s (SyncTo number) (cond c Untouched Changes)) is) (λ steps replies. refl)
-      by false is = sync_fault (SyncTo number) (ap (λ (c : Bool). after_fault s (SyncTo number) (cond c Untouched Changes)) is) (λ steps replies. refl) tt
+      by false is = sync_fault (SyncTo number) (ap (λ (c : Bool). after_fault s (SyncTo number) (cond c Untouched Changes)) is) (λ steps replies. refl) (call_present s (SyncTo number) refl, tt)
   call_fault (Get at key) = read_fault (Get at key) refl (λ steps replies. refl)
   call_fault (Scan at from to limit) = read_fault (Scan at from to limit) refl (λ steps replies. refl)
   call_fault Snapshot = read_fault Snapshot refl (λ steps replies. refl)
   call_fault (Release number) = read_fault (Release number) refl (λ steps replies. refl)
-  call_fault Rotate = sync_fault Rotate refl (λ steps replies. refl) (rotated_present s, tt)
+  call_fault Rotate = sync_fault Rotate refl (λ steps replies. refl) (call_present s Rotate refl, tt)
   call_fault LogRoom = read_fault LogRoom refl (λ steps replies. refl)
 
   -- a read of guards faulted
@@ -319,7 +337,7 @@ module _ (k : ℕ) (m : Map) (x : Machine) (done : List (List Operation)) (known
   call_leads call (Rows page) may = inl (answer_keeps call (Rows page) tt may)
   call_leads call (Given job) may = inl (answer_keeps call (Given job) tt may)
   call_leads call (Handed input) may = inl (answer_keeps call (Handed input) tt may)
-  call_leads call Unread may = inl (call_unread call may.0.1 may.1)
+  call_leads call Unread may = let reads = unread_reads s call may in inl (call_unread call reads.1 reads.2)
 
   -- ---- pieces of work
 

@@ -17,6 +17,7 @@ use Rattle.lsm_machine.specs.Calls.{Commit, CommitIf, Sync, SyncTo, Get, Scan, S
 use Rattle.lsm_machine.specs.Refusals.{refusals, first_refusal, refusal, guard_refusals, later_refusals, full_refusal}
 use Rattle.lsm_machine.specs.Effects.{answer, after, decided, completed, reply_by, state_by, takes_memory, wants_memory}
 use Rattle.lsm_machine.proofs.CrashStates.{IsAnswer, answer_unrefused}
+use Rattle.lsm_machine.proofs.GuardReads.{unread_reads}
 use Rattle.lsm_machine.specs.Run.{Allows, Admits, asks_value, asks_page, guards_of, next}
 
 -- ---- ample memory, and no fault
@@ -378,7 +379,7 @@ admits s call (Value value) allows = value_asked s call value allows
 admits s call (Rows page) allows = page_asked s call page allows
 admits s call (Given job) allows = answer_early s call (Given job) tt allows
 admits s call (Handed input) allows = answer_early s call (Handed input) tt allows
-admits s call Unread allows = allows
+admits s call Unread allows = let reads = unread_reads s call allows in ((reads.0, reads.1), reads.2)
 
 -- ---- a stopped store
 

@@ -1,7 +1,7 @@
 -- Refusals in order, and what is known of a state that doesn't refuse.
 use Rattle.std.proofs.Common.{◌≡◌, ◌≢◌, ◌⊎◌, inl, inr, ⊎_elim, Bool, true, false, not, List, [], ◌∷◌, Some, None, is_some, refl, sym, ◌∙◌, ap, subst}
 use Rattle.std.specs.Result.{IsErrAnd}
-use Rattle.std.specs.Prelude.{ℕ, Result, Ok, Err, Option, IsNone, length, nat_lt, ◌==◌, if◌then◌else◌}
+use Rattle.std.specs.Prelude.{ℕ, Result, Ok, Err, Option, IsNone, length, nat_le, nat_lt, ◌==◌, ◌&&◌, if◌then◌else◌}
 use Rattle.std.specs.List.{AllByRecursion}
 use Rattle.std.proofs.lemmas.Bool.{eq-eqb}
 use Rattle.lsm_codec.specs.BatchText.{is_key}
@@ -17,7 +17,7 @@ use Rattle.lsm_machine.specs.State.{State, are_waiting, fits, may_ask}
 use Rattle.lsm_machine.specs.declared.asked.At.{At}
 use Rattle.lsm_machine.specs.Calls.{Call}
 use Rattle.lsm_machine.specs.Calls.{Commit, CommitIf, Sync, SyncTo, Get, Scan, Snapshot, Release, Rotate, LogRoom}
-use Rattle.lsm_machine.specs.Refusals.{is_limit, most_guards, refusals, first_refusal, refusal}
+use Rattle.lsm_machine.specs.Refusals.{most_guards, refusals, first_refusal, refusal}
 
 -- a test that doesn't hold
 pub passes_by : (b : Bool) (e : Refusal) (rest x : Option Refusal) → b ≡ false → rest ≡ x → (if b then Some e else rest) ≡ x
@@ -149,7 +149,7 @@ unrefused_get s at key none =
 pub unrefused_scan : (s : State) (at : At) (from : Bytes) (to : Option Bytes) (limit : ℕ) → refusal s (Scan at from to limit) ≡ None → may_ask s at ≡ true
 unrefused_scan s at from to limit none =
     let one = none_taken (is_some s.stopped) Stopped _ none in
-    let two = none_taken (not (is_limit limit)) BadLimit _ one.1 in
+    let two = none_taken (not (nat_le 1 limit && nat_le limit 64)) BadLimit _ one.1 in
     let three = none_taken (is_backwards from to) BadRange _ two.1 in
     not_false (may_ask s at) (none_taken (not (may_ask s at)) NoSuchSnapshot None three.1).0
 

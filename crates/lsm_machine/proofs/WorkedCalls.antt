@@ -205,7 +205,7 @@ sync_to_syncs = refl
 stopped_run : RunFrom fresh (Sync ∷ Get Now (0x61 ∷ []) ∷ commit 0x61 0x31 ∷ SyncTo 0 ∷ []) (Refused Io ∷ Refused Stopped ∷ Refused Stopped ∷ Refused Stopped ∷ [])
 stopped_run = search rules
 
-stopped_leaves : counts (may_leave (state_by (state_after fresh (commit 0x61 0x31 ∷ Sync ∷ commit 0x62 0x32 ∷ [])) (Sync ∷ commit 0x61 0x31 ∷ []) (Refused Io ∷ Refused Stopped ∷ []))) ≡ 1 ∷ 2 ∷ []
+stopped_leaves : counts (may_leave (state_by (state_after fresh (commit 0x61 0x31 ∷ Sync ∷ commit 0x62 0x32 ∷ [])) (Sync ∷ commit 0x61 0x31 ∷ []) (Refused Io ∷ Refused Stopped ∷ []))) ≡ 1 ∷ 2 ∷ 2 ∷ []
 unfolding batch_text
 stopped_leaves = refl
 

@@ -4,21 +4,18 @@ use Rattle.lsm_machine.specs.CrashState.{CrashState}
 use Rattle.lsm_machine.specs.RecoveryPoints.{RecoveryPoint, recovery_points, present_point}
 use Rattle.lsm_machine.specs.State.{OpenLog, State}
 use Rattle.lsm_machine.specs.Calls.{Call}
-use Rattle.lsm_machine.specs.Calls.{Commit, CommitIf, Rotate}
 use Rattle.lsm_machine.specs.Refusals.{full_refusal}
 use Rattle.lsm_machine.specs.Effects.{after}
 
+-- how many log regions hold batches, where so many are closed and a crash keeps so many batches: the open log counts where it holds
+-- one of them
 abbrev pub closed_with : ℕ → ℕ → Option OpenLog → ℕ
 closed_with closed count (Some log) = if nat_le log.first count then closed + 1 else closed
 closed_with closed count None = closed
 
--- how many log regions hold batches where a crash keeps so many: the open log counts where it holds one of them
-abbrev pub closed_at : State → ℕ → ℕ
-closed_at s count = closed_with s.closed count s.open_log
-
 -- what a crash leaves that falls back to this recovery point
 abbrev pub crash_state_at : State → RecoveryPoint → CrashState
-crash_state_at s point = record { count = point.count; map = point.map; closed = closed_at s point.count; generation = s.generation }
+crash_state_at s point = record { count = point.count; map = point.map; closed = closed_with s.closed point.count s.open_log; generation = s.generation }
 
 -- a crash of a running store between calls falls back to any recovery point
 abbrev pub left_between : State → List CrashState
@@ -38,10 +35,7 @@ last_crash_state s = crash_state_at s (present_point s.points)
 
 -- what a crash inside a call may leave besides, since the call may have had its whole effect
 abbrev pub left_besides : State → Call → List CrashState
-left_besides s (Commit batch) = last_crash_state (after s (Commit batch)) ∷ []
-left_besides s (CommitIf guards batch) = last_crash_state (after s (CommitIf guards batch)) ∷ []
-left_besides s Rotate = last_crash_state (after s Rotate) ∷ []
-left_besides s other = []
+left_besides s call = last_crash_state (after s call) ∷ []
 
 -- What a crash inside a call may leave: what the state before it may leave, and what the call adds to that where
 -- nothing refuses it.

@@ -110,14 +110,13 @@ pub data Use : Type 0 where
   Changes : Use
 
 abbrev pub use_of : State → Call → Use
-use_of s (Commit batch) = Changes
-use_of s (CommitIf guards batch) = Changes
-use_of s Sync = Changes
 use_of s (SyncTo number) = if nat_le number s.points.synced then Untouched else Changes
 use_of s (Get at key) = Reads
 use_of s (Scan at from to limit) = Reads
-use_of s Rotate = Changes
-use_of s other = Untouched
+use_of s Snapshot = Untouched
+use_of s (Release number) = Untouched
+use_of s LogRoom = Untouched
+use_of s other = Changes
 
 -- what it may do with the device before it changes anything: a commit reads what its guards ask
 abbrev pub use_first : Call → Use

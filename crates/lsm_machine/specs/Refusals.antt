@@ -20,17 +20,13 @@ most_snapshots = 32
 abbrev pub most_guards : ℕ
 most_guards = 16
 
--- how many rows a page may be asked to have
-abbrev pub is_limit : ℕ → Bool
-is_limit rows = nat_le 1 rows && nat_le rows 64
-
 -- the refusals of a running store in their order, each with its condition, but for those that it finds as it reads
 abbrev pub refusals : State → Call → List (Bool × Refusal)
 refusals s (Commit batch) = (batch_count s.points == last_number, Exhausted) ∷ (not (fits s batch), LogFull) ∷ []
 refusals s (CommitIf guards batch) = (nat_lt most_guards (length guards), TooManyGuards) ∷ (batch_count s.points == last_number, Exhausted) ∷ (not (fits s batch), LogFull) ∷ []
 refusals s (SyncTo number) = (nat_lt (batch_count s.points) number, NoSuchBatch) ∷ []
 refusals s (Get at key) = (not (is_key key), BadKey) ∷ (not (may_ask s at), NoSuchSnapshot) ∷ []
-refusals s (Scan at from to limit) = (not (is_limit limit), BadLimit) ∷ (is_backwards from to, BadRange) ∷ (not (may_ask s at), NoSuchSnapshot) ∷ []
+refusals s (Scan at from to limit) = (not (nat_le 1 limit && nat_le limit 64), BadLimit) ∷ (is_backwards from to, BadRange) ∷ (not (may_ask s at), NoSuchSnapshot) ∷ []
 refusals s Snapshot = (nat_le most_snapshots (length s.snapshots), TooManySnapshots) ∷ (nat_lt last_number s.next_snapshot, Exhausted) ∷ []
 refusals s (Release number) = (not (is_some (snapshot_of s number)), NoSuchSnapshot) ∷ []
 refusals s Rotate = (are_waiting s, SealedWaiting) ∷ (is_unused s.open_log, NothingToRotate) ∷ (s.generation == last_number, Exhausted) ∷ []

@@ -22,17 +22,13 @@ use Rattle.lsm_machine.specs.WorkReplies.{WorkAllows, WorkAdmits, work_decided, 
 
 -- ---- one call
 
--- a read may fault, or find no table, before the call changes anything
-abbrev pub ReadsFirst : State → Call → Type 0
-ReadsFirst s call = IsNone (refusal s call) × (use_first call ≡ Reads)
-
 -- A store in this state may reply so. Beside what the state decides there are want of memory and a fault of the device,
 -- each only where the state doesn't refuse the call, and the call takes memory or uses the device. A read of guards may fault though
 -- a guard is false; memory may not be wanting then, nor may a write fault.
 abbrev pub Allows : State → Call → Reply → Type 0
 Allows s call (Refused NoMemory) = IsNone (refusal s call) × IsTrue (wants_memory s call)
 Allows s call (Refused Io) = IsNone (full_refusal s call) × (use_of s call ≢ Untouched)
-Allows s call Unread = ReadsFirst s call × (use_of s call ≡ Changes)
+Allows s (CommitIf (guard ∷ guards) batch) Unread = IsNone (refusal s (CommitIf (guard ∷ guards) batch))
 Allows s call reply = reply ≡ decided s call
 
 -- whether a value answers the call
@@ -66,6 +62,10 @@ abbrev pub guards_of : Call → List Condition
 guards_of (CommitIf guards batch) = guards
 guards_of other = []
 
+-- a read may fault, or find no table, before the call changes anything
+abbrev pub ReadsFirst : State → Call → Type 0
+ReadsFirst s call = IsNone (refusal s call) × (use_first call ≡ Reads)
+
 -- What a store's memory decides of a reply, whatever its device holds: all that the state allows, but for the bytes of a
 -- value and of a page, which guards are true, and that what the device holds may be no table.
 abbrev pub Admits : State → Call → Reply → Type 0
@@ -84,9 +84,8 @@ stopped_in s call = record s { stopped = Some (left_besides s call) }
 
 -- after a fault of the device
 abbrev pub after_fault : State → Call → Use → State
-after_fault s call Untouched = s
-after_fault s call Reads = s
 after_fault s call Changes = stopped_in s call
+after_fault s call other = s
 
 -- the state after a reply
 abbrev pub next : State → Call → Reply → State

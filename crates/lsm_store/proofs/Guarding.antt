@@ -55,6 +55,7 @@ use Rattle.lsm_store.proofs.ReadCalls.{only_read}
 use Rattle.lsm_open.proofs.OpeningAnswers.{none_more}
 use Rattle.lsm_machine.proofs.Running.{first_tests, none_by}
 use Rattle.lsm_store.proofs.Serving.{now_inside, none_of}
+use Rattle.lsm_machine.proofs.GuardReads.{reads_unread}
 use Rattle.lsm_machine.proofs.Unrefused.{unguarded, unrefused_runs}
 
 -- where none of the first refusals holds, the first of the others does
@@ -160,7 +161,7 @@ module _ (v : StoreView) (numbered : AreNumbered v.work.next_table (tables_place
   -- a read of theirs faulted
   pub asked_unread : (new : Medium) (cache : Cached) → ReadsThrough (128 * length guards) (data_start v) v.work.levels false (source_of v) (record { cache = cache; medium = new }) → use_first (CommitIf guards batch) ≡ Reads
       → Serves v (CommitIf guards batch) Unread (read_on v new cache)
-  asked_unread new cache reads first = ends_with new cache (length guards) refl false reads first Unread refl ((ap is_some none, first), refl) (λ backed. ((ap is_some none, first), refl)) refl refl refl
+  asked_unread new cache reads first = ends_with new cache (length guards) refl false reads first Unread refl ((ap is_some none, first), refl) (λ backed. reads_unread v.state (CommitIf guards batch) (ap is_some none) first refl) refl refl refl
 
   -- what was read is no table
   pub asked_bad : (new : Medium) (cache : Cached) → ReadsThrough (128 * length guards) (data_start v) v.work.levels true (source_of v) (record { cache = cache; medium = new }) → use_first (CommitIf guards batch) ≡ Reads

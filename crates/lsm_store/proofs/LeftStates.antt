@@ -17,7 +17,7 @@ use Rattle.lsm_open.specs.Placements.{Placement, table_map, closed_in, IsHeld, s
 use Rattle.lsm_open.specs.Recovering.{StandForOne}
 use Rattle.lsm_open.proofs.HeldPlacements.{open_between, carried_leaves, carried_reads}
 use Rattle.lsm_open.proofs.HeldRegions.{BeginsAfter, begins_after}
-use Rattle.lsm_machine.specs.Crash.{closed_with, closed_at, crash_state_at, left_between, may_leave, last_crash_state}
+use Rattle.lsm_machine.specs.Crash.{closed_with, crash_state_at, left_between, may_leave, last_crash_state}
 use Rattle.lsm_machine.specs.Promise.{beginnings}
 use Rattle.lsm_machine.specs.RecoveryPoints.{RecoveryPoint, RecoveryPoints, recovery_points, present_point}
 use Rattle.lsm_machine.specs.State.{OpenLog, State}
@@ -38,9 +38,9 @@ pub record LeavesOver (p : Placement) (base : Map) (standing reads : List (List 
   pub points : s.points ≡ beginnings p.logs.base base reads (length standing)
   pub log_sectors : s.log_sectors ≡ p.logs.log_sectors
   pub generation : s.generation ≡ p.logs.generation
-  pub closed : (count : ℕ) → closed_at s count ≡ closed_with (length p.logs.closed) count (option_map open_log_of p.logs.open_region)
+  pub closed : (count : ℕ) → closed_with s.closed count s.open_log ≡ closed_with (length p.logs.closed) count (option_map open_log_of p.logs.open_region)
 
-closed_in_place : (p : Placement) (s : State) → IsStateIn p s → (count : ℕ) → closed_at s count ≡ closed_with (length p.logs.closed) count (option_map open_log_of p.logs.open_region)
+closed_in_place : (p : Placement) (s : State) → IsStateIn p s → (count : ℕ) → closed_with s.closed count s.open_log ≡ closed_with (length p.logs.closed) count (option_map open_log_of p.logs.open_region)
 closed_in_place p s is count =
     ap (λ (o : Option OpenLog). closed_with s.closed count o) is.open_log ∙ ap (λ (k : ℕ). closed_with k count (option_map open_log_of p.logs.open_region)) is.closed
 
@@ -78,7 +78,7 @@ module _ (p : Placement) (e : List (List ℕ)) (standing reads : List (List Oper
   abbrev before : Batches
   before = closed_in p e
 
-  closed_is : closed_at s (p.logs.base + length (closed_in p e ++ xs)) ≡ length p.logs.closed + one_if_some xs
+  closed_is : closed_with s.closed (p.logs.base + length (closed_in p e ++ xs)) s.open_log ≡ length p.logs.closed + one_if_some xs
   closed_is = is.closed (p.logs.base + length (before ++ xs)) ∙ closed_with_open p.logs.base before xs (length p.logs.closed) p.logs.open_region begins none
 
   crash_state_is : crash_state_at s (record { count = p.logs.base + length (closed_in p e ++ xs); map = apply_all (table_map p e) (closed_in p e ++ xs) }) ≡ state_with p e xs

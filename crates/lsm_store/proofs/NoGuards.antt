@@ -12,6 +12,7 @@ use Rattle.lsm_machine.specs.Effects.{Use}
 use Rattle.lsm_machine.specs.Effects.{Untouched, Reads, Changes}
 use Rattle.lsm_machine.specs.Machine.{Machine, Called}
 use Rattle.lsm_machine.specs.Refusals.{refusal}
+use Rattle.lsm_machine.proofs.GuardReads.{undecided}
 use Rattle.lsm_machine.specs.Run.{Allows, Admits, AllowsStep, next, next_machine}
 use Rattle.lsm_store.specs.Serving.{HasWrittenBatch, IsUsed, Serves, use_before, use_by}
 use Rattle.lsm_machine.specs.State.{State}
@@ -30,7 +31,7 @@ module _ (s : State) (batch : List Operation) where
   allows_commit (Rows page) h = h
   allows_commit (Given taken) h = h
   allows_commit (Handed input) h = h
-  allows_commit Unread h = h
+  allows_commit Unread h = absurd (undecided s (CommitIf [] batch) h)
 
   commit_allows : (reply : Reply) → Allows s (Commit batch) reply → Allows s (CommitIf [] batch) reply
   commit_allows (Refused NoMemory) h = h
@@ -44,7 +45,7 @@ module _ (s : State) (batch : List Operation) where
   commit_allows (Rows page) h = h
   commit_allows (Given taken) h = h
   commit_allows (Handed input) h = h
-  commit_allows Unread h = h
+  commit_allows Unread h = absurd (undecided s (Commit batch) h)
 
   admits_commit : (reply : Reply) → Admits s (CommitIf [] batch) reply → Admits s (Commit batch) reply
   admits_commit (Refused NoMemory) h = h

@@ -11,7 +11,7 @@ use Rattle.lsm_levels.specs.Pick.{is_flush}
 use Rattle.lsm_machine.specs.CrashState.{CrashState}
 use Rattle.lsm_machine.specs.Calls.{Call, Reply}
 use Rattle.lsm_machine.specs.Calls.{Commit, CommitIf, Sync, SyncTo, Get, Scan, Snapshot, Release, Rotate, LogRoom, Refused, Unread}
-use Rattle.lsm_machine.specs.Crash.{crash_state_at, left_with, left_besides, may_leave}
+use Rattle.lsm_machine.specs.Crash.{crash_state_at, last_crash_state, left_with, left_besides, may_leave}
 use Rattle.lsm_machine.specs.Effects.{Use, use_of, after, committed, installed}
 use Rattle.lsm_machine.specs.Effects.{Untouched, Reads, Changes}
 use Rattle.lsm_machine.specs.Machine.{Machine, Step, Called, Worked}
@@ -147,14 +147,18 @@ module _ (key value : Bytes) where
   besides_have : (s : State) (call : Call) → LeavesAlone key (Called call) → HasNow s → LeftHave (left_besides s call)
   besides_have s (Commit batch) alone has = (now_committed s batch alone has, tt)
   besides_have s (CommitIf guards batch) alone has = (now_committed s batch alone has, tt)
-  besides_have s Sync alone has = tt
-  besides_have s (SyncTo number) alone has = tt
-  besides_have s (Get at k) alone has = tt
-  besides_have s (Scan at from to limit) alone has = tt
-  besides_have s Snapshot alone has = tt
-  besides_have s (Release number) alone has = tt
+  besides_have s Sync alone has = (has, tt)
+  besides_have s (SyncTo number) alone has = by (nat_le number s.points.synced)
+    where
+      by : (b : Bool) → LeftHave (last_crash_state (if b then s else record s { points = all_synced s.points }) ∷ [])
+      by true = (has, tt)
+      by false = (has, tt)
+  besides_have s (Get at k) alone has = (has, tt)
+  besides_have s (Scan at from to limit) alone has = (has, tt)
+  besides_have s Snapshot alone has = (has, tt)
+  besides_have s (Release number) alone has = (has, tt)
   besides_have s Rotate alone has = (has, tt)
-  besides_have s LogRoom alone has = tt
+  besides_have s LogRoom alone has = (has, tt)
 
   stays_fault : (s : State) (call : Call) (most : Use) → LeavesAlone key (Called call) → Stays s → Stays (after_fault s call most)
   stays_fault s call Untouched alone stays = stays

@@ -1,4 +1,4 @@
-use Rattle.std.proofs.Common.{ℕ, true, false, Some, sym, ◌∙◌, ap, subst}
+use Rattle.std.proofs.Common.{ℕ, true, false, [], Some, sym, ◌∙◌, ap, subst}
 use Rattle.std.specs.Prelude.{Result}
 use Rattle.std.specs.List.{AllByRecursion}
 use Rattle.lsm_device.specs.declared.refusal.Refusal.{Refusal}
@@ -62,7 +62,7 @@ pub returns-in-Io-clause-kept : goal.returns-in-Io-clause-kept
 returns-in-Io-clause-kept g c =
     let m = c.args.memory.now in
     let is = stopped_same m c.stop_in_write.new.self c.write.new.self c.stop_in_write.ensures c.in-Err.ensures.unchanged in
-    subst (λ (x : Memory g.row.A.Denot). AreConsistent x) (sym is) (stopped_kept m c.requires.kept)
+    subst (λ (x : Memory g.row.A.Denot). AreConsistent x) (sym is) (stopped_kept m c.requires.kept [])
 
 pub returns-in_default-clause-works : goal.returns-in_default-clause-works
 returns-in_default-clause-works g c = λ cache.
