@@ -1,15 +1,18 @@
 -- What a format and an opening of a device answer, as numbers.
-use Rattle.std.proofs.Common.{◌≡◌, ◌⊎◌, ◌↔◌, ◌+◌, ◌*◌, ◌==◌, ℕ, true, false, [], Some, Result, Ok, Err, None, IsTrue, IfOk, IfErr, ◌∙◌, refl, sym, ap, subst, inl, inr}
+use Rattle.std.proofs.Common.{List, Option, ◌≡◌, ◌⊎◌, ◌↔◌, ◌+◌, ◌*◌, ◌==◌, ℕ, false, [], Some, Result, Ok, Err, None, IsTrue, IfOk, IfErr, ◌∙◌, refl, sym, ap, subst, inl, inr}
 use Rattle.std.proofs.lemmas.Bool.{false≢true}
 use Rattle.std.specs.Prelude.{MatchResult}
 use Rattle.lsm_codec.specs.Geometry.{IsDeviceSize}
 use Rattle.lsm_device.specs.Calls.{AtMost, faults_after}
-use Rattle.lsm_device.specs.Disk.{seen}
+use Rattle.lsm_device.specs.Disk.{Disk, seen}
 use Rattle.lsm_device.specs.Medium.{Medium, disk}
 use Rattle.lsm_device.specs.Outcomes.{Leaves}
 use Rattle.lsm_device.specs.Refusals.{is_no_fault, number_of}
 use Rattle.lsm_device.specs.declared.refusal.Refusal.{Refusal}
 use Rattle.lsm_device.specs.declared.refusal.Refusal.TheVariants.{BadGeometry, BadLimit, Io, NoMemory}
+use Rattle.lsm_mapped.specs.Devices.{medium_on, records_on}
+use Rattle.lsm_mapped.specs.Disks.{IsFilledWith, mapped}
+use Rattle.lsm_mapped.specs.declared.mapped.MappedDevice.{MappedDevice}
 use Rattle.lsm_root.specs.Counted.{CallsMade}
 use Rattle.lsm_root.specs.Layout.{IsGeometry}
 use Rattle.lsm_machine.specs.CrashState.{CrashState, formatted as empty_store}
@@ -20,7 +23,9 @@ use Rattle.lsm_open.specs.RefusedOpenings.{opening_refusal}
 use Rattle.lsm_store.specs.Backing.{StoreView}
 use Rattle.lsm_store.specs.Memory.{is_cache_size}
 use Rattle.lsm_store.specs.Serving.{IsRefusedBehindSync, IsUncalled, OpensTo, ReopensTo}
-use Rattle.corwaphi_c.specs.Making.{Formats, FormatsHere, IsOpenedHere, IsOpenedOn, IsRefusedHere, IsRefusedOn}
+use Rattle.corwaphi_c.specs.Calls.{IsMoved}
+use Rattle.corwaphi_c.specs.Making.{Formats, FormatsHere, IsKeptOpened, IsOpenedOn, IsRefusedOn, IsUnopened, OpensOn}
+use Rattle.corwaphi_c.proofs.Moving.{written}
 
 -- the number of an answer
 abbrev pub answer_of : Result (Unit {0}) Refusal → ℕ
@@ -103,9 +108,10 @@ module _ {D : Type 0} (medium : D → Medium) (cache : ℕ) (device : D) where
       → IfErr result (λ e. FailsToOpen (medium device) log_sectors left e.0 (medium e.1)))
       → MatchResult result (λ s. s.device.calls.faults ≡ (medium device).calls.faults) (λ e. (medium e.1).calls.faults ≡ faults_after (is_no_fault e.0) (medium device).calls.faults)
       → MatchResult result (λ s. s.device.size ≡ (medium device).size) (λ e. (medium e.1).size ≡ (medium device).size)
+      → MatchResult result (λ s. s.device.lasting ≡ (medium device).lasting) (λ e. (medium e.1).lasting ≡ (medium device).lasting)
       → OpensSo result
-  opens (Ok s) limit sized held other called reopens blocks opened fails faults size = record { cached = blocks; reopens = reopens; opens = opened; faults = faults; same_size = size }
-  opens (Err (e, d)) limit sized held other called reopens blocks opened fails faults size = record {
+  opens (Ok s) limit sized held other called reopens blocks opened fails faults size lasting = record { cached = blocks; reopens = reopens; opens = opened; faults = faults; same_size = size; same_lasting = lasting }
+  opens (Err (e, d)) limit sized held other called reopens blocks opened fails faults size lasting = record {
     refusal = e;
     is = refl;
     limit = λ no. so e d BadLimit (limit no);
@@ -116,16 +122,46 @@ module _ {D : Type 0} (medium : D → Medium) (cache : ℕ) (device : D) where
     fails = fails;
     faults = faults;
     same_size = size;
+    same_lasting = lasting;
   }
 
 pub refused_so : (cache shown answer : ℕ) (before after : Medium) → answer ≡ shown → IsRefusedOn cache shown before after → IsRefusedOn cache answer before after
 refused_so cache shown answer before after told refused = subst (λ (n : ℕ). IsRefusedOn cache n before after) (sym told) refused
 
-pub opened_here : (sectors cache : ℕ) (before : Medium) (s : StoreView) → IsOpenedOn cache before s → before.size ≡ sectors → IsOpenedHere sectors cache s
-opened_here sectors cache before s opened size = (before, size, opened)
+pub kept_on : (cache : ℕ) (before after : Medium) (s : StoreView) (kept : Option StoreView) → IsOpenedOn cache before s → ((parked : StoreView) × IsMoved s parked × (kept ≡ Some parked)) → after ≡ s.device
+    → OpensOn cache None before after kept
+kept_on cache before after s kept opened (parked, back, put) on = (s, opened, on, parked, back, put)
 
-pub refused_here : (sectors cache answer : ℕ) (before after : Medium) → IsRefusedOn cache answer before after → before.size ≡ sectors → IsRefusedHere sectors cache answer
-refused_here sectors cache answer before after refused size = (before, size, after, refused)
+pub kept_here : (sectors cache name used : ℕ) (past : List Disk) (d : MappedDevice) (before : Medium) (kept : Option StoreView) (refused : Option ℕ) → OpensOn cache refused before (medium_on d) kept → refused ≡ None
+    → before ≡ mapped sectors past name → IsFilledWith (medium_on d).size used d.journal.bytes.now (records_on d) → IsKeptOpened sectors cache (record { past = past; used = used }) kept
+kept_here sectors cache name used past d before kept refused opens none is filled =
+    let (s, opened, on, parked, back, put) = subst (λ (o : Option ℕ). OpensOn cache o before (medium_on d) kept) none opens in
+    record {
+      name = name;
+      opened = s;
+      opens = subst (λ (m : Medium). IsOpenedOn cache m s) is opened;
+      written = written sectors name used past d before s.device is (record { size = opened.same_size; lasting = opened.same_lasting }) on filled;
+      parked = parked;
+      back = back;
+      is = put;
+    }
 
-pub formats_here : (sectors log answer : ℕ) (before after : Medium) → Formats log answer before after → before.size ≡ sectors → FormatsHere sectors log answer
-formats_here sectors log answer before after f size = record { before = before; size = size; after = after; formats = f }
+pub refused_here : (sectors cache answer name used : ℕ) (past : List Disk) (d : MappedDevice) (before : Medium) (kept : Option StoreView) (refused : Option ℕ) → OpensOn cache refused before (medium_on d) kept → refused ≡ Some answer
+    → before ≡ mapped sectors past name → IsFilledWith (medium_on d).size used d.journal.bytes.now (records_on d) → IsUnopened sectors cache (record { past = past; used = used }) answer
+refused_here sectors cache answer name used past d before kept refused opens some is filled =
+    let e = subst (λ (o : Option ℕ). OpensOn cache o before (medium_on d) kept) some opens in
+    inr (record {
+      name = name;
+      after = medium_on d;
+      refused = subst (λ (m : Medium). IsRefusedOn cache answer m (medium_on d)) is e;
+      written = written sectors name used past d before (medium_on d) is (record { size = e.same_size; lasting = e.same_lasting }) refl filled;
+    })
+
+pub formats_here : (sectors log answer name used : ℕ) (past : List Disk) (d : MappedDevice) (before : Medium) → Formats log answer before (medium_on d) → before ≡ mapped sectors past name
+    → IsFilledWith (medium_on d).size used d.journal.bytes.now (records_on d) → FormatsHere sectors log answer (record { past = past; used = used })
+formats_here sectors log answer name used past d before f is filled = record {
+  name = name;
+  after = medium_on d;
+  formats = subst (λ (m : Medium). Formats log answer m (medium_on d)) is f;
+  written = written sectors name used past d before (medium_on d) is (record { size = f.same_size; lasting = f.same_lasting }) refl filled;
+}

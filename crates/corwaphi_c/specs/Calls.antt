@@ -1,9 +1,10 @@
 -- What a call in C makes of the store that its handle leads to, and what it answers.
-use Rattle.std.specs.Prelude.{◌≡◌, ◌⊎◌, ◌<◌, ℕ, Bool, List, [], ◌∷◌, length, take, map, Option, Some, None, option_map, true, ◌==◌, if◌then◌else◌, MatchResult}
+use Rattle.std.specs.Prelude.{◌≡◌, ◌⊎◌, ◌<◌, ℕ, Bool, List, [], ◌∷◌, All, length, take, map, Option, Some, None, option_map, true, ◌==◌, if◌then◌else◌, MatchResult}
 use Rattle.lsm_codec.specs.BatchText.{batch_of}
 use Rattle.lsm_codec.specs.Guards.{Condition}
 use Rattle.lsm_codec.specs.Keys.{Bytes}
 use Rattle.lsm_codec.specs.Map.{Operation}
+use Rattle.lsm_device.specs.Disk.{Disk}
 use Rattle.lsm_device.specs.Refusals.{number_of}
 use Rattle.lsm_device.specs.declared.refusal.Refusal.{Refusal}
 use Rattle.lsm_device.specs.declared.refusal.Refusal.TheVariants.{GuardFailed}
@@ -15,6 +16,8 @@ use Rattle.lsm_machine.specs.Calls.{Call, Reply, Number, Done, Value, Rows, Refu
 use Rattle.lsm_store.specs.Serving.{Serves}
 use Rattle.lsm_machine.specs.declared.asked.At.{At}
 use Rattle.lsm_machine.specs.declared.asked.At.TheVariants.{Now, Snap}
+use Rattle.lsm_mapped.specs.Disks.{IsPast, IsWithin, after_records, mapped}
+use Rattle.lsm_mapped.specs.Records.{IsWhole, Record, text_of}
 use Rattle.lsm_upkeep.specs.Writing.{IsServed, LacksRoom, commit_of, wants_room, without_log_full}
 use Rattle.corwaphi_c.specs.Pages.{IsPage}
 use Rattle.corwaphi_c.specs.declared.answers.PageTold.{PageTold}
@@ -33,21 +36,51 @@ abbrev pub store_in : Option Kept → Option StoreView
 store_in (Some kept) = kept.store
 store_in None = None
 
--- On the host's mapping this was made of a store, which was kept then.
-pub record IsMade (R : StoreView → StoreView → Type 0) (old : StoreView) (kept : Option StoreView) : Type 0 where
-  pub lent : StoreView
-  pub moved : IsMoved old lent
+-- ---- what the host lends
+
+-- An image shows the last of these disks, which the device of the store that is kept has had.
+abbrev pub IsShown : Option StoreView → List ℕ → List Disk → Type 0
+IsShown store image past = (s : StoreView) → store ≡ Some s → IsPast s.device.size image past
+
+-- of a call: the disks that the device has had before, and how many bytes of the journal are filled afterwards
+pub record Loan : Type 0 where
+  pub past : List Disk
+  pub used : ℕ
+
+-- of a call that has no journal
+abbrev pub no_journal : List Disk → Loan
+no_journal past = record { past = past; used = 0 }
+
+-- a store on the device of a call, whose journal has a name
+abbrev pub lent_to : List Disk → ℕ → StoreView → StoreView
+lent_to past name s = record s { device = mapped s.device.size past name }
+
+-- What a device of so many sectors has had written and synced since are records of whole sectors that it has: their text fills so many
+-- bytes, and the disks are those that it has had once a host makes them.
+pub record IsWritten (n : ℕ) (loan : Loan) (history : List Disk) : Type 0 where
+  pub records : List Record
+  pub size : loan.used ≡ length (text_of records)
+  pub whole : All IsWhole records
+  pub within : All (IsWithin n) records
+  pub made : history ≡ after_records records loan.past
+
+-- ---- what is made of the store that is kept
+
+-- On the device of a call this was made of a store, which is kept then.
+pub record IsMade (R : StoreView → StoreView → Type 0) (loan : Loan) (old : StoreView) (kept : Option StoreView) : Type 0 where
+  pub name : ℕ
   pub left : StoreView
-  pub made : R lent left
+  pub made : R (lent_to loan.past name old) left
+  pub written : IsWritten old.device.size loan left.device.history
   pub parked : StoreView
   pub back : IsMoved left parked
   pub is : kept ≡ Some parked
 
 -- This was made of the store that was kept, which is kept again.
-abbrev pub Makes : (StoreView → StoreView → Type 0) → Option StoreView → Option StoreView → Type 0
-Makes R store kept = (s : StoreView) → store ≡ Some s → IsMade R s kept
+abbrev pub Makes : (StoreView → StoreView → Type 0) → Loan → Option StoreView → Option StoreView → Type 0
+Makes R loan store kept = (s : StoreView) → store ≡ Some s → IsMade R loan s kept
 
--- So it was made with no mapping.
+-- So it was made on no device.
 abbrev pub MakesParked : (StoreView → StoreView → Type 0) → Option StoreView → Option StoreView → Type 0
 MakesParked R store kept = (s : StoreView) → store ≡ Some s → (left : StoreView) × R s left × (kept ≡ Some left)
 
@@ -148,28 +181,32 @@ Commits guards batch told answer lent left =
     ⊎ (((answer ≡ 13) × (wants_room batch lent.state ≡ true) × LacksRoom batch lent × (left ≡ lent))
     ⊎ ((answer ≡ 64) × (left ≡ lent)))
 
+-- nothing was made: the journal is empty, and the store is kept as it was
+abbrev pub IsLeft : Loan → StoreView → Option StoreView → Type 0
+IsLeft loan s kept = (loan.used ≡ 0) × (kept ≡ Some s)
+
 -- So it is of one operation, unless this refuses it, or there was no memory for its batch (1): then the store is kept as it was.
-abbrev pub CommitsOneIn : Option Refusal → Operation → ℕ → ℕ → StoreView → Option StoreView → Type 0
-CommitsOneIn (Some e) operation answer number s kept = (answer ≡ number_of e) × (kept ≡ Some s)
-CommitsOneIn None operation answer number s kept = IsMade (Commits None (operation ∷ []) (λ reply. IsNumber reply answer number) answer) s kept ⊎ ((answer ≡ 1) × (kept ≡ Some s))
+abbrev pub CommitsOneIn : Option Refusal → Operation → ℕ → ℕ → Loan → StoreView → Option StoreView → Type 0
+CommitsOneIn (Some e) operation answer number loan s kept = (answer ≡ number_of e) × IsLeft loan s kept
+CommitsOneIn None operation answer number loan s kept = IsMade (Commits None (operation ∷ []) (λ reply. IsNumber reply answer number) answer) loan s kept ⊎ ((answer ≡ 1) × IsLeft loan s kept)
 
 -- the same of the store that was kept
-abbrev pub CommitsOne : Option Refusal → Operation → ℕ → ℕ → Option StoreView → Option StoreView → Type 0
-CommitsOne refusal operation answer number store kept = (s : StoreView) → store ≡ Some s → CommitsOneIn refusal operation answer number s kept
+abbrev pub CommitsOne : Option Refusal → Operation → ℕ → ℕ → Loan → Option StoreView → Option StoreView → Type 0
+CommitsOne refusal operation answer number loan store kept = (s : StoreView) → store ≡ Some s → CommitsOneIn refusal operation answer number loan s kept
 
 -- A text was not read: there was no memory for it (1), or it says nothing (34).
 abbrev pub IsUnread : {X : Type 0} → Option X → ℕ → Type 0
 IsUnread said answer = (answer ≡ 1) ⊎ ((answer ≡ 34) × (said ≡ None))
 
 -- This was made of what a text says; or it was not read, and the store is kept as it was.
-abbrev pub MakesOf : {X : Type 0} → Option X → (X → StoreView → StoreView → Type 0) → ℕ → Option StoreView → Option StoreView → Type 0
-MakesOf {X} said R answer store kept = (s : StoreView) → store ≡ Some s → ((x : X) × (said ≡ Some x) × IsMade (R x) s kept) ⊎ (IsUnread said answer × (kept ≡ Some s))
+abbrev pub MakesOf : {X : Type 0} → Option X → (X → StoreView → StoreView → Type 0) → ℕ → Loan → Option StoreView → Option StoreView → Type 0
+MakesOf {X} said R answer loan store kept = (s : StoreView) → store ≡ Some s → ((x : X) × (said ≡ Some x) × IsMade (R x) loan s kept) ⊎ (IsUnread said answer × IsLeft loan s kept)
 
 -- so a batch is committed that is given by its text
-abbrev pub CommitsText : List ℕ → ℕ → ℕ → Option StoreView → Option StoreView → Type 0
+abbrev pub CommitsText : List ℕ → ℕ → ℕ → Loan → Option StoreView → Option StoreView → Type 0
 CommitsText text answer number = MakesOf (batch_of text) (λ batch. Commits None batch (λ reply. IsNumber reply answer number) answer) answer
 
 -- and so under guards, which are given as a text too
-abbrev pub CommitsTextIf : List ℕ → List ℕ → ℕ → ℕ → ℕ → Option StoreView → Option StoreView → Type 0
+abbrev pub CommitsTextIf : List ℕ → List ℕ → ℕ → ℕ → ℕ → Loan → Option StoreView → Option StoreView → Type 0
 CommitsTextIf guards text answer number place = MakesOf (both_of (guards_of guards) (batch_of text))
     (λ both. Commits (Some both.0) both.1 (λ reply. IsNumber reply answer number × IsPlace reply place) answer) answer

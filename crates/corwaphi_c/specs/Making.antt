@@ -1,5 +1,5 @@
 -- How a store is made and opened, and what is answered.
-use Rattle.std.specs.Prelude.{◌≡◌, ◌⊎◌, ◌↔◌, ◌+◌, ◌*◌, ℕ, [], false, Option, Some, IsTrue}
+use Rattle.std.specs.Prelude.{◌≡◌, ◌⊎◌, ◌↔◌, ◌+◌, ◌*◌, ℕ, [], false, Option, Some, None, IsTrue}
 use Rattle.lsm_codec.specs.Geometry.{IsDeviceSize}
 use Rattle.lsm_device.specs.Calls.{AtMost, faults_after}
 use Rattle.lsm_device.specs.Disk.{seen}
@@ -18,7 +18,8 @@ use Rattle.lsm_open.specs.RefusedOpenings.{opening_refusal}
 use Rattle.lsm_store.specs.Backing.{StoreView}
 use Rattle.lsm_store.specs.Memory.{is_cache_size}
 use Rattle.lsm_store.specs.Serving.{IsRefusedBehindSync, IsUncalled, OpensTo, ReopensTo}
-use Rattle.corwaphi_c.specs.Calls.{IsMoved}
+use Rattle.lsm_mapped.specs.Disks.{mapped}
+use Rattle.corwaphi_c.specs.Calls.{IsMoved, IsWritten, Loan}
 
 -- ---- on any device
 
@@ -45,6 +46,7 @@ pub record IsOpenedOn (cache : ℕ) (before : Medium) (s : StoreView) : Type 0 w
   pub opens : (log_sectors : ℕ) (left : CrashState) → IsTrue before.lasting.tells → StandFor log_sectors left (seen (disk before)) → OpensTo before log_sectors left s
   pub faults : s.device.calls.faults ≡ before.calls.faults
   pub same_size : s.device.size ≡ before.size
+  pub same_lasting : s.device.lasting ≡ before.lasting
 
 -- It was refused with the number of a refusal: just for a cache outside its limits with BadLimit, and for a device outside its own with
 -- BadGeometry, both before any call; and else for what the device holds, for want of memory, or since a call failed.
@@ -59,28 +61,43 @@ pub record IsRefusedOn (cache answer : ℕ) (before after : Medium) : Type 0 whe
   pub fails : IsTrue (is_cache_size cache) → (log_sectors : ℕ) (left : CrashState) → IsTrue before.lasting.tells → StandFor log_sectors left (seen (disk before)) → FailsToOpen before log_sectors left refusal after
   pub faults : after.calls.faults ≡ faults_after (is_no_fault refusal) before.calls.faults
   pub same_size : after.size ≡ before.size
+  pub same_lasting : after.lasting ≡ before.lasting
 
--- ---- on the host's mapping
+-- An opening of a device answered a store, which is kept then; or it was refused with a number.
+abbrev pub OpensOn : ℕ → Option ℕ → Medium → Medium → Option StoreView → Type 0
+OpensOn cache None before after kept = (s : StoreView) × IsOpenedOn cache before s × (after ≡ s.device) × (parked : StoreView) × IsMoved s parked × (kept ≡ Some parked)
+OpensOn cache (Some answer) before after kept = IsRefusedOn cache answer before after
+
+-- ---- on the device of a call
 
 -- a device of so many sectors was formatted so
-pub record FormatsHere (sectors log_sectors answer : ℕ) : Type 0 where
-  pub before : Medium
-  pub size : before.size ≡ sectors
+pub record FormatsHere (sectors log_sectors answer : ℕ) (loan : Loan) : Type 0 where
+  pub name : ℕ
   pub after : Medium
-  pub formats : Formats log_sectors answer before after
+  pub formats : Formats log_sectors answer (mapped sectors loan.past name) after
+  pub written : IsWritten sectors loan after.history
 
--- a store was opened on a device of so many sectors
-abbrev pub IsOpenedHere : ℕ → ℕ → StoreView → Type 0
-IsOpenedHere sectors cache s = (before : Medium) × (before.size ≡ sectors) × IsOpenedOn cache before s
-
--- and that was kept
-abbrev pub IsKeptOpened : ℕ → ℕ → Option StoreView → Type 0
-IsKeptOpened sectors cache kept = (opened : StoreView) × IsOpenedHere sectors cache opened × (parked : StoreView) × IsMoved opened parked × (kept ≡ Some parked)
+-- a store was opened on a device of so many sectors, and is kept
+pub record IsKeptOpened (sectors cache : ℕ) (loan : Loan) (kept : Option StoreView) : Type 0 where
+  pub name : ℕ
+  pub opened : StoreView
+  pub opens : IsOpenedOn cache (mapped sectors loan.past name) opened
+  pub written : IsWritten sectors loan opened.device.history
+  pub parked : StoreView
+  pub back : IsMoved opened parked
+  pub is : kept ≡ Some parked
 
 -- or it was refused
-abbrev pub IsRefusedHere : ℕ → ℕ → ℕ → Type 0
-IsRefusedHere sectors cache answer = (before : Medium) × (before.size ≡ sectors) × (after : Medium) × IsRefusedOn cache answer before after
+pub record IsRefusedHere (sectors cache : ℕ) (loan : Loan) (answer : ℕ) : Type 0 where
+  pub name : ℕ
+  pub after : Medium
+  pub refused : IsRefusedOn cache answer (mapped sectors loan.past name) after
+  pub written : IsWritten sectors loan after.history
 
--- An opening was answered: the store that it opened is kept (0); or there was no memory for what a handle leads to (1), or it was refused.
-abbrev pub Opens : ℕ → ℕ → ℕ → Option StoreView → Type 0
-Opens sectors cache answer kept = ((answer ≡ 0) × IsKeptOpened sectors cache kept) ⊎ ((answer ≡ 1) ⊎ IsRefusedHere sectors cache answer)
+-- no store was opened: there was no memory for what a handle leads to (1), or it was refused
+abbrev pub IsUnopened : ℕ → ℕ → Loan → ℕ → Type 0
+IsUnopened sectors cache loan answer = ((answer ≡ 1) × (loan.used ≡ 0)) ⊎ IsRefusedHere sectors cache loan answer
+
+-- An opening was answered: the store that it opened is kept (0), or none was opened.
+abbrev pub Opens : ℕ → ℕ → Loan → ℕ → Option StoreView → Type 0
+Opens sectors cache loan answer kept = ((answer ≡ 0) × IsKeptOpened sectors cache loan kept) ⊎ IsUnopened sectors cache loan answer

@@ -1,8 +1,10 @@
 // What a handle of C's leads to.
 
-ghost use Rattle.std.specs.Prelude.{◌≡◌, None, Some};
+ghost use Rattle.std.specs.Prelude.{◌≡◌, None, Some, List};
+ghost use Rattle.lsm_device.specs.Disk.{Disk};
+ghost use Rattle.lsm_mapped.specs.Devices.{medium_on};
 ghost use Rattle.lsm_store.specs.Backing.{StoreView};
-ghost use Rattle.corwaphi_c.specs.Calls.{IsMoved};
+ghost use Rattle.corwaphi_c.specs.Calls.{IsMoved, IsShown, lent_to};
 
 use crate::pieces::Upkeep;
 use lsm_mapped::{MappedDevice, ParkedDevice};
@@ -25,8 +27,10 @@ impl Kept {
         image: &'a [u8],
         journal: &'a mut [u8],
     ) -> Option<Store<MappedDevice<'a>>>
+        ghost past: { List Disk }
+        requires { IsShown self.old.store image.now past }
         ensures none { self.old.store ≡ None → result ≡ None }
-        ensures lent { (s : StoreView) → self.old.store ≡ Some s → (lent : StoreView) × IsMoved s lent × (result ≡ Some lent) }
+        ensures lent { (s : StoreView) → self.old.store ≡ Some s → result ≡ Some (lent_to past journal.entry.ghost_name s) }
     {
         let store = self.store.take()?;
         let mapped = MappedDevice::new(image, journal, store.sectors());
@@ -34,13 +38,14 @@ impl Kept {
         Some(store)
     }
 
-    /// Keeps a store, and answers how many bytes of the journal its call filled.
-    pub(crate) fn park(&mut self, store: Store<MappedDevice<'_>>) -> usize
-        ensures { (parked : StoreView) × IsMoved store.entry parked × (self.new.store ≡ Some parked) }
+    /// Keeps a store, and hands back the device of its call.
+    pub(crate) fn park<'a>(&mut self, store: Store<MappedDevice<'a>>) -> MappedDevice<'a>
+        ensures kept { (parked : StoreView) × IsMoved store.entry parked × (self.new.store ≡ Some parked) }
+        ensures device { medium_on result ≡ store.entry.device }
     {
         let parked = ParkedDevice::new(store.sectors());
         let (store, mapped) = store.on(parked);
         self.store = Some(store);
-        mapped.used()
+        mapped
     }
 }

@@ -1,8 +1,9 @@
 //! Batches are made durable.
 
-ghost use Rattle.std.specs.Prelude.{◌≤◌, Option, Some, None, length};
+ghost use Rattle.std.specs.Prelude.{◌≤◌, List, Option, Some, None, length};
+ghost use Rattle.lsm_device.specs.Disk.{Disk};
 ghost use Rattle.lsm_machine.specs.Calls.{Call, Sync, SyncTo};
-ghost use Rattle.corwaphi_c.specs.Calls.{Answers, IsDone, Makes, store_in, sync_of};
+ghost use Rattle.corwaphi_c.specs.Calls.{Answers, IsDone, IsShown, Makes, store_in, sync_of};
 
 use crate::answers::{code, done};
 use crate::handle::{Handle, Slot};
@@ -19,7 +20,9 @@ pub extern "C" fn corwaphi_store_sync(
     journal: &mut [u8],
     used: &mut usize,
 ) -> u32
-    ensures { 65664 ≤ length journal.old → Makes (Answers Sync (λ reply. IsDone reply result)) handle.value.store (store_in slot.new.value) }
+    ghost past: { List Disk }
+    requires { IsShown handle.value.store image.now past }
+    ensures { 65664 ≤ length journal.old → Makes (Answers Sync (λ reply. IsDone reply result)) (record { past = past; used = used.new }) handle.value.store (store_in slot.new.value) }
 {
     let mut kept = handle.into_box();
     let answer = make(&mut kept, image, journal, used, None);
@@ -38,7 +41,9 @@ pub extern "C" fn corwaphi_store_sync_to(
     used: &mut usize,
     number: u64,
 ) -> u32
-    ensures { 65664 ≤ length journal.old → Makes (Answers (SyncTo number) (λ reply. IsDone reply result)) handle.value.store (store_in slot.new.value) }
+    ghost past: { List Disk }
+    requires { IsShown handle.value.store image.now past }
+    ensures { 65664 ≤ length journal.old → Makes (Answers (SyncTo number) (λ reply. IsDone reply result)) (record { past = past; used = used.new }) handle.value.store (store_in slot.new.value) }
 {
     let mut kept = handle.into_box();
     let answer = make(&mut kept, image, journal, used, Some(number));
@@ -54,7 +59,9 @@ fn make(
     used: &mut usize,
     last: Option<u64>,
 ) -> u32
-    ensures { 65664 ≤ length journal.old → Makes (Answers (sync_of last) (λ reply. IsDone reply result)) kept.old.store kept.new.store }
+    ghost past: { List Disk }
+    requires { IsShown kept.old.store image.now past }
+    ensures { 65664 ≤ length journal.old → Makes (Answers (sync_of last) (λ reply. IsDone reply result)) (record { past = past; used = used.new }) kept.old.store kept.new.store }
 {
     *used = 0;
     if journal.len() < JOURNAL_BYTES {
@@ -64,7 +71,8 @@ fn make(
         return code(Refusal::Stopped);
     };
     let answer = sync(&mut store, last);
-    *used = kept.park(store);
+    let device = kept.park(store);
+    *used = device.used();
     answer
 }
 

@@ -10,6 +10,7 @@ mod answers;
 mod handle;
 mod kept;
 mod lasting;
+mod laws;
 mod making;
 mod numbers;
 mod parts;

@@ -1,8 +1,11 @@
 //! A store is made, opened and closed.
 
-ghost use Rattle.std.specs.Prelude.{◌≡◌, ◌≤◌, ◌<◌, ◌⊎◌, length, MatchResult};
+ghost use Rattle.std.specs.Prelude.{◌≡◌, ◌≤◌, ◌<◌, [], List, length, MatchResult};
+ghost use Rattle.lsm_device.specs.Disk.{Disk};
+ghost use Rattle.lsm_mapped.specs.Devices.{medium_on};
+ghost use Rattle.lsm_mapped.specs.Disks.{IsPast};
 ghost use Rattle.corwaphi_c.specs.Calls.{store_in};
-ghost use Rattle.corwaphi_c.specs.Making.{Formats, FormatsHere, IsKeptOpened, IsOpenedHere, IsOpenedOn, IsRefusedHere, IsRefusedOn, Opens};
+ghost use Rattle.corwaphi_c.specs.Making.{Formats, FormatsHere, IsKeptOpened, IsOpenedOn, IsRefusedOn, IsUnopened, Opens, OpensOn};
 
 use crate::answers::{OK, code};
 use crate::handle::{Handle, Slot};
@@ -15,9 +18,9 @@ use lsm_store::Store;
 use lsm_upkeep::Goal;
 use std::alloc::Global;
 
-/// Makes an empty store of so many sectors, with log regions of so many: all that it writes is in the journal, which needs room for
-/// 132 sectors and three log regions, and a head of 8 bytes for each of those. It is refused with BadGeometry, NoMemory and Io, which is
-/// also for a journal without room.
+/// Makes an empty store of so many sectors, which are zeros, with log regions of so many: all that it writes is in the journal, which
+/// needs room for 132 sectors and three log regions, and a head of 8 bytes for each of those. It is refused with BadGeometry, NoMemory
+/// and Io, which is also for a journal without room.
 #[unsafe(no_mangle)]
 pub extern "C" fn corwaphi_store_format(
     alloc: Global,
@@ -26,13 +29,30 @@ pub extern "C" fn corwaphi_store_format(
     sectors: u32,
     log_sectors: u16,
 ) -> u32
-    ensures { FormatsHere sectors log_sectors result }
+    ghost past: { List Disk }
+    requires { IsPast sectors [] past }
+    ensures { FormatsHere sectors log_sectors result (record { past = past; used = used.new }) }
 {
     // A format reads nothing.
     let device = MappedDevice::new(&[], journal, sectors);
-    let (answer, device) = format_on(alloc, device, log_sectors);
+    let mut answer = OK;
+    let device = format_mapped(alloc, device, log_sectors, &mut answer);
     *used = device.used();
     answer
+}
+
+// Makes the device of a call an empty store, and hands it back.
+fn format_mapped<'a>(
+    alloc: Global,
+    device: MappedDevice<'a>,
+    log_sectors: u16,
+    answer: &mut u32,
+) -> MappedDevice<'a>
+    ensures { Formats log_sectors answer.new (medium_on device.entry) (medium_on result) }
+{
+    let (number, device) = format_on(alloc, device, log_sectors);
+    *answer = number;
+    device
 }
 
 // Makes a device an empty store.
@@ -58,7 +78,9 @@ pub extern "C" fn corwaphi_store_open(
     sectors: u32,
     cache: u32,
 ) -> u32
-    ensures opens { 65664 ≤ length journal.old → Opens sectors cache result (store_in slot.new.value) }
+    ghost past: { List Disk }
+    requires { IsPast sectors image.now past }
+    ensures opens { 65664 ≤ length journal.old → Opens sectors cache (record { past = past; used = used.new }) result (store_in slot.new.value) }
     ensures short { length journal.old < 65664 → result ≡ 28 }
     ensures refused { (result ≡ 0 → ⊥) → slot.new ≡ slot.old }
 {
@@ -84,8 +106,11 @@ fn open_kept(
     sectors: u32,
     cache: u32,
 ) -> Result<Box<Kept>, u32>
-    ensures { MatchResult result (λ kept. IsKeptOpened sectors cache kept.value.store) (λ answer. (answer ≡ 1) ⊎ IsRefusedHere sectors cache answer) }
+    ghost past: { List Disk }
+    requires { IsPast sectors image.now past }
+    ensures { MatchResult result (λ kept. IsKeptOpened sectors cache (record { past = past; used = used.new }) kept.value.store) (λ answer. IsUnopened sectors cache (record { past = past; used = used.new }) answer) }
 {
+    *used = 0;
     let kept = Kept {
         store: None,
         upkeep: Upkeep::to(Goal::Opened),
@@ -94,32 +119,35 @@ fn open_kept(
         Ok(kept) => kept,
         Err(_) => return Err(code(Refusal::NoMemory)),
     };
-    match open_here(alloc, image, journal, used, sectors, cache) {
-        Ok(store) => {
-            *used = kept.park(store);
-            Ok(kept)
-        }
-        Err(answer) => Err(answer),
+    let mut refused = None;
+    let device = MappedDevice::new(image, journal, sectors);
+    let device = open_mapped(alloc, &mut kept, device, cache, &mut refused);
+    *used = device.used();
+    match refused {
+        None => Ok(kept),
+        Some(answer) => Err(answer),
     }
 }
 
-// The store in an image, or why there is none.
-fn open_here<'a>(
+// Opens the store on the device of a call and keeps it, or tells why there is none. It hands the device back.
+fn open_mapped<'a>(
     alloc: Global,
-    image: &'a [u8],
-    journal: &'a mut [u8],
-    used: &mut usize,
-    sectors: u32,
+    kept: &mut Kept,
+    device: MappedDevice<'a>,
     cache: u32,
-) -> Result<Store<MappedDevice<'a>>, u32>
-    ensures { MatchResult result (λ s. IsOpenedHere sectors cache s) (λ answer. IsRefusedHere sectors cache answer) }
+    refused: &mut Option<u32>,
+) -> MappedDevice<'a>
+    ensures { OpensOn cache refused.new (medium_on device.entry) (medium_on result) kept.new.store }
 {
-    match open_on(alloc, MappedDevice::new(image, journal, sectors), cache) {
-        Ok(store) => Ok(store),
-        Err(refused) => {
-            let (answer, device) = refused;
-            *used = device.used();
-            Err(answer)
+    match open_on(alloc, device, cache) {
+        Ok(store) => {
+            *refused = None;
+            kept.park(store)
+        }
+        Err(told) => {
+            let (answer, device) = told;
+            *refused = Some(answer);
+            device
         }
     }
 }

@@ -1,8 +1,9 @@
 //! Values and rows are read, now or at a snapshot. That writes nothing.
 
-ghost use Rattle.std.specs.Prelude.{◌≡◌, option_map};
+ghost use Rattle.std.specs.Prelude.{◌≡◌, List, option_map};
+ghost use Rattle.lsm_device.specs.Disk.{Disk};
 ghost use Rattle.lsm_machine.specs.Calls.{Get, Scan, Snapshot, Release};
-ghost use Rattle.corwaphi_c.specs.Calls.{Answers, IsDone, IsNumber, IsRows, IsValue, Makes, MakesParked, at_of, end_of, store_in};
+ghost use Rattle.corwaphi_c.specs.Calls.{Answers, IsDone, IsNumber, IsRows, IsShown, IsValue, Makes, MakesParked, at_of, end_of, no_journal, store_in};
 
 use crate::answers::{NO_VALUE, PageTold, at, code, copy, done, number, put_page};
 use crate::handle::{Handle, Slot};
@@ -22,7 +23,9 @@ pub extern "C" fn corwaphi_store_get(
     room: &mut [u8],
     size: &mut usize,
 ) -> u32
-    ensures { Makes (Answers (Get (at_of snapshot) key.now) (λ reply. IsValue reply result room.new size.new)) handle.value.store (store_in slot.new.value) }
+    ghost past: { List Disk }
+    requires { IsShown handle.value.store image.now past }
+    ensures { Makes (Answers (Get (at_of snapshot) key.now) (λ reply. IsValue reply result room.new size.new)) (no_journal past) handle.value.store (store_in slot.new.value) }
 {
     let mut kept = handle.into_box();
     let answer = get(&mut kept, image, at(snapshot), key, room, size);
@@ -31,7 +34,9 @@ pub extern "C" fn corwaphi_store_get(
 }
 
 fn get(kept: &mut Kept, image: &[u8], at: At, key: &[u8], room: &mut [u8], size: &mut usize) -> u32
-    ensures { Makes (Answers (Get at key.now) (λ reply. IsValue reply result room.new size.new)) kept.old.store kept.new.store }
+    ghost past: { List Disk }
+    requires { IsShown kept.old.store image.now past }
+    ensures { Makes (Answers (Get at key.now) (λ reply. IsValue reply result room.new size.new)) (no_journal past) kept.old.store kept.new.store }
 {
     let mut journal = [0; 8];
     let Some(mut store) = kept.lend(image, &mut journal) else {
@@ -73,7 +78,9 @@ pub extern "C" fn corwaphi_store_rows(
     room: &mut [u8],
     told: &mut PageTold,
 ) -> u32
-    ensures { Makes (Answers (Scan (at_of snapshot) from.now (end_of has_to to.now) limit) (λ reply. IsRows reply result room.new told.new)) handle.value.store (store_in slot.new.value) }
+    ghost past: { List Disk }
+    requires { IsShown handle.value.store image.now past }
+    ensures { Makes (Answers (Scan (at_of snapshot) from.now (end_of has_to to.now) limit) (λ reply. IsRows reply result room.new told.new)) (no_journal past) handle.value.store (store_in slot.new.value) }
 {
     let mut kept = handle.into_box();
     let to = end(to, has_to);
@@ -99,7 +106,9 @@ fn rows(
     room: &mut [u8],
     told: &mut PageTold,
 ) -> u32
-    ensures { Makes (Answers (Scan at from.now (option_map (λ to. to.now) to.entry) limit) (λ reply. IsRows reply result room.new told.new)) kept.old.store kept.new.store }
+    ghost past: { List Disk }
+    requires { IsShown kept.old.store image.now past }
+    ensures { Makes (Answers (Scan at from.now (option_map (λ to. to.now) to.entry) limit) (λ reply. IsRows reply result room.new told.new)) (no_journal past) kept.old.store kept.new.store }
 {
     let mut journal = [0; 8];
     let Some(mut store) = kept.lend(image, &mut journal) else {

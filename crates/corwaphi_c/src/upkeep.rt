@@ -1,9 +1,10 @@
 //! Flushes and merges, piece by piece. A piece only reads or only writes, so that none reads what it wrote.
 
-ghost use Rattle.std.specs.Prelude.{◌≡◌, ◌≤◌, Some, length};
+ghost use Rattle.std.specs.Prelude.{◌≡◌, ◌≤◌, List, Some, length};
+ghost use Rattle.lsm_device.specs.Disk.{Disk};
 ghost use Rattle.lsm_store.specs.Backing.{StoreView, machine_of};
 ghost use Rattle.lsm_upkeep.specs.Steps.{IsUpkept};
-ghost use Rattle.corwaphi_c.specs.Calls.{IsAsked, Makes, store_in};
+ghost use Rattle.corwaphi_c.specs.Calls.{IsAsked, IsShown, Makes, store_in};
 
 use crate::answers::{OK, code};
 use crate::handle::{Handle, Slot};
@@ -27,26 +28,30 @@ pub extern "C" fn corwaphi_store_work(
     used: &mut usize,
     did: &mut u32,
 ) -> u32
-    ensures { 65664 ≤ length journal.old → Makes IsUpkept handle.value.store (store_in slot.new.value) }
+    ghost past: { List Disk }
+    requires { IsShown handle.value.store image.now past }
+    ensures { 65664 ≤ length journal.old → Makes IsUpkept (record { past = past; used = used.new }) handle.value.store (store_in slot.new.value) }
 {
     let mut kept = handle.into_box();
-    let answer = work(alloc, &mut kept, image, journal, Told { used, did });
+    let answer = work(alloc, &mut kept, image, journal, used, did);
     slot.put(kept);
     answer
 }
 
-// Where the answer of a piece goes.
-#[derive(Drop)]
-struct Told<'a> {
-    used: &'a mut usize,
-    did: &'a mut u32,
-}
-
-fn work(alloc: Global, kept: &mut Kept, image: &[u8], journal: &mut [u8], told: Told<'_>) -> u32
-    ensures { 65664 ≤ length journal.old → Makes IsUpkept kept.old.store kept.new.store }
+fn work(
+    alloc: Global,
+    kept: &mut Kept,
+    image: &[u8],
+    journal: &mut [u8],
+    used: &mut usize,
+    did: &mut u32,
+) -> u32
+    ghost past: { List Disk }
+    requires { IsShown kept.old.store image.now past }
+    ensures { 65664 ≤ length journal.old → Makes IsUpkept (record { past = past; used = used.new }) kept.old.store kept.new.store }
 {
-    *told.used = 0;
-    *told.did = 0;
+    *used = 0;
+    *did = 0;
     if journal.len() < JOURNAL_BYTES {
         return code(Refusal::BadLimit);
     }
@@ -54,10 +59,11 @@ fn work(alloc: Global, kept: &mut Kept, image: &[u8], journal: &mut [u8], told: 
         return code(Refusal::Stopped);
     };
     let reply = kept.upkeep.go_on(alloc, &mut store);
-    *told.used = kept.park(store);
+    let device = kept.park(store);
+    *used = device.used();
     match reply {
-        Ok(did) => {
-            *told.did = did.number();
+        Ok(done) => {
+            *did = done.number();
             OK
         }
         Err(refusal) => code(refusal),

@@ -6,11 +6,12 @@
 //! they find none though all tables were brought down as far as they go; and one of deletes is so only while a snapshot is live. That
 //! the log is full is never told: where no log could be opened that has room, that is NoSpace too.
 
-ghost use Rattle.std.specs.Prelude.{◌≡◌, ◌≤◌, ◌++◌, ◌∷◌, [], Some, None, option_map, length, map, MatchResult};
+ghost use Rattle.std.specs.Prelude.{◌≡◌, ◌≤◌, ◌++◌, ◌∷◌, [], Some, None, List, option_map, length, map, MatchResult};
+ghost use Rattle.lsm_device.specs.Disk.{Disk};
 ghost use Rattle.lsm_codec.specs.Answers.{key_refusal, or_then, value_refusal};
 ghost use Rattle.lsm_codec.specs.BatchText.{IsChange, batch_of};
 ghost use Rattle.lsm_machine.specs.Calls.{Number, reply_of};
-ghost use Rattle.corwaphi_c.specs.Calls.{Commits, CommitsOne, CommitsText, CommitsTextIf, IsNumber, IsPlace, IsUnread, Makes, condition_of, guards_of, store_in};
+ghost use Rattle.corwaphi_c.specs.Calls.{Commits, CommitsOne, CommitsText, CommitsTextIf, IsNumber, IsPlace, IsShown, IsUnread, Makes, condition_of, guards_of, store_in};
 
 use crate::answers::{BAD_TEXT, OK, WORK_FIRST, code, number};
 use crate::handle::{Handle, Slot};
@@ -35,10 +36,11 @@ pub extern "C" fn corwaphi_store_put(
     value: &[u8],
     number: &mut u64,
 ) -> u32
-    ensures { 65664 ≤ length journal.old → CommitsOne (or_then (key_refusal key.now) (value_refusal value.now)) (record { key = key.now; value = Some value.now }) result number.new handle.value.store (store_in slot.new.value) }
+    ghost past: { List Disk }
+    requires { IsShown handle.value.store image.now past }
+    ensures { 65664 ≤ length journal.old → CommitsOne (or_then (key_refusal key.now) (value_refusal value.now)) (record { key = key.now; value = Some value.now }) result number.new (record { past = past; used = used.new }) handle.value.store (store_in slot.new.value) }
 {
     let mut kept = handle.into_box();
-    *used = 0;
     let answer = put(alloc, &mut kept, image, journal, used, key, value, number);
     slot.put(kept);
     answer
@@ -54,8 +56,11 @@ fn put(
     value: &[u8],
     number: &mut u64,
 ) -> u32
-    ensures { 65664 ≤ length journal.old → CommitsOne (or_then (key_refusal key.now) (value_refusal value.now)) (record { key = key.now; value = Some value.now }) result number.new kept.old.store kept.new.store }
+    ghost past: { List Disk }
+    requires { IsShown kept.old.store image.now past }
+    ensures { 65664 ≤ length journal.old → CommitsOne (or_then (key_refusal key.now) (value_refusal value.now)) (record { key = key.now; value = Some value.now }) result number.new (record { past = past; used = used.new }) kept.old.store kept.new.store }
 {
+    *used = 0;
     match Op::put(alloc, key, value) {
         Ok(operation) => commit_one(alloc, kept, image, journal, used, operation, number),
         Err(refusal) => code(refusal),
@@ -74,10 +79,11 @@ pub extern "C" fn corwaphi_store_delete(
     key: &[u8],
     number: &mut u64,
 ) -> u32
-    ensures { 65664 ≤ length journal.old → CommitsOne (key_refusal key.now) (record { key = key.now; value = None }) result number.new handle.value.store (store_in slot.new.value) }
+    ghost past: { List Disk }
+    requires { IsShown handle.value.store image.now past }
+    ensures { 65664 ≤ length journal.old → CommitsOne (key_refusal key.now) (record { key = key.now; value = None }) result number.new (record { past = past; used = used.new }) handle.value.store (store_in slot.new.value) }
 {
     let mut kept = handle.into_box();
-    *used = 0;
     let answer = delete(alloc, &mut kept, image, journal, used, key, number);
     slot.put(kept);
     answer
@@ -92,8 +98,11 @@ fn delete(
     key: &[u8],
     number: &mut u64,
 ) -> u32
-    ensures { 65664 ≤ length journal.old → CommitsOne (key_refusal key.now) (record { key = key.now; value = None }) result number.new kept.old.store kept.new.store }
+    ghost past: { List Disk }
+    requires { IsShown kept.old.store image.now past }
+    ensures { 65664 ≤ length journal.old → CommitsOne (key_refusal key.now) (record { key = key.now; value = None }) result number.new (record { past = past; used = used.new }) kept.old.store kept.new.store }
 {
+    *used = 0;
     match Op::delete(alloc, key) {
         Ok(operation) => commit_one(alloc, kept, image, journal, used, operation, number),
         Err(refusal) => code(refusal),
@@ -110,8 +119,11 @@ fn commit_one(
     operation: Op,
     number: &mut u64,
 ) -> u32
-    ensures { 65664 ≤ length journal.old → CommitsOne None operation result number.new kept.old.store kept.new.store }
+    ghost past: { List Disk }
+    requires { IsShown kept.old.store image.now past }
+    ensures { 65664 ≤ length journal.old → CommitsOne None operation result number.new (record { past = past; used = used.new }) kept.old.store kept.new.store }
 {
+    *used = 0;
     match Batch::new(alloc, operation) {
         Ok(batch) => commit(kept, image, journal, used, &batch, number),
         Err(refusal) => code(refusal),
@@ -131,10 +143,11 @@ pub extern "C" fn corwaphi_store_write(
     text: &[u8],
     number: &mut u64,
 ) -> u32
-    ensures { 65664 ≤ length journal.old → CommitsText text.now result number.new handle.value.store (store_in slot.new.value) }
+    ghost past: { List Disk }
+    requires { IsShown handle.value.store image.now past }
+    ensures { 65664 ≤ length journal.old → CommitsText text.now result number.new (record { past = past; used = used.new }) handle.value.store (store_in slot.new.value) }
 {
     let mut kept = handle.into_box();
-    *used = 0;
     let answer = write(alloc, &mut kept, image, journal, used, text, number);
     slot.put(kept);
     answer
@@ -149,8 +162,11 @@ fn write(
     text: &[u8],
     number: &mut u64,
 ) -> u32
-    ensures { 65664 ≤ length journal.old → CommitsText text.now result number.new kept.old.store kept.new.store }
+    ghost past: { List Disk }
+    requires { IsShown kept.old.store image.now past }
+    ensures { 65664 ≤ length journal.old → CommitsText text.now result number.new (record { past = past; used = used.new }) kept.old.store kept.new.store }
 {
+    *used = 0;
     match read_batch(alloc, text) {
         Ok(batch) => commit(kept, image, journal, used, &batch, number),
         Err(answer) => answer,
@@ -176,7 +192,9 @@ fn commit(
     batch: &Batch,
     out: &mut u64,
 ) -> u32
-    ensures { 65664 ≤ length journal.old → Makes (Commits None batch.now (λ reply. IsNumber reply result out.new) result) kept.old.store kept.new.store }
+    ghost past: { List Disk }
+    requires { IsShown kept.old.store image.now past }
+    ensures { 65664 ≤ length journal.old → Makes (Commits None batch.now (λ reply. IsNumber reply result out.new) result) (record { past = past; used = used.new }) kept.old.store kept.new.store }
 {
     if journal.len() < JOURNAL_BYTES {
         return code(Refusal::BadLimit);
@@ -185,7 +203,8 @@ fn commit(
         return code(Refusal::Stopped);
     };
     let answer = commit_in(&mut store, &mut kept.upkeep, batch, out);
-    *used = kept.park(store);
+    let device = kept.park(store);
+    *used = device.used();
     answer
 }
 
@@ -221,10 +240,11 @@ pub extern "C" fn corwaphi_store_write_if(
     number: &mut u64,
     place: &mut u8,
 ) -> u32
-    ensures { 65664 ≤ length journal.old → CommitsTextIf guards.now text.now result number.new place.new handle.value.store (store_in slot.new.value) }
+    ghost past: { List Disk }
+    requires { IsShown handle.value.store image.now past }
+    ensures { 65664 ≤ length journal.old → CommitsTextIf guards.now text.now result number.new place.new (record { past = past; used = used.new }) handle.value.store (store_in slot.new.value) }
 {
     let mut kept = handle.into_box();
-    *used = 0;
     let answer = write_if(
         alloc, &mut kept, image, journal, used, guards, text, number, place,
     );
@@ -243,8 +263,11 @@ fn write_if(
     number: &mut u64,
     place: &mut u8,
 ) -> u32
-    ensures { 65664 ≤ length journal.old → CommitsTextIf guards.now text.now result number.new place.new kept.old.store kept.new.store }
+    ghost past: { List Disk }
+    requires { IsShown kept.old.store image.now past }
+    ensures { 65664 ≤ length journal.old → CommitsTextIf guards.now text.now result number.new place.new (record { past = past; used = used.new }) kept.old.store kept.new.store }
 {
+    *used = 0;
     let guards = match read_guards(alloc, guards) {
         Ok(guards) => guards,
         Err(answer) => return answer,
@@ -265,7 +288,9 @@ fn commit_if(
     number: &mut u64,
     place: &mut u8,
 ) -> u32
-    ensures { 65664 ≤ length journal.old → Makes (Commits (Some guards.now) batch.now (λ reply. IsNumber reply result number.new × IsPlace reply place.new) result) kept.old.store kept.new.store }
+    ghost past: { List Disk }
+    requires { IsShown kept.old.store image.now past }
+    ensures { 65664 ≤ length journal.old → Makes (Commits (Some guards.now) batch.now (λ reply. IsNumber reply result number.new × IsPlace reply place.new) result) (record { past = past; used = used.new }) kept.old.store kept.new.store }
 {
     if journal.len() < JOURNAL_BYTES {
         return code(Refusal::BadLimit);
@@ -274,7 +299,8 @@ fn commit_if(
         return code(Refusal::Stopped);
     };
     let answer = commit_under(&mut store, &mut kept.upkeep, guards, batch, number, place);
-    *used = kept.park(store);
+    let device = kept.park(store);
+    *used = device.used();
     answer
 }
 

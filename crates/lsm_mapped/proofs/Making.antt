@@ -1,12 +1,12 @@
 -- The disks of a mapping, once the records of a journal are made on it.
-use Rattle.std.proofs.Common.{◌≡◌, ◌⊎◌, ◌<◌, ◌≤◌, ◌==◌, ℕ, ◌+◌, ◌*◌, Bool, true, false, List, [], ◌∷◌, ◌++◌, length, length-append, take, drop, replicate, Some, refl, sym, subst, inl, inr, ◌∙◌, ap, arith, slice_get, if◌then◌else◌}
+use Rattle.std.proofs.Common.{◌≡◌, ◌<◌, ◌≤◌, ◌==◌, ℕ, ◌+◌, ◌*◌, Bool, true, false, List, [], ◌∷◌, ◌++◌, length, length-append, take, drop, replicate, Some, refl, sym, subst, inl, inr, ◌∙◌, ap, arith, slice_get, if◌then◌else◌}
 use Rattle.std.specs.List.{All}
 use Rattle.std.proofs.lemmas.Bool.{cases_Bool, cases_eq, eq-eqb, ne_eqb}
 use Rattle.std.proofs.lemmas.List.{drop-append-le, length-drop, take-append-le}
 use Rattle.std.proofs.lemmas.List.Elements.{All-push}
 use Rattle.std.proofs.lemmas.Option.{slice_get-get_or}
 use Rattle.lsm_device.proofs.Pieces.{piece_at}
-use Rattle.lsm_device.specs.Disk.{Disk, appended, at_rest, seen, synced}
+use Rattle.lsm_device.specs.Disk.{Disk, appended, seen, synced}
 use Rattle.lsm_device.specs.History.{Becomes, present}
 use Rattle.lsm_device.specs.Runs.{pieces}
 use Rattle.lsm_mapped.specs.Disks.{IsWithin, after_record, after_records, after_sectors, mapped_sectors}
@@ -100,15 +100,15 @@ unwritten (r ∷ rs) past none =
     let rest : writes_in rs ≡ 0 = omega (arith, none) in
     unwritten rs (after_record r.first r.sectors past) rest ∙ ap (λ (h : List Disk). seen (present h)) (record-sync r.first r.sectors past here)
 
-pub read-made : (n at : ℕ) (image out : List ℕ) (rs : List Record) → writes_in rs ≡ 0 → at < n → 512 * at + 512 ≤ length image → out ≡ take 512 (drop (512 * at) image) →
-    slice_get (seen (present (after_records rs (at_rest (mapped_sectors n image) ∷ [])))) at ≡ Some out
+pub read-made : (n at : ℕ) (image out : List ℕ) (rs : List Record) (past : List Disk) → writes_in rs ≡ 0 → seen (present past) ≡ mapped_sectors n image → at < n → 512 * at + 512 ≤ length image
+    → out ≡ take 512 (drop (512 * at) image) → slice_get (seen (present (after_records rs past))) at ≡ Some out
 unfolding mapped_sectors
-read-made n at image out rs none below there is =
+read-made n at image out rs past none shown below there is =
     let zeros : List ℕ = replicate (512 * n) 0 in
     let same : out ≡ take 512 (drop (512 * at) (image ++ zeros)) =
     is ∙ sym (ap (take 512) (drop-append-le (512 * at) image zeros (omega (arith, there))) ∙ take-append-le 512 (drop (512 * at) image) zeros (omega (arith, there, length-drop (512 * at) image))) in
     let place = piece_at n (image ++ zeros) at out below same in
-    ap (λ (sectors : List (List ℕ)). slice_get sectors at) (unwritten rs (at_rest (pieces n (image ++ zeros)) ∷ []) none)
+    ap (λ (sectors : List (List ℕ)). slice_get sectors at) (unwritten rs past none ∙ shown)
     ∙ slice_get-get_or (pieces n (image ++ zeros)) at [] place.0 ∙ ap (λ (l : List ℕ). Some l) (sym place.1)
 
 -- ---- how many there are

@@ -1,16 +1,15 @@
 -- Records are what their text says.
-use Rattle.std.proofs.Common.{◌≡◌, ◌⊎◌, ◌<◌, ◌≤◌, ◌==◌, ℕ, zero, suc, ◌+◌, ◌*◌, ◌^◌, Bool, true, false, List, [], ◌∷◌, ◌++◌, length, length-append, take, drop, refl, sym, subst, inl, inr, ◌∙◌, ap, arith, append-nil, append_assoc}
+use Rattle.std.proofs.Common.{◌≡◌, ◌<◌, ◌≤◌, ℕ, zero, suc, ◌+◌, ◌*◌, ◌^◌, Bool, false, List, [], ◌∷◌, ◌++◌, length, length-append, take, drop, refl, sym, subst, ◌∙◌, ap, arith, append-nil, append_assoc}
 use Rattle.std.specs.List.{All, concat}
 use Rattle.std.proofs.lemmas.List.{drop-drop, drop_at, take_at}
-use Rattle.std.proofs.lemmas.List.Elements.{All-append, All-cons, All-head, All-nil, All-push, All-tail}
-use Rattle.std.proofs.lemmas.List.Folds.{concat-append}
+use Rattle.std.proofs.lemmas.List.Elements.{All-head, All-tail}
 use Rattle.byteorder.specs.Endian.{little_number}
 use Rattle.byteorder.specs.Numbers.{length-bytes_low_first, little_number-reads_back}
 use Rattle.lsm_device.specs.Disk.{IsSector}
 use Rattle.lsm_device.specs.Runs.{pieces}
 use Rattle.lsm_mapped.proofs.Laying.{over}
 use Rattle.lsm_mapped.specs.Laid.{Laid}
-use Rattle.lsm_mapped.specs.Records.{Record, IsWhole, front, last, number_text, record_text, records_from, records_of, sync_record, text_of, with_sector, with_sync, with_write, write_record, writes_in, goes_on}
+use Rattle.lsm_mapped.specs.Records.{Record, IsWhole, front, last, number_text, record_text, records_from, records_of, text_of, writes_in}
 
 -- ---- the last record
 

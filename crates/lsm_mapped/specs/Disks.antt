@@ -1,15 +1,21 @@
 -- The disks that a mapping has had, once the records of a journal are made on it.
-use Rattle.std.specs.Prelude.{◌≤◌, ℕ, ◌+◌, ◌*◌, true, List, [], ◌∷◌, ◌++◌, length, replicate, None}
+use Rattle.std.specs.Prelude.{◌≡◌, ◌≤◌, ℕ, ◌+◌, ◌*◌, true, List, [], ◌∷◌, ◌++◌, length, take, replicate, All, None}
 use Rattle.lsm_device.specs.Calls.{no_calls}
-use Rattle.lsm_device.specs.Disk.{Disk, appended, at_rest, synced}
-use Rattle.lsm_device.specs.History.{present}
-use Rattle.lsm_device.specs.Medium.{Lasting, Medium}
+use Rattle.lsm_device.specs.Disk.{Disk, appended, seen, synced}
+use Rattle.lsm_device.specs.History.{IsHistory, present}
+use Rattle.lsm_device.specs.Medium.{Ended, Lasting, Medium}
 use Rattle.lsm_device.specs.Runs.{pieces}
-use Rattle.lsm_mapped.specs.Records.{Record}
+use Rattle.lsm_mapped.specs.Records.{IsWhole, Record, text_of}
 
 -- so many sectors of a mapping; where it ends before them, zeros follow
 unfoldable pub mapped_sectors : ℕ → List ℕ → List (List ℕ)
 mapped_sectors n image = pieces n (image ++ replicate (512 * n) 0)
+
+-- The disks that a device of so many sectors has had, of which a mapping shows the last: its reads see what was written, though a
+-- crash may still lose what was not synced. Each mapping shows one, on which nothing pends.
+pub record IsPast (n : ℕ) (image : List ℕ) (past : List Disk) : Type 0 where
+  pub disks : IsHistory n past
+  pub shown : seen (present past) ≡ mapped_sectors n image
 
 -- sectors are written one after the other, from a place on
 unfoldable pub after_sectors : ℕ → List (List ℕ) → List Disk → List Disk
@@ -30,10 +36,22 @@ after_records (r ∷ rs) past = after_records rs (after_record r.first r.sectors
 abbrev pub IsWithin : ℕ → Record → Type 0
 IsWithin n r = r.first + length r.sectors ≤ n
 
--- of a device over a mapping; the loan of its journal has a number, which stands where a device in memory counts its fuses
-abbrev pub lasting_of : ℕ → Lasting
-lasting_of loan = record { tells = true; fuse_set = None; failure_set = None; times_set = loan; ended = [] }
+-- So many bytes of a journal are the text of these records, of numbers of 32 bits and whole sectors, which a device of n sectors has.
+pub record IsFilledWith (n used : ℕ) (journal : List ℕ) (records : List Record) : Type 0 where
+  pub text : take used journal ≡ text_of records
+  pub size : used ≡ length (text_of records)
+  pub whole : All IsWhole records
+  pub within : All (IsWithin n) records
 
--- a device over a mapping, on which nothing was called
-abbrev pub mapped : ℕ → List ℕ → ℕ → Medium
-mapped n image loan = record { size = n; lasting = lasting_of loan; calls = no_calls; history = at_rest (mapped_sectors n image) ∷ [] }
+-- the disks before a call, as those of a life that ended
+abbrev pub before : List Disk → Ended
+before past = record { fuse_set = None; failure_set = None; times_set = 0; calls = no_calls; history = past }
+
+-- Of a device over a mapping: the disks that it had before. The loan of its journal has a number, which stands where a device in memory
+-- counts its fuses.
+abbrev pub lasting_of : ℕ → List Disk → Lasting
+lasting_of loan past = record { tells = true; fuse_set = None; failure_set = None; times_set = loan; ended = before past ∷ [] }
+
+-- a device over a mapping, on which nothing was called since it was lent
+abbrev pub mapped : ℕ → List Disk → ℕ → Medium
+mapped n past loan = record { size = n; lasting = lasting_of loan past; calls = no_calls; history = past }

@@ -1,6 +1,6 @@
 -- How the bytes and the numbers of a journal go together.
 use Rattle.std.specs.Prelude.{◌≡◌, ℕ, Bool, false, List, length, All}
-use Rattle.lsm_mapped.specs.Records.{Record, IsWhole, front, last, records_of, text_of, writes_in}
+use Rattle.lsm_mapped.specs.Records.{IsWhole, front, last, records_of, text_of, writes_in}
 
 -- A text is that of records, the last of which begins at this byte, with this sector, and has so many.
 pub record Laid (text : List ℕ) (head first count : ℕ) (wrote : Bool) : Type 0 where

@@ -1,5 +1,5 @@
 -- What a journal says: writes and syncs in their order, and the text of them.
-use Rattle.std.specs.Prelude.{◌≡◌, ◌<◌, ℕ, zero, suc, ◌+◌, ◌*◌, ◌^◌, ◌==◌, ◌&&◌, nat_lt, Bool, List, [], ◌∷◌, ◌++◌, length, drop, All, if◌then◌else◌}
+use Rattle.std.specs.Prelude.{◌<◌, ℕ, zero, suc, ◌+◌, ◌*◌, ◌^◌, ◌==◌, ◌&&◌, nat_lt, Bool, List, [], ◌∷◌, ◌++◌, length, drop, All, if◌then◌else◌}
 use Rattle.std.specs.List.{concat}
 use Rattle.byteorder.specs.Endian.{little_bytes, little_number}
 use Rattle.lsm_device.specs.Disk.{IsSector}

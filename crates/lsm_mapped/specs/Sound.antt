@@ -1,17 +1,16 @@
 -- The disks of a mapping are disks of its size.
-use Rattle.std.proofs.Common.{◌≡◌, ◌<◌, ◌≤◌, ℕ, zero, suc, ◌+◌, ◌*◌, ◌^◌, List, [], ◌∷◌, ◌++◌, length, length-append, take, drop, replicate, refl, None, Some, arith, length-take-le}
+use Rattle.std.proofs.Common.{◌<◌, ◌≤◌, ℕ, zero, suc, ◌+◌, ◌*◌, ◌^◌, List, [], ◌∷◌, ◌++◌, length, length-append, take, drop, replicate, refl, arith, length-take-le}
 use Rattle.std.specs.List.{All}
 use Rattle.std.proofs.lemmas.List.{length-drop, length-replicate}
 use Rattle.std.proofs.lemmas.List.Elements.{All-append, All-cons, All-drop, All-head, All-nil, All-push, All-replicate, All-tail, All-take}
 use Rattle.lsm_device.proofs.Pieces.{length-pieces}
-use Rattle.lsm_device.specs.Calls.{no_calls}
 use Rattle.lsm_device.specs.declared.calls.Calls.{Calls}
 use Rattle.lsm_device.specs.Disk.{Disk, IsDisk, IsSector, IsWrite, Write, appended, at_rest, synced}
 use Rattle.lsm_device.specs.History.{IsHistory, present}
-use Rattle.lsm_device.specs.Medium.{Ended, KeepsFuse, KeepsFuses, Medium}
+use Rattle.lsm_device.specs.Medium.{Ended, KeepsFuse, KeepsFuses}
 use Rattle.lsm_device.specs.Memory.{length-written, written-whole}
 use Rattle.lsm_device.specs.Runs.{pieces}
-use Rattle.lsm_mapped.specs.Disks.{IsWithin, after_record, after_records, after_sectors, lasting_of, mapped_sectors}
+use Rattle.lsm_mapped.specs.Disks.{IsPast, IsWithin, after_record, after_records, after_sectors, before, lasting_of, mapped_sectors}
 use Rattle.lsm_mapped.specs.Records.{IsWhole, Record}
 
 pieces_whole : (n : ℕ) (bytes : List ℕ) → 512 * n ≤ length bytes → All (λ b. b < 2 ^ 8) bytes → All IsSector (pieces n bytes)
@@ -59,17 +58,24 @@ unfolding after_record
 record_sound n first [] past within whole had = longer n (synced (present past)) past (synced_sound n (present past) had.now) had
 record_sound n first (bytes ∷ rest) past within whole had = sectors_sound n first (bytes ∷ rest) past within whole had
 
-records_sound : (n : ℕ) (rs : List Record) (past : List Disk) → All (IsWithin n) rs → All IsWhole rs → IsHistory n past → IsHistory n (after_records rs past)
+pub records_sound : (n : ℕ) (rs : List Record) (past : List Disk) → All (IsWithin n) rs → All IsWhole rs → IsHistory n past → IsHistory n (after_records rs past)
 unfolding after_records
 records_sound n [] past within whole had = had
 records_sound n (r ∷ rs) past within whole had =
     records_sound n rs (after_record r.first r.sectors past) (All-tail (IsWithin n) r rs within) (All-tail IsWhole r rs whole)
     (record_sound n r.first r.sectors past (All-head (IsWithin n) r rs within) (All-head IsWhole r rs whole).sectors_whole had)
 
-pub history_sound : (n : ℕ) (image : List ℕ) (rs : List Record) → All (λ b. b < 2 ^ 8) image → All (IsWithin n) rs → All IsWhole rs → IsHistory n (after_records rs (at_rest (mapped_sectors n image) ∷ []))
-history_sound n image rs fits within whole =
+-- each mapping shows a disk, on which nothing pends
+pub rests : (n : ℕ) (image : List ℕ) → All (λ b. b < 2 ^ 8) image → IsPast n image (at_rest (mapped_sectors n image) ∷ [])
+rests n image fits =
     let on = start_sound n image fits in
-    records_sound n rs (at_rest (mapped_sectors n image) ∷ []) within whole (record { now = on; each = All-cons (IsDisk n) _ [] on (All-nil (IsDisk n)) })
+    record { disks = record { now = on; each = All-cons (IsDisk n) _ [] on (All-nil (IsDisk n)) }; shown = refl }
 
-pub no_fuse : (n loan : ℕ) (calls : Calls) (history : List Disk) → KeepsFuses (record { size = n; lasting = lasting_of loan; calls = calls; history = history })
-no_fuse n loan calls history = record { now = record { at_most = λ k e. cc }; ended = All-nil (λ (e : Ended). KeepsFuse e.fuse_set e.calls) }
+never : (past : List Disk) → KeepsFuse (before past).fuse_set (before past).calls
+never past = record { at_most = λ k e. cc }
+
+pub no_fuse : (n loan : ℕ) (calls : Calls) (past history : List Disk) → KeepsFuses (record { size = n; lasting = lasting_of loan past; calls = calls; history = history })
+no_fuse n loan calls past history = record {
+  now = record { at_most = λ k e. cc };
+  ended = All-cons (λ (e : Ended). KeepsFuse e.fuse_set e.calls) (before past) [] (never past) (All-nil (λ (e : Ended). KeepsFuse e.fuse_set e.calls));
+}

@@ -20,6 +20,7 @@
 mod journal;
 mod mapped;
 mod parked;
+mod past;
 
 pub use journal::Journal;
 pub use mapped::MappedDevice;

@@ -1,15 +1,17 @@
 // A device over a mapping, for one call.
 ghost use Rattle.std.specs.Prelude.{◌≡◌, ◌↔◌, ◌<◌, ◌≤◌, ◌^◌, ◌+◌, ◌*◌, All, IsTrue, is_ok, length, take, drop};
-ghost use Rattle.lsm_mapped.specs.Disks.{IsWithin};
+ghost use Rattle.lsm_mapped.specs.Disks.{IsPast, IsWithin};
 ghost use Rattle.lsm_mapped.specs.Journals.{records_in};
 
 use crate::Journal;
+use crate::past::Past;
 use lsm_device::{Calls, Device, Fault};
 
 const SECTOR_BYTES: usize = 512;
 
-/// The host's mapping of a file, and room for a journal of what a call writes. Contracts are told the disks that the file has had once
-/// the records of the journal are made on it. Where the mapping ends before the sectors do, it is as if zeros followed.
+/// The host's mapping of a file, and room for a journal of what a call writes. Contracts are told the disks that the file has had, of
+/// which the mapping shows the last, and those that it has had once the records of the journal are made on it. Where the mapping ends
+/// before the sectors do, it is as if zeros followed.
 ///
 /// A read of sectors that the mapping doesn't have is a fault, and so is a write or a sync for which the journal has no room. A read
 /// behind a write is a fault too, since the mapping doesn't have that write yet: no call of a store makes one.
@@ -17,31 +19,35 @@ const SECTOR_BYTES: usize = 512;
 pub struct MappedDevice<'a> {
     image: &'a [u8],
     journal: Journal<'a>,
+    past: Past,
     sectors: u32,
     calls: Calls,
     ghost fits: { sectors < 2 ^ 32 },
-    ghost bytes: { All (λ b. b < 2 ^ 8) image.now },
+    ghost had: { IsPast sectors image.now past.disks },
     ghost within: { All (IsWithin sectors) (records_in journal) },
 }
 
 impl<'a> MappedDevice<'a> {
-    ghost use Rattle.std.specs.Prelude.{[], ◌∷◌};
-    ghost use Rattle.lsm_device.specs.Disk.{at_rest};
-    ghost use Rattle.lsm_mapped.specs.Devices.{image_on, records_on};
-    ghost use Rattle.lsm_mapped.specs.Disks.{after_records, mapped};
+    ghost use Rattle.std.specs.Prelude.{[], List};
+    ghost use Rattle.lsm_device.specs.Disk.{Disk};
+    ghost use Rattle.lsm_mapped.specs.Devices.{past_on, records_on};
+    ghost use Rattle.lsm_mapped.specs.Disks.{IsFilledWith, after_records, lasting_of, mapped};
     ghost use Rattle.lsm_mapped.specs.Journals.{loan_in, room_in};
-    ghost use Rattle.lsm_mapped.specs.Records.{syncs_in, text_of, writes_in};
+    ghost use Rattle.lsm_mapped.specs.Records.{syncs_in, writes_in};
 
     /// The device of so many sectors over a mapping, which has 512 bytes for each of them, and with an empty journal.
     pub fn new(image: &'a [u8], journal: &'a mut [u8], sectors: u32) -> MappedDevice<'a>
+        ghost past: { List Disk }
+        requires { IsPast sectors image.now past }
         ensures size { (⟦<MappedDevice<'a> as Device>⟧.medium result).size ≡ sectors }
-        ensures medium { ⟦<MappedDevice<'a> as Device>⟧.medium result ≡ mapped sectors image.now journal.entry.ghost_name }
+        ensures medium { ⟦<MappedDevice<'a> as Device>⟧.medium result ≡ mapped sectors past journal.entry.ghost_name }
         ensures records { records_on result ≡ [] }
         ensures room { room_in result.journal ≡ length journal.old }
     {
         MappedDevice {
             image,
             journal: Journal::new(journal),
+            past: Past::of(),
             sectors,
             calls: Calls::NONE,
         }
@@ -49,14 +55,13 @@ impl<'a> MappedDevice<'a> {
 
     /// How many bytes of the journal are filled: with the text of its records, and nothing else.
     pub fn used(&self) -> usize
-        ensures text { take result self.now.journal.bytes.now ≡ text_of (records_on self.now) }
-        ensures size { result ≡ length (text_of (records_on self.now)) }
+        ensures filled { IsFilledWith (⟦<MappedDevice<'a> as Device>⟧.medium self.now).size result self.now.journal.bytes.now (records_on self.now) }
         ensures within { result ≤ room_in self.now.journal }
-        ensures loan { (⟦<MappedDevice<'a> as Device>⟧.medium self.now).lasting.times_set ≡ loan_in self.now.journal }
 
-        // The disks that it tells are those that the mapping has had once the records are made on it: one for each write and each sync.
-        ensures made { (⟦<MappedDevice<'a> as Device>⟧.medium self.now).history ≡ after_records (records_on self.now) (at_rest (image_on self.now) ∷ []) }
-        ensures many { length (⟦<MappedDevice<'a> as Device>⟧.medium self.now).history ≡ 1 + writes_in (records_on self.now) + syncs_in (records_on self.now) }
+        // The disks that it tells are those before, and those that it has had once the records are made: one for each write and each sync.
+        ensures lasting { (⟦<MappedDevice<'a> as Device>⟧.medium self.now).lasting ≡ lasting_of (loan_in self.now.journal) (past_on self.now) }
+        ensures made { (⟦<MappedDevice<'a> as Device>⟧.medium self.now).history ≡ after_records (records_on self.now) (past_on self.now) }
+        ensures many { length (⟦<MappedDevice<'a> as Device>⟧.medium self.now).history ≡ length (past_on self.now) + writes_in (records_on self.now) + syncs_in (records_on self.now) }
     {
         self.journal.used()
     }

@@ -5,7 +5,7 @@ use Rattle.corwaphi_c.specs.Calls.{Commits, IsMade, IsNumber}
 use Rattle.corwaphi_c.proofs.writing.commit_one.Goals as goal
 
 pub returns-in-Ok : goal.returns-in-Ok
-returns-in-Ok c = λ enough s is. inl (subst
-    (λ (batch : List Operation). IsMade (Commits None batch (λ (reply : Reply). IsNumber reply c.commit.result c.commit.new.out) c.commit.result) s c.commit.new.kept.store)
+returns-in-Ok g c = λ enough s is. inl (subst
+    (λ (batch : List Operation). IsMade (Commits None batch (λ (reply : Reply). IsNumber reply c.commit.result c.commit.new.out) c.commit.result) (record { past = g.past; used = c.commit.new.used }) s c.commit.new.kept.store)
     c.in-Ok.ensures
     (c.commit.ensures enough s is))

@@ -1,7 +1,12 @@
 use Rattle.std.proofs.Common.{◌∙◌}
 use Rattle.corwaphi_c.specs.Calls.{CommitsText}
-use Rattle.corwaphi_c.proofs.Moving.{handed}
+use Rattle.corwaphi_c.proofs.Moving.{handed, shown}
 use Rattle.corwaphi_c.proofs.writing.corwaphi_store_write.Goals as goal
 
+pub write-answer-requires : goal.write-answer-requires
+write-answer-requires g c = shown c.args.image.now g.past c.args.handle.value _ (c.deref_mut.ensures.value ∙ c.into_box-kept.ensures) c.requires
+
 pub returns : goal.returns
-returns c = λ enough. handed (CommitsText c.args.text.now c.write-answer.result c.write-answer.new.number) c.args.handle.value _ c.write-answer.new.kept _ (c.deref_mut.ensures.value ∙ c.into_box-kept.ensures) c.put.ensures (c.write-answer.ensures enough)
+returns g c = λ enough. handed
+    (CommitsText c.args.text.now c.write-answer.result c.write-answer.new.number (record { past = g.past; used = c.write-answer.new.used }))
+    c.args.handle.value _ c.write-answer.new.kept _ (c.deref_mut.ensures.value ∙ c.into_box-kept.ensures) c.put.ensures (c.write-answer.ensures enough)

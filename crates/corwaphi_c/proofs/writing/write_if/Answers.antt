@@ -6,11 +6,11 @@ use Rattle.corwaphi_c.specs.Calls.{Commits, IsMade, IsNumber, IsPlace, both_of}
 use Rattle.corwaphi_c.proofs.writing.write_if.Goals as goal
 
 pub returns-in-Ok-read_batch : goal.returns-in-Ok-read_batch
-returns-in-Ok-read_batch c = λ enough s is. inl (
+returns-in-Ok-read_batch g c = λ enough s is. inl (
   (c.in-Ok.guards.items, c.in-Ok-read_batch.batch),
   ap (λ (said : Option (List Condition)). both_of said (batch_of c.args.text.now)) c.in-Ok.ensures ∙ ap (both_of (Some c.in-Ok.guards.items)) c.in-Ok-read_batch.ensures,
   subst
-      (λ (guards : List Condition). IsMade (Commits (Some guards) c.in-Ok-read_batch.batch (λ (reply : Reply). IsNumber reply c.commit_if.result c.commit_if.new.number × IsPlace reply c.commit_if.new.place) c.commit_if.result) s c.commit_if.new.kept.store)
+      (λ (guards : List Condition). IsMade (Commits (Some guards) c.in-Ok-read_batch.batch (λ (reply : Reply). IsNumber reply c.commit_if.result c.commit_if.new.number × IsPlace reply c.commit_if.new.place) c.commit_if.result) (record { past = g.past; used = c.commit_if.new.used }) s c.commit_if.new.kept.store)
       c.deref.ensures.value
       (c.commit_if.ensures enough s is),
 )

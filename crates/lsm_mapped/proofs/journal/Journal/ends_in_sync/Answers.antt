@@ -1,5 +1,5 @@
-use Rattle.std.proofs.Common.{ap, length, sym, ◌∙◌, arith, inl, inr, length-take-le}
-use Rattle.std.proofs.lemmas.Bool.{ltb-true, ltb-false, eqb-true, eqb-false}
+use Rattle.std.proofs.Common.{ap, length, arith, inl, inr, length-take-le}
+use Rattle.std.proofs.lemmas.Bool.{ltb-true, ltb-false}
 use Rattle.lsm_mapped.proofs.Appending.{sync-same, sync-more}
 use Rattle.lsm_mapped.proofs.journal.Journal.ends_in_sync.Goals as goal
 

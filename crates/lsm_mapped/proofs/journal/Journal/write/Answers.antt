@@ -1,4 +1,4 @@
-use Rattle.std.proofs.Common.{sym, ◌∙◌}
+use Rattle.std.proofs.Common.{refl, sym, ◌∙◌}
 use Rattle.lsm_mapped.proofs.Appending.{going, room-for, size-grown, size-written, write-new, write-on}
 use Rattle.lsm_mapped.proofs.journal.Journal.write.Goals as goal
 
@@ -24,3 +24,6 @@ pub returns-else-goes_on-clause-written : goal.returns-else-goes_on-clause-writt
 returns-else-goes_on-clause-written c t =
     let j = c.args.self.now in
     c.begin.ensures.written t ∙ sym (write-new c.args.at j.first j.count c.args.sector.now _ j.laid.first_is j.laid.count_is (sym c.goes_on.ensures ∙ c.if-goes_on.false))
+
+pub begin-requires : goal.begin-requires
+begin-requires c = refl

@@ -1,7 +1,7 @@
-use Rattle.std.proofs.Common.{[], ◌∷◌, List, sym, subst}
-use Rattle.lsm_device.specs.Disk.{at_rest, synced}
+use Rattle.std.proofs.Common.{List, sym, subst}
+use Rattle.lsm_device.specs.Disk.{synced}
 use Rattle.lsm_device.specs.History.{Becomes, present}
-use Rattle.lsm_mapped.specs.Devices.{image_on, records_on}
+use Rattle.lsm_mapped.specs.Devices.{past_on, records_on}
 use Rattle.lsm_mapped.specs.Disks.{after_records}
 use Rattle.lsm_mapped.specs.Records.{Record, with_sync}
 use Rattle.lsm_mapped.proofs.Answered.{on_ok_by}
@@ -14,14 +14,14 @@ invariant_of-self c =
     let rs = records_on s in
     record {
       fits = s.fits;
-      bytes = s.bytes;
+      had = s.had;
       within = left_within s.sectors c.sync-ok.result rs (with_sync rs) _ s.within (within-sync s.sectors rs s.within) c.sync-ok.ensures.synced c.sync-ok.ensures.refused;
     }
 
 pub returns-clause-stands : goal.returns-clause-stands
 returns-clause-stands c =
     let s = c.args.self.now in
-    let start = at_rest (image_on s) ∷ [] in
+    let start = past_on s in
     let had = after_records (records_on s) start in
     on_ok_by c.answer.result c.sync-ok.result c.answer.ensures
     (λ t. subst (λ (rs : List Record). Becomes (synced (present had)) had (after_records rs start)) (sym (c.sync-ok.ensures.synced t)) (sync-made (records_on s) start))

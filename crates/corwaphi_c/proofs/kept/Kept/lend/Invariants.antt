@@ -1,0 +1,4 @@
+use Rattle.corwaphi_c.proofs.kept.Kept.lend.Given as goal
+
+abbrev pub ghost-new : goal.ghost-new
+ghost-new g a = g.past

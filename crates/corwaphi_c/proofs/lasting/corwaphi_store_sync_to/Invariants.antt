@@ -1,0 +1,4 @@
+use Rattle.corwaphi_c.proofs.lasting.corwaphi_store_sync_to.Given as goal
+
+abbrev pub ghost-make : goal.ghost-make
+ghost-make g a = g.past

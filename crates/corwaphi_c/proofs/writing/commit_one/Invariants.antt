@@ -1,0 +1,4 @@
+use Rattle.corwaphi_c.proofs.writing.commit_one.Given as goal
+
+abbrev pub ghost-commit : goal.ghost-commit
+ghost-commit g a = g.past
