@@ -1,8 +1,9 @@
 #!/usr/bin/env bash
 # Shows that an exploration looks at what it explores: with a wrong body in a layer below it has to tell `wrong` above 0.
 #
-#     tests/wrong.sh [GROUP..]
+#     tests/wrong.sh [PROGRAM [GROUP..]]
 #
+# PROGRAM, which the gate gives to each script, isn't run: the wrong bodies are built anew.
 # The wrong bodies stand in two groups, `crashes` and `roots`. Those of a group are made together in one copy of the repository, where
 # the program runs unproved (`rt try`), on a script for each of them. No other body of its group shows on a script: LEFT_OUT=NAME
 # in the environment leaves out that one, which then has to be told as not found. Some are edits that the prover refuses, from a
@@ -197,6 +198,7 @@ SCRIPT
     told next_regions_keep_the_epoch no "^rows 61=31 62=$long end" "$(grep '^rows ' "$room/answers" || true)"
 }
 
+[ $# -eq 0 ] || shift
 [ $# -gt 0 ] || set -- crashes roots
 for group; do
     case $group in
