@@ -12,7 +12,7 @@ use Rattle.corwaphi_c.specs.Laws.{BacksNext, PassesThrough, ShowsNext}
 
 pub shows_next : ShowsNext
 shows_next n image next loan history past w shown = record {
-  disks = subst (IsHistory n) (sym w.made) (records_sound n w.records loan.past w.within w.whole past.disks);
+  disks = subst (IsHistory n) (sym w.made) (records_sound n w.records loan.past w.filled.within w.filled.whole past.disks);
   shown = shown;
 }
 

@@ -1,5 +1,5 @@
 -- A store that goes to the device of a call, and what the call leaves.
-use Rattle.std.proofs.Common.{◌≡◌, ◌∙◌, ℕ, zero, suc, Bool, true, false, IsTrue, All, List, [], ◌∷◌, Option, Some, None, refl, sym, ap, subst, inl, inr, if◌then◌else◌}
+use Rattle.std.proofs.Common.{◌≡◌, ◌∙◌, ℕ, zero, suc, Bool, true, false, IsTrue, List, [], ◌∷◌, Option, Some, None, refl, sym, ap, subst, inl, inr, if◌then◌else◌}
 use Rattle.std.proofs.lemmas.List.Elements.{All-nil}
 use Rattle.lsm_codec.specs.Guards.{Condition}
 use Rattle.lsm_codec.specs.Keys.{Bytes}
@@ -36,11 +36,10 @@ or_else other None = other
 pub same : (old : Option StoreView) (store s : StoreView) → Some store ≡ old → old ≡ Some s → store ≡ s
 same old store s was is = ap (or_else store) (was ∙ is)
 
-pub lent : (old : Option StoreView) (store s new : StoreView) (n name : ℕ) (past : List Disk) (m : Medium) → Some store ≡ old → old ≡ Some s → new ≡ record store { device = m }
-    → m ≡ mapped n past name → n ≡ store.device.size → Some new ≡ Some (lent_to past name s)
+pub lent : (old : Option StoreView) (store s new : StoreView) (n name : ℕ) (past : List Disk) (m : Medium) → old ≡ Some store → old ≡ Some s → new ≡ record store { device = m }
+    → m ≡ mapped n past name → n ≡ store.device.size → new ≡ lent_to past name s
 lent old store s new n name past m was is on device size =
-    ap (λ (t : StoreView). Some t)
-    (on ∙ ap (λ (d : Medium). record store { device = d }) (device ∙ ap (λ (k : ℕ). mapped k past name) size) ∙ ap (lent_to past name) (same old store s was is))
+    on ∙ ap (λ (d : Medium). record store { device = d }) (device ∙ ap (λ (k : ℕ). mapped k past name) size) ∙ ap (λ (o : Option StoreView). lent_to past name (or_else store o)) (sym was ∙ is)
 
 -- what an image shows of the store that a handle leads to, it shows of the one that is taken from it
 pub shown : (image : List ℕ) (past : List Disk) (from now : Kept) → now ≡ from → IsShown from.store image past → IsShown now.store image past
@@ -91,36 +90,35 @@ abbrev past_in : List Ended → List Disk
 past_in [] = []
 past_in (life ∷ lives) = life.history
 
--- what the device of a call has had written since
-pub written : (n name used : ℕ) (past : List Disk) (d : MappedDevice) (before left : Medium) → before ≡ mapped n past name → Keeps before left → medium_on d ≡ left
-    → IsFilledWith (medium_on d).size used d.journal.bytes.now (records_on d) → IsWritten n (record { past = past; used = used }) left.history
-written n name used past d before left is keeps on filled =
+-- What the device of a call has had written since. It has its journal's bytes at the end, so that the journal is left with these.
+pub written : (n name used : ℕ) (past : List Disk) (journal : List ℕ) (d : MappedDevice) (before left : Medium) → before ≡ mapped n past name → Keeps before left → medium_on d ≡ left
+    → IsFilledWith (medium_on d).size used d.bytes.now (records_on d) → (name ≡ d.bytes.ghost_name → journal ≡ d.bytes.now)
+    → IsWritten n (record { past = past; used = used; journal = journal }) left.history
+written n name used past journal d before left is keeps on filled ends =
     let lasting = ap (λ (m : Medium). m.lasting) on ∙ keeps.lasting ∙ ap (λ (m : Medium). m.lasting) is in
     let size : (medium_on d).size ≡ n = ap (λ (m : Medium). m.size) on ∙ keeps.size ∙ ap (λ (m : Medium). m.size) is in
     let had : past_on d ≡ past = ap (λ (l : Lasting). past_in l.ended) lasting in
+    let same = ends (sym (ap (λ (l : Lasting). l.times_set) lasting)) in
     record {
       records = records_on d;
-      size = filled.size;
-      whole = filled.whole;
-      within = subst (λ (k : ℕ). All (IsWithin k) (records_on d)) size filled.within;
+      filled = subst (λ (bytes : List ℕ). IsFilledWith n used bytes (records_on d)) (sym same) (subst (λ (k : ℕ). IsFilledWith k used d.bytes.now (records_on d)) size filled);
       made = sym (ap (λ (m : Medium). m.history) on) ∙ ap (after_records (records_on d)) had;
     }
 
 -- what was made of a store that was lent, and kept then
-pub made : (R : StoreView → StoreView → Type 0) (s store left : StoreView) (kept : Option StoreView) (name used : ℕ) (past : List Disk) (d : MappedDevice)
-    → Some store ≡ Some (lent_to past name s) → R store left → Keeps store.device left.device → ((parked : StoreView) × IsMoved left parked × (kept ≡ Some parked)) → medium_on d ≡ left.device
-    → IsFilledWith (medium_on d).size used d.journal.bytes.now (records_on d) → IsMade R (record { past = past; used = used }) s kept
-made R s store left kept name used past d is r keeps (parked, back, put) on filled =
-    let to : store ≡ lent_to past name s = ap (or_else s) is in
-    record {
-      name = name;
-      left = left;
-      made = subst (λ (t : StoreView). R t left) to r;
-      written = written s.device.size name used past d store.device left.device (ap (λ (t : StoreView). t.device) to) keeps on filled;
-      parked = parked;
-      back = back;
-      is = put;
-    }
+pub made : (R : StoreView → StoreView → Type 0) (s store left : StoreView) (kept : Option StoreView) (name used : ℕ) (past : List Disk) (journal : List ℕ) (d : MappedDevice)
+    → store ≡ lent_to past name s → R store left → Keeps store.device left.device → ((parked : StoreView) × IsMoved left parked × (kept ≡ Some parked)) → medium_on d ≡ left.device
+    → IsFilledWith (medium_on d).size used d.bytes.now (records_on d) → (name ≡ d.bytes.ghost_name → journal ≡ d.bytes.now)
+    → IsMade R (record { past = past; used = used; journal = journal }) s kept
+made R s store left kept name used past journal d to r keeps (parked, back, put) on filled ends = record {
+  name = name;
+  left = left;
+  made = subst (λ (t : StoreView). R t left) to r;
+  written = written s.device.size name used past journal d store.device left.device (ap (λ (t : StoreView). t.device) to) keeps on filled ends;
+  parked = parked;
+  back = back;
+  is = put;
+}
 
 -- ---- what a call that reads leaves
 
@@ -136,23 +134,19 @@ pub scans : (at : At) (from : Bytes) (to : Option Bytes) (limit : ℕ) (told : R
 scans at from to limit told old new tells (reply, s, is) = unwritten (Scan at from to limit) reply _ old.device new.device tells (λ r. r) s.used
 
 -- it had no journal, and has made nothing that one would have
-pub read : (R : StoreView → StoreView → Type 0) (s store left : StoreView) (kept : Option StoreView) (name : ℕ) (past : List Disk) → Some store ≡ Some (lent_to past name s) → R store left
+pub read : (R : StoreView → StoreView → Type 0) (s store left : StoreView) (kept : Option StoreView) (name : ℕ) (past : List Disk) → store ≡ lent_to past name s → R store left
     → (IsTrue store.device.lasting.tells → R store left → left.device.history ≡ store.device.history) → ((parked : StoreView) × IsMoved left parked × (kept ≡ Some parked)) → IsMade R (no_journal past) s kept
 unfolding after_records text_of
-read R s store left kept name past is r same (parked, back, put) =
-    let to : store ≡ lent_to past name s = ap (or_else s) is in
-    record {
-      name = name;
-      left = left;
-      made = subst (λ (t : StoreView). R t left) to r;
-      written = record {
-        records = [];
-        size = refl;
-        whole = All-nil IsWhole;
-        within = All-nil (IsWithin s.device.size);
-        made = same (ap (λ (t : StoreView). t.device.lasting.tells) to) r ∙ ap (λ (t : StoreView). t.device.history) to;
-      };
-      parked = parked;
-      back = back;
-      is = put;
-    }
+read R s store left kept name past to r same (parked, back, put) = record {
+  name = name;
+  left = left;
+  made = subst (λ (t : StoreView). R t left) to r;
+  written = record {
+    records = [];
+    filled = record { text = refl; size = refl; whole = All-nil IsWhole; within = All-nil (IsWithin s.device.size) };
+    made = same (ap (λ (t : StoreView). t.device.lasting.tells) to) r ∙ ap (λ (t : StoreView). t.device.history) to;
+  };
+  parked = parked;
+  back = back;
+  is = put;
+}

@@ -129,39 +129,38 @@ pub refused_so : (cache shown answer : ℕ) (before after : Medium) → answer �
 refused_so cache shown answer before after told refused = subst (λ (n : ℕ). IsRefusedOn cache n before after) (sym told) refused
 
 pub kept_on : (cache : ℕ) (before after : Medium) (s : StoreView) (kept : Option StoreView) → IsOpenedOn cache before s → ((parked : StoreView) × IsMoved s parked × (kept ≡ Some parked)) → after ≡ s.device
-    → OpensOn cache None before after kept
+    → OpensOn cache before after kept
 kept_on cache before after s kept opened (parked, back, put) on = (s, opened, on, parked, back, put)
 
-pub kept_here : (sectors cache name used : ℕ) (past : List Disk) (d : MappedDevice) (before : Medium) (kept : Option StoreView) (refused : Option ℕ) → OpensOn cache refused before (medium_on d) kept → refused ≡ None
-    → before ≡ mapped sectors past name → IsFilledWith (medium_on d).size used d.journal.bytes.now (records_on d) → IsKeptOpened sectors cache (record { past = past; used = used }) kept
-kept_here sectors cache name used past d before kept refused opens none is filled =
-    let (s, opened, on, parked, back, put) = subst (λ (o : Option ℕ). OpensOn cache o before (medium_on d) kept) none opens in
-    record {
-      name = name;
-      opened = s;
-      opens = subst (λ (m : Medium). IsOpenedOn cache m s) is opened;
-      written = written sectors name used past d before s.device is (record { size = opened.same_size; lasting = opened.same_lasting }) on filled;
-      parked = parked;
-      back = back;
-      is = put;
-    }
+pub kept_here : (sectors cache name used : ℕ) (past : List Disk) (journal : List ℕ) (d : MappedDevice) (before : Medium) (kept : Option StoreView) → OpensOn cache before (medium_on d) kept
+    → before ≡ mapped sectors past name → IsFilledWith (medium_on d).size used d.bytes.now (records_on d) → (name ≡ d.bytes.ghost_name → journal ≡ d.bytes.now)
+    → IsKeptOpened sectors cache (record { past = past; used = used; journal = journal }) kept
+kept_here sectors cache name used past journal d before kept (s, opened, on, parked, back, put) is filled ends = record {
+  name = name;
+  opened = s;
+  opens = subst (λ (m : Medium). IsOpenedOn cache m s) is opened;
+  written = written sectors name used past journal d before s.device is (record { size = opened.same_size; lasting = opened.same_lasting }) on filled ends;
+  parked = parked;
+  back = back;
+  is = put;
+}
 
-pub refused_here : (sectors cache answer name used : ℕ) (past : List Disk) (d : MappedDevice) (before : Medium) (kept : Option StoreView) (refused : Option ℕ) → OpensOn cache refused before (medium_on d) kept → refused ≡ Some answer
-    → before ≡ mapped sectors past name → IsFilledWith (medium_on d).size used d.journal.bytes.now (records_on d) → IsUnopened sectors cache (record { past = past; used = used }) answer
-refused_here sectors cache answer name used past d before kept refused opens some is filled =
-    let e = subst (λ (o : Option ℕ). OpensOn cache o before (medium_on d) kept) some opens in
-    inr (record {
-      name = name;
-      after = medium_on d;
-      refused = subst (λ (m : Medium). IsRefusedOn cache answer m (medium_on d)) is e;
-      written = written sectors name used past d before (medium_on d) is (record { size = e.same_size; lasting = e.same_lasting }) refl filled;
-    })
+pub refused_here : (sectors cache answer name used : ℕ) (past : List Disk) (journal : List ℕ) (d : MappedDevice) (before : Medium) → IsRefusedOn cache answer before (medium_on d)
+    → before ≡ mapped sectors past name → IsFilledWith (medium_on d).size used d.bytes.now (records_on d) → (name ≡ d.bytes.ghost_name → journal ≡ d.bytes.now)
+    → IsUnopened sectors cache (record { past = past; used = used; journal = journal }) answer
+refused_here sectors cache answer name used past journal d before e is filled ends = inr (record {
+  name = name;
+  after = medium_on d;
+  refused = subst (λ (m : Medium). IsRefusedOn cache answer m (medium_on d)) is e;
+  written = written sectors name used past journal d before (medium_on d) is (record { size = e.same_size; lasting = e.same_lasting }) refl filled ends;
+})
 
-pub formats_here : (sectors log answer name used : ℕ) (past : List Disk) (d : MappedDevice) (before : Medium) → Formats log answer before (medium_on d) → before ≡ mapped sectors past name
-    → IsFilledWith (medium_on d).size used d.journal.bytes.now (records_on d) → FormatsHere sectors log answer (record { past = past; used = used })
-formats_here sectors log answer name used past d before f is filled = record {
+pub formats_here : (sectors log answer name used : ℕ) (past : List Disk) (journal : List ℕ) (d : MappedDevice) (before : Medium) → Formats log answer before (medium_on d) → before ≡ mapped sectors past name
+    → IsFilledWith (medium_on d).size used d.bytes.now (records_on d) → (name ≡ d.bytes.ghost_name → journal ≡ d.bytes.now)
+    → FormatsHere sectors log answer (record { past = past; used = used; journal = journal })
+formats_here sectors log answer name used past journal d before f is filled ends = record {
   name = name;
   after = medium_on d;
   formats = subst (λ (m : Medium). Formats log answer m (medium_on d)) is f;
-  written = written sectors name used past d before (medium_on d) is (record { size = f.same_size; lasting = f.same_lasting }) refl filled;
+  written = written sectors name used past journal d before (medium_on d) is (record { size = f.same_size; lasting = f.same_lasting }) refl filled ends;
 }

@@ -1,5 +1,5 @@
 -- What a call in C makes of the store that its handle leads to, and what it answers.
-use Rattle.std.specs.Prelude.{◌≡◌, ◌⊎◌, ◌<◌, ℕ, Bool, List, [], ◌∷◌, All, length, take, map, Option, Some, None, option_map, true, ◌==◌, if◌then◌else◌, MatchResult}
+use Rattle.std.specs.Prelude.{◌≡◌, ◌⊎◌, ◌<◌, ◌≤◌, ℕ, Bool, List, [], ◌∷◌, length, take, map, Option, Some, None, option_map, true, ◌==◌, if◌then◌else◌, MatchResult}
 use Rattle.lsm_codec.specs.BatchText.{batch_of}
 use Rattle.lsm_codec.specs.Guards.{Condition}
 use Rattle.lsm_codec.specs.Keys.{Bytes}
@@ -16,8 +16,8 @@ use Rattle.lsm_machine.specs.Calls.{Call, Reply, Number, Done, Value, Rows, Refu
 use Rattle.lsm_store.specs.Serving.{Serves}
 use Rattle.lsm_machine.specs.declared.asked.At.{At}
 use Rattle.lsm_machine.specs.declared.asked.At.TheVariants.{Now, Snap}
-use Rattle.lsm_mapped.specs.Disks.{IsPast, IsWithin, after_records, mapped}
-use Rattle.lsm_mapped.specs.Records.{IsWhole, Record, text_of}
+use Rattle.lsm_mapped.specs.Disks.{IsFilledWith, IsPast, after_records, mapped}
+use Rattle.lsm_mapped.specs.Records.{Record}
 use Rattle.lsm_upkeep.specs.Writing.{IsServed, LacksRoom, commit_of, wants_room, without_log_full}
 use Rattle.corwaphi_c.specs.Pages.{IsPage}
 use Rattle.corwaphi_c.specs.declared.answers.PageTold.{PageTold}
@@ -42,26 +42,25 @@ store_in None = None
 abbrev pub IsShown : Option StoreView → List ℕ → List Disk → Type 0
 IsShown store image past = (s : StoreView) → store ≡ Some s → IsPast s.device.size image past
 
--- of a call: the disks that the device has had before, and how many bytes of the journal are filled afterwards
+-- of a call: the disks that the device has had before, and afterwards the journal, and how many of its bytes are filled
 pub record Loan : Type 0 where
   pub past : List Disk
   pub used : ℕ
+  pub journal : List ℕ
 
 -- of a call that has no journal
 abbrev pub no_journal : List Disk → Loan
-no_journal past = record { past = past; used = 0 }
+no_journal past = record { past = past; used = 0; journal = [] }
 
 -- a store on the device of a call, whose journal has a name
 abbrev pub lent_to : List Disk → ℕ → StoreView → StoreView
 lent_to past name s = record s { device = mapped s.device.size past name }
 
--- What a device of so many sectors has had written and synced since are records of whole sectors that it has: their text fills so many
--- bytes, and the disks are those that it has had once a host makes them.
+-- What a device of so many sectors has had written and synced since are records: the journal is filled with their text, and the disks
+-- are those that the device has had once a host makes them.
 pub record IsWritten (n : ℕ) (loan : Loan) (history : List Disk) : Type 0 where
   pub records : List Record
-  pub size : loan.used ≡ length (text_of records)
-  pub whole : All IsWhole records
-  pub within : All (IsWithin n) records
+  pub filled : IsFilledWith n loan.used loan.journal records
   pub made : history ≡ after_records records loan.past
 
 -- ---- what is made of the store that is kept
@@ -79,6 +78,20 @@ pub record IsMade (R : StoreView → StoreView → Type 0) (loan : Loan) (old : 
 -- This was made of the store that was kept, which is kept again.
 abbrev pub Makes : (StoreView → StoreView → Type 0) → Loan → Option StoreView → Option StoreView → Type 0
 Makes R loan store kept = (s : StoreView) → store ≡ Some s → IsMade R loan s kept
+
+-- nothing was made: the journal is empty, and the store is kept as it was
+abbrev pub IsLeft : Loan → StoreView → Option StoreView → Type 0
+IsLeft loan s kept = (loan.used ≡ 0) × (kept ≡ Some s)
+
+-- This was made of a store if the journal of the call has room for any; a shorter one is refused (28).
+abbrev pub IsMadeIn : (StoreView → StoreView → Type 0) → ℕ → Loan → StoreView → Option StoreView → Type 0
+IsMadeIn R answer loan s kept =
+    ((65664 ≤ length loan.journal) × IsMade R loan s kept)
+    ⊎ ((length loan.journal < 65664) × (answer ≡ 28) × IsLeft loan s kept)
+
+-- so of the store that was kept, and is kept again
+abbrev pub MakesIn : (StoreView → StoreView → Type 0) → ℕ → Loan → Option StoreView → Option StoreView → Type 0
+MakesIn R answer loan store kept = (s : StoreView) → store ≡ Some s → IsMadeIn R answer loan s kept
 
 -- So it was made on no device.
 abbrev pub MakesParked : (StoreView → StoreView → Type 0) → Option StoreView → Option StoreView → Type 0
@@ -181,14 +194,10 @@ Commits guards batch told answer lent left =
     ⊎ (((answer ≡ 13) × (wants_room batch lent.state ≡ true) × LacksRoom batch lent × (left ≡ lent))
     ⊎ ((answer ≡ 64) × (left ≡ lent)))
 
--- nothing was made: the journal is empty, and the store is kept as it was
-abbrev pub IsLeft : Loan → StoreView → Option StoreView → Type 0
-IsLeft loan s kept = (loan.used ≡ 0) × (kept ≡ Some s)
-
 -- So it is of one operation, unless this refuses it, or there was no memory for its batch (1): then the store is kept as it was.
 abbrev pub CommitsOneIn : Option Refusal → Operation → ℕ → ℕ → Loan → StoreView → Option StoreView → Type 0
 CommitsOneIn (Some e) operation answer number loan s kept = (answer ≡ number_of e) × IsLeft loan s kept
-CommitsOneIn None operation answer number loan s kept = IsMade (Commits None (operation ∷ []) (λ reply. IsNumber reply answer number) answer) loan s kept ⊎ ((answer ≡ 1) × IsLeft loan s kept)
+CommitsOneIn None operation answer number loan s kept = IsMadeIn (Commits None (operation ∷ []) (λ reply. IsNumber reply answer number) answer) answer loan s kept ⊎ ((answer ≡ 1) × IsLeft loan s kept)
 
 -- the same of the store that was kept
 abbrev pub CommitsOne : Option Refusal → Operation → ℕ → ℕ → Loan → Option StoreView → Option StoreView → Type 0
@@ -200,7 +209,7 @@ IsUnread said answer = (answer ≡ 1) ⊎ ((answer ≡ 34) × (said ≡ None))
 
 -- This was made of what a text says; or it was not read, and the store is kept as it was.
 abbrev pub MakesOf : {X : Type 0} → Option X → (X → StoreView → StoreView → Type 0) → ℕ → Loan → Option StoreView → Option StoreView → Type 0
-MakesOf {X} said R answer loan store kept = (s : StoreView) → store ≡ Some s → ((x : X) × (said ≡ Some x) × IsMade (R x) loan s kept) ⊎ (IsUnread said answer × IsLeft loan s kept)
+MakesOf {X} said R answer loan store kept = (s : StoreView) → store ≡ Some s → ((x : X) × (said ≡ Some x) × IsMadeIn (R x) answer loan s kept) ⊎ (IsUnread said answer × IsLeft loan s kept)
 
 -- so a batch is committed that is given by its text
 abbrev pub CommitsText : List ℕ → ℕ → ℕ → Loan → Option StoreView → Option StoreView → Type 0

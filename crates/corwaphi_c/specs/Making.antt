@@ -1,5 +1,5 @@
 -- How a store is made and opened, and what is answered.
-use Rattle.std.specs.Prelude.{◌≡◌, ◌⊎◌, ◌↔◌, ◌+◌, ◌*◌, ℕ, [], false, Option, Some, None, IsTrue}
+use Rattle.std.specs.Prelude.{◌≡◌, ◌⊎◌, ◌↔◌, ◌+◌, ◌*◌, ℕ, [], false, Option, Some, IsTrue}
 use Rattle.lsm_codec.specs.Geometry.{IsDeviceSize}
 use Rattle.lsm_device.specs.Calls.{AtMost, faults_after}
 use Rattle.lsm_device.specs.Disk.{seen}
@@ -63,10 +63,9 @@ pub record IsRefusedOn (cache answer : ℕ) (before after : Medium) : Type 0 whe
   pub same_size : after.size ≡ before.size
   pub same_lasting : after.lasting ≡ before.lasting
 
--- An opening of a device answered a store, which is kept then; or it was refused with a number.
-abbrev pub OpensOn : ℕ → Option ℕ → Medium → Medium → Option StoreView → Type 0
-OpensOn cache None before after kept = (s : StoreView) × IsOpenedOn cache before s × (after ≡ s.device) × (parked : StoreView) × IsMoved s parked × (kept ≡ Some parked)
-OpensOn cache (Some answer) before after kept = IsRefusedOn cache answer before after
+-- An opening of a device answered a store, which is kept then.
+abbrev pub OpensOn : ℕ → Medium → Medium → Option StoreView → Type 0
+OpensOn cache before after kept = (s : StoreView) × IsOpenedOn cache before s × (after ≡ s.device) × (parked : StoreView) × IsMoved s parked × (kept ≡ Some parked)
 
 -- ---- on the device of a call
 

@@ -1,10 +1,9 @@
 // What a handle of C's leads to.
 
-ghost use Rattle.std.specs.Prelude.{◌≡◌, None, Some, List};
-ghost use Rattle.lsm_device.specs.Disk.{Disk};
+ghost use Rattle.std.specs.Prelude.{◌≡◌, Some};
 ghost use Rattle.lsm_mapped.specs.Devices.{medium_on};
 ghost use Rattle.lsm_store.specs.Backing.{StoreView};
-ghost use Rattle.corwaphi_c.specs.Calls.{IsMoved, IsShown, lent_to};
+ghost use Rattle.corwaphi_c.specs.Calls.{IsMoved};
 
 use crate::pieces::Upkeep;
 use lsm_mapped::{MappedDevice, ParkedDevice};
@@ -21,31 +20,27 @@ pub struct Kept {
 }
 
 impl Kept {
-    /// The store on the device of a call.
-    pub(crate) fn lend<'a>(
-        &mut self,
-        image: &'a [u8],
-        journal: &'a mut [u8],
-    ) -> Option<Store<MappedDevice<'a>>>
-        ghost past: { List Disk }
-        requires { IsShown self.old.store image.now past }
-        ensures none { self.old.store ≡ None → result ≡ None }
-        ensures lent { (s : StoreView) → self.old.store ≡ Some s → result ≡ Some (lent_to past journal.entry.ghost_name s) }
-    {
-        let store = self.store.take()?;
-        let mapped = MappedDevice::new(image, journal, store.sectors());
-        let (store, _) = store.on(mapped);
-        Some(store)
-    }
-
-    /// Keeps a store, and hands back the device of its call.
-    pub(crate) fn park<'a>(&mut self, store: Store<MappedDevice<'a>>) -> MappedDevice<'a>
+    /// Keeps a store, and puts the device of its call back.
+    pub(crate) fn park<'a>(&mut self, store: Store<MappedDevice<'a>>, device: &mut MappedDevice<'a>)
         ensures kept { (parked : StoreView) × IsMoved store.entry parked × (self.new.store ≡ Some parked) }
-        ensures device { medium_on result ≡ store.entry.device }
+        ensures device { medium_on device.new ≡ store.entry.device }
     {
         let parked = ParkedDevice::new(store.sectors());
         let (store, mapped) = store.on(parked);
         self.store = Some(store);
-        mapped
+        *device = mapped;
     }
+}
+
+/// The store that was kept on the device of a call, which is taken into it. Whoever lent the device its journal has to have the device
+/// again when the call ends: only then it is known what the journal is left with.
+pub(crate) fn lend<'a>(
+    store: Store<ParkedDevice>,
+    device: &mut MappedDevice<'a>,
+) -> Store<MappedDevice<'a>>
+    requires { (medium_on device.old).size ≡ store.device.size }
+    ensures { result ≡ record store { device = medium_on device.old } }
+{
+    let (store, _) = store.on(device.take());
+    store
 }

@@ -3,12 +3,13 @@
 ghost use Rattle.std.specs.Prelude.{◌≤◌, List, Option, Some, None, length};
 ghost use Rattle.lsm_device.specs.Disk.{Disk};
 ghost use Rattle.lsm_machine.specs.Calls.{Call, Sync, SyncTo};
-ghost use Rattle.corwaphi_c.specs.Calls.{Answers, IsDone, IsShown, Makes, store_in, sync_of};
+ghost use Rattle.corwaphi_c.specs.Calls.{Answers, IsDone, IsShown, MakesIn, store_in, sync_of};
 
 use crate::answers::{code, done};
 use crate::handle::{Handle, Slot};
-use crate::kept::{JOURNAL_BYTES, Kept};
+use crate::kept::{JOURNAL_BYTES, Kept, lend};
 use lsm_device::{Device, Refusal};
+use lsm_mapped::MappedDevice;
 use lsm_store::Store;
 
 /// Makes all batches durable, once the journal is made. It is refused with Stopped.
@@ -22,7 +23,7 @@ pub extern "C" fn corwaphi_store_sync(
 ) -> u32
     ghost past: { List Disk }
     requires { IsShown handle.value.store image.now past }
-    ensures { 65664 ≤ length journal.old → Makes (Answers Sync (λ reply. IsDone reply result)) (record { past = past; used = used.new }) handle.value.store (store_in slot.new.value) }
+    ensures { MakesIn (Answers Sync (λ reply. IsDone reply result)) result (record { past = past; used = used.new; journal = journal.new }) handle.value.store (store_in slot.new.value) }
 {
     let mut kept = handle.into_box();
     let answer = make(&mut kept, image, journal, used, None);
@@ -43,7 +44,7 @@ pub extern "C" fn corwaphi_store_sync_to(
 ) -> u32
     ghost past: { List Disk }
     requires { IsShown handle.value.store image.now past }
-    ensures { 65664 ≤ length journal.old → Makes (Answers (SyncTo number) (λ reply. IsDone reply result)) (record { past = past; used = used.new }) handle.value.store (store_in slot.new.value) }
+    ensures { MakesIn (Answers (SyncTo number) (λ reply. IsDone reply result)) result (record { past = past; used = used.new; journal = journal.new }) handle.value.store (store_in slot.new.value) }
 {
     let mut kept = handle.into_box();
     let answer = make(&mut kept, image, journal, used, Some(number));
@@ -61,17 +62,19 @@ fn make(
 ) -> u32
     ghost past: { List Disk }
     requires { IsShown kept.old.store image.now past }
-    ensures { 65664 ≤ length journal.old → Makes (Answers (sync_of last) (λ reply. IsDone reply result)) (record { past = past; used = used.new }) kept.old.store kept.new.store }
+    ensures { MakesIn (Answers (sync_of last) (λ reply. IsDone reply result)) result (record { past = past; used = used.new; journal = journal.new }) kept.old.store kept.new.store }
 {
     *used = 0;
     if journal.len() < JOURNAL_BYTES {
         return code(Refusal::BadLimit);
     }
-    let Some(mut store) = kept.lend(image, journal) else {
+    let Some(parked) = kept.store.take() else {
         return code(Refusal::Stopped);
     };
+    let mut device = MappedDevice::new(image, journal, parked.sectors());
+    let mut store = lend(parked, &mut device);
     let answer = sync(&mut store, last);
-    let device = kept.park(store);
+    kept.park(store, &mut device);
     *used = device.used();
     answer
 }

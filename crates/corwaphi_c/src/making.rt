@@ -31,28 +31,22 @@ pub extern "C" fn corwaphi_store_format(
 ) -> u32
     ghost past: { List Disk }
     requires { IsPast sectors [] past }
-    ensures { FormatsHere sectors log_sectors result (record { past = past; used = used.new }) }
+    ensures { FormatsHere sectors log_sectors result (record { past = past; used = used.new; journal = journal.new }) }
 {
     // A format reads nothing.
-    let device = MappedDevice::new(&[], journal, sectors);
-    let mut answer = OK;
-    let device = format_mapped(alloc, device, log_sectors, &mut answer);
+    let mut device = MappedDevice::new(&[], journal, sectors);
+    let answer = format_mapped(alloc, &mut device, log_sectors);
     *used = device.used();
     answer
 }
 
-// Makes the device of a call an empty store, and hands it back.
-fn format_mapped<'a>(
-    alloc: Global,
-    device: MappedDevice<'a>,
-    log_sectors: u16,
-    answer: &mut u32,
-) -> MappedDevice<'a>
-    ensures { Formats log_sectors answer.new (medium_on device.entry) (medium_on result) }
+// Makes the device of a call an empty store.
+fn format_mapped(alloc: Global, device: &mut MappedDevice, log_sectors: u16) -> u32
+    ensures { Formats log_sectors result (medium_on device.old) (medium_on device.new) }
 {
-    let (number, device) = format_on(alloc, device, log_sectors);
-    *answer = number;
-    device
+    let (answer, mapped) = format_on(alloc, device.take(), log_sectors);
+    *device = mapped;
+    answer
 }
 
 // Makes a device an empty store.
@@ -80,8 +74,8 @@ pub extern "C" fn corwaphi_store_open(
 ) -> u32
     ghost past: { List Disk }
     requires { IsPast sectors image.now past }
-    ensures opens { 65664 ≤ length journal.old → Opens sectors cache (record { past = past; used = used.new }) result (store_in slot.new.value) }
-    ensures short { length journal.old < 65664 → result ≡ 28 }
+    ensures opens { 65664 ≤ length journal.old → Opens sectors cache (record { past = past; used = used.new; journal = journal.new }) result (store_in slot.new.value) }
+    ensures short { length journal.old < 65664 → (result ≡ 28) × (used.new ≡ 0) }
     ensures refused { (result ≡ 0 → ⊥) → slot.new ≡ slot.old }
 {
     *used = 0;
@@ -108,7 +102,7 @@ fn open_kept(
 ) -> Result<Box<Kept>, u32>
     ghost past: { List Disk }
     requires { IsPast sectors image.now past }
-    ensures { MatchResult result (λ kept. IsKeptOpened sectors cache (record { past = past; used = used.new }) kept.value.store) (λ answer. IsUnopened sectors cache (record { past = past; used = used.new }) answer) }
+    ensures { MatchResult result (λ kept. IsKeptOpened sectors cache (record { past = past; used = used.new; journal = journal.new }) kept.value.store) (λ answer. IsUnopened sectors cache (record { past = past; used = used.new; journal = journal.new }) answer) }
 {
     *used = 0;
     let kept = Kept {
@@ -119,35 +113,33 @@ fn open_kept(
         Ok(kept) => kept,
         Err(_) => return Err(code(Refusal::NoMemory)),
     };
-    let mut refused = None;
-    let device = MappedDevice::new(image, journal, sectors);
-    let device = open_mapped(alloc, &mut kept, device, cache, &mut refused);
+    let mut device = MappedDevice::new(image, journal, sectors);
+    let opened = open_mapped(alloc, &mut kept, &mut device, cache);
     *used = device.used();
-    match refused {
-        None => Ok(kept),
-        Some(answer) => Err(answer),
+    match opened {
+        Ok(()) => Ok(kept),
+        Err(answer) => Err(answer),
     }
 }
 
-// Opens the store on the device of a call and keeps it, or tells why there is none. It hands the device back.
-fn open_mapped<'a>(
+// Opens the store on the device of a call and keeps it, or tells why there is none.
+fn open_mapped(
     alloc: Global,
     kept: &mut Kept,
-    device: MappedDevice<'a>,
+    device: &mut MappedDevice,
     cache: u32,
-    refused: &mut Option<u32>,
-) -> MappedDevice<'a>
-    ensures { OpensOn cache refused.new (medium_on device.entry) (medium_on result) kept.new.store }
+) -> Result<(), u32>
+    ensures { MatchResult result (λ _. OpensOn cache (medium_on device.old) (medium_on device.new) kept.new.store) (λ answer. IsRefusedOn cache answer (medium_on device.old) (medium_on device.new)) }
 {
-    match open_on(alloc, device, cache) {
+    match open_on(alloc, device.take(), cache) {
         Ok(store) => {
-            *refused = None;
-            kept.park(store)
+            kept.park(store, device);
+            Ok(())
         }
         Err(told) => {
-            let (answer, device) = told;
-            *refused = Some(answer);
-            device
+            let (answer, mapped) = told;
+            *device = mapped;
+            Err(answer)
         }
     }
 }

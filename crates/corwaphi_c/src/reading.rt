@@ -7,8 +7,9 @@ ghost use Rattle.corwaphi_c.specs.Calls.{Answers, IsDone, IsNumber, IsRows, IsSh
 
 use crate::answers::{NO_VALUE, PageTold, at, code, copy, done, number, put_page};
 use crate::handle::{Handle, Slot};
-use crate::kept::Kept;
+use crate::kept::{Kept, lend};
 use lsm_device::{Device, Refusal};
+use lsm_mapped::MappedDevice;
 use lsm_store::{At, Store};
 
 /// Copies the value of a key into the room, and tells its length, also where the room is too short for it (ShortBuffer). Where the key
@@ -38,12 +39,13 @@ fn get(kept: &mut Kept, image: &[u8], at: At, key: &[u8], room: &mut [u8], size:
     requires { IsShown kept.old.store image.now past }
     ensures { Makes (Answers (Get at key.now) (λ reply. IsValue reply result room.new size.new)) (no_journal past) kept.old.store kept.new.store }
 {
-    let mut journal = [0; 8];
-    let Some(mut store) = kept.lend(image, &mut journal) else {
+    let Some(parked) = kept.store.take() else {
         return code(Refusal::Stopped);
     };
+    let mut device = MappedDevice::new(image, &mut [], parked.sectors());
+    let mut store = lend(parked, &mut device);
     let answer = get_in(&mut store, at, key, room, size);
-    kept.park(store);
+    kept.park(store, &mut device);
     answer
 }
 
@@ -110,12 +112,13 @@ fn rows(
     requires { IsShown kept.old.store image.now past }
     ensures { Makes (Answers (Scan at from.now (option_map (λ to. to.now) to.entry) limit) (λ reply. IsRows reply result room.new told.new)) (no_journal past) kept.old.store kept.new.store }
 {
-    let mut journal = [0; 8];
-    let Some(mut store) = kept.lend(image, &mut journal) else {
+    let Some(parked) = kept.store.take() else {
         return code(Refusal::Stopped);
     };
+    let mut device = MappedDevice::new(image, &mut [], parked.sectors());
+    let mut store = lend(parked, &mut device);
     let answer = rows_in(&mut store, at, from, to, limit, room, told);
-    kept.park(store);
+    kept.park(store, &mut device);
     answer
 }
 

@@ -4,12 +4,13 @@ ghost use Rattle.std.specs.Prelude.{◌≡◌, ◌≤◌, List, Some, length};
 ghost use Rattle.lsm_device.specs.Disk.{Disk};
 ghost use Rattle.lsm_store.specs.Backing.{StoreView, machine_of};
 ghost use Rattle.lsm_upkeep.specs.Steps.{IsUpkept};
-ghost use Rattle.corwaphi_c.specs.Calls.{IsAsked, IsShown, Makes, store_in};
+ghost use Rattle.corwaphi_c.specs.Calls.{IsAsked, IsShown, MakesIn, store_in};
 
 use crate::answers::{OK, code};
 use crate::handle::{Handle, Slot};
-use crate::kept::{JOURNAL_BYTES, Kept};
+use crate::kept::{JOURNAL_BYTES, Kept, lend};
 use lsm_device::Refusal;
+use lsm_mapped::MappedDevice;
 use lsm_upkeep::Goal;
 use std::alloc::Global;
 
@@ -30,7 +31,7 @@ pub extern "C" fn corwaphi_store_work(
 ) -> u32
     ghost past: { List Disk }
     requires { IsShown handle.value.store image.now past }
-    ensures { 65664 ≤ length journal.old → Makes IsUpkept (record { past = past; used = used.new }) handle.value.store (store_in slot.new.value) }
+    ensures { MakesIn IsUpkept result (record { past = past; used = used.new; journal = journal.new }) handle.value.store (store_in slot.new.value) }
 {
     let mut kept = handle.into_box();
     let answer = work(alloc, &mut kept, image, journal, used, did);
@@ -48,18 +49,20 @@ fn work(
 ) -> u32
     ghost past: { List Disk }
     requires { IsShown kept.old.store image.now past }
-    ensures { 65664 ≤ length journal.old → Makes IsUpkept (record { past = past; used = used.new }) kept.old.store kept.new.store }
+    ensures { MakesIn IsUpkept result (record { past = past; used = used.new; journal = journal.new }) kept.old.store kept.new.store }
 {
     *used = 0;
     *did = 0;
     if journal.len() < JOURNAL_BYTES {
         return code(Refusal::BadLimit);
     }
-    let Some(mut store) = kept.lend(image, journal) else {
+    let Some(parked) = kept.store.take() else {
         return code(Refusal::Stopped);
     };
+    let mut device = MappedDevice::new(image, journal, parked.sectors());
+    let mut store = lend(parked, &mut device);
     let reply = kept.upkeep.go_on(alloc, &mut store);
-    let device = kept.park(store);
+    kept.park(store, &mut device);
     *used = device.used();
     match reply {
         Ok(done) => {

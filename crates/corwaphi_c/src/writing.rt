@@ -11,14 +11,15 @@ ghost use Rattle.lsm_device.specs.Disk.{Disk};
 ghost use Rattle.lsm_codec.specs.Answers.{key_refusal, or_then, value_refusal};
 ghost use Rattle.lsm_codec.specs.BatchText.{IsChange, batch_of};
 ghost use Rattle.lsm_machine.specs.Calls.{Number, reply_of};
-ghost use Rattle.corwaphi_c.specs.Calls.{Commits, CommitsOne, CommitsText, CommitsTextIf, IsNumber, IsPlace, IsShown, IsUnread, Makes, condition_of, guards_of, store_in};
+ghost use Rattle.corwaphi_c.specs.Calls.{Commits, CommitsOne, CommitsText, CommitsTextIf, IsNumber, IsPlace, IsShown, IsUnread, MakesIn, condition_of, guards_of, store_in};
 
 use crate::answers::{BAD_TEXT, OK, WORK_FIRST, code, number};
 use crate::handle::{Handle, Slot};
-use crate::kept::{JOURNAL_BYTES, Kept};
+use crate::kept::{JOURNAL_BYTES, Kept, lend};
 use crate::pieces::Upkeep;
 use lsm_codec::{Batch, Guard, Op};
 use lsm_device::{Device, Refusal};
+use lsm_mapped::MappedDevice;
 use lsm_store::Store;
 use lsm_upkeep::{Verdict, without_log_full};
 use std::alloc::Global;
@@ -38,7 +39,7 @@ pub extern "C" fn corwaphi_store_put(
 ) -> u32
     ghost past: { List Disk }
     requires { IsShown handle.value.store image.now past }
-    ensures { 65664 ≤ length journal.old → CommitsOne (or_then (key_refusal key.now) (value_refusal value.now)) (record { key = key.now; value = Some value.now }) result number.new (record { past = past; used = used.new }) handle.value.store (store_in slot.new.value) }
+    ensures { CommitsOne (or_then (key_refusal key.now) (value_refusal value.now)) (record { key = key.now; value = Some value.now }) result number.new (record { past = past; used = used.new; journal = journal.new }) handle.value.store (store_in slot.new.value) }
 {
     let mut kept = handle.into_box();
     let answer = put(alloc, &mut kept, image, journal, used, key, value, number);
@@ -58,7 +59,7 @@ fn put(
 ) -> u32
     ghost past: { List Disk }
     requires { IsShown kept.old.store image.now past }
-    ensures { 65664 ≤ length journal.old → CommitsOne (or_then (key_refusal key.now) (value_refusal value.now)) (record { key = key.now; value = Some value.now }) result number.new (record { past = past; used = used.new }) kept.old.store kept.new.store }
+    ensures { CommitsOne (or_then (key_refusal key.now) (value_refusal value.now)) (record { key = key.now; value = Some value.now }) result number.new (record { past = past; used = used.new; journal = journal.new }) kept.old.store kept.new.store }
 {
     *used = 0;
     match Op::put(alloc, key, value) {
@@ -81,7 +82,7 @@ pub extern "C" fn corwaphi_store_delete(
 ) -> u32
     ghost past: { List Disk }
     requires { IsShown handle.value.store image.now past }
-    ensures { 65664 ≤ length journal.old → CommitsOne (key_refusal key.now) (record { key = key.now; value = None }) result number.new (record { past = past; used = used.new }) handle.value.store (store_in slot.new.value) }
+    ensures { CommitsOne (key_refusal key.now) (record { key = key.now; value = None }) result number.new (record { past = past; used = used.new; journal = journal.new }) handle.value.store (store_in slot.new.value) }
 {
     let mut kept = handle.into_box();
     let answer = delete(alloc, &mut kept, image, journal, used, key, number);
@@ -100,7 +101,7 @@ fn delete(
 ) -> u32
     ghost past: { List Disk }
     requires { IsShown kept.old.store image.now past }
-    ensures { 65664 ≤ length journal.old → CommitsOne (key_refusal key.now) (record { key = key.now; value = None }) result number.new (record { past = past; used = used.new }) kept.old.store kept.new.store }
+    ensures { CommitsOne (key_refusal key.now) (record { key = key.now; value = None }) result number.new (record { past = past; used = used.new; journal = journal.new }) kept.old.store kept.new.store }
 {
     *used = 0;
     match Op::delete(alloc, key) {
@@ -121,7 +122,7 @@ fn commit_one(
 ) -> u32
     ghost past: { List Disk }
     requires { IsShown kept.old.store image.now past }
-    ensures { 65664 ≤ length journal.old → CommitsOne None operation result number.new (record { past = past; used = used.new }) kept.old.store kept.new.store }
+    ensures { CommitsOne None operation result number.new (record { past = past; used = used.new; journal = journal.new }) kept.old.store kept.new.store }
 {
     *used = 0;
     match Batch::new(alloc, operation) {
@@ -145,7 +146,7 @@ pub extern "C" fn corwaphi_store_write(
 ) -> u32
     ghost past: { List Disk }
     requires { IsShown handle.value.store image.now past }
-    ensures { 65664 ≤ length journal.old → CommitsText text.now result number.new (record { past = past; used = used.new }) handle.value.store (store_in slot.new.value) }
+    ensures { CommitsText text.now result number.new (record { past = past; used = used.new; journal = journal.new }) handle.value.store (store_in slot.new.value) }
 {
     let mut kept = handle.into_box();
     let answer = write(alloc, &mut kept, image, journal, used, text, number);
@@ -164,7 +165,7 @@ fn write(
 ) -> u32
     ghost past: { List Disk }
     requires { IsShown kept.old.store image.now past }
-    ensures { 65664 ≤ length journal.old → CommitsText text.now result number.new (record { past = past; used = used.new }) kept.old.store kept.new.store }
+    ensures { CommitsText text.now result number.new (record { past = past; used = used.new; journal = journal.new }) kept.old.store kept.new.store }
 {
     *used = 0;
     match read_batch(alloc, text) {
@@ -194,16 +195,19 @@ fn commit(
 ) -> u32
     ghost past: { List Disk }
     requires { IsShown kept.old.store image.now past }
-    ensures { 65664 ≤ length journal.old → Makes (Commits None batch.now (λ reply. IsNumber reply result out.new) result) (record { past = past; used = used.new }) kept.old.store kept.new.store }
+    ensures { MakesIn (Commits None batch.now (λ reply. IsNumber reply result out.new) result) result (record { past = past; used = used.new; journal = journal.new }) kept.old.store kept.new.store }
 {
+    *used = 0;
     if journal.len() < JOURNAL_BYTES {
         return code(Refusal::BadLimit);
     }
-    let Some(mut store) = kept.lend(image, journal) else {
+    let Some(parked) = kept.store.take() else {
         return code(Refusal::Stopped);
     };
+    let mut device = MappedDevice::new(image, journal, parked.sectors());
+    let mut store = lend(parked, &mut device);
     let answer = commit_in(&mut store, &mut kept.upkeep, batch, out);
-    let device = kept.park(store);
+    kept.park(store, &mut device);
     *used = device.used();
     answer
 }
@@ -242,7 +246,7 @@ pub extern "C" fn corwaphi_store_write_if(
 ) -> u32
     ghost past: { List Disk }
     requires { IsShown handle.value.store image.now past }
-    ensures { 65664 ≤ length journal.old → CommitsTextIf guards.now text.now result number.new place.new (record { past = past; used = used.new }) handle.value.store (store_in slot.new.value) }
+    ensures { CommitsTextIf guards.now text.now result number.new place.new (record { past = past; used = used.new; journal = journal.new }) handle.value.store (store_in slot.new.value) }
 {
     let mut kept = handle.into_box();
     let answer = write_if(
@@ -265,7 +269,7 @@ fn write_if(
 ) -> u32
     ghost past: { List Disk }
     requires { IsShown kept.old.store image.now past }
-    ensures { 65664 ≤ length journal.old → CommitsTextIf guards.now text.now result number.new place.new (record { past = past; used = used.new }) kept.old.store kept.new.store }
+    ensures { CommitsTextIf guards.now text.now result number.new place.new (record { past = past; used = used.new; journal = journal.new }) kept.old.store kept.new.store }
 {
     *used = 0;
     let guards = match read_guards(alloc, guards) {
@@ -290,16 +294,19 @@ fn commit_if(
 ) -> u32
     ghost past: { List Disk }
     requires { IsShown kept.old.store image.now past }
-    ensures { 65664 ≤ length journal.old → Makes (Commits (Some guards.now) batch.now (λ reply. IsNumber reply result number.new × IsPlace reply place.new) result) (record { past = past; used = used.new }) kept.old.store kept.new.store }
+    ensures { MakesIn (Commits (Some guards.now) batch.now (λ reply. IsNumber reply result number.new × IsPlace reply place.new) result) result (record { past = past; used = used.new; journal = journal.new }) kept.old.store kept.new.store }
 {
+    *used = 0;
     if journal.len() < JOURNAL_BYTES {
         return code(Refusal::BadLimit);
     }
-    let Some(mut store) = kept.lend(image, journal) else {
+    let Some(parked) = kept.store.take() else {
         return code(Refusal::Stopped);
     };
+    let mut device = MappedDevice::new(image, journal, parked.sectors());
+    let mut store = lend(parked, &mut device);
     let answer = commit_under(&mut store, &mut kept.upkeep, guards, batch, number, place);
-    let device = kept.park(store);
+    kept.park(store, &mut device);
     *used = device.used();
     answer
 }

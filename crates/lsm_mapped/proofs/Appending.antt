@@ -1,5 +1,5 @@
 -- What is appended to a journal, and what its text is then.
-use Rattle.std.proofs.Common.{◌≡◌, ◌⊎◌, ◌↔◌, ◌<◌, ◌≤◌, ℕ, ◌+◌, ◌^◌, Bool, true, false, List, [], ◌∷◌, ◌++◌, length, length-append, take, drop, refl, sym, subst, inl, inr, ◌∙◌, ap, arith, append-nil, append_assoc, length-take-le, take-take, if◌then◌else◌}
+use Rattle.std.proofs.Common.{◌≡◌, ◌⊎◌, ◌↔◌, ◌<◌, ◌≤◌, ℕ, zero, suc, ◌+◌, ◌^◌, Bool, true, false, List, [], ◌∷◌, ◌++◌, length, length-append, take, drop, refl, sym, subst, inl, inr, ◌∙◌, ap, arith, append-nil, append_assoc, length-take-le, take-take, if◌then◌else◌}
 use Rattle.std.specs.List.{All, concat}
 use Rattle.std.proofs.lemmas.Bool.{and_parts, eq-eqb, eqb-true, false≢true, ltb-true, ne_eqb}
 use lib.Dec.{ltb}
@@ -168,6 +168,35 @@ unfolding with_sync text_of
 sync-more [] since = refl
 sync-more (r ∷ rs) (inl none) = absurd (omega (arith, none, length-append (record_text r) (text_of rs), length-record r))
 sync-more (r ∷ rs) (inr some) = ap (λ (b : Bool). if b then r ∷ rs else r ∷ rs ++ sync_record ∷ []) (ne_eqb (length (last (r ∷ rs)).sectors) 0 (λ e. omega (arith, e, some)))
+
+idle : (count used : ℕ) → ((count ≡ 0) × (0 < used) → ⊥) → (used ≡ 0) ⊎ (0 < count)
+idle (suc k) used more = inr (omega arith)
+idle zero zero more = inl refl
+idle zero (suc n) more = absurd (more (refl, omega arith))
+
+-- a sync is behind the records of a journal whose last one is a sync, and else it is one more
+pub ends-in-sync : (old : List ℕ) (used head first count : ℕ) (wrote : Bool) → used ≤ length old → Laid (take used old) head first count wrote → (count ≡ 0) × (0 < used) →
+    with_sync (records_of (take used old)) ≡ records_of (take used old)
+ends-in-sync old used head first count wrote within laid (none, some) =
+    sync-same _ (omega (arith, ap length laid.text_is, length-take-le used old within, some)) (omega (arith, laid.count_is, none))
+
+pub ends-in-none : (old : List ℕ) (used head first count : ℕ) (wrote : Bool) → used ≤ length old → Laid (take used old) head first count wrote → ((count ≡ 0) × (0 < used) → ⊥) →
+    with_sync (records_of (take used old)) ≡ records_of (take used old) ++ sync_record ∷ []
+ends-in-none old used head first count wrote within laid more = elim (idle count used more) [
+  | inl none ↦ sync-more _ (inl (omega (arith, ap length laid.text_is, length-take-le used old within, none)))
+  | inr some ↦ sync-more _ (inr (omega (arith, laid.count_is, some)))
+]
+
+-- whether a write was tried says less where one was
+pub laid-tried : (text : List ℕ) (head first count : ℕ) (wrote : Bool) → Laid text head first count wrote → Laid text head first count true
+laid-tried text head first count wrote laid = record {
+  text_is = laid.text_is;
+  whole = laid.whole;
+  head_is = laid.head_is;
+  first_is = laid.first_is;
+  count_is = laid.count_is;
+  unwritten = λ e. absurd (false≢true (sym e));
+}
 
 pub write-on : (at first count : ℕ) (bytes : List ℕ) (rs : List Record) → first ≡ (last rs).first → count ≡ length (last rs).sectors → goes_on at first count ≡ true → with_write at bytes rs ≡ front rs ++ with_sector bytes (last rs) ∷ []
 unfolding with_write

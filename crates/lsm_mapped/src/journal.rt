@@ -1,6 +1,5 @@
 // What a call writes, for the host to make.
 ghost use Rattle.std.specs.Prelude.{◌≡◌, ◌≤◌, ◌+◌, ◌++◌, length, take, drop};
-ghost use Rattle.lsm_mapped.specs.Laid.{Laid};
 ghost use Rattle.lsm_mapped.specs.Records.{number_text};
 
 use byteorder::{ByteOrder, LittleEndian};
@@ -13,73 +12,63 @@ const SECTOR_BYTES: usize = 512;
 /// The writes and syncs of a call in their order, each a record: a head of 8 bytes, which has the first sector and the number of
 /// sectors, each a u32 in little endian, and then the bytes of these sectors. No sectors is a sync. A write that goes on where the last
 /// record ends shares it. What finds no room changes nothing.
+///
+/// These are its numbers. The bytes that it fills are given to each call.
 #[derive(Drop)]
-pub struct Journal<'a> {
-    bytes: &'a mut [u8],
+pub(crate) struct Journal {
     used: usize,
     wrote: bool,
     // Of the last record: where its head is, its first sector, and how many it has.
     head: usize,
     first: u32,
     count: u32,
-    ghost within: { used ≤ length bytes.now },
-    ghost laid: { Laid (take used bytes.now) head first count wrote },
 }
 
-impl<'a> Journal<'a> {
+impl Journal {
     ghost use Rattle.std.specs.Prelude.{◌↔◌, ◌<◌, [], ◌∷◌, true, false, IsTrue, IsFalse};
-    ghost use Rattle.lsm_mapped.specs.Journals.{records_in, wrote_in, room_in, loan_in};
+    ghost use Rattle.lsm_mapped.specs.Journals.{Fills, records_in};
     ghost use Rattle.lsm_mapped.specs.Records.{front, goes_on as goes_on_at, last, sync_record, text_of, with_sector, with_sync, with_write, write_record};
 
-    /// An empty journal in these bytes.
-    pub fn new(bytes: &'a mut [u8]) -> Journal<'a>
-        ensures records { records_in result ≡ [] }
-        ensures unwritten { wrote_in result ≡ false }
-        ensures room { room_in result ≡ length bytes.old }
-        ensures loan { loan_in result ≡ bytes.entry.ghost_name }
-    {
-        Journal {
-            bytes,
-            used: 0,
-            wrote: false,
-            head: 0,
-            first: 0,
-            count: 0,
-        }
-    }
+    /// An empty one.
+    pub(crate) const EMPTY: Journal = Journal {
+        used: 0,
+        wrote: false,
+        head: 0,
+        first: 0,
+        count: 0,
+    };
 
-    /// How many bytes its records fill. The first so many are the text of its records, and nothing else.
-    pub fn used(&self) -> usize
-        ensures text { take result self.now.bytes.now ≡ text_of (records_in self.now) }
-        ensures size { result ≡ length (text_of (records_in self.now)) }
-        ensures within { result ≤ room_in self.now }
+    /// How many bytes its records fill.
+    pub(crate) fn used(&self) -> usize
+        ensures { result ≡ self.now.used }
     {
         self.used
     }
 
     /// Whether there is a write in it, or was one for which there was no room.
-    pub fn has_write(&self) -> bool
-        ensures { result ≡ wrote_in self.now }
+    pub(crate) fn has_write(&self) -> bool
+        ensures { result ≡ self.now.wrote }
     {
         self.wrote
     }
 
     /// Appends a sync, and tells whether there was room for it. One that follows a sync changes nothing.
-    pub fn sync(&mut self) -> bool
-        ensures room { IsTrue result ↔ (length (text_of (with_sync (records_in self.old))) ≤ room_in self.old) }
-        ensures synced { IsTrue result → records_in self.new ≡ with_sync (records_in self.old) }
-        ensures refused { IsFalse result → records_in self.new ≡ records_in self.old }
-        ensures same_wrote { wrote_in self.new ≡ wrote_in self.old }
-        ensures same_room { room_in self.new ≡ room_in self.old }
-        ensures same_loan { loan_in self.new ≡ loan_in self.old }
+    pub(crate) fn sync(&mut self, bytes: &mut [u8]) -> bool
+        requires { Fills self.old bytes.old }
+        ensures fills { Fills self.new bytes.new }
+        ensures room { IsTrue result ↔ (length (text_of (with_sync (records_in self.old bytes.old))) ≤ length bytes.old) }
+        ensures synced { IsTrue result → records_in self.new bytes.new ≡ with_sync (records_in self.old bytes.old) }
+        ensures refused { IsFalse result → records_in self.new bytes.new ≡ records_in self.old bytes.old }
+        ensures same_wrote { self.new.wrote ≡ self.old.wrote }
+        ensures same_room { length bytes.new ≡ length bytes.old }
     {
         if self.ends_in_sync() {
             return true;
         }
-        if self.bytes.len() - self.used < HEAD_BYTES {
+        if bytes.len() - self.used < HEAD_BYTES {
             return false;
         }
-        lay(self.bytes, self.used, 0, 0, &[]);
+        lay(bytes, self.used, 0, 0, &[]);
         self.head = self.used;
         self.first = 0;
         self.count = 0;
@@ -88,57 +77,60 @@ impl<'a> Journal<'a> {
     }
 
     /// Appends a write of a sector, and tells whether there was room for it.
-    pub fn write(&mut self, at: u32, sector: &[u8; 512]) -> bool
-        ensures room { IsTrue result ↔ (length (text_of (with_write at sector.now (records_in self.old))) ≤ room_in self.old) }
-        ensures written { IsTrue result → records_in self.new ≡ with_write at sector.now (records_in self.old) }
-        ensures refused { IsFalse result → records_in self.new ≡ records_in self.old }
-        ensures wrote { wrote_in self.new ≡ true }
-        ensures same_room { room_in self.new ≡ room_in self.old }
-        ensures same_loan { loan_in self.new ≡ loan_in self.old }
+    pub(crate) fn write(&mut self, bytes: &mut [u8], at: u32, sector: &[u8; 512]) -> bool
+        requires { Fills self.old bytes.old }
+        ensures fills { Fills self.new bytes.new }
+        ensures room { IsTrue result ↔ (length (text_of (with_write at sector.now (records_in self.old bytes.old))) ≤ length bytes.old) }
+        ensures written { IsTrue result → records_in self.new bytes.new ≡ with_write at sector.now (records_in self.old bytes.old) }
+        ensures refused { IsFalse result → records_in self.new bytes.new ≡ records_in self.old bytes.old }
+        ensures wrote { self.new.wrote ≡ true }
+        ensures same_room { length bytes.new ≡ length bytes.old }
     {
         self.wrote = true;
         if self.goes_on(at) {
-            self.grow(sector)
+            self.grow(bytes, sector)
         } else {
-            self.begin(at, sector)
+            self.begin(bytes, at, sector)
         }
     }
 
     // The last record gets a sector more.
-    fn grow(&mut self, sector: &[u8; 512]) -> bool
-        requires wrote { wrote_in self.old ≡ true }
+    fn grow(&mut self, bytes: &mut [u8], sector: &[u8; 512]) -> bool
+        requires fills { Fills self.old bytes.old }
+        requires wrote { self.old.wrote ≡ true }
         requires goes_on { (0 < self.old.count) × (self.old.count < 4294967295) }
-        ensures room { IsTrue result ↔ (self.old.used + 512 ≤ room_in self.old) }
-        ensures written { IsTrue result → records_in self.new ≡ front (records_in self.old) ++ with_sector sector.now (last (records_in self.old)) ∷ [] }
-        ensures refused { IsFalse result → records_in self.new ≡ records_in self.old }
-        ensures wrote { wrote_in self.new ≡ true }
-        ensures same_room { room_in self.new ≡ room_in self.old }
-        ensures same_loan { loan_in self.new ≡ loan_in self.old }
+        ensures fills { Fills self.new bytes.new }
+        ensures room { IsTrue result ↔ (self.old.used + 512 ≤ length bytes.old) }
+        ensures written { IsTrue result → records_in self.new bytes.new ≡ front (records_in self.old bytes.old) ++ with_sector sector.now (last (records_in self.old bytes.old)) ∷ [] }
+        ensures refused { IsFalse result → records_in self.new bytes.new ≡ records_in self.old bytes.old }
+        ensures wrote { self.new.wrote ≡ true }
+        ensures same_room { length bytes.new ≡ length bytes.old }
     {
-        if self.bytes.len() - self.used < SECTOR_BYTES {
+        if bytes.len() - self.used < SECTOR_BYTES {
             return false;
         }
         let count = self.count + 1;
-        lay_more(self.bytes, self.used, self.head, count, sector);
+        lay_more(bytes, self.used, self.head, count, sector);
         self.count = count;
         self.used += SECTOR_BYTES;
         true
     }
 
     // A record of one sector more.
-    fn begin(&mut self, at: u32, sector: &[u8; 512]) -> bool
-        requires { wrote_in self.old ≡ true }
-        ensures room { IsTrue result ↔ (self.old.used + 520 ≤ room_in self.old) }
-        ensures written { IsTrue result → records_in self.new ≡ records_in self.old ++ write_record at sector.now ∷ [] }
-        ensures refused { IsFalse result → records_in self.new ≡ records_in self.old }
-        ensures wrote { wrote_in self.new ≡ true }
-        ensures same_room { room_in self.new ≡ room_in self.old }
-        ensures same_loan { loan_in self.new ≡ loan_in self.old }
+    fn begin(&mut self, bytes: &mut [u8], at: u32, sector: &[u8; 512]) -> bool
+        requires fills { Fills self.old bytes.old }
+        requires wrote { self.old.wrote ≡ true }
+        ensures fills { Fills self.new bytes.new }
+        ensures room { IsTrue result ↔ (self.old.used + 520 ≤ length bytes.old) }
+        ensures written { IsTrue result → records_in self.new bytes.new ≡ records_in self.old bytes.old ++ write_record at sector.now ∷ [] }
+        ensures refused { IsFalse result → records_in self.new bytes.new ≡ records_in self.old bytes.old }
+        ensures wrote { self.new.wrote ≡ true }
+        ensures same_room { length bytes.new ≡ length bytes.old }
     {
-        if self.bytes.len() - self.used < HEAD_BYTES + SECTOR_BYTES {
+        if bytes.len() - self.used < HEAD_BYTES + SECTOR_BYTES {
             return false;
         }
-        lay(self.bytes, self.used, at, 1, sector);
+        lay(bytes, self.used, at, 1, sector);
         self.head = self.used;
         self.first = at;
         self.count = 1;
@@ -148,8 +140,7 @@ impl<'a> Journal<'a> {
 
     // Whether a sync would follow a sync.
     fn ends_in_sync(&self) -> bool
-        ensures same { IsTrue result → with_sync (records_in self.now) ≡ records_in self.now }
-        ensures more { IsFalse result → with_sync (records_in self.now) ≡ records_in self.now ++ sync_record ∷ [] }
+        ensures { IsTrue result ↔ ((self.now.count ≡ 0) × (0 < self.now.used)) }
     {
         self.count == 0 && self.used > 0
     }

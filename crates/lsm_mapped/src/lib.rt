@@ -22,6 +22,5 @@ mod mapped;
 mod parked;
 mod past;
 
-pub use journal::Journal;
 pub use mapped::MappedDevice;
 pub use parked::ParkedDevice;

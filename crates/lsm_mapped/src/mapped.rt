@@ -1,11 +1,12 @@
 // A device over a mapping, for one call.
 ghost use Rattle.std.specs.Prelude.{◌≡◌, ◌↔◌, ◌<◌, ◌≤◌, ◌^◌, ◌+◌, ◌*◌, All, IsTrue, is_ok, length, take, drop};
 ghost use Rattle.lsm_mapped.specs.Disks.{IsPast, IsWithin};
-ghost use Rattle.lsm_mapped.specs.Journals.{records_in};
+ghost use Rattle.lsm_mapped.specs.Journals.{Fills, records_in};
 
-use crate::Journal;
+use crate::journal::Journal;
 use crate::past::Past;
 use lsm_device::{Calls, Device, Fault};
+use std::mem;
 
 const SECTOR_BYTES: usize = 512;
 
@@ -18,13 +19,16 @@ const SECTOR_BYTES: usize = 512;
 #[derive(Drop)]
 pub struct MappedDevice<'a> {
     image: &'a [u8],
-    journal: Journal<'a>,
+    // The host's own reference: while it stands here, whoever lent it knows what it is left with.
+    bytes: &'a mut [u8],
+    journal: Journal,
     past: Past,
     sectors: u32,
     calls: Calls,
     ghost fits: { sectors < 2 ^ 32 },
     ghost had: { IsPast sectors image.now past.disks },
-    ghost within: { All (IsWithin sectors) (records_in journal) },
+    ghost fills: { Fills journal bytes.now },
+    ghost within: { All (IsWithin sectors) (records_in journal bytes.now) },
 }
 
 impl<'a> MappedDevice<'a> {
@@ -32,7 +36,6 @@ impl<'a> MappedDevice<'a> {
     ghost use Rattle.lsm_device.specs.Disk.{Disk};
     ghost use Rattle.lsm_mapped.specs.Devices.{past_on, records_on};
     ghost use Rattle.lsm_mapped.specs.Disks.{IsFilledWith, after_records, lasting_of, mapped};
-    ghost use Rattle.lsm_mapped.specs.Journals.{loan_in, room_in};
     ghost use Rattle.lsm_mapped.specs.Records.{syncs_in, writes_in};
 
     /// The device of so many sectors over a mapping, which has 512 bytes for each of them, and with an empty journal.
@@ -42,11 +45,12 @@ impl<'a> MappedDevice<'a> {
         ensures size { (⟦<MappedDevice<'a> as Device>⟧.medium result).size ≡ sectors }
         ensures medium { ⟦<MappedDevice<'a> as Device>⟧.medium result ≡ mapped sectors past journal.entry.ghost_name }
         ensures records { records_on result ≡ [] }
-        ensures room { room_in result.journal ≡ length journal.old }
+        ensures bytes { result.bytes.now ≡ journal.old }
     {
         MappedDevice {
             image,
-            journal: Journal::new(journal),
+            bytes: journal,
+            journal: Journal::EMPTY,
             past: Past::of(),
             sectors,
             calls: Calls::NONE,
@@ -55,15 +59,23 @@ impl<'a> MappedDevice<'a> {
 
     /// How many bytes of the journal are filled: with the text of its records, and nothing else.
     pub fn used(&self) -> usize
-        ensures filled { IsFilledWith (⟦<MappedDevice<'a> as Device>⟧.medium self.now).size result self.now.journal.bytes.now (records_on self.now) }
-        ensures within { result ≤ room_in self.now.journal }
+        ensures filled { IsFilledWith (⟦<MappedDevice<'a> as Device>⟧.medium self.now).size result self.now.bytes.now (records_on self.now) }
+        ensures within { result ≤ length self.now.bytes.now }
 
         // The disks that it tells are those before, and those that it has had once the records are made: one for each write and each sync.
-        ensures lasting { (⟦<MappedDevice<'a> as Device>⟧.medium self.now).lasting ≡ lasting_of (loan_in self.now.journal) (past_on self.now) }
+        ensures lasting { (⟦<MappedDevice<'a> as Device>⟧.medium self.now).lasting ≡ lasting_of self.now.bytes.ghost_name (past_on self.now) }
         ensures made { (⟦<MappedDevice<'a> as Device>⟧.medium self.now).history ≡ after_records (records_on self.now) (past_on self.now) }
         ensures many { length (⟦<MappedDevice<'a> as Device>⟧.medium self.now).history ≡ length (past_on self.now) + writes_in (records_on self.now) + syncs_in (records_on self.now) }
     {
         self.journal.used()
+    }
+
+    /// Takes the device out, and leaves one that has no sectors and no journal.
+    pub fn take(&mut self) -> MappedDevice<'a>
+        ensures device { result ≡ self.old }
+        ensures left { (⟦<MappedDevice<'a> as Device>⟧.medium self.new).size ≡ 0 }
+    {
+        mem::replace(self, MappedDevice::new(&[], &mut [], 0))
     }
 }
 
@@ -93,7 +105,6 @@ impl<'a> Device for MappedDevice<'a> {
     ghost use Rattle.lsm_device.specs.History.{Becomes};
     ghost use Rattle.lsm_device.specs.Medium.{disk};
     ghost use Rattle.lsm_mapped.specs.Devices.{fuses_on_kept, history_on_sound, medium_on, records_on};
-    ghost use Rattle.lsm_mapped.specs.Journals.{room_in, wrote_in};
     ghost use Rattle.lsm_mapped.specs.Records.{text_of, with_sync, with_write};
 
     ghost medium = { medium_on };
@@ -117,8 +128,9 @@ impl<'a> Device for MappedDevice<'a> {
         ensures same_lasting { (medium_on self.new).lasting ≡ (medium_on self.old).lasting }
 
         // It answers Ok where no write was tried and the mapping has the sector.
-        ensures answers { IsTrue (is_ok result) ↔ ((wrote_in self.old.journal ≡ false) × (512 * at + 512 ≤ length self.old.image.now)) }
-        ensures same_journal { self.new.journal ≡ self.old.journal }
+        ensures answers { IsTrue (is_ok result) ↔ ((self.old.journal.wrote ≡ false) × (512 * at + 512 ≤ length self.old.image.now)) }
+        ensures same_journal { records_on self.new ≡ records_on self.old }
+        ensures same_bytes { self.new.bytes ≡ self.old.bytes }
     {
         let ok = !self.journal.has_write() && copy(self.image, at, out);
         self.calls.count_read(ok);
@@ -137,12 +149,12 @@ impl<'a> Device for MappedDevice<'a> {
         ensures same_lasting { (medium_on self.new).lasting ≡ (medium_on self.old).lasting }
 
         // It answers Ok where the journal has room, and only then it changes the records, and pends.
-        ensures answers { IsTrue (is_ok result) ↔ (length (text_of (with_write at bytes.now (records_on self.old))) ≤ room_in self.old.journal) }
+        ensures answers { IsTrue (is_ok result) ↔ (length (text_of (with_write at bytes.now (records_on self.old))) ≤ length self.old.bytes.now) }
         ensures written { OnOk result (records_on self.new ≡ with_write at bytes.now (records_on self.old)) }
         ensures refused { OnErr result (records_on self.new ≡ records_on self.old) }
-        ensures same_room { room_in self.new.journal ≡ room_in self.old.journal }
+        ensures same_room { length self.new.bytes.now ≡ length self.old.bytes.now }
     {
-        let ok = self.journal.write(at, bytes);
+        let ok = self.journal.write(self.bytes, at, bytes);
         self.calls.count_write(ok);
         answer(ok)
     }
@@ -155,12 +167,12 @@ impl<'a> Device for MappedDevice<'a> {
         ensures same_lasting { (medium_on self.new).lasting ≡ (medium_on self.old).lasting }
 
         // It answers Ok where the journal has room, and only then it changes the records.
-        ensures answers { IsTrue (is_ok result) ↔ (length (text_of (with_sync (records_on self.old))) ≤ room_in self.old.journal) }
+        ensures answers { IsTrue (is_ok result) ↔ (length (text_of (with_sync (records_on self.old))) ≤ length self.old.bytes.now) }
         ensures recorded { OnOk result (records_on self.new ≡ with_sync (records_on self.old)) }
         ensures refused { OnErr result (records_on self.new ≡ records_on self.old) }
-        ensures same_room { room_in self.new.journal ≡ room_in self.old.journal }
+        ensures same_room { length self.new.bytes.now ≡ length self.old.bytes.now }
     {
-        let ok = self.journal.sync();
+        let ok = self.journal.sync(self.bytes);
         self.calls.count_sync(ok);
         answer(ok)
     }

@@ -8,7 +8,7 @@ pub returns-in-Ok-clause-opens : goal.returns-in-Ok-clause-opens
 returns-in-Ok-clause-opens g c = λ enough. inl (
   refl,
   subst
-      (λ (k : Option Kept). IsKeptOpened c.args.sectors c.args.cache (record { past = g.past; used = c.open_kept.new.used }) (store_in k))
+      (λ (k : Option Kept). IsKeptOpened c.args.sectors c.args.cache (record { past = g.past; used = c.open_kept.new.used; journal = c.open_kept.new.journal }) (store_in k))
       (sym c.put.ensures)
       c.in-Ok.ensures,
 )

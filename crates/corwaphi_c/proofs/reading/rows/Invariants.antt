@@ -1,4 +1,4 @@
 use Rattle.corwaphi_c.proofs.reading.rows.Given as goal
 
-abbrev pub ghost-lend : goal.ghost-lend
-ghost-lend g a = g.past
+abbrev pub ghost-new : goal.ghost-new
+ghost-new g a = g.past

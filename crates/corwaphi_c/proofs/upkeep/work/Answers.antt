@@ -1,13 +1,30 @@
+use Rattle.std.proofs.Common.{ℕ, subst, sym, refl, inl, inr, arith, ◌∙◌}
 use Rattle.lsm_upkeep.specs.Steps.{IsUpkept}
-use Rattle.corwaphi_c.proofs.Moving.{made, upkept}
+use Rattle.lsm_mapped.specs.Disks.{IsPast}
+use Rattle.corwaphi_c.proofs.Moving.{lent, made, upkept}
 use Rattle.corwaphi_c.proofs.upkeep.work.Goals as goal
 
+pub returns-then-journal-lt-JOURNAL_BYTES : goal.returns-then-journal-lt-JOURNAL_BYTES
+returns-then-journal-lt-JOURNAL_BYTES g c = λ s is. inr (omega (arith, c.if-journal-lt-JOURNAL_BYTES.true), c.code.ensures, (refl, is))
+
+pub lend-store-requires : goal.lend-store-requires
+lend-store-requires g c = c.new-device.ensures.size ∙ c.sectors.ensures
+
+pub new-device-requires : goal.new-device-requires
+new-device-requires g c = subst (λ (n : ℕ). IsPast n c.args.image.now g.past) (sym c.sectors.ensures) (c.requires c.in-Some.parked (sym c.in-Some.ensures.value))
+
 pub returns-in-Ok : goal.returns-in-Ok
-returns-in-Ok g c = λ enough s is. made
-    (IsUpkept)
-    s c.in-Some.store c.go_on-reply.new.store c.park-device.new.self.store _ c.used.result g.past c.park-device.result (c.in-Some.ensures.lent s is) c.go_on-reply.ensures (upkept _ _ c.go_on-reply.ensures) c.park-device.ensures.kept c.park-device.ensures.device c.used.ensures.filled
+returns-in-Ok g c = λ s is. inl (
+  omega (arith, c.if-journal-lt-JOURNAL_BYTES.false, c.journal-1.given.1.0),
+  made
+      (IsUpkept)
+      s c.lend-store.result c.go_on-reply.new.store c.park.new.self.store _ c.used.result g.past _ c.park.new.device (lent _ c.in-Some.parked s c.lend-store.result _ _ g.past _ (sym c.in-Some.ensures.value) is c.lend-store.ensures c.new-device.ensures.medium c.sectors.ensures) c.go_on-reply.ensures (upkept _ _ c.go_on-reply.ensures) c.park.ensures.kept c.park.ensures.device c.used.ensures.filled c.journal-1.given.1.1,
+)
 
 pub returns-in-Err : goal.returns-in-Err
-returns-in-Err g c = λ enough s is. made
-    (IsUpkept)
-    s c.in-Some.store c.go_on-reply.new.store c.park-device.new.self.store _ c.used.result g.past c.park-device.result (c.in-Some.ensures.lent s is) c.go_on-reply.ensures (upkept _ _ c.go_on-reply.ensures) c.park-device.ensures.kept c.park-device.ensures.device c.used.ensures.filled
+returns-in-Err g c = λ s is. inl (
+  omega (arith, c.if-journal-lt-JOURNAL_BYTES.false, c.journal-1.given.1.0),
+  made
+      (IsUpkept)
+      s c.lend-store.result c.go_on-reply.new.store c.park.new.self.store _ c.used.result g.past _ c.park.new.device (lent _ c.in-Some.parked s c.lend-store.result _ _ g.past _ (sym c.in-Some.ensures.value) is c.lend-store.ensures c.new-device.ensures.medium c.sectors.ensures) c.go_on-reply.ensures (upkept _ _ c.go_on-reply.ensures) c.park.ensures.kept c.park.ensures.device c.used.ensures.filled c.journal-1.given.1.1,
+)

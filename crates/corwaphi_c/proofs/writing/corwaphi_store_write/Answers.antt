@@ -7,6 +7,6 @@ pub write-answer-requires : goal.write-answer-requires
 write-answer-requires g c = shown c.args.image.now g.past c.args.handle.value _ (c.deref_mut.ensures.value ∙ c.into_box-kept.ensures) c.requires
 
 pub returns : goal.returns
-returns g c = λ enough. handed
-    (CommitsText c.args.text.now c.write-answer.result c.write-answer.new.number (record { past = g.past; used = c.write-answer.new.used }))
-    c.args.handle.value _ c.write-answer.new.kept _ (c.deref_mut.ensures.value ∙ c.into_box-kept.ensures) c.put.ensures (c.write-answer.ensures enough)
+returns g c = handed
+    (CommitsText c.args.text.now c.write-answer.result c.write-answer.new.number (record { past = g.past; used = c.write-answer.new.used; journal = c.write-answer.new.journal }))
+    c.args.handle.value _ c.write-answer.new.kept _ (c.deref_mut.ensures.value ∙ c.into_box-kept.ensures) c.put.ensures c.write-answer.ensures

@@ -3,17 +3,17 @@ use Rattle.lsm_device.proofs.Kept.{fits_all}
 use Rattle.lsm_mapped.proofs.Appending.{one_pushed}
 use Rattle.lsm_mapped.proofs.journal.Journal.begin.Goals as goal
 
-pub invariant_of-self : goal.invariant_of-self
-invariant_of-self c =
+pub returns-clause-fills : goal.returns-clause-fills
+returns-clause-fills c =
     let j = c.args.self.now in
     record {
       within = omega arith;
-      laid = (one_pushed j.bytes.now c.args.sector.now c.lay.new.bytes j.used j.head j.first j.count c.args.at _ j.wrote j.within j.laid (omega arith)
-          (record { size = c.told-sector; fits = fits_all c.args.sector.now c.fits-sector }) c.requires (omega arith) c.lay.ensures).1;
+      laid = (one_pushed c.args.bytes.now c.args.sector.now c.lay.new.bytes j.used j.head j.first j.count c.args.at _ j.wrote c.requires.fills.within c.requires.fills.laid (omega arith)
+          (record { size = c.told-sector; fits = fits_all c.args.sector.now c.fits-sector }) c.requires.wrote (omega arith) c.lay.ensures).1;
     }
 
 pub returns-clause-written : goal.returns-clause-written
 returns-clause-written c _ =
     let j = c.args.self.now in
-    (one_pushed j.bytes.now c.args.sector.now c.lay.new.bytes j.used j.head j.first j.count c.args.at _ j.wrote j.within j.laid (omega arith)
-    (record { size = c.told-sector; fits = fits_all c.args.sector.now c.fits-sector }) c.requires (omega arith) c.lay.ensures).0
+    (one_pushed c.args.bytes.now c.args.sector.now c.lay.new.bytes j.used j.head j.first j.count c.args.at _ j.wrote c.requires.fills.within c.requires.fills.laid (omega arith)
+    (record { size = c.told-sector; fits = fits_all c.args.sector.now c.fits-sector }) c.requires.wrote (omega arith) c.lay.ensures).0

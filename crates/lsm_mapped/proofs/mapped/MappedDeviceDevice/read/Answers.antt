@@ -11,7 +11,7 @@ returns-clause-bytes c = on_ok_by c.answer.result c.if-not-has_write.ok c.answer
   | then-not-has_write w ↦
       let s = c.args.self.now in
       let ok = sym w.ok-is ∙ t in
-      read-made s.sectors c.args.at s.image.now _ (records_on s) (past_on s) (s.journal.laid.unwritten (sym c.has_write.ensures ∙ w.if-not-has_write.true))
+      read-made s.sectors c.args.at s.image.now _ (records_on s) (past_on s) (s.fills.laid.unwritten (sym c.has_write.ensures ∙ w.if-not-has_write.true))
       s.had.shown c.requires (w.copy-ok.ensures.there.0 ok) (w.out-is ∙ w.copy-ok.ensures.bytes ok)
   | else-not-has_write w ↦ absurd (false≢true (sym (ap not w.if-not-has_write.false) ∙ sym w.ok-is ∙ t))
 ])

@@ -15,6 +15,7 @@ invariant_of-self c =
     record {
       fits = s.fits;
       had = s.had;
+      fills = c.sync-ok.ensures.fills;
       within = left_within s.sectors c.sync-ok.result rs (with_sync rs) _ s.within (within-sync s.sectors rs s.within) c.sync-ok.ensures.synced c.sync-ok.ensures.refused;
     }
 

@@ -13,6 +13,7 @@ invariant_of-self c =
     record {
       fits = s.fits;
       had = s.had;
+      fills = c.write-ok.ensures.fills;
       within = left_within s.sectors c.write-ok.result rs (with_write c.args.at c.args.bytes.now rs) _ s.within (within-write s.sectors c.args.at c.args.bytes.now rs s.within c.requires) c.write-ok.ensures.written c.write-ok.ensures.refused;
     }
 

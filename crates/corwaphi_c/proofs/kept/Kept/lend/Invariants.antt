@@ -1,4 +1,0 @@
-use Rattle.corwaphi_c.proofs.kept.Kept.lend.Given as goal
-
-abbrev pub ghost-new : goal.ghost-new
-ghost-new g a = g.past
