@@ -95,6 +95,17 @@ done
 found journal 'trusts the lengths of a journal' 's/if (!is_journal(file, journal, used))/if (false)/'
 found journal 'writes behind the end of the file' 's/ || (count && sector + count > file->length \/ SECTOR)//'
 
+# The benchmark beside other engines does all of its rows over the library, and finds each key and row.
+if has c++ 'the benchmark beside other engines'; then
+    compared=$room/compared
+    mkdir "$folder/compared"
+    runs c++ -std=c++17 -O2 -Wall -Wextra -Werror -I"$source" -DCORWAPHI_VERSION="\"$(<"$tests/../VERSION")\"" -o "$compared" \
+        "$tests/../bench/peers/corwaphi.cpp" "$build/libcorwaphi.a" -pthread
+    rows=(fill overwrite 'batches of 100' load 'keys in order' 'synced puts' 'get hit' 'get miss' 'pages of 64' 'whole scan')
+    printf '%s\n' "${rows[@]}" | runs "$compared" "$folder/compared" 2000
+    [ "$(grep -cP '^\d+\t\d+\t' "$room/said")" -eq ${#rows[@]} ] || fail 'the benchmark beside other engines left out a row'
+fi
+
 # The sanitizers find nothing in the host.
 if cc -fsanitize=address,undefined -x c -o "$room/sane" - <<<'int main(void) { return 0; }' 2>/dev/null; then
     build=$room/sane.build
