@@ -1,6 +1,6 @@
 #!/usr/bin/env bash
-# Looks whether a store lasts that `lsmctl` feeds by single puts, that is filled and emptied, that has as many tables as it may, and that is
-# moved to a larger file.
+# Looks whether a store lasts that `lsmctl` feeds by single puts, that is filled and emptied, that has as many tables as it may, that scripts
+# filled as no put does, and that is moved to a larger file.
 #
 #     tests/lasting.sh PROGRAM [SECONDS [TIMES]]
 #
@@ -126,3 +126,40 @@ ask get many 00000000
 ask check many
 [[ $said == 'ok generation '* ]] || fail "check of a store with many tables prints $said"
 echo "lasting.sh: $rows short rows leave tables free, and are deleted and compacted"
+
+# ---- what scripts bring about
+
+# The steps that make so many flushes of one put each, of the keys from 0001 on. What would be more than 11 runs of level 0 goes down to
+# level 1, each as a table of its own, but for the last one.
+flushes() {
+    local number job=0 runs=0
+    for ((number = 1; number <= $1; number++)); do
+        job=$((job + 1)) runs=$((runs + 1))
+        printf 'commit +%04x=31\nrotate\ntake\nbuild %d 1\naccept %d %d\nwrite %d\ninstall %d\n' "$number" $job $job $job $job $job
+        if [ "$runs" -eq 12 ] && [ "$number" -lt "$1" ]; then
+            job=$((job + 1)) runs=11
+            printf 'take\nread %d\nbuild %d 1\naccept %d %d\nwrite %d\ninstall %d\n' $job $job $job $job $job $job
+        fi
+    done
+}
+
+# A script fills a store of so many sectors as no put does, until its numbers are these. Then all of its keys can be deleted, it is
+# compacted to no tables, and takes puts.
+emptied() {
+    local sectors=$1 count=$2 numbers=$3 number
+    ask format scripted "$sectors" 128
+    { flushes "$count" && printf 'commit +%04x=31\nrotate\n' $((count + 1)); } >steps
+    "$program" replay scripted <steps >said 2>err || fail "replay of $count flushes: $(tail -n 1 said err)"
+    ask stat scripted
+    [[ $said == *" waiting 1 $numbers free "* ]] || fail "stat after a script prints $said"
+    for ((number = 1; number <= count + 1; number++)); do printf 'commit -%04x\n' "$number"; done >lines
+    "$program" serve scripted <lines >said 2>err || fail "serve: $(cat err)"
+    [ "$(grep -c '^batch ' said)" -eq $((count + 1)) ] || fail "of $((count + 1)) deletes one is answered $(grep -v -m 1 '^batch ' said)"
+    ask compact scripted
+    [[ $said == *' runs 0 tables 0 free '* ]] || fail "compact of a store that was emptied prints $said"
+    ask put scripted 0001 31
+    look scripted $((2 * count + 3))
+    echo "lasting.sh: a store that a script brought to $numbers is emptied, and takes puts again"
+}
+emptied 8192 12 'runs 12 tables 12'
+emptied 33442 1024 'runs 12 tables 1024'
