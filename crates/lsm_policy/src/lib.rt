@@ -1,10 +1,12 @@
-//! Which merge to choose next, so that few blocks are written and no store dies of small tables.
+//! Which merge to choose next, so that few blocks are written.
 //!
 //! A store merges what its caller chooses. [`Policy::next_choice`] says what to take next: the runs of level 0, as many of the
-//! oldest as find room; or of a level that is over its limit the neighbours that go down for the fewest blocks of the next level a
-//! block of their own. If room is scarce the oldest table goes, with as many neighbours as find room, so that deletes come to what they
-//! delete. A choice takes in no more blocks than are free, so that its outputs find room. It keeps nothing, so it goes on where it was
-//! after each opening.
+//! oldest as take in no more blocks than are free; or of a level that is over its limit the neighbours that go down for the fewest
+//! blocks of the next level a block of their own. If room is scarce the oldest table goes, with as many neighbours as take in no more
+//! blocks than are free, so that deletes come to what they delete. It keeps nothing, so it goes on where it was after each opening.
+//!
+//! What a choice makes may take more blocks than it takes in, up to about twice as many, and then the job is refused with `NoSpace`.
+//! Which steps find room, and which puts leave enough of it, is said by `lsm_room`.
 //!
 //! ```
 //! let policy = Policy::new();
@@ -15,7 +17,7 @@
 //! ```
 //!
 //! Flushes come first, by `job_take`. Contracts say that what is advised may be taken and takes in no more blocks than are free,
-//! and count exactly; how little is written is measured.
+//! and they count exactly; how little is written is measured.
 #![tactic(auto)]
 
 mod neighbours;

@@ -18,8 +18,8 @@ const LEAST_LIMIT: u64 = 16;
 /// The numbers by which merges are chosen. [`Policy::new`] has good ones.
 #[derive(Clone, Copy, Debug)]
 pub struct Policy {
-    /// From so many runs on the runs of level 0 go down, as many at once as find room. More of them write less. But from four runs on
-    /// the job that comes next is the oldest alone, so for a caller that takes it too they are to be fewer.
+    /// From so many runs on the runs of level 0 go down, as many at once as take in no more blocks than are free. More of them write
+    /// less. But from four runs on the job that comes next is the oldest alone, so for a caller that takes it too they are to be fewer.
     pub runs: usize,
     /// The limits of levels 1 to 3, in blocks. In a small data area a level's limit is an eighth of the blocks instead.
     pub limits: [u64; 3],
@@ -69,9 +69,8 @@ impl Policy {
     }
 
     /// Whether there is room for more entries where so many blocks are free: with two blocks taken for each that is free, at least a
-    /// third of all; and there are no more tables than [`most_tables`](Policy::most_tables). Deletes want room before they make some,
-    /// since each wants a table first: that is what a store has left which puts no more where there is none. No clause says that it is
-    /// enough.
+    /// third of all; and there are no more tables than [`most_tables`](Policy::most_tables). Refusing puts at this point keeps space for
+    /// deletes, which want a table first. No clause says that it is enough: `lsm_room` reckons more closely.
     pub fn has_room<A: Allocator>(&self, levels: &Levels<A>, free_blocks: u32) -> bool
         ensures { result ≡ (nat_le (taken_blocks levels.now) (self.now.taken_for_each_free * free_blocks) && nat_le (table_count levels.now) self.now.most_tables) }
     {
