@@ -9,7 +9,7 @@ ghost use Rattle.lsm_codec.specs.Keys.{byte_order};
 ghost use Rattle.lsm_codec.specs.References.{shown};
 ghost use Rattle.lsm_codec.specs.Versions.{newest, IsEntry, AreOrdered};
 ghost use Rattle.lsm_mem.specs.Versions.{map_of};
-ghost use Rattle.lsm_mem.specs.Sizes.{no_size};
+ghost use Rattle.lsm_mem.specs.Sizes.{Covers, no_size};
 ghost use Rattle.lsm_mem.specs.Ranges.{newest_each, from_key, put_pair, HaveAscendingKeys};
 
 use crate::iter::Range;
@@ -89,7 +89,8 @@ impl<A: Allocator> Sealed<A> {
 
     /// How large the versions are at most.
     pub fn size(&self) -> MemSize
-        ensures { self.now ≡ [] → result ≡ no_size }
+        ensures covers { Covers self.now result }
+        ensures none { self.now ≡ [] → result ≡ no_size }
     {
         self.mem.size()
     }

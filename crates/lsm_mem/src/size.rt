@@ -1,8 +1,10 @@
 //! How large versions are, by numbers that each batch raises.
 
-ghost use Rattle.std.specs.Prelude.{◌≡◌, ◌∷◌, []};
+ghost use Rattle.std.specs.Prelude.{◌≡◌, ◌∷◌, [], ℕ, List};
 ghost use Rattle.lsm_codec.specs.References.{shown_operation};
-ghost use Rattle.lsm_mem.specs.Sizes.{AreTogether, GrowsBy, IsAnEntry, no_size};
+ghost use Rattle.lsm_codec.specs.Versions.{Version};
+ghost use Rattle.lsm_mem.specs.EntryOrder.{with_batch};
+ghost use Rattle.lsm_mem.specs.Sizes.{AreTogether, Covers, GrowsBy, IsAnEntry, bytes_of, no_size, up_to_64_bits};
 
 use lsm_codec::{Batch, OpRef, Operations};
 use std::alloc::Allocator;
@@ -13,7 +15,7 @@ const FRAME: u64 = 12;
 /// An entry of so many bytes or more is large: beside another one it may leave half of a block free.
 const LARGE: u64 = 2_048;
 
-/// How large the versions of batches are as entries of tables. The numbers are bounds: an operation that a later one of its batch
+/// How large the versions of batches are as entries of tables. The numbers are upper bounds: an operation that a later one of its batch
 /// hides is counted too.
 #[derive(Clone, Copy, Debug, PartialEq, Eq)]
 pub struct MemSize {
@@ -48,13 +50,17 @@ impl MemSize {
 
     /// This size and that of what a batch makes of its keys.
     pub fn with_batch<A: Allocator>(self, batch: &Batch<A>) -> MemSize
-        ensures { GrowsBy batch.now self result }
+        ensures grows { GrowsBy batch.now self result }
+
+        // It covers what this size covers with the batch under any number.
+        ensures covers { (number : ℕ) (versions : List Version) → Covers versions self → Covers (with_batch number batch.now versions) result }
     {
         self.with_operations(batch.operations())
     }
 
     fn with_operations(self, operations: Operations<'_>) -> MemSize
-        ensures { GrowsBy operations.entry self result }
+        ensures grows { GrowsBy operations.entry self result }
+        ensures covers { (number : ℕ) (versions : List Version) → Covers versions self → Covers (with_batch number operations.entry versions) result }
     {
         let mut size = self;
         for operation in operations {
@@ -65,7 +71,7 @@ impl MemSize {
 
     // The size of what an operation makes of its key.
     fn of_operation(operation: OpRef<'_>) -> MemSize
-        ensures { GrowsBy (shown_operation operation.entry ∷ []) no_size result }
+        ensures { IsAnEntry (up_to_64_bits (bytes_of (shown_operation operation.entry))) result }
     {
         let key = FRAME.saturating_add(operation.key.len() as u64);
         match operation.value {

@@ -14,8 +14,8 @@ use Rattle.lsm_codec.specs.Keys.{Bytes, byte_order}
 use Rattle.lsm_codec.specs.Versions.{Version, AreOrdered, entry_order, is_same_key, newest, one_if_none, deletes_in}
 use Rattle.lsm_codec.proofs.KeyOrder.{same_key}
 use Rattle.lsm_table.proofs.Ends.{with_key, count-cons}
-use Rattle.lsm_mem.specs.EntryOrder.{placed}
 use Rattle.lsm_mem.specs.Ranges.{is_version}
+use Rattle.lsm_mem.proofs.Weights.{ones, placed_one}
 use Rattle.lsm_merge.specs.Keeping.{all_placed, in_order, is_newest_at_a_cut, kept_at, is_older_put, deletes_nothing, keep}
 use Rattle.lsm_merge.proofs.MapLaws.{keep_law}
 
@@ -30,18 +30,9 @@ module _ (weight : Version → ℕ) where
       by true le = omega (arith, le, sum_by-cons weight v versions, sum_by-cons weight v (filter test versions))
       by false le = omega (arith, le, sum_by-cons weight v versions)
 
-  placed_one : (v : Version) (versions : List Version) → sum_by weight (placed v versions) ≤ weight v + sum_by weight versions
-  placed_one v [] = omega (arith, sum_by-cons weight v [])
-  placed_one v (w ∷ rest) = by (entry_order v w) (placed_one v rest)
-    where
-      by : (o : Ordering) → sum_by weight (placed v rest) ≤ weight v + sum_by weight rest → sum_by weight (by_order o (v ∷ w ∷ rest) (v ∷ rest) (w ∷ placed v rest)) ≤ weight v + sum_by weight (w ∷ rest)
-      by Less le = omega (arith, sum_by-cons weight v (w ∷ rest))
-      by Equal le = omega (arith, sum_by-cons weight v rest, sum_by-cons weight w rest)
-      by Greater le = omega (arith, le, sum_by-cons weight w (placed v rest), sum_by-cons weight w rest)
-
   all_placed_ones : (added versions : List Version) → sum_by weight (all_placed added versions) ≤ sum_by weight added + sum_by weight versions
   all_placed_ones [] versions = omega arith
-  all_placed_ones (v ∷ added) versions = omega (arith, placed_one v (all_placed added versions), all_placed_ones added versions, sum_by-cons weight v added)
+  all_placed_ones (v ∷ added) versions = omega (arith, placed_one weight v (all_placed added versions), all_placed_ones added versions, sum_by-cons weight v added)
 
   kept_at_cuts : (cuts : List ℕ) (versions : List Version) → sum_by weight (kept_at cuts versions) ≤ sum_by weight versions
   kept_at_cuts cuts versions = omega (arith, passed (is_newest_at_a_cut cuts versions) (in_order versions), all_placed_ones versions [])
@@ -51,11 +42,6 @@ module _ (weight : Version → ℕ) where
   unfolding keep
   kept_weighs cuts false versions = kept_at_cuts cuts versions
   kept_weighs cuts true versions = omega (arith, passed (λ v. not (deletes_nothing (kept_at cuts versions) v)) (kept_at cuts versions), kept_at_cuts cuts versions)
-
--- as many as there are weigh one each
-pub ones : (versions : List Version) → sum_by (λ (v : Version). 1) versions ≡ length versions
-ones [] = refl
-ones (v ∷ versions) = omega (arith, sum_by-cons (λ (w : Version). 1) v versions, ones versions)
 
 -- no more versions are kept
 pub kept_few : (cuts : List ℕ) (bottom : Bool) (versions : List Version) → length (keep cuts bottom versions) ≤ length versions

@@ -5,4 +5,4 @@ use Rattle.lsm_mem.proofs.Ordered.{ordered-versions_of}
 use Rattle.lsm_mem.proofs.mem.Mem.versions.Goals as goal
 
 pub returns-clause-ordered : goal.returns-clause-ordered
-returns-clause-ordered g c = subst AreOrdered c.self.view_is (ordered-versions_of (plain c.self.inside.histories.entries) c.self.invariant)
+returns-clause-ordered g c = subst AreOrdered c.self.view_is (ordered-versions_of (plain c.self.inside.histories.entries) c.self.invariant.0)
