@@ -27,6 +27,7 @@ mod installation;
 mod law;
 mod memory;
 mod next_levels;
+mod numbers;
 mod opened_law;
 mod opening;
 mod pieces;

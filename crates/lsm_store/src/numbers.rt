@@ -1,0 +1,43 @@
+// Numbers that a store tells besides its calls, also where it is stopped.
+ghost use Rattle.std.specs.Prelude.{◌≡◌, [], IfSome, MatchOption, length, nat_lt};
+ghost use Rattle.lsm_mem.specs.Sizes.{Covers, no_size};
+
+use crate::store::Store;
+use lsm_device::Device;
+use lsm_mem::MemSize;
+use std::alloc::Allocator;
+
+impl<D: Device, A: Allocator> Store<D, A> {
+    /// How large the versions in the memtable are at most, as entries of tables.
+    pub fn memtable_size(&self) -> MemSize
+        ensures covers { Covers self.now.work.memory result }
+        ensures none { self.now.work.memory ≡ [] → result ≡ no_size }
+    {
+        self.memory.mem.size()
+    }
+
+    /// How large those in the immutable memtable are at most, where one waits for a flush.
+    pub fn sealed_size(&self) -> Option<MemSize>
+        ensures covers { MatchOption result (self.now.work.sealed ≡ []) (Covers self.now.work.sealed) }
+        ensures none { self.now.work.sealed ≡ [] → IfSome result (λ size. size ≡ no_size) }
+    {
+        match &self.memory.sealed {
+            Some(sealed) => Some(sealed.size()),
+            None => None,
+        }
+    }
+
+    /// Whether a snapshot is live, also in a stopped store, so that merges keep what it has. It takes no memory.
+    pub fn has_snapshots(&self) -> bool
+        ensures { result ≡ nat_lt 0 (length self.now.state.snapshots) }
+    {
+        self.memory.snapshots.len() > 0
+    }
+
+    /// The generation of the superblock that stands, also in a stopped store. It takes no memory.
+    pub fn generation(&self) -> u64
+        ensures { result ≡ self.now.state.generation }
+    {
+        self.memory.regions.generation
+    }
+}
