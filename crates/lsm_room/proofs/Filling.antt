@@ -13,7 +13,7 @@ use Rattle.lsm_table.specs.Division.{Block, TableBlocks, AllAdjacent, IsFullBefo
 use Rattle.lsm_table.specs.BlockCounts.{block_count}
 use Rattle.lsm_table.proofs.Tables.{one_layout}
 
-bytes_few : (versions : List Version) (most : ℕ) → AllByRecursion (λ v. entry_size v ≤ most) versions → sum_by entry_size versions ≤ length versions * most
+pub bytes_few : (versions : List Version) (most : ℕ) → AllByRecursion (λ v. entry_size v ≤ most) versions → sum_by entry_size versions ≤ length versions * most
 bytes_few [] most small = omega arith
 bytes_few (v ∷ versions) most small =
     omega (arith, bytes_few versions most small.1, small.0, sum_by-cons entry_size v versions, add-mul 1 (length versions) most)

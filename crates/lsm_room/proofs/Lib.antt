@@ -1,6 +1,7 @@
 pub mod KeptBlocks
 pub mod Enough
 pub mod Filling
+pub mod Flushed
 pub mod Growths
 pub mod Images
 pub mod Inputs

@@ -1,4 +1,5 @@
 pub mod Crowding
+pub mod Flushes
 pub mod Gaps
 pub mod Measuring
 pub mod Outputs

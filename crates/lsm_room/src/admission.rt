@@ -4,10 +4,12 @@ ghost use Rattle.std.specs.Prelude.{◌≡◌, ◌≤◌, ◌<◌, ◌+◌, ◌*
 ghost use Rattle.std.specs.Int.{div_ceil};
 ghost use Rattle.lsm_extent.specs.Area.{free_count};
 ghost use Rattle.lsm_levels.specs.Moving.{table_count};
+ghost use Rattle.lsm_mem.specs.Sizes.{no_size};
 ghost use Rattle.lsm_policy.specs.Room.{taken_blocks};
 ghost use Rattle.lsm_room.specs.Crowding.{IsCrowded, blocks_for};
+ghost use Rattle.lsm_room.specs.Flushes.{FlushesLeave};
 
-use crate::bounds::{Sizes, blocks_with, filled, packed, tables_of};
+use crate::bounds::{Sizes, blocks_with, filled, flush_outputs, packed, tables_of};
 use crate::standing::Standing;
 use lsm_levels::HeldJobs;
 use lsm_mem::MemSize;
@@ -31,6 +33,17 @@ const LARGE_AREA: u64 = 8_192;
 /// The bytes that a block of deletes has at least: one of the largest has no room in it.
 const DELETE_ROOM: u64 = 3_828;
 
+/// What is in memory: what waits for its flush, and the memtable before a batch and after it.
+#[derive(Clone, Copy)]
+pub struct InMemory {
+    /// What waits for its flush.
+    pub waiting: MemSize,
+    /// The memtable before the batch.
+    pub before: MemSize,
+    /// The memtable with the batch.
+    pub after: MemSize,
+}
+
 /// The blocks that a store keeps free, by the size of its area.
 #[derive(Clone, Copy)]
 pub struct Reserve {
@@ -47,7 +60,8 @@ impl Reserve {
 
     /// What steps want: one table is cut, or one goes down.
     pub fn for_steps(self) -> u64
-        ensures { result ≤ 200 }
+        ensures least { 100 ≤ result }
+        ensures most { result ≤ 200 }
     {
         if self.area < 400 {
             100
@@ -109,7 +123,7 @@ fn delete_blocks(memory: MemSize) -> u64 {
     blocks_of(data.saturating_add(memory.deletes / 3_200), memory.deletes)
 }
 
-/// The blocks that a flush of memory takes at most.
+/// The blocks of a flush, by which it is told whether memory is small. What a flush takes at most is told by [`flush_outputs`].
 pub fn flush_blocks(memory: MemSize) -> u64 {
     let by_bytes = data_of(memory.bytes, memory.largest);
     let by_count = filled(memory.entries, memory.largest);
@@ -131,6 +145,21 @@ fn counted(memory: MemSize, live: bool) -> MemSize
         deletes: 0,
         delete_bytes: 0,
         ..memory
+    }
+}
+
+// Both sizes together.
+fn together(one: MemSize, other: MemSize) -> MemSize
+    ensures bytes { result.bytes ≤ one.bytes + other.bytes }
+    ensures entries { result.entries ≤ one.entries + other.entries }
+{
+    MemSize {
+        entries: one.entries.saturating_add(other.entries),
+        bytes: one.bytes.saturating_add(other.bytes),
+        large: one.large.saturating_add(other.large),
+        deletes: one.deletes.saturating_add(other.deletes),
+        delete_bytes: one.delete_bytes.saturating_add(other.delete_bytes),
+        largest: one.largest.max(other.largest),
     }
 }
 
@@ -160,49 +189,65 @@ impl<'a, H: HeldJobs, A: Allocator> Standing<'a, H, A> {
         Reserve::of(self.area())
     }
 
-    /// Whether memory may become so much, of which `before` was there: its flush will find room, and so will what it makes of the last
-    /// level. Of deletes alone less is asked. Where nothing was there, puts are taken unless the store is crowded.
-    pub fn admits(&self, before: MemSize, after: MemSize, puts: bool) -> bool
-        ensures crowded { result ≡ false → before.entries ≡ 0 → puts ≡ true → IsCrowded (taken_blocks self.now.levels.now) (free_count self.now.extents.now) (table_count self.now.levels.now) (blocks_for after.bytes after.entries) }
+    /// Whether the memtable may become so much: its flush will find room, that of what waits will too, and so will what they make of the
+    /// last level. Of deletes alone less is asked. Where nothing was there, puts are taken unless the store is crowded.
+    pub fn admits(&self, memory: InMemory, puts: bool) -> bool
+        ensures crowded { result ≡ false → memory.before.entries ≡ 0 → memory.waiting ≡ no_size → puts ≡ true → IsCrowded (taken_blocks self.now.levels.now) (free_count self.now.extents.now) (table_count self.now.levels.now) (blocks_for memory.after.bytes memory.after.entries) }
+
+        // Where puts are taken, a hundred blocks stay free beside the flushes.
+        ensures room { result ≡ true → puts ≡ true → FlushesLeave 100 (free_count self.now.extents.now) self.now.live memory.waiting memory.after }
     {
-        let memory = counted(after, self.live);
+        let after = counted(memory.after, self.live);
         let taken = self.taken();
         let reserve = Reserve::of(taken.saturating_add(self.free()));
-        if before.entries > 0 && !may_join(reserve, memory) {
+        if memory.before.entries > 0 && !may_join(reserve, after) {
             return false;
         }
-        if !puts && charge_of(memory) == 0 {
-            return self.admits_deletes(memory, reserve);
+        if !puts && charge_of(after) == 0 {
+            return self.admits_deletes(after, reserve);
         }
         taken <= self.free().saturating_mul(2)
             && self.tables() <= TABLES_FOR_PUTS
-            && self.leaves(memory, reserve.area, reserve.for_puts())
+            && self.leaves(
+                together(memory.waiting, after),
+                reserve.area,
+                reserve.for_puts(),
+            )
+            && self.leaves_flushes(memory, reserve)
     }
 
-    /// Whether memory, of which `before` is there, may become as large as `most` by whatever puts and deletes: then each batch that leaves it
-    /// within is admitted, as long as the tables and the free blocks are the same.
-    pub fn admits_up_to(&self, before: MemSize, most: MemSize) -> bool {
+    /// Whether the memtable may become as large as `most` by whatever puts and deletes: then each batch that leaves it within is admitted, as
+    /// long as the tables, the free blocks and what waits are the same.
+    pub fn admits_up_to(&self, memory: InMemory, most: MemSize) -> bool
+        ensures { result ≡ true → FlushesLeave 100 (free_count self.now.extents.now) self.now.live memory.waiting most }
+    {
         let puts = MemSize {
-            deletes: before.deletes,
-            delete_bytes: before.delete_bytes,
+            deletes: memory.before.deletes,
+            delete_bytes: memory.before.delete_bytes,
             ..most
         };
         let deletes = counted(most, self.live);
+        let all = InMemory {
+            before: most,
+            after: puts,
+            ..memory
+        };
         delete_blocks(deletes) <= DELETE_BLOCKS
             && is_small(self.reserve(), deletes)
             && self.levels.runs().len() < RUNS_FOR_DELETES
-            && self.admits(most, puts, true)
+            && self.admits(all, true)
     }
 
     /// Whether it admits so much with some blocks to spare, and few runs are in level 0.
-    pub fn admits_easily(&self, before: MemSize, after: MemSize, puts: bool) -> bool {
-        let memory = counted(after, self.live);
+    pub fn admits_easily(&self, memory: InMemory, puts: bool) -> bool {
+        let after = counted(memory.after, self.live);
         let reserve = self.reserve();
         let spare = reserve.for_puts().saturating_add(reserve.to_spare());
-        self.admits(before, after, puts)
+        self.admits(memory, puts)
             && self.levels.runs().len() < 4
             && self.has_spare()
-            && ((!puts && charge_of(memory) == 0) || self.leaves(memory, reserve.area, spare))
+            && ((!puts && charge_of(after) == 0)
+                || self.leaves(together(memory.waiting, after), reserve.area, spare))
     }
 
     /// Whether besides the reserve of puts some blocks are free to spare.
@@ -211,6 +256,20 @@ impl<'a, H: HeldJobs, A: Allocator> Standing<'a, H, A> {
     {
         let reserve = self.reserve();
         self.free() >= reserve.for_puts().saturating_add(reserve.to_spare())
+    }
+
+    // Whether the flushes leave what steps want.
+    fn leaves_flushes(&self, memory: InMemory, reserve: Reserve) -> bool
+        ensures crowded { result ≡ false → memory.waiting ≡ no_size → free_count self.now.extents.now < 6 * div_ceil memory.after.bytes 4094 + 6 * (memory.after.entries / 3200) + 220 }
+        ensures room { result ≡ true → FlushesLeave 100 (free_count self.now.extents.now) self.now.live memory.waiting memory.after }
+    {
+        let first = flush_outputs(memory.waiting, self.live);
+        let second = flush_outputs(memory.after, self.live);
+        first
+            .blocks
+            .saturating_add(second.blocks)
+            .saturating_add(reserve.for_steps())
+            <= self.free()
     }
 
     fn admits_deletes(&self, memory: MemSize, reserve: Reserve) -> bool {

@@ -9,10 +9,12 @@ ghost use Rattle.lsm_levels.specs.Held.{IsHeld};
 ghost use Rattle.lsm_levels.specs.Pick.{is_bottom, is_flush};
 ghost use Rattle.lsm_levels.specs.Picks.{job_of};
 ghost use Rattle.lsm_policy.specs.Room.{blocks_of as blocks_in};
+ghost use Rattle.lsm_room.specs.Flushes.{FlushTakes};
 ghost use Rattle.lsm_room.specs.Outputs.{MakesAtMost};
 ghost use Rattle.lsm_room.specs.Measuring.{AreEnough, AreEnoughOver, AreMerged, AreRaised, HoldImages, IsRaised, most_images, no_sizes};
 
 use lsm_levels::{Levels, Pick, PlacedTable, Run};
+use lsm_mem::MemSize;
 use std::alloc::Allocator;
 
 /// The data blocks that a table has at most.
@@ -43,7 +45,9 @@ pub struct Outputs {
 
 impl Outputs {
     /// Those of no image.
-    pub(crate) fn none() -> Outputs {
+    pub(crate) fn none() -> Outputs
+        ensures { result.blocks ≡ 0 }
+    {
         Outputs {
             blocks: 0,
             largest: 0,
@@ -218,7 +222,8 @@ pub(crate) fn filled(entries: u64, largest: u64) -> u64
 /// How many images a merge makes at most of so many data blocks and entries. Where a snapshot is live, a table may end up to 33 entries
 /// before it is full, since those of a key stay together.
 fn images_of(data: u64, entries: u64, live: bool) -> u64
-    ensures { result < 4294967296 → most_images live «data» entries ≤ result }
+    ensures least { result < 4294967296 → most_images live «data» entries ≤ result }
+    ensures most { result ≤ entries / 3168 + («data» + entries / 3168) / 31 + 1 }
 {
     let (least_data, least_entries) = if live { (31, 3_168) } else { (63, 3_200) };
     let by_entries = entries / least_entries;
@@ -229,7 +234,8 @@ fn images_of(data: u64, entries: u64, live: bool) -> u64
 
 /// The outputs of so many data blocks and entries.
 fn outputs_with(data: u64, entries: u64, live: bool) -> Outputs
-    ensures { HoldImages live «data» entries result }
+    ensures hold { HoldImages live «data» entries result }
+    ensures few { result.blocks ≤ 3 * «data» + 5 * (entries / 3168) + 10 }
 {
     let tables = images_of(data, entries, live);
     let data = data.saturating_add(tables.saturating_sub(1));
@@ -238,6 +244,20 @@ fn outputs_with(data: u64, entries: u64, live: bool) -> Outputs
         largest: blocks_with(data.min(MOST_DATA), 1),
         tables,
     }
+}
+
+/// What a flush of memory takes at most, where a snapshot is live or none is.
+pub fn flush_outputs(memory: MemSize, live: bool) -> Outputs
+    ensures takes { FlushTakes live memory result }
+    ensures few { result.blocks ≤ 6 * div_ceil memory.bytes 4094 + 6 * (memory.entries / 3200) + 20 }
+    ensures none { memory.entries ≡ 0 → result.blocks ≡ 0 }
+{
+    if memory.entries == 0 {
+        return Outputs::none();
+    }
+    let by_bytes = packed(memory.bytes.div_ceil(BLOCK - 2), memory.largest);
+    let by_count = filled(memory.entries, memory.largest);
+    outputs_with(by_bytes.min(by_count), memory.entries, live)
 }
 
 /// The outputs of a run that goes down alone, or is written anew.

@@ -11,6 +11,9 @@ const MOST_DATA: u64 = 64;
 /// The entries that a table has at most.
 const MOST_ENTRIES: u64 = 3_200;
 
+/// The bytes of entries that a data block has room for.
+const ROOM: u64 = 4_094;
+
 /// Neighbours that fit one table.
 #[derive(Clone, Copy)]
 struct Group {
@@ -19,6 +22,8 @@ struct Group {
     count: u64,
     data: u64,
     entries: u64,
+    /// The bytes of the largest entry.
+    largest: u64,
 }
 
 impl Group {
@@ -29,6 +34,7 @@ impl Group {
             count: 0,
             data: 0,
             entries: 0,
+            largest: 0,
         }
     }
 
@@ -39,12 +45,21 @@ impl Group {
             count: self.count.saturating_add(1),
             data: self.data.saturating_add(data_of(table)),
             entries: self.entries.saturating_add(u64::from(table.entries())),
+            largest: self.largest.max(table.largest_entry() as u64),
         }
     }
 
-    // What the one table takes.
+    // The data blocks of the one table: those of all, or one that has room for so many of the largest entry.
+    fn joined(self) -> u64 {
+        if self.entries.saturating_mul(self.largest) <= ROOM {
+            return 1;
+        }
+        self.data
+    }
+
+    // What the one table takes: an image has two blocks besides its data blocks and its index.
     fn output(self) -> Outputs {
-        let blocks = blocks_with(self.data, 1);
+        let blocks = blocks_with(self.joined(), 1).saturating_sub(1);
         Outputs {
             blocks,
             largest: blocks,

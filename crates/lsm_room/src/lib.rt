@@ -20,7 +20,7 @@ mod standing;
 mod stepping;
 mod sure;
 
-pub use admission::{Reserve, flush_blocks, is_small};
-pub use bounds::Outputs;
+pub use admission::{InMemory, Reserve, flush_blocks, is_small};
+pub use bounds::{Outputs, flush_outputs};
 pub use standing::Standing;
 pub use stepping::{Advice, Step};

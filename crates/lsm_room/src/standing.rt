@@ -49,7 +49,8 @@ impl<'a, H: HeldJobs, A: Allocator> Standing<'a, H, A> {
 
     /// The blocks that are free.
     pub(crate) fn free(&self) -> u64
-        ensures { result ≡ free_count self.now.extents.now }
+        ensures count { result ≡ free_count self.now.extents.now }
+        ensures few { result < 4294967296 }
     {
         u64::from(self.extents.free_blocks())
     }

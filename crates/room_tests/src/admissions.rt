@@ -4,7 +4,7 @@ use crate::areas::area_of;
 use crate::nobody::Nobody;
 use crate::tables::levels_of;
 use lsm_mem::MemSize;
-use lsm_room::{Standing, flush_blocks, is_small};
+use lsm_room::{InMemory, Standing, flush_blocks, flush_outputs, is_small};
 use std::alloc::Global;
 use std::process::Abort;
 
@@ -33,7 +33,8 @@ fn deletes(count: u64) -> MemSize {
     }
 }
 
-/// Whether memory may become so much, and whether easily, where no table stands and so many blocks are free.
+/// Whether the memtable may become so much, and whether easily, where nothing waits for a flush, no table stands, and so many blocks are
+/// free.
 fn admitted<R: Abort>(
     rt: &R,
     alloc: Global,
@@ -41,6 +42,16 @@ fn admitted<R: Abort>(
     before: MemSize,
     after: MemSize,
 ) -> (bool, bool) {
+    let memory = InMemory {
+        waiting: MemSize::empty(),
+        before,
+        after,
+    };
+    admitted_beside(rt, alloc, free, memory)
+}
+
+/// Whether it may, and whether easily, beside what waits.
+fn admitted_beside<R: Abort>(rt: &R, alloc: Global, free: u32, memory: InMemory) -> (bool, bool) {
     let levels = levels_of(rt, alloc, &[], &[]);
     let extents = area_of(rt, alloc, 1, free);
     let standing = Standing {
@@ -49,10 +60,10 @@ fn admitted<R: Abort>(
         held: &Nobody,
         live: false,
     };
-    let are_puts = after.deletes == 0;
+    let are_puts = memory.after.deletes == 0;
     (
-        standing.admits(before, after, are_puts),
-        standing.admits_easily(before, after, are_puts),
+        standing.admits(memory, are_puts),
+        standing.admits_easily(memory, are_puts),
     )
 }
 
@@ -68,6 +79,52 @@ fn puts_leave_the_reserve(rt: HostRuntime) {
     ] {
         let given = admitted(&rt, rt.alloc(), 500, MemSize::empty(), puts(count));
         assert!(rt; given == wanted, "{count}");
+    }
+}
+
+#[test]
+fn what_waits_counts_too(rt: HostRuntime) {
+    // 229 puts of the largest entry find room in 500 blocks, and 230 don't, however many of them wait for a flush.
+    for (waiting, count, wanted) in [
+        (0, 229, true),
+        (100, 129, true),
+        (228, 1, true),
+        (100, 130, false),
+        (229, 1, false),
+        (229, 0, true),
+    ] {
+        let memory = InMemory {
+            waiting: puts(waiting),
+            before: MemSize::empty(),
+            after: puts(count),
+        };
+        let (given, _) = admitted_beside(&rt, rt.alloc(), 500, memory);
+        assert!(rt; given == wanted, "{waiting} {count}");
+    }
+}
+
+#[test]
+fn flushes_take_so_many_blocks(rt: HostRuntime) {
+    // 55 of the largest entry, one in a block and two blocks more: 57 data blocks, 4 of an index and 3 besides. With a snapshot there may be
+    // two tables, so that one block and three besides come to it. 3,200 entries of 13 bytes fill 10 blocks of 314, and two more, in two
+    // tables at most.
+    let one = MemSize {
+        entries: 3_200,
+        bytes: 41_600,
+        large: 0,
+        deletes: 0,
+        delete_bytes: 0,
+        largest: 13,
+    };
+    for (memory, live, blocks, tables) in [
+        (MemSize::empty(), false, 0, 0),
+        (puts(55), false, 64, 1),
+        (puts(55), true, 68, 2),
+        (one, false, 20, 2),
+    ] {
+        let outputs = flush_outputs(memory, live);
+        assert!(rt; outputs.blocks == blocks, "{blocks}");
+        assert!(rt; outputs.tables == tables, "{tables}");
     }
 }
 
@@ -124,7 +181,12 @@ fn allowed<R: Abort>(rt: &R, alloc: Global, free: u32, before: MemSize, most: Me
         held: &Nobody,
         live: false,
     };
-    standing.admits_up_to(before, most)
+    let memory = InMemory {
+        waiting: MemSize::empty(),
+        before,
+        after: before,
+    };
+    standing.admits_up_to(memory, most)
 }
 
 #[test]

@@ -136,6 +136,12 @@ fn moves_and_joinings(rt: HostRuntime) {
     // A move would make the only gap shorter.
     let together = (Told::Nothing, Told::Take(rewrite(1, 5), 0));
     assert!(rt; aside_and_together(rt.alloc(), &five, &extents) == together);
+    // One entry each goes into one data block, so four blocks are enough for the table of all.
+    for (blocks, wanted) in [(4, Told::Take(rewrite(1, 5), 0)), (3, Told::Nothing)] {
+        let gap = area_of(&rt, rt.alloc(), 1, blocks);
+        let (_, joined) = aside_and_together(rt.alloc(), &five, &gap);
+        assert!(rt; joined == wanted, "{blocks}");
+    }
     // A table right behind the gap of blocks 5 to 8, whose copy takes that of blocks 0 to 3: then 8 lie side by side.
     let nine = levels_of(&rt, rt.alloc(), &[], &[&[(9, &[&[0x61]])]]);
     let gaps = area_of(&rt, rt.alloc(), 2, 4);

@@ -27,4 +27,4 @@ returns c =
       some = (omega (arith, c.max.ensures, c.saturating_add.ensures, c.saturating_add-by_entries.ensures), c.packed-by_bytes.ensures.some, c.filled-by_count.ensures.some);
     })
     c.outputs_with.result c.saturating_add-4.result c.saturating_add-4.ensures
-    (subst (λ n. HoldImages c.args.live n c.saturating_add-4.result c.outputs_with.result) blocks_are c.outputs_with.ensures)
+    (subst (λ n. HoldImages c.args.live n c.saturating_add-4.result c.outputs_with.result) blocks_are c.outputs_with.ensures.hold)

@@ -1,0 +1,27 @@
+-- What flushes of memory make, and that they leave blocks free.
+use Rattle.std.specs.Prelude.{ℕ, ◌+◌, ◌<◌, ◌≤◌, Bool, List}
+use Rattle.lsm_codec.specs.Versions.{Version}
+use Rattle.lsm_mem.specs.Sizes.{Covers}
+use Rattle.lsm_mem.specs.declared.size.MemSize.{MemSize}
+use Rattle.lsm_table.specs.Division.{TableBlocks}
+use Rattle.lsm_table.specs.BlockCounts.{extent_blocks}
+use Rattle.lsm_room.specs.Measuring.{AreOfKept}
+use Rattle.lsm_room.specs.Outputs.{AreCuts, TakeAtMost}
+use Rattle.lsm_room.specs.declared.bounds.Outputs.{Outputs}
+
+-- Images are those that a flush makes of versions, where a snapshot is live or none is.
+pub record AreFlushed (live : Bool) (versions : List Version) (images : List TableBlocks) : Type 0 where
+  pub cuts : List ℕ
+  pub bottom : Bool
+  pub are_cuts : AreCuts live cuts
+  pub are_kept : AreOfKept cuts bottom versions images
+
+-- Whatever versions a size covers, a flush makes no more of them than these outputs.
+abbrev pub FlushTakes : Bool → MemSize → Outputs → Type 0
+FlushTakes live size outputs = outputs.blocks < 4294967296
+    → (versions : List Version) (images : List TableBlocks) → Covers versions size → AreFlushed live versions images → TakeAtMost outputs.blocks outputs.largest images
+
+-- Whatever versions these sizes cover, of so many free blocks flushes of both leave so many.
+abbrev pub FlushesLeave : ℕ → ℕ → Bool → MemSize → MemSize → Type 0
+FlushesLeave spare free live waiting memory = (old versions : List Version) (first images : List TableBlocks)
+    → Covers old waiting → Covers versions memory → AreFlushed live old first → AreFlushed live versions images → extent_blocks first + extent_blocks images + spare ≤ free
