@@ -133,5 +133,5 @@ nothing_flushed live size outputs none low versions images covers flushed =
 -- where outputs of both leave so many blocks, the flushes do
 pub both_leave : (spare free : ℕ) (live : Bool) (waiting memory : MemSize) (first second : Outputs) → FlushTakes live waiting first → FlushTakes live memory second → free < 4294967296 → first.blocks + second.blocks + spare ≤ free
     → FlushesLeave spare free live waiting memory
-both_leave spare free live waiting memory first second takes also few fits old versions made images covers covers_also flushed flushed_also =
+both_leave spare free live waiting memory first second takes also few fits old versions covers covers_also made images flushed flushed_also =
     omega (arith, (takes (omega (arith, few, fits)) old made covers flushed).all, (also (omega (arith, few, fits)) versions images covers_also flushed_also).all, fits)
