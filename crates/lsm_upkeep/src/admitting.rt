@@ -1,11 +1,11 @@
 //! A store is made ready for a batch.
 
-ghost use Rattle.std.specs.Prelude.{◌≡◌, true, IfErr};
+ghost use Rattle.std.specs.Prelude.{◌≡◌, true, IfErr, IfOk};
 ghost use Rattle.lsm_device.specs.declared.refusal.Refusal.TheVariants.{NoSpace};
 ghost use Rattle.lsm_store.specs.Backing.{StoreView};
 ghost use Rattle.lsm_upkeep.specs.Flushing.{BeginsLog, BeginsLogAmid, IsMadeReady, OpensAnother, ReadiesLog};
 ghost use Rattle.lsm_upkeep.specs.Steps.{IsUpkept};
-ghost use Rattle.lsm_upkeep.specs.Writing.{FindsNoRoom, LacksRoom, wants_room};
+ghost use Rattle.lsm_upkeep.specs.Writing.{FindsNoRoom, HasRoomFor, LacksRoom, wants_room};
 
 use crate::demand::Demand;
 use crate::flushing::{flush, is_waiting};
@@ -21,7 +21,8 @@ use std::alloc::Global;
 ///
 /// It is refused with `NoSpace` where a batch that puts values finds no room, though all tables were brought down as far as they go. A
 /// batch of deletes is not, unless a snapshot is live. What else is refused is passed over: the store goes on as it then is, and its map
-/// is the same. A stopped store is left as it is, since it refuses the batch itself.
+/// is the same. A stopped store is left as it is, since it refuses the batch itself. Where puts are let in, the flushes of memory with the
+/// batch and of what waits for one leave a hundred blocks free.
 ///
 /// The upkeep is what the last call left: mostly no table is looked at, and of merges that are due some pieces are done.
 pub fn admit<D: Device>(
@@ -32,6 +33,7 @@ pub fn admit<D: Device>(
 ) -> Result<(), Refusal>
     ensures upkept { IsUpkept store.old store.new }
     ensures ready { IsMadeReady store.old store.new }
+    ensures room { IfOk result (λ done. HasRoomFor batch.now store.new) }
     ensures refused { IfErr result (λ e. (e ≡ NoSpace) × FindsNoRoom batch.now store.old store.new) }
 {
     if store.stat().is_err() {
@@ -39,11 +41,11 @@ pub fn admit<D: Device>(
     }
     let is_full = matches!(store.log_room(), Ok(0));
     begin_write(alloc, store, upkeep, is_full, batch.text_len());
-    let demand = Demand::of(store, batch);
-    let has_log = demand.has_log(store);
-    if upkeep.admits(alloc, store, &demand, has_log) {
+    if upkeep.admits(alloc, store, batch) {
         return Ok(());
     }
+    let demand = Demand::of(store, batch);
+    let has_log = demand.has_log(store);
     if has_log && !demand.puts && demand.joins(store) {
         push(alloc, store, Some(demand));
         return Ok(());
@@ -133,6 +135,7 @@ fn make_room<D: Device>(
     batch: &Batch,
 ) -> Result<(), Refusal>
     ensures upkept { IsUpkept store.old store.new }
+    ensures room { IfOk result (λ done. HasRoomFor batch.now store.new) }
     ensures refused { IfErr result (λ e. (e ≡ NoSpace) × (wants_room batch.now store.new.state ≡ true) × LacksRoom batch.now store.new) }
 {
     if Demand::of(store, batch).is_met(store) {

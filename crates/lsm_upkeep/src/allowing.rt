@@ -1,10 +1,15 @@
 //! How much more may come into memory before a store is asked again whether there is room.
 
+ghost use Rattle.std.specs.Prelude.{◌≡◌, true, IfSome};
+ghost use Rattle.lsm_extent.specs.Area.{free_count};
+ghost use Rattle.lsm_room.specs.Flushes.{FlushesLeave};
+ghost use Rattle.lsm_upkeep.specs.Writing.{is_live};
+
 use crate::demand::Demand;
-use crate::stepping::standing;
 use lsm_device::Device;
 use lsm_mem::MemSize;
 use lsm_store::Store;
+use std::marker::Model;
 
 /// So many more entries are allowed at once.
 const ENTRIES: u64 = 512;
@@ -13,16 +18,33 @@ const ENTRIES: u64 = 512;
 const BYTES: u64 = 131_072;
 
 /// How large memory may become before a store is asked again whether there is room: to ask goes over all tables, and so many batches
-/// needn't. It counts as long as the tables, the free blocks and the snapshots are those of which it was asked.
+/// needn't. It counts as long as the tables, the free blocks and the snapshots are those of which it was asked, and no more waits for a
+/// flush.
 #[derive(Clone, Copy)]
 pub(crate) struct Allowance {
     granted: Option<Grant>,
 }
 
+/// So much was granted of a store that was asked.
 #[derive(Clone, Copy)]
 struct Grant {
     most: MemSize,
+    waiting: MemSize,
     asked: Asked,
+}
+
+impl Model for Grant {
+    ghost use Rattle.lsm_mem.specs.declared.size.MemSize.{MemSize};
+    ghost use Rattle.lsm_room.specs.Flushes.{FlushesLeave};
+    ghost use Rattle.lsm_upkeep.specs.declared.allowing.Asked.{Asked};
+
+    ghost Value = { MemSize × (MemSize × Asked) };
+
+    ghost view = { λ g. (g.most, (g.waiting, g.asked)) };
+
+    ghost inverse = { λ v. record { most = v.0; waiting = v.1.0; asked = v.1.1 } };
+
+    ghost invariant = { λ g. FlushesLeave 100 g.asked.free_blocks g.asked.live g.waiting g.most };
 }
 
 /// What a store was asked of.
@@ -34,21 +56,49 @@ struct Asked {
 }
 
 impl Asked {
-    fn now<D: Device>(store: &Store<D>) -> Option<Asked> {
-        match store.stat() {
-            Ok(stat) => Some(Asked {
-                generation: stat.generation,
-                free_blocks: stat.free_blocks,
-                live: store.has_snapshots(),
-            }),
-            Err(_) => None,
+    fn of<D: Device>(store: &Store<D>) -> Asked
+        ensures free { result.free_blocks ≡ free_count store.now.work.area }
+        ensures live { result.live ≡ is_live store.now.state }
+    {
+        Asked {
+            generation: store.generation(),
+            free_blocks: store.extents().free_blocks(),
+            live: store.has_snapshots(),
         }
     }
 
-    fn is_same(self, other: Asked) -> bool {
+    fn is_same(self, other: Asked) -> bool
+        ensures { result ≡ true → (self.free_blocks ≡ other.free_blocks) × (self.live ≡ other.live) }
+    {
         self.generation == other.generation
             && self.free_blocks == other.free_blocks
             && self.live == other.live
+    }
+}
+
+impl Grant {
+    // That of a store for what is demanded, and so much more.
+    fn of<D: Device>(store: &Store<D>, asked: Asked, demand: &Demand) -> Option<Grant>
+        requires free { asked.free_blocks ≡ free_count store.now.work.area }
+        requires live { asked.live ≡ is_live store.now.state }
+        ensures { IfSome result (λ grant. FlushesLeave 100 (free_count store.now.work.area) (is_live store.now.state) demand.now.memory.waiting demand.now.memory.after) }
+    {
+        let most = demand.with_more(ENTRIES, BYTES);
+        if !demand.is_met_up_to(store, most) {
+            return None;
+        }
+        Some(Grant {
+            most,
+            waiting: demand.waiting(),
+            asked,
+        })
+    }
+
+    // Whether it covers what is demanded of a store that is asked so.
+    fn covers(&self, asked: Asked, demand: &Demand) -> bool
+        ensures { result ≡ true → FlushesLeave 100 asked.free_blocks asked.live demand.now.memory.waiting demand.now.memory.after }
+    {
+        self.asked.is_same(asked) && demand.is_within(self.most, self.waiting)
     }
 }
 
@@ -59,25 +109,22 @@ impl Allowance {
     }
 
     /// Whether a demand is admitted: it is allowed, or the store is asked. Then more may be allowed.
-    pub fn admits<D: Device>(&mut self, store: &Store<D>, demand: &Demand) -> bool {
-        let Some(asked) = Asked::now(store) else {
-            return false;
-        };
+    pub fn admits<D: Device>(&mut self, store: &Store<D>, demand: &Demand) -> bool
+        ensures { result ≡ true → demand.now.puts ≡ true → FlushesLeave 100 (free_count store.now.work.area) (is_live store.now.state) demand.now.memory.waiting demand.now.memory.after }
+    {
+        let asked = Asked::of(store);
         if self.covers(asked, demand) {
             return true;
         }
-        let most = demand.with_more(ENTRIES, BYTES);
-        self.granted = None;
-        if demand.is_met_up_to(store, most) {
-            self.granted = Some(Grant { most, asked });
-            return true;
-        }
-        demand.is_met(store)
+        self.granted = Grant::of(store, asked, demand);
+        self.granted.is_some() || demand.is_met(store)
     }
 
-    fn covers(&self, asked: Asked, demand: &Demand) -> bool {
-        match self.granted {
-            Some(grant) => grant.asked.is_same(asked) && demand.is_within(grant.most),
+    fn covers(&self, asked: Asked, demand: &Demand) -> bool
+        ensures { result ≡ true → FlushesLeave 100 asked.free_blocks asked.live demand.now.memory.waiting demand.now.memory.after }
+    {
+        match &self.granted {
+            Some(grant) => grant.covers(asked, demand),
             None => false,
         }
     }

@@ -1,15 +1,18 @@
 //! What a batch demands of a store.
 
-ghost use Rattle.std.specs.Prelude.{◌≡◌, ◌||◌, [], true, false};
-ghost use Rattle.lsm_mem.specs.Sizes.{GrowsBy, no_size};
+ghost use Rattle.std.specs.Prelude.{◌≡◌, ◌||◌, ℕ, [], true, false};
+ghost use Rattle.lsm_extent.specs.Area.{free_count};
+ghost use Rattle.lsm_mem.specs.EntryOrder.{with_batch};
+ghost use Rattle.lsm_mem.specs.Sizes.{Covers, GrowsBy, no_size};
 ghost use Rattle.lsm_room.specs.Crowding.{blocks_for};
-ghost use Rattle.lsm_upkeep.specs.Writing.{IsCrowdedIn, has_puts, wants_room};
+ghost use Rattle.lsm_room.specs.Flushes.{FlushesLeave};
+ghost use Rattle.lsm_upkeep.specs.Writing.{IsCrowdedIn, IsWithin, has_puts, is_live, wants_room};
 
 use crate::stepping::standing;
 use lsm_codec::{Batch, Operations};
 use lsm_device::Device;
 use lsm_mem::MemSize;
-use lsm_room::is_small;
+use lsm_room::{InMemory, is_small};
 use lsm_store::Store;
 
 /// The bytes of a batch that a sector of the log takes.
@@ -18,8 +21,7 @@ const SECTOR_ROOM: usize = 480;
 /// What a batch demands of a store: that memory becomes so large, and so many sectors of the log.
 #[derive(Clone, Copy)]
 pub struct Demand {
-    before: MemSize,
-    after: MemSize,
+    memory: InMemory,
     sectors: u32,
     /// Whether it has puts, or a snapshot keeps its deletes.
     pub(crate) puts: bool,
@@ -29,13 +31,20 @@ impl Demand {
     /// That of a batch, of a store as it now is.
     pub(crate) fn of<D: Device>(store: &Store<D>, batch: &Batch) -> Demand
         ensures puts { result.puts ≡ wants_room batch.now store.now.state }
-        ensures before { store.now.work.memory ≡ [] → result.before ≡ no_size }
-        ensures after { store.now.work.memory ≡ [] → GrowsBy batch.now no_size result.after }
+        ensures before { store.now.work.memory ≡ [] → result.memory.before ≡ no_size }
+        ensures after { store.now.work.memory ≡ [] → GrowsBy batch.now no_size result.memory.after }
+        ensures waiting { store.now.work.sealed ≡ [] → result.memory.waiting ≡ no_size }
+        ensures covers { (number : ℕ) → Covers (with_batch number batch.now store.now.work.memory) result.memory.after }
+        ensures sealed { Covers store.now.work.sealed result.memory.waiting }
     {
         let before = store.memtable_size();
-        Demand {
+        let memory = InMemory {
+            waiting: waiting(store),
             before,
             after: before.with_batch(batch),
+        };
+        Demand {
+            memory,
             sectors: batch.text_len().div_ceil(SECTOR_ROOM) as u32,
             puts: puts_some(batch.operations()) || store.has_snapshots(),
         }
@@ -51,14 +60,17 @@ impl Demand {
 
     /// Whether it is admitted.
     pub(crate) fn is_met<D: Device>(&self, store: &Store<D>) -> bool
-        ensures { result ≡ false → self.now.before.entries ≡ 0 → self.now.puts ≡ true → IsCrowdedIn store.now.work (blocks_for self.now.after.bytes self.now.after.entries) }
+        ensures crowded { result ≡ false → self.now.memory.before.entries ≡ 0 → self.now.memory.waiting ≡ no_size → self.now.puts ≡ true → IsCrowdedIn store.now.work (blocks_for self.now.memory.after.bytes self.now.memory.after.entries) }
+        ensures room { result ≡ true → self.now.puts ≡ true → FlushesLeave 100 (free_count store.now.work.area) (is_live store.now.state) self.now.memory.waiting self.now.memory.after }
     {
-        standing(store).admits(self.before, self.after, self.puts)
+        standing(store).admits(self.memory, self.puts)
     }
 
     /// How large memory may become by it and so many more entries, of so many bytes, none of which is larger than the largest up to then.
-    pub(crate) fn with_more(&self, entries: u64, bytes: u64) -> MemSize {
-        let all = self.after;
+    pub(crate) fn with_more(&self, entries: u64, bytes: u64) -> MemSize
+        ensures { IsWithin self.now.memory.after result }
+    {
+        let all = self.memory.after;
         MemSize {
             entries: all.entries.saturating_add(entries),
             bytes: all.bytes.saturating_add(bytes),
@@ -70,31 +82,37 @@ impl Demand {
     }
 
     /// Whether it is admitted, and so is whatever else leaves memory within this size.
-    pub(crate) fn is_met_up_to<D: Device>(&self, store: &Store<D>, most: MemSize) -> bool {
-        standing(store).admits_up_to(self.before, most)
+    pub(crate) fn is_met_up_to<D: Device>(&self, store: &Store<D>, most: MemSize) -> bool
+        ensures { result ≡ true → FlushesLeave 100 (free_count store.now.work.area) (is_live store.now.state) self.now.memory.waiting most }
+    {
+        standing(store).admits_up_to(self.memory, most)
     }
 
-    /// Whether it leaves memory within this size.
-    pub(crate) fn is_within(&self, most: MemSize) -> bool {
-        let all = self.after;
-        all.entries <= most.entries
-            && all.bytes <= most.bytes
-            && all.large <= most.large
-            && all.deletes <= most.deletes
-            && all.delete_bytes <= most.delete_bytes
-            && all.largest <= most.largest
+    /// What waits for its flush.
+    pub(crate) fn waiting(&self) -> MemSize
+        ensures { result ≡ self.now.memory.waiting }
+    {
+        self.memory.waiting
+    }
+
+    /// Whether it leaves memory within this size, and no more waits for a flush than so much.
+    pub(crate) fn is_within(&self, most: MemSize, waiting: MemSize) -> bool
+        ensures { result ≡ true → IsWithin self.now.memory.after most × IsWithin self.now.memory.waiting waiting }
+    {
+        is_within(self.memory.after, most) && is_within(self.memory.waiting, waiting)
     }
 
     /// Whether it is admitted with blocks to spare.
     pub(crate) fn is_met_easily<D: Device>(&self, store: &Store<D>) -> bool {
-        standing(store).admits_easily(self.before, self.after, self.puts)
+        standing(store).admits_easily(self.memory, self.puts)
     }
 
     /// Whether it is refused, where tables were brought down as far as they go: it puts values, and isn't admitted, or no blocks are to
     /// spare.
     pub(crate) fn is_refused<D: Device>(&self, store: &Store<D>) -> bool
         ensures puts { result ≡ true → self.now.puts ≡ true }
-        ensures crowded { result ≡ true → self.now.before.entries ≡ 0 → IsCrowdedIn store.now.work (blocks_for self.now.after.bytes self.now.after.entries) }
+        ensures crowded { result ≡ true → self.now.memory.before.entries ≡ 0 → self.now.memory.waiting ≡ no_size → IsCrowdedIn store.now.work (blocks_for self.now.memory.after.bytes self.now.memory.after.entries) }
+        ensures room { result ≡ false → self.now.puts ≡ true → FlushesLeave 100 (free_count store.now.work.area) (is_live store.now.state) self.now.memory.waiting self.now.memory.after }
     {
         self.puts && !(self.is_met(store) && Demand::has_spare(store))
     }
@@ -108,8 +126,31 @@ impl Demand {
 
     /// Whether it may come into the memory that is there, which is small enough still.
     pub(crate) fn joins<D: Device>(&self, store: &Store<D>) -> bool {
-        self.before.entries > 0 && is_small(standing(store).reserve(), self.after)
+        self.memory.before.entries > 0 && is_small(standing(store).reserve(), self.memory.after)
     }
+}
+
+// How large what waits for its flush is at most.
+fn waiting<D: Device>(store: &Store<D>) -> MemSize
+    ensures covers { Covers store.now.work.sealed result }
+    ensures none { store.now.work.sealed ≡ [] → result ≡ no_size }
+{
+    match store.sealed_size() {
+        Some(size) => size,
+        None => MemSize::empty(),
+    }
+}
+
+// Whether a size is within another one.
+fn is_within(size: MemSize, most: MemSize) -> bool
+    ensures { result ≡ true → IsWithin size most }
+{
+    size.entries <= most.entries
+        && size.bytes <= most.bytes
+        && size.large <= most.large
+        && size.deletes <= most.deletes
+        && size.delete_bytes <= most.delete_bytes
+        && size.largest <= most.largest
 }
 
 // Whether one of these operations puts a value.

@@ -7,13 +7,10 @@ ghost use Rattle.lsm_upkeep.specs.Lacking.{IsLacking, IsShortage};
 use crate::flushing::{MOST_RUNS, is_waiting};
 use crate::stepping::standing;
 use lsm_device::Device;
-use lsm_room::{Advice, Outputs, flush_blocks};
+use lsm_room::{Advice, Outputs, flush_outputs};
 use lsm_store::Store;
 use std::alloc::{AllocError, Global};
 use std::fmt;
-
-/// The blocks that a table has at most.
-const MOST_BLOCKS: u64 = 71;
 
 /// Blocks that are wanted, where it isn't sure that they find room, and those that there are.
 #[derive(Clone, Copy, Debug)]
@@ -96,11 +93,11 @@ fn flush_lack<D: Device>(store: &Store<D>) -> Lack
     requires { are_waiting store.now.state ≡ true }
     ensures { IsLacking store.now result }
 {
-    let wanted = match store.sealed_size() {
-        Some(memory) => flush_blocks(memory),
-        None => 0,
+    let Some(memory) = store.sealed_size() else {
+        return Lack::Flush;
     };
-    match shortage_of(store, wanted, MOST_BLOCKS) {
+    let wanted = flush_outputs(memory, store.has_snapshots());
+    match shortage_of(store, wanted.blocks, wanted.largest) {
         Some(shortage) => Lack::FlushWants(shortage),
         None => Lack::Flush,
     }

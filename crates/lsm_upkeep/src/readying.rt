@@ -1,8 +1,8 @@
 //! How far a store was made ready for a batch, for callers that do one piece of work at a time.
 
 ghost use Rattle.std.specs.Prelude.{◌≡◌, true};
-ghost use Rattle.lsm_upkeep.specs.Writing.{LacksRoom, wants_room};
-ghost use Rattle.lsm_upkeep.specs.declared.readying.Verdict.TheVariants.{Refuse};
+ghost use Rattle.lsm_upkeep.specs.Writing.{HasRoomFor, LacksRoom, wants_room};
+ghost use Rattle.lsm_upkeep.specs.declared.readying.Verdict.TheVariants.{Commit, Refuse};
 
 use crate::allowing::Allowance;
 use crate::demand::Demand;
@@ -70,6 +70,7 @@ impl AdmitState {
     pub fn next<D: Device>(&mut self, store: &Store<D>, batch: &Batch) -> Verdict
         ensures refused { result ≡ Refuse → wants_room batch.now store.now.state ≡ true }
         ensures crowded { result ≡ Refuse → LacksRoom batch.now store.now }
+        ensures room { result ≡ Commit → HasRoomFor batch.now store.now }
     {
         if store.stat().is_err() {
             return Verdict::Commit;
@@ -79,10 +80,9 @@ impl AdmitState {
         }
         match self.done {
             Done::Nothing | Done::Flush | Done::Log | Done::PushToJoin => self.with_log(
-                store,
-                Demand::of(store, batch),
+                store, batch,
             ),
-            Done::NextLog => self.with_next_log(store, Demand::of(store, batch)),
+            Done::NextLog => self.with_next_log(store, batch),
             Done::Push => behind_push(store, batch),
         }
     }
@@ -104,9 +104,11 @@ impl AdmitState {
         None
     }
 
-    fn with_log<D: Device>(&mut self, store: &Store<D>, demand: Demand) -> Verdict
-        ensures { result ≡ Refuse → ⊥ }
+    fn with_log<D: Device>(&mut self, store: &Store<D>, batch: &Batch) -> Verdict
+        ensures refused { result ≡ Refuse → ⊥ }
+        ensures room { result ≡ Commit → HasRoomFor batch.now store.now }
     {
+        let demand = Demand::of(store, batch);
         let has_log = demand.has_log(store);
         if has_log && self.allowance.admits(store, &demand) {
             return Verdict::Commit;
@@ -122,9 +124,11 @@ impl AdmitState {
         Verdict::After(Goal::NextLog { compacts: !has_log })
     }
 
-    fn with_next_log<D: Device>(&mut self, store: &Store<D>, demand: Demand) -> Verdict
-        ensures { result ≡ Refuse → ⊥ }
+    fn with_next_log<D: Device>(&mut self, store: &Store<D>, batch: &Batch) -> Verdict
+        ensures refused { result ≡ Refuse → ⊥ }
+        ensures room { result ≡ Commit → HasRoomFor batch.now store.now }
     {
+        let demand = Demand::of(store, batch);
         if demand.is_met(store) {
             return Verdict::Commit;
         }
@@ -136,6 +140,7 @@ impl AdmitState {
 fn behind_push<D: Device>(store: &Store<D>, batch: &Batch) -> Verdict
     ensures refused { result ≡ Refuse → wants_room batch.now store.now.state ≡ true }
     ensures crowded { result ≡ Refuse → LacksRoom batch.now store.now }
+    ensures room { result ≡ Commit → HasRoomFor batch.now store.now }
 {
     if Demand::of(store, batch).is_refused(store) {
         return Verdict::Refuse;

@@ -2,6 +2,7 @@
 
 ghost use Rattle.std.specs.Prelude.{◌≡◌};
 ghost use Rattle.lsm_upkeep.specs.Steps.{IsUpkept};
+ghost use Rattle.lsm_upkeep.specs.Writing.{is_live};
 
 use crate::finishing::finish_step;
 use crate::wanting::step_by;
@@ -42,6 +43,7 @@ pub enum Way {
 pub(crate) fn standing<D: Device>(store: &Store<D>) -> Standing<'_, Slots>
     ensures levels { result.levels.now ≡ store.now.work.levels }
     ensures extents { result.extents.now ≡ store.now.work.area }
+    ensures live { result.live ≡ is_live store.now.state }
 {
     Standing {
         levels: store.levels(),

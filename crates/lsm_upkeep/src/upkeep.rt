@@ -1,6 +1,8 @@
 //! What is kept beside a store between its writes.
 
+ghost use Rattle.std.specs.Prelude.{◌≡◌, true};
 ghost use Rattle.lsm_upkeep.specs.Steps.{IsUpkept};
+ghost use Rattle.lsm_upkeep.specs.Writing.{HasRoomFor};
 
 use crate::allowing::Allowance;
 use crate::compacting::compact;
@@ -9,6 +11,7 @@ use crate::merging::{do_some_pieces, finish_begun};
 use crate::piecework::PieceDone;
 use crate::stepping::{Went, step_down};
 use crate::wanting::{Wanted, wanted_by};
+use lsm_codec::Batch;
 use lsm_device::Device;
 use lsm_levels::Choice;
 use lsm_policy::Policy;
@@ -138,24 +141,29 @@ impl Upkeep {
         self.is_due = self.begun.is_some();
     }
 
-    /// Whether what is demanded is admitted, and the log has room for it. Where it isn't admitted, the merge that was begun is finished, and
-    /// it is asked again.
+    /// Whether a batch is admitted, and the log has room for it. Where it isn't admitted, the merge that was begun is finished, and it is
+    /// asked again.
     pub(crate) fn admits<D: Device>(
         &mut self,
         alloc: Global,
         store: &mut Store<D>,
-        demand: &Demand,
-        has_log: bool,
+        batch: &Batch,
     ) -> bool
-        ensures { IsUpkept store.old store.new }
+        ensures upkept { IsUpkept store.old store.new }
+        ensures room { result ≡ true → HasRoomFor batch.now store.new }
     {
-        if !has_log {
-            return false;
-        }
-        if self.allowance.admits(store, demand) {
+        if self.admits_now(store, batch) {
             return true;
         }
-        self.finish_begun(alloc, store) && self.allowance.admits(store, demand)
+        self.finish_begun(alloc, store) && self.admits_now(store, batch)
+    }
+
+    // Whether a batch is admitted as the store stands, and the log has room for it.
+    fn admits_now<D: Device>(&mut self, store: &Store<D>, batch: &Batch) -> bool
+        ensures { result ≡ true → HasRoomFor batch.now store.now }
+    {
+        let demand = Demand::of(store, batch);
+        demand.has_log(store) && self.allowance.admits(store, &demand)
     }
 
     /// Finishes all merges that are due.

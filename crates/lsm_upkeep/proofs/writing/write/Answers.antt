@@ -6,7 +6,7 @@ use Rattle.lsm_upkeep.proofs.writing.write.Goals as goal
 pub returns-in-Ok : goal.returns-in-Ok
 returns-in-Ok g c =
     writes-served (option_map (λ g. g.now) c.args.guards) c.args.batch.now c.args.store.now c.admit.new.store c.admit.ensures.upkept c.admit.ensures.ready (reply_of (λ n. Number n) c.commit.result)
-    (reply_of (λ n. Number n) c.without_log_full.result) c.commit.new.store c.commit.ensures c.without_log_full.ensures
+    (reply_of (λ n. Number n) c.without_log_full.result) c.commit.new.store c.commit.ensures c.without_log_full.ensures c.in-Ok.ensures.room
 
 pub returns-in-Err : goal.returns-in-Err
 returns-in-Err g c =
