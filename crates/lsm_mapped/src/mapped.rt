@@ -32,7 +32,7 @@ pub struct MappedDevice<'a> {
 }
 
 impl<'a> MappedDevice<'a> {
-    ghost use Rattle.std.specs.Prelude.{[], List};
+    ghost use Rattle.std.specs.Prelude.{[], List, false};
     ghost use Rattle.lsm_device.specs.Disk.{Disk};
     ghost use Rattle.lsm_mapped.specs.Devices.{past_on, records_on};
     ghost use Rattle.lsm_mapped.specs.Disks.{IsFilledWith, after_records, lasting_of, mapped};
@@ -45,6 +45,8 @@ impl<'a> MappedDevice<'a> {
         ensures size { (⟦<MappedDevice<'a> as Device>⟧.medium result).size ≡ sectors }
         ensures medium { ⟦<MappedDevice<'a> as Device>⟧.medium result ≡ mapped sectors past journal.entry.ghost_name }
         ensures records { records_on result ≡ [] }
+        ensures image { result.image ≡ image.entry }
+        ensures unwritten { result.journal.wrote ≡ false }
         ensures bytes { result.bytes.now ≡ journal.old }
     {
         MappedDevice {
@@ -99,7 +101,7 @@ fn copy(image: &[u8], at: u32, out: &mut [u8; 512]) -> bool
 }
 
 impl<'a> Device for MappedDevice<'a> {
-    ghost use Rattle.std.specs.Prelude.{◌≡◌, ◌↔◌, ◌<◌, ◌≤◌, ◌⊎◌, ◌+◌, ◌*◌, false, length, IsTrue, OnOk, OnErr, is_ok, slice_get, Some};
+    ghost use Rattle.std.specs.Prelude.{◌≡◌, ◌↔◌, ◌<◌, ◌≤◌, ◌⊎◌, ◌+◌, ◌*◌, false, true, length, IsTrue, OnOk, OnErr, is_ok, slice_get, Some};
     ghost use Rattle.lsm_device.specs.Calls.{after_read, after_write, after_sync};
     ghost use Rattle.lsm_device.specs.Disk.{seen, appended, synced};
     ghost use Rattle.lsm_device.specs.History.{Becomes};
@@ -129,8 +131,9 @@ impl<'a> Device for MappedDevice<'a> {
 
         // It answers Ok where no write was tried and the mapping has the sector.
         ensures answers { IsTrue (is_ok result) ↔ ((self.old.journal.wrote ≡ false) × (512 * at + 512 ≤ length self.old.image.now)) }
-        ensures same_journal { records_on self.new ≡ records_on self.old }
+        ensures same_journal { self.new.journal ≡ self.old.journal }
         ensures same_bytes { self.new.bytes ≡ self.old.bytes }
+        ensures same_image { self.new.image ≡ self.old.image }
     {
         let ok = !self.journal.has_write() && copy(self.image, at, out);
         self.calls.count_read(ok);
@@ -153,6 +156,10 @@ impl<'a> Device for MappedDevice<'a> {
         ensures written { OnOk result (records_on self.new ≡ with_write at bytes.now (records_on self.old)) }
         ensures refused { OnErr result (records_on self.new ≡ records_on self.old) }
         ensures same_room { length self.new.bytes.now ≡ length self.old.bytes.now }
+        ensures same_image { self.new.image ≡ self.old.image }
+
+        // That a write was tried is kept, and no read is answered then.
+        ensures tried { self.new.journal.wrote ≡ true }
     {
         let ok = self.journal.write(self.bytes, at, bytes);
         self.calls.count_write(ok);
@@ -171,6 +178,8 @@ impl<'a> Device for MappedDevice<'a> {
         ensures recorded { OnOk result (records_on self.new ≡ with_sync (records_on self.old)) }
         ensures refused { OnErr result (records_on self.new ≡ records_on self.old) }
         ensures same_room { length self.new.bytes.now ≡ length self.old.bytes.now }
+        ensures same_image { self.new.image ≡ self.old.image }
+        ensures same_wrote { self.new.journal.wrote ≡ self.old.journal.wrote }
     {
         let ok = self.journal.sync(self.bytes);
         self.calls.count_sync(ok);

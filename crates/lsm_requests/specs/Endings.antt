@@ -10,6 +10,7 @@ use Rattle.lsm_language.specs.declared.fault.Fault.TheVariants.{Refused, Failed,
 use Rattle.lsm_language.specs.Faults.{failed_lines, refusal_line, unopened_lines, reason_of, status_of}
 use Rattle.lsm_upkeep.specs.Lacking.{lack_text}
 use Rattle.lsm_upkeep.specs.declared.lacking.Lack.{Lack}
+use Rattle.lsm_upkeep.specs.declared.lacking.Lack.TheVariants.{FlushWants, StepWants}
 use Rattle.lsm_requests.specs.Answers.{lines_of}
 
 -- the exit status of an answer: 1 where a check or an exploration found something wrong, a tally is bad, or a store is not compacted to the
@@ -40,9 +41,15 @@ IsReported (Failed failure) old new = Appends old new (failed_lines failure)
 IsReported (Unopened cause) old new = Appends old new (unopened_lines cause)
 IsReported _ old new = Unit {0}
 
--- what a store lacks that is not compacted to the end, in one line
+-- what helps where blocks lack
+abbrev pub remedy : Lack → List ℕ
+remedy (FlushWants shortage) = codes "; dump and load move its rows into a larger file"
+remedy (StepWants shortage) = codes "; dump and load move its rows into a larger file"
+remedy other = []
+
+-- what a store lacks that is not compacted to the end, and what helps, in one line
 abbrev pub lack_line : Lack → List ℕ
-lack_line lack = codes "error: not compacted to the end: " ++ (lack_text lack ++ 10 ∷ [])
+lack_line lack = codes "error: not compacted to the end: " ++ (lack_text lack ++ (remedy lack ++ 10 ∷ []))
 
 -- the errors are what the answer says of it, or stay as they are
 abbrev pub TellsLack : Output → Option (List ℕ) → Option (List ℕ) → Type 0

@@ -103,7 +103,15 @@ fn tell_lack_in<E: Write>(errors: &mut E, output: &Output) -> io::Result<()>
 fn tell_lack<E: Write>(errors: &mut E, lack: &Lack) -> io::Result<()>
     ensures { OnOk result (Appends (E.contents errors.old) (E.contents errors.new) (lack_line lack.now)) }
 {
-    writeln!(errors, "error: not compacted to the end: {lack}")?;
+    match lack {
+        Lack::FlushWants(_) | Lack::StepWants(_) => writeln!(
+            errors,
+            "error: not compacted to the end: {lack}; dump and load move its rows into a larger file"
+        )?,
+        Lack::Flush | Lack::Step | Lack::Memory => {
+            writeln!(errors, "error: not compacted to the end: {lack}")?
+        }
+    }
     errors.flush()?;
     Ok(())
 }

@@ -1,6 +1,5 @@
 use Rattle.std.proofs.Common.{[], List, refl, ap, sym, subst, arith}
 use Rattle.std.proofs.lemmas.List.Elements.{All-nil}
-use Rattle.lsm_device.specs.Calls.{no_calls}
 use Rattle.lsm_device.specs.Disk.{Disk}
 use Rattle.lsm_mapped.specs.Disks.{IsPast, IsWithin, after_records, mapped}
 use Rattle.lsm_mapped.specs.Records.{IsWhole, front, last, records_from, records_of, text_of, writes_in}
