@@ -1,9 +1,9 @@
 //! How a run of the program ends: what is printed, and the exit status.
 
-ghost use Rattle.std.specs.Prelude.{◌≡◌, ◌≤◌, OnOk};
+ghost use Rattle.std.specs.Prelude.{◌≡◌, ◌≤◌, OnOk, []};
 ghost use Rattle.std.specs.Io.KnownBytes.{Appends};
 ghost use Rattle.lsm_requests.specs.Answers.{lines_of};
-ghost use Rattle.lsm_requests.specs.Endings.{Concludes, IsReported, TellsLack, answer_status, lack_line, status_after};
+ghost use Rattle.lsm_requests.specs.Endings.{Concludes, IsReported, TellsLack, answer_status, lack_line, status_after, told_lack, wanting};
 
 use crate::answer::{Answer, Output};
 use lsm_device::Refusal;
@@ -104,14 +104,30 @@ fn tell_lack<E: Write>(errors: &mut E, lack: &Lack) -> io::Result<()>
     ensures { OnOk result (Appends (E.contents errors.old) (E.contents errors.new) (lack_line lack.now)) }
 {
     match lack {
-        Lack::FlushWants(_) | Lack::StepWants(_) => writeln!(
-            errors,
-            "error: not compacted to the end: {lack}; dump and load move its rows into a larger file"
-        )?,
-        Lack::Flush | Lack::Step | Lack::Memory => {
-            writeln!(errors, "error: not compacted to the end: {lack}")?
-        }
+        Lack::FlushWants(_) => tell_want(errors, lack),
+        Lack::StepWants(_) => tell_want(errors, lack),
+        Lack::Flush => tell_other(errors, lack),
+        Lack::Step => tell_other(errors, lack),
+        Lack::Memory => tell_other(errors, lack),
     }
+}
+
+// Tells that blocks are lacking, and what helps then.
+fn tell_want<E: Write>(errors: &mut E, lack: &Lack) -> io::Result<()>
+    ensures { OnOk result (Appends (E.contents errors.old) (E.contents errors.new) (told_lack lack.now wanting)) }
+{
+    writeln!(
+        errors,
+        "error: not compacted to the end: {lack}; dump and load move its rows into a larger file"
+    )?;
+    errors.flush()?;
+    Ok(())
+}
+
+fn tell_other<E: Write>(errors: &mut E, lack: &Lack) -> io::Result<()>
+    ensures { OnOk result (Appends (E.contents errors.old) (E.contents errors.new) (told_lack lack.now [])) }
+{
+    writeln!(errors, "error: not compacted to the end: {lack}")?;
     errors.flush()?;
     Ok(())
 }
