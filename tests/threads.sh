@@ -1,5 +1,5 @@
 #!/usr/bin/env bash
-# Counts the threads that a merge starts, and looks that the caller merges where none can be started.
+# Counts the threads that a merge starts, also one of a worker, and looks that the caller merges where none can be started.
 #
 #     tests/threads.sh PROGRAM
 #
@@ -38,4 +38,15 @@ for parts in 1 2 3 4 5 6 7 8; do
     merge "$parts" -e inject=clone,clone3:error=EAGAIN
     [ "$asked $started" = "$((parts - 1)) 0" ] || fail "of $asked threads $started start"
 done
+
+# A storm of one client, which rotates once: its worker flushes that, and builds the result in four parts.
+storm() {
+    strace -f -qq -o trace -e trace=clone,clone3 "$program" storm 1 100 "$1" >out 2>err || fail "it ends with $?: $(cat err)"
+    grep -Ec 'clone3?\(' trace || true
+}
+what='a storm'
+without=$(storm 0)
+with=$(storm 1)
+[ "$((with - without))" -eq 4 ] || fail "its worker is a thread more, and starts $((with - without - 1)) for the parts"
+
 echo "threads.sh: a merge starts a thread for each part but one, and is done where none starts"
