@@ -45,14 +45,17 @@ IsReported _ old new = Unit {0}
 abbrev pub wanting : List ℕ
 wanting = codes "; dump and load move its rows into a larger file"
 
+abbrev pub remedy : Lack → List ℕ
+remedy (FlushWants shortage) = wanting
+remedy (StepWants shortage) = wanting
+remedy other = []
+
 -- what a store lacks that is not compacted to the end, and what helps, in one line
 abbrev pub told_lack : Lack → List ℕ → List ℕ
 told_lack lack help = codes "error: not compacted to the end: " ++ (lack_text lack ++ (help ++ 10 ∷ []))
 
 abbrev pub lack_line : Lack → List ℕ
-lack_line (FlushWants shortage) = told_lack (FlushWants shortage) wanting
-lack_line (StepWants shortage) = told_lack (StepWants shortage) wanting
-lack_line other = told_lack other []
+lack_line lack = told_lack lack (remedy lack)
 
 -- the errors are what the answer says of it, or stay as they are
 abbrev pub TellsLack : Output → Option (List ℕ) → Option (List ℕ) → Type 0
