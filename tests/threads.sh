@@ -39,14 +39,18 @@ for parts in 1 2 3 4 5 6 7 8; do
     [ "$asked $started" = "$((parts - 1)) 0" ] || fail "of $asked threads $started start"
 done
 
-# A storm of one client, which rotates once: its worker flushes that, and builds the result in four parts.
+# A storm of one client, which rotates once: its worker flushes that, and builds the result in four parts. Where the client has to wait
+# for a processor, the worker may take all of its turns before that, and the storm is tried again.
 storm() {
-    strace -f -qq -o trace -e trace=clone,clone3 "$program" storm 1 100 "$1" >out 2>err || fail "it ends with $?: $(cat err)"
+    strace -f -qq -o trace -e trace=clone,clone3 "$program" storm 1 16 "$1" >out 2>err || fail "it ends with $?: $(cat err)"
     grep -Ec 'clone3?\(' trace || true
 }
 what='a storm'
 without=$(storm 0)
-with=$(storm 1)
-[ "$((with - without))" -eq 4 ] || fail "its worker is a thread more, and starts $((with - without - 1)) for the parts"
+for ((try = 1; try <= 20; try++)); do
+    more=$(($(storm 1) - without))
+    [ "$more" -eq 1 ] || break
+done
+[ "$more" -eq 4 ] || fail "its worker is a thread more, and starts $((more - 1)) for the parts"
 
 echo "threads.sh: a merge starts a thread for each part but one, and is done where none starts"
