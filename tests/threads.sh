@@ -42,7 +42,7 @@ done
 # A storm of one client, which rotates once: its worker flushes that, and builds the result in four parts. Where the client has to wait
 # for a processor, the worker may take all of its turns before that, and the storm is tried again.
 storm() {
-    strace -f -qq -o trace -e trace=clone,clone3 "$program" storm 1 16 "$1" >out 2>err || fail "it ends with $?: $(cat err)"
+    strace -f -qq -o trace -e trace=clone,clone3 "$program" storm 1 100 "$1" >out 2>err || fail "it ends with $?: $(cat err)"
     grep -Ec 'clone3?\(' trace || true
 }
 what='a storm'
