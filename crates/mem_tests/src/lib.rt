@@ -4,6 +4,8 @@
 #[cfg(test)]
 mod pages;
 #[cfg(test)]
+mod sizes;
+#[cfg(test)]
 mod tables;
 #[cfg(test)]
 mod versions;
