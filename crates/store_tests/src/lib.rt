@@ -8,6 +8,8 @@ mod example;
 #[cfg(test)]
 mod letting_go;
 #[cfg(test)]
+mod numbers;
+#[cfg(test)]
 mod reads;
 #[cfg(test)]
 mod rewriting;

@@ -173,6 +173,19 @@ impl Subject {
         self.store.stat().expect(rt, "numbers").tables
     }
 
+    /// The entries of the memtable, those that wait for a flush, if some do, and the generation.
+    pub(crate) fn numbers(&self) -> (u64, Option<u64>, u64) {
+        let waiting = match self.store.sealed_size() {
+            Some(size) => Some(size.entries),
+            None => None,
+        };
+        (
+            self.store.memtable_size().entries,
+            waiting,
+            self.store.generation(),
+        )
+    }
+
     /// The numbers of the first and of the last table of a level from 1 to 4, of which it has one at least.
     pub(crate) fn ends<R: Abort>(&self, rt: &R, level: usize) -> (u64, u64) {
         let run = self.store.levels().deeper().get(level.wrapping_sub(1));
