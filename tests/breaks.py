@@ -5,8 +5,9 @@
 
 REPORT is what `rt ci` or `rt must-fail` printed. Each crates/NAME/must-fail/*.edit has a line `# breaks: FUNCTION.CLAUSE, ..`, as
 `put.keeps`, where `ensures` stands for a clause without a name, and a FUNCTION alone for each of its clauses. `put.loop` is what a loop
-of it keeps, and `put.CALL` what it owes to a call. The first goal that `rt` tells of the edit has to be of one of these. What was refused
-only by a limit of the prover, or only since a name is gone, says little of a contract, and a bad edit says nothing.
+of it keeps, `put.CALL` what it owes to a call, and `put.invariant_of` the invariant of a type. The first goal that `rt` tells of the edit
+has to be of one of these. What was refused only by a limit of the prover, or only since a name is gone, says little of a contract, and a
+bad edit says nothing.
 """
 
 from __future__ import annotations
@@ -22,8 +23,8 @@ REFUSED = "refused, as it must be"
 # The goal that the prover told first, with the file of its answer: proofs/MODULE/FUNCTION/Answers.antt:LINE:COLUMN: error: `GOAL`: TEXT.
 # One without an answer is told at its line of src/.
 GOAL = re.compile(r"(?:\./)?(?P<file>(?:proofs|src)/\S+?):\d+:\d+: error(?:\[[\w-]+\])?: (?:`(?P<goal>[^`]+)`)?")
-# What a function ensures and has no answer for is told at the line of its `fn`, or at one of its body.
-NOTE = re.compile(r"note: (?P<file>src/\S+?):(?P<line>\d+):\d+: it is not proved that what the function ensures holds .*?\(`(?P<goal>[^`]+)`\)")
+# What has no answer is told at the line of the function's `fn`, or at one of its body.
+NOTE = re.compile(r"note: (?P<file>src/\S+?):(?P<line>\d+):\d+: it is not proved that .*?\(`(?P<goal>[^`]+)`\)")
 
 
 def read_report(text: str) -> dict[str, str]:
@@ -52,10 +53,17 @@ def is_of(goal: str, clause: str) -> bool:
     return not clause or goal.endswith(f"-clause-{clause}")
 
 
+def below_attributes(lines: list[str], line: int) -> int:
+    """This line, or the first below it that is no attribute: a function with attributes is told at the first of them."""
+    while line < len(lines) and lines[line - 1].lstrip().startswith("#["):
+        line += 1
+    return line
+
+
 def is_in(folder: Path, file: str, line: int, function: str) -> bool:
     """Whether this line of a file of the crate is one of a function: the last that begins there or before."""
-    lines = (folder / file).read_text(encoding="utf-8").splitlines()[:line]
-    begun = [found[1] for found in (re.search(r"\bfn (\w+)", text) for text in lines) if found]
+    lines = (folder / file).read_text(encoding="utf-8").splitlines()
+    begun = [found[1] for found in (re.search(r"\bfn (\w+)", text) for text in lines[: below_attributes(lines, line)]) if found]
     return begun[-1:] == [function]
 
 
@@ -69,7 +77,8 @@ def breaks(function: str, clause: str, reason: str, folder: Path) -> bool:
     if not found:
         return False
     if found["file"].startswith("proofs/"):
-        return Path(found["file"]).parent.name == function and bool(found["goal"]) and is_of(found["goal"], clause)
+        # A function that calls itself has its answers in +FUNCTION.
+        return Path(found["file"]).parent.name.removeprefix("+") == function and bool(found["goal"]) and is_of(found["goal"], clause)
     return is_of(found["goal"], clause) if found["goal"] else function in reason
 
 

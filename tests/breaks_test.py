@@ -49,6 +49,7 @@ class Breaks(unittest.TestCase):
         whole = "./proofs/reader/newer/Answers.antt:4:1: error: `returns-in-Ok`: the types differ"
         self.assertTrue(breaks("newer", "ensures", whole, Path()))
         self.assertFalse(breaks("newer", "newest", whole, Path()))
+        self.assertTrue(breaks("newer", "ensures", whole.replace("newer", "+newer"), Path()))
         required = "./proofs/cache/Cache/put/Answers.antt:9:1: error: `lru-put-requires-clause-keeps`: the types differ"
         self.assertFalse(breaks("put", "keeps", required, Path()) or breaks("put", "", required, Path()))
         # A lemma is no clause, and a goal that is cut off is none.
@@ -62,13 +63,20 @@ class Breaks(unittest.TestCase):
         note = "note: src/reader.rt:2:1: it is not proved that what the function ensures holds when it returns (`returns-in-One-later`); the facts"
         with tempfile.TemporaryDirectory() as room:
             (Path(room) / "src").mkdir()
-            (Path(room) / "src" / "reader.rt").write_text("// Whether.\nfn may_follow(a: u8) -> bool\n{\n    true\n}\nfn newer() {}\n")
+            (Path(room) / "src" / "reader.rt").write_text("// Whether.\nfn may_follow(a: u8) -> bool\n{\n    true\n}\n#[inline]\nfn newer() {}\n")
             self.assertTrue(breaks("may_follow", "ensures", note, Path(room)))
             self.assertFalse(breaks("newer", "ensures", note, Path(room)))
             self.assertFalse(breaks("may_follow", "later", note, Path(room)))
             # A line of its body is one of it.
             self.assertTrue(breaks("may_follow", "ensures", note.replace(":2:", ":4:"), Path(room)))
-            self.assertFalse(breaks("may_follow", "ensures", note.replace(":2:", ":6:"), Path(room)))
+            self.assertFalse(breaks("may_follow", "ensures", note.replace(":2:", ":7:"), Path(room)))
+            loop = "note: src/reader.rt:4:5: it is not proved that the invariant of the loop holds (`loop-row-preserved`); `search` gave up"
+            self.assertTrue(breaks("may_follow", "loop", loop, Path(room)))
+            self.assertFalse(breaks("may_follow", "", loop, Path(room)))
+            call = "note: src/reader.rt:4:5: it is not proved that what `lay` requires holds at this call (`lay-requires`)"
+            self.assertTrue(breaks("may_follow", "lay", call, Path(room)))
+            # An attribute is one of the function below it.
+            self.assertTrue(breaks("newer", "ensures", note.replace(":2:", ":6:"), Path(room)))
 
     def test_refusals_that_say_little(self) -> None:
         self.assertIn("a limit of the prover", self.told("limit") or "")
