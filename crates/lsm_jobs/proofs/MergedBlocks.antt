@@ -62,7 +62,7 @@ pass_part : (b : Bool) (v : Version) (some all : List Version) → IsPart some a
 pass_part true v some all part = inl (some, refl, part)
 pass_part false v some all part = inr part
 
-filter_part : (test : Version → Bool) (versions : List Version) → IsPart (filter test versions) versions
+pub filter_part : (test : Version → Bool) (versions : List Version) → IsPart (filter test versions) versions
 filter_part test [] = refl
 filter_part test (v ∷ versions) = pass_part (test v) v (filter test versions) versions (filter_part test versions)
 

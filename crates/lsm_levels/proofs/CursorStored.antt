@@ -44,7 +44,7 @@ keys_ascend : (v w : Version) → entry_order v w ≡ Less → at_most v.key w.k
 keys_ascend v w e = then_le (byte_order v.key w.key) (nat_cmp w.number v.number) e
 
 -- the versions behind one in order have no lesser key
-keys_behind : (v : Version) (vs : List Version) → AreOrdered (v ∷ vs) → AllByRecursion (λ w. at_most v.key w.key ≡ true) vs
+pub keys_behind : (v : Version) (vs : List Version) → AreOrdered (v ∷ vs) → AllByRecursion (λ w. at_most v.key w.key ≡ true) vs
 keys_behind v vs ordered = all_map (λ w e. keys_ascend v w e) vs (befores v vs ordered)
 
 tail_ordered : (v : Version) (vs : List Version) → AreOrdered (v ∷ vs) → AreOrdered vs
@@ -102,7 +102,7 @@ from_append key (v ∷ xs) ys = by (at_most key v.key) (from_append key xs ys)
 -- ---- the edges of blocks
 
 -- all of a block is below a key where its edge is
-all_below : (key : Bytes) (v : Version) (block : Block) → AreOrdered (v ∷ block) → ends_before key (last_edge v block) ≡ true → AllByRecursion (λ w. is_below w.key key ≡ true) (v ∷ block)
+pub all_below : (key : Bytes) (v : Version) (block : Block) → AreOrdered (v ∷ block) → ends_before key (last_edge v block) ≡ true → AllByRecursion (λ w. is_below w.key key ≡ true) (v ∷ block)
 all_below key v [] ordered e = (e, tt)
 all_below key v (w ∷ block) ordered e =
     let rest = all_below key w block ordered.1 e in

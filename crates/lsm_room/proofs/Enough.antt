@@ -2,6 +2,7 @@
 use Rattle.std.proofs.Common.{◌≡◌, ◌⊎◌, ℕ, zero, suc, ◌+◌, ◌-◌, ◌*◌, ◌/◌, ◌<◌, ◌≤◌, Bool, true, false, List, [], ◌∷◌, ◌++◌, length, append-nil, refl, sym, ap, subst, arith, inl, inr}
 use Rattle.std.proofs.lemmas.Bool.{cases_lt}
 use Rattle.std.specs.Prelude.{count_by, if◌then◌else◌}
+use Rattle.std.specs.Int.{div_ceil}
 use Prim.Native.Nat.{min, max}
 use Rattle.lsm_codec.specs.Keys.{Bytes}
 use Rattle.lsm_codec.specs.Versions.{Version, AreOrdered}
@@ -15,10 +16,10 @@ use Rattle.lsm_levels.specs.Tables.{Table, versions_of}
 use Rattle.lsm_levels.proofs.LevelVersions.{versions_append}
 use Rattle.lsm_jobs.proofs.MergedBlocks.{merged_blocks_law}
 use Rattle.lsm_room.specs.Outputs.{AreCuts, TakeAtMost}
-use Rattle.lsm_room.specs.Measuring.{AreEnough, AreEnoughOver, AreOfKept, Hold, HoldImages, HaveSizes, most_images, no_sizes}
+use Rattle.lsm_room.specs.Measuring.{AreEnough, AreEnoughFor, AreEnoughOver, AreOfKept, Hold, HoldImages, HaveSizes, most_images, no_sizes}
 use Rattle.lsm_room.specs.declared.bounds.Outputs.{Outputs}
 use Rattle.lsm_room.specs.declared.bounds.Sizes.{Sizes}
-use Rattle.lsm_room.proofs.Images.{AreFew, data_most, few_of_one, few_of_many, all_most, each_most}
+use Rattle.lsm_room.proofs.Images.{AreFew, data_most, few_of_one, few_of_many, all_most, each_most, one_image}
 use Rattle.lsm_room.proofs.Keeping.{one_kept, kept_few}
 use Rattle.lsm_room.proofs.KeptBlocks.{AreInputs, AreExact, few_entries, few_settled, by_bytes, by_pairs, by_count, by_each, by_entries, by_puts, some_most, lower_blocks}
 use Rattle.lsm_room.proofs.Measures.{reached}
@@ -60,6 +61,29 @@ module _ (cuts : List ℕ) (bottom : Bool) (versions : List Version) (images : L
   enough true blocks count outputs holds low c block_few entry_few =
       taken blocks count (most_images true blocks count) outputs (few_of_many kept images (few_live true c) blocks count block_few entry_few) block_few (holds low) (omega arith)
 
+  -- ---- in one image
+
+  enough_one : (live : Bool) (blocks count total : ℕ) → most_images live blocks count ≤ 1 → min blocks 64 + (div_ceil (264 * min blocks 64) 4096 + 2) ≤ total → AreCuts live cuts → block_count kept ≤ blocks → length kept ≤ count → TakeAtMost total total images
+  enough_one live blocks count total one least c block_few entry_few = one_image images blocks total are.each (few_images live c one) (omega (arith, data_most kept images are.tables, few_images live c one, block_few)) least
+    where
+      few_images : (live : Bool) → AreCuts live cuts → most_images live blocks count ≤ 1 → length images ≤ 1
+      few_images false c one = omega (arith, few_of_one kept images (few_alone (c.one refl)) blocks count block_few entry_few, one)
+      few_images true c one = omega (arith, few_of_many kept images (few_live true c) blocks count block_few entry_few, one)
+
+pub enough_for : (live : Bool) (blocks count : ℕ) (outputs : Outputs) → HoldImages live blocks count outputs → AreEnoughFor live blocks count outputs
+enough_for live blocks count outputs holds low cuts bottom versions images c are block_few entry_few = enough cuts bottom versions images are live blocks count outputs holds low c block_few entry_few
+
+-- one image, where no more can come of so many
+pub enough_for_one : (live : Bool) (blocks count : ℕ) (outputs : Outputs) → most_images live blocks count ≤ 1 → (outputs.blocks < 4294967296 → min blocks 64 + (div_ceil (264 * min blocks 64) 4096 + 2) ≤ outputs.blocks) → outputs.largest ≡ outputs.blocks
+    → AreEnoughFor live blocks count outputs
+enough_for_one live blocks count outputs one least same low cuts bottom versions images c are block_few entry_few =
+    subst (λ (n : ℕ). TakeAtMost outputs.blocks n images) (sym same) (enough_one cuts bottom versions images are live blocks count outputs.blocks one (least low) c block_few entry_few)
+
+-- so many blocks and entries are no large numbers then
+pub few_for_one : (live : Bool) (blocks count : ℕ) → most_images live blocks count ≤ 1 → (blocks < 4294967296) × (count < 18446744073709551614)
+few_for_one false blocks count one = (omega (arith, one), omega (arith, one))
+few_for_one true blocks count one = (omega (arith, one), omega (arith, one))
+
 -- what is told of few outputs is no large number
 pub few_count : (live : Bool) (blocks count : ℕ) (outputs : Outputs) → HoldImages live blocks count outputs → outputs.blocks < 4294967296 → (blocks < 4294967296) × (count < 18446744073709551614)
 few_count false blocks count outputs holds low = let hold = holds low in (omega (arith, hold.all, low), omega (arith, hold.all, low))
@@ -76,15 +100,14 @@ exact sectors from tables sizes have low =
 
 -- ---- a run alone
 
-pub alone_enough : (live : Bool) (sizes : Sizes) (outputs : Outputs) → HoldImages live (max sizes.«data» 1) sizes.entries outputs → AreEnough live sizes outputs
-alone_enough live sizes outputs holds low sectors from tables have ordered cuts bottom images c are =
-    let few = few_count live (max sizes.«data» 1) sizes.entries outputs holds low in
-    let e : AreExact sizes = exact sectors from tables sizes have (omega (arith, few.1)) in
+pub alone_enough : (live : Bool) (sizes : Sizes) (outputs : Outputs) → AreEnoughFor live (max sizes.«data» 1) sizes.entries outputs → (outputs.blocks < 4294967296 → sizes.entries < 18446744073709551614) → AreEnough live sizes outputs
+alone_enough live sizes outputs holds few low sectors from tables have ordered cuts bottom images c are =
+    let e : AreExact sizes = exact sectors from tables sizes have (omega (arith, few low)) in
     let r = reached sectors from tables no_sizes sizes have.stand have.are in
     let inputs : AreInputs sectors from [] tables no_sizes sizes = record { uppers = tt; lowers = have.stand; upper_sizes = refl; lower_sizes = have.are; upper_exact = record { entries = omega arith; blocks = omega arith; large = omega arith }; lower_exact = e } in
     let blocks_few : block_count (keep cuts bottom (versions_of tables)) ≤ max sizes.«data» 1 =
     omega (arith, merged_blocks_law.kept cuts bottom [] (versions_of tables) ordered, lower_blocks sectors from [] tables no_sizes sizes inputs) in
-    enough cuts bottom (versions_of tables) images are live (max sizes.«data» 1) sizes.entries outputs holds low c blocks_few (omega (arith, kept_few cuts bottom (versions_of tables), r.entries e.entries))
+    holds low cuts bottom (versions_of tables) images c are blocks_few (omega (arith, kept_few cuts bottom (versions_of tables), r.entries e.entries))
 
 -- ---- upper tables over a run
 

@@ -1,5 +1,5 @@
 -- What a flush makes, by the size of memory.
-use Rattle.std.proofs.Common.{◌≡◌, ℕ, ◌+◌, ◌-◌, ◌*◌, ◌/◌, ◌<◌, ◌≤◌, Bool, true, false, List, [], ◌∷◌, ◌++◌, length, refl, ap, subst, sym, inl, inr, ◌⊎◌, arith, Contains}
+use Rattle.std.proofs.Common.{◌≡◌, ℕ, ◌+◌, ◌-◌, ◌*◌, ◌/◌, ◌<◌, ◌≤◌, Bool, true, false, List, [], ◌∷◌, length, refl, ap, subst, inl, inr, ◌⊎◌, arith, Contains}
 use Rattle.std.specs.Prelude.{sum_by}
 use Rattle.std.specs.Int.{div_ceil}
 use Rattle.std.specs.List.{AllByRecursion, flat_map}
@@ -14,14 +14,14 @@ use Rattle.lsm_codec.proofs.Lists.{all_append}
 use Rattle.lsm_mem.specs.Sizes.{Covers, up_to_64_bits}
 use Rattle.lsm_mem.specs.declared.size.MemSize.{MemSize}
 use Rattle.lsm_table.specs.Division.{TableBlocks, IsTable, entries_of}
-use Rattle.lsm_table.specs.BlockCounts.{block_count, extent_blocks}
+use Rattle.lsm_table.specs.BlockCounts.{block_count}
 use Rattle.lsm_table.proofs.Adding.{block_laws}
 use Rattle.lsm_table.proofs.ByteCounts.{byte_laws}
 use Rattle.lsm_merge.specs.Keeping.{keep}
 use Rattle.lsm_merge.proofs.MapLaws.{keep_law}
-use Rattle.lsm_room.specs.Flushes.{AreFlushed, FlushTakes, FlushesLeave}
-use Rattle.lsm_room.specs.Measuring.{AreOfKept, HoldImages, Hold, most_images}
-use Rattle.lsm_room.specs.Outputs.{AreCuts, TakeAtMost}
+use Rattle.lsm_room.specs.Flushes.{FlushTakes, FlushesLeave}
+use Rattle.lsm_room.specs.Measuring.{AreOfKept, HoldImages}
+use Rattle.lsm_room.specs.Outputs.{TakeAtMost}
 use Rattle.lsm_room.specs.declared.bounds.Outputs.{Outputs}
 use Rattle.lsm_room.proofs.Enough.{enough}
 use Rattle.lsm_room.proofs.Filling.{by_number, bytes_few}

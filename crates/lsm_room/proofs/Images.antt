@@ -13,6 +13,7 @@ use Rattle.lsm_table.proofs.Borders.{data_block_laws}
 use Rattle.lsm_table.proofs.Ends.{with_key}
 use Rattle.lsm_table.proofs.Outlines.{few_blocks}
 use Rattle.lsm_table.proofs.TableCounts.{table_count_laws}
+use Rattle.lsm_room.specs.Outputs.{TakeAtMost}
 
 -- Of entries that take so many data blocks in one table there are so many images, where there are so many of a key at most.
 pub record AreFew (group : ℕ) (entries : List Version) (images : List TableBlocks) : Type 0 where
@@ -47,3 +48,11 @@ pub each_most : (images : List TableBlocks) (blocks : ℕ) → AllByRecursion Is
 each_most [] blocks each few = tt
 each_most (image ∷ images) blocks each few =
     (omega (arith, table_count_laws.one image each.0, few_blocks image each.0, few), each_most images blocks each.1 (omega (arith, few)))
+
+-- one image, or none
+pub one_image : (images : List TableBlocks) (blocks total : ℕ) → AllByRecursion IsTable images → length images ≤ 1 → data_blocks images ≤ blocks → min blocks 64 + (div_ceil (264 * min blocks 64) 4096 + 2) ≤ total → TakeAtMost total total images
+one_image [] blocks total each few few_data least = record { each = tt; all = omega arith }
+one_image (image ∷ []) blocks total each few few_data least =
+    let most = each_most (image ∷ []) blocks each few_data in
+    record { each = (omega (arith, most.0, least), tt); all = omega (arith, most.0, least) }
+one_image (image ∷ other ∷ images) blocks total each few few_data least = absurd (omega (arith, few))

@@ -8,6 +8,7 @@ pub mod Inputs
 pub mod Keeping
 pub mod Making
 pub mod Measures
+pub mod Parts
 pub mod Raising
 pub mod Rooms
 pub mod TrialGaps

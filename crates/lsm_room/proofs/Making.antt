@@ -1,6 +1,7 @@
 -- What a merge makes takes its outputs at most.
 use Rattle.std.proofs.Common.{◌≡◌, ◌⊎◌, ℕ, zero, suc, ◌<◌, ◌≤◌, Bool, true, false, not, ◌&&◌, List, [], ◌∷◌, ◌++◌, length, slice_index_or, Option, Some, None, append-nil, refl, sym, ap, subst, ◌∙◌, arith, inl, inr}
 use Rattle.std.specs.List.{AllByRecursion}
+use Rattle.lsm_codec.specs.Keys.{Bytes}
 use Rattle.lsm_codec.specs.Versions.{AreOrdered}
 use Rattle.lsm_codec.proofs.Lists.{all_left, all_right, all_map}
 use Rattle.lsm_levels.specs.Tables.{Table, KeyRange, IsRun, hull, meeting, meets, versions_of}
@@ -16,7 +17,7 @@ use Rattle.lsm_levels.specs.Pick.{Job, Merge, is_bottom, is_flush}
 use Rattle.lsm_levels.proofs.Runs.{run_at, run_filter, table_order, upper_there}
 use Rattle.lsm_levels.proofs.RunOrders.{run_ordered}
 use Rattle.lsm_room.specs.Outputs.{StandsDivided, MakesAtMost, FindsRoom, TakeAtMost}
-use Rattle.lsm_room.specs.Measuring.{IsRaised, AreRaised, AreSizes, AreEnough, AreEnoughOver, AreMerged, AreOfKept, HaveSizes, no_sizes}
+use Rattle.lsm_room.specs.Measuring.{IsRaised, AreRaised, AreSizes, AreEnough, AreEnoughAt, AreEnoughOver, AreMerged, AreOfKept, HaveSizes, no_sizes}
 use Rattle.lsm_room.specs.declared.bounds.Outputs.{Outputs}
 use Rattle.lsm_room.specs.declared.bounds.Sizes.{Sizes}
 use Rattle.lsm_room.proofs.Measures.{reached, some_blocks}
@@ -36,7 +37,7 @@ drops_both true bottom is = absurd (let clash : false ≡ true = is in cc)
 
 -- a merge of upper tables with those below
 pub merge_takes : (levels : Levels) (live : Bool) (i : ℕ) (uppers lowers : List Table) (drops bottom : Bool) (outputs : Outputs) → drops ≡ (not live && is_bottom levels (Merge i uppers lowers)) → AreMerged live drops uppers lowers outputs
-    → HasItsTables levels bottom i uppers lowers → outputs.blocks < 4294967296 → MakesAtMost levels live (Merge i uppers lowers) outputs.blocks outputs.largest
+    → HasItsTables levels bottom i uppers lowers → outputs.blocks < 4294967296 → MakesAtMost levels live (Merge i uppers lowers) [] outputs.blocks outputs.largest
 merge_takes levels live i uppers lowers drops bottom outputs drops_is are held low sectors from cuts images stand c made =
     by are.enough
   where
@@ -60,26 +61,26 @@ merge_takes levels live i uppers lowers drops bottom outputs drops_is are held l
 
 -- a rewrite
 pub rewrite_takes : (levels : Levels) (live : Bool) (i : ℕ) (tables : List Table) (sizes : Sizes) (bottom : Bool) (outputs : Outputs) → AreSizes tables sizes → AreEnough live sizes outputs → HasItsTables levels bottom i [] tables
-    → outputs.blocks < 4294967296 → MakesAtMost levels live (Merge i [] tables) outputs.blocks outputs.largest
+    → outputs.blocks < 4294967296 → MakesAtMost levels live (Merge i [] tables) [] outputs.blocks outputs.largest
 rewrite_takes levels live i tables sizes bottom outputs are enough held low sectors from cuts images stand c made =
     enough low sectors from tables (record { stand = stand; are = are }) (in_order sectors from tables held.lower_run stand) cuts (is_bottom levels (Merge i [] tables)) images c (record { tables = made.tables; each = made.each })
 
 -- the same of a job that is one
 pub merge_makes : (levels : Levels) (live : Bool) (job : Job) (i : ℕ) (uppers lowers : List Table) (drops : Bool) (outputs : Outputs) → job ≡ Merge i uppers lowers → drops ≡ (not live && is_bottom levels job)
     → (HasItsTables levels (is_bottom levels (Merge i uppers lowers)) i uppers lowers → AreMerged live drops uppers lowers outputs)
-    → outputs.blocks < 4294967296 → IsHeld levels (is_bottom levels job) job → is_flush job ≡ false → MakesAtMost levels live job outputs.blocks outputs.largest
+    → outputs.blocks < 4294967296 → IsHeld levels (is_bottom levels job) job → is_flush job ≡ false → MakesAtMost levels live job [] outputs.blocks outputs.largest
 merge_makes levels live job i uppers lowers drops outputs is drops_is are =
     subst
-    (λ (j : Job). drops ≡ (not live && is_bottom levels j) → outputs.blocks < 4294967296 → IsHeld levels (is_bottom levels j) j → is_flush j ≡ false → MakesAtMost levels live j outputs.blocks outputs.largest)
+    (λ (j : Job). drops ≡ (not live && is_bottom levels j) → outputs.blocks < 4294967296 → IsHeld levels (is_bottom levels j) j → is_flush j ≡ false → MakesAtMost levels live j [] outputs.blocks outputs.largest)
     (sym is)
     (λ d low held none. merge_takes levels live i uppers lowers drops (is_bottom levels (Merge i uppers lowers)) outputs d (are held) held low)
     drops_is
 
 pub rewrite_makes : (levels : Levels) (live : Bool) (job : Job) (i : ℕ) (tables : List Table) (sizes : Sizes) (outputs : Outputs) → job ≡ Merge i [] tables → AreSizes tables sizes → AreEnough live sizes outputs
-    → outputs.blocks < 4294967296 → IsHeld levels (is_bottom levels job) job → is_flush job ≡ false → MakesAtMost levels live job outputs.blocks outputs.largest
+    → outputs.blocks < 4294967296 → IsHeld levels (is_bottom levels job) job → is_flush job ≡ false → MakesAtMost levels live job [] outputs.blocks outputs.largest
 rewrite_makes levels live job i tables sizes outputs is are enough =
     subst
-    (λ (j : Job). outputs.blocks < 4294967296 → IsHeld levels (is_bottom levels j) j → is_flush j ≡ false → MakesAtMost levels live j outputs.blocks outputs.largest)
+    (λ (j : Job). outputs.blocks < 4294967296 → IsHeld levels (is_bottom levels j) j → is_flush j ≡ false → MakesAtMost levels live j [] outputs.blocks outputs.largest)
     (sym is)
     (λ low held none. rewrite_takes levels live i tables sizes (is_bottom levels (Merge i [] tables)) outputs are enough held low)
 
@@ -118,19 +119,40 @@ all_one [] run some few is one = absurd (omega (arith, some))
 all_one (first ∷ []) run some few is one = subst IsRun (is ∙ sym (append-nil first)) one
 all_one (first ∷ second ∷ rest) run some few is one = absurd (omega (arith, few))
 
+-- ---- a table that is cut
+
+pub no_keys : (keys : List Bytes) → length keys < 1 → keys ≡ []
+no_keys [] few = refl
+no_keys (key ∷ keys) few = absurd (omega (arith, few))
+
+pub one_key : (keys : List Bytes) (key : Bytes) → 1 ≤ length keys → length keys < 2 → key ≡ slice_index_or keys 0 key → keys ≡ key ∷ []
+one_key [] key some few is = absurd (omega (arith, some))
+one_key (first ∷ []) key some few is = ap (λ (k : Bytes). k ∷ []) (sym is)
+one_key (first ∷ second ∷ keys) key some few is = absurd (omega (arith, few))
+
+-- a rewrite of it
+pub cut_makes : (levels : Levels) (live : Bool) (job : Job) (i : ℕ) (t : Table) (keys : List Bytes) (key : Bytes) (outputs : Outputs) → job ≡ Merge i [] (t ∷ []) → keys ≡ key ∷ [] → AreEnoughAt live key t outputs
+    → outputs.blocks < 4294967296 → MakesAtMost levels live job keys outputs.blocks outputs.largest
+cut_makes levels live job i t keys key outputs is keys_are enough low =
+    subst (λ (j : Job). MakesAtMost levels live j keys outputs.blocks outputs.largest) (sym is)
+    (subst (λ (ks : List Bytes). MakesAtMost levels live (Merge i [] (t ∷ [])) ks outputs.blocks outputs.largest) (sym keys_are)
+    (λ sectors from cuts images stand c made. enough low sectors from stand.0 cuts (is_bottom levels (Merge i [] (t ∷ []))) images c made.tables made.each))
+
 -- ---- room
 
 -- so it finds room
-pub finds_room : (area : Area) (levels : Levels) (live : Bool) (job : Job) (outputs : Outputs) → SurelyFit area outputs.blocks outputs.largest → MakesAtMost levels live job outputs.blocks outputs.largest → FindsRoom area levels live job
-finds_room area levels live job outputs fit makes sectors from cuts images stand c made =
+pub finds_room : (area : Area) (levels : Levels) (live : Bool) (job : Job) (keys : List Bytes) (outputs : Outputs) → SurelyFit area outputs.blocks outputs.largest → MakesAtMost levels live job keys outputs.blocks outputs.largest
+    → FindsRoom area levels live job keys
+finds_room area levels live job keys outputs fit makes sectors from cuts images stand c made =
     let most = makes sectors from cuts images stand c made in
     record { total = outputs.blocks; largest = outputs.largest; fit = fit; each = most.each; all = most.all }
 
 -- what is chosen does, where it is placed
-pub chosen_finds_room : (area : Area) (levels : Levels) (live : Bool) (jobs : List Job) (choice : Choice) (pick : Job) (outputs : Outputs) → AreRuns levels → Some pick ≡ chosen levels jobs choice
-    → (outputs.blocks < 4294967296 → IsHeld levels (is_bottom levels pick) pick → is_flush pick ≡ false → MakesAtMost levels live pick outputs.blocks outputs.largest)
-    → outputs.blocks < 4294967296 → SurelyFit area outputs.blocks outputs.largest → (job : Job) → chosen levels jobs choice ≡ Some job → FindsRoom area levels live job
-chosen_finds_room area levels live jobs choice pick outputs runs is makes low fit job chosen_is =
+pub chosen_finds_room : (area : Area) (levels : Levels) (live : Bool) (jobs : List Job) (choice : Choice) (pick : Job) (keys : List Bytes) (outputs : Outputs) → AreRuns levels → Some pick ≡ chosen levels jobs choice
+    → (outputs.blocks < 4294967296 → IsHeld levels (is_bottom levels pick) pick → is_flush pick ≡ false → MakesAtMost levels live pick keys outputs.blocks outputs.largest)
+    → outputs.blocks < 4294967296 → SurelyFit area outputs.blocks outputs.largest → (job : Job) → chosen levels jobs choice ≡ Some job → FindsRoom area levels live job keys
+chosen_finds_room area levels live jobs choice pick keys outputs runs is makes low fit job chosen_is =
     let may = choice_law levels jobs choice pick runs (sym is) in
     let same : pick ≡ job = some_job pick job (is ∙ chosen_is) in
-    subst (FindsRoom area levels live) same (finds_room area levels live pick outputs fit (makes low may.held (chosen_merges levels jobs choice pick (sym is))))
+    subst (λ (j : Job). FindsRoom area levels live j keys) same
+    (finds_room area levels live pick keys outputs fit (makes low may.held (chosen_merges levels jobs choice pick (sym is))))

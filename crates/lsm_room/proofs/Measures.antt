@@ -35,10 +35,10 @@ pub record AreWithin (versions : List Version) (entries deletes blocks large lar
   pub are : AllByRecursion IsEntry versions
 
 module _ (sectors : List (List ℕ)) (from : ℕ) where
-  own_versions : (t : Table) → (s : StandsDivided sectors from t) → t.versions ≡ entries_of s.stored.blocks
+  pub own_versions : (t : Table) → (s : StandsDivided sectors from t) → t.versions ≡ entries_of s.stored.blocks
   own_versions t s = ap (λ (u : Table). u.versions) s.stored.told
 
-  own_blocks : (t : Table) → (s : StandsDivided sectors from t) → length t.outline.edges ≡ length s.stored.blocks
+  pub own_blocks : (t : Table) → (s : StandsDivided sectors from t) → length t.outline.edges ≡ length s.stored.blocks
   own_blocks t s = ap (λ (u : Table). length u.outline.edges) s.stored.told ∙ edge_count s.stored.blocks s.divided
 
   large_by : (t : Table) (most : ℕ) (b : Bool) → ltb 2047 most ≡ b → large_in t.versions ≤ min (t.outline.entries - t.deletes) (length t.outline.edges) → (most ≤ 2047 → large_in t.versions ≡ 0)

@@ -4,7 +4,10 @@ use Rattle.std.specs.List.{AllByRecursion}
 use Rattle.std.specs.Int.{div_ceil}
 use Prim.Native.Nat.{min, max}
 use Rattle.lsm_codec.specs.Versions.{Version, AreOrdered}
+use Rattle.lsm_table.specs.BlockCounts.{block_count}
 use Rattle.lsm_table.specs.Division.{TableBlocks, IsTable, IsTables}
+use Rattle.lsm_codec.specs.Keys.{Bytes}
+use Rattle.lsm_merge.specs.Divisions.{AreTablesAt}
 use Rattle.lsm_merge.specs.Keeping.{keep}
 use Rattle.lsm_levels.specs.Tables.{Table, IsRun, versions_of}
 use Rattle.lsm_levels.specs.Sizes.{AreAtMost}
@@ -72,6 +75,11 @@ pub record AreOfKept (cuts : List ℕ) (bottom : Bool) (versions : List Version)
   pub tables : IsTables (keep cuts bottom versions) images
   pub each : AllByRecursion IsTable images
 
+-- Outputs are enough for what a merge makes that keeps entries of so many data blocks in one table, and no more entries than so many.
+abbrev pub AreEnoughFor : Bool → ℕ → ℕ → Outputs → Type 0
+AreEnoughFor live blocks entries outputs = outputs.blocks < 4294967296 → (cuts : List ℕ) (bottom : Bool) (versions : List Version) (images : List TableBlocks) → AreCuts live cuts → AreOfKept cuts bottom versions images
+    → block_count (keep cuts bottom versions) ≤ blocks → length (keep cuts bottom versions) ≤ entries → TakeAtMost outputs.blocks outputs.largest images
+
 -- Outputs are enough for what a merge makes of a run with these sizes.
 abbrev pub AreEnough : Bool → Sizes → Outputs → Type 0
 AreEnough live sizes outputs = outputs.blocks < 4294967296 → (sectors : List (List ℕ)) (from : ℕ) (tables : List Table) → HaveSizes sectors from tables sizes → AreOrdered (versions_of tables)
@@ -92,3 +100,14 @@ pub record AreMerged (live drops : Bool) (uppers lowers : List Table) (outputs :
   pub upper_sizes : AreSizes uppers upper
   pub lower_sizes : AreSizes lowers lower
   pub enough : AreEnoughOver live drops upper lower outputs ⊎ ((lower.«data» ≡ 0) × (AreEnough live upper outputs × IsRun uppers))
+
+-- Outputs are enough for what a rewrite makes of one table that is cut at a key.
+abbrev pub AreEnoughAt : Bool → Bytes → Table → Outputs → Type 0
+AreEnoughAt live key t outputs = outputs.blocks < 4294967296 → (sectors : List (List ℕ)) (from : ℕ) → StandsDivided sectors from t
+    → (cuts : List ℕ) (bottom : Bool) (images : List TableBlocks) → AreCuts live cuts → AreTablesAt (key ∷ []) (keep cuts bottom (versions_of (t ∷ []))) images → AllByRecursion IsTable images
+    → TakeAtMost outputs.blocks outputs.largest images
+
+-- outputs are those of two others beside each other, where they are no large number
+pub record AreBeside (first second both : Outputs) : Type 0 where
+  pub all : first.blocks + second.blocks ≤ both.blocks
+  pub each : (first.largest ≤ both.largest) × (second.largest ≤ both.largest)

@@ -2,9 +2,11 @@
 use Rattle.std.specs.Prelude.{◌≡◌, ℕ, ◌≤◌, Bool, false, List, length}
 use Rattle.std.specs.List.{AllByRecursion}
 use Rattle.lsm_extent.specs.Area.{Area}
-use Rattle.lsm_table.specs.Division.{TableBlocks, IsTable, IsTables}
+use Rattle.lsm_table.specs.Division.{TableBlocks, IsTable}
 use Rattle.lsm_table.specs.Extents.{extent_size}
 use Rattle.lsm_table.specs.BlockCounts.{extent_blocks}
+use Rattle.lsm_codec.specs.Keys.{Bytes}
+use Rattle.lsm_merge.specs.Divisions.{AreTablesAt}
 use Rattle.lsm_merge.specs.Inputs.{IsCuts}
 use Rattle.lsm_merge.specs.Keeping.{keep}
 use Rattle.lsm_levels.specs.Tables.{Table, versions_of}
@@ -23,9 +25,9 @@ pub record AreCuts (live : Bool) (cuts : List ℕ) : Type 0 where
   pub are : IsCuts cuts
   pub one : live ≡ false → length cuts ≡ 1
 
--- Images are those of what a merge keeps of its inputs, undivided.
-pub record AreImages (levels : Levels) (job : Job) (cuts : List ℕ) (images : List TableBlocks) : Type 0 where
-  pub tables : IsTables (keep cuts (is_bottom levels job) (versions_of (inputs job))) images
+-- Images are those of what a merge keeps of its inputs, divided at keys.
+pub record AreImages (levels : Levels) (job : Job) (keys : List Bytes) (cuts : List ℕ) (images : List TableBlocks) : Type 0 where
+  pub tables : AreTablesAt keys (keep cuts (is_bottom levels job) (versions_of (inputs job))) images
   pub each : AllByRecursion IsTable images
 
 -- Of images each has so many blocks at most, and all together so many.
@@ -34,11 +36,11 @@ pub record TakeAtMost (total largest : ℕ) (images : List TableBlocks) : Type 0
   pub all : extent_blocks images ≤ total
 
 -- So it is of the images that a merge makes, whatever entries its inputs have.
-abbrev pub MakesAtMost : Levels → Bool → Job → ℕ → ℕ → Type 0
-MakesAtMost levels live job total largest = (sectors : List (List ℕ)) (from : ℕ) (cuts : List ℕ) (images : List TableBlocks)
-    → AllByRecursion (StandsDivided sectors from) (inputs job) → AreCuts live cuts → AreImages levels job cuts images → TakeAtMost total largest images
+abbrev pub MakesAtMost : Levels → Bool → Job → List Bytes → ℕ → ℕ → Type 0
+MakesAtMost levels live job keys total largest = (sectors : List (List ℕ)) (from : ℕ) (cuts : List ℕ) (images : List TableBlocks)
+    → AllByRecursion (StandsDivided sectors from) (inputs job) → AreCuts live cuts → AreImages levels job keys cuts images → TakeAtMost total largest images
 
 -- They find room in an area, each at the lowest fit.
-abbrev pub FindsRoom : Area → Levels → Bool → Job → Type 0
-FindsRoom area levels live job = (sectors : List (List ℕ)) (from : ℕ) (cuts : List ℕ) (images : List TableBlocks)
-    → AllByRecursion (StandsDivided sectors from) (inputs job) → AreCuts live cuts → AreImages levels job cuts images → HaveSureRoom area images
+abbrev pub FindsRoom : Area → Levels → Bool → Job → List Bytes → Type 0
+FindsRoom area levels live job keys = (sectors : List (List ℕ)) (from : ℕ) (cuts : List ℕ) (images : List TableBlocks)
+    → AllByRecursion (StandsDivided sectors from) (inputs job) → AreCuts live cuts → AreImages levels job keys cuts images → HaveSureRoom area images

@@ -9,7 +9,7 @@ use Rattle.lsm_extent.specs.Area.{Area}
 use Rattle.lsm_room.specs.Outputs.{FindsRoom}
 use Rattle.lsm_room.specs.declared.stepping.Step.{Step}
 use Rattle.lsm_room.specs.declared.stepping.Advice.{Advice}
-use Rattle.lsm_room.specs.declared.stepping.Advice.TheVariants.{Nothing, Take, Lacks}
+use Rattle.lsm_room.specs.declared.stepping.Advice.TheVariants.{Nothing, Take, Try, Lacks}
 
 -- whether a choice is one that may be taken
 abbrev pub may_take : Levels → List Job → Choice → Bool
@@ -19,6 +19,7 @@ may_take levels jobs choice = is_some (chosen levels jobs choice)
 abbrev pub MayFollow : {A : Type 0} → Levels → List Job → Advice A → Type 0
 MayFollow levels jobs Nothing = Unit {0}
 MayFollow levels jobs (Take step) = may_take levels jobs step.choice ≡ true
+MayFollow levels jobs (Try step) = may_take levels jobs step.choice ≡ true
 MayFollow levels jobs (Lacks choice wanted) = Unit {0}
 
 -- whether a choice brings tables into the next level
@@ -27,13 +28,14 @@ goes_down (choice.OldestRuns count) = true
 goes_down (choice.Tables first last) = true
 goes_down (choice.Rewrite first last) = false
 
--- A step that brings tables down is undivided, and what it makes finds room.
+-- What a step makes finds room, divided as it is; one that brings tables down is undivided.
 pub record IsPlaced {A : Type 0} (area : Area) (levels : Levels) (live : Bool) (jobs : List Job) (step : Step A) : Type 0 where
   pub whole : goes_down step.choice ≡ true → step.divisions.items ≡ []
-  pub room : goes_down step.choice ≡ true → (job : Job) → chosen levels jobs step.choice ≡ Some job → FindsRoom area levels live job
+  pub room : (job : Job) → chosen levels jobs step.choice ≡ Some job → FindsRoom area levels live job step.divisions.items
 
--- So it is of one that is advised.
+-- So it is of one that is to be taken. What is only to be tried brings no table down.
 abbrev pub AdvisesRoom : {A : Type 0} → Area → Levels → Bool → List Job → Advice A → Type 0
 AdvisesRoom area levels live jobs Nothing = Unit {0}
 AdvisesRoom area levels live jobs (Take step) = IsPlaced area levels live jobs step
+AdvisesRoom area levels live jobs (Try step) = goes_down step.choice ≡ false
 AdvisesRoom area levels live jobs (Lacks choice wanted) = Unit {0}

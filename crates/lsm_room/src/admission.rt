@@ -1,6 +1,6 @@
 //! Whether a batch may be taken: what it makes of its keys will find room, in a flush and in the last level.
 
-ghost use Rattle.std.specs.Prelude.{◌≡◌, ◌≤◌, ◌<◌, ◌+◌, ◌*◌, ◌/◌, true, false};
+ghost use Rattle.std.specs.Prelude.{◌≡◌, ◌≤◌, ◌<◌, ◌+◌, ◌*◌, ◌/◌, min, true, false};
 ghost use Rattle.std.specs.Int.{div_ceil};
 ghost use Rattle.lsm_extent.specs.Area.{free_count};
 ghost use Rattle.lsm_levels.specs.Moving.{table_count};
@@ -171,11 +171,6 @@ fn charge_of(memory: MemSize) -> u64 {
         .saturating_add(memory.large)
 }
 
-// Whether memory is small enough for its deletes, and so that more may come into it.
-fn may_join(reserve: Reserve, memory: MemSize) -> bool {
-    delete_blocks(memory) <= DELETE_BLOCKS && is_small(reserve, memory)
-}
-
 /// Whether memory is small enough that more may come into it, where there is some.
 pub fn is_small(reserve: Reserve, memory: MemSize) -> bool {
     delete_blocks(memory) <= reserve.deletes() && flush_blocks(memory) <= reserve.flush()
@@ -190,7 +185,8 @@ impl<'a, H: HeldJobs, A: Allocator> Standing<'a, H, A> {
     }
 
     /// Whether the memtable may become so much: its flush will find room, that of what waits will too, and so will what they make of the
-    /// last level. Of deletes alone less is asked. Where nothing was there, puts are taken unless the store is crowded.
+    /// last level. Of deletes alone less is asked, and more of them are taken where puts find room too. Where nothing was there, puts are
+    /// taken unless the store is crowded.
     pub fn admits(&self, memory: InMemory, puts: bool) -> bool
         ensures crowded { result ≡ false → memory.before.entries ≡ 0 → memory.waiting ≡ no_size → puts ≡ true → IsCrowded (taken_blocks self.now.levels.now) (free_count self.now.extents.now) (table_count self.now.levels.now) (blocks_for memory.after.bytes memory.after.entries) }
 
@@ -200,12 +196,25 @@ impl<'a, H: HeldJobs, A: Allocator> Standing<'a, H, A> {
         let after = counted(memory.after, self.live);
         let taken = self.taken();
         let reserve = Reserve::of(taken.saturating_add(self.free()));
-        if memory.before.entries > 0 && !may_join(reserve, after) {
+        if memory.before.entries > 0 && !is_small(reserve, after) {
             return false;
         }
         if !puts && charge_of(after) == 0 {
-            return self.admits_deletes(after, reserve);
+            return self.admits_deletes(after, reserve)
+                || (self.has_few_runs() && self.has_room_for(memory, taken));
         }
+        (memory.before.entries == 0 || delete_blocks(after) <= DELETE_BLOCKS)
+            && self.has_room_for(memory, taken)
+    }
+
+    // Whether memory with a batch leaves what puts leave, where all has come to the last level, and its flush what steps want.
+    fn has_room_for(&self, memory: InMemory, taken: u64) -> bool
+        requires { taken ≡ min (taken_blocks self.now.levels.now) 18446744073709551615 }
+        ensures crowded { result ≡ false → memory.waiting ≡ no_size → IsCrowded (taken_blocks self.now.levels.now) (free_count self.now.extents.now) (table_count self.now.levels.now) (blocks_for memory.after.bytes memory.after.entries) }
+        ensures room { result ≡ true → FlushesLeave 100 (free_count self.now.extents.now) self.now.live memory.waiting memory.after }
+    {
+        let after = counted(memory.after, self.live);
+        let reserve = Reserve::of(taken.saturating_add(self.free()));
         taken <= self.free().saturating_mul(2)
             && self.tables() <= TABLES_FOR_PUTS
             && self.leaves(
@@ -214,6 +223,10 @@ impl<'a, H: HeldJobs, A: Allocator> Standing<'a, H, A> {
                 reserve.for_puts(),
             )
             && self.leaves_flushes(memory, reserve)
+    }
+
+    fn has_few_runs(&self) -> bool {
+        self.levels.runs().len() < RUNS_FOR_DELETES
     }
 
     /// Whether the memtable may become as large as `most` by whatever puts and deletes: then each batch that leaves it within is admitted, as
@@ -234,7 +247,7 @@ impl<'a, H: HeldJobs, A: Allocator> Standing<'a, H, A> {
         };
         delete_blocks(deletes) <= DELETE_BLOCKS
             && is_small(self.reserve(), deletes)
-            && self.levels.runs().len() < RUNS_FOR_DELETES
+            && self.has_few_runs()
             && self.admits(all, true)
     }
 
@@ -277,7 +290,7 @@ impl<'a, H: HeldJobs, A: Allocator> Standing<'a, H, A> {
         blocks <= DELETE_BLOCKS
             && blocks.saturating_add(reserve.for_steps()) <= self.free()
             && self.tables() <= TABLES_FOR_DELETES
-            && self.levels.runs().len() < RUNS_FOR_DELETES
+            && self.has_few_runs()
     }
 
     // Whether so many blocks are left where all that stands and memory has come to the last level.

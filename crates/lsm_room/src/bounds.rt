@@ -1,6 +1,6 @@
 //! How many blocks the outputs of a merge take at most.
 
-ghost use Rattle.std.specs.Prelude.{◌≡◌, ◌≤◌, ◌<◌, ◌⊎◌, ◌+◌, ◌-◌, ◌*◌, ◌/◌, ◌&&◌, length, not, false, if◌then◌else◌};
+ghost use Rattle.std.specs.Prelude.{◌≡◌, ◌≤◌, ◌<◌, ◌⊎◌, ◌+◌, ◌-◌, ◌*◌, ◌/◌, ◌&&◌, [], length, not, false, if◌then◌else◌};
 ghost use Rattle.std.specs.Int.{div_ceil};
 ghost use Prim.Native.Nat.{min};
 ghost use Rattle.lsm_levels.specs.Levels.{all_tables};
@@ -11,7 +11,7 @@ ghost use Rattle.lsm_levels.specs.Picks.{job_of};
 ghost use Rattle.lsm_policy.specs.Room.{blocks_of as blocks_in};
 ghost use Rattle.lsm_room.specs.Flushes.{FlushTakes};
 ghost use Rattle.lsm_room.specs.Outputs.{MakesAtMost};
-ghost use Rattle.lsm_room.specs.Measuring.{AreEnough, AreEnoughOver, AreMerged, AreRaised, HoldImages, IsRaised, most_images, no_sizes};
+ghost use Rattle.lsm_room.specs.Measuring.{AreBeside, AreEnough, AreEnoughFor, AreEnoughOver, AreMerged, AreRaised, HoldImages, IsRaised, most_images, no_sizes};
 
 use lsm_levels::{Levels, Pick, PlacedTable, Run};
 use lsm_mem::MemSize;
@@ -52,6 +52,17 @@ impl Outputs {
             blocks: 0,
             largest: 0,
             tables: 0,
+        }
+    }
+
+    /// These and others beside them.
+    pub(crate) fn beside(self, others: Outputs) -> Outputs
+        ensures { result.blocks < 4294967296 → AreBeside self others result }
+    {
+        Outputs {
+            blocks: self.blocks.saturating_add(others.blocks),
+            largest: self.largest.max(others.largest),
+            tables: self.tables.saturating_add(others.tables),
         }
     }
 }
@@ -164,6 +175,7 @@ pub(crate) fn blocks_with_those<A: Allocator>(before: u64, tables: &[PlacedTable
 pub(crate) fn data_of<A: Allocator>(table: &PlacedTable<A>) -> u64
     ensures within { result ≤ table.now.blocks }
     ensures count { result ≡ length table.now.outline.edges }
+    ensures few { result ≤ 64 }
 {
     table.table().data_blocks() as u64
 }
@@ -236,6 +248,7 @@ fn images_of(data: u64, entries: u64, live: bool) -> u64
 fn outputs_with(data: u64, entries: u64, live: bool) -> Outputs
     ensures hold { HoldImages live «data» entries result }
     ensures few { result.blocks ≤ 3 * «data» + 5 * (entries / 3168) + 10 }
+    ensures number { result.tables < 4294967296 → most_images live «data» entries ≤ result.tables }
 {
     let tables = images_of(data, entries, live);
     let data = data.saturating_add(tables.saturating_sub(1));
@@ -243,6 +256,23 @@ fn outputs_with(data: u64, entries: u64, live: bool) -> Outputs
         blocks: blocks_with(data, tables),
         largest: blocks_with(data.min(MOST_DATA), 1),
         tables,
+    }
+}
+
+/// The outputs of so many data blocks and entries: where that is one image, just its data blocks, its index, its filter and its footer.
+pub(crate) fn outputs_for(data: u64, entries: u64, live: bool) -> Outputs
+    ensures enough { AreEnoughFor live «data» entries result }
+    ensures few { result.blocks < 4294967296 → («data» < 4294967296) × (entries < 18446744073709551614) }
+{
+    let outputs = outputs_with(data, entries, live);
+    if outputs.tables > 1 {
+        return outputs;
+    }
+    let blocks = blocks_with(data.min(MOST_DATA), 1).saturating_sub(1);
+    Outputs {
+        blocks,
+        largest: blocks,
+        tables: 1,
     }
 }
 
@@ -264,7 +294,7 @@ pub fn flush_outputs(memory: MemSize, live: bool) -> Outputs
 fn alone(sizes: Sizes, live: bool) -> Outputs
     ensures { AreEnough live sizes result }
 {
-    outputs_with(sizes.data.max(1), sizes.entries, live)
+    outputs_for(sizes.data.max(1), sizes.entries, live)
 }
 
 /// The outputs of a merge of a run with the run below it. Where it `drops` deletes, none of the upper ones comes into an output.
@@ -325,7 +355,7 @@ fn drops_deletes<A: Allocator>(levels: &Levels<A>, job: &Pick<'_, A>, live: bool
 
 /// The outputs of a job, undivided, where a snapshot is live or none is.
 pub(crate) fn outputs_of<A: Allocator>(levels: &Levels<A>, job: &Pick<'_, A>, live: bool) -> Outputs
-    ensures { result.blocks < 4294967296 → IsHeld levels.now (is_bottom levels.now (job_of job.now)) (job_of job.now) → is_flush (job_of job.now) ≡ false → MakesAtMost levels.now live (job_of job.now) result.blocks result.largest }
+    ensures { result.blocks < 4294967296 → IsHeld levels.now (is_bottom levels.now (job_of job.now)) (job_of job.now) → is_flush (job_of job.now) ≡ false → MakesAtMost levels.now live (job_of job.now) [] result.blocks result.largest }
 {
     let _runs = levels.runs();
     let drops = drops_deletes(levels, job, live);

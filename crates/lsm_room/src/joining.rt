@@ -1,5 +1,8 @@
 //! Neighbours that are joined.
 
+ghost use Rattle.std.specs.Prelude.{◌≡◌, false, IfSome};
+ghost use Rattle.lsm_room.specs.Taking.{goes_down};
+
 use crate::bounds::{Outputs, blocks_with, data_of};
 use crate::standing::Standing;
 use lsm_levels::{Choice, HeldJobs, PlacedTable, Run};
@@ -70,7 +73,9 @@ impl Group {
 
 /// The joining of the most neighbours that fit one table and are sure to find room, of the first level that has more than twice the tables
 /// that its entries want.
-pub(crate) fn join_of<H: HeldJobs, A: Allocator>(standing: &Standing<'_, H, A>) -> Option<Choice> {
+pub(crate) fn join_of<H: HeldJobs, A: Allocator>(standing: &Standing<'_, H, A>) -> Option<Choice>
+    ensures { IfSome result (λ choice. goes_down choice ≡ false) }
+{
     for run in standing.levels.deeper() {
         if has_many(run) {
             if let Some(choice) = widest(standing, run.tables()) {
@@ -96,7 +101,9 @@ fn has_many<A: Allocator>(run: &Run<A>) -> bool {
 fn widest<H: HeldJobs, A: Allocator>(
     standing: &Standing<'_, H, A>,
     tables: &[PlacedTable<A>],
-) -> Option<Choice> {
+) -> Option<Choice>
+    ensures { IfSome result (λ choice. goes_down choice ≡ false) }
+{
     let mut found = Group::none(0);
     for (i, table) in tables.iter().enumerate() {
         let next = group_from(standing, &tables[i..], table.number());

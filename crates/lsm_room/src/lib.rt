@@ -2,9 +2,13 @@
 //!
 //! A store that takes batches until no block is free can't make room any more, since each merge wants free blocks for what it
 //! makes. So [`Standing::admits`] says whether a batch may be taken: what is in memory will find room, in a flush and in the last level,
-//! and some blocks stay free, the [`Reserve`]. Where room is scarce, [`Standing::step_down`] advises a step that is sure to find room:
-//! a merge, or one of the small steps that make it possible. A table is cut at the first key of one that it meets, or halved; or
+//! and some blocks stay free, the [`Reserve`]. Where room is scarce, [`Standing::step_down`] advises a step: a merge that is sure to find room,
+//! or one of the small steps that make it possible. A table is cut at the first key of one that it meets, or halved; or
 //! one is written anew elsewhere, so that free blocks come to lie side by side; or small neighbours are joined.
+//!
+//! A step that is advised by [`Advice::Take`] finds room, whatever entries its tables have, if no other job takes blocks before. That is a
+//! clause, of small steps too ([`Standing::is_sure_at`]). [`Advice::Try`] is for small steps that only probably do: how long the index of
+//! a table gets that is written anew depends on keys that only its blocks tell.
 //!
 //! What the outputs of a merge take at most is reckoned from the numbers of its tables (`Outputs`), and whether so much surely finds room from
 //! the gaps between extents ([`Extents::surely_places`](lsm_extent::Extents::surely_places)).
@@ -13,6 +17,7 @@
 mod admission;
 mod bounds;
 mod cutting;
+mod divided;
 mod gaps;
 mod joining;
 mod moving;

@@ -1,6 +1,6 @@
 //! What a choice is made over.
 
-ghost use Rattle.std.specs.Prelude.{◌≡◌, ◌+◌, ◌≤◌, ◌<◌, true, length, is_some, Some};
+ghost use Rattle.std.specs.Prelude.{◌≡◌, ◌+◌, ◌≤◌, ◌<◌, [], true, false, length, is_some, Some};
 ghost use Prim.Native.Nat.{min};
 ghost use Rattle.lsm_extent.specs.Area.{free_count};
 ghost use Rattle.lsm_extent.specs.Gaps.{SurelyFit};
@@ -8,13 +8,18 @@ ghost use Rattle.lsm_levels.specs.Levels.{all_tables};
 ghost use Rattle.lsm_levels.specs.Moving.{table_count};
 ghost use Rattle.lsm_policy.specs.Room.{taken_blocks, blocks_of as blocks_in};
 ghost use Rattle.lsm_levels.specs.Choices.{chosen};
-ghost use Rattle.lsm_levels.specs.Pick.{Job};
-ghost use Rattle.lsm_room.specs.Outputs.{FindsRoom};
+ghost use Rattle.lsm_levels.specs.Held.{IsHeld};
+ghost use Rattle.lsm_levels.specs.Pick.{Job, is_bottom, is_flush};
+ghost use Rattle.lsm_levels.specs.Picks.{job_of};
+ghost use Rattle.lsm_room.specs.Outputs.{FindsRoom, MakesAtMost};
+ghost use Rattle.lsm_room.specs.declared.bounds.Outputs.{Outputs};
 ghost use Rattle.lsm_room.specs.Taking.{may_take};
 
 use crate::bounds::{Outputs, blocks_with_those, count_in, outputs_of, taken_in};
+use crate::divided::outputs_at;
+use lsm_codec::Key;
 use lsm_extent::Extents;
-use lsm_levels::{Choice, HeldJobs, Levels, Run};
+use lsm_levels::{Choice, HeldJobs, Levels, Pick, Run};
 use std::alloc::{Allocator, Global};
 
 /// A merge of several tables takes in so many blocks at most.
@@ -147,7 +152,7 @@ impl<'a, H: HeldJobs, A: Allocator> Standing<'a, H, A> {
     /// Whether a choice may be taken, and its outputs, undivided, are sure to find room. Several tables take in so many blocks at most.
     pub fn is_sure(&self, choice: Choice, most_blocks: u64) -> bool
         ensures may { result ≡ true → may_take self.now.levels.now (H.jobs self.now.held.now) choice ≡ true }
-        ensures room { result ≡ true → (job : Job) → chosen self.now.levels.now (H.jobs self.now.held.now) choice ≡ Some job → FindsRoom self.now.extents.now self.now.levels.now self.now.live job }
+        ensures room { result ≡ true → (job : Job) → chosen self.now.levels.now (H.jobs self.now.held.now) choice ≡ Some job → FindsRoom self.now.extents.now self.now.levels.now self.now.live job [] }
     {
         let _runs = self.levels.runs();
         match self.levels.choose(choice, self.held) {
@@ -157,6 +162,30 @@ impl<'a, H: HeldJobs, A: Allocator> Standing<'a, H, A> {
             }
             None => false,
         }
+    }
+
+    /// Whether a choice may be taken, and its outputs, divided at these keys, are sure to find room. How much they take is known of those
+    /// that aren't divided, and of those of one table that is cut at one key; others are never sure.
+    pub fn is_sure_at(&self, choice: Choice, divisions: &[Key<A>]) -> bool
+        ensures may { result ≡ true → may_take self.now.levels.now (H.jobs self.now.held.now) choice ≡ true }
+        ensures room { result ≡ true → (job : Job) → chosen self.now.levels.now (H.jobs self.now.held.now) choice ≡ Some job → FindsRoom self.now.extents.now self.now.levels.now self.now.live job divisions.now }
+    {
+        let _runs = self.levels.runs();
+        if let Some(job) = self.levels.choose(choice, self.held) {
+            return self.places_job(&job, divisions);
+        }
+        false
+    }
+
+    // Whether the outputs of a job, divided at these keys, are sure to find room.
+    fn places_job(&self, job: &Pick<'_, A>, divisions: &[Key<A>]) -> bool
+        ensures { result ≡ true → (o : Outputs) × (o.blocks < 4294967296) × SurelyFit self.now.extents.now o.blocks o.largest
+            × (o.blocks < 4294967296 → IsHeld self.now.levels.now (is_bottom self.now.levels.now (job_of job.now)) (job_of job.now) → is_flush (job_of job.now) ≡ false → MakesAtMost self.now.levels.now self.now.live (job_of job.now) divisions.now o.blocks o.largest) }
+    {
+        if let Some(outputs) = outputs_at(self.levels, job, divisions, self.live) {
+            return self.places(outputs, count_in(job));
+        }
+        false
     }
 }
 

@@ -27,6 +27,8 @@ pub enum Advice<A: Allocator = Global> {
     Nothing,
     /// A step, whose outputs are sure to find room.
     Take(Step<A>),
+    /// A step that writes tables anew in their own level. Its outputs probably find room, but aren't sure to.
+    Try(Step<A>),
     /// No step is sure to find room, not even one that makes room: what is to go down first wants so much. Or a job that holds a slot
     /// stands in the way of the step; then nothing is wanted.
     Lacks { choice: Choice, wanted: Outputs },
@@ -84,6 +86,7 @@ impl<'a, H: HeldJobs, A: Allocator + Clone> Standing<'a, H, A> {
     {
         match advice {
             Advice::Take(step) => self.take_if_free(step),
+            Advice::Try(step) => self.try_if_free(step),
             Advice::Nothing => Advice::Nothing,
             Advice::Lacks { choice, wanted } => Advice::Lacks { choice, wanted },
         }
@@ -99,6 +102,28 @@ impl<'a, H: HeldJobs, A: Allocator + Clone> Standing<'a, H, A> {
             Some(step) => Advice::Take(step),
             None => Advice::Lacks { choice, wanted },
         }
+    }
+
+    fn try_if_free(&self, step: Step<A>) -> Advice<A>
+        ensures may { MayFollow self.now.levels.now (H.jobs self.now.held.now) result }
+        ensures room { goes_down step.choice ≡ false → AdvisesRoom self.now.extents.now self.now.levels.now self.now.live (H.jobs self.now.held.now) result }
+    {
+        let choice = step.choice;
+        let wanted = Outputs::none();
+        match self.if_free(step) {
+            Some(step) => Advice::Try(step),
+            None => Advice::Lacks { choice, wanted },
+        }
+    }
+
+    // A step that writes tables anew: it is to be taken if it is sure to find room, and to be tried if not.
+    fn rewriting(&self, step: Step<A>) -> Advice<A>
+        ensures { goes_down step.choice ≡ false → AdvisesRoom self.now.extents.now self.now.levels.now self.now.live (H.jobs self.now.held.now) result }
+    {
+        if self.is_sure_at(step.choice, &step.divisions) {
+            return Advice::Take(step);
+        }
+        Advice::Try(step)
     }
 
     // The next step, whatever holds slots.
@@ -182,7 +207,7 @@ impl<'a, H: HeldJobs, A: Allocator + Clone> Standing<'a, H, A> {
         };
         if !divisions.is_empty() && self.places(parts, 1) {
             let choice = rewrite_of(cut);
-            return Ok(Advice::Take(Step { choice, divisions }));
+            return Ok(self.rewriting(Step { choice, divisions }));
         }
         let choice = Choice::Tables {
             first: table.number(),
@@ -196,32 +221,40 @@ impl<'a, H: HeldJobs, A: Allocator + Clone> Standing<'a, H, A> {
         ensures { IfOk result (λ advice. AdvisesRoom self.now.extents.now self.now.levels.now self.now.live (H.jobs self.now.held.now) advice) }
     {
         match move_of(self, alloc)? {
-            Some(step) => Ok(Advice::Take(step)),
+            Some(step) => Ok(self.rewriting(step)),
             None => Ok(Advice::Lacks { choice, wanted }),
         }
     }
 
     /// The next step that makes free blocks lie side by side, if there is one.
-    pub fn step_aside(&self, alloc: &A) -> Result<Option<Step<A>>, AllocError>
-        ensures { IfOk result (λ step. IfSome step (λ s. may_take self.now.levels.now (H.jobs self.now.held.now) s.choice ≡ true)) }
+    pub fn step_aside(&self, alloc: &A) -> Result<Advice<A>, AllocError>
+        ensures may { IfOk result (λ advice. MayFollow self.now.levels.now (H.jobs self.now.held.now) advice) }
+        ensures room { IfOk result (λ advice. AdvisesRoom self.now.extents.now self.now.levels.now self.now.live (H.jobs self.now.held.now) advice) }
     {
         match move_of(self, alloc)? {
-            Some(step) => Ok(self.if_free(step)),
-            None => Ok(None),
+            Some(step) => Ok(self.rewriting_if_free(step)),
+            None => Ok(Advice::Nothing),
         }
     }
 
     /// The next step that joins neighbours, of a level that has more than twice the tables that its entries want.
-    pub fn step_together(&self, alloc: &A) -> Result<Option<Step<A>>, AllocError>
-        ensures { IfOk result (λ step. IfSome step (λ s. may_take self.now.levels.now (H.jobs self.now.held.now) s.choice ≡ true)) }
+    pub fn step_together(&self, alloc: &A) -> Result<Advice<A>, AllocError>
+        ensures may { IfOk result (λ advice. MayFollow self.now.levels.now (H.jobs self.now.held.now) advice) }
+        ensures room { IfOk result (λ advice. AdvisesRoom self.now.extents.now self.now.levels.now self.now.live (H.jobs self.now.held.now) advice) }
     {
         match join_of(self) {
-            Some(choice) => {
-                let step = Step::whole(alloc, choice)?;
-                Ok(self.if_free(step))
-            }
-            None => Ok(None),
+            Some(choice) => Ok(self.rewriting_if_free(Step::whole(alloc, choice)?)),
+            None => Ok(Advice::Nothing),
         }
+    }
+
+    // A step that writes tables anew, where no job that holds a slot stands in its way.
+    fn rewriting_if_free(&self, step: Step<A>) -> Advice<A>
+        ensures may { MayFollow self.now.levels.now (H.jobs self.now.held.now) result }
+        ensures room { goes_down step.choice ≡ false → AdvisesRoom self.now.extents.now self.now.levels.now self.now.live (H.jobs self.now.held.now) result }
+    {
+        let advice = self.rewriting(step);
+        self.unless_held(advice)
     }
 }
 

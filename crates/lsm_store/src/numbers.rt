@@ -1,5 +1,6 @@
 // Numbers that a store tells besides its calls, also where it is stopped.
-ghost use Rattle.std.specs.Prelude.{◌≡◌, [], IfSome, MatchOption, length, nat_lt};
+ghost use Rattle.std.specs.Prelude.{◌≡◌, [], IfSome, MatchOption, is_some, length, nat_lt};
+ghost use Rattle.lsm_machine.specs.State.{are_waiting};
 ghost use Rattle.lsm_mem.specs.Sizes.{Covers, no_size};
 
 use crate::store::Store;
@@ -39,5 +40,19 @@ impl<D: Device, A: Allocator> Store<D, A> {
         ensures { result ≡ self.now.state.generation }
     {
         self.memory.regions.generation
+    }
+    /// Whether the store is stopped: then its calls are refused with `Stopped`. It takes no memory.
+    pub fn is_stopped(&self) -> bool
+        ensures { result ≡ is_some self.now.state.stopped }
+    {
+        self.memory.is_stopped()
+    }
+
+    /// Whether what the batches of closed logs made of their keys waits for a flush, as [`stat`](Store::stat) tells among other numbers. It
+    /// takes no memory, and goes over nothing.
+    pub fn is_waiting(&self) -> bool
+        ensures { result ≡ are_waiting self.now.state }
+    {
+        self.memory.is_waiting()
     }
 }

@@ -1,4 +1,4 @@
-use Rattle.std.proofs.Common.{◌≡◌, ◌≤◌, ◌<◌, ℕ, ◌+◌, subst, arith}
+use Rattle.std.proofs.Common.{arith}
 use Rattle.std.proofs.lemmas.Bool.{leb-true}
 use Rattle.lsm_room.proofs.Flushed.{both_leave}
 use Rattle.lsm_room.proofs.standing.Standing.leaves_flushes.Goals as goal
