@@ -15,6 +15,7 @@ struct slot {
     pthread_mutex_t writing, calling;
     atomic_uint waiting; /* how many wait for `calling` */
     bool taken;          /* whether there is a store in it, or is to be one */
+    bool due;            /* whether merges are left to the next writes */
     uint64_t number;     /* the store's number; 0 while there is none */
     uint64_t last;       /* the last number that was given out here */
     uint64_t forked;     /* the number that a store of this process's parent had here */
@@ -146,12 +147,40 @@ static uint32_t told(struct slot *slot, uint32_t answer)
     return CORWAPHI_IO;
 }
 
-/* Does all that the store is to do, piece by piece. The store goes on as it then is, whatever it found no room for. */
+/* Before each write, and once more for each 2 KiB of it, so many pieces are done of the merges that are due. */
+#define PIECES ((size_t)8)
+#define PIECES_FOR ((size_t)2048)
+
+/* Does a piece of what the store is to do, and tells what it was. The store goes on as it then is, whatever it found no room for. */
+static uint32_t piece_done(struct slot *slot)
+{
+    uint32_t did;
+    bool done = RUNS(told(slot, corwaphi_store_work(HANDLE, IMAGE, JOURNAL, &did))) == CORWAPHI_OK;
+    return done ? did : CORWAPHI_STORE_NOTHING;
+}
+
+/* Does all that the store is to do. */
 static void worked(struct slot *slot)
 {
-    uint32_t did = CORWAPHI_STORE_PIECE;
-    while (did && RUNS(told(slot, corwaphi_store_work(HANDLE, IMAGE, JOURNAL, &did))) == CORWAPHI_OK)
+    slot->due = false;
+    while (piece_done(slot))
         let_others(slot);
+}
+
+/* Does what a write waits for. Merges that it needn't wait for are left to the next ones. */
+static void readied_for_write(struct slot *slot)
+{
+    uint32_t did;
+    while ((did = piece_done(slot)) && did != CORWAPHI_STORE_REST)
+        let_others(slot);
+    slot->due = did == CORWAPHI_STORE_REST;
+}
+
+/* Goes on with the merges that are due, before a write of so many bytes. */
+static void went_on(struct slot *slot, size_t bytes)
+{
+    for (size_t left = PIECES * (1 + bytes / PIECES_FOR); slot->due && left; left--)
+        slot->due = piece_done(slot) != CORWAPHI_STORE_NOTHING;
 }
 
 /* What is to be written: a put, a delete, a batch, or a batch under guards. */
@@ -192,8 +221,9 @@ static uint32_t changed(corwaphi store, struct change it, uint64_t *number, uint
     if (answer)
         return answer;
     bool ran = slot->handle.at;
+    went_on(slot, it.first_length + it.second_length);
     while ((answer = tried(slot, &it)) == CORWAPHI_STORE_WORK_FIRST)
-        worked(slot);
+        readied_for_write(slot);
     if (ran && !slot->handle.at)
         answer = CORWAPHI_IO;
     left(slot, true);
@@ -340,6 +370,7 @@ uint32_t corwaphi_open(const char *path, const struct corwaphi_options *options,
     uint32_t answer = corwaphi_file_open(&slot->file, path, 0);
     if (!answer)
         answer = readied(slot, options ? options->cache : usual.cache);
+    slot->due = false;
     if (answer) {
         given_back(slot);
     } else {

@@ -18,7 +18,9 @@
  *
  * - behind an opening, which finishes what waits, and opens a log where the open one has no room;
  * - where put, delete, write or write_if answers CORWAPHI_STORE_WORK_FIRST. Nothing was written. Make the same call again behind the work,
- *   with no other of these four in between; after five times at most it is written or refused;
+ *   with no other of these four in between; after six times at most it is written or refused. This work may also end where it did
+ *   CORWAPHI_STORE_REST: what is left are merges that the write needn't wait for. Do some pieces of them before each of the next writes
+ *   until nothing is left, or else a later write waits for all of them;
  * - behind corwaphi_store_compact, which asks that all comes into tables, and all tables into the last level, as far as they find room.
  *
  * Each of these goes on from where the store then is, also if the work before was not ended. A piece that finds no room or memory is
@@ -37,8 +39,9 @@
 /* The bytes of a journal that are enough for a format with log regions of so many sectors. */
 #define CORWAPHI_STORE_FORMAT(log_sectors) (520 * (132 + 3 * (size_t)(log_sectors)))
 
-/* What corwaphi_store_work did: nothing, since there is nothing to do; a piece; or the last piece of a flush or a merge. */
-enum { CORWAPHI_STORE_NOTHING = 0, CORWAPHI_STORE_PIECE = 1, CORWAPHI_STORE_JOB = 2 };
+/* What corwaphi_store_work did: nothing, since there is nothing to do; a piece; the last piece of a flush or a merge; or any of these two,
+ * and what is left are merges that no write needs to wait for. */
+enum { CORWAPHI_STORE_NOTHING = 0, CORWAPHI_STORE_PIECE = 1, CORWAPHI_STORE_JOB = 2, CORWAPHI_STORE_REST = 3 };
 
 /* The answer of a write before which work is to be done. */
 enum { CORWAPHI_STORE_WORK_FIRST = 64 };

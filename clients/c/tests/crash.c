@@ -26,7 +26,7 @@ static uint8_t journal[CORWAPHI_STORE_JOURNAL];
 static const struct file file = {.descriptor = DISK, .length = (size_t)SECTORS * 512};
 static uint16_t (*maps)[NAMES]; /* by the number of batches; 0 for no value */
 static struct corwaphi_store_handle handle;
-static uint64_t crashes, within_openings, openings, operations, jobs, tables_most;
+static uint64_t crashes, within_openings, openings, operations, jobs, rests, tables_most;
 static uint64_t generation; /* of the manifest that stands */
 static uint32_t one_in = 60;
 static bool is_calm = true; /* whether no crash comes */
@@ -152,15 +152,28 @@ static bool work(uint32_t *did)
     size_t used;
     EXPECT(CORWAPHI_OK, corwaphi_store_work(HANDLE, IMAGE, JOURNAL, did));
     jobs += *did == CORWAPHI_STORE_JOB;
+    rests += *did == CORWAPHI_STORE_REST;
     if (!make(used))
         return false;
     check_manifest();
     return true;
 }
 
-/* Writes a batch once the work is done that comes first; false if a crash comes. */
+/* Goes on with merges that were left to the next writes, some pieces or none; false if a crash comes. */
+static bool go_on(void)
+{
+    uint32_t did = CORWAPHI_STORE_REST;
+    for (uint32_t left = below(12); left && did; left--)
+        if (!work(&did))
+            return false;
+    return true;
+}
+
+/* Writes a batch once the work is done that comes first, all of it or what the batch waits for; false if a crash comes. */
 static bool write_batch(const struct corwaphi_batch *batch, uint64_t *count)
 {
+    if (!go_on())
+        return false;
     for (;;) {
         size_t used;
         uint64_t number = 0;
@@ -172,7 +185,8 @@ static bool write_batch(const struct corwaphi_batch *batch, uint64_t *count)
             return make(used);
         }
         CHECK(used == 0);
-        for (uint32_t did = CORWAPHI_STORE_PIECE; did;)
+        bool whole = below(2);
+        for (uint32_t did = CORWAPHI_STORE_PIECE; did && (whole || did != CORWAPHI_STORE_REST);)
             if (!work(&did))
                 return false;
     }
@@ -246,9 +260,10 @@ int main(int argument_count, char **words)
         count = synced = batches;
     }
     corwaphi_store_close(handle);
-    printf("%llu crashes, %llu of them within openings, %llu writes and syncs, %llu batches kept, %llu unsynced ones lost, %llu jobs, at most "
-           "%llu tables: each map right\n",
+    CHECK(rests > 0);
+    printf("%llu crashes, %llu of them within openings, %llu writes and syncs, %llu batches kept, %llu unsynced ones lost, %llu jobs, %llu "
+           "pieces of what may wait, at most %llu tables: each map right\n",
            (unsigned long long)crashes, (unsigned long long)within_openings, (unsigned long long)operations, (unsigned long long)count,
-           (unsigned long long)lost, (unsigned long long)jobs, (unsigned long long)tables_most);
+           (unsigned long long)lost, (unsigned long long)jobs, (unsigned long long)rests, (unsigned long long)tables_most);
     return 0;
 }

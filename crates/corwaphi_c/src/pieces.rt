@@ -23,6 +23,8 @@ pub(crate) enum Did {
     Piece,
     /// A job was finished.
     Job,
+    /// A piece was done or a job finished, and what is left are merges that a write needn't wait for.
+    Rest,
 }
 
 impl Did {
@@ -31,6 +33,7 @@ impl Did {
             Did::Nothing => 0,
             Did::Piece => 1,
             Did::Job => 2,
+            Did::Rest => 3,
         }
     }
 }
@@ -71,12 +74,24 @@ impl Upkeep {
         ensures refused { result ≡ Refuse → wants_room batch.now store.now.state ≡ true }
         ensures crowded { result ≡ Refuse → LacksRoom batch.now store.now }
     {
+        let before = self.admit;
         let verdict = self.admit.next(store, batch);
         match verdict {
-            Verdict::After(goal) => self.turn_to(goal),
+            Verdict::After(goal) => self.wait_for(goal, before),
             Verdict::Commit | Verdict::Refuse => self.admit = self.admit.next_batch(),
         }
         verdict
+    }
+
+    // A goal is to be reached before a batch is written. A job that was taken holds blocks, so it is finished before all else, and then the
+    // batch is asked about anew.
+    fn wait_for(&mut self, goal: Goal, before: AdmitState) {
+        if self.job.is_some() {
+            self.admit = before;
+            self.turn_to(Goal::Flushed);
+        } else {
+            self.turn_to(goal);
+        }
     }
 
     /// Does the next piece. What is refused is passed over: the job that it stops is given up.
@@ -87,11 +102,22 @@ impl Upkeep {
     ) -> Result<Did, Refusal>
         ensures { IsUpkept store.old store.new }
     {
-        store.stat()?;
-        Ok(match self.job {
+        if store.is_stopped() {
+            return Err(Refusal::Stopped);
+        }
+        let did = match self.job {
             Some(job) => self.go_on_with(alloc, store, job),
             None => self.attempt(alloc, store),
-        })
+        };
+        Ok(self.as_rest(did))
+    }
+
+    // What was done, as it is told where what is left may wait.
+    fn as_rest(&self, did: Did) -> Did {
+        match did {
+            Did::Piece | Did::Job if self.plan.may_wait() => Did::Rest,
+            did => did,
+        }
     }
 
     // Does the next piece of a job.

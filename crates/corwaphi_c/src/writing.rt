@@ -1,6 +1,6 @@
 //! Batches are written. Each call answers the number of its batch. Where the store is to be made ready for it first, it answers that work
-//! comes first: the host calls `corwaphi_store_work` until there is nothing to do, and makes the same call again. After a few times the
-//! batch is written, or refused.
+//! comes first: the host calls `corwaphi_store_work` until there is nothing to do, or nothing that a write waits for, and makes the same
+//! call again. After a few times the batch is written, or refused.
 //!
 //! A batch is taken only where what it makes of its keys will find room in tables. So one that puts values is refused with NoSpace where
 //! they find none though all tables were brought down as far as they go; and one of deletes is so only while a snapshot is live. That
