@@ -5,7 +5,7 @@ use Rattle.lsm_codec.specs.Guards.{Condition}
 use Rattle.lsm_codec.specs.Map.{Operation}
 use Rattle.lsm_device.specs.declared.refusal.Refusal.TheVariants.{Io, LogFull, NoSpace}
 use Rattle.lsm_lives.specs.Replaying.{GoOn, Replays}
-use Rattle.lsm_replies.specs.Replies.{counted_by}
+use Rattle.lsm_language.specs.Replies.{counted_by}
 use Rattle.lsm_store.specs.Backing.{StoreView}
 use Rattle.lsm_machine.specs.Calls.{Call, Reply, Commit, CommitIf, Sync, SyncTo, Get, Scan, Snapshot, Release, Rotate, LogRoom, Number, Done, Value, Rows, Given, Handed, Refused, Unread, as_told}
 use Rattle.lsm_machine.specs.Machine.{Step, Called}

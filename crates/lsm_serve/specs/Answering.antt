@@ -8,9 +8,9 @@ use Rattle.lsm_store.specs.Backing.{StoreView, machine_of}
 use Rattle.lsm_machine.specs.Calls.{Reply, Refused}
 use Rattle.lsm_store.specs.Stats.{stat_answer}
 use Rattle.lsm_store.specs.declared.stat.Stat.{Stat}
-use Rattle.lsm_replies.specs.Replies.{counted_by, reply_line, stat_line}
-use Rattle.lsm_replies.specs.declared.counted.Counted.{Counted}
-use Rattle.lsm_replies.specs.declared.counted.Counted.TheVariants.{Batch}
+use Rattle.lsm_language.specs.Replies.{counted_by, reply_line, stat_line}
+use Rattle.lsm_language.specs.declared.counted.Counted.{Counted}
+use Rattle.lsm_language.specs.declared.counted.Counted.TheVariants.{Batch}
 use Rattle.lsm_serve.specs.Asking.{Meaning, Says, asks_call, asks_no_batch, asks_numbers, asks_compaction, asks_nothing, meaning_of, wrong_text}
 use Rattle.lsm_serve.specs.Committing.{CompactsWhole, MakesCall}
 use Rattle.lsm_serve.specs.Tagging.{tag_in}

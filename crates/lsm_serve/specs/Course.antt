@@ -2,7 +2,7 @@
 use Rattle.std.specs.Prelude.{◌≡◌, ◌⊎◌, ℕ, List, [], ◌∷◌, ◌++◌}
 use Rattle.lsm_device.specs.declared.refusal.Refusal.TheVariants.{NoMemory, NoSpace}
 use Rattle.lsm_lives.specs.Replaying.{GoOn, Replays}
-use Rattle.lsm_replies.specs.Replies.{counted_by}
+use Rattle.lsm_language.specs.Replies.{counted_by}
 use Rattle.lsm_store.specs.Backing.{StoreView}
 use Rattle.lsm_machine.specs.Calls.{Call, Reply, Commit, CommitIf, Refused, as_told}
 use Rattle.lsm_machine.specs.Machine.{Step, Called}

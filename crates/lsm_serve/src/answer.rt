@@ -4,15 +4,15 @@ ghost use Rattle.std.specs.Prelude.{◌≡◌, ◌++◌, IfErr, IfOk, string_byt
 ghost use Rattle.lsm_device.specs.declared.refusal.Refusal.TheVariants.{NoMemory};
 ghost use Rattle.lsm_lives.specs.Asked.{Replied};
 ghost use Rattle.lsm_lives.specs.Calls.{reply_of, told_of};
-ghost use Rattle.lsm_replies.specs.Replies.{reply_line};
+ghost use Rattle.lsm_language.specs.Replies.{reply_line};
 ghost use Rattle.lsm_serve.specs.Mistakes.{mistake_text};
 ghost use Rattle.lsm_serve.specs.Answering.{IsTellable, outcome_of, outcome_text, usage_line};
 
 use crate::asking::Wrong;
 use crate::mistake::Mistake;
 use lsm_device::Refusal;
+use lsm_language::{Counted, push_reply, stat_text};
 use lsm_lives::Reply;
-use lsm_replies::{Counted, push_reply, stat_text};
 use lsm_store::Stat;
 use std::alloc::Global;
 use std::fmt::Write;

@@ -5,6 +5,7 @@ ghost use Rattle.lsm_language.specs.Faults.{reason_of};
 ghost use Rattle.lsm_serve.specs.Reading.{Takes, TakesLine, IsInputFault, most_kept};
 
 use lsm_language::Fault;
+use memchr::memchr;
 use std::alloc::{AllocError, Global};
 use std::io;
 use std::io::{BufRead, ErrorKind};
@@ -96,15 +97,12 @@ fn end_of_line(bytes: &[u8]) -> usize
     ensures before { All (λ b. b ≢ 10) (take result bytes.now) }
     ensures newline { result < length bytes.now → slice_index bytes.now result ≡ 10 }
 {
-    bytes
-        .iter()
-        .position(|byte| *byte == b'\n')
-        .unwrap_or(bytes.len())
+    memchr(b'\n', bytes).unwrap_or(bytes.len())
 }
 
 // Whether there is a newline.
 fn has_line(bytes: &[u8]) -> bool {
-    bytes.contains(&b'\n')
+    memchr(b'\n', bytes).is_some()
 }
 
 // Adds bytes to a line, of which no more is kept than is needed to see that it is too long.
