@@ -34,7 +34,7 @@ ENGINES = {
 }
 PEERS = ("leveldb", "rocksdb", "lmdb", "sqlite")
 
-# The rows of store_bench, by its words, that are ours: first the names that it may have for a row.
+# The rows of bench_store, by its words, that are ours: first the names that it may have for a row.
 OF_STORE_BENCH: dict[str, dict[str, tuple[str, ...]]] = {
     "upkeep": {
         "fill": ("fill, policy", "fill"),
@@ -47,7 +47,7 @@ OF_STORE_BENCH: dict[str, dict[str, tuple[str, ...]]] = {
 }
 # The rows whose waits are those of so many operations at once.
 AT_ONCE = {"batches of 100": 100, "load": 100}
-# How often store_bench scans all keys, by pages: so its pages are a whole scan too.
+# How often bench_store scans all keys, by pages: so its pages are a whole scan too.
 SCANS = 5
 
 
@@ -118,7 +118,7 @@ def of_peer(line: str) -> Sample:
 
 
 def tables_of(text: str) -> dict[str, dict[str, str]]:
-    """The tables that store_bench prints: by the name of a workload its columns by their headings."""
+    """The tables that bench_store prints: by the name of a workload its columns by their headings."""
     workloads: dict[str, dict[str, str]] = {}
     headings: list[str] = []
     for line in text.splitlines():
@@ -132,8 +132,8 @@ def tables_of(text: str) -> dict[str, dict[str, str]]:
     return workloads
 
 
-def of_store_bench(text: str, words: str, keys: int) -> dict[str, Sample]:
-    """Our rows, by what store_bench printed after these words. Of waits it tells the longest alone."""
+def of_bench_store(text: str, words: str, keys: int) -> dict[str, Sample]:
+    """Our rows, by what bench_store printed after these words. Of waits it tells the longest alone."""
     tables, samples = tables_of(text), {}
     for row, names in OF_STORE_BENCH[words].items():
         columns = next((tables[it] for it in names if it in tables), None)

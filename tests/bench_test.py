@@ -19,7 +19,7 @@ from figures import ENGINES, FROM_C, OURS, ROWS, Figure, Results, Sample  # noqa
 
 run = load("bench/run")
 
-# As store_bench lays it out: a name of 22 columns, and 13 for each figure.
+# As bench_store lays it out: a name of 22 columns, and 13 for each figure.
 UPKEEP = f"""{'workload':<22} {'operations':>12} {'store ops/s':>12} {'raw ops/s':>12} {'ratio':>12} {'aim':>12}
 {'fill, next':<22} {200000:>12} {42100:>12} {2000000:>12} {'0.02':>12} {'0.00':>12}
 {'fill, policy':<22} {200000:>12} {264000:>12} {2000000:>12} {'0.13':>12} {'0.00':>12}
@@ -36,7 +36,7 @@ GETS = f"""{'workload':<22} {'operations':>12} {'store ops/s':>12}
 {'get hit':<22} {20000:>12} {1295000:>12}
 {'scan pages':<22} {1565:>12} {201000:>12}
 """
-# Stands in for store_bench: it tells of each call, and refuses the larger store.
+# Stands in for bench_store: it tells of each call, and refuses the larger store.
 BENCH = """#!/usr/bin/env python3
 import os, sys
 with open(os.environ["CALLS"], "a") as calls:
@@ -79,14 +79,14 @@ class Samples(unittest.TestCase):
         self.assertEqual(figures.of_peer("2000\t500000000\t1500\t2500\t80000\t0\n"), Sample(4000, 1.5, 2.5, 80, 0))
         self.assertEqual(figures.of_peer("10\t1000000000\t-\t-\t-\t3000\n"), Sample(10, None, None, None, 3))
 
-    def test_store_bench(self) -> None:
-        found = figures.of_store_bench(UPKEEP, "upkeep", 200_000)
+    def test_bench_store(self) -> None:
+        found = figures.of_bench_store(UPKEEP, "upkeep", 200_000)
         self.assertEqual(found, {"fill": Sample(264_000, longest=35_600), "batches of 100": Sample(266_000)})
         # 1,565 pages are 100,000 rows.
-        found = figures.of_store_bench(GETS, "gets", 20_000)
+        found = figures.of_bench_store(GETS, "gets", 20_000)
         self.assertEqual((found["get hit"], found["pages of 64"]), (Sample(1_295_000), Sample(201_000)))
         self.assertAlmostEqual(found["whole scan"].rate, 201_000 * 100_000 / 1_565)
-        self.assertEqual(figures.of_store_bench("wrong answers\n", "upkeep", 100), {})
+        self.assertEqual(figures.of_bench_store("wrong answers\n", "upkeep", 100), {})
 
     def test_medians(self) -> None:
         samples = [Sample(30, 5, None), Sample(10, 9, None), Sample(20, 1, 7.0)]

@@ -1,6 +1,6 @@
 #!/usr/bin/env bash
 # Looks that the examples in documents and in comments are lines of crates, so that the gate proves them: those of README.md and docs/api.md,
-# and each block of code in the text with which a file of a crate begins, which is to stand in a function of crates/doc_examples.
+# and each block of code in the text with which a file of a crate begins, which is to stand in a function of crates/example_documents.
 source "$(dirname "$(realpath "$0")")/common.sh"
 cd "$tests/.."
 
@@ -16,15 +16,15 @@ shows() {
     diff <(example "$page" "$3" "$4") <(example "$crate" "$3" "$4") || fail "the example of $page is another one than that of $crate"
 }
 
-shows README.md crates/db_example/src/main.rt 'let mut db = Db::open_or_create' 'db\.release'
-shows docs/api.md crates/store_example/src/first_use.rt 'let device = FileDevice::open' 'store\.release'
+shows README.md crates/example_db/src/main.rt 'let mut db = Db::open_or_create' 'db\.release'
+shows docs/api.md crates/example_store/src/first_use.rt 'let device = FileDevice::open' 'store\.release'
 
 # Code without what a formatter may change: spaces, ends of lines, and the comma after the last of several.
 plain() {
     tr -d '[:space:]' | sed 's/,\([])}]\)/\1/g'
 }
 
-proved=$(cat crates/doc_examples/src/*.rt | plain)
+proved=$(cat crates/example_documents/src/*.rt | plain)
 found=0
 missing=()
 
@@ -36,7 +36,7 @@ look_for() {
         found=$((found + 1))
         return
     fi
-    printf 'examples.sh: %s\n%s' "no function of crates/doc_examples has this code of $1:" "$2" >&2
+    printf 'examples.sh: %s\n%s' "no function of crates/example_documents has this code of $1:" "$2" >&2
     missing+=("$crate")
 }
 
@@ -60,6 +60,6 @@ shopt -s globstar
 for file in crates/*/src/**/*.rt; do
     [[ $(<"$file") != *'//! ```'* ]] || look_into "$file"
 done
-[ ${#missing[@]} = 0 ] || fail "crates/doc_examples lacks an example of: ${missing[*]}"
+[ ${#missing[@]} = 0 ] || fail "crates/example_documents lacks an example of: ${missing[*]}"
 [ "$found" -gt 10 ] || fail "only $found examples were found in crates"
 echo "examples.sh: the examples of README.md, docs/api.md and $found in crates are proved"

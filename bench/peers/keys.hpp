@@ -1,4 +1,4 @@
-// Keys and values: those of crates/store_bench, and keys in order.
+// Keys and values: those of crates/bench_store, and keys in order.
 #pragma once
 
 #include <array>

@@ -9,5 +9,6 @@ pub mod Guards
 pub mod Lines
 pub mod Scripts
 pub mod Requests
+pub mod Replies
 pub mod Rows
 pub mod Reading

@@ -1,8 +1,9 @@
-//! What is asked of a store in words and scripts.
+//! What is asked of a store in words and scripts, and what it replies as lines of text.
 #![tactic(auto)]
 
 mod asked;
 mod cause;
+mod counted;
 mod failure;
 mod fault;
 mod geometry;
@@ -15,6 +16,7 @@ mod number;
 mod operations;
 mod reading;
 mod refused;
+mod reply;
 mod request;
 mod row;
 mod script;
@@ -23,6 +25,7 @@ mod words;
 
 pub use asked::Asked;
 pub use cause::{Cause, cause_text};
+pub use counted::{Counted, counted_in};
 pub use failure::{Failure, failure_text};
 pub use fault::{Fault, Usage};
 pub use geometry::Geometry;
@@ -31,6 +34,7 @@ pub use line::{Kept, Line, read_line};
 pub use load::Load;
 pub use reading::next_line;
 pub use refused::refusal_text;
+pub use reply::{push_next, push_number, push_refusal, push_reply, stat_text};
 pub use request::Request;
 pub use row::{MOST_ROW, read_row};
 pub use showing::{beginning, shown};

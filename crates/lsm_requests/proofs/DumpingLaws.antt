@@ -12,7 +12,7 @@ use Rattle.lsm_machine.specs.Calls.{Refused, Rows, Scan}
 use Rattle.lsm_store.specs.Serving.{Serves}
 use Rattle.lsm_machine.specs.declared.asked.At.{At}
 use Rattle.lsm_machine.specs.declared.asked.At.TheVariants.{Now}
-use Rattle.lsm_walk.specs.Walking.{IsHeld, WalkView, WalksTo}
+use Rattle.lsm_upkeep.specs.Walking.{IsHeld, WalkView, WalksTo}
 use Rattle.lsm_requests.specs.Answers.{TellsDumped, WasOpened}
 use Rattle.lsm_requests.specs.Dumping.{Dumps, DumpsPage, IsUnprinted, RefusesPage, StopsAtPage, StopsDumping, pages_lines, rows_lines}
 use Rattle.lsm_serve.proofs.ServingLaws.{appends_none, appends_more}

@@ -41,7 +41,7 @@ use Rattle.lsm_requests.specs.Steps.{steps_after, told_after, lives_said, told_l
 use Rattle.lsm_requests.specs.Commits.{HasCommitted}
 use Rattle.lsm_requests.specs.Dumping.{HasDumped, StopsDumping}
 use Rattle.lsm_requests.specs.Loading.{HasLoaded, KeepsAndLoads, RefusesToLoad, loaded_line}
-use Rattle.lsm_replies.specs.Replies.{stat_line}
+use Rattle.lsm_language.specs.Replies.{stat_line}
 use Rattle.lsm_requests.specs.Replies.{page_lines, report_line, table_line, counts_lines, replies_text, lives_text}
 use Rattle.lsm_requests.specs.declared.loading.Loaded.{Loaded as LoadedUpTo}
 use Rattle.lsm_requests.specs.declared.steps.Told.{Told}

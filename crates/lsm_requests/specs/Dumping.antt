@@ -12,7 +12,7 @@ use Rattle.lsm_machine.specs.Calls.{Scan, Refused}
 use Rattle.lsm_store.specs.Serving.{Serves}
 use Rattle.lsm_machine.specs.declared.asked.At.{At}
 use Rattle.lsm_machine.specs.declared.asked.At.TheVariants.{Now}
-use Rattle.lsm_walk.specs.Walking.{GoesOn, WalkView, WalksThrough, WalksTo}
+use Rattle.lsm_upkeep.specs.Walking.{GoesOn, WalkView, WalksThrough, WalksTo}
 use Rattle.lsm_requests.specs.Replies.{row_line}
 use Rattle.lsm_requests.specs.declared.answer.Output.{Output}
 use Rattle.lsm_requests.specs.declared.answer.Output.TheVariants.{Dumped}

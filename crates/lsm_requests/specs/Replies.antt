@@ -8,7 +8,7 @@ use Rattle.lsm_check.specs.declared.report.Report.{Report}
 use Rattle.lsm_language.specs.Faults.{refusal_line}
 use Rattle.lsm_storm.specs.declared.counts.Counts.{Counts}
 use Rattle.lsm_lives.specs.Asked.{Told as LivesTold}
-use Rattle.lsm_replies.specs.Replies.{next_line, told_line}
+use Rattle.lsm_language.specs.Replies.{next_line, told_line}
 use Rattle.lsm_requests.specs.declared.steps.Told.{Told}
 use Rattle.lsm_requests.specs.declared.steps.Told.TheVariants as told
 

@@ -11,8 +11,8 @@ use Rattle.lsm_language.specs.declared.line.Line.{Line}
 use Rattle.lsm_language.specs.declared.line.Line.TheVariants as line
 use Rattle.lsm_language.specs.declared.line.Kept.{Kept}
 use Rattle.lsm_language.specs.declared.line.Kept.TheVariants.{All, Places}
-use Rattle.lsm_replies.specs.Replies.{counted_by}
-use Rattle.lsm_replies.specs.declared.counted.Counted.TheVariants as counted
+use Rattle.lsm_language.specs.Replies.{counted_by}
+use Rattle.lsm_language.specs.declared.counted.Counted.TheVariants as counted
 use Rattle.lsm_requests.specs.declared.steps.Told.{Told}
 use Rattle.lsm_requests.specs.declared.steps.Told.TheVariants as told
 

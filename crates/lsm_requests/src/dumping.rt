@@ -9,7 +9,7 @@ use crate::reply::push_row_lines;
 use lsm_device::{Device, Refusal};
 use lsm_language::Fault;
 use lsm_store::{At, Page, Store};
-use lsm_walk::Walk;
+use lsm_upkeep::Walk;
 use std::alloc::Global;
 use std::io::Write;
 

@@ -6,9 +6,8 @@ ghost use Rattle.lsm_lives.specs.declared.calls.Step.TheVariants as step;
 ghost use Rattle.lsm_requests.specs.Steps.{steps_after, told_after, told_of_call, told_of_piece, ended, mask_said, life_of, lives_after, opened, told_lives};
 
 use lsm_device::Refusal;
-use lsm_language::{Kept, Line};
+use lsm_language::{Counted, Kept, Line, counted_in};
 use lsm_lives::{Call, Life, Step, Work};
-use lsm_replies::{Counted, counted_in};
 use std::alloc::{AllocError, Global};
 
 /// The most writes that an opening makes.

@@ -14,3 +14,4 @@ pub mod Endings
 pub mod Faults
 mod Advising
 mod Places
+pub mod AtWork

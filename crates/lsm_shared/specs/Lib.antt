@@ -4,3 +4,4 @@ pub mod Holds
 pub mod Pieces
 pub mod Sessions
 pub mod Turns
+pub mod Workers

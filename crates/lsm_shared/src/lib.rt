@@ -7,6 +7,8 @@
 //! session: it gives the store, and the trail of all calls with each client's own. A trail has 65,536 entries at most; then each call
 //! answers `TrailFull`, the clients come back, and the next session begins.
 //!
+//! [`take_turn`] and [`work`] are the turns of a worker: a client that works on flushes and compactions while others make their calls.
+//!
 //! ```
 //! match me.turn(rt, shared)? {
 //!     Turn::Idle => Ok(false),
@@ -32,6 +34,7 @@ mod seen;
 mod session;
 mod shared;
 mod turn;
+mod worker;
 mod working;
 
 pub use client::Client;
@@ -40,6 +43,7 @@ pub use seen::Seen;
 pub use session::Session;
 pub use shared::Shared;
 pub use turn::Turn;
+pub use worker::{take_turn, work};
 
 /// Laws of the definitions: functions without a body, whose clauses are theorems.
 pub mod laws {

@@ -3,9 +3,8 @@ ghost use Rattle.std.specs.Prelude.{◌≡◌};
 
 use lsm_device::MemDevice;
 use lsm_policy::Policy;
-use lsm_shared::{Client, Shared};
+use lsm_shared::{Client, Shared, take_turn};
 use lsm_trail::SessionName;
-use lsm_worker::take_turn;
 use std::alloc::Global;
 use std::sync::Wait;
 use std::thread::Threads;

@@ -5,4 +5,5 @@ pub mod Keeping
 pub mod Lacking
 pub mod Steps
 pub mod Upkeep
+pub mod Walking
 pub mod Writing

@@ -36,7 +36,7 @@ pub fn admit<D: Device>(
     ensures room { IfOk result (λ done. HasRoomFor batch.now store.new) }
     ensures refused { IfErr result (λ e. (e ≡ NoSpace) × FindsNoRoom batch.now store.old store.new) }
 {
-    if store.stat().is_err() {
+    if store.is_stopped() {
         return Ok(());
     }
     let is_full = matches!(store.log_room(), Ok(0));

@@ -42,10 +42,7 @@ pub(crate) fn flush<D: Device>(alloc: Global, store: &mut Store<D>) -> bool
 pub(crate) fn is_waiting<D: Device>(store: &Store<D>) -> bool
     ensures { result ≡ (not (is_some store.now.state.stopped) && are_waiting store.now.state) }
 {
-    match store.stat() {
-        Ok(stat) => stat.waiting,
-        Err(_) => false,
-    }
+    !store.is_stopped() && store.is_waiting()
 }
 
 // Tries to finish the job that comes next, and makes room where it can't be. It tells whether it did one of both.

@@ -109,7 +109,7 @@ fn step_lack<D: Device>(alloc: Global, store: &Store<D>) -> Lack
 {
     match next_advice(alloc, store) {
         Ok(Advice::Lacks { wanted, .. }) => unsure_lack(store, wanted),
-        Ok(Advice::Take(_) | Advice::Nothing) => Lack::Step,
+        Ok(Advice::Take(_) | Advice::Try(_) | Advice::Nothing) => Lack::Step,
         Err(_) => Lack::Memory,
     }
 }

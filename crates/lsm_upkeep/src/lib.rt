@@ -1,4 +1,8 @@
-//! A store that lasts: its jobs are taken and finished, so that its logs have room, its tables are few, and blocks are free.
+//! Upkeep: what has to be done so that a store goes on taking writes.
+//!
+//! A store by itself takes batches until its log is full, and then refuses them with `LogFull`: when to rotate, flush and compact is its
+//! caller's to decide. This crate decides it. [`write`] opens a log with room, flushes the one before, goes on with compactions that are due,
+//! and then commits; so it never ends with `LogFull`, and only puts that find no room in tables are refused, with `NoSpace`.
 //!
 //! | call | what it does |
 //! |---|---|
@@ -11,11 +15,18 @@
 //! | [`lack_of`] | what a store lacks that `compact_all` could not bring to the end |
 //! | [`keep_up`] | settles, and compacts where room is scarce |
 //!
-//! None of them changes the map, a snapshot, or the count of batches. What is refused is passed over: the job that it stops
+//! None of them but `write` changes the map, a snapshot, or the count of batches. What is refused is passed over: the job that it stops
 //! is given up, and the next call takes it anew.
+//!
+//! What is proved of room: a put is refused only by a store that is crowded once its memtable is flushed and no flush waits (`LacksRoom`);
+//! behind each put that is committed the flushes of all that is in memory leave a hundred blocks free (`HasRoomFor`); and a step that
+//! `lsm_room` advises to take finds room. That the steps always come to an end with room for the next batch is tested with random stores,
+//! and not proved. All of it is about stores that only this crate writes: commits past it may fill a store so far that no step finds room.
 //!
 //! A caller that may do one piece of work at a time has the same as data: an [`AdmitState`] tells what is to be done before a batch is
 //! committed, and a [`Plan`] what is to be attempted next until that is done.
+//!
+//! A [`Walk`] goes over all rows of a store, page by page.
 //!
 //! ```
 //! let mut upkeep = Upkeep::new();
@@ -32,6 +43,7 @@ mod flushing;
 mod keeping;
 mod lacking;
 mod merging;
+mod pages;
 mod piecework;
 mod planning;
 mod pushing;
@@ -48,6 +60,7 @@ pub use compacting::{compact, compact_all, compact_all_showing};
 pub use demand::Demand;
 pub use keeping::keep_up;
 pub use lacking::{Lack, Shortage, lack_of};
+pub use pages::Walk;
 pub use piecework::{PieceDone, do_piece};
 pub use planning::{Goal, Plan};
 pub use readying::{AdmitState, Verdict};

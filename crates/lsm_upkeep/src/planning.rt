@@ -86,6 +86,15 @@ impl Plan {
         None
     }
 
+    /// Whether all that is left to attempt are merges that a write needn't wait for: the log is open that it wanted, and what was in the one
+    /// before is flushed.
+    pub fn may_wait(&self) -> bool {
+        matches!(
+            (self.stage, self.goal),
+            (Stage::Compact, Goal::NextLog { .. })
+        )
+    }
+
     fn begin(&mut self, stage: Stage) {
         self.stage = stage;
         self.flush = FlushState::new();

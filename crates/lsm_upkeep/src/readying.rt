@@ -72,7 +72,7 @@ impl AdmitState {
         ensures crowded { result ≡ Refuse → LacksRoom batch.now store.now }
         ensures room { result ≡ Commit → HasRoomFor batch.now store.now }
     {
-        if store.stat().is_err() {
+        if store.is_stopped() {
             return Verdict::Commit;
         }
         if let Some(goal) = self.log_goal(store) {

@@ -62,8 +62,8 @@ pub fn next_step<D: Device>(
     match way {
         Way::Down => next_down(alloc, store),
         Way::ToTheLast => advised(alloc, standing(store).step_down_to(&alloc, 4)),
-        Way::Together => standing(store).step_together(&alloc),
-        Way::Aside => standing(store).step_aside(&alloc),
+        Way::Together => aside(standing(store).step_together(&alloc)),
+        Way::Aside => aside(standing(store).step_aside(&alloc)),
         Way::ByPolicy => step_by(alloc, store, &Policy::new()),
     }
 }
@@ -80,9 +80,17 @@ pub(crate) fn next_down<D: Device>(
 fn advised(alloc: Global, advice: Result<Advice, AllocError>) -> Result<Option<Step>, AllocError> {
     match advice {
         Ok(Advice::Nothing) => Ok(None),
-        Ok(Advice::Take(step)) => Ok(Some(step)),
+        Ok(Advice::Take(step) | Advice::Try(step)) => Ok(Some(step)),
         Ok(Advice::Lacks { choice, .. }) => Ok(Some(Step::whole(&alloc, choice)?)),
         Err(error) => Err(error),
+    }
+}
+
+// The step that is advised beside those that bring tables down, if there is one.
+fn aside(advice: Result<Advice, AllocError>) -> Result<Option<Step>, AllocError> {
+    match advice? {
+        Advice::Take(step) | Advice::Try(step) => Ok(Some(step)),
+        Advice::Nothing | Advice::Lacks { .. } => Ok(None),
     }
 }
 

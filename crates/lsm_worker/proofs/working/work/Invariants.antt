@@ -1,5 +1,0 @@
-use Rattle.lsm_worker.specs.Working.{MakesNoCall, TakesTurns}
-use Rattle.lsm_worker.proofs.working.work.Given as goal
-
-abbrev pub invariant-loop : goal.invariant-loop
-invariant-loop g l = MakesNoCall l.fn.me l.me × TakesTurns l.parts l.counter l.fn.me l.me

@@ -1,9 +1,0 @@
-use Rattle.std.proofs.Common.{◌≡◌, length}
-use Rattle.lsm_merge.proofs.OrderTests.{is_in_order}
-use Rattle.merge_tests.proofs.input.is_in_order.Given as goal
-
-abbrev pub invariant-loop-first : goal.invariant-loop-first
-invariant-loop-first g l = is_in_order l.rest ≡ is_in_order l.initial.rest
-
-abbrev pub decreases-loop-first : goal.decreases-loop-first
-decreases-loop-first g l = length l.rest

@@ -1,6 +1,0 @@
-use Rattle.std.proofs.Common.{◌∙◌, sym}
-use Rattle.lsm_merge.proofs.OrderTests.{ordered_tested}
-use Rattle.merge_tests.proofs.input.is_run.Goals as goal
-
-pub returns : goal.returns
-returns g c = λ t. ordered_tested c.args.entries.now (sym c.is_in_order.ensures ∙ t)

@@ -1,5 +1,0 @@
-use Rattle.shared_example.proofs.Making.{stores}
-use Rattle.shared_example.proofs.client.store.Goals as goal
-
-pub returns : goal.returns
-returns g c = stores _ _ _ _ c.requires c.in_ok-make.ensures c.in_ok-make-2.ensures

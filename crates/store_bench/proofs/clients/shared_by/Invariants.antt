@@ -1,5 +1,0 @@
-use Rattle.store_bench.proofs.clients.shared_by.Given as goal
-
--- the session that was just prepared
-abbrev pub ghosts-run : goal.ghosts-run
-ghosts-run g a = record { id = a.opened }

@@ -1,9 +1,0 @@
-use Rattle.std.proofs.Common.{◌≤◌}
-use Rattle.table_tests.proofs.RisingKeys.{RiseUpTo}
-use Rattle.table_tests.proofs.input.are_input.Given as goal
-
-abbrev pub invariant-loop-i : goal.invariant-loop-i
-invariant-loop-i g l = record {
-  low : 1 ≤ l.i;
-  rise : RiseUpTo l.entries l.i;
-}

@@ -1,0 +1,10 @@
+-- A block may go back from any thread from which the allocator behind takes it.
+use mir.Syntax.{Dict}
+use denote.RattleType.{RattleType}
+use denote.Param.Send.{Frees}
+use Rattle.std.specs.declared.alloc.Allocator.{Ghosts}
+use Rattle.test_merge.specs.contracts.budget.BudgetAllocator.TheImpl.{ghosts}
+
+module _ (A : RattleType) (g : Ghosts A.Denot) where
+  pub frees : (d e : Dict) → Frees g g.dealloc_token → Frees (ghosts A g d e) (ghosts A g d e).dealloc_token
+  frees d e f = record { frees = λ heap τ p. f.frees heap.inner τ p }

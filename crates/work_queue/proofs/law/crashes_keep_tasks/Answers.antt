@@ -1,5 +1,0 @@
-use Rattle.work_queue.proofs.Histories.{beginning}
-use Rattle.work_queue.proofs.law.crashes_keep_tasks.Goals as goal
-
-pub returns : goal.returns
-returns c = beginning
