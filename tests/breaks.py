@@ -1,40 +1,22 @@
-#!/usr/bin/env python3
-"""Looks whether each edit that the prover must refuse breaks the clause that it is there to break.
+"""Whether the prover's refusal of an edit is of the clause that the edit is there to break.
 
-    tests/breaks.py REPORT
-
-REPORT is what `rt ci` or `rt must-fail` printed. Each crates/NAME/must-fail/*.edit has a line `# breaks: FUNCTION.CLAUSE, ..`, as
-`put.keeps`, where `ensures` stands for a clause without a name, and a FUNCTION alone for each of its clauses. `put.loop` is what a loop
-of it keeps, `put.CALL` what it owes to a call, and `put.invariant_of` the invariant of a type. The first goal that `rt` tells of the edit
-has to be of one of these. What was refused only by a limit of the prover, or only since a name is gone, says little of a contract, and a
-bad edit says nothing.
+An edit has a line `# breaks: FUNCTION.CLAUSE, ..`, as `put.keeps`, where `ensures` stands for a clause without a name, and a FUNCTION alone
+for each of its clauses. `put.loop` is what a loop of it keeps, `put.CALL` what it owes to a call, and `put.invariant_of` the invariant of a
+type. The first goal that the prover tells of the edit has to be of one of these. What was refused only by a limit of the prover, or only
+since a name is gone, says little of a contract, and a bad edit says nothing.
 """
 
 from __future__ import annotations
 
 import re
-import sys
 from pathlib import Path
-from typing import Iterator, Optional
 
-# A line that tells what the try of one edit came to. rt says `must-fail CRATE/NAME.edit: WHAT`, and behind that what the prover said.
-TOLD = re.compile(r"rt: must-fail (?P<edit>\w+/[\w.-]+\.edit): (?P<what>.*)")
 REFUSED = "refused, as it must be"
 # The goal that the prover told first, with the file of its answer: proofs/MODULE/FUNCTION/Answers.antt:LINE:COLUMN: error: `GOAL`: TEXT.
 # One without an answer is told at its line of src/.
 GOAL = re.compile(r"(?:\./)?(?P<file>(?:proofs|src)/\S+?):\d+:\d+: error(?:\[[\w-]+\])?: (?:`(?P<goal>[^`]+)`)?")
 # What has no answer is told at the line of the function's `fn`, or at one of its body.
 NOTE = re.compile(r"note: (?P<file>src/\S+?):(?P<line>\d+):\d+: it is not proved that .*?\(`(?P<goal>[^`]+)`\)")
-
-
-def read_report(text: str) -> dict[str, str]:
-    """What was said of each edit, by CRATE/NAME.edit."""
-    return {found["edit"]: found["what"] for found in map(TOLD.fullmatch, text.splitlines()) if found}
-
-
-def unnamed(text: str) -> list[str]:
-    """What is said of bad edits that no file of the right name is: one in a folder below, or of another ending."""
-    return [line for line in text.splitlines() if ": BAD EDIT: " in line and not TOLD.fullmatch(line)]
 
 
 def clauses_of(text: str) -> list[tuple[str, str]]:
@@ -82,10 +64,8 @@ def breaks(function: str, clause: str, reason: str, folder: Path) -> bool:
     return is_of(found["goal"], clause) if found["goal"] else function in reason
 
 
-def fault(named: list[tuple[str, str]], what: Optional[str], folder: Path) -> Optional[str]:
-    """What is wrong with an edit of this crate that names these functions and clauses, by what was said of it."""
-    if what is None:
-        return "the report doesn't tell of it"
+def fault(named: list[tuple[str, str]], what: str, folder: Path) -> str | None:
+    """What is wrong with an edit of this crate that names these functions and clauses, by what its try came to."""
     if not what.startswith(REFUSED):
         return what
     reason = what[len(REFUSED) :].removeprefix(": ")
@@ -99,31 +79,3 @@ def fault(named: list[tuple[str, str]], what: Optional[str], folder: Path) -> Op
         return None
     wanted = " or ".join(".".join(filter(None, it)) for it in named)
     return f"it is to break {wanted}, and the prover says: {reason}"
-
-
-def faults(root: Path, report: str) -> Iterator[str]:
-    """What is wrong, a line for each edit."""
-    told = read_report(report)
-    for file in sorted(root.glob("crates/*/must-fail/*.edit")):
-        edit = f"{file.parts[-3]}/{file.name}"
-        why = fault(clauses_of(file.read_text(encoding="utf-8")), told.get(edit), file.parent.parent)
-        if why:
-            yield f"{edit}: {why}"
-    yield from unnamed(report)
-
-
-def main(words: list[str]) -> int:
-    if len(words) != 1:
-        print(__doc__, file=sys.stderr)
-        return 2
-    root = Path(__file__).resolve().parent.parent
-    found = list(faults(root, Path(words[0]).read_text(encoding="utf-8", errors="replace")))
-    for line in found:
-        print(f"breaks.py: {line}", file=sys.stderr)
-    if not found:
-        print("breaks.py: each edit breaks the clause that it names")
-    return 1 if found else 0
-
-
-if __name__ == "__main__":
-    sys.exit(main(sys.argv[1:]))

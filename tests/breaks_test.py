@@ -1,46 +1,38 @@
-"""Tests of breaks.py, on what `rt` prints of edits."""
+"""Tests of breaks.py, on what the prover prints of edits."""
 
 import tempfile
 import unittest
 from pathlib import Path
 
-from breaks import breaks, clauses_of, fault, faults, read_report
+from breaks import breaks, clauses_of, fault
 
 PLACE = "./proofs/cache/Cache/put/Answers.antt:10:5: error: `returns-clause-keeps`: `rw`: no occurrence of the path's left endpoint"
-REPORT = f"""== lsm_cache
-logic=proved tests=0
-rt: lsm_cache: trying its must-fail edits (1)
-rt: must-fail lsm_cache/kept.edit: refused, as it must be: {PLACE}
-rt: must-fail lsm_cache/silent.edit: refused, as it must be
-rt: must-fail lsm_cache/limit.edit: refused, as it must be (only by a limit of the prover, which gave no verdict, so this says less of the contract: choose a change that it refuses sooner): {PLACE}
-rt: must-fail lsm_cache/gone.edit: refused, as it must be (only because a proof file names what the edit took away, so this says little of the contract: change a value and keep the names): {PLACE}
-rt: must-fail lsm_cache/bad.edit: BAD EDIT: an 'old:' text is in src/cache.rt 2 times, and not once
-rt: must-fail lsm_cache/passes.edit: NOT REFUSED: the crate is still proved with this edit
-rt: must-fail lsm_cache/untried.edit: NOT TRIED: its check was killed, most likely for memory, so nothing is known of it: run this again
-rt: crates/lsm_cache/must-fail/edit.txt: BAD EDIT: an edit stands right in must-fail/, and its name ends in .edit
-61 passed, 0 failed
-"""
+LIMIT = f"refused, as it must be (only by a limit of the prover): {PLACE}"
+NAME = f"refused, as it must be (only because a proof file names what the edit took away): {PLACE}"
 
 
 class Breaks(unittest.TestCase):
-    def told(self, name: str, *named: tuple[str, str]) -> str | None:
-        return fault(list(named), read_report(REPORT).get(f"lsm_cache/{name}.edit"), Path("lsm_cache"))
+    def told(self, what: str, *named: tuple[str, str]) -> str:
+        return fault(list(named), what, Path("lsm_cache")) or ""
+
+    def kept(self, *named: tuple[str, str]) -> str:
+        return self.told(f"refused, as it must be: {PLACE}", *named)
 
     def test_the_clause_that_is_named(self) -> None:
-        self.assertIsNone(self.told("kept", ("put", "keeps")))
-        self.assertIsNone(self.told("kept", ("get", "keeps"), ("put", "keeps")))
-        self.assertIsNone(self.told("kept", ("put", "")))
+        self.assertEqual(self.kept(("put", "keeps")), "")
+        self.assertEqual(self.kept(("get", "keeps"), ("put", "keeps")), "")
+        self.assertEqual(self.kept(("put", "")), "")
 
     def test_another_clause_or_function(self) -> None:
         for named in [("put", "eps"), ("put", "keep"), ("put", "ensures"), ("get", "keeps"), ("Cache", "keeps")]:
-            self.assertEqual(self.told("kept", named), f"it is to break {'.'.join(named)}, and the prover says: {PLACE}")
-        self.assertEqual(self.told("kept", ("get", ""), ("put", "x")), f"it is to break get or put.x, and the prover says: {PLACE}")
+            self.assertEqual(self.kept(named), f"it is to break {'.'.join(named)}, and the prover says: {PLACE}")
+        self.assertEqual(self.kept(("get", ""), ("put", "x")), f"it is to break get or put.x, and the prover says: {PLACE}")
 
     def test_no_clause(self) -> None:
-        self.assertEqual(self.told("kept"), f"it has no line '# breaks: FUNCTION.CLAUSE', or more than one; the prover says: {PLACE}")
+        self.assertEqual(self.kept(), f"it has no line '# breaks: FUNCTION.CLAUSE', or more than one; the prover says: {PLACE}")
 
     def test_no_goal(self) -> None:
-        self.assertEqual(self.told("silent", ("put", "keeps")), "it is to break put.keeps, and the prover says: ")
+        self.assertEqual(self.told("refused, as it must be", ("put", "keeps")), "it is to break put.keeps, and the prover says: ")
 
     def test_goals(self) -> None:
         answers = "./proofs/writer/switch/Answers.antt:40:138: error: `returns-in_err-sync-2-clause-moments`: `rw`: no occurrence"
@@ -79,30 +71,18 @@ class Breaks(unittest.TestCase):
             self.assertTrue(breaks("newer", "ensures", note.replace(":2:", ":6:"), Path(room)))
 
     def test_refusals_that_say_little(self) -> None:
-        self.assertIn("a limit of the prover", self.told("limit") or "")
-        self.assertIn("a name is gone", self.told("gone") or "")
+        self.assertIn("a limit of the prover", self.told(LIMIT, ("put", "keeps")))
+        self.assertIn("a name is gone", self.told(NAME, ("put", "keeps")))
 
     def test_what_is_no_refusal(self) -> None:
-        for name, word in [("bad", "BAD EDIT"), ("passes", "NOT REFUSED"), ("untried", "NOT TRIED")]:
-            self.assertTrue((self.told(name) or "").startswith(word))
-        self.assertEqual(self.told("other"), "the report doesn't tell of it")
+        for what in ("BAD EDIT: an 'old:' text is in src/cache.rt 2 times, and not once", "NOT REFUSED: the prover lets it through"):
+            self.assertEqual(self.told(what, ("put", "keeps")), what)
 
     def test_the_line_of_an_edit(self) -> None:
         self.assertEqual(clauses_of("# Why.\n# breaks: put.keeps\nfile: src/cache.rt\n"), [("put", "keeps")])
         self.assertEqual(clauses_of("# breaks: lives.led, make\n"), [("lives", "led"), ("make", "")])
         for text in ("file: src/cache.rt\n", "# breaks:\n", "# breaks: a.one b.two\n", "# breaks: a.one\n# breaks: a.two\n"):
             self.assertEqual(clauses_of(text), [])
-
-    def test_files(self) -> None:
-        with tempfile.TemporaryDirectory() as room:
-            folder = Path(room) / "crates" / "lsm_cache" / "must-fail"
-            folder.mkdir(parents=True)
-            for name in ("kept", "gone", "other"):
-                (folder / f"{name}.edit").write_text("# breaks: put.keeps\nfile: src/cache.rt\n")
-            found = list(faults(Path(room), REPORT))
-        self.assertEqual([it.partition(": ")[0] for it in found[:2]], ["lsm_cache/gone.edit", "lsm_cache/other.edit"])
-        self.assertEqual(len(found), 3)
-        self.assertIn("edit.txt: BAD EDIT", found[2])
 
 
 if __name__ == "__main__":

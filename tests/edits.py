@@ -1,13 +1,15 @@
 #!/usr/bin/env python3
-"""Tries the wrong bodies that the gate leaves out: the prover must refuse each, and at the clause that it is there to break.
+"""Tries wrong bodies: the prover must refuse each, and at the clause that it is there to break.
 
-    tests/edits.py [--jobs N] [--libraries ROOT] [--said FOLDER] [CRATE | CRATE/EDIT]..
+    tests/edits.py [--gate] [--report FILE] [--jobs N] [--libraries ROOT] [--said FOLDER] [CRATE | CRATE/EDIT]..
 
-They are crates/*/edits/*.edit, in the form of must-fail/*.edit; without a name all are tried. A copy of the crate is checked over the
-libraries in crates/*/out/rlib, as `rt ci`, `./check`, `./build` and `rt lib` leave them, of this checkout or of the one at ROOT. Only the
-functions are checked whose bodies change, those that a line `# breaks:` names, and what they call; so the edits of functions that don't
-call each other go into one check, and what fails there is tried once more, alone. N crates are tried side by side, or 2. FOLDER gets what
-the prover said in each check.
+They are crates/*/edits/*.edit and crates/*/edits/gate/*.edit; with --gate only the latter, which the gate tries each time. Without a name
+all are tried. A copy of the crate is checked over the libraries in crates/*/out/rlib, as `rt ci`, `./check`, `./build` and `rt lib` leave
+them, of this checkout or of the one at ROOT. Only the functions are checked whose bodies change, those that a line `# breaks:` names, and
+what they call; so the edits of functions that don't call each other go into one check, and what fails there is tried once more, alone. N
+crates are tried side by side; if N is not given, as many as there are processors and 5 GB of free memory for each. FILE is what an `rt ci`
+prints, which may still run: a crate is tried once it tells that the libraries below are proved. FOLDER gets what the prover said in each
+check.
 
 A line tells of each edit that is let through, that breaks another clause or names none, that can't be applied, or that is refused only by
 a limit of the prover or only since a name is gone. The last line also counts those for which the prover's search only gave up.
@@ -16,11 +18,13 @@ a limit of the prover or only since a name is gone. The last line also counts th
 from __future__ import annotations
 
 import argparse
+import os
 import re
 import shutil
 import subprocess
 import sys
 import tempfile
+import time
 from concurrent.futures import ThreadPoolExecutor
 from pathlib import Path
 from typing import NamedTuple, Optional
@@ -29,6 +33,8 @@ import breaks
 from bodies import Bodies, Function, functions_of
 
 PARTS = ("src", "specs", "proofs")
+# What a check of the largest crate may take, in bytes.
+MEMORY = 5_000_000_000
 # What the prover says of a function that it was asked for, and the beginning of its last line.
 STATUS = re.compile(r"fn (?P<path>\S+): (?P<status>proved|not proved|could not tell|no proof)")
 ENDED = re.compile(r"(?m)^only=\d+ ")
@@ -38,7 +44,7 @@ NO_WORD = "is not in scope|has no field|is no name|operand is missing|expected t
 UNREAD = re.compile(rf"(?:\./)?(?P<file>\S+?):\d+:\d+: error: (?:[^`]|`[^`]*`: .*(?:{NO_WORD}))")
 GONE = re.compile(r"(?:\./)?proofs/.*(?:has no field|is not in scope|has no `|was not admitted)")
 GAVE_UP = "`search` gave up"
-# How `rt must-fail` tells of these, which breaks.py reads.
+# How these are told, which breaks.py reads.
 LIMIT = f"{breaks.REFUSED} (only by a limit of the prover)"
 NAME = f"{breaks.REFUSED} (only because a proof file names what the edit took away)"
 
@@ -62,7 +68,7 @@ class Edit(NamedTuple):
 
 
 class Verdict(NamedTuple):
-    """What the try of an edit came to, as `rt must-fail` tells it, and what is wrong with that."""
+    """What the try of an edit came to, and what is wrong with that."""
 
     what: str
     why: Optional[str]
@@ -181,6 +187,24 @@ def what_of(edit: Edit, lines: list[str], said: str) -> str:
     return f"{breaks.REFUSED}: {first or refused[0]}"
 
 
+class Report:
+    """What an `rt ci` has printed so far of the crates that are proved."""
+
+    def __init__(self, file: Optional[Path]) -> None:
+        self.file = file
+
+    def waits(self, libraries: set[str]) -> bool:
+        """Whether there is still something to be told of these libraries."""
+        text = self.file.read_text(encoding="utf-8", errors="replace") if self.file else None
+        if text is None or re.search(r"(?m)^\d+ passed, \d+ failed$", text):
+            return False
+        return bool(libraries - {*re.findall(r"(?m)^rt: (\w+) (?:proved|NOT PROVED)", text)})
+
+    def wait(self, libraries: set[str]) -> None:
+        while self.waits(libraries):
+            time.sleep(1)
+
+
 class Tries:
     """Tries edits in copies of their crates, over the libraries of a checkout, and keeps what the prover said where that is wanted."""
 
@@ -195,14 +219,18 @@ class Tries:
         folder = self.libraries / "crates" / name / "out" / "rlib" if name in self.uses else self.kit / "rlibs"
         return folder / f"{name}.rlib"
 
-    def lacking(self, crate: str) -> list[str]:
-        """The libraries below a crate that aren't there."""
+    def below(self, crate: str) -> set[str]:
+        """The libraries below a crate, those of the kit too."""
         below: set[str] = set()
         left = {crate}
         while left:
             left = {it for name in left for it in self.uses.get(name, [])} - below
             below |= left
-        return sorted(it for it in below if not self.library(it).is_dir())
+        return below
+
+    def lacking(self, crate: str) -> list[str]:
+        """The libraries below a crate that aren't there."""
+        return sorted(it for it in self.below(crate) if not self.library(it).is_dir())
 
     def command(self, crate: str, edits: list[Edit]) -> list[str]:
         source = "src/main.rt" if (self.root / "crates" / crate / "src/main.rt").is_file() else "src/lib.rt"
@@ -221,9 +249,13 @@ class Tries:
             for part in PARTS:
                 if (crate.folder / part).is_dir():
                     shutil.copytree(crate.folder / part, copy / part)
-            for edit in edits:
-                for file, text in applied(edit.pairs, copy).items():
-                    (copy / file).write_text(text, encoding="utf-8")
+            try:
+                for edit in edits:
+                    for file, text in applied(edit.pairs, copy).items():
+                        (copy / file).write_text(text, encoding="utf-8")
+            except BadEdit as error:
+                # One writes what another looks for: each is tried alone.
+                return [Verdict("", f"BAD EDIT: {error}") for _ in edits]
             how = {"cwd": copy, "stdin": subprocess.DEVNULL, "stdout": subprocess.PIPE, "stderr": subprocess.STDOUT}
             said = subprocess.run(self.command(crate.name, edits), text=True, errors="replace", **how).stdout
             if self.said:
@@ -233,9 +265,10 @@ class Tries:
             return [Verdict(what, breaks.fault(it.named, what, copy)) for it, what in zip(edits, whats)]
 
 
-def tried(tries: Tries, folder: Path, files: list[Path]) -> dict[str, Verdict]:
-    """What the tries of these edits of a crate came to."""
+def tried(tries: Tries, report: Report, folder: Path, files: list[Path]) -> dict[str, Verdict]:
+    """What the tries of these edits of a crate came to, once the libraries below it are there."""
     crate, edits, found = Crate(folder), [], {}
+    report.wait(tries.below(crate.name) & {*tries.uses})
     for file in files:
         try:
             edits.append(crate.read(file))
@@ -250,12 +283,12 @@ def tried(tries: Tries, folder: Path, files: list[Path]) -> dict[str, Verdict]:
     return found
 
 
-def chosen(root: Path, names: list[str]) -> dict[Path, list[Path]]:
-    """The edits of these names, or all, by the folders of their crates."""
+def chosen(root: Path, names: list[str], of_gate: bool = False) -> dict[Path, list[Path]]:
+    """The edits of these names, or all, or all that the gate tries, by the folders of their crates."""
     found: dict[Path, list[Path]] = {}
     wanted = {name.removesuffix(".edit") for name in names}
-    for file in sorted(root.glob("crates/*/edits/*.edit")):
-        folder = file.parent.parent
+    for file in sorted(root.glob("crates/*/edits/gate/*.edit" if of_gate else "crates/*/edits/**/*.edit")):
+        folder = root / "crates" / file.relative_to(root).parts[1]
         if not names or wanted & {folder.name, f"{folder.name}/{file.stem}"}:
             found.setdefault(folder, []).append(file)
     known = {it for folder, files in found.items() for it in [folder.name, *(f"{folder.name}/{file.stem}" for file in files)]}
@@ -264,21 +297,31 @@ def chosen(root: Path, names: list[str]) -> dict[Path, list[Path]]:
     return found
 
 
+def lanes() -> int:
+    """How many crates to try side by side: as many as there are processors, and memory for the largest."""
+    free = re.search(r"MemAvailable:\s+(\d+) kB", Path("/proc/meminfo").read_text(encoding="utf-8"))
+    return max(1, min(len(os.sched_getaffinity(0)), int(free[1]) * 1024 // MEMORY if free else 1))
+
+
 def main(words: list[str]) -> int:
     root = Path(__file__).resolve().parent.parent
     parser = argparse.ArgumentParser(prog="edits.py", description=__doc__, formatter_class=argparse.RawDescriptionHelpFormatter)
     parser.add_argument("names", nargs="*", metavar="CRATE | CRATE/EDIT")
-    parser.add_argument("--jobs", type=int, default=2)
+    parser.add_argument("--gate", action="store_true")
+    parser.add_argument("--report", type=Path)
+    parser.add_argument("--jobs", type=int, default=lanes())
     parser.add_argument("--libraries", type=Path, default=root)
     parser.add_argument("--said", type=Path)
     given = parser.parse_args(words)
-    edits = chosen(root, given.names)
+    edits = chosen(root, given.names, given.gate)
     if given.said:
         given.said.mkdir(parents=True, exist_ok=True)
     found: dict[str, Verdict] = {}
     with tempfile.TemporaryDirectory() as room, ThreadPoolExecutor(given.jobs) as pool:
         tries = Tries(root, given.libraries.resolve(), Path(room), given.said)
-        for verdicts in pool.map(lambda it: tried(tries, *it), edits.items()):
+        report, order = Report(given.report), [*tries.uses]
+        lowest_first = sorted(edits.items(), key=lambda it: order.index(it[0].name))
+        for verdicts in pool.map(lambda it: tried(tries, report, *it), lowest_first):
             found |= verdicts
             for label, verdict in verdicts.items():
                 if verdict.why:

@@ -236,6 +236,26 @@ class Runs(Bodies):
         with unittest.mock.patch.object(edits.Tries, "library", lambda _, name: self.root / "crates" / name / "out" / "rlib" / f"{name}.rlib"):
             self.assertEqual(self.tries().lacking("lsm_cache"), ["byteorder"])
 
+    def test_libraries_that_are_being_proved(self) -> None:
+        file = self.root / "report"
+        for text, waits in [
+            ("", True),
+            ("rt: lsm_low: its tests are proved\nrt: lsm_lower proved\n", True),
+            ("== lsm_low\nlogic=proved\nrt: lsm_low proved\n", False),
+            ("rt: lsm_low NOT PROVED: its library lsm_lower failed\n", False),
+            ("rt: FAILED: lsm_low\n3 passed, 1 failed\n", False),
+        ]:
+            file.write_text(text)
+            self.assertEqual(edits.Report(file).waits({"lsm_low"}), waits, text)
+        self.assertFalse(edits.Report(None).waits({"lsm_low"}))
+        self.assertEqual(self.tries().below("lsm_cache"), {"lsm_low", "byteorder"})
+
+    def test_edits_of_one_text(self) -> None:
+        files = [self.edit("kept", KEPT), self.edit("count", "file: src/cache.rt\nold: + ROOM\nnew: + ROOM; self.blocks.push(at)\n")]
+        crate = Crate(self.folder)
+        found = self.tries().check(crate, [crate.read(it) for it in reversed(files)])
+        self.assertEqual([it.why for it in found], ["BAD EDIT: an 'old:' text is in src/cache.rt 2 times, and not once"] * 2)
+
     def test_once_more_alone(self) -> None:
         files = [self.edit("kept", KEPT), self.changing("count", "+ ROOM"), self.changing("bad", "+ NONE")]
         calls = []
@@ -245,7 +265,7 @@ class Runs(Bodies):
             return [Verdict("", "no" if len(batch) > 1 and it.label.endswith("count") else None) for it in batch]
 
         with unittest.mock.patch.multiple(edits.Tries, check=check, lacking=lambda *_: []):
-            found = edits.tried(self.tries(), self.folder, files)
+            found = edits.tried(self.tries(), edits.Report(None), self.folder, files)
         self.assertEqual(calls, [["lsm_cache/kept", "lsm_cache/count"], ["lsm_cache/count"]])
         self.assertEqual([label for label, it in found.items() if it.why], ["lsm_cache/bad"])
 
@@ -253,6 +273,11 @@ class Runs(Bodies):
         self.edit("kept", KEPT), self.changing("count", "+ ROOM")
         for names, count in [([], 2), (["lsm_cache"], 2), (["lsm_cache/kept"], 1), (["lsm_cache/kept.edit", "lsm_cache/count"], 2)]:
             self.assertEqual(sum(map(len, edits.chosen(self.root, names).values())), count)
+        gate = self.folder / "edits" / "gate"
+        gate.mkdir()
+        (gate / "put_keeps_one.edit").write_text(KEPT)
+        self.assertEqual(edits.chosen(self.root, [], of_gate=True), {self.folder: [gate / "put_keeps_one.edit"]})
+        self.assertEqual(sum(map(len, edits.chosen(self.root, []).values())), 3)
         for names in (["lsm_low"], ["lsm_cache/none"]):
             with self.assertRaises(SystemExit), contextlib.redirect_stderr(io.StringIO()):
                 edits.chosen(self.root, names)

@@ -46,7 +46,7 @@ body() {
     if [ "${LEFT_OUT:-}" = "$1" ]; then cat >/dev/null; else edit; fi
 }
 refused() {
-    sed "s|^file: |file: $1/|" "crates/$1/must-fail/$2.edit" | body "$2"
+    sed "s|^file: |file: $1/|" "crates/$1/edits/gate/$2.edit" | body "$2"
 }
 
 # shows NAME WORDS: the script that is read shows a wrong body of the group.
