@@ -5,21 +5,21 @@
 #
 #     tests/filled.sh PROGRAM [STORES [SEED]]
 #
-# PROGRAM is a built `lsmctl`; the program that fills them, `test_endless`, is that of the same tree. There are 1,000 STORES from SEED 1 on.
+# PROGRAM is a built `lsmctl`; the program that fills them, `test_hostile stores`, is that of the same tree. There are 1,000 STORES from SEED 1 on.
 source "$(dirname "$(realpath "$0")")/common.sh"
 program=$(realpath "${1:?the path of a built lsmctl}")
-test_endless=$(realpath "$(dirname "$program")/../../test_endless/out/test_endless")
+test_hostile=$(realpath "$(dirname "$program")/../../test_hostile/out/test_hostile")
 stores=${2:-1000}
 seed=${3:-1}
 
-"$test_endless" "$seed" "$stores" 1000 0 0 20 2000 >"$room/said" 2>"$room/counts" || {
+"$test_hostile" stores "$seed" "$stores" 1000 0 0 20 2000 >"$room/said" 2>"$room/counts" || {
     cat "$room/counts" "$room/said" >&2
-    fail "test_endless ends with $?"
+    fail "test_hostile ends with $?"
 }
 echo "filled.sh: $(tail -n 1 "$room/counts"): $(cat "$room/said")"
 
-"$test_endless" "$seed" "$stores" 100 0 0 8 0 1 >"$room/said" 2>"$room/counts" || {
+"$test_hostile" stores "$seed" "$stores" 100 0 0 8 0 1 >"$room/said" 2>"$room/counts" || {
     cat "$room/counts" "$room/said" >&2
-    fail "test_endless with other calls ends with $?"
+    fail "test_hostile with other calls ends with $?"
 }
 echo "filled.sh: with other calls $(tail -n 1 "$room/counts"): $(cat "$room/said")"

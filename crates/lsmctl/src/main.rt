@@ -2,16 +2,18 @@
 #![tactic(auto)]
 
 ghost use Rattle.std.specs.Prelude.{◌≡◌, ◌⊎◌, ◌≤◌, IfErr};
-ghost use Rattle.lsm_cli.specs.Runs.{IsStarted};
+ghost use Rattle.lsmctl.specs.Runs.{IsStarted};
 ghost use Rattle.lsm_device.specs.declared.refusal.Refusal.TheVariants.{NoMemory};
 ghost use Rattle.lsm_language.specs.Faults.{mistake, reason_of, refusal};
 
 mod meter;
+mod parser;
+mod program;
 mod streams;
 
 use crate::meter::Meter;
+use crate::program::run;
 use crate::streams::fill_closed;
-use lsm_cli::run;
 use lsm_language::{Fault, Usage};
 use lsm_progress::Progress;
 use lsm_requests::conclude;

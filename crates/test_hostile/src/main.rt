@@ -1,5 +1,5 @@
 //! Hostile use of a store: one call of its device fails, one growth of memory is refused, or its image is none that a store
-//! wrote. Its answers agree with those of a plain machine.
+//! wrote. Its answers agree with those of a plain machine. Behind the word `stores` it fills stores at random in their place.
 #![tactic(auto)]
 
 mod attacked;
@@ -7,6 +7,7 @@ mod checks;
 mod deeds;
 mod explorations;
 mod faults;
+mod filling;
 mod foreign;
 mod front_doors;
 mod growths;
@@ -20,35 +21,46 @@ mod spots;
 mod sweeps;
 mod tally;
 
+use crate::filling::fill;
 use crate::sweeps::{Extent, sweep_all, sweep_one};
 use crate::tally::Tally;
 use anyhow::Result;
 use std::env;
 use std::process::ExitCode;
+use std::sync::Wait;
+use std::thread::Threads;
 
 /// Of all cases the part, in ten-thousandths, that is tried where no argument says so.
 const PART: u64 = 500;
 
-fn main(rt: HostRuntime) -> Result<ExitCode> {
-    let mut words = env::args(&rt)?.skip(1);
-    let part = match words.next() {
-        Some(word) => word.parse::<u64>()?,
-        None => PART,
-    };
-    let alone = match words.next() {
-        Some(word) => Some(word.parse::<usize>()?),
-        None => None,
-    };
+/// The number that the word of a place spells, where there is one.
+fn number(words: &[String], place: usize) -> Result<Option<u64>> {
+    match words.get(place) {
+        Some(word) => Ok(Some(word.parse::<u64>()?)),
+        None => Ok(None),
+    }
+}
+
+/// Tries the part of all cases that the words say, or that of one list, and tells whether there was no difference.
+fn sweep<R: Threads + Wait + Print + Eprint + AllocGlobal + Sync>(
+    rt: &R,
+    words: &[String],
+) -> Result<bool> {
     let alloc = rt.alloc();
-    let extent = Extent::of(part);
-    let swept = match alone {
-        Some(place) => sweep_one(&rt, alloc, extent, place),
-        None => sweep_all(&rt, alloc, extent),
+    let extent = Extent::of(number(words, 0)?.unwrap_or(PART));
+    let swept = match number(words, 1)? {
+        Some(place) => sweep_one(
+            rt,
+            alloc,
+            extent,
+            usize::try_from(place).unwrap_or(usize::MAX),
+        ),
+        None => sweep_all(rt, alloc, extent),
     };
     let Ok(found) = swept else {
-        return Ok(ExitCode::FAILURE);
+        return Ok(false);
     };
-    for (sweep, tally) in [
+    for (what, tally) in [
         ("one call fails", found.faults),
         ("one growth is refused", found.growths),
         ("openings and checks", found.openings),
@@ -67,7 +79,7 @@ fn main(rt: HostRuntime) -> Result<ExitCode> {
             tables: _,
         } = tally;
         eprintln!(rt;
-            "{sweep}: {cases} cases, {failed} calls failed, {refused} growths refused, {openings} openings"
+            "{what}: {cases} cases, {failed} calls failed, {refused} growths refused, {openings} openings"
         )?;
     }
     for difference in found.differences.iter() {
@@ -75,8 +87,20 @@ fn main(rt: HostRuntime) -> Result<ExitCode> {
     }
     let differences = found.differences.len();
     println!(rt; "{}: {differences} differences", found.told())?;
-    if differences > 0 {
-        return Ok(ExitCode::FAILURE);
+    Ok(differences == 0)
+}
+
+fn main(rt: HostRuntime) -> Result<ExitCode> {
+    let mut words = Vec::new(rt.alloc());
+    for word in env::args(&rt)?.skip(1) {
+        words.push(word)?;
     }
-    Ok(ExitCode::SUCCESS)
+    let is_well = match words.first() {
+        Some(first) if first.as_str() == "stores" => fill(&rt, &words)?,
+        _ => sweep(&rt, &words)?,
+    };
+    if is_well {
+        return Ok(ExitCode::SUCCESS);
+    }
+    Ok(ExitCode::FAILURE)
 }

@@ -1,5 +1,0 @@
-use Rattle.lsm_cli.proofs.ProgramLaws.{IsCommand-subcommand}
-use Rattle.lsm_cli.proofs.parser.adding.Goals as goal
-
-pub returns : goal.returns
-returns c = λ app above. IsCommand-subcommand c.in_ok-subcommand-2.ensures above c.in_ok-subcommand.ensures

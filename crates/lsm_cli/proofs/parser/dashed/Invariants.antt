@@ -1,6 +1,0 @@
-use Rattle.std.proofs.Common.{◌≡◌, map, drop}
-use Rattle.lsm_cli.specs.Runs.{has_dash}
-use Rattle.lsm_cli.proofs.parser.dashed.Given as goal
-
-abbrev pub invariant-loop-word : goal.invariant-loop-word
-invariant-loop-word g l = has_dash (map g.S.AsStr.text (drop l.word-index l.words)) ≡ has_dash (map g.S.AsStr.text l.words)
