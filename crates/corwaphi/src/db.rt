@@ -5,7 +5,7 @@ ghost use Rattle.lsm_device.specs.Calls.{faults_after};
 ghost use Rattle.lsm_device.specs.Disk.{seen};
 ghost use Rattle.lsm_device.specs.Medium.{disk};
 ghost use Rattle.lsm_device.specs.Refusals.{is_no_fault};
-ghost use Rattle.lsm_machine.specs.CrashState.{CrashState};
+ghost use Rattle.lsm_root.specs.CrashState.{CrashState};
 ghost use Rattle.lsm_open.specs.Image.{StandFor};
 ghost use Rattle.lsm_open.specs.Recovering.{FailsToOpen, IsOpeningRefusal};
 ghost use Rattle.lsm_open.specs.RefusedOpenings.{opening_refusal};

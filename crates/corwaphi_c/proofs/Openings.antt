@@ -15,7 +15,7 @@ use Rattle.lsm_mapped.specs.Disks.{IsFilledWith, mapped}
 use Rattle.lsm_mapped.specs.declared.mapped.MappedDevice.{MappedDevice}
 use Rattle.lsm_root.specs.Counted.{CallsMade}
 use Rattle.lsm_root.specs.Layout.{IsGeometry}
-use Rattle.lsm_machine.specs.CrashState.{CrashState, formatted as empty_store}
+use Rattle.lsm_root.specs.CrashState.{CrashState, formatted as empty_store}
 use Rattle.lsm_open.specs.Formatted.{IsFormatted, handed_back, without_device}
 use Rattle.lsm_open.specs.Image.{StandFor}
 use Rattle.lsm_open.specs.Recovering.{BeginsWithSync, FailsToOpen, IsOpeningRefusal}

@@ -10,7 +10,7 @@ use Rattle.lsm_device.specs.declared.refusal.Refusal.{Refusal}
 use Rattle.lsm_device.specs.declared.refusal.Refusal.TheVariants.{BadGeometry, BadLimit, Io, NoMemory}
 use Rattle.lsm_root.specs.Counted.{CallsMade}
 use Rattle.lsm_root.specs.Layout.{IsGeometry}
-use Rattle.lsm_machine.specs.CrashState.{CrashState, formatted as empty_store}
+use Rattle.lsm_root.specs.CrashState.{CrashState, formatted as empty_store}
 use Rattle.lsm_open.specs.Formatted.{IsFormatted}
 use Rattle.lsm_open.specs.Image.{StandFor}
 use Rattle.lsm_open.specs.Recovering.{FailsToOpen, IsOpeningRefusal}

@@ -9,7 +9,7 @@ use Rattle.lsm_device.specs.Medium.{Medium, disk, zeroed}
 use Rattle.lsm_device.specs.Memory.{medium_in}
 use Rattle.lsm_device.specs.declared.memory.MemDevice.{MemDevice}
 use Rattle.lsm_device.specs.Outcomes.{Leaves}
-use Rattle.lsm_machine.specs.CrashState.{CrashState, formatted}
+use Rattle.lsm_root.specs.CrashState.{CrashState, formatted}
 use Rattle.lsm_open.specs.Image.{StandFor}
 use Rattle.lsm_open.specs.Recovering.{StandForOne}
 use Rattle.lsm_machine.specs.Calls.{Call, Reply}

@@ -7,7 +7,7 @@ use Rattle.lsm_device.specs.Calls.{faults_after}
 use Rattle.lsm_device.specs.Disk.{seen}
 use Rattle.lsm_device.specs.Medium.{Medium, disk}
 use Rattle.lsm_device.specs.Refusals.{is_no_fault}
-use Rattle.lsm_machine.specs.CrashState.{CrashState}
+use Rattle.lsm_root.specs.CrashState.{CrashState}
 use Rattle.lsm_open.specs.Image.{StandFor}
 use Rattle.lsm_open.specs.RefusedOpenings.{opening_refusal}
 use Rattle.lsm_open.specs.Recovering.{FailsToOpen}

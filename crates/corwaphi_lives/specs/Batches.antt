@@ -2,7 +2,7 @@
 -- when upkeep is put aside.
 use Rattle.std.specs.Prelude.{◌≡◌, ◌⊎◌, ◌||◌, ◌==◌, ℕ, not, true, nat_lt, List, [], ◌∷◌, ◌++◌, length, map, filter, Option, Some, None}
 use Rattle.lsm_device.specs.declared.refusal.Refusal.TheVariants.{NoSpace, Stopped}
-use Rattle.lsm_machine.specs.CrashState.{formatted}
+use Rattle.lsm_root.specs.CrashState.{formatted}
 use Rattle.lsm_machine.specs.Calls.{Call, Reply}
 use Rattle.lsm_machine.specs.Calls.{Commit, CommitIf, Snapshot, Release, Rotate, Number, Done, Refused}
 use Rattle.lsm_upkeep.specs.Writing.{has_puts, without_log_full}

@@ -1,7 +1,7 @@
 -- Ring 2 of the theorem for a `Db`: the device that its lives leave holds the map that is kept.
 use Rattle.std.specs.Prelude.{ℕ, List, [], Option}
 use Rattle.lsm_device.specs.Disk.{Disk}
-use Rattle.lsm_machine.specs.CrashState.{formatted}
+use Rattle.lsm_root.specs.CrashState.{formatted}
 use Rattle.lsm_machine.specs.Calls.{Call, Reply}
 use Rattle.lsm_lives.specs.Batches.{Act}
 use Rattle.lsm_lives.specs.Devices.{KeepsBatchesOn}

@@ -5,7 +5,7 @@ use Rattle.std.specs.Global.{Global}
 use Rattle.lsm_device.specs.Medium.{Medium, KeepsFuse, disk, crashed, zeroed}
 use Rattle.lsm_device.specs.Outcomes.{Leaves}
 use Rattle.lsm_device.specs.declared.refusal.Refusal.TheVariants.{Stopped}
-use Rattle.lsm_machine.specs.CrashState.{formatted}
+use Rattle.lsm_root.specs.CrashState.{formatted}
 use Rattle.lsm_open.specs.Image.{StandFor}
 use Rattle.lsm_store.specs.Backing.{StoreView}
 use Rattle.lsm_machine.specs.Calls.{Call, Reply}

@@ -5,7 +5,7 @@ use Rattle.std.specs.Prelude.{not, if◌then◌else◌}
 use Rattle.lsm_codec.specs.BatchText.{is_key}
 use Rattle.lsm_codec.specs.Keys.{Bytes}
 use Rattle.lsm_device.specs.declared.refusal.Refusal.TheVariants.{BadKey}
-use Rattle.lsm_machine.specs.CrashState.{CrashState}
+use Rattle.lsm_root.specs.CrashState.{CrashState}
 use Rattle.lsm_machine.specs.declared.asked.At.TheVariants.{Now}
 use Rattle.lsm_store.specs.Backing.{StoreView, IsBacked}
 use Rattle.lsm_machine.specs.Calls.{Reply}

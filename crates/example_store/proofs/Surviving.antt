@@ -9,7 +9,7 @@ use Rattle.lsm_codec.specs.BatchText.{is_key}
 use Rattle.lsm_codec.specs.Keys.{Bytes, byte_order}
 use Rattle.lsm_codec.specs.Map.{Operation, apply}
 use Rattle.lsm_device.specs.declared.refusal.Refusal.TheVariants.{BadKey}
-use Rattle.lsm_machine.specs.CrashState.{CrashState, formatted}
+use Rattle.lsm_root.specs.CrashState.{CrashState, formatted}
 use Rattle.lsm_machine.specs.declared.asked.At.TheVariants.{Now}
 use Rattle.lsm_machine.specs.Calls.{Reply, Commit, Sync, Get, Number, Done, Value}
 use Rattle.lsm_machine.specs.Crash.{may_leave, reopened}

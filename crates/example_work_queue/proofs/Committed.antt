@@ -8,7 +8,7 @@ use Rattle.lsm_codec.specs.Map.{Map, Operation, apply}
 use Rattle.lsm_codec.proofs.KeyOrder.{same_key}
 use Rattle.lsm_device.specs.declared.refusal.Refusal.{Refusal}
 use Rattle.lsm_device.specs.declared.refusal.Refusal.TheVariants.{Io, LogFull, Stopped, TooManyGuards, Exhausted, GuardFailed}
-use Rattle.lsm_machine.specs.CrashState.{last_number}
+use Rattle.lsm_root.specs.CrashState.{last_number}
 use Rattle.lsm_store.specs.Backing.{StoreView, IsBacked}
 use Rattle.lsm_machine.specs.Calls.{Call, Reply, CommitIf, Get, Scan, Number, Done, Value, Rows, Given, Handed, Refused, Unread}
 use Rattle.lsm_machine.specs.Effects.{reply_by}

@@ -8,7 +8,7 @@ use Rattle.std.specs.FinMap as finite
 use Rattle.std.specs.FinMap.{get-empty}
 use Rattle.lsm_codec.specs.Keys.{Bytes, byte_order}
 use Rattle.lsm_codec.specs.Map.{Map, Operation, apply, apply_all}
-use Rattle.lsm_machine.specs.CrashState.{CrashState}
+use Rattle.lsm_root.specs.CrashState.{CrashState}
 use Rattle.lsm_machine.specs.Lives.{IsAfter, IsPrefixFrom}
 use Rattle.example_work_queue.specs.Tasks.{Status, NotGiven, Waiting, Claimed, Finished, IsQueue, last_key, number_of, status}
 use Rattle.example_work_queue.specs.Deeds.{Deed, Adds, Claims, Finishes, AreDone, Does, GoesOn, IsAdded, IsClaimed, IsFinished, IsStatusBy, MayBeDone, Moves, Tells, TellsBeginning, batch_of, map_after, task_of}

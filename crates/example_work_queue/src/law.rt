@@ -3,7 +3,7 @@ ghost use Rattle.std.specs.FinMap as finite;
 ghost use Rattle.std.specs.Prelude.{◌≡◌, ℕ, ◌++◌, List, Some, map, slice_get};
 ghost use Rattle.lsm_codec.specs.Keys.{Bytes};
 ghost use Rattle.lsm_codec.specs.Map.{Map, Operation, apply};
-ghost use Rattle.lsm_machine.specs.CrashState.{CrashState};
+ghost use Rattle.lsm_root.specs.CrashState.{CrashState};
 ghost use Rattle.lsm_machine.specs.Lives.{IsAfter, IsPrefixFrom};
 ghost use Rattle.example_work_queue.specs.Deeds.{AreDone, Deed, Claims, Does, GoesOn, MayBeDone, Tells, TellsBeginning, batch_of, map_after};
 ghost use Rattle.example_work_queue.specs.Tasks.{IsQueue, status};

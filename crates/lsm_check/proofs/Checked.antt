@@ -12,7 +12,7 @@ use Rattle.lsm_extent.specs.Area.{Area, covers}
 use Rattle.lsm_levels.specs.Levels.{Levels, all_tables, places}
 use Rattle.lsm_levels.specs.Tables.{versions_of}
 use Rattle.lsm_open.specs.Counting.{with_tables, IsCountedRoot}
-use Rattle.lsm_machine.specs.CrashState.{CrashState}
+use Rattle.lsm_root.specs.CrashState.{CrashState}
 use Rattle.lsm_open.specs.Image.{count_in, HoldNamed, StandFor}
 use Rattle.lsm_open.specs.Tables.{first_data, table_versions}
 use Rattle.lsm_open.specs.ToldTables.{told_tables, record_extent, HaveNamed}

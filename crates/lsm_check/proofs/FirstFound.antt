@@ -11,7 +11,7 @@ use Rattle.lsm_device.specs.declared.refusal.Refusal.TheVariants.{NoMemory, Io, 
 use Rattle.lsm_levels.specs.Levels.{Levels}
 use Rattle.lsm_log.specs.Opened.{HasNoneAbove}
 use Rattle.lsm_open.specs.Counting.{with_tables, counted_records, IsCountedRoot}
-use Rattle.lsm_machine.specs.CrashState.{last_number}
+use Rattle.lsm_root.specs.CrashState.{last_number}
 use Rattle.lsm_open.specs.LogRegions.{first_region, follow_on}
 use Rattle.lsm_open.specs.RefusedOpenings.{opening_refusal}
 use Rattle.lsm_open.specs.ToldTables.{told_levels, IsRefusedFor}

@@ -9,7 +9,7 @@ use Rattle.lsm_device.specs.declared.refusal.Refusal.{Refusal}
 use Rattle.lsm_device.specs.declared.refusal.Refusal.TheVariants.{NoMemory, Io, BadManifest}
 use Rattle.lsm_extent.specs.Area.{Area, covers, count_below, free_count, is_free, is_held}
 use Rattle.lsm_open.specs.Counting.{IsCountedRoot}
-use Rattle.lsm_machine.specs.CrashState.{CrashState}
+use Rattle.lsm_root.specs.CrashState.{CrashState}
 use Rattle.lsm_open.specs.Image.{count_in, StandFor}
 use Rattle.lsm_open.specs.LogRegions.{follow_on}
 use Rattle.lsm_open.specs.Reopening.{GoesOn}

@@ -6,7 +6,7 @@ use Rattle.std.proofs.lemmas.List.Elements.{Contains-append_cases}
 use Rattle.lsm_device.specs.declared.refusal.Refusal.TheVariants.{Io}
 use Rattle.lsm_jobs.specs.Slots.{Slot}
 use Rattle.lsm_levels.specs.Pick.{is_flush}
-use Rattle.lsm_machine.specs.CrashState.{CrashState, in_next_generation, last_number}
+use Rattle.lsm_root.specs.CrashState.{CrashState, in_next_generation, last_number}
 use Rattle.lsm_machine.specs.Calls.{Call, Reply}
 use Rattle.lsm_machine.specs.Calls.{Commit, CommitIf, Sync, SyncTo, Get, Scan, Snapshot, Release, Rotate, LogRoom, Number, Done, Value, Rows, Given, Handed, Refused, Unread}
 use Rattle.lsm_machine.specs.Crash.{crash_state_at, left_besides, left_with}

@@ -2,7 +2,7 @@
 use Rattle.std.proofs.Common.{◌≡◌, ◌≤◌, ◌<◌, ◌^◌, ◌⊎◌, inl, inr, ℕ, zero, suc, ◌+◌, ◌-◌, Bool, true, Result, Ok, Err, List, [], ◌∷◌, ◌++◌, length, take, drop, Option, None, Some, slice_get, refl, ap, sym, subst, ◌∙◌, arith}
 use Rattle.std.proofs.Math.Nat.{add-zero}
 use Rattle.std.proofs.lemmas.List.{append-nil, take_all, take-append-le, length-append, length-map, length-take-le, length-drop}
-use Rattle.lsm_machine.proofs.Beginnings.{apply_all-append, take_sum}
+use Rattle.lsm_root.proofs.Beginnings.{apply_all-append, take_sum}
 use Rattle.std.specs.Prelude.{IsNone, IsSome}
 use Rattle.std.specs.FinMap as finite
 use Rattle.lsm_codec.specs.Map.{Map, Operation, apply, apply_all}
@@ -12,7 +12,7 @@ use Rattle.lsm_device.specs.Disk.{Disk, image, seen, at_rest}
 use Rattle.lsm_device.specs.Medium.{Medium, KeepsFuse, disk, crashed}
 use Rattle.lsm_device.specs.Outcomes.{Leaves}
 use Rattle.lsm_image.specs.Media.{begun}
-use Rattle.lsm_machine.specs.CrashState.{CrashState, MayRefuseOpening, formatted as empty_store}
+use Rattle.lsm_root.specs.CrashState.{CrashState, MayRefuseOpening, formatted as empty_store}
 use Rattle.lsm_open.specs.Image.{StandFor}
 use Rattle.lsm_store.specs.Backing.{StoreView}
 use Rattle.lsm_machine.specs.Calls.{Reply}

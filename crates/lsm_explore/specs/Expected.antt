@@ -2,7 +2,7 @@
 use Rattle.std.specs.Prelude.{◌≡◌, ◌<◌, ◌≤◌, ℕ, ◌+◌, List, [], ◌∷◌, ◌++◌, take, drop, map, ◌-◌, slice_get, IsNone, Option, None, Some}
 use Rattle.std.specs.FinMap as finite
 use Rattle.lsm_codec.specs.Map.{Map, Operation, apply_all}
-use Rattle.lsm_machine.specs.CrashState.{CrashState, last_number}
+use Rattle.lsm_root.specs.CrashState.{CrashState, last_number}
 use Rattle.lsm_open.specs.Image.{StandFor}
 use Rattle.lsm_store.specs.Backing.{StoreView, IsBacked}
 use Rattle.lsm_machine.specs.RecoveryPoints.{batch_count, present_map}

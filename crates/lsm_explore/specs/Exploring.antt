@@ -4,7 +4,7 @@ use Rattle.std.specs.List.{list_any}
 use Rattle.lsm_device.specs.Disk.{image}
 use Rattle.lsm_device.specs.Medium.{Medium, disk}
 use Rattle.lsm_image.specs.Media.{begun}
-use Rattle.lsm_machine.specs.CrashState.{formatted as empty_store}
+use Rattle.lsm_root.specs.CrashState.{formatted as empty_store}
 use Rattle.lsm_open.specs.Image.{StandFor}
 use Rattle.lsm_device.specs.declared.refusal.Refusal.TheVariants.{NoMemory}
 use Rattle.lsm_machine.specs.Calls.{Refused}

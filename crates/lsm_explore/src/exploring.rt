@@ -7,7 +7,7 @@ ghost use Rattle.lsm_device.specs.Disk.{IsSector, image};
 ghost use Rattle.lsm_device.specs.Medium.{Medium, disk};
 ghost use Rattle.lsm_device.specs.Outcomes.{Leaves};
 ghost use Rattle.lsm_image.specs.Media.{begun, medium_in};
-ghost use Rattle.lsm_machine.specs.CrashState.{formatted as empty_store};
+ghost use Rattle.lsm_root.specs.CrashState.{formatted as empty_store};
 ghost use Rattle.lsm_open.specs.Image.{StandFor};
 ghost use Rattle.lsm_root.specs.Layout.{IsGeometry};
 ghost use Rattle.lsm_lives.specs.Calls.{asked_of, told_of};

@@ -2,7 +2,7 @@
 use Rattle.std.proofs.Common.{◌≡◌, ℕ, List, ap, ◌∙◌}
 use Rattle.lsm_device.specs.Medium.{Medium, disk, zeroed}
 use Rattle.lsm_device.specs.Outcomes.{Leaves}
-use Rattle.lsm_machine.specs.CrashState.{CrashState}
+use Rattle.lsm_root.specs.CrashState.{CrashState}
 use Rattle.lsm_open.specs.Image.{StandFor}
 use Rattle.lsm_lives.specs.Asked.{Told}
 use Rattle.lsm_lives.specs.Devices.{AreLedOn}

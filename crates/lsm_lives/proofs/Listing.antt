@@ -23,7 +23,7 @@ use Rattle.lsm_machine.specs.Effects.{reply_by}
 use Rattle.lsm_store.specs.Backing.{StoreView, IsBacked}
 use Rattle.lsm_machine.specs.RecoveryPoints.{present_map}
 use Rattle.lsm_machine.specs.Refusals.{refusal}
-use Rattle.lsm_machine.specs.CrashState.{CrashState}
+use Rattle.lsm_root.specs.CrashState.{CrashState}
 use Rattle.lsm_machine.specs.Run.{Allows}
 use Rattle.lsm_store.specs.Serving.{Serves}
 use Rattle.lsm_machine.specs.State.{State}

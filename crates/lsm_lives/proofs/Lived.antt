@@ -8,10 +8,10 @@ use Rattle.lsm_device.specs.History.{present}
 use Rattle.lsm_device.specs.Medium.{Medium, disk}
 use Rattle.lsm_device.specs.Outcomes.{Leaves}
 use Rattle.lsm_device.proofs.Moments.{ended}
-use Rattle.lsm_machine.specs.CrashState.{CrashState, left_by_opening}
+use Rattle.lsm_root.specs.CrashState.{CrashState, left_by_opening}
 use Rattle.lsm_open.specs.Image.{StandFor}
 use Rattle.lsm_open.specs.Recovering.{StandForOne, FailsToOpen, CrashesWhileOpening}
-use Rattle.lsm_machine.proofs.Openings.{same_again}
+use Rattle.lsm_root.proofs.Openings.{same_again}
 use Rattle.lsm_store.specs.Backing.{StoreView, machine_of}
 use Rattle.lsm_machine.specs.Calls.{Reply}
 use Rattle.lsm_machine.specs.Calls.{Number, Done, Value, Rows, Given, Handed, Refused, Unread}

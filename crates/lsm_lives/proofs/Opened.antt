@@ -8,12 +8,12 @@ use Rattle.lsm_device.specs.Calls.{AtMost, faults_after}
 use Rattle.lsm_device.specs.Disk.{seen}
 use Rattle.lsm_device.specs.Medium.{Medium, Lasting, KeepsFuse, disk}
 use Rattle.lsm_device.specs.Refusals.{is_no_fault}
-use Rattle.lsm_machine.specs.CrashState.{CrashState}
+use Rattle.lsm_root.specs.CrashState.{CrashState}
 use Rattle.lsm_open.specs.Image.{StandFor}
 use Rattle.lsm_open.specs.RefusedOpenings.{opening_refusal}
 use Rattle.lsm_open.specs.Recovering.{BeginsWithSync, FailsToOpen}
 use Rattle.lsm_root.specs.Layout.{IsDeviceSize}
-use Rattle.lsm_machine.proofs.Openings.{same_again}
+use Rattle.lsm_root.proofs.Openings.{same_again}
 use Rattle.lsm_store.specs.Backing.{StoreView}
 use Rattle.lsm_machine.specs.Calls.{Number, Done, Value, Rows, Given, Handed, Refused, Unread}
 use Rattle.lsm_machine.specs.RecoveryPoints.{batch_count}

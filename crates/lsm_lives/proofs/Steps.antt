@@ -9,7 +9,7 @@ use Rattle.lsm_device.specs.History.{EachSince}
 use Rattle.lsm_device.specs.Medium.{disk}
 use Rattle.lsm_device.specs.Outcomes.{Leaves}
 use Rattle.lsm_device.proofs.Moments.{started, joined, weaker, ended}
-use Rattle.lsm_machine.specs.CrashState.{CrashState}
+use Rattle.lsm_root.specs.CrashState.{CrashState}
 use Rattle.lsm_open.specs.Recovering.{StandForOne}
 use Rattle.lsm_open.proofs.OneMeaning.{one_meaning}
 use Rattle.lsm_store.specs.Backing.{StoreView, IsBacked, machine_of}

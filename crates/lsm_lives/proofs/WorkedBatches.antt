@@ -6,7 +6,7 @@ use Rattle.lsm_codec.specs.BatchText.{batch_text}
 use Rattle.lsm_codec.specs.Keys.{Bytes}
 use Rattle.lsm_codec.specs.Map.{Map, Operation, apply_all}
 use Rattle.lsm_device.specs.declared.refusal.Refusal.TheVariants.{Io, LogFull}
-use Rattle.lsm_machine.specs.CrashState.{CrashState, formatted}
+use Rattle.lsm_root.specs.CrashState.{CrashState, formatted}
 use Rattle.lsm_machine.specs.Calls.{Reply}
 use Rattle.lsm_machine.specs.Calls.{Commit, Sync, Get, Number, Done, Value, Refused, Unread, as_told}
 use Rattle.lsm_machine.specs.Crash.{reopened}

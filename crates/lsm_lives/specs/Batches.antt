@@ -4,7 +4,7 @@ use Rattle.std.specs.Prelude.{◌≡◌, ◌≢◌, ◌⊎◌, ℕ, ◌+◌, nat
 use Rattle.std.specs.declared.vec.Vec.{Vec}
 use Rattle.lsm_codec.specs.Map.{Operation}
 use Rattle.lsm_device.specs.declared.refusal.Refusal.TheVariants.{Io, Stopped}
-use Rattle.lsm_machine.specs.CrashState.{CrashState, last_number, MayRefuseOpening, left_by_opening}
+use Rattle.lsm_root.specs.CrashState.{CrashState, last_number, MayRefuseOpening, left_by_opening}
 use Rattle.lsm_machine.specs.Calls.{Call, Reply}
 use Rattle.lsm_machine.specs.Calls.{Commit, CommitIf, Sync, SyncTo, Rotate, Number, Done, Refused, as_told}
 use Rattle.lsm_machine.specs.Crash.{may_leave, last_crash_state, reopened}

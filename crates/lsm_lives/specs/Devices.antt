@@ -4,7 +4,7 @@ use Rattle.lsm_codec.specs.Map.{Operation}
 use Rattle.lsm_device.specs.Disk.{Disk}
 use Rattle.lsm_device.specs.Medium.{Medium, disk, zeroed}
 use Rattle.lsm_device.specs.Outcomes.{Leaves}
-use Rattle.lsm_machine.specs.CrashState.{CrashState}
+use Rattle.lsm_root.specs.CrashState.{CrashState}
 use Rattle.lsm_open.specs.Image.{StandFor}
 use Rattle.lsm_machine.specs.Calls.{Reply}
 use Rattle.lsm_machine.specs.Lives.{IsAfter}

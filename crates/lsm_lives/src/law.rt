@@ -10,7 +10,7 @@ ghost use Rattle.lsm_lives.specs.Devices.{KeepsBatchesOn};
 ghost use Rattle.lsm_lives.specs.Leading.{LifeView, LeadsTo, AreLed};
 ghost use Rattle.lsm_lives.specs.Living.{asked_in, Holds, AfterCrash, AreLived, KeepPromise};
 ghost use Rattle.lsm_lives.specs.Replaying.{MakesEach, AreReplayed, Replays, GoOn};
-ghost use Rattle.lsm_machine.specs.CrashState.{CrashState};
+ghost use Rattle.lsm_root.specs.CrashState.{CrashState};
 ghost use Rattle.lsm_open.specs.Image.{StandFor};
 ghost use Rattle.lsm_store.specs.Backing.{StoreView, IsBacked};
 ghost use Rattle.lsm_machine.specs.Calls.{Reply};

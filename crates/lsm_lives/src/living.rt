@@ -9,7 +9,7 @@ ghost use Rattle.lsm_lives.specs.Asked.{told_stopped};
 ghost use Rattle.lsm_lives.specs.Calls.{asked_of, told_of};
 ghost use Rattle.lsm_lives.specs.Leading.{life_of, BeginsOn, FailsOn, IsLed, LeadsTo, AreLed, with_fuse};
 ghost use Rattle.lsm_lives.specs.Living.{asked_by, told_by, KeepPromise, HavePlaces};
-ghost use Rattle.lsm_machine.specs.CrashState.{CrashState};
+ghost use Rattle.lsm_root.specs.CrashState.{CrashState};
 ghost use Rattle.lsm_open.specs.Image.{StandFor};
 ghost use Rattle.lsm_machine.specs.Lives.{IsAfter};
 

@@ -6,7 +6,7 @@ ghost use Rattle.lsm_lives.specs.Batches.{acts_by, replies_by, KeepsBatches};
 ghost use Rattle.lsm_lives.specs.Devices.{KeepsBatchesOn, AreLedOn};
 ghost use Rattle.lsm_lives.specs.Leading.{life_of};
 ghost use Rattle.lsm_lives.specs.Living.{asked_by, told_by, KeepPromise};
-ghost use Rattle.lsm_machine.specs.CrashState.{formatted};
+ghost use Rattle.lsm_root.specs.CrashState.{formatted};
 
 use crate::calls::Reply;
 use crate::living::{Life, lives};

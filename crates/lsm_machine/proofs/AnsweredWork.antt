@@ -8,7 +8,7 @@ use Rattle.lsm_device.specs.Medium.{Medium}
 use Rattle.lsm_device.specs.declared.refusal.Refusal.{Refusal}
 use Rattle.lsm_device.specs.declared.refusal.Refusal.TheVariants.{NoMemory, Io, NoSuchJob, WrongState, ForeignResult, NoSpace, Exhausted}
 use Rattle.lsm_extent.specs.Area.{Area}
-use Rattle.lsm_machine.specs.CrashState.{last_number}
+use Rattle.lsm_root.specs.CrashState.{last_number}
 use Rattle.lsm_table.specs.Division.{TableBlocks}
 use Rattle.lsm_merge.specs.Inputs.{MergeInput}
 use Rattle.lsm_merge.specs.Results.{MergeResult}

@@ -8,7 +8,7 @@ use Rattle.lsm_device.specs.declared.refusal.Refusal.TheVariants.{NoSuchJob, Wro
 use Rattle.lsm_jobs.specs.Refusing.{IsNotWritten}
 use Rattle.lsm_jobs.specs.Slots.{Stage, Slot, Writing, is_written, is_not_at, outputs_at}
 use Rattle.lsm_levels.specs.Levels.{Levels, all_tables, places}
-use Rattle.lsm_machine.specs.CrashState.{last_number}
+use Rattle.lsm_root.specs.CrashState.{last_number}
 use Rattle.lsm_machine.specs.Work.{Install}
 use Rattle.lsm_machine.specs.WorkRefusals.{held, of_slot, has_too_many_runs, has_too_many_tables, running_refusal}
 use Rattle.lsm_machine.specs.Machine.{Machine}

@@ -1,5 +1,3 @@
-pub mod Openings
-pub mod Beginnings
 pub mod Membership
 pub mod Points
 pub mod GuardReads

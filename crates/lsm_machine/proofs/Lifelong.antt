@@ -4,14 +4,14 @@ use Rattle.std.specs.Prelude.{Contains}
 use Rattle.std.specs.FinMap as finite
 use Rattle.std.proofs.lemmas.List.{length-append, length-take-le}
 use Rattle.lsm_codec.specs.Map.{Operation, apply_all}
-use Rattle.lsm_machine.specs.CrashState.{CrashState, left_by_opening}
-use Rattle.lsm_machine.proofs.Openings.{one_opening}
+use Rattle.lsm_root.specs.CrashState.{CrashState, left_by_opening}
+use Rattle.lsm_root.proofs.Openings.{one_opening}
 use Rattle.lsm_machine.specs.Calls.{Reply}
 use Rattle.lsm_machine.specs.Calls.{Number, Done, Value, Rows, Given, Handed, Refused, Unread}
 use Rattle.lsm_machine.specs.Machine.{Step}
 use Rattle.lsm_machine.specs.Promise.{accepted, acknowledged, in_flight, IsAfterBeginning}
 use Rattle.lsm_machine.specs.Lives.{Life, KeptByLife, IsAfter, PromiseOverLives}
-use Rattle.lsm_machine.proofs.Beginnings.{apply_all-append}
+use Rattle.lsm_root.proofs.Beginnings.{apply_all-append}
 use Rattle.lsm_machine.proofs.Promises.{promise}
 use Rattle.lsm_jobs.proofs.Sectors.{take_past}
 

@@ -5,7 +5,7 @@ use Rattle.std.proofs.Math.Nat.{add-zero}
 use Rattle.std.proofs.lemmas.Bool.{cases_lt}
 use Rattle.std.proofs.lemmas.List.{length-append, length-drop, take-append-drop, take_all, drop_all}
 use Rattle.lsm_codec.specs.Map.{Map, Operation, apply, apply_all}
-use Rattle.lsm_machine.proofs.Beginnings.{apply_all-append, take_sum}
+use Rattle.lsm_root.proofs.Beginnings.{apply_all-append, take_sum}
 use Rattle.lsm_machine.specs.RecoveryPoints.{RecoveryPoint, RecoveryPoints, points_from, last_map, recovery_points, present_point, with_batch, all_synced, batch_count, present_map}
 use Rattle.lsm_machine.specs.Promise.{maps_after, beginnings}
 use Rattle.lsm_machine.proofs.Membership.{in_head, in_tail, one_in, in_cases}

@@ -10,7 +10,7 @@ use Rattle.lsm_device.specs.declared.refusal.Refusal.{Refusal}
 use Rattle.lsm_device.specs.declared.refusal.Refusal.TheVariants.{Io, Stopped}
 use Rattle.lsm_jobs.specs.Slots.{Slot}
 use Rattle.lsm_levels.specs.Pick.{is_flush}
-use Rattle.lsm_machine.specs.CrashState.{CrashState}
+use Rattle.lsm_root.specs.CrashState.{CrashState}
 use Rattle.lsm_machine.specs.RecoveryPoints.{RecoveryPoint, RecoveryPoints, with_batch, all_synced, batch_count, present_map}
 use Rattle.lsm_machine.specs.State.{State}
 use Rattle.lsm_machine.specs.Calls.{Call, Reply}

@@ -9,7 +9,7 @@ use Rattle.lsm_codec.specs.Keys.{Bytes, byte_order}
 use Rattle.lsm_codec.specs.Map.{Map, Operation, apply}
 use Rattle.lsm_codec.specs.BatchText.{batch_text, text_length, sectors_of}
 use Rattle.lsm_device.specs.declared.refusal.Refusal.TheVariants.{Io, Stopped, LogFull, SealedWaiting, NothingToRotate, NoSuchSnapshot, TooManySnapshots, NoSuchBatch, BadKey, BadRange, Exhausted, BadLimit}
-use Rattle.lsm_machine.specs.CrashState.{CrashState, formatted, left_by_opening}
+use Rattle.lsm_root.specs.CrashState.{CrashState, formatted, left_by_opening}
 use Rattle.lsm_machine.specs.State.{State}
 use Rattle.lsm_machine.specs.Calls.{Call, Reply}
 use Rattle.lsm_machine.specs.Calls.{Commit, Sync, SyncTo, Get, Scan, Snapshot, Release, Rotate, LogRoom, Number, Done, Value, Rows, Refused}

@@ -1,6 +1,6 @@
 -- What a crash leaves of a state, and the state that an opening gives.
 use Rattle.std.specs.Prelude.{ℕ, ◌+◌, nat_le, nat_lt, is_some, List, [], ◌∷◌, ◌++◌, map, Option, Some, None, if◌then◌else◌}
-use Rattle.lsm_machine.specs.CrashState.{CrashState}
+use Rattle.lsm_root.specs.CrashState.{CrashState}
 use Rattle.lsm_machine.specs.RecoveryPoints.{RecoveryPoint, recovery_points, present_point}
 use Rattle.lsm_machine.specs.State.{OpenLog, State}
 use Rattle.lsm_machine.specs.Calls.{Call}

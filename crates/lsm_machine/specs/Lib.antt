@@ -1,4 +1,3 @@
-pub mod CrashState
 pub mod RecoveryPoints
 pub mod State
 pub mod Calls

@@ -3,7 +3,7 @@ use Rattle.std.specs.Prelude.{◌≡◌, ◌≤◌, ℕ, ◌+◌, List, [], ◌�
 use Rattle.std.specs.FinMap as finite
 use Rattle.lsm_codec.specs.Map.{Operation, apply_all}
 use Rattle.lsm_device.specs.declared.refusal.Refusal.TheVariants.{Stopped}
-use Rattle.lsm_machine.specs.CrashState.{CrashState, MayOpen, MayRefuseOpening, left_by_opening}
+use Rattle.lsm_root.specs.CrashState.{CrashState, MayOpen, MayRefuseOpening, left_by_opening}
 use Rattle.lsm_machine.specs.Calls.{Reply}
 use Rattle.lsm_machine.specs.Calls.{Number, Refused}
 use Rattle.lsm_machine.specs.Crash.{may_leave}

@@ -2,7 +2,7 @@
 use Rattle.std.specs.Prelude.{◌≡◌, ◌≤◌, ℕ, ◌+◌, nat_le, List, [], ◌∷◌, ◌++◌, length, take, drop, Contains, if◌then◌else◌}
 use Rattle.lsm_codec.specs.Map.{Map, Operation, apply, apply_all}
 use Rattle.lsm_device.specs.declared.refusal.Refusal.TheVariants.{Io}
-use Rattle.lsm_machine.specs.CrashState.{CrashState}
+use Rattle.lsm_root.specs.CrashState.{CrashState}
 use Rattle.lsm_machine.specs.RecoveryPoints.{RecoveryPoints, batch_count, present_map}
 use Rattle.lsm_machine.specs.Calls.{Reply}
 use Rattle.lsm_machine.specs.Calls.{Commit, CommitIf, Sync, SyncTo, Rotate, Number, Done, Refused}

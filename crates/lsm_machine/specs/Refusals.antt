@@ -3,7 +3,7 @@ use Rattle.std.specs.Prelude.{ℕ, suc, ◌==◌, nat_le, nat_lt, ◌&&◌, Bool
 use Rattle.lsm_codec.specs.BatchText.{is_key}
 use Rattle.lsm_device.specs.declared.refusal.Refusal.{Refusal}
 use Rattle.lsm_device.specs.declared.refusal.Refusal.TheVariants.{Stopped, LogFull, SealedWaiting, NothingToRotate, NoSuchSnapshot, TooManySnapshots, NoSuchBatch, BadKey, BadRange, Exhausted, BadLimit, GuardFailed, TooManyGuards}
-use Rattle.lsm_machine.specs.CrashState.{last_number}
+use Rattle.lsm_root.specs.CrashState.{last_number}
 use Rattle.lsm_codec.specs.Map.{Map}
 use Rattle.lsm_codec.specs.Guards.{Condition, is_met}
 use Rattle.lsm_machine.specs.RecoveryPoints.{batch_count, present_map}

@@ -4,7 +4,7 @@ use Rattle.lsm_device.specs.declared.refusal.Refusal.{Refusal}
 use Rattle.lsm_device.specs.declared.refusal.Refusal.TheVariants.{NoMemory, Io, BadTable, NoSpace}
 use Rattle.lsm_levels.specs.Held.{AreOutputs}
 use Rattle.lsm_jobs.specs.Slots.{Slot, outputs_at}
-use Rattle.lsm_machine.specs.CrashState.{CrashState}
+use Rattle.lsm_root.specs.CrashState.{CrashState}
 use Rattle.lsm_machine.specs.Calls.{Reply, Refused}
 use Rattle.lsm_machine.specs.Effects.{Use}
 use Rattle.lsm_machine.specs.Effects.{Untouched, Reads, Changes}

@@ -2,7 +2,7 @@
 ghost use Rattle.std.specs.Prelude.{◌≡◌, ◌≢◌, ◌≤◌, false, List, ◌++◌, length, IsSome, Contains};
 ghost use Rattle.lsm_device.specs.declared.refusal.Refusal.{Refusal};
 ghost use Rattle.lsm_device.specs.declared.refusal.Refusal.TheVariants.{Stopped, Io, BadTable};
-ghost use Rattle.lsm_machine.specs.CrashState.{CrashState};
+ghost use Rattle.lsm_root.specs.CrashState.{CrashState};
 ghost use Rattle.lsm_machine.specs.Calls.{Reply, Refused};
 ghost use Rattle.lsm_machine.specs.Crash.{may_leave};
 ghost use Rattle.lsm_machine.specs.Machine.{Machine, Step};

@@ -16,7 +16,7 @@ use Rattle.lsm_levels.specs.Orders.{IsVersionOrder}
 use Rattle.lsm_mem.specs.EntryOrder.{with_batches}
 use Rattle.lsm_mem.specs.Versions.{map_of}
 use Rattle.lsm_open.specs.Counting.{deletes_counted, told_or, deletes_of, with_deletes, counted_records, with_tables, counted}
-use Rattle.lsm_machine.specs.CrashState.{CrashState}
+use Rattle.lsm_root.specs.CrashState.{CrashState}
 use Rattle.lsm_open.specs.Image.{count_in, left_in, HoldNamed, StandFor}
 use Rattle.lsm_open.specs.LogRegions.{all_batches, regions_with_batches}
 use Rattle.lsm_open.specs.Tables.{blocks_at, versions_if, versions_at, table_versions, IsTableAt, AscendInRun, AreTables}

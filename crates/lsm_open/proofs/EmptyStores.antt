@@ -8,7 +8,7 @@ use Rattle.lsm_device.specs.Areas.{area}
 use Rattle.lsm_device.specs.Disk.{Disk, Write, written, kept, image}
 use Rattle.lsm_device.specs.Outcomes.{Leaves}
 use Rattle.lsm_log.specs.Opened.{has_epoch_above, is_above}
-use Rattle.lsm_machine.specs.CrashState.{formatted}
+use Rattle.lsm_root.specs.CrashState.{formatted}
 use Rattle.lsm_open.specs.Formatted.{empty_manifest, IsFormatted}
 use Rattle.lsm_open.specs.Image.{StandFor}
 use Rattle.lsm_open.specs.Tables.{IsTableAt}

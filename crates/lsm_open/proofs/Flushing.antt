@@ -19,14 +19,14 @@ use Rattle.lsm_mem.specs.EntryOrder.{with_batches}
 use Rattle.lsm_mem.specs.Versions.{map_of, NumberedAtMost}
 use Rattle.lsm_mem.proofs.Maps.{map_of-newest}
 use Rattle.lsm_merge.specs.Inputs.{joined}
-use Rattle.lsm_machine.specs.CrashState.{CrashState}
+use Rattle.lsm_root.specs.CrashState.{CrashState}
 use Rattle.lsm_open.specs.LogRegions.{first_region, follow_on, one_if_some}
 use Rattle.lsm_open.specs.Layout.{open_records, open_batches, IsClosed, IsLogAtIfOpen}
 use Rattle.lsm_open.specs.Placements.{Placement, table_map, closed_in, IsHeld, Carries, state_with}
 use Rattle.lsm_open.specs.Switching.{MayBeInstalled, pushed, flushed, left_flushed, IsNewestRun, AreFlushed}
 use Rattle.lsm_open.specs.Tables.{blocks_at, versions_at, table_versions, IsTableAt, IsSameRun, AscendInRun, AreTables}
 use Rattle.lsm_open.specs.declared.regions.OpenRegion.{OpenRegion}
-use Rattle.lsm_machine.proofs.Beginnings.{apply_all-append}
+use Rattle.lsm_root.proofs.Beginnings.{apply_all-append}
 use Rattle.lsm_open.proofs.FreeWrites.{held_synced, present_synced}
 use Rattle.lsm_open.proofs.HeldRegions.{BeginsAfter, begins_after}
 use Rattle.lsm_open.proofs.InPlace.{same_newest_within}

@@ -21,7 +21,7 @@ use Rattle.lsm_log.specs.Batches.{IsBetween}
 use Rattle.lsm_log.proofs.Epochs.{above_elsewhere, above_sync}
 use Rattle.lsm_log.proofs.Logs.{open_elsewhere, open_after_sync}
 use Rattle.lsm_mem.specs.Versions.{map_of}
-use Rattle.lsm_machine.specs.CrashState.{CrashState}
+use Rattle.lsm_root.specs.CrashState.{CrashState}
 use Rattle.lsm_open.specs.LogRegions.{first_region, region_start, one_if_some}
 use Rattle.lsm_open.specs.Layout.{open_batches, IsClosed, IsLogAtIfOpen}
 use Rattle.lsm_open.specs.Image.{HoldNamed, StandForSome}

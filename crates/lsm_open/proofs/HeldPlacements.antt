@@ -15,7 +15,7 @@ use Rattle.lsm_log.specs.Replay.{replay}
 use Rattle.lsm_log.proofs.Epochs.{above_crash}
 use Rattle.lsm_log.proofs.Logs.{open_leaves}
 use Rattle.lsm_mem.specs.Versions.{map_of}
-use Rattle.lsm_machine.specs.CrashState.{CrashState}
+use Rattle.lsm_root.specs.CrashState.{CrashState}
 use Rattle.lsm_open.specs.LogRegions.{first_region, region_start, all_batches, one_if_some, regions_with_batches}
 use Rattle.lsm_open.specs.Layout.{Layout, open_records, open_batches, IsLogAtIfOpen}
 use Rattle.lsm_open.specs.Image.{left_in, HoldNamed, StandFor, StandForSome}

@@ -1,6 +1,8 @@
 -- A merge of levels may be installed.
 use Rattle.std.proofs.Common.{◌≡◌, inl, inr, ℕ, ◌+◌, ◌*◌, false, List, ◌++◌, length, map, Some, None, refl, sym, ◌∙◌, ap, subst, arith, All, option_and_then}
 use Rattle.std.specs.Prelude.{Option}
+use Rattle.std.specs.Cmp.Lexicographic.{nat_list_cmp_total}
+use Rattle.std.specs.FinMap.{same_map}
 use Rattle.std.proofs.lemmas.List.{map-append}
 use Rattle.std.proofs.lemmas.List.Elements.{All-nil, All-append}
 use Rattle.lsm_codec.specs.declared.table_record.TableRecord.{TableRecord}
@@ -12,9 +14,11 @@ use Rattle.lsm_device.specs.Disk.{Disk, Write, seen, at_rest}
 use Rattle.lsm_levels.specs.Orders.{IsVersionOrder}
 use Rattle.lsm_log.specs.Opened.{is_above}
 use Rattle.lsm_log.proofs.Epochs.{none_above_more}
+use Rattle.lsm_codec.proofs.KeyOrder.{same_keys}
 use Rattle.lsm_mem.specs.Versions.{value_at, map_of}
+use Rattle.lsm_mem.proofs.Maps.{get-map_of}
 use Rattle.lsm_merge.specs.Inputs.{joined}
-use Rattle.lsm_machine.specs.CrashState.{CrashState, in_next_generation}
+use Rattle.lsm_root.specs.CrashState.{CrashState, in_next_generation}
 use Rattle.lsm_open.specs.LogRegions.{first_region, one_if_some}
 use Rattle.lsm_open.specs.Layout.{open_batches, IsLogAtIfOpen}
 use Rattle.lsm_open.specs.Placements.{Placement, table_map, closed_in, IsHeld, Carries, state_with, present_state}
@@ -99,10 +103,15 @@ module _ (n base : ℕ) (c : Sectors) (x : Parts) (new : List TableRecord) (each
 
   -- the tables stand for the same map
   pub merged_map : map_of (table_versions n c (with_outputs x new)) base ≡ map_of (table_versions n c (with_inputs x)) base
-  merged_map = map_of-values base base (table_versions n c (with_outputs x new)) (table_versions n c (with_inputs x)) (λ q.
-      ap (λ (vs : Versions). value_at vs base q) (sym (joined_versions n c (with_outputs x new)) ∙ ap joined outputs_places)
+  merged_map =
+      let made : Versions = table_versions n c (with_outputs x new) in
+      let was : Versions = table_versions n c (with_inputs x) in
+      same_map nat_list_cmp_total same_keys (map_of made base) (map_of was base) (λ q.
+      get-map_of made base q
+      ∙ ap (λ (vs : Versions). value_at vs base q) (sym (joined_versions n c (with_outputs x new)) ∙ ap joined outputs_places)
       ∙ same_values q
-      ∙ sym (ap (λ (vs : Versions). value_at vs base q) (sym (joined_versions n c (with_inputs x)) ∙ ap joined inputs_places)))
+      ∙ sym (ap (λ (vs : Versions). value_at vs base q) (sym (joined_versions n c (with_inputs x)) ∙ ap joined inputs_places))
+      ∙ sym (get-map_of was base q))
 
 module _ (p : Placement) (c : Sectors) (next_table runs : ℕ) (x : Parts) (new : List TableRecord) (held : IsHeld p (at_rest c)) (are : AreMerged p c x new) where
   each_was : All (IsTableAt p.logs.log_sectors p.logs.base c) (with_inputs x)

@@ -10,7 +10,7 @@ use Rattle.lsm_device.specs.Disk.{Write, at_rest}
 use Rattle.lsm_log.specs.Opened.{AreNumbers, HasNoneAbove, IsFree, is_above}
 use Rattle.lsm_log.proofs.Epochs.{later_is_free, none_above_more}
 use Rattle.lsm_log.proofs.Logs.{none_read, new_open}
-use Rattle.lsm_machine.specs.CrashState.{last_number}
+use Rattle.lsm_root.specs.CrashState.{last_number}
 use Rattle.lsm_open.specs.LogRegions.{first_region, region_start, batches_at, all_batches, follow_on}
 use Rattle.lsm_open.specs.Layout.{open_records, open_batches, IsOther, IsLogAtIfOpen}
 use Rattle.lsm_open.specs.Placements.{Placement, IsHeld}

@@ -6,7 +6,7 @@ use Rattle.lsm_codec.specs.declared.log_record.LogRecord.{LogRecord}
 use Rattle.lsm_codec.specs.declared.table_record.TableRecord.{TableRecord}
 use Rattle.lsm_codec.specs.Manifests.{Contents, IsManifest}
 use Rattle.lsm_open.specs.Answered.{IsNewRegionIfOpen}
-use Rattle.lsm_machine.specs.CrashState.{last_number}
+use Rattle.lsm_root.specs.CrashState.{last_number}
 use Rattle.lsm_open.specs.LogRegions.{first_region}
 use Rattle.lsm_open.specs.Layout.{Layout, open_records}
 use Rattle.lsm_open.specs.Placements.{contents_for}

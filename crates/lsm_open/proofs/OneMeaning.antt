@@ -1,7 +1,7 @@
 -- Sectors stand for one crash state.
 use Rattle.std.proofs.Common.{◌≡◌, ℕ, List, [], ap, sym, ◌∙◌}
 use Rattle.lsm_codec.specs.Manifests.{Contents}
-use Rattle.lsm_machine.specs.CrashState.{CrashState}
+use Rattle.lsm_root.specs.CrashState.{CrashState}
 use Rattle.lsm_open.specs.Image.{left_in, StandFor}
 use Rattle.lsm_root.specs.Roots.{Root, Stands}
 

@@ -23,7 +23,7 @@ use Rattle.lsm_levels.specs.Tables.{versions_of}
 use Rattle.lsm_mem.specs.EntryOrder.{with_batches}
 use Rattle.lsm_mem.specs.Versions.{map_of, sealed_versions}
 use Rattle.lsm_open.specs.Counting.{counted, with_tables, IsCountedRoot}
-use Rattle.lsm_machine.specs.CrashState.{CrashState, last_number, in_next_generation, left_by_opening, MayRefuseOpening}
+use Rattle.lsm_root.specs.CrashState.{CrashState, last_number, in_next_generation, left_by_opening, MayRefuseOpening}
 use Rattle.lsm_open.specs.Image.{count_in, left_in, HoldNamed, StandFor}
 use Rattle.lsm_open.specs.Layout.{Layout, open_records, open_batches}
 use Rattle.lsm_open.specs.LogRegions.{all_batches, follow_on, one_if_some, regions_with_batches}
@@ -41,7 +41,7 @@ use Rattle.lsm_open.proofs.KeptRecords.{count_kept}
 use Rattle.lsm_open.proofs.NextLayouts.{layout_says, opened_in}
 use Rattle.lsm_open.proofs.NextManifests.{none_free, closed_few, next_fits}
 use Rattle.lsm_open.proofs.OneMeaning.{same_stands}
-use Rattle.lsm_machine.proofs.Openings.{same_again, next_again}
+use Rattle.lsm_root.proofs.Openings.{same_again, next_again}
 use Rattle.lsm_open.proofs.OpeningSteps.{opening_installs, may_reopen, rests_stand, settled_at_rest}
 use Rattle.lsm_open.proofs.ReadPlaces.{batches_later, batches_newer, stored_behind}
 use Rattle.lsm_open.proofs.Switches.{switch_moments, installed_carried, installed_present}

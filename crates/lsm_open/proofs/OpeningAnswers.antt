@@ -23,7 +23,7 @@ use Rattle.lsm_levels.specs.Stored.{AreWithin, AreNumberedBelow}
 use Rattle.lsm_mem.specs.Versions.{NumberedBelow, sealed_versions}
 use Rattle.lsm_open.specs.Tables.{first_data, AreTables}
 use Rattle.lsm_mem.specs.EntryOrder.{with_batches}
-use Rattle.lsm_machine.specs.CrashState.{last_number}
+use Rattle.lsm_root.specs.CrashState.{last_number}
 use Rattle.lsm_open.specs.Image.{count_in}
 use Rattle.lsm_open.specs.LogRegions.{all_batches, follow_on}
 use Rattle.lsm_open.specs.Counting.{counted, IsCountedRoot}

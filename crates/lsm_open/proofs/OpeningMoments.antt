@@ -9,10 +9,10 @@ use Rattle.lsm_device.specs.declared.refusal.Refusal.{Refusal}
 use Rattle.lsm_device.specs.declared.refusal.Refusal.TheVariants.{Io, BadGeometry}
 use Rattle.lsm_device.proofs.Moments.{now_is, ended}
 use Rattle.lsm_device.proofs.Outcomes.{seen_outcome}
-use Rattle.lsm_machine.specs.CrashState.{CrashState, left_by_opening, MayRefuseOpening}
+use Rattle.lsm_root.specs.CrashState.{CrashState, left_by_opening, MayRefuseOpening}
 use Rattle.lsm_open.specs.Image.{StandFor}
 use Rattle.lsm_open.specs.Recovering.{StandForOne, CrashesWhileOpening, FailsToOpen}
-use Rattle.lsm_machine.proofs.Openings.{same_again}
+use Rattle.lsm_root.proofs.Openings.{same_again}
 use Rattle.lsm_root.specs.Layout.{IsDeviceSize, IsGeometry}
 use Rattle.lsm_root.specs.Roots.{Stands, root_of}
 

@@ -8,7 +8,7 @@ use Rattle.lsm_codec.specs.Map.{Operation, apply_all}
 use Rattle.lsm_codec.specs.declared.log_record.LogRecord.{LogRecord}
 use Rattle.lsm_device.specs.Disk.{Disk, Write, image, seen, written, at_rest}
 use Rattle.lsm_device.specs.Outcomes.{Leaves}
-use Rattle.lsm_machine.specs.CrashState.{CrashState, last_number, in_next_generation}
+use Rattle.lsm_root.specs.CrashState.{CrashState, last_number, in_next_generation}
 use Rattle.lsm_open.specs.LogRegions.{all_batches, regions_with_batches}
 use Rattle.lsm_open.specs.Layout.{open_batches}
 use Rattle.lsm_open.specs.Image.{count_in, left_in, HoldNamed, StandFor, StandForSome}

@@ -8,7 +8,7 @@ use Rattle.lsm_codec.specs.Manifests.{Contents, IsManifest}
 use Rattle.lsm_codec.specs.Map.{Operation}
 use Rattle.lsm_mem.specs.EntryOrder.{with_batches}
 use Rattle.lsm_mem.proofs.Replays.{with_batches-append}
-use Rattle.lsm_machine.specs.CrashState.{last_number}
+use Rattle.lsm_root.specs.CrashState.{last_number}
 use Rattle.lsm_open.specs.LogRegions.{batches_at, all_batches, follow_on}
 use Rattle.lsm_open.specs.Reopening.{kept_before, kept_records, HasCome, HasReplayed, GoesOn}
 use Rattle.lsm_open.specs.declared.replayed.Replayed.{Replayed}

@@ -6,7 +6,7 @@ use Rattle.std.proofs.lemmas.List.Elements.{All-nil, All-cons}
 use Rattle.lsm_codec.specs.declared.log_record.LogRecord.{LogRecord}
 use Rattle.lsm_codec.specs.Map.{Operation, apply_all}
 use Rattle.lsm_device.specs.Disk.{Disk, at_rest, seen, synced}
-use Rattle.lsm_machine.specs.CrashState.{CrashState, last_number}
+use Rattle.lsm_root.specs.CrashState.{CrashState, last_number}
 use Rattle.lsm_open.specs.LogRegions.{batches_at, all_batches, follow_on, one_if_some}
 use Rattle.lsm_open.specs.Layout.{record_of, open_records, open_batches, IsLogAtIfOpen}
 use Rattle.lsm_open.specs.Placements.{Placement, table_map, closed_in, IsHeld, Carries, state_with, present_state}

@@ -15,7 +15,7 @@ use Rattle.lsm_log.specs.Opened.{HasNoneAbove, is_above}
 use Rattle.lsm_log.specs.Replay.{replay}
 use Rattle.lsm_log.proofs.Logs.{open_same}
 use Rattle.lsm_mem.specs.Versions.{map_of}
-use Rattle.lsm_machine.specs.CrashState.{CrashState}
+use Rattle.lsm_root.specs.CrashState.{CrashState}
 use Rattle.lsm_open.specs.LogRegions.{first_region, region_start, batches_at, one_if_some}
 use Rattle.lsm_open.specs.Layout.{open_batches, IsLogAtIfOpen}
 use Rattle.lsm_open.specs.Image.{StandFor, StandForSome}

@@ -21,7 +21,7 @@ use Rattle.lsm_log.specs.Opened.{HasNoneAbove}
 use Rattle.lsm_log.specs.Replay.{replay}
 use Rattle.lsm_mem.specs.EntryOrder.{with_batches}
 use Rattle.lsm_mem.specs.Versions.{NumberedAtMost, map_of}
-use Rattle.lsm_machine.specs.CrashState.{CrashState}
+use Rattle.lsm_root.specs.CrashState.{CrashState}
 use Rattle.lsm_open.specs.LogRegions.{first_region, region_start, batches_at, all_batches, follow_on, one_if_some, regions_with_batches}
 use Rattle.lsm_open.specs.Image.{count_in, left_in, HoldNamed, StandFor}
 use Rattle.lsm_open.specs.Tables.{extent_start, extent_length, extent_at, blocks_at, versions_if, versions_at, table_versions, IsTableAt, AscendInRun, AreTables}

@@ -15,7 +15,7 @@ use Rattle.lsm_device.proofs.Runs.{All-run_at, written-run_at}
 use Rattle.lsm_open.specs.Placements.{Placement, Carries, IsFreeWrite}
 use Rattle.lsm_open.specs.Tables.{first_data, extent_start, extent_length, extent_at}
 use Rattle.lsm_open.specs.Writing.{PlacedTable, IsWritten, ArePlacedApart, IsClear, CarriesJobs, MayBePlaced}
-use Rattle.lsm_machine.proofs.Beginnings.{take_sum}
+use Rattle.lsm_root.proofs.Beginnings.{take_sum}
 use Rattle.lsm_open.proofs.FreeWrites.{carried_elsewhere, carried_synced}
 use Rattle.lsm_open.proofs.ListPairs.{All-left, All-right, pairwise_left, pairwise_right, pairwise_cross, pairwise_join}
 use Rattle.lsm_open.proofs.TableFrames.{area_behind}

@@ -6,7 +6,7 @@ use Rattle.lsm_device.specs.Areas.{area}
 use Rattle.lsm_log.specs.Opened.{HasNoneAbove}
 use Rattle.lsm_mem.specs.EntryOrder.{with_batches}
 use Rattle.lsm_mem.specs.Versions.{map_of}
-use Rattle.lsm_machine.specs.CrashState.{CrashState}
+use Rattle.lsm_root.specs.CrashState.{CrashState}
 use Rattle.lsm_open.specs.LogRegions.{first_region, all_batches, follow_on, regions_with_batches}
 use Rattle.lsm_open.specs.Tables.{table_versions, AreTables}
 use Rattle.lsm_root.specs.Roots.{Stands, root_of}

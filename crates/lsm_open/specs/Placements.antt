@@ -8,7 +8,7 @@ use Rattle.lsm_device.specs.Disk.{Disk, Write, seen}
 use Rattle.lsm_log.specs.Batches.{IsBetween}
 use Rattle.lsm_log.specs.Opened.{NoneAboveIn}
 use Rattle.lsm_mem.specs.Versions.{map_of}
-use Rattle.lsm_machine.specs.CrashState.{CrashState}
+use Rattle.lsm_root.specs.CrashState.{CrashState}
 use Rattle.lsm_open.specs.LogRegions.{first_region, all_batches, follow_on, one_if_some}
 use Rattle.lsm_open.specs.Layout.{Layout, open_records, open_batches, IsClosed, IsLogAtIfOpen}
 use Rattle.lsm_open.specs.Tables.{first_data, extent_start, extent_length, table_versions, AreTables}

@@ -15,7 +15,7 @@ use Rattle.lsm_levels.specs.Stored.{AreWithin, AreNumberedBelow}
 use Rattle.lsm_mem.specs.EntryOrder.{with_batches}
 use Rattle.lsm_mem.specs.Versions.{NumberedBelow, sealed_versions}
 use Rattle.lsm_open.specs.Counting.{IsCountedRoot, all_uncounted, all_data}
-use Rattle.lsm_machine.specs.CrashState.{last_number}
+use Rattle.lsm_root.specs.CrashState.{last_number}
 use Rattle.lsm_open.specs.Image.{count_in}
 use Rattle.lsm_open.specs.LogRegions.{all_batches}
 use Rattle.lsm_open.specs.Reopening.{kept_records, HasCome}

@@ -23,7 +23,7 @@ use Rattle.lsm_mem.specs.EntryOrder.{with_batches}
 use Rattle.lsm_mem.specs.Versions.{NumberedAtMost, NumberedBelow, map_of, sealed_versions}
 use Rattle.lsm_open.specs.Answered.{IsNewRegionIfOpen}
 use Rattle.lsm_open.specs.Counting.{IsCountedRoot}
-use Rattle.lsm_machine.specs.CrashState.{CrashState, last_number, in_next_generation, left_by_opening, MayRefuseOpening}
+use Rattle.lsm_root.specs.CrashState.{CrashState, last_number, in_next_generation, left_by_opening, MayRefuseOpening}
 use Rattle.lsm_open.specs.Image.{count_in, StandForSome}
 use Rattle.lsm_open.specs.Layout.{Layout, open_batches}
 use Rattle.lsm_open.specs.LogRegions.{all_batches}

@@ -8,7 +8,7 @@ use Rattle.lsm_codec.specs.Map.{Operation}
 use Rattle.lsm_codec.specs.Versions.{IsEntry}
 use Rattle.lsm_mem.specs.EntryOrder.{with_batches}
 use Rattle.lsm_mem.specs.Versions.{NumberedBelow}
-use Rattle.lsm_machine.specs.CrashState.{last_number}
+use Rattle.lsm_root.specs.CrashState.{last_number}
 use Rattle.lsm_open.specs.LogRegions.{region_start, batches_at, all_batches, follow_on}
 use Rattle.lsm_open.specs.Layout.{Layout}
 use Rattle.lsm_open.specs.declared.regions.OpenRegion.{OpenRegion}

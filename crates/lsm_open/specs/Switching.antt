@@ -10,7 +10,7 @@ use Rattle.lsm_device.specs.Disk.{Disk, seen, synced}
 use Rattle.lsm_levels.specs.Orders.{IsVersionOrder}
 use Rattle.lsm_mem.specs.EntryOrder.{with_batches}
 use Rattle.lsm_merge.specs.Laws.{HaveSameMap}
-use Rattle.lsm_machine.specs.CrashState.{CrashState, last_number}
+use Rattle.lsm_root.specs.CrashState.{CrashState, last_number}
 use Rattle.lsm_open.specs.LogRegions.{first_region, one_if_some}
 use Rattle.lsm_open.specs.Layout.{Layout, open_records, open_batches}
 use Rattle.lsm_open.specs.Image.{count_in, StandFor, StandForSome}

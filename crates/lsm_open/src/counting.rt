@@ -9,7 +9,7 @@ ghost use Rattle.lsm_device.specs.Calls.{AtMost};
 ghost use Rattle.lsm_device.specs.Disk.{seen};
 ghost use Rattle.lsm_device.specs.Medium.{disk};
 ghost use Rattle.lsm_device.specs.Refusals.{faultless};
-ghost use Rattle.lsm_machine.specs.CrashState.{CrashState};
+ghost use Rattle.lsm_root.specs.CrashState.{CrashState};
 ghost use Rattle.lsm_open.specs.Counting.{IsCountedRoot, counted_more, deletes_counted, deletes_of, counted_records, counted, uncounted_blocks, uncounted_by, all_uncounted, all_data, without_deletes, with_tables};
 ghost use Rattle.lsm_open.specs.Image.{StandFor};
 ghost use Rattle.lsm_open.specs.RefusedOpenings.{opening_refusal};

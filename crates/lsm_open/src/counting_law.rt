@@ -3,7 +3,7 @@ ghost use Rattle.std.specs.Prelude.{◌≡◌, ℕ, List, Some};
 ghost use Rattle.lsm_codec.specs.Manifests.{Contents, IsManifestOf};
 ghost use Rattle.lsm_codec.specs.declared.superblock.FormatVersion.TheVariants.{One, Two};
 ghost use Rattle.lsm_codec.specs.declared.superblock.Superblock.{Superblock};
-ghost use Rattle.lsm_machine.specs.CrashState.{CrashState};
+ghost use Rattle.lsm_root.specs.CrashState.{CrashState};
 ghost use Rattle.lsm_open.specs.Counting.{counted, all_uncounted, all_data, IsCountedRoot};
 ghost use Rattle.lsm_open.specs.Image.{left_in, HoldNamed, StandFor};
 ghost use Rattle.lsm_root.specs.Roots.{Names, Stands, superblock_in, root_of};

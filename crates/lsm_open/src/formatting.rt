@@ -9,7 +9,7 @@ ghost use Rattle.lsm_device.specs.Runs.{run_at, grown};
 ghost use Rattle.lsm_root.specs.Counted.{CallsMade};
 ghost use Rattle.lsm_root.specs.Layout.{IsGeometry};
 ghost use Rattle.lsm_device.specs.Outcomes.{Leaves};
-ghost use Rattle.lsm_machine.specs.CrashState.{formatted as empty_store};
+ghost use Rattle.lsm_root.specs.CrashState.{formatted as empty_store};
 ghost use Rattle.lsm_open.specs.Image.{StandFor};
 ghost use Rattle.lsm_open.specs.Formatted.{empty_manifest, IsFormatted, handed_back, without_device};
 

@@ -8,7 +8,7 @@ ghost use Rattle.lsm_device.specs.Outcomes.{Leaves};
 ghost use Rattle.lsm_device.specs.Runs.{grown, HasSomeOf};
 ghost use Rattle.lsm_mem.specs.EntryOrder.{with_batches};
 ghost use Rattle.lsm_mem.specs.Versions.{NumberedAtMost, map_of};
-ghost use Rattle.lsm_machine.specs.CrashState.{CrashState};
+ghost use Rattle.lsm_root.specs.CrashState.{CrashState};
 ghost use Rattle.lsm_open.specs.Image.{StandFor, StandForSome};
 ghost use Rattle.lsm_open.specs.Placements.{Placement, Carries, present_state, MayBeLeft, IsFreeWrite};
 ghost use Rattle.lsm_open.specs.Tables.{extent_at};

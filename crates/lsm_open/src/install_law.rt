@@ -5,7 +5,7 @@ ghost use Rattle.lsm_codec.specs.declared.table_record.TableRecord.{TableRecord}
 ghost use Rattle.lsm_device.specs.Disk.{Disk, seen};
 ghost use Rattle.lsm_device.specs.History.{present, EachSince};
 ghost use Rattle.lsm_device.specs.Outcomes.{Leaves};
-ghost use Rattle.lsm_machine.specs.CrashState.{CrashState, in_next_generation};
+ghost use Rattle.lsm_root.specs.CrashState.{CrashState, in_next_generation};
 ghost use Rattle.lsm_open.specs.Layout.{open_records};
 ghost use Rattle.lsm_open.specs.Counting.{counted};
 ghost use Rattle.lsm_open.specs.Image.{count_in, StandFor};

@@ -9,7 +9,7 @@ ghost use Rattle.lsm_device.specs.Medium.{disk};
 ghost use Rattle.lsm_device.specs.Outcomes.{Leaves};
 ghost use Rattle.lsm_device.specs.Refusals.{is_no_fault, faultless};
 ghost use Rattle.lsm_open.specs.Answered.{OpensUnless};
-ghost use Rattle.lsm_machine.specs.CrashState.{CrashState, last_number, left_by_opening, MayRefuseOpening};
+ghost use Rattle.lsm_root.specs.CrashState.{CrashState, last_number, left_by_opening, MayRefuseOpening};
 ghost use Rattle.lsm_open.specs.Image.{StandFor};
 ghost use Rattle.lsm_open.specs.Layout.{layout_of};
 ghost use Rattle.lsm_open.specs.RefusedOpenings.{opening_refusal};

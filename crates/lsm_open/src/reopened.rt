@@ -7,7 +7,7 @@ ghost use Rattle.lsm_device.specs.History.{EachSince};
 ghost use Rattle.lsm_device.specs.Medium.{disk};
 ghost use Rattle.lsm_device.specs.Outcomes.{Leaves};
 ghost use Rattle.lsm_device.specs.Refusals.{faultless, is_no_fault};
-ghost use Rattle.lsm_machine.specs.CrashState.{last_number};
+ghost use Rattle.lsm_root.specs.CrashState.{last_number};
 ghost use Rattle.lsm_open.specs.Layout.{layout_of};
 ghost use Rattle.lsm_open.specs.Reopening.{is_free, least_free, next_contents, IsNewIfOpen, IsNextLayout, HasCome};
 ghost use Rattle.lsm_open.specs.Switching.{IsInLeastFree};

@@ -10,7 +10,7 @@ ghost use Rattle.lsm_device.specs.Medium.{disk};
 ghost use Rattle.lsm_device.specs.Refusals.{faultless};
 ghost use Rattle.lsm_mem.specs.EntryOrder.{with_batches};
 ghost use Rattle.lsm_mem.specs.Versions.{NumberedBelow};
-ghost use Rattle.lsm_machine.specs.CrashState.{last_number};
+ghost use Rattle.lsm_root.specs.CrashState.{last_number};
 ghost use Rattle.lsm_open.specs.LogRegions.{first_region, batches_at, follow_on};
 ghost use Rattle.lsm_open.specs.Reopening.{HasReplayed, GoesOn, HasCome};
 

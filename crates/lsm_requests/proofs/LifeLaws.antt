@@ -2,7 +2,7 @@
 use Rattle.std.proofs.Common.{◌≡◌, ◌∙◌, ℕ, List, [], ◌∷◌, map, None, refl, ap, subst, Global}
 use Rattle.lsm_device.specs.Disk.{Disk}
 use Rattle.lsm_device.specs.Medium.{Medium}
-use Rattle.lsm_machine.specs.CrashState.{formatted as empty_store}
+use Rattle.lsm_root.specs.CrashState.{formatted as empty_store}
 use Rattle.lsm_lives.specs.Asked.{Told}
 use Rattle.lsm_machine.specs.Lives.{IsAfter}
 use Rattle.lsm_lives.specs.declared.living.Life.{Life}

@@ -15,7 +15,7 @@ use Rattle.lsm_device.specs.declared.file.FileDevice.{FileDevice}
 use Rattle.lsm_root.specs.Counted.{CallsMade}
 use Rattle.lsm_device.specs.declared.refusal.Refusal.{Refusal}
 use Rattle.lsm_device.specs.declared.refusal.Refusal.TheVariants.{Stopped}
-use Rattle.lsm_machine.specs.CrashState.{formatted as empty_store}
+use Rattle.lsm_root.specs.CrashState.{formatted as empty_store}
 use Rattle.lsm_open.specs.Image.{StandFor}
 use Rattle.lsm_open.specs.ReadParts.{ReadsAtMost}
 use Rattle.lsm_open.specs.Recovering.{IsOpeningRefusal}

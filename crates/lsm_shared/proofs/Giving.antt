@@ -7,7 +7,7 @@ use Rattle.lsm_jobs.specs.Slots.{Stage, Reading, Frozen, Writing, Slot}
 use Rattle.lsm_jobs.specs.Taking.{level_of}
 use Rattle.lsm_levels.specs.Pick.{Job}
 use Rattle.lsm_levels.specs.declared.choosing.Choice.{Choice}
-use Rattle.lsm_machine.specs.CrashState.{last_number}
+use Rattle.lsm_root.specs.CrashState.{last_number}
 use Rattle.lsm_store.specs.Backing.{StoreView, machine_of}
 use Rattle.lsm_machine.specs.Calls.{Call, Reply}
 use Rattle.lsm_machine.specs.Calls.{Commit, CommitIf, Sync, SyncTo, Get, Scan, Snapshot, Release, Rotate, LogRoom, Number, Done, Given, Refused}

@@ -20,7 +20,7 @@ use Rattle.lsm_log.specs.Batches.{IsBetween}
 use Rattle.lsm_log.specs.Opened.{IsOpen, IsOfLog, IsGrownBy, HasNoneAbove, NoneAboveIn, TakesBatch, batches_in}
 use Rattle.lsm_log.specs.Replay.{replay}
 use Rattle.lsm_log.proofs.Epochs.{above_crash, above_by_log}
-use Rattle.lsm_machine.specs.CrashState.{CrashState}
+use Rattle.lsm_root.specs.CrashState.{CrashState}
 use Rattle.lsm_open.specs.Image.{StandFor}
 use Rattle.lsm_open.specs.Layout.{record_of, open_records, open_batches, IsOther, IsClosed, IsLogAtIfOpen, IsLogAt}
 use Rattle.lsm_open.specs.LogRegions.{first_region, region_start, follow_on}

@@ -19,7 +19,7 @@ use Rattle.lsm_device.specs.declared.refusal.Refusal.TheVariants.{NoMemory, Io, 
 use Rattle.lsm_device.proofs.Moments.{unchanged}
 use Rattle.lsm_levels.specs.Levels.{places}
 use Rattle.lsm_mem.specs.Versions.{map_of}
-use Rattle.lsm_machine.specs.CrashState.{CrashState}
+use Rattle.lsm_root.specs.CrashState.{CrashState}
 use Rattle.lsm_open.specs.Recovering.{StandForOne}
 use Rattle.lsm_machine.specs.Accounts.{tables_placed, AreNumbered}
 use Rattle.lsm_store.specs.Backing.{StoreView, IsBacked, data_start, machine_of}

@@ -17,7 +17,7 @@ use Rattle.lsm_levels.specs.Tables.{Table}
 use Rattle.lsm_levels.proofs.Moving.{moving_law}
 use Rattle.lsm_jobs.specs.Outputs.{AreMadeOf}
 use Rattle.lsm_jobs.specs.Slots.{Slot, Writing, is_writing, outputs_at}
-use Rattle.lsm_machine.specs.CrashState.{CrashState}
+use Rattle.lsm_root.specs.CrashState.{CrashState}
 use Rattle.lsm_open.specs.Placements.{Placement, contents_for}
 use Rattle.lsm_open.specs.Recovering.{StandForOne}
 use Rattle.lsm_root.specs.Installed.{IsReady, IsInstalled}

@@ -18,7 +18,7 @@ use Rattle.lsm_levels.specs.Pick.{Job, Flush, Merge, installed_levels}
 use Rattle.lsm_levels.specs.Tables.{Table, table_of}
 use Rattle.lsm_merge.specs.Inputs.{MergeInput}
 use Rattle.lsm_open.proofs.ListPairs.{All-right, pairwise_right}
-use Rattle.lsm_machine.specs.CrashState.{last_number}
+use Rattle.lsm_root.specs.CrashState.{last_number}
 use Rattle.lsm_open.specs.Layout.{Layout, record_of, open_records}
 use Rattle.lsm_open.specs.Placements.{contents_for}
 use Rattle.lsm_open.specs.Recovering.{placed_in}

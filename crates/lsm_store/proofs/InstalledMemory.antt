@@ -15,7 +15,7 @@ use Rattle.lsm_jobs.specs.Slots.{Slot, slot_of, with_held, outputs_at, inputs_of
 use Rattle.lsm_levels.specs.Held.{AreRuns, AreOutputs}
 use Rattle.lsm_levels.specs.Levels.{Levels}
 use Rattle.lsm_levels.specs.Pick.{Job, Flush, Merge, inputs, is_flush, installed_levels}
-use Rattle.lsm_machine.specs.CrashState.{last_number}
+use Rattle.lsm_root.specs.CrashState.{last_number}
 use Rattle.lsm_open.specs.Layout.{Layout, layout_of}
 use Rattle.lsm_mem.specs.Versions.{sealed_versions}
 use Rattle.lsm_open.specs.declared.regions.OpenRegion.{OpenRegion}

@@ -17,7 +17,7 @@ use Rattle.lsm_device.proofs.Moments.{weaker, ended}
 use Rattle.lsm_device.proofs.Outcomes.{seen_outcome}
 use Rattle.lsm_log.specs.Opened.{batches_in}
 use Rattle.lsm_log.proofs.Logs.{open_used, read_batches}
-use Rattle.lsm_machine.specs.CrashState.{CrashState, last_number, in_next_generation}
+use Rattle.lsm_root.specs.CrashState.{CrashState, last_number, in_next_generation}
 use Rattle.lsm_open.specs.Image.{StandFor}
 use Rattle.lsm_open.specs.Layout.{open_records, open_batches, IsLogAtIfOpen}
 use Rattle.lsm_open.specs.LogRegions.{all_batches, one_if_some}

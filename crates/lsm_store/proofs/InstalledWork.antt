@@ -17,7 +17,7 @@ use Rattle.lsm_levels.specs.Levels.{Levels, all_tables, places}
 use Rattle.lsm_levels.specs.NamedBlocks.{AreNumberedApart}
 use Rattle.lsm_levels.specs.Pick.{inputs, installed_levels}
 use Rattle.lsm_levels.specs.Tables.{Table}
-use Rattle.lsm_machine.specs.CrashState.{last_number}
+use Rattle.lsm_root.specs.CrashState.{last_number}
 use Rattle.lsm_open.specs.Layout.{Layout}
 use Rattle.lsm_open.specs.ToldTables.{IsOutlined}
 use Rattle.lsm_machine.specs.Accounts.{is_same_extent, outputs_in, tables_placed, AreNumbered}

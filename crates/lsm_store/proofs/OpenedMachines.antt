@@ -1,7 +1,7 @@
 -- The machine that an opening answers.
 use Rattle.std.proofs.Common.{ℕ, is_some, ap}
 use Rattle.lsm_device.specs.Medium.{Medium}
-use Rattle.lsm_machine.specs.CrashState.{CrashState}
+use Rattle.lsm_root.specs.CrashState.{CrashState}
 use Rattle.lsm_store.specs.Backing.{StoreView, machine_of}
 use Rattle.lsm_machine.specs.Promise.{IsOpened}
 use Rattle.lsm_store.specs.Serving.{OpensTo, ReopensTo}

@@ -26,7 +26,7 @@ use Rattle.lsm_levels.proofs.RunOrders.{stored_ranged}
 use Rattle.lsm_levels.proofs.Taking.{newer_than, place_of_level}
 use Rattle.lsm_jobs.specs.Slots.{Slot, no_jobs}
 use Rattle.lsm_open.specs.Answered.{IsNewRegionIfOpen}
-use Rattle.lsm_machine.specs.CrashState.{CrashState}
+use Rattle.lsm_root.specs.CrashState.{CrashState}
 use Rattle.lsm_open.specs.Layout.{open_records, open_batches}
 use Rattle.lsm_open.specs.LogRegions.{one_if_some}
 use Rattle.lsm_open.specs.Placements.{Placement, closed_in}

@@ -8,7 +8,7 @@ use Rattle.lsm_codec.specs.Manifests.{Contents, IsLogRecord, LogsAgree, IsManife
 use Rattle.lsm_codec.specs.Map.{Operation}
 use Rattle.lsm_codec.specs.TableRecords.{IsTableRecord}
 use Rattle.lsm_device.specs.Disk.{Disk, seen, synced}
-use Rattle.lsm_machine.specs.CrashState.{last_number}
+use Rattle.lsm_root.specs.CrashState.{last_number}
 use Rattle.lsm_open.specs.Layout.{record_of, open_records, open_batches, IsClosed}
 use Rattle.lsm_open.specs.LogRegions.{all_batches}
 use Rattle.lsm_open.specs.Placements.{Placement, contents_for, closed_in, present_state}

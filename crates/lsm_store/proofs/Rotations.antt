@@ -11,7 +11,7 @@ use Rattle.lsm_device.specs.Outcomes.{Leaves}
 use Rattle.lsm_device.proofs.Moments.{weaker}
 use Rattle.lsm_levels.specs.Levels.{all_tables, places}
 use Rattle.lsm_levels.proofs.NamedBlocks.{named_law}
-use Rattle.lsm_machine.specs.CrashState.{last_number}
+use Rattle.lsm_root.specs.CrashState.{last_number}
 use Rattle.lsm_open.specs.Layout.{open_records}
 use Rattle.lsm_open.specs.Placements.{Placement, contents_for}
 use Rattle.lsm_open.specs.Recovering.{StandForOne}

@@ -18,7 +18,7 @@ use Rattle.lsm_device.proofs.Moments.{became, weaker}
 use Rattle.lsm_device.proofs.Outcomes.{seen_outcome}
 use Rattle.lsm_levels.specs.Levels.{Levels}
 use Rattle.lsm_mem.specs.Versions.{map_of}
-use Rattle.lsm_machine.specs.CrashState.{CrashState}
+use Rattle.lsm_root.specs.CrashState.{CrashState}
 use Rattle.lsm_open.specs.Image.{StandForSome}
 use Rattle.lsm_open.specs.Layout.{open_records, open_batches}
 use Rattle.lsm_open.specs.LogRegions.{one_if_some}

@@ -15,7 +15,7 @@ use Rattle.lsm_open.specs.Layout.{open_records, open_batches}
 use Rattle.lsm_open.specs.LogRegions.{all_batches}
 use Rattle.lsm_open.specs.Placements.{Placement, contents_for, closed_in, table_map, IsHeld}
 use Rattle.lsm_open.specs.Tables.{table_versions}
-use Rattle.lsm_machine.proofs.Beginnings.{apply_all-append, take_sum}
+use Rattle.lsm_root.proofs.Beginnings.{apply_all-append, take_sum}
 use Rattle.lsm_open.proofs.FreeWrites.{tables_seen}
 use Rattle.lsm_open.proofs.HeldRegions.{all_open, placed}
 use Rattle.lsm_open.proofs.KeptRecords.{all_batches-append}

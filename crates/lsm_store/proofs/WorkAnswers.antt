@@ -19,7 +19,7 @@ use Rattle.lsm_jobs.specs.Slots.{Slot, JobSlots, slot_of, held_jobs, with_held, 
 use Rattle.lsm_jobs.specs.Taking.{given_job, level_of, told_of, slot_for, with_taken}
 use Rattle.lsm_jobs.specs.declared.taking.TakenJob.{TakenJob}
 use Rattle.lsm_jobs.proofs.KeptJobs.{given_waits}
-use Rattle.lsm_machine.specs.CrashState.{last_number}
+use Rattle.lsm_root.specs.CrashState.{last_number}
 use Rattle.lsm_store.specs.declared.memory.Memory.{Memory}
 use Rattle.lsm_machine.specs.Accounts.{outputs_in}
 use Rattle.lsm_store.specs.Backing.{StoreView, HasNoneOf, placement_of, machine_of}

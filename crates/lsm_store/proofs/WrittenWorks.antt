@@ -21,7 +21,7 @@ use Rattle.lsm_jobs.specs.Writing.{WritesBlocks, JobWritesOn, next_at, next_of}
 use Rattle.lsm_levels.proofs.NamedBlocks.{named_law}
 use Rattle.lsm_levels.specs.Levels.{all_tables, places}
 use Rattle.lsm_levels.specs.Tables.{Table}
-use Rattle.lsm_machine.specs.CrashState.{CrashState}
+use Rattle.lsm_root.specs.CrashState.{CrashState}
 use Rattle.lsm_open.specs.Placements.{Placement}
 use Rattle.lsm_open.specs.Recovering.{StandForOne}
 use Rattle.lsm_machine.specs.Accounts.{outputs_in}

@@ -12,7 +12,7 @@ use Rattle.lsm_levels.specs.Stored.{AreNumberedBelow}
 use Rattle.lsm_levels.specs.Tables.{versions_of}
 use Rattle.lsm_merge.specs.Inputs.{joined}
 use Rattle.lsm_jobs.specs.Slots.{no_jobs}
-use Rattle.lsm_machine.specs.CrashState.{CrashState}
+use Rattle.lsm_root.specs.CrashState.{CrashState}
 use Rattle.lsm_open.specs.Placements.{Placement}
 use Rattle.lsm_open.specs.Recovering.{IsRecovered, AreWithinLimits}
 use Rattle.lsm_open.specs.ToldTables.{records_of, Held}

@@ -13,7 +13,7 @@ ghost use Rattle.lsm_levels.specs.Pick.{Job, Flush, Merge, installed_levels};
 ghost use Rattle.lsm_levels.specs.Stored.{IsStored, AreStored};
 ghost use Rattle.lsm_levels.specs.Tables.{Table, versions_of};
 ghost use Rattle.lsm_mem.specs.Versions.{NumberedAtMost};
-ghost use Rattle.lsm_machine.specs.CrashState.{last_number};
+ghost use Rattle.lsm_root.specs.CrashState.{last_number};
 ghost use Rattle.lsm_open.specs.Layout.{Layout};
 ghost use Rattle.lsm_open.specs.Placements.{Placement};
 ghost use Rattle.lsm_open.specs.Switching.{AreFlushed, AreMerged};

@@ -1,7 +1,7 @@
 // Laws of a store that has just been opened.
 ghost use Rattle.std.specs.Prelude.{ℕ};
 ghost use Rattle.lsm_device.specs.Medium.{Medium};
-ghost use Rattle.lsm_machine.specs.CrashState.{CrashState};
+ghost use Rattle.lsm_root.specs.CrashState.{CrashState};
 ghost use Rattle.lsm_store.specs.Backing.{StoreView, machine_of};
 ghost use Rattle.lsm_store.specs.OpenedWork.{OpenedLaw};
 ghost use Rattle.lsm_machine.specs.Promise.{IsOpened};

@@ -19,7 +19,7 @@ ghost use Rattle.lsm_levels.specs.Stored.{IsStored as IsStoredTable, AreStored};
 ghost use Rattle.lsm_levels.specs.Tables.{Table};
 ghost use Rattle.lsm_log.specs.Batches.{IsBetween};
 ghost use Rattle.lsm_log.specs.Opened.{IsOpen, IsGrownBy, TakesBatch, batches_in};
-ghost use Rattle.lsm_machine.specs.CrashState.{CrashState, last_number};
+ghost use Rattle.lsm_root.specs.CrashState.{CrashState, last_number};
 ghost use Rattle.lsm_open.specs.Image.{StandFor, versions_in};
 ghost use Rattle.lsm_open.specs.Layout.{open_records};
 ghost use Rattle.lsm_open.specs.Placements.{Placement, contents_for, closed_in, IsFreeWrite};

@@ -17,7 +17,7 @@ use Rattle.lsm_machine.specs.Calls.{Call, Reply}
 use Rattle.lsm_machine.specs.Calls.{CommitIf, Get, Release, Number, Done, Value, Rows, Given, Handed, Refused, Unread}
 use Rattle.lsm_machine.specs.Effects.{after, answer, decided, reply_by}
 use Rattle.lsm_machine.specs.Machine.{Machine, Step, Called}
-use Rattle.lsm_machine.specs.CrashState.{formatted as empty_store, last_number}
+use Rattle.lsm_root.specs.CrashState.{formatted as empty_store, last_number}
 use Rattle.lsm_machine.specs.Crash.{reopened}
 use Rattle.lsm_machine.specs.RecoveryPoints.{batch_count, last_map, present_map}
 use Rattle.lsm_machine.specs.Refusals.{first_refusal, full_refusal, most_guards}

@@ -7,7 +7,7 @@ use Rattle.lsm_device.specs.declared.refusal.Refusal.{Refusal}
 use Rattle.lsm_device.specs.declared.refusal.Refusal.TheVariants.{NoMemory, Io, Stopped, Exhausted, BadGeometry}
 use Rattle.lsm_language.specs.Limits.{is_load}
 use Rattle.lsm_language.proofs.LoadLaws.{some_threads}
-use Rattle.lsm_machine.specs.CrashState.{formatted as empty_store, MayRefuseOpening}
+use Rattle.lsm_root.specs.CrashState.{formatted as empty_store, MayRefuseOpening}
 use Rattle.lsm_store.specs.Backing.{StoreView}
 use Rattle.lsm_machine.specs.Calls.{Call, Reply}
 use Rattle.lsm_machine.specs.Calls.{Get, Scan, Value, Rows, Refused}

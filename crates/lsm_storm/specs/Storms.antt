@@ -3,7 +3,7 @@ use Rattle.std.specs.Prelude.{◌≡◌, ◌⊎◌, ℕ, ◌+◌, ◌&&◌, Bool
 use Rattle.std.specs.FinMap as finite
 use Rattle.lsm_device.specs.declared.refusal.Refusal.{Refusal}
 use Rattle.lsm_device.specs.declared.refusal.Refusal.TheVariants.{NoMemory, Io, Stopped, BadLimit}
-use Rattle.lsm_machine.specs.CrashState.{formatted as empty_store}
+use Rattle.lsm_root.specs.CrashState.{formatted as empty_store}
 use Rattle.lsm_lives.specs.Leading.{HasNewCache}
 use Rattle.lsm_store.specs.Backing.{StoreView, IsBacked}
 use Rattle.lsm_machine.specs.Calls.{Commit, CommitIf}

@@ -3,7 +3,7 @@ ghost use Rattle.std.specs.Prelude.{IfErr, IfOk};
 ghost use Rattle.lsm_device.specs.Medium.{disk};
 ghost use Rattle.lsm_device.specs.Memory.{medium_in};
 ghost use Rattle.lsm_device.specs.Outcomes.{Leaves};
-ghost use Rattle.lsm_machine.specs.CrashState.{formatted as empty_store};
+ghost use Rattle.lsm_root.specs.CrashState.{formatted as empty_store};
 ghost use Rattle.lsm_open.specs.Image.{StandFor};
 ghost use Rattle.lsm_storm.specs.Storms.{IsFresh, IsSessionRefusal};
 

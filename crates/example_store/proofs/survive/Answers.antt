@@ -5,7 +5,7 @@ use Rattle.lsm_device.specs.Disk.{seen, image}
 use Rattle.lsm_device.specs.Medium.{Medium, disk, crashed}
 use Rattle.lsm_device.proofs.Outcomes.{seen_outcome}
 use Rattle.lsm_device.specs.Memory.{medium_in}
-use Rattle.lsm_machine.specs.CrashState.{formatted}
+use Rattle.lsm_root.specs.CrashState.{formatted}
 use Rattle.lsm_open.specs.Image.{StandFor}
 use Rattle.lsm_open.specs.Recovering.{StandForOne}
 use Rattle.lsm_machine.specs.Calls.{Commit, Sync, Number, Done}

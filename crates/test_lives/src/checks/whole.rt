@@ -4,7 +4,7 @@ ghost use Rattle.lsm_codec.specs.Map.{Operation};
 ghost use Rattle.lsm_device.specs.Medium.{disk};
 ghost use Rattle.lsm_device.specs.Memory.{medium_in};
 ghost use Rattle.lsm_device.specs.Outcomes.{Leaves};
-ghost use Rattle.lsm_machine.specs.CrashState.{CrashState};
+ghost use Rattle.lsm_root.specs.CrashState.{CrashState};
 ghost use Rattle.lsm_open.specs.Image.{StandFor};
 ghost use Rattle.lsm_machine.specs.Lives.{IsAfter};
 ghost use Rattle.lsm_check.specs.Images.{IsNoVerdict};

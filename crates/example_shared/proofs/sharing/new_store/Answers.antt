@@ -2,7 +2,7 @@ use Rattle.std.proofs.Common.{ℕ, true, ap, List, length, replicate, refl, subs
 use Rattle.lsm_device.specs.Medium.{disk}
 use Rattle.lsm_device.specs.Memory.{medium_in}
 use Rattle.lsm_device.proofs.Outcomes.{seen_outcome}
-use Rattle.lsm_machine.specs.CrashState.{formatted}
+use Rattle.lsm_root.specs.CrashState.{formatted}
 use Rattle.lsm_open.specs.Image.{StandFor}
 use Rattle.lsm_machine.specs.State.{State}
 use Rattle.example_shared.proofs.sharing.new_store.Goals as goal

@@ -1,6 +1,6 @@
 use Rattle.std.proofs.Common.{All, map, sym, subst, ◌∙◌, arith, rules}
 use Rattle.lsm_device.specs.Disk.{IsSector}
-use Rattle.lsm_machine.specs.CrashState.{formatted as empty_store}
+use Rattle.lsm_root.specs.CrashState.{formatted as empty_store}
 use Rattle.lsm_open.specs.Image.{StandFor}
 use Rattle.lsm_lives.specs.Calls.{asked_of}
 use Rattle.lsm_explore.specs.Exploring.{IsExploredFrom, Sectors}

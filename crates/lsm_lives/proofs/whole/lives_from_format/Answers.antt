@@ -1,7 +1,7 @@
 use Rattle.std.proofs.Common.{[], map, refl}
 use Rattle.lsm_device.specs.Medium.{disk}
 use Rattle.lsm_device.specs.Memory.{medium_in}
-use Rattle.lsm_machine.specs.CrashState.{formatted}
+use Rattle.lsm_root.specs.CrashState.{formatted}
 use Rattle.lsm_lives.specs.Leading.{life_of}
 use Rattle.lsm_lives.specs.Living.{told_by}
 use Rattle.lsm_lives.proofs.Beginnings.{lives_keep_batches, lives_keep_on}

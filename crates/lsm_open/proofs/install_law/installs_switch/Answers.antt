@@ -1,6 +1,6 @@
 use Rattle.std.proofs.Common.{◌≡◌}
 use Rattle.lsm_device.specs.History.{present}
-use Rattle.lsm_machine.specs.CrashState.{CrashState}
+use Rattle.lsm_root.specs.CrashState.{CrashState}
 use Rattle.lsm_open.specs.Placements.{MayBeLeft}
 use Rattle.lsm_open.proofs.HeldPlacements.{carried_leaves}
 use Rattle.lsm_open.proofs.OpeningSteps.{rests_stand, settled_at_rest}

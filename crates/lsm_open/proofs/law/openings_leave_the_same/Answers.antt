@@ -1,4 +1,4 @@
-use Rattle.lsm_machine.proofs.Openings.{again}
+use Rattle.lsm_root.proofs.Openings.{again}
 use Rattle.lsm_open.proofs.law.openings_leave_the_same.Goals as goal
 
 pub returns : goal.returns

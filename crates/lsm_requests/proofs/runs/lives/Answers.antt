@@ -1,6 +1,6 @@
 use Rattle.std.proofs.Common.{[], rules}
 use Rattle.lsm_device.specs.Memory.{medium_in}
-use Rattle.lsm_machine.specs.CrashState.{formatted as empty_store}
+use Rattle.lsm_root.specs.CrashState.{formatted as empty_store}
 use Rattle.lsm_lives.specs.Living.{told_by}
 use Rattle.lsm_requests.proofs.LifeLaws.{IsAfter-nothing, led_of-lines, promise_of-lines}
 use Rattle.lsm_requests.proofs.runs.lives.Goals as goal

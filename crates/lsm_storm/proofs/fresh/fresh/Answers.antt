@@ -2,7 +2,7 @@ use Rattle.std.proofs.Common.{ℕ, true, List, length, replicate, refl, subst, r
 use Rattle.lsm_device.specs.Medium.{disk}
 use Rattle.lsm_device.specs.Memory.{medium_in}
 use Rattle.lsm_device.proofs.Outcomes.{seen_outcome}
-use Rattle.lsm_machine.specs.CrashState.{formatted as empty_store}
+use Rattle.lsm_root.specs.CrashState.{formatted as empty_store}
 use Rattle.lsm_open.specs.Image.{StandFor}
 use Rattle.lsm_storm.proofs.Refusing.{opening_refuses}
 use Rattle.lsm_storm.proofs.fresh.fresh.Goals as goal

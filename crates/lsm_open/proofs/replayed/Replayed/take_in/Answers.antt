@@ -1,6 +1,6 @@
 use Rattle.std.proofs.Common.{rules, ◌≡◌, ◌+◌, ◌≤◌, ℕ, length, sym, ap, ◌∙◌, subst}
 use Rattle.lsm_mem.specs.Versions.{NumberedBelow}
-use Rattle.lsm_machine.specs.CrashState.{last_number}
+use Rattle.lsm_root.specs.CrashState.{last_number}
 use Rattle.lsm_open.proofs.replayed.Replayed.take_in.Goals as goal
 
 pub returns : goal.returns

@@ -3,7 +3,7 @@ use Rattle.std.proofs.Common.{◌≡◌, ◌≢◌, ◌≤◌, ◌⊎◌, inl, i
 use Rattle.std.specs.Prelude.{Contains}
 use Rattle.std.proofs.lemmas.Bool.{eqb-true, eqb-false}
 use Rattle.std.proofs.lemmas.List.Elements.{Contains-push_cases}
-use Rattle.lsm_machine.specs.CrashState.{CrashState, last_number, in_next_generation, left_by_opening, IsLeftAgain, IsSameAgain}
+use Rattle.lsm_root.specs.CrashState.{CrashState, last_number, in_next_generation, left_by_opening, IsLeftAgain, IsSameAgain}
 
 none_in : (left : CrashState) → Contains [] left → ⊥
 none_in left found = omega (arith, found.1)
