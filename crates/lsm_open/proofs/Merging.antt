@@ -28,7 +28,6 @@ use Rattle.lsm_open.specs.Tables.{versions_at, table_versions, IsTableAt}
 use Rattle.lsm_open.specs.declared.regions.OpenRegion.{OpenRegion}
 use Rattle.lsm_open.proofs.Flushing.{joined_versions}
 use Rattle.lsm_open.proofs.FreeWrites.{held_synced, present_synced}
-use Rattle.lsm_machine.proofs.SameMaps.{map_of-values}
 use Rattle.lsm_open.proofs.ListPairs.{All-left, All-right}
 use Rattle.lsm_open.proofs.VersionOrders.{merge_order, merge_newest, merge_map}
 
