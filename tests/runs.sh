@@ -480,6 +480,15 @@ compacts_halfway() {
     count=$((count + 1))
 }
 
+# The same by a line of `serve`, which answers this.
+serves_halfway() {
+    what="serve $1"
+    printf 'compact\n' | "$program" serve "$1" >output 2>errors || fail "it ends with $?: $(cat errors)"
+    [ "$(cat output)" = "$2" ] || fail "it answers $(cat output)"
+    what=
+    count=$((count + 1))
+}
+
 # A run of level 0 takes 154 of 239 blocks, in tables of 67, 67 and 20, and goes down as a whole. What comes of its 145 data blocks takes 166
 # at most: one more at each of two borders between tables, 10 for their keys in indexes, and 3 for each of 3 tables; and the largest table 72:
 # 64, 5 and 3. So it stays where it is, and so do as many keys again that wait for a flush: of 145 entries that don't share a block it is told
@@ -496,6 +505,8 @@ halfway() {
     scripts <space
     compacts_halfway half 'generation 5 batches 5 room 2048 waiting 0 runs 1 tables 3 free 85' \
         "the next step wants up to 166 blocks, up to 72 of them side by side; $free"
+    cp half served
+    serves_halfway served 'whole 0 wanted 166 together 72 longest 85 generation 6 batches 5 room 2048 waiting 0 runs 1 tables 3 free 85'
     {
         echo 'replay half |'
         full_commits 6 5
@@ -504,6 +515,7 @@ halfway() {
     scripts <space
     compacts_halfway half 'generation 8 batches 10 room 2048 waiting 1 runs 1 tables 3 free 85' \
         "a flush waits, which wants up to 168 blocks, up to 72 of them side by side; $free"
+    serves_halfway half 'whole 0 wanted 168 together 72 longest 85 generation 9 batches 10 room 2048 waiting 1 runs 1 tables 3 free 85'
 }
 
 # A commit may have 16 guards. A 17th is refused before all that the state decides, a full log too, but for a store that is stopped.

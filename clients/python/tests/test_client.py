@@ -14,11 +14,24 @@ from unittest import mock
 
 from base import SECTORS, Case, some, wait_for
 from corwaphi import (
-    Busy, Closed, Ended, Error, GuardFailed, IoError, LimitError, NoSpace, NoSuchSnapshot, Page, Refused, Snapshot, Store,
-    TooManySnapshots,
+    Busy, Closed, Ended, Error, GuardFailed, IoError, Lack, LimitError, NoSpace, NoSuchSnapshot, Page, Refused, Snapshot, Stat,
+    Store, TooManySnapshots,
 )
+from corwaphi.answers import Words
 
 Pairs = List[Tuple[bytes, Optional[bytes]]]
+
+
+class Answers(unittest.TestCase):
+    def test_what_a_compaction_lacks(self) -> None:
+        numbers = "generation 7 batches 3 room 120 waiting 0 runs 1 tables 4 free 85"
+        found = Words(f"whole 0 wanted 166 together 72 longest 60 {numbers}").compacted()
+        self.assertEqual((found, found.lack), (Stat(7, 3, 120, 0, 1, 4, 85), Lack(wanted=166, together=72, longest=60)))
+        self.assertEqual(Words(f"whole 0 {numbers}").compacted().lack, Lack(0, 0, 0))
+        self.assertIsNone(Words(numbers).compacted().lack)
+        for words in (f"whole 0 wanted x together 72 longest 60 {numbers}", f"whole {numbers}", "whole 0"):
+            with self.assertRaises((ValueError, KeyError)):
+                Words(words).compacted()
 
 
 class Calls(Case):

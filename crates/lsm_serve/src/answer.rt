@@ -6,7 +6,7 @@ ghost use Rattle.lsm_lives.specs.Asked.{Replied};
 ghost use Rattle.lsm_lives.specs.Calls.{reply_of, told_of};
 ghost use Rattle.lsm_language.specs.Replies.{reply_line};
 ghost use Rattle.lsm_serve.specs.Mistakes.{mistake_text};
-ghost use Rattle.lsm_serve.specs.Answering.{IsTellable, outcome_of, outcome_text, usage_line};
+ghost use Rattle.lsm_serve.specs.Answering.{IsTellable, lack_line, outcome_of, outcome_text, usage_line, wanted_in};
 
 use crate::asking::Wrong;
 use crate::mistake::Mistake;
@@ -14,6 +14,7 @@ use lsm_device::Refusal;
 use lsm_language::{Counted, push_reply, stat_text};
 use lsm_lives::Reply;
 use lsm_store::Stat;
+use lsm_upkeep::{Lack, Shortage};
 use std::alloc::Global;
 use std::fmt::Write;
 
@@ -24,6 +25,8 @@ pub enum Answer {
     Told(Counted, Reply),
     /// The numbers of the store.
     Numbers(Stat),
+    /// Those of a store that is not compacted to the end, and what it lacks.
+    Halfway(Lack, Stat),
     /// What is wrong with the line.
     Usage(Wrong),
 }
@@ -56,6 +59,7 @@ fn untagged(alloc: Global, number: u64, answer: &Answer) -> Result<String, Refus
     match answer {
         Answer::Told(counted, reply) => reply_text(alloc, *counted, reply),
         Answer::Numbers(stat) => stat_text(alloc, stat),
+        Answer::Halfway(lack, stat) => lack_text(alloc, lack, stat),
         Answer::Usage(Wrong::TooLong) => {
             usage_text(alloc, number, "a line has at most 300000 bytes")
         }
@@ -75,6 +79,40 @@ fn reply_text(alloc: Global, counted: Counted, reply: &Reply) -> Result<String, 
     let mut text = String::new(alloc);
     push_reply(alloc, &mut text, counted, reply)?;
     Ok(text)
+}
+
+fn lack_text(alloc: Global, lack: &Lack, stat: &Stat) -> Result<String, Refusal>
+    ensures text { IfOk result (λ text. string_bytes text ≡ lack_line lack.now stat.now) }
+    ensures refused { IfErr result (λ e. e ≡ NoMemory) }
+{
+    let numbers = stat_text(alloc, stat)?;
+    let mut text = String::new(alloc);
+    match wanted_in(lack) {
+        Some(shortage) => {
+            let Shortage {
+                wanted,
+                together,
+                longest,
+                free: _,
+            } = shortage;
+            write!(
+                text,
+                "whole 0 wanted {wanted} together {together} longest {longest} {numbers}"
+            )?;
+        }
+        None => write!(text, "whole 0 {numbers}")?,
+    }
+    Ok(text)
+}
+
+// The blocks that are wanted, where what is lacking are blocks.
+fn wanted_in(lack: &Lack) -> Option<Shortage>
+    ensures { result ≡ wanted_in lack.now }
+{
+    match lack {
+        Lack::FlushWants(shortage) | Lack::StepWants(shortage) => Some(*shortage),
+        Lack::Flush | Lack::Step | Lack::Memory => None,
+    }
 }
 
 fn usage_text(alloc: Global, number: u64, what: &str) -> Result<String, Refusal>

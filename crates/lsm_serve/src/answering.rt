@@ -1,7 +1,7 @@
 //! One line, answered.
 
 ghost use Rattle.std.specs.Prelude.{◌≡◌};
-ghost use Rattle.lsm_serve.specs.Answering.{Answers, AnswersUntagged, IsTellable, numbers_in, outcome_of, refuses};
+ghost use Rattle.lsm_serve.specs.Answering.{Answers, AnswersUntagged, IsTellable, TellsCompacted, numbers_in, outcome_of, refuses};
 ghost use Rattle.lsm_serve.specs.Asking.{IsAskable, asked_by, asks_compaction};
 ghost use Rattle.lsm_store.specs.Backing.{machine_of};
 ghost use Rattle.lsm_store.specs.Stats.{stat_answer};
@@ -14,7 +14,7 @@ use lsm_language::{Counted, counted_in};
 use lsm_lives::Reply;
 use lsm_policy::Policy;
 use lsm_store::Store;
-use lsm_upkeep::{Upkeep, compact_all, keep_up};
+use lsm_upkeep::{Upkeep, compact_all, keep_up, lack_of};
 use std::alloc::Global;
 
 /// Answers a line.
@@ -53,15 +53,28 @@ fn answer<D: Device>(
     }
 }
 
-// Finishes what was begun, keeps a store up and compacts it, and tells its numbers then.
+// Finishes what was begun, keeps a store up and compacts it, and tells its numbers then, with what it lacks where that is not to the end.
 fn compact<D: Device>(alloc: Global, store: &mut Store<D>, upkeep: &mut Upkeep) -> Answer
     ensures answers { Answers asks_compaction store.old (outcome_of result) store.new }
     ensures tellable { IsTellable result }
 {
     upkeep.finish_begun(alloc, store);
     keep_up(alloc, store, &Policy::new());
-    compact_all(alloc, store);
-    numbers(store)
+    let is_whole = compact_all(alloc, store);
+    compacted(alloc, store, is_whole)
+}
+
+fn compacted<D: Device>(alloc: Global, store: &Store<D>, is_whole: bool) -> Answer
+    ensures answers { TellsCompacted is_whole store.now (outcome_of result) }
+    ensures tellable { IsTellable result }
+{
+    if is_whole {
+        return numbers(store);
+    }
+    match store.stat() {
+        Ok(stat) => Answer::Halfway(lack_of(alloc, store), stat),
+        Err(refusal) => refused(refusal),
+    }
 }
 
 fn numbers<D: Device>(store: &Store<D>) -> Answer

@@ -32,7 +32,7 @@ pub enum Asked {
     NoBatch(Refusal),
     /// The numbers of the store.
     Numbers,
-    /// The numbers of the store, after it was kept up and compacted.
+    /// The numbers of the store, after it was kept up and compacted, and what it lacks for that.
     Compaction,
     /// Nothing.
     Nothing(Wrong),

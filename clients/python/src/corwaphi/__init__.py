@@ -7,7 +7,7 @@
 
 It runs `lsmctl serve`, whose answers it checks: an answer is given only to its question.
 """
-from .answers import Page, Stat
+from .answers import Compacted, Lack, Page, Stat
 from .errors import (
     BadAnswer,
     Busy,
@@ -36,10 +36,12 @@ __all__ = [
     "BadAnswer",
     "Busy",
     "Closed",
+    "Compacted",
     "Ended",
     "Error",
     "GuardFailed",
     "IoError",
+    "Lack",
     "LimitError",
     "LogFull",
     "NoMemory",

@@ -28,6 +28,24 @@ class Stat(NamedTuple):
     """The data blocks in no table."""
 
 
+class Lack(NamedTuple):
+    """What a store lacks that could not be compacted to the end: blocks, or all is 0 and it was something else."""
+
+    wanted: int
+    """So many blocks are wanted at most."""
+    together: int
+    """So many of these have to lie side by side at most."""
+    longest: int
+    """So many that are free lie side by side at most."""
+
+
+class Compacted(Stat):
+    """The numbers of a store that was compacted."""
+
+    lack: Optional[Lack] = None
+    """What it lacks, None if all its tables are in the last level and no batch waits."""
+
+
 class Page(NamedTuple):
     """Rows of a scan, and the first key that was left out, if one was."""
 
@@ -69,6 +87,14 @@ class Words:
         if len(self.words) % 2 or len(said) * 2 != len(self.words):
             raise ValueError("names without numbers")
         return Stat(*(_number(said[name]) for name in Stat._fields))
+
+    def compacted(self) -> Compacted:
+        """It is the numbers of a store, and with `whole 0` what it lacks."""
+        found = Compacted(*self.stat())
+        said = dict(zip(self.words[::2], self.words[1::2]))
+        if said.get("whole") == "0":
+            found.lack = Lack(*(_number(said.get(name, "0")) for name in Lack._fields))
+        return found
 
     def page(self, start: bytes, end: Optional[bytes], limit: int) -> Page:
         """It is rows of this range, in order, and no more than the limit."""

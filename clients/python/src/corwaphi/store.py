@@ -4,7 +4,7 @@ from __future__ import annotations
 from typing import Optional
 
 from . import files
-from .answers import Stat, Words
+from .answers import Compacted, Stat, Words
 from .channel import Channel
 from .ending import Written
 from .files import SECTORS, Path
@@ -111,9 +111,12 @@ class Store(View, Written):
         """The free sectors of the open log."""
         return self._channel.ask("room", lambda words: words.number("room"))
 
-    def compact(self) -> Stat:
-        """Merges all tables into the last level, and gives the numbers after that. Meanwhile all others wait."""
-        return self._channel.ask("compact", Words.stat)
+    def compact(self) -> Compacted:
+        """Merges all tables into the last level, and gives the numbers after that. Meanwhile all others wait.
+
+        What lacks for that is in `lack`, where not all tables get there or batches still wait: `store.compact().lack`.
+        """
+        return self._channel.ask("compact", Words.compacted)
 
     def backup(self, path: Path, sectors: Optional[int] = None, log_sectors: Optional[int] = None) -> int:
         """Copies all rows of one moment into a new store in another file, and gives their number. Others go on meanwhile.
