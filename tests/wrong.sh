@@ -93,7 +93,7 @@ crashes() {
     begin
     # Each crash is opened once.
     edit <<'EDIT'
-file: lsm_requests/src/exploring.rt
+file: lsmctl/src/exploring.rt
 old:         true,
 new:         false,
 EDIT

@@ -1,2 +1,11 @@
 pub mod ProgramLaws
 pub mod RunLaws
+pub mod LifeLaws
+pub mod EndingLaws
+pub mod RefusedLaws
+pub mod AnsweringLaws
+pub mod CommittingLaws
+pub mod DumpingLaws
+pub mod LoadingLaws
+pub mod ReadingLaws
+pub mod ServingLaws

@@ -9,7 +9,7 @@ use Rattle.clap.specs.declared.error.kind.ErrorKind.{ErrorKind}
 use Rattle.clap.specs.declared.error.kind.ErrorKind.TheVariants.{OutOfMemory}
 use Rattle.lsm_device.specs.declared.refusal.Refusal.{Refusal}
 use Rattle.lsm_device.specs.declared.refusal.Refusal.TheVariants.{NoMemory, Stopped}
-use Rattle.lsm_requests.specs.declared.answer.Answer.{Answer}
+use Rattle.lsmctl.specs.declared.answer.Answer.{Answer}
 use Rattle.lsm_language.specs.declared.asked.Asked.{Asked}
 use Rattle.lsm_language.specs.declared.asked.Asked.TheVariants as asked
 use Rattle.lsm_language.specs.declared.request.Request.{Request}
@@ -18,13 +18,13 @@ use Rattle.lsm_language.specs.declared.fault.Fault.{Fault}
 use Rattle.lsm_language.specs.Faults.{Reason, mistake, refusal, unopened, unread, unwritten, reason_of, status_of}
 use Rattle.lsmctl.specs.Program.{has_words, program}
 use Rattle.lsm_language.specs.Requests.{Says, reason_for, wants_script}
-use Rattle.lsm_requests.specs.Answers.{Comes, LoadsTo, TellsLoaded, TellsNumber, TellsServed}
+use Rattle.lsmctl.specs.Answers.{Comes, LoadsTo, TellsLoaded, TellsNumber, TellsServed}
 use Rattle.lsm_serve.specs.Answering.{Answered}
 use Rattle.lsm_serve.specs.Serving.{ToldBefore}
-use Rattle.lsm_requests.specs.Refusing.{FaultsWith}
-use Rattle.lsm_requests.specs.Loading.{loaded_line}
-use Rattle.lsm_requests.proofs.EndingLaws.{answer_status-at_most, answer_status-silent}
-use Rattle.lsm_requests.specs.Endings.{PrintsAnswer, PrintsFault, Written, status_after}
+use Rattle.lsmctl.specs.Refusing.{FaultsWith}
+use Rattle.lsmctl.specs.Loading.{loaded_line}
+use Rattle.lsmctl.proofs.EndingLaws.{answer_status-at_most, answer_status-silent}
+use Rattle.lsmctl.specs.Endings.{PrintsAnswer, PrintsFault, Written, status_after}
 use Rattle.lsmctl.specs.Runs.{AskNothing, IsAsked, Fails, FindsMistake, HasServed, IsRead, IsRequested, IsRun, IsServed, IsTried, IsUntried, IsWrong, LoadsToNoRow, has_dash}
 use Rattle.lsmctl.proofs.ProgramLaws.{has_words-asked}
 

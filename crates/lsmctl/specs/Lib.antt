@@ -1,3 +1,12 @@
 pub mod Program
 pub mod Runs
 pub mod Whole
+pub mod Steps
+pub mod Replies
+pub mod Commits
+pub mod Compacted
+pub mod Loading
+pub mod Dumping
+pub mod Answers
+pub mod Refusing
+pub mod Endings

@@ -8,16 +8,16 @@ use Rattle.lsm_device.specs.declared.refusal.Refusal.TheVariants.{NoMemory}
 use Rattle.lsm_language.specs.declared.asked.Asked.{Asked}
 use Rattle.lsm_language.specs.declared.request.Request.{Request}
 use Rattle.lsm_language.specs.declared.request.Request.TheVariants as request
-use Rattle.lsm_requests.specs.declared.answer.Answer.{Answer}
+use Rattle.lsmctl.specs.declared.answer.Answer.{Answer}
 use Rattle.lsm_language.specs.declared.fault.Fault.{Fault}
 use Rattle.lsm_language.specs.Faults.{Reason, mistake, refusal, unread, reason_of}
 use Rattle.lsm_language.specs.Scripts.{read_within}
 use Rattle.lsm_language.specs.Words.{after}
 use Rattle.lsmctl.specs.Program.{program, Asks}
 use Rattle.lsm_language.specs.Requests.{Says, reason_for, wants_script}
-use Rattle.lsm_requests.specs.Answers.{Comes, LoadsTo, lines_of}
-use Rattle.lsm_requests.specs.Refusing.{FaultsWith}
-use Rattle.lsm_requests.specs.Endings.{Concludes, Written, answer_status}
+use Rattle.lsmctl.specs.Answers.{Comes, LoadsTo, lines_of}
+use Rattle.lsmctl.specs.Refusing.{FaultsWith}
+use Rattle.lsmctl.specs.Endings.{Concludes, Written, answer_status}
 
 -- ---- what is asked for
 

@@ -1,4 +1,13 @@
 //! `lsmctl`: a store in a file, from the command line.
+//!
+//! | modules | what is in them |
+//! |---|---|
+//! | `parser` | the words after the program's name |
+//! | `calls` | does what was asked for; `committing`, `dumping`, `exploring`, `loading`, `opening`, `runs`, `steps`, `tallied`: parts of that |
+//! | `answer`, `reply`, `failing` | what it is answered with, and how a call failed |
+//! | `ending` | prints the answer or the fault, and gives the exit status |
+//! | `program` | a run on words, over a reader and two writers |
+//! | `meter`, `streams` | how far a call is, and streams that are closed |
 #![tactic(auto)]
 
 ghost use Rattle.std.specs.Prelude.{◌≡◌, ◌⊎◌, ◌≤◌, IfErr};
@@ -6,17 +15,30 @@ ghost use Rattle.lsmctl.specs.Runs.{IsStarted};
 ghost use Rattle.lsm_device.specs.declared.refusal.Refusal.TheVariants.{NoMemory};
 ghost use Rattle.lsm_language.specs.Faults.{mistake, reason_of, refusal};
 
+mod answer;
+mod calls;
+mod committing;
+mod dumping;
+mod ending;
+mod exploring;
+mod failing;
+mod loading;
 mod meter;
+mod opening;
 mod parser;
 mod program;
+mod reply;
+mod runs;
+mod steps;
 mod streams;
+mod tallied;
 
+use crate::ending::conclude;
 use crate::meter::Meter;
 use crate::program::run;
 use crate::streams::fill_closed;
 use lsm_language::{Fault, Usage};
 use lsm_progress::Progress;
-use lsm_requests::conclude;
 use std::alloc::AllocError;
 use std::env;
 use std::env::Env;

@@ -5,10 +5,12 @@ ghost use Rattle.std.specs.Io.KnownBytes.{Keeps};
 ghost use Rattle.lsm_language.specs.Faults.{reason_of};
 ghost use Rattle.lsmctl.specs.Runs.{Fails, FindsMistake, HasServed, IsRun, IsServed};
 
+use crate::answer::Answer;
+use crate::calls::answer_request;
+use crate::ending::conclude;
 use crate::parser::asked_for;
 use lsm_language::{Fault, Request, script_text};
 use lsm_progress::Progress;
-use lsm_requests::{Answer, answer_request, conclude};
 use std::convert::AsStr;
 use std::fs::{File, Files};
 use std::io::{Read, Write};

@@ -1,6 +1,0 @@
-use Rattle.std.proofs.Common.{◌≡◌}
-use Rattle.lsm_requests.proofs.LoadingLaws.{IsReading}
-use Rattle.lsm_requests.proofs.loading.read_rows.Given as goal
-
-abbrev pub invariant-loop : goal.invariant-loop
-invariant-loop g l = IsReading (g.I.Read.remaining l.fn.input) (g.I.Read.remaining l.input) l.loading l.fn.store l.store × (l.loading.read ≡ l.counter)

@@ -1,0 +1,19 @@
+use Rattle.std.proofs.lemmas.Result.{err_from_is_err_and}
+use Rattle.lsm_machine.specs.Calls.{Get}
+use Rattle.lsm_machine.specs.declared.asked.At.TheVariants.{Now}
+use Rattle.lsmctl.specs.Answers.{HasFound}
+use Rattle.lsmctl.specs.Refusing.{RefusesToTell}
+use Rattle.lsmctl.proofs.RefusedLaws.{closed_answers, not_opened, opened_refuses}
+use Rattle.lsmctl.proofs.calls.get.Goals as goal
+
+pub returns-clause-gives : goal.returns-clause-gives
+returns-clause-gives g c =
+    closed_answers (HasFound c.args.key.now) c.in_ok-store.store c.find-done.new.store _ _ c.in_ok-store.ensures.opened c.find-done.ensures.gives c.closed.ensures.answer
+
+pub returns-clause-refused : goal.returns-clause-refused
+returns-clause-refused g c =
+    opened_refuses (RefusesToTell (Get Now c.args.key.now)) c.in_ok-store.store _ _ c.in_ok-store.ensures.opened c.find-done.ensures.refused c.closed.ensures.refused
+
+pub returns-in_err-store-clause-refused : goal.returns-in_err-store-clause-refused
+returns-in_err-store-clause-refused g c =
+    let p = err_from_is_err_and c.from_residual.result c.from_residual.ensures.1 in rw (p.1, p.2) (not_opened (RefusesToTell (Get Now c.args.key.now)) _ c.in_err-store.ensures.refused)
