@@ -25,7 +25,7 @@ all_spelled bytes entries fits size is =
     let spelled = (exactly bytes (entries_in bytes) fits size refl entries).0 is in
     ap block_of spelled.1 ∙ block_format.decoded entries spelled.0
 
--- one is none
+-- one is no entry
 not_all : (entries : List Version) (e : Refusal) (rest : List Item) → all_ok (items_of entries ++ Err e ∷ rest) ≡ None
 not_all [] e rest = refl
 not_all (v ∷ entries) e rest = ap (option_map (λ (l : List Version). v ∷ l)) (not_all entries e rest)

@@ -90,7 +90,7 @@ named_by : (level run : ℕ) (ts : Tables) → numbers_of (map (record_of level 
 named_by level run [] = refl
 named_by level run (t ∷ ts) = ap (λ (ns : List ℕ). t.number ∷ ns) (named_by level run ts)
 
--- those of tables, and of others behind them
+-- those of tables, and of others after them
 one_more : (level run : ℕ) (x : Tables) (rest : Records) (behind : Tables) → numbers_of rest ≡ numbers_in behind → numbers_of (map (record_of level run) x ++ rest) ≡ numbers_in (x ++ behind)
 one_more level run x rest behind same =
     map-append (λ (t : TableRecord). t.number) (map (record_of level run) x) rest

@@ -3,7 +3,7 @@ use Rattle.std.proofs.Common.{◌≡◌, ℕ, ◌+◌, ◌-◌, ◌<◌, ◌≤�
 use Rattle.std.specs.Ordering.{is_lt}
 use Rattle.std.proofs.lemmas.List.{drop_more, length-drop}
 use Rattle.lsm_codec.specs.Versions.{Version, AreOrdered, entry_order}
-use Rattle.lsm_merge.proofs.OrderTests.{is_in_order, tested, ordered_tested}
+use Rattle.lsm_mem.proofs.OrderTests.{is_in_order, tested, ordered_tested}
 
 module _ (entries : List Version) (i : ℕ) (low : 1 ≤ i) (same : is_in_order (drop (i - 1) entries) ≡ is_in_order entries) where
   -- one entry before the next, and the rest to test
@@ -27,7 +27,7 @@ module _ (entries : List Version) (i : ℕ) (low : 1 ≤ i) (same : is_in_order 
       let next : (i + 1) - 1 ≡ i = omega arith in
       ap (λ (k : ℕ). is_in_order (drop k entries)) next ∙ sym (goes_on v w r lt is_v is_w is ∙ ap (λ (b : Bool). b && is_in_order (drop i entries)) before) ∙ same
 
-  -- behind the last one
+  -- after the last one
   pub all_in_order : length entries ≤ i → AreOrdered entries
   all_in_order le = ordered_tested entries (sym same ∙ short (drop (i - 1) entries) (omega (arith, length-drop (i - 1) entries)))
     where

@@ -10,7 +10,7 @@ use Rattle.lsm_levels.proofs.OldestRuns.{tables_append}
 use Rattle.lsm_levels.proofs.LevelVersions.{versions_append}
 use Rattle.lsm_levels.specs.Orders.{IsNewerPlace, IsVersionOrder}
 use Rattle.lsm_levels.specs.Tables.{Table, versions_of}
-use Rattle.lsm_merge.specs.Inputs.{joined}
+use Rattle.lsm_mem.specs.Versions.{joined}
 use Rattle.lsm_open.proofs.InPlace.{newer_than_left}
 use Rattle.lsm_open.proofs.VersionOrders.{order_cross, order_join}
 use Rattle.lsm_check.specs.Seen.{SeenView, IsSeen}
@@ -32,7 +32,7 @@ joined_versions : (tables : Tables) → joined (places_of tables) ≡ versions_o
 joined_versions [] = refl
 joined_versions (t ∷ rest) = ap (λ (vs : List Version). t.versions ++ vs) (joined_versions rest)
 
--- ---- a table at a place of a run, behind others and before others
+-- ---- a table at a place of a run, after others and before others
 
 pub up_to : (done run : Tables) (i : ℕ) (t : Table) → i < length run → t ≡ get_or run i t → (done ++ take i run) ++ t ∷ [] ≡ done ++ take (i + 1) run
 up_to done run i t lt is = append_assoc done (take i run) (t ∷ []) ∙ ap (λ (l : Tables). done ++ l) (ap (λ (x : Table). take i run ++ x ∷ []) is ∙ sym (take_more run i t lt))

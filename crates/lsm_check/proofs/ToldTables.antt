@@ -71,7 +71,7 @@ module _ (n : ℕ) (s : Sectors) where
       found.1 ∙ ap (λ (l : List Table). Some l) (cond_some (is_run found.0) found.0 run found.2).1
 
   module _ (m : Contents) (is : IsManifest m) where
-    -- the tables of the first runs, and of those behind them
+    -- the tables of the first runs, and of those after them
     abbrev Splits : ℕ → List (List Table) → Type 0
     Splits k runs = told_tables n s m.tables ≡ (told_tables n s (records_from m k) >>= λ (more : List Table). Some (all_tables runs ++ more))
 
@@ -115,7 +115,7 @@ outline_recorded t blocks o told =
     recorded_by t (slice_index_or blocks (t.data_blocks + t.index_blocks + 1) []) (flat_map (λ b. b) (take t.index_blocks (drop (t.data_blocks + 1) blocks))) (slice_index_or blocks t.data_blocks []) o told
 
 module _ (n : ℕ) (s : Sectors) where
-  -- the table of a record with this outline and so many deletes
+  -- the table of a record with this outline and these deletes
   abbrev its_table : TableRecord → ℕ → Outline → Table
   its_table t deletes o = table_at o t.first_block deletes (versions_at n s t)
 

@@ -17,7 +17,7 @@ abbrev pub data_blocks_in : List Table → ℕ
 data_blocks_in [] = 0
 data_blocks_in (t ∷ rest) = length t.outline.edges + data_blocks_in rest
 
--- so many reads were made at least, and so many at most
+-- at least `least` reads were made, and at most `most`
 pub record ReadsBetween (least most : ℕ) (old new : Calls) : Type 0 where
   pub count : ℕ
   pub low : least ≤ count

@@ -28,7 +28,7 @@ pub record AreNamed (size log_sectors : ℕ) (m : Contents) (levels : Levels) (e
   pub within : AreWithin size (first_data log_sectors) (places levels)
   pub held : Held (data_blocks_of size log_sectors) m.tables extents
 
--- The regions of a manifest follow on, no log sector is of a later epoch, and there are so many batches.
+-- The regions of a manifest follow on, no log sector is of a later epoch, and there are `batches` batches.
 pub record HasBatches (log_sectors : ℕ) (sectors : List (List ℕ)) (m : Contents) (batches : ℕ) : Type 0 where
   pub follows : follow_on log_sectors sectors (m.base + 1) m.logs ≡ true
   pub fresh : HasNoneAbove m.generation (area first_region (3 * log_sectors) sectors)

@@ -23,7 +23,7 @@ spelled_versions sectors area t = versions_if (table_of (blocks_from sectors (se
 abbrev pub IsTold : List (List ℕ) → ℕ → Table → Type 0
 IsTold sectors area t = t ≡ table_at t.outline t.start t.deletes (spelled_versions sectors area t)
 
--- These are the entries of a table's first so many data blocks: the blocks spell them, and end as the index tells.
+-- These are the entries of a table's first `count` data blocks: the blocks encode them, and end as the index tells.
 pub record AreRead (sectors : List (List ℕ)) (area count : ℕ) (t : Table) (entries : List Version) : Type 0 where
   pub blocks : TableBlocks
   pub spelled : table_of (blocks_from sectors (sector_of area t 0) count) ≡ Some blocks
@@ -43,7 +43,7 @@ ends_with versions edge = is_at_edge edge (slice_get versions (length versions -
 abbrev pub tells_entries : Table → List Version → Bool
 tells_entries t entries = (t.outline.entries == length entries) && (is_same_key t.outline.first (first_in entries) && (t.deletes == deletes_in entries))
 
--- What the entries of a table are beside that: as many, with the first key, with as many deletes, in order, each key in the
+-- What the entries of a table are besides: as many, with the first key, with as many deletes, in order, each key in the
 -- filter, of batches up to the base, and older than all of these versions of their keys.
 pub record Fits (t : Table) (base : ℕ) (newer : List Version) (entries : List Version) : Type 0 where
   pub told : tells_entries t entries ≡ true

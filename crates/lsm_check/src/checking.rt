@@ -93,7 +93,7 @@ fn read_named<A: Allocator + Clone, D: Device>(
     })
 }
 
-// The numbers of what was read, where the tables have so many entries.
+// The numbers of what was read, where the tables have `entries` entries.
 fn report_of<A: Allocator>(named: &Named<A>, entries: u64) -> Report
     ensures generation { result.generation ≡ named.now.loaded.manifest.generation }
     ensures batches { result.batches ≡ named.now.batches }
@@ -132,18 +132,18 @@ fn check_all<A: Allocator + Clone, D: Device>(alloc: &A, device: &mut D) -> Resu
     Ok(report_of(&named, entries))
 }
 
-/// Checks whether a device holds, as it reads, the image of a store, in either version of the format, and answers the numbers of
-/// the image. It reads alone: it makes no write and no sync, and reads each data block of each table once, and once before where
-/// its record tells no deletes. Memory holds the entries of one table at a time, and beside what an opening keeps of tables the
-/// keys of all of them.
+/// Checks whether a device holds, as it reads, the image of a store, in either version of the format, and returns the numbers of
+/// the image. It only reads, without a write or a sync, and reads each data block of each table once, and once before where its
+/// record tells no deletes. Memory holds the entries of one table at a time, what an opening keeps of tables, and all keys of
+/// the tables.
 ///
-/// It finds first what an opening would be refused with, in its order, but for the last generation: `BadGeometry` before any
-/// device call where the device has fewer than 8,192 sectors or more than 1,048,576; what the root says; `BadTable` for a table
-/// whose record tells no deletes and whose data blocks spell no entries, or not as many as the record says; `BadTable` for a table
-/// that doesn't open; `BadManifest` for a region whose first batch is not the next one, and for a log sector of a later
-/// generation. Then it goes over the tables in the order of the manifest, and of each it finds the first of these: `BadTable`,
-/// where one of its data blocks, whichever, spells no entries; `Entries`, `Order`, `Filter`, `Versions`. Want of memory is
-/// `NoMemory` and a read that failed, its last, `Io`.
+/// It finds first what an opening would fail with, in its order, but for the last generation: `BadGeometry` before any device call
+/// where the device has fewer than 8,192 sectors or more than 1,048,576; what the root says; `BadTable` for a table whose record
+/// tells no deletes and whose data blocks encode no entries, or not as many as the record says; `BadTable` for a table that
+/// doesn't open; `BadManifest` for a region whose first batch is not the next one, and for a log sector of a later generation.
+/// Then it goes over the tables in the order of the manifest, and of each it finds the first of these: `BadTable`, where any of
+/// its data blocks encodes no entries; `Entries`, `Order`, `Filter`, `Versions`. An allocation that fails is `NoMemory` and a read
+/// that failed, its last, `Io`.
 pub fn check<A: Allocator + Clone, D: Device>(alloc: A, device: &mut D) -> Result<Report, Finding>
     // After a yes the sectors are the image of a store, so that an opening recovers it, and these are its numbers.
     ensures yes { IsTrue (D.medium device.old).lasting.tells → IfOk result (IsImage (D.medium device.old).size (seen (disk (D.medium device.old)))) }
@@ -160,7 +160,7 @@ pub fn check<A: Allocator + Clone, D: Device>(alloc: A, device: &mut D) -> Resul
     ensures later { IsTrue (D.medium device.old).lasting.tells → IsDeviceSize (D.medium device.old).size
         → FindsLaterSector (seen (disk (D.medium device.old))) result }
 
-    // A refusal is that of an opening, or of a log sector of a later generation. All else is found only behind both, of a table that
+    // A refusal is that of an opening, or of a log sector of a later generation. All else is found only after both, of a table that
     // the manifest names: its number is told, or BadTable.
     ensures found { IsTrue (D.medium device.old).lasting.tells → IsDeviceSize (D.medium device.old).size
         → IfErr result (IsFoundIn (seen (disk (D.medium device.old)))) }

@@ -62,7 +62,7 @@ fn ends_with<A: Allocator>(entries: &[Entry<A>], edge: &Edge<A>) -> bool
     }
 }
 
-// Reads the data block of a table at a place, and adds its entries. It answers whether this block ends as the table's index
+// Reads the data block of a table at a place, and adds its entries. Returns whether this block ends as the table's index
 // tells, and those before it did.
 fn add_block<D: Device, A: Allocator + Clone>(
     alloc: &A,

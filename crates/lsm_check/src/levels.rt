@@ -19,7 +19,7 @@ use lsm_device::Device;
 use lsm_levels::{Levels, PlacedTable, Run};
 use std::alloc::Allocator;
 
-// Checks the tables of a run behind those that were seen.
+// Checks the tables of a run, which come after those seen so far.
 fn check_run<D: Device, A: Allocator + Clone>(
     alloc: &A,
     device: &mut D,
@@ -46,7 +46,7 @@ fn check_run<D: Device, A: Allocator + Clone>(
     Ok(())
 }
 
-// Checks the tables of runs behind those that were seen.
+// Checks the tables of runs, which come after those seen so far.
 fn check_runs<D: Device, A: Allocator + Clone>(
     alloc: &A,
     device: &mut D,
@@ -73,7 +73,7 @@ fn check_runs<D: Device, A: Allocator + Clone>(
     Ok(())
 }
 
-/// Checks all tables of levels, the newer places first, and answers how many entries they have. It reads each of their data
+/// Checks all tables of levels, the newer places first, and returns how many entries they have. It reads each of their data
 /// blocks once.
 pub(crate) fn check_levels<D: Device, A: Allocator + Clone>(
     alloc: &A,

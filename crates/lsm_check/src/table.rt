@@ -101,7 +101,7 @@ fn are_numbered<A: Allocator>(entries: &[Entry<A>], base: u64) -> bool
     entries.iter().all(|entry| entry.number() <= base)
 }
 
-// Tests the entries of a table that comes behind those that were seen.
+// Tests the entries of a table that comes after those seen so far.
 fn test<A: Allocator>(
     table: &PlacedTable<A>,
     entries: &[Entry<A>],
@@ -131,7 +131,7 @@ fn test<A: Allocator>(
     Ok(())
 }
 
-/// Checks a table, behind those that were seen, the newer places first, and has seen it then. It holds the entries of this
+/// Checks a table after those seen so far, the newer places first, and counts it as seen then. It holds the entries of this
 /// table, and no other's.
 pub(crate) fn check_table<D: Device, A: Allocator + Clone>(
     alloc: &A,

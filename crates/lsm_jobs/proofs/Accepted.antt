@@ -86,7 +86,7 @@ pub same_blocks : (tables : List Table) (area : Area) → (all_handed_out tables
 same_blocks [] area = refl
 same_blocks (t ∷ tables) area = same_blocks tables (handed_out (extent_of t) area)
 
--- so many blocks fewer are free
+-- the blocks of the tables are no longer free
 pub fewer_free : (tables : List Table) (old new : Area) → IsPartition old → IsPartition new → new ≡ all_handed_out tables old → free_count new + sum_by (λ t. t.blocks) tables ≡ free_count old
 fewer_free tables old new before after is =
     let sum : sum_by (λ e. e.blocks) new.held ≡ sum_by (λ t. t.blocks) tables + sum_by (λ e. e.blocks) old.held = ap (λ (a : Area). sum_by (λ (e : Extent). e.blocks) a.held) is ∙ held_sum tables old in

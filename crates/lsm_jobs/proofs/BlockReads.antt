@@ -77,7 +77,7 @@ module _ (sectors : List (List ℕ)) where
   items_at : ℕ → ℕ → List Item
   items_at at n = items_in (blocks_from sectors at n)
 
-  -- what is left behind i of some blocks
+  -- what is left after i of some blocks
   abbrev pub items_left : ℕ → ℕ → ℕ → List Item
   items_left sector blocks i = items_in (blocks_from sectors (sector + 8 * i) (blocks - i))
 
@@ -128,7 +128,7 @@ drop_parts (suc k) (x ∷ xs) ys =
     let same : suc k - suc (length xs) ≡ k - length xs = omega arith in
     drop_parts k xs ys ∙ sym (ap (λ (n : ℕ). drop k xs ++ drop n ys) same)
 
--- of two lists, those behind the first so many
+-- of two lists, `left` entries after the first `skip`
 window : {X : Type 0} (left skip first count : ℕ) (xs ys : List X) → first ≡ min skip (length xs) → count ≡ min left (length xs - first) →
     take left (drop skip (xs ++ ys)) ≡ take count (drop first xs) ++ take (left - count) (drop (skip - first) ys)
 window left skip first count xs ys f n =
@@ -181,7 +181,7 @@ module _ (sectors : List (List ℕ)) where
   some_blocks : (at n first count : ℕ) → first + count ≤ n → take count (drop first (blocks_from sectors at n)) ≡ blocks_from sectors (at + 8 * first) count
   some_blocks at n first count room = ap (take count) (behind first at n (omega (arith, room))) ∙ front count (at + 8 * first) (n - first) (omega (arith, room))
 
-  -- what tables have behind the first so many blocks, so many at most
+  -- the entries of `left` data blocks of tables, after the first `skip`
   abbrev pub items_behind : ℕ → List Table → ℕ → ℕ → List Item
   items_behind area tables skip left = items_in (take left (drop skip (blocks_in sectors area tables)))
 

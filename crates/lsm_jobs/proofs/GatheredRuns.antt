@@ -3,7 +3,8 @@ use Rattle.std.proofs.Common.{◌≡◌, ℕ, zero, suc, ◌+◌, ◌-◌, ◌<�
 use Rattle.std.proofs.lemmas.List.{drop_more, drop_all, drop-drop, drop-set-lt, get_or-drop, length-drop, length-map, map-set, take_all, take_more_set}
 use Rattle.std.specs.declared.vec.Vec.{Vec}
 use Rattle.lsm_codec.specs.Versions.{Version, AreOrdered}
-use Rattle.lsm_merge.specs.Inputs.{AreRuns, items_of, joined}
+use Rattle.lsm_merge.specs.Inputs.{AreRuns, items_of}
+use Rattle.lsm_mem.specs.Versions.{joined}
 use Rattle.lsm_merge.proofs.Sameness.{items_at}
 use Rattle.lsm_levels.specs.Tables.{Table, versions_of}
 use Rattle.lsm_levels.specs.Levels.{all_tables}
@@ -20,7 +21,7 @@ use Rattle.lsm_jobs.proofs.GoingOn.{Item, first_ordered, taken_back}
 abbrev pub blank : List Table → List Version
 blank run = []
 
--- the first run, and those of the tables behind it
+-- the first run, and those of the tables after it
 pub first_run : (t : Table) (rest : List Table) → ascending_runs (t ∷ rest) ≡ take (run_length (t ∷ rest)) (t ∷ rest) ∷ ascending_runs (drop (run_length (t ∷ rest)) (t ∷ rest))
 first_run t [] = refl
 first_run t (u ∷ rest) = by (ends_run t (u ∷ rest)) (first_run u rest)
@@ -159,7 +160,7 @@ module _ (sectors : List (List ℕ)) (area from0 to0 : ℕ) (runs0 : List (List 
         by [] h = h
         by (new ∷ news) h = none new h.0
 
-  -- behind the last run
+  -- after the last run
   pub runs_ended : (i from to : ℕ) (runs : List (List Table)) (now : List (List Version)) → length old ≤ i → length now ≡ length old → length runs ≡ 0 → SoFar i from to runs now → RunsGoOn sectors area from0 to0 runs0 old now
   runs_ended i from to [] now past count none so_far =
       let end : drop i old ≡ [] = drop_all i old past in
@@ -186,7 +187,7 @@ pub as_they_are : (runs : List (List Version)) → fronts (map length runs) runs
 as_they_are [] = refl
 as_they_are (run ∷ runs) = ap (λ (l : List Version). l ∷ fronts (map length runs) runs) (take_all (length run) run (omega arith)) ∙ ap (λ (ls : List (List Version)). run ∷ ls) (as_they_are runs)
 
--- what is untouched from a place on is so behind it
+-- what is untouched from a place on is so after it
 pub untouched_more : (old now : List (List Version)) (i : ℕ) (new : List Version) → drop i now ≡ drop i old → drop (i + 1) (set now i new) ≡ drop (i + 1) old
 untouched_more old now i new e = drop-set-lt (i + 1) now i new (omega arith) ∙ sym (drop-drop 1 i now) ∙ ap (drop 1) e ∙ drop-drop 1 i old
 
@@ -220,7 +221,7 @@ ordered_at [] i d within all = absurd (omega (arith, within))
 ordered_at (v ∷ vectors) zero d within all = all.0
 ordered_at (v ∷ vectors) (suc i) d within all = ordered_at vectors i d (omega (arith, within)) all.1
 
--- ---- of each list so many entries
+-- ---- of each list its number of entries
 
 -- what is cut so far, and what is left to cut
 pub record CutTo (lengths : List ℕ) (old : List (List Version)) (i : ℕ) (now : List (List Version)) : Type 0 where

@@ -182,7 +182,7 @@ joined run mid items more g = record {
       };
 }
 
--- where a run doesn't go on with items, it doesn't with more behind them
+-- where a run doesn't go on with items, it doesn't with more after them
 pub none_with_more : (run : List Version) (items more : List Item) → ((new : List Version) → GoesOn run items new → ⊥) → (new : List Version) → GoesOn run (items ++ more) new → ⊥
 none_with_more run items more none new h =
     let s = split_spelled items more h.entries h.spelled in

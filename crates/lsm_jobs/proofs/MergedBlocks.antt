@@ -15,7 +15,7 @@ use Rattle.lsm_mem.specs.Ranges.{is_version}
 use Rattle.lsm_table.specs.BlockCounts.{block_count, most_blocks, IsPart}
 use Rattle.lsm_table.proofs.Adding.{block_laws}
 use Rattle.lsm_merge.specs.Keeping.{all_placed, in_order, is_newest_at_a_cut, kept_at, is_older_put, deletes_nothing, settled, keep}
-use Rattle.lsm_merge.proofs.OrderTests.{tested}
+use Rattle.lsm_mem.proofs.OrderTests.{tested}
 use Rattle.lsm_merge.proofs.Placing.{all_placed-nil}
 use Rattle.lsm_merge.proofs.RangeLaws.{filter_cond}
 use Rattle.lsm_jobs.specs.MergedBlocks.{most_put_blocks, MergedBlocksLaw}

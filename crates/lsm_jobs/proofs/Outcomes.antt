@@ -16,7 +16,8 @@ use Rattle.lsm_table.specs.Division.{Block, TableBlocks, ShareNoKey, entries_of}
 use Rattle.lsm_table.specs.BlockEdges.{last_edge, edges_of, last_key}
 use Rattle.lsm_table.proofs.Orders.{Before, befores, later_pairs, next_before, keys_rise}
 use Rattle.lsm_merge.specs.Divisions.{AreTables}
-use Rattle.lsm_merge.specs.Inputs.{MergeInput, joined, kept_of}
+use Rattle.lsm_merge.specs.Inputs.{MergeInput, kept_of}
+use Rattle.lsm_mem.specs.Versions.{joined}
 use Rattle.lsm_merge.specs.Keeping.{keep}
 use Rattle.lsm_merge.specs.Laws.{IsKeptAt, KeepsMaps}
 use Rattle.lsm_merge.proofs.MapLaws.{keep_law}
@@ -32,7 +33,7 @@ use Rattle.lsm_jobs.specs.Outputs.{IsTableOf, AreTablesOf, AreMadeOf}
 use Rattle.lsm_jobs.specs.Outcomes.{SeesSome, ReplaceInputs, OutputsLaw}
 use Rattle.lsm_jobs.proofs.Accepted.{tables_of}
 use Rattle.lsm_levels.proofs.RunOrders.{is_there}
-use Rattle.lsm_merge.proofs.RangeLaws.{then_le}
+use Rattle.lsm_mem.proofs.FirstLaws.{then_le}
 
 -- ---- versions in order, from the first to the last
 

@@ -114,7 +114,7 @@ back_again area e n some blocks low whole mid new taken given =
 
 -- ---- images are placed one after the other
 
--- So many images are placed, and what that leaves undone.
+-- The first i images are placed, and giving their extents back restores the area.
 pub record Places (number : ℕ) (old now : Area) (images : List TableBlocks) (i : ℕ) (tables : List Table) : Type 0 where
   pub undone : all_given_back tables now ≡ old
   pub held : AreHandedOut tables now

@@ -223,7 +223,7 @@ pub writes_append : (area : ℕ) (xs ys : List Write) → writes_of area (xs ++ 
 writes_append area [] ys = refl
 writes_append area (x ∷ xs) ys = ap (λ (ws : List Write). block_writes area x ++ ws) (writes_append area xs ys) ∙ sym (append_assoc (block_writes area x) (writes_of area xs) (writes_of area ys))
 
--- some of what comes behind a beginning, on a disk that has the beginning
+-- some of what comes after a beginning, on a disk that has the beginning
 some_more : (d mid e : Disk) (first next rest : List Write) → mid ≡ grown first d → HasSomeOf mid next e → HasSomeOf d (first ++ (next ++ rest)) e
 some_more d mid e first next rest is some = (
   length first + some.0,

@@ -19,7 +19,7 @@ use Rattle.lsm_table.specs.BlockEdges.{last_edge, edges_of}
 use Rattle.lsm_table.specs.Places.{stands_before}
 use Rattle.lsm_table.specs.Stored.{table_of}
 use Rattle.lsm_table.proofs.Orders.{Before, before_along, next_before, befores, later_pairs, front_pairs}
-use Rattle.lsm_merge.proofs.OrderTests.{entry_order_total}
+use Rattle.lsm_mem.proofs.OrderTests.{entry_order_total}
 use Rattle.lsm_codec.proofs.Lists.{filter_all, filter_none, all_map}
 use Rattle.lsm_levels.proofs.StoredLaws.{block_entries}
 use Rattle.lsm_jobs.specs.Gathering.{items_in}
@@ -65,7 +65,7 @@ all_true : (vs : List Version) → AllByRecursion (λ v. true ≡ true) vs
 all_true [] = tt
 all_true (v ∷ vs) = (refl, all_true vs)
 
--- whether the first so many edges all stand before a version
+-- whether the first i edges all stand before a version
 abbrev AllBefore : ℕ → List Edge → Version → Bool
 AllBefore i edges v = list_all (stands_before v.key v.number) (take i edges)
 

@@ -1,4 +1,4 @@
--- The versions of tables that stand, behind so many of their data blocks.
+-- The versions of tables that are stored, after a number of their data blocks.
 use Rattle.std.proofs.Common.{◌≡◌, ℕ, zero, suc, ◌+◌, ◌-◌, ◌≤◌, min, ltb, Bool, true, false, cond, List, [], ◌∷◌, ◌++◌, length, map, take, drop, refl, sym, ap, subst, ◌∙◌, append_assoc, arith}
 use Rattle.std.specs.List.{AllByRecursion}
 use Rattle.std.proofs.lemmas.Bool.{ltb-true, ltb-false}
@@ -90,7 +90,7 @@ module _ (sectors : List (List ℕ)) (area : ℕ) where
         let same : min a (length its.blocks) ≡ min b (length its.blocks) = omega (arith, e, count) in
         its.behind a ∙ sym (ap entries_of (drop_min a its.blocks)) ∙ ap (λ (n : ℕ). entries_of (drop n its.blocks)) same ∙ ap entries_of (drop_min b its.blocks) ∙ sym (its.behind b)
 
-    -- and behind all of them is none
+    -- and after all of them is none
     pub none_left : (d : ℕ) → data_blocks tables ≤ d → versions_behind d tables ≡ []
     none_left d past = its.behind d ∙ ap entries_of (drop_all d its.blocks (omega (arith, past, count)))
 
@@ -103,7 +103,7 @@ module _ (sectors : List (List ℕ)) (area : ℕ) where
     next_items : (d k : ℕ) → items d k ≡ map ok (next_entries d k)
     next_items d k = spell_items (take k (drop d (blocks_in sectors area tables))) (take k (drop d its.blocks)) (spell_take k (drop d (blocks_in sectors area tables)) (drop d its.blocks) (spell_drop d (blocks_in sectors area tables) its.blocks its.spell))
 
-    -- what is behind some blocks is what the next spell, and what is behind those
+    -- what is after some blocks is what the next encode, and what is after those
     parted : (d k : ℕ) → versions_behind d tables ≡ next_entries d k ++ versions_behind (d + k) tables
     parted d k =
         its.behind d

@@ -92,7 +92,7 @@ drop_run zero at xs le = let same : at + 0 ≡ at = omega arith in sym (ap (λ (
 drop_run (suc k) at [] le = absurd (omega (arith, le))
 drop_run (suc k) at (x ∷ xs) le = let next : at + 1 + k ≡ at + suc k = omega arith in drop_run k (at + 1) xs (omega (arith, le)) ∙ ap (λ (n : ℕ). run_at n (drop k xs)) next
 
--- of a run those from one on, so many at most
+-- of a run those from one on, at most m
 part_of_run : (m from at : ℕ) (xs : List (List ℕ)) → take m (drop from (run_at at xs)) ≡ run_at (at + min from (length xs)) (take (min (from + m) (length xs) - min from (length xs)) (drop (min from (length xs)) xs))
 part_of_run m from at xs =
     let size = length xs in

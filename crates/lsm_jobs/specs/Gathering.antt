@@ -27,7 +27,7 @@ with_first true t runs = (t ∷ []) ∷ runs
 with_first false t [] = (t ∷ []) ∷ []
 with_first false t (run ∷ runs) = (t ∷ run) ∷ runs
 
--- the runs that tables are, one after the other: one ends where the next table doesn't begin behind its last
+-- the runs that tables are, one after the other: one ends where the next table doesn't begin after its last one
 abbrev pub ascending_runs : List Table → List (List Table)
 ascending_runs [] = []
 ascending_runs (t ∷ rest) = with_first (ends_run t rest) t (ascending_runs rest)
@@ -42,24 +42,24 @@ abbrev pub blocks_in : List (List ℕ) → ℕ → List Table → List (List ℕ
 blocks_in sectors area [] = []
 blocks_in sectors area (t ∷ rest) = blocks_from sectors (sector_of area t 0) (length t.outline.edges) ++ blocks_in sectors area rest
 
--- what blocks spell, one entry after the other; bytes that are none are a refusal
+-- what blocks encode, one entry after the other; invalid bytes are a refusal
 abbrev pub items_in : List (List ℕ) → List (Result Version Refusal)
 items_in blocks = flat_map entries_in blocks
 
--- A run goes on with items, to a new end: none of them is a refusal, and with them behind it the run is in the order of entries.
+-- A run goes on with items, to a new end: none of them is a refusal, and the run with them at its end is in the order of entries.
 pub record GoesOn (run : List Version) (items : List (Result Version Refusal)) (new : List Version) : Type 0 where
   pub entries : List Version
   pub spelled : items ≡ map Ok entries
   pub whole : new ≡ run ++ entries
   pub ordered : AreOrdered new
 
--- a list with some behind it, or none
+-- the new list is the old one, perhaps with more after it
 pub record IsLonger (old new : List Version) : Type 0 where
   pub more : List Version
   pub whole : new ≡ old ++ more
 
--- So many blocks were read at most, and nothing else was done to a device: a fault comes just where it isn't told that all went
--- well, and then in the last call. Where that is no block it wasn't touched.
+-- At most this number of blocks was read, and nothing else was done to a device: `ok` is false just where a call faulted, which
+-- was the last one. A device of which no block was to be read wasn't touched.
 pub record ReadsBlocks (blocks : ℕ) (ok : Bool) (old new : Medium) : Type 0 where
   pub calls : AtMost (8 * blocks) 0 0 old.calls new.calls
   pub faults : new.calls.faults ≡ faults_after ok old.calls.faults
@@ -72,14 +72,14 @@ pub record ReadsBlocks (blocks : ℕ) (ok : Bool) (old new : Medium) : Type 0 wh
 abbrev pub versions_from : ℕ → Table → List Version
 versions_from i t = filter (λ v. list_all (stands_before v.key v.number) (take i t.outline.edges)) t.versions
 
--- the versions of tables behind their first d data blocks
+-- the versions of tables after their first d data blocks
 abbrev pub versions_behind : ℕ → List Table → List Version
 versions_behind zero tables = versions_of tables
 versions_behind (suc d) [] = []
 versions_behind (suc d) (t ∷ rest) = if ltb (suc d) (length t.outline.edges) then versions_from (suc d) t ++ versions_of rest else versions_behind (suc d - length t.outline.edges) rest
 
--- What was read of a merge so far: the entries of each run of its tables, from so many data blocks; with the cuts of its
--- taking, and its bottom flag.
+-- What was read of a merge so far: the entries of each run of its tables, from the first `done` data blocks; with the cuts of
+-- its taking, and its bottom flag.
 pub record Gathered : Type 0 where
   pub runs : List (List Version)
   pub done : ℕ
@@ -134,7 +134,7 @@ pub record IsNext (tables : List Table) (old new : Gathered) : Type 0 where
   pub same_cuts : new.cuts ≡ old.cuts
   pub same_bottom : new.bottom ≡ old.bottom
 
--- of each list the first so many
+-- of each list the first entries, as many as its number says
 abbrev pub fronts : List ℕ → List (List Version) → List (List Version)
 fronts [] runs = []
 fronts (n ∷ counts) [] = []

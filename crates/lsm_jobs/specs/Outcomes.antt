@@ -4,7 +4,8 @@ use Rattle.lsm_codec.specs.Versions.{Version}
 use Rattle.lsm_extent.specs.Area.{Area}
 use Rattle.lsm_table.specs.Division.{TableBlocks}
 use Rattle.lsm_merge.specs.Divisions.{AreTables}
-use Rattle.lsm_merge.specs.Inputs.{MergeInput, joined, kept_of}
+use Rattle.lsm_merge.specs.Inputs.{MergeInput, kept_of}
+use Rattle.lsm_mem.specs.Versions.{joined}
 use Rattle.lsm_levels.specs.Among.{IsAmong}
 use Rattle.lsm_levels.specs.Tables.{Table, IsRun, versions_of}
 use Rattle.lsm_levels.specs.Pick.{Flush, Merge}

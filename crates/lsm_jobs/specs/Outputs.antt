@@ -45,7 +45,7 @@ block_writes area block = run_at (area + 8 * block.at) (in_sectors 8 block.bytes
 abbrev pub writes_of : ℕ → List Write → List Write
 writes_of area blocks = flat_map (block_writes area) blocks
 
--- the blocks that come next, at most eight, where so many are left
+-- the next blocks, at most eight, where `left` are left
 abbrev pub next_blocks : List Table → ℕ → List Write
 next_blocks tables left = take 8 (drop (length (placed_blocks tables) - left) (placed_blocks tables))
 
@@ -54,7 +54,7 @@ abbrev pub place_in : ℕ → ℕ → List TableBlocks → Option (ℕ × ℕ)
 place_in n at [] = None
 place_in n at (image ∷ rest) = if ltb at (extent_size image) then Some (n, at) else place_in (n + 1) (at - extent_size image) rest
 
--- the extent of a table lies in so many sectors, where the data area begins with the sector `area`
+-- the extent of a table lies in the first `size` sectors, where the data area begins with the sector `area`
 abbrev pub EndsWithin : ℕ → ℕ → Table → Type 0
 EndsWithin size area t = area + 8 * (t.start + t.blocks) ≤ size
 
@@ -64,7 +64,8 @@ pub record Placed : Type 0 where
   pub tables : List Table
   pub left : ℕ
 
--- The images are those that a merge makes of the input, the tables are theirs, and so many of their blocks are written and left.
+-- The images are those that a merge makes of the input, the tables are theirs, and these numbers of their blocks are written and
+-- left.
 pub record AreOutputsOf (input : MergeInput) (images : List TableBlocks) (tables : List Table) (written left : ℕ) : Type 0 where
   pub kept : AreTables (kept_of input) images
   pub placed : AreTablesOf images tables

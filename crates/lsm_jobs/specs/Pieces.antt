@@ -23,11 +23,11 @@ abbrev pub sector_writes : ℕ → ℕ → ℕ → List Table → List Write
 sector_writes area from to [] = []
 sector_writes area from to (t ∷ rest) = table_writes area (min from (sector_count t)) (min to (sector_count t)) t ++ sector_writes area (from - sector_count t) (to - sector_count t) rest
 
--- how many sectors of tables are written where so many of their blocks are left
+-- how many sectors of tables are written where `left` of their blocks are left
 abbrev pub written_of : List Table → ℕ → ℕ
 written_of tables left = 8 * (length (placed_blocks tables) - left)
 
--- The writes of a step, at each moment those that it made so far, are in each table those of its next sectors, none behind its
+-- The writes of a step, at each moment those that it made so far, are in each table those of its next sectors, none after its
 -- extent. With all of them eight blocks fewer are left, or none.
 pub record PiecesLaw : Type 0 where
   pub whole : (images : List TableBlocks) (tables : List Table) → AreTablesOf images tables → AllByRecursion (λ t. sector_count t ≡ 8 * t.blocks) tables

@@ -13,7 +13,7 @@ use Rattle.lsm_jobs.specs.Gathering.{Gathered, ascending_runs, whole_input, inpu
 use Rattle.lsm_jobs.specs.declared.held.Work.{Work}
 use Rattle.lsm_jobs.specs.declared.held.Work.TheVariants as work
 
--- The tables of a job are 1,024 at most, and their data blocks lie within so many sectors.
+-- The tables of a job are 1,024 at most, and their data blocks lie within the first `size` sectors.
 pub record CanBeRead (size area : ℕ) (job : Job) : Type 0 where
   pub few : length (inputs job) ≤ 1024
   pub within : AllByRecursion (LiesWithin size area) (inputs job)
@@ -28,7 +28,7 @@ pub record Shows (slot : Slot) (g : Gathered) : Type 0 where
   pub input : slot.input ≡ input_ahead (inputs slot.job) g
   pub stage : slot.stage ≡ Reading (blocks_left (inputs slot.job) g)
 
--- with so many blocks left the job is being read, and with none it is frozen
+-- with n blocks left the job is being read, and with none it is frozen
 abbrev pub stage_with : ℕ → Stage
 stage_with zero = Frozen
 stage_with (suc n) = Reading (suc n)
@@ -38,11 +38,11 @@ abbrev pub input_with : ℕ → List Table → Gathered → MergeInput
 input_with zero tables g = whole_input g
 input_with (suc n) tables g = input_ahead tables g
 
--- the slot of a job that has gathered this, with so many blocks left
+-- the slot of a job that has gathered this, with n blocks left
 abbrev pub slot_with_gathered : Slot → ℕ → Gathered → Slot
 slot_with_gathered slot left g = record slot { input = input_with left (inputs slot.job) g; stage = stage_with left }
 
--- what a job is about that has gathered this, with so many blocks left
+-- what a job is about that has gathered this, with n blocks left
 abbrev pub IsWorkOf : {A : Type 0} → ℕ → Gathered → Work A → Type 0
 IsWorkOf zero g (work.Reading gathering) = ⊥
 IsWorkOf zero g (work.Frozen input) = arc_value input ≡ whole_input g
@@ -52,7 +52,7 @@ IsWorkOf (suc n) g (work.Frozen input) = ⊥
 IsWorkOf (suc n) g (work.Writing outputs) = ⊥
 
 -- A step of a job that is being read: of the data blocks that are left eight are read, or all, and each run goes on with their
--- entries; so many blocks are left then.
+-- entries; `left` blocks are left then.
 pub record ReadsOn {A : Type 0} (area : ℕ) (m : Medium) (tables : List Table) (left : ℕ) (old : Gathered) (new : Work A) : Type 0 where
   pub after : Gathered
   pub next : IsNext tables old after

@@ -7,11 +7,11 @@ use Rattle.lsm_levels.specs.Pick.{Job, inputs}
 
 -- how far a job is
 pub data Stage : Type 0 where
-  -- so many data blocks are left to read
+  -- n data blocks are left to read
   Reading : ℕ → Stage
   -- its input is whole
   Frozen : Stage
-  -- its outputs are placed, and so many of their blocks are left to write
+  -- its outputs are placed, and n of their blocks are left to write
   Writing : List Table → ℕ → Stage
 
 pub record Slot : Type 0 where
@@ -89,7 +89,7 @@ left_at (Reading left) = left
 left_at Frozen = 0
 left_at (Writing tables left) = left
 
--- with so many blocks fewer left to write
+-- with n fewer blocks left to write
 abbrev pub less_left : ℕ → Stage → Stage
 less_left count (Reading left) = Reading left
 less_left count Frozen = Frozen

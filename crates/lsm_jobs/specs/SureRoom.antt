@@ -12,7 +12,7 @@ use Rattle.lsm_jobs.specs.Slots.{Slot}
 use Rattle.lsm_jobs.specs.Placing.{FindNoRoom}
 use Rattle.lsm_jobs.specs.Refusing.{RefusesResult}
 
--- The extents of images have so many blocks each at most, and so many in all, which surely fit.
+-- The extents of images have at most `largest` blocks each and `total` blocks in all, which surely fit.
 pub record HaveSureRoom (area : Area) (images : List TableBlocks) : Type 0 where
   pub total : ℕ
   pub largest : ℕ
@@ -20,7 +20,7 @@ pub record HaveSureRoom (area : Area) (images : List TableBlocks) : Type 0 where
   pub each : AllByRecursion (λ image. extent_size image ≤ largest) images
   pub all : extent_blocks images ≤ total
 
--- Images that have sure room are all placed, so that no result of them is refused since there is none.
+-- Images that have sure room are all placed, so that no result of them is refused for lack of room.
 pub record SureRoomLaw : Type 0 where
   pub placed : (area : Area) (images : List TableBlocks) → HaveSureRoom area images → FindNoRoom area images → ⊥
   pub accepted : (next_table : ℕ) (input : MergeInput) (images : List TableBlocks) (area : Area) (held : Option Slot) → HaveSureRoom area images → RefusesResult next_table input images area held NoSpace → ⊥

@@ -63,7 +63,7 @@ impl<A: Allocator> Slots<A> {
         }
     }
 
-    /// The input of a frozen job, shared with it. It is refused with `NoSuchJob` exactly where no slot has the number, with
+    /// The input of a frozen job, shared with it. Fails with `NoSuchJob` exactly where no slot has the number, with
     /// `WrongState` exactly where the job is not frozen, or with `NoMemory`. No memory is taken: that comes only of an `Arc` with 2^63
     /// handles, but no clause says so.
     pub fn input(&self, job: u64) -> Result<Arc<Input<A>, A>, Refusal>
@@ -78,7 +78,7 @@ impl<A: Allocator> Slots<A> {
     /// lowest free run of its blocks, and all of their blocks are left to write. The images are shared with the result. It
     /// answers the number of the table after them.
     ///
-    /// It is refused with `NoSuchJob` where no slot has the number; `WrongState` where the job is not frozen;
+    /// Fails with `NoSuchJob` where no slot has the number; `WrongState` where the job is not frozen;
     /// `ForeignResult` where the result's input is not the job's; `Exhausted` where a table would have a number above 2^63;
     /// `NoSpace` where the images don't all find room; and `NoMemory`. Each comes exactly so, but that `NoMemory` may be met
     /// before it is known that there is no room. Then nothing has changed.

@@ -80,7 +80,7 @@ fn add_block<A: Allocator + Clone>(
     Ok(())
 }
 
-/// Reads so many blocks from a sector on, and adds their entries to a run.
+/// Reads `blocks` blocks from a sector on, and adds their entries to a run.
 fn read_blocks<D: Device, A: Allocator + Clone>(
     alloc: &A,
     run: &mut Vec<Entry<A>, A>,
@@ -107,7 +107,7 @@ fn read_blocks<D: Device, A: Allocator + Clone>(
     Ok(())
 }
 
-/// Reads the data blocks of tables behind the first `done`, `most` at most, and adds their entries to a run.
+/// Reads at most `most` data blocks of tables after the first `done`, and adds their entries to a run.
 pub(crate) fn read_tables<D: Device, A: Allocator + Clone>(
     alloc: &A,
     run: &mut Vec<Entry<A>, A>,

@@ -39,7 +39,7 @@ impl<A: Allocator> HeldJob<A> {
 
 impl<A: Allocator> Slots<A> {
     /// Drops a job: its slot is free, and the extents of its outputs, where they are placed, are given back. It takes no
-    /// memory. It is refused with `NoSuchJob` exactly where no slot has the number; then nothing has changed.
+    /// memory. Fails with `NoSuchJob` exactly where no slot has the number; then nothing has changed.
     pub fn drop(&mut self, job: u64, extents: &mut Extents<A>) -> Result<(), Refusal>
         // What was placed for the job is handed out.
         requires { AreHandedOut (outputs_of (slot_of job self.old.slots)) extents.old }

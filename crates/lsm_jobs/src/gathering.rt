@@ -111,7 +111,7 @@ impl<A: Allocator + Clone> Gathering<A> {
 }
 
 impl<A: Allocator> Gathering<A> {
-    /// Keeps so many entries of each run, and counts so many blocks.
+    /// Cuts each run back to these lengths, and the count of read blocks to `done`.
     fn take_back(&mut self, lengths: &[usize], done: usize)
         requires { length lengths.now ≡ length self.old.runs }
         ensures { self.new ≡ record { runs = fronts lengths.now self.old.runs; done = done; cuts = self.old.cuts; bottom = self.old.bottom } }

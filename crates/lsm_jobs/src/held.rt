@@ -144,7 +144,7 @@ impl<A: Allocator> HeldJob<A> {
         }
     }
 
-    /// Notes that so many blocks more are written.
+    /// Notes that `count` more blocks are written.
     pub(crate) fn note_written(&mut self, count: u32)
         requires { count ≤ left_at self.old.stage }
         ensures { self.new ≡ record { number = self.old.number; job = self.old.job; input = self.old.input; stage = less_left count self.old.stage } }

@@ -30,7 +30,7 @@ pub enum Written<'a, A: Allocator = Global> {
 
 impl<A: Allocator> Slots<A> {
     /// The outputs of a job whose blocks are all written, with what they take the place of: the tables that a merge makes of
-    /// the job's input. It is refused with `NoSuchJob` exactly where no slot has the number, and with `WrongState` exactly
+    /// the job's input. Fails with `NoSuchJob` exactly where no slot has the number, and with `WrongState` exactly
     /// where the job is not writing or has blocks left. It takes no memory.
     pub fn written(&self, job: u64) -> Result<Written<'_, A>, Refusal>
         ensures found { IfOk result (λ written. IsWhole written (slot_of job self.now.slots)) }
@@ -44,7 +44,7 @@ impl<A: Allocator> Slots<A> {
     }
 
     /// Ends such a job, once its outputs are installed: its slot is free, and the extents of the tables that it took in are
-    /// given back; those of its outputs stay handed out. It is refused as `written` is; then nothing has changed. It takes no
+    /// given back; those of its outputs stay handed out. Fails as `written`; then nothing has changed. It takes no
     /// memory.
     pub fn finish(&mut self, job: u64, extents: &mut Extents<A>) -> Result<(), Refusal>
         // What the job took in is handed out.

@@ -13,7 +13,7 @@ use std::alloc::{AllocError, Allocator};
 use std::collections::BTreeSet;
 use std::marker::Model;
 
-/// The tables that a merge takes in, by handles of its own, first so many upper ones, and the set of their numbers.
+/// Handles to the input tables of a merge, the `uppers` upper ones first, and the set of their numbers.
 #[derive(Drop)]
 pub(crate) struct MergeTables<A: Allocator> {
     level: usize,

@@ -83,7 +83,7 @@ fn write_one<D: Device, A: Allocator>(
     )
 }
 
-/// Writes so many blocks of tables, from one on.
+/// Writes `count` blocks of tables, from block `from` on.
 fn write_some<D: Device, A: Allocator>(
     images: &[Image<A>],
     tables: &[PlacedTable<A>],
@@ -144,7 +144,7 @@ impl<A: Allocator> Outputs<A> {
         self.left
     }
 
-    /// Writes so many of the blocks that are left.
+    /// Writes the next `count` of the blocks that are left.
     pub(crate) fn write_next<D: Device>(
         &self,
         device: &mut D,
@@ -170,7 +170,7 @@ impl<A: Allocator> Outputs<A> {
         )
     }
 
-    /// Notes that so many blocks more are written.
+    /// Notes that `count` more blocks are written.
     pub(crate) fn note_written(&mut self, count: u32)
         requires { count ≤ self.old.left }
         ensures { self.new ≡ record { input = self.old.input; tables = self.old.tables; left = self.old.left - count } }

@@ -29,7 +29,7 @@ pub(crate) fn inputs<A: Allocator>(tables: &Option<MergeTables<A>>) -> &[PlacedT
     }
 }
 
-/// Whether the data blocks of a table lie within so many sectors.
+/// Whether the data blocks of a table lie within the first `sectors` sectors.
 fn is_within<A: Allocator>(table: &PlacedTable<A>, sectors: u32, area: u32) -> bool
     ensures { result ≡ is_within sectors area table.now }
 {
@@ -43,7 +43,7 @@ fn all_within<A: Allocator>(tables: &[PlacedTable<A>], sectors: u32, area: u32) 
     tables.iter().all(|table| is_within(table, sectors, area))
 }
 
-/// Whether the data blocks of tables lie within so many sectors.
+/// Whether the data blocks of tables lie within the first `sectors` sectors.
 fn are_within<A: Allocator>(tables: &[PlacedTable<A>], sectors: u32, area: u32) -> bool
     ensures { IsTrue result ↔ AllByRecursion (LiesWithin sectors area) tables.now }
 {
@@ -51,7 +51,7 @@ fn are_within<A: Allocator>(tables: &[PlacedTable<A>], sectors: u32, area: u32) 
 }
 
 impl<A: Allocator> HeldJob<A> {
-    /// Whether its tables are few, and lie within so many sectors.
+    /// Whether it has at most 1,024 tables, and they lie within the first `sectors` sectors.
     fn can_be_read(&self, sectors: u32, area: u32) -> bool
         ensures { IsTrue result ↔ CanBeRead sectors area self.now.job }
     {
@@ -122,7 +122,8 @@ impl<A: Allocator> Slots<A> {
         self.slots[place] = Some(held);
     }
 
-    /// Whether the tables of a job, where there is one, are at most 1,024, and their data blocks lie within so many sectors.
+    /// Whether the tables of a job, where there is one, are at most 1,024, and their data blocks lie within the first
+    /// `sectors` sectors.
     pub fn can_be_read(&self, job: u64, sectors: u32, area: u32) -> bool
         ensures { IsTrue result ↔ JobCanBeRead sectors area job self.now.slots }
     {
@@ -133,10 +134,10 @@ impl<A: Allocator> Slots<A> {
     }
 
     /// Reads the next data blocks of a merge, past any cache: of those of its tables that are left eight, or all. They come table
-    /// by table, those of the upper tables first, and a run of tables is gathered as one. It answers how many are left then;
+    /// by table, those of the upper tables first, and a run of tables is gathered as one. Returns how many are left then;
     /// with none left the job is frozen. The blocks, eight sectors each, are counted from the sector `area` on.
     ///
-    /// It is refused with `NoSuchJob` exactly where no slot has the number; with `WrongState` exactly where the job is not being
+    /// Fails with `NoSuchJob` exactly where no slot has the number; with `WrongState` exactly where the job is not being
     /// read; and with `NoMemory`, `Io` or `BadTable` where that is met: `Io` for a read that faulted, its last; `BadTable` where
     /// bytes of a block are no entry, or where an entry doesn't come after the one before it in its run. Then the job is as
     /// it was.
@@ -162,7 +163,7 @@ impl<A: Allocator> Slots<A> {
         ensures refused { IfErr result (λ refusal. (refusal ≡ NoSuchJob) ⊎ ((refusal ≡ WrongState) ⊎ ((refusal ≡ Io) ⊎ ((refusal ≡ BadTable) ⊎ (refusal ≡ NoMemory))))) }
         ensures same { OnErr result (self.new ≡ self.old) }
 
-        // The device is read alone: the blocks that are left, eight at most. It is refused with Io only for a read that faulted,
+        // The device is only read: the blocks that are left, eight at most. Fails with Io only for a read that faulted,
         // its last. Where no block is left the device isn't touched.
         ensures faults { (D.medium device.new).calls.faults ≡ faults_after (faultless result) (D.medium device.old).calls.faults }
         ensures stops { IfErr result (λ refusal. refusal ≡ Io → IsTrue (D.medium device.new).calls.last_faulted) }

@@ -1,4 +1,4 @@
-//! The runs of tables: one ends where the next table doesn't begin behind its last.
+//! The runs of tables: a run ends where the next table doesn't begin after its last one.
 
 ghost use Rattle.std.specs.Prelude.{◌≡◌, ◌⊎◌, ◌<◌, ◌≤◌, ◌-◌, [], map, List, Err, length, IsTrue, IfOk, IfErr, OnOk};
 ghost use Rattle.std.specs.List.{AllByRecursion};
@@ -69,7 +69,7 @@ pub(crate) fn lengths<A: Allocator>(
     Ok(lengths)
 }
 
-/// Keeps so many entries of each run.
+/// Cuts each run back to the length at its index.
 pub(crate) fn cut_back<A: Allocator>(runs: &mut [Vec<Entry<A>, A>], lengths: &[usize])
     requires { length lengths.now ≡ length runs.old }
     ensures cut { items_of runs.new ≡ fronts lengths.now (items_of runs.old) }

@@ -164,7 +164,7 @@ impl<A: Allocator> Slots<A> {
         }
     }
 
-    /// Notes that so many blocks more of the job at a place are written.
+    /// Notes that `count` more blocks of the job at a place are written.
     pub(crate) fn note_written(&mut self, place: usize, count: u32)
         requires { (number : ℕ) × (slot : Slot) × IsAt number self.old.slots place slot × (count ≤ left_at slot.stage) }
         ensures { (number : ℕ) (slot : Slot) → IsAt number self.old.slots place slot

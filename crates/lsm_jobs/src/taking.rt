@@ -220,7 +220,7 @@ impl<A: Allocator> Slots<A> {
     }
 
     /// Whether there is a job as it is asked for, and a slot is free for it: the one that is chosen, or where none is the one
-    /// that comes next. It is refused with `Exhausted` exactly where that is so and the number 2^63 was given out, as
+    /// that comes next. Fails with `Exhausted` exactly where that is so and the number 2^63 was given out, as
     /// [`take`](Slots::take) then is. It takes no memory.
     pub fn has_next(
         &self,
@@ -240,8 +240,8 @@ impl<A: Allocator> Slots<A> {
     }
 
     /// Takes the job that is chosen, or where none is the one that comes next: it goes into the least free slot, with these
-    /// cuts and under a number of its own. It answers that number, and the level above that of the job's outputs. None where all
-    /// slots are held or there is no such job. It is refused with `Exhausted` exactly where there is such a job and the number
+    /// cuts and under a number of its own. Returns that number, and the level above that of the job's outputs. None where all
+    /// slots are held or there is no such job. Fails with `Exhausted` exactly where there is such a job and the number
     /// 2^63 was given out, or else with `NoMemory`; then nothing has changed.
     pub fn take(
         &mut self,

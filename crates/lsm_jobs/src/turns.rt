@@ -57,8 +57,8 @@ impl<A: Allocator> HeldJob<A> {
 }
 
 impl<A: Allocator> Slots<A> {
-    /// The job in the slot at a place, and what it waits for; none where the slot is free, or the place is none. It takes no
-    /// memory.
+    /// The job in the slot at a place, and what it waits for; `None` where the slot is free or there is no such place. It
+    /// takes no memory.
     pub fn turn_at(&self, place: usize) -> Option<JobTurn>
         ensures { result ≡ turn_at self.now.slots place }
     {

@@ -54,10 +54,10 @@ impl<A: Allocator> Slots<A> {
     }
 
     /// Writes the next blocks of a job's outputs, at most eight, each to its place in the data area, which begins with the
-    /// sector `area`; a block is eight sectors. It answers how many blocks are left. The tables are written in order, each as
+    /// sector `area`; a block is eight sectors. Returns how many blocks are left. The tables are written in order, each as
     /// data blocks, filter, index and footer. It takes no memory.
     ///
-    /// It is refused with `NoSuchJob` exactly where no slot has the number, with `WrongState` exactly where the job is not
+    /// Fails with `NoSuchJob` exactly where no slot has the number, with `WrongState` exactly where the job is not
     /// writing, and with `Io` where a write faulted, its last; then the blocks that it was to write count as left. With no block
     /// left it makes no device call.
     pub fn write<D: Device>(&mut self, job: u64, device: &mut D, area: u32) -> Result<u32, Refusal>

@@ -193,7 +193,7 @@ abbrev pub first_of : List (Bool × Refusal) → Bool
 first_of [] = false
 first_of (test ∷ rest) = test.0
 
--- the tests behind the first so many
+-- the tests after the first n
 abbrev pub tests_behind : ℕ → List (Bool × Refusal) → List (Bool × Refusal)
 tests_behind zero tests = tests
 tests_behind (suc n) [] = []

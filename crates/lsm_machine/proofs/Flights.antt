@@ -9,7 +9,7 @@ use Rattle.lsm_machine.specs.Machine.{Machine, Step, Called, Worked}
 use Rattle.lsm_machine.specs.Run.{next_machine, Run}
 use Rattle.lsm_machine.specs.Promise.{in_flight}
 
--- a step stops the store with its batch in flight, or the steps behind it decide what is in flight
+-- a step stops the store with its batch in flight, or the steps after it decide what is in flight
 flight_step : (step : Step) (reply : Reply)
     → ((steps : List Step) (replies : List Reply) → in_flight (step ∷ steps) (reply ∷ replies) ≡ in_flight steps replies)
     ⊎ ((batch : List Operation) × ((steps : List Step) (replies : List Reply) → in_flight (step ∷ steps) (reply ∷ replies) ≡ batch ∷ []))

@@ -39,11 +39,11 @@ use Rattle.lsm_machine.proofs.WorkReplies.{answered_unrefused, goes_by_answer, n
 abbrev pub IsPresent : State → CrashState → Type 0
 IsPresent s left = (left.count ≡ batch_count s.points) × (left.map ≡ present_map s.points)
 
--- so a crash behind a sync leaves it
+-- so a crash after a sync leaves it
 synced_present : (s : State) → IsPresent s (last_crash_state (after s Sync))
 synced_present s = (ap (λ (p : RecoveryPoint). p.count) (present_synced s.points), refl)
 
--- and so does one behind each call that adds no batch
+-- and so does one after each call that adds no batch
 pub call_present : (s : State) (call : Call) → in_flight (Called call ∷ []) [] ≡ [] → IsPresent s (last_crash_state (after s call))
 call_present s (Commit batch) adds = absurd (omega (arith, ap length adds))
 call_present s (CommitIf guards batch) adds = absurd (omega (arith, ap length adds))
@@ -60,7 +60,7 @@ call_present s (Release number) adds = (refl, refl)
 call_present s Rotate adds = synced_present s
 call_present s LogRoom adds = (refl, refl)
 
--- and so does one behind an install
+-- and so does one after an install
 install_present : (s : State) (o : Option Slot) → IsPresent s (last_crash_state (of_slot s (λ slot. installed (is_flush slot.job) s) o))
 install_present s None = (refl, refl)
 install_present s (Some slot) = (ap (λ (p : RecoveryPoint). p.count) (present_synced s.points), refl)
@@ -81,8 +81,8 @@ IsWithFlight s (Some others) [] = AllByRecursion (IsPresent s) others
 IsWithFlight s (Some others) (batch ∷ []) = others ≡ last_crash_state (after s (Commit batch)) ∷ []
 IsWithFlight s (Some others) (batch ∷ more ∷ rest) = ⊥
 
--- The state that is reached: its recovery points are those of the accepted batches, of which so many are known to be
--- synced, and beside them it may leave what the batch in flight makes of it.
+-- The state that is reached: its recovery points are those of the accepted batches, of which `known` are known to be synced,
+-- and besides them it may leave what the batch in flight makes of it.
 pub record IsReached (k : ℕ) (m : Map) (done : List (List Operation)) (known : ℕ) (flight : List (List Operation)) (t : State) : Type 0 where
   pub points : t.points ≡ beginnings k m done known
   pub within : known ≤ length done
@@ -131,7 +131,7 @@ nothing_acknowledged k done known (Called Rotate) e = refl
 nothing_acknowledged k done known (Called LogRoom) e = refl
 nothing_acknowledged k done known (Worked piece) e = no_install k done known piece e
 
--- what is in flight is told by the steps behind it
+-- what is in flight is told by the steps after it
 abbrev FliesOn : Step → Reply → Type 0
 FliesOn step reply = (steps : List Step) (replies : List Reply) → in_flight (step ∷ steps) (reply ∷ replies) ≡ in_flight steps replies
 
@@ -407,7 +407,7 @@ module _ (k : ℕ) (m : Map) where
   Reaches steps replies done known x = IsReached k m (done ++ accepted steps replies) (acknowledged_from k (length done) known steps replies) (in_flight steps replies) (last_machine x steps replies).state
 
   module _ (step : Step) (steps : List Step) (reply : Reply) (replies : List Reply) (done : List (List Operation)) (known : ℕ) (x : Machine) where
-    -- behind a step that leaves the store running
+    -- after a step that leaves the store running
     behind : FliesOn step reply → Reaches steps replies (done ++ accepted_by step reply) (acknowledged_by k (length done) known step reply) (next_machine x step reply) → Reaches (step ∷ steps) (reply ∷ replies) done known x
     behind flies reached =
         let more = accepted_by step reply in
@@ -417,7 +417,7 @@ module _ (k : ℕ) (m : Map) where
         (subst (λ d. IsReached k m d (acknowledged_from k (length done + length more) by steps replies) (in_flight steps replies) t) (append_assoc done more (accepted steps replies))
         (subst (λ n. IsReached k m ((done ++ more) ++ accepted steps replies) (acknowledged_from k n by steps replies) (in_flight steps replies) t) (length-append done more) reached))
 
-  -- behind a step that stops it
+  -- after a step that stops it
   stopped_behind : (step : Step) (steps : List Step) (replies : List Reply) (done : List (List Operation)) (known : ℕ) (x : Machine) → IsRunning k m done known x.state → Stops x step
       → Run (next_machine x step (Refused Io)) steps replies → Reaches (step ∷ steps) (Refused Io ∷ replies) done known x
   stopped_behind step steps replies done known x runs stops run =

@@ -4,7 +4,8 @@ use Rattle.std.proofs.lemmas.Bool.{cases_lt}
 use Rattle.lsm_codec.specs.Keys.{Bytes}
 use Rattle.lsm_codec.specs.Versions.{Version, newest, is_version_of}
 use Rattle.lsm_mem.specs.Versions.{value_at}
-use Rattle.lsm_merge.specs.Inputs.{MergeInput, joined, kept_of}
+use Rattle.lsm_merge.specs.Inputs.{MergeInput, kept_of}
+use Rattle.lsm_mem.specs.Versions.{joined}
 use Rattle.lsm_merge.specs.Keeping.{keep}
 use Rattle.lsm_merge.specs.Laws.{IsKeptAt, HaveSameMap}
 use Rattle.lsm_merge.proofs.MapLaws.{keep_law}

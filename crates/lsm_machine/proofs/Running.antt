@@ -22,7 +22,7 @@ use Rattle.lsm_machine.specs.Run.{Allows, Admits, asks_value, asks_page, guards_
 
 -- ---- ample memory, and no fault
 
--- a refusal that the state decides is none of these
+-- a refusal that the state decides is not one of these
 abbrev pub IsDecided : Option Refusal → Type 0
 IsDecided (Some NoMemory) = ⊥
 IsDecided (Some Io) = ⊥
@@ -292,7 +292,7 @@ later_place s call e is = by call is
     by Rotate h = absurd (no h)
     by LogRoom h = absurd (no h)
 
--- and the others are none of a guard
+-- and the others are not of a guard
 abbrev IsEarly : Option Refusal → Type 0
 IsEarly (Some (GuardFailed place)) = ⊥
 IsEarly other = Unit {0}

@@ -11,7 +11,7 @@ use Rattle.lsm_levels.proofs.RunHulls.{hull_by_ends}
 use Rattle.lsm_levels.specs.Held.{IsWithin}
 use Rattle.lsm_levels.specs.Tables.{Table, KeyRange, at_most, hull, IsRun}
 
--- whether one of the tables begins at a range's first key or before it, and one ends at its last key or behind it
+-- whether one of the tables begins at a range's first key or before it, and one ends at its last key or after it
 abbrev pub are_around : List Table → KeyRange → Bool
 are_around inputs range = list_any (λ t. at_most t.first range.first) inputs && list_any (λ t. at_most range.last t.last) inputs
 

@@ -23,7 +23,7 @@ use Rattle.lsm_machine.specs.declared.asked.At.TheVariants.{Now, Snap}
 abbrev put : ℕ → ℕ → Operation
 put k v = record { key = k ∷ []; value = Some (v ∷ []) }
 
--- a value of so many bytes
+-- a value of n bytes
 abbrev put_long : ℕ → ℕ → Operation
 put_long k n = record { key = k ∷ []; value = Some (replicate n 0) }
 
@@ -144,7 +144,7 @@ two_maps : at_keys (may_leave (state_after fresh two_commits)) ≡ (None, None) 
 unfolding batch_text
 two_maps = simp gets refl
 
--- ---- the second crash: what stood behind the kept batches never comes back
+-- ---- the second crash: what stood after the kept batches never comes back
 
 -- three commits, and a crash that keeps the first
 abbrev three_commits : List Call

@@ -21,13 +21,13 @@ pub data Call : Type 0 where
   SyncTo : ℕ → Call
   -- asks for the value of a key
   Get : At → Bytes → Call
-  -- asks for the first so many pairs from a key on, up to another key where one is given
+  -- asks for the first n pairs from a key on, up to another key where one is given
   Scan : At → Bytes → Option Bytes → ℕ → Call
   -- takes a snapshot of the present map
   Snapshot : Call
   -- forgets the snapshot of a number
   Release : ℕ → Call
-  -- closes the open log, opens a new one behind all batches, and makes them outlast a crash
+  -- closes the open log, opens a new one after all batches, and makes them outlast a crash
   Rotate : Call
   -- asks for the free sectors of the open log
   LogRoom : Call

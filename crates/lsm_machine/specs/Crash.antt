@@ -7,8 +7,8 @@ use Rattle.lsm_machine.specs.Calls.{Call}
 use Rattle.lsm_machine.specs.Refusals.{full_refusal}
 use Rattle.lsm_machine.specs.Effects.{after}
 
--- how many log regions hold batches, where so many are closed and a crash keeps so many batches: the open log counts where it holds
--- one of them
+-- how many log regions hold batches, where `closed` are closed and a crash keeps `count` batches: the open log counts where it
+-- holds one of these
 abbrev pub closed_with : ℕ → ℕ → Option OpenLog → ℕ
 closed_with closed count (Some log) = if nat_le log.first count then closed + 1 else closed
 closed_with closed count None = closed
@@ -42,8 +42,8 @@ left_besides s call = last_crash_state (after s call) ∷ []
 abbrev pub left_inside : State → Call → List CrashState
 left_inside s call = may_leave s ++ (if is_some (full_refusal s call) then [] else left_besides s call)
 
--- The store that an opening answers on what a crash left, in a format with log regions of so many sectors. There are
--- three regions. Snapshots are gone, and are numbered from 1 again.
+-- The store that an opening answers on what a crash left, in a format with log regions of this many sectors. There are three
+-- regions. Snapshots are gone, and are numbered from 1 again.
 abbrev pub reopened : ℕ → CrashState → State
 reopened log_sectors left = record {
   points = record { synced = left.count; first = left.map; later = [] };

@@ -32,7 +32,7 @@ next_taken s = record { number = s.next_snapshot; point = present_point s.points
 abbrev pub without : ℕ → List LiveSnapshot → List LiveSnapshot
 without number snapshots = filter (λ snapshot. not (snapshot.number == number)) snapshots
 
--- the state after a rotation: the region of the open log is closed, a new log is open behind all batches, and all are synced
+-- the state after a rotation: the region of the open log is closed, a new log is open after all batches, and all are synced
 abbrev pub rotated : State → State
 rotated s = record s {
   points = all_synced s.points;

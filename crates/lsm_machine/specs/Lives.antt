@@ -43,7 +43,7 @@ Lives log_sectors opened others (steps ∷ lives) (replies ∷ rest) left = (mid
 Lives log_sectors opened others [] (replies ∷ rest) left = ⊥
 Lives log_sectors opened others (steps ∷ lives) [] left = ⊥
 
--- a beginning of these batches that holds at least so many
+-- a beginning of these batches that holds at least `least`
 pub record IsPrefixFrom (least : ℕ) (batches kept : List (List Operation)) : Type 0 where
   pub holds : ℕ
   pub at_least : least ≤ holds

@@ -3,7 +3,7 @@ use Rattle.lsm_machine.specs.State.{State}
 use Rattle.lsm_machine.specs.Calls.{Call}
 use Rattle.lsm_machine.specs.Work.{WorkView, Work}
 
--- the state of the map that it serves, and its work beside that: where its versions are, and the jobs that move them
+-- the state of the map that it serves, and its work on storage: where its versions are, and the jobs that move them
 pub record Machine : Type 0 where
   pub state : State
   pub work : WorkView

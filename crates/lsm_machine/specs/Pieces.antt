@@ -31,8 +31,8 @@ abbrev pub piece_of_slot : Machine → Option Slot → Option Work
 piece_of_slot m (Some slot) = Some (piece_of_job slot.number slot.stage)
 piece_of_slot m None = if is_some (job_given m None) then Some (Take None) else None
 
--- what the slot at a place waits for, of the four from 0 on: none where the store is stopped, where the place is none of the
--- four, or where the slot is free and no job comes next
+-- what the slot at a place from 0 to 3 waits for: none where the store is stopped, where there is no such place, or where the
+-- slot is free and no job comes next
 abbrev pub piece_at : Machine → ℕ → Option Work
 piece_at m place = if is_some m.state.stopped || nat_le 4 place then None else piece_of_slot m (slice_index_or m.work.jobs.slots place None)
 

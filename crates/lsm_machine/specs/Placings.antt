@@ -5,17 +5,17 @@ use Rattle.lsm_table.specs.Division.{TableBlocks}
 use Rattle.lsm_table.specs.Extents.{extent_size}
 use Rattle.lsm_levels.specs.Tables.{Table, table_of}
 
--- whether so many blocks from one on are free
+-- whether n blocks from one on are free
 abbrev pub is_free_run : Area → ℕ → ℕ → Bool
 is_free_run area first zero = true
 is_free_run area first (suc blocks) = is_free area first && is_free_run area (suc first) blocks
 
--- the first of so many places, from one on, where so many blocks are free
+-- the first of n places, from one on, where this number of blocks is free
 abbrev pub first_fit : Area → ℕ → ℕ → ℕ → Option ℕ
 first_fit area blocks zero at = None
 first_fit area blocks (suc more) at = if is_free_run area at blocks then Some at else first_fit area blocks more (suc at)
 
--- the lowest place of the area where so many blocks are free
+-- the lowest place of the area where this number of blocks is free
 abbrev pub lowest_fit : Area → ℕ → Option ℕ
 lowest_fit area blocks = first_fit area blocks (suc area.blocks) 0
 

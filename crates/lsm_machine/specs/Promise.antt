@@ -24,9 +24,9 @@ abbrev pub accepted : List Step → List Reply → List (List Operation)
 accepted (step ∷ steps) (reply ∷ replies) = accepted_by step reply ++ accepted steps replies
 accepted steps replies = []
 
--- How many of the accepted batches are acknowledged as synced after a step, where so many were accepted before it and so
--- many of them acknowledged, and the store was opened with a count of batches. A sync acknowledges all, and so do a rotation
--- and an install.
+-- How many of the accepted batches are acknowledged as synced after a step, where `done` were accepted before it, `known` of
+-- them acknowledged, and the store was opened with `opened` batches. A sync acknowledges all, and so do a rotation and an
+-- install.
 abbrev pub acknowledged_by : ℕ → ℕ → ℕ → Step → Reply → ℕ
 acknowledged_by opened done known (Called Sync) Done = done
 acknowledged_by opened done known (Called (SyncTo number)) Done = if nat_le number (opened + known) then known else done
@@ -51,7 +51,7 @@ in_flight (Called (CommitIf guards batch) ∷ steps) (Refused Io ∷ replies) = 
 in_flight (step ∷ steps) (reply ∷ replies) = in_flight steps replies
 in_flight steps replies = []
 
--- the map after a beginning of these batches that holds at least so many, applied to what was opened
+-- the map after a beginning of these batches that holds at least `least`, applied to what was opened
 pub record IsAfterBeginning (opened : CrashState) (batches : List (List Operation)) (least : ℕ) (left : CrashState) : Type 0 where
   pub holds : ℕ
   pub at_least : least ≤ holds
@@ -64,7 +64,7 @@ abbrev pub maps_after : Map → List (List Operation) → List Map
 maps_after m [] = []
 maps_after m (batch ∷ rest) = apply m batch ∷ maps_after (apply m batch) rest
 
--- the recovery points after so many batches and then these, of which so many are synced
+-- the recovery points after `count` batches and then these, of which `synced` are synced
 abbrev pub beginnings : ℕ → Map → List (List Operation) → ℕ → RecoveryPoints
 beginnings count m batches synced = record {
   synced = count + synced;

@@ -46,7 +46,7 @@ abbrev pub guard_refusals : ℕ → Map → List Condition → List (Bool × Ref
 guard_refusals place m [] = []
 guard_refusals place m (guard ∷ rest) = (not (is_met m guard), GuardFailed place) ∷ guard_refusals (suc place) m rest
 
--- The refusals that a store finds as it reads, behind all others: guards are asked of the present map, in their order. Until
+-- The refusals that a store finds as it reads, after all others: guards are asked of the present map, in their order. Until
 -- then a read may fault.
 abbrev pub later_refusals : State → Call → List (Bool × Refusal)
 later_refusals s (CommitIf guards batch) = guard_refusals 0 (present_map s.points) guards

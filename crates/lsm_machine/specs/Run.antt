@@ -22,9 +22,9 @@ use Rattle.lsm_machine.specs.WorkReplies.{WorkAllows, WorkAdmits, work_decided, 
 
 -- ---- one call
 
--- A store in this state may reply so. Beside what the state decides there are want of memory and a fault of the device,
--- each only where the state doesn't refuse the call, and the call takes memory or uses the device. A read of guards may fault though
--- a guard is false; memory may not be wanting then, nor may a write fault.
+-- A store in this state may reply so. Besides what the state decides there are want of memory and a fault of the device, each only
+-- where the state doesn't refuse the call, and the call takes memory or uses the device. A read of guards may fault though a guard
+-- is false; memory may not be wanting then, nor may a write fault.
 abbrev pub Allows : State → Call → Reply → Type 0
 Allows s call (Refused NoMemory) = IsNone (refusal s call) × IsTrue (wants_memory s call)
 Allows s call (Refused Io) = IsNone (full_refusal s call) × (use_of s call ≢ Untouched)

@@ -30,7 +30,7 @@ pub record State : Type 0 where
   pub snapshots : List LiveSnapshot
   -- the number of the next snapshot
   pub next_snapshot : ℕ
-  -- none while it runs; else what the call that stopped it may have left beside the recovery points
+  -- none while it runs; else what the call that stopped it may have left besides the recovery points
   pub stopped : Option (List CrashState)
 
 -- sealed versions wait for a flush exactly where closed regions hold batches that are in no table

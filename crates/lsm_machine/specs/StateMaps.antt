@@ -7,12 +7,12 @@ use Rattle.lsm_levels.specs.Among.{IsAmong}
 use Rattle.lsm_machine.specs.RecoveryPoints.{RecoveryPoints}
 use Rattle.lsm_machine.specs.State.{State, LiveSnapshot}
 
--- the maps at so many counts, from one on
+-- the maps at n counts, from one on
 abbrev pub maps_from : List Version → ℕ → ℕ → List Map
 maps_from versions from zero = []
 maps_from versions from (suc more) = map_of versions from ∷ maps_from versions (suc from) more
 
--- the recovery points of so many batches, of which so many are synced
+-- the recovery points of `count` batches, of which `synced` are synced
 abbrev pub points_of : List Version → ℕ → ℕ → RecoveryPoints
 points_of versions count synced = record { synced = synced; first = map_of versions synced; later = maps_from versions (suc synced) (count - synced) }
 

@@ -3,7 +3,8 @@ use Rattle.std.specs.Prelude.{◌≡◌, ◌⊎◌, ℕ, ◌+◌, ◌≤◌, Lis
 use Rattle.lsm_codec.specs.Map.{Operation, apply}
 use Rattle.lsm_codec.specs.Versions.{Version}
 use Rattle.lsm_mem.specs.Versions.{map_of, NumberedAtMost}
-use Rattle.lsm_merge.specs.Inputs.{MergeInput, joined, kept_of}
+use Rattle.lsm_merge.specs.Inputs.{MergeInput, kept_of}
+use Rattle.lsm_mem.specs.Versions.{joined}
 use Rattle.lsm_merge.specs.Laws.{HaveSameMap}
 use Rattle.lsm_levels.specs.Among.{IsAmong}
 use Rattle.lsm_levels.specs.Tables.{Table, versions_of}

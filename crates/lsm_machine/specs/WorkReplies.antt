@@ -35,7 +35,7 @@ MayWant m (Write job) = ⊥
 MayWant m (Install job) = IsNone (work_refusal m (Install job))
 MayWant m (Drop job) = ⊥
 
--- A machine may reply so to a piece of work. Beside what it decides there are want of memory and a fault of the device, each
+-- A machine may reply so to a piece of work. Besides what it decides there are want of memory and a fault of the device, each
 -- only where nothing refuses the piece.
 abbrev pub WorkAllows : Machine → Work → Reply → Type 0
 WorkAllows m piece (Refused NoMemory) = MayWant m piece

@@ -1,5 +1,5 @@
 -- The map that versions stand for at a count of batches.
-use Rattle.std.specs.Prelude.{ℕ, ◌<◌, ◌≤◌, List, [], Option, Some, None, option_map, option_and_then, filter_map}
+use Rattle.std.specs.Prelude.{ℕ, ◌<◌, ◌≤◌, List, [], ◌∷◌, ◌++◌, Option, Some, None, option_map, option_and_then, filter_map}
 use Rattle.std.specs.List.{AllByRecursion}
 use Rattle.std.specs.FinMap as finite
 use Rattle.lsm_codec.specs.Keys.{Bytes}
@@ -26,3 +26,8 @@ NumberedAtMost number versions = AllByRecursion (λ v. v.number ≤ number) vers
 abbrev pub sealed_versions : Option (List Version) → List Version
 sealed_versions None = []
 sealed_versions (Some versions) = versions
+
+-- the versions of all runs, those of newer runs first
+abbrev pub joined : List (List Version) → List Version
+joined [] = []
+joined (run ∷ runs) = run ++ joined runs

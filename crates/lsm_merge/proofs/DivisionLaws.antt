@@ -14,13 +14,15 @@ use Rattle.lsm_codec.proofs.Lists.{all_append, all_left, all_right, all_map}
 use Rattle.lsm_table.specs.Division.{TableBlocks, IsInput, IsTables, ShareNoKey, entries_of}
 use Rattle.lsm_table.proofs.OneDivision.{one_division}
 use Rattle.lsm_merge.specs.Divisions.{before, from, AreTablesAt, AreTables, DivisionLaw}
-use Rattle.lsm_merge.specs.Inputs.{joined, kept_of}
+use Rattle.lsm_merge.specs.Inputs.{kept_of}
+use Rattle.lsm_mem.specs.Versions.{joined}
 use Rattle.lsm_merge.specs.Ranges.{is_from, is_until, is_within}
 use Rattle.lsm_merge.specs.Results.{MergeResult}
 use Rattle.lsm_merge.proofs.FewLaws.{filtered-IsInput}
-use Rattle.lsm_merge.proofs.OrderTests.{tested, ordered_tested}
+use Rattle.lsm_mem.proofs.OrderTests.{tested, ordered_tested}
 use Rattle.lsm_merge.proofs.PartLaws.{from_or_until, split_at_border, all_pass}
-use Rattle.lsm_merge.proofs.RangeLaws.{is_in_order-filter, is_in_order-keep}
+use Rattle.lsm_merge.proofs.RangeLaws.{is_in_order-keep}
+use Rattle.lsm_mem.proofs.FirstLaws.{is_in_order-filter}
 
 -- ---- the two sides of a key
 

@@ -8,12 +8,14 @@ use Rattle.lsm_codec.specs.Versions.{Version, is_same_key, newest}
 use Rattle.lsm_mem.specs.Ranges.{is_version}
 use Rattle.lsm_codec.proofs.KeyOrder.{same_key}
 use Rattle.lsm_merge.specs.Keeping.{in_order, is_newest_at_a_cut, deletes_nothing, kept_at, keep}
-use Rattle.lsm_merge.proofs.OrderTests.{is_in_order, in_order_cons}
-use Rattle.lsm_merge.specs.Inputs.{MergeInput, IsCuts, joined, kept_of}
-use Rattle.lsm_merge.proofs.Orders.{older_number}
-use Rattle.lsm_merge.proofs.NewestLaws.{in_order_skip, first_less}
-use Rattle.lsm_merge.proofs.RangeLaws.{is_in_order-in_order, is_in_order-keep, is_in_order-filter}
-use Rattle.lsm_merge.proofs.OrderTests.{tested, ordered_tested}
+use Rattle.lsm_mem.proofs.OrderTests.{is_in_order, in_order_cons}
+use Rattle.lsm_merge.specs.Inputs.{MergeInput, IsCuts, kept_of}
+use Rattle.lsm_mem.specs.Versions.{joined}
+use Rattle.lsm_mem.proofs.Orders.{older_number}
+use Rattle.lsm_mem.proofs.FirstLaws.{in_order_skip, first_less}
+use Rattle.lsm_merge.proofs.RangeLaws.{is_in_order-in_order, is_in_order-keep}
+use Rattle.lsm_mem.proofs.FirstLaws.{is_in_order-filter}
+use Rattle.lsm_mem.proofs.OrderTests.{tested, ordered_tested}
 use Rattle.lsm_table.proofs.Ends.{count-cons}
 
 abbrev of_key : Bytes → Version → Bool

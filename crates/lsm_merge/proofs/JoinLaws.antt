@@ -13,11 +13,13 @@ use Rattle.lsm_codec.specs.Keys.{Bytes}
 use Rattle.lsm_mem.specs.EntryOrder.{placed}
 use Rattle.lsm_merge.specs.Keeping.{all_placed, in_order, is_newest_at_a_cut, settled, keep}
 use Rattle.lsm_merge.specs.Loops.{shown, KeepsOf}
-use Rattle.lsm_merge.proofs.OrderTests.{is_in_order, before_both, tested, ordered_tested}
+use Rattle.lsm_mem.proofs.OrderTests.{is_in_order, before_both, tested, ordered_tested}
 use Rattle.lsm_merge.specs.Ranges.{is_within, is_from, is_until, within}
-use Rattle.lsm_merge.specs.Inputs.{MergeInput, joined, kept_of}
+use Rattle.lsm_merge.specs.Inputs.{MergeInput, kept_of}
+use Rattle.lsm_mem.specs.Versions.{joined}
 use Rattle.lsm_merge.proofs.KeptLaws.{kept_at-in_order}
-use Rattle.lsm_merge.proofs.RangeLaws.{is_in_order-filter, is_in_order-in_order, filter_cond, keep-filter}
+use Rattle.lsm_merge.proofs.RangeLaws.{is_in_order-in_order, filter_cond, keep-filter}
+use Rattle.lsm_mem.proofs.FirstLaws.{is_in_order-filter}
 use Rattle.lsm_merge.proofs.Placing.{order_of_tied, by_less, by_equal, by_greater, placed_first, is_before-placed, less_from_greater, greater_from_less, all_placed-nil}
 
 placed_tied_at : (v w u : Version) (rest : List Version) (o : Ordering) → entry_order v w ≡ Equal → entry_order w u ≡ o → placed v (placed w rest) ≡ placed v rest → placed v (by_order o (w ∷ u ∷ rest) (w ∷ rest) (u ∷ placed w rest)) ≡ placed v (u ∷ rest)

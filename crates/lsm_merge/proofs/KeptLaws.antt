@@ -13,9 +13,10 @@ use Rattle.lsm_mem.specs.Ranges.{is_version}
 use Rattle.lsm_codec.proofs.KeyOrder.{key_itself, is_eq_Equal}
 use Rattle.lsm_merge.specs.Keeping.{in_order, is_newest_at_a_cut, kept_at}
 use Rattle.lsm_merge.specs.Loops.{shows_at, number_before, previous}
-use Rattle.lsm_merge.proofs.OrderTests.{is_in_order, in_order_cons}
-use Rattle.lsm_merge.proofs.Orders.{older_number}
-use Rattle.lsm_merge.proofs.NewestLaws.{first_at, newest-first, newest-in_order, is_version_of-key, in_order_skip, first_less}
+use Rattle.lsm_mem.proofs.OrderTests.{is_in_order, in_order_cons}
+use Rattle.lsm_mem.proofs.Orders.{older_number}
+use Rattle.lsm_merge.proofs.NewestLaws.{newest-in_order}
+use Rattle.lsm_mem.proofs.FirstLaws.{first_at, newest-first, is_version_of-key, in_order_skip, first_less}
 
 pub later : (w : Version) (rest : List Version) (k : ℕ) (d : Version) → is_in_order (w ∷ rest) ≡ true → k < length rest → entry_order w (get_or rest k d) ≡ Less
 later w [] k d h i = absurd (omega arith)

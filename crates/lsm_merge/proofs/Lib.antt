@@ -1,5 +1,3 @@
-pub mod OrderTests
-pub mod Orders
 pub mod Placing
 pub mod NewestLaws
 pub mod KeptLaws

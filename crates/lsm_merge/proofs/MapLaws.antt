@@ -14,7 +14,7 @@ use Rattle.lsm_mem.specs.Ranges.{is_version}
 use Rattle.lsm_codec.proofs.KeyOrder.{is_lt_Less, same_key}
 use Rattle.lsm_merge.specs.Keeping.{in_order, is_newest_at_a_cut, kept_at, is_older_put, deletes_nothing, settled, keep}
 use Rattle.lsm_merge.specs.Loops.{starts_with_key}
-use Rattle.lsm_merge.proofs.OrderTests.{is_before, is_in_order, in_order_cons}
+use Rattle.lsm_mem.proofs.OrderTests.{is_before, is_in_order, in_order_cons}
 use Rattle.lsm_merge.specs.Laws.{IsKeptAt, HaveSameMap, KeepLaw}
 use Rattle.std.specs.Cmp.Lexicographic.{nat_list_cmp_total}
 use Rattle.std.specs.FinMap.{same_map}
@@ -22,43 +22,18 @@ use Rattle.lsm_codec.proofs.KeyOrder.{same_keys}
 use Rattle.lsm_codec.proofs.Lists.{all_filter}
 use Rattle.lsm_mem.proofs.Batches.{all_placed as each_placed}
 use Rattle.lsm_mem.proofs.Maps.{get-map_of}
-use Rattle.lsm_merge.proofs.OrderTests.{ordered_tested}
-use Rattle.lsm_merge.proofs.Orders.{same_key-from}
-use Rattle.lsm_merge.proofs.NewestLaws.{first_at, newest-first, newest-in_order, is_version_of-key}
-use Rattle.lsm_merge.proofs.RangeLaws.{any_cond, is_before-filter, is_in_order-filter, is_in_order-in_order, is_in_order-keep}
+use Rattle.lsm_mem.proofs.OrderTests.{ordered_tested}
+use Rattle.lsm_mem.proofs.Orders.{same_key-from}
+use Rattle.lsm_merge.proofs.NewestLaws.{newest-in_order}
+use Rattle.lsm_mem.proofs.FirstLaws.{first_at, newest-first, is_version_of-key, first-filter, first_key}
+use Rattle.lsm_merge.proofs.RangeLaws.{any_cond, is_in_order-in_order, is_in_order-keep}
+use Rattle.lsm_mem.proofs.FirstLaws.{is_before-filter, is_in_order-filter}
 use Rattle.lsm_merge.proofs.SettledLaws.{from_the_back, settled-from_the_back, Far, none, more, far_from}
 
 any_from : (p : ℕ → Bool) (cuts : List ℕ) (k : ℕ) (n : ℕ) → k < length cuts → get_or cuts k n ≡ n → p n ≡ true → list_any p cuts ≡ true
 any_from p [] k n h e t = absurd (omega arith)
 any_from p (m ∷ cuts) zero n h e t = or_left (p m) (list_any p cuts) (ap p e ∙ t)
 any_from p (m ∷ cuts) (suc k) n h e t = or_right (p m) (list_any p cuts) (any_from p cuts k n (omega arith) e t)
-
-skipped : (test : Version → Bool) (key : Bytes) (n : ℕ) (v : Version) (rest : List Version) (b : Bool) → is_version_of key n v ≡ false → first_at key n (cond b (v ∷ rest) rest) ≡ first_at key n rest
-skipped test key n v rest true e = ap (λ c. cond c (Some v) (first_at key n rest)) e
-skipped test key n v rest false e = refl
-
-found_at : (test : Version → Bool) (key : Bytes) (n : ℕ) (v : Version) (rest : List Version) (b : Bool) → is_version_of key n v ≡ b → ((w : Version) → first_at key n (v ∷ rest) ≡ Some w → test w ≡ true)
-    → (((w : Version) → first_at key n rest ≡ Some w → test w ≡ true) → first_at key n (filter test rest) ≡ first_at key n rest) → first_at key n (filter test (v ∷ rest)) ≡ first_at key n (v ∷ rest)
-found_at test key n v rest true e h next =
-    let found : first_at key n (v ∷ rest) ≡ Some v = ap (λ c. cond c (Some v) (first_at key n rest)) e in
-    ap (λ b. first_at key n (cond b (v ∷ filter test rest) (filter test rest))) (h v found)
-    ∙ ap (λ c. cond c (Some v) (first_at key n (filter test rest))) e ∙ sym found
-found_at test key n v rest false e h next =
-    let passed : first_at key n (v ∷ rest) ≡ first_at key n rest = ap (λ c. cond c (Some v) (first_at key n rest)) e in
-    skipped test key n v (filter test rest) (test v) e ∙ next (λ w f. h w (passed ∙ f)) ∙ sym passed
-
--- a filter that passes the first that is found leaves it the first
-pub first-filter : (test : Version → Bool) (key : Bytes) (n : ℕ) (versions : List Version) → ((v : Version) → first_at key n versions ≡ Some v → test v ≡ true) → first_at key n (filter test versions) ≡ first_at key n versions
-first-filter test key n [] h = refl
-first-filter test key n (v ∷ rest) h = found_at test key n v rest (is_version_of key n v) refl h (λ k. first-filter test key n rest k)
-
-found_key : (key : Bytes) (n : ℕ) (w v : Version) (o : Option Version) (b : Bool) → is_version_of key n w ≡ b → cond b (Some w) o ≡ Some v → (o ≡ Some v → key ≡ v.key) → key ≡ v.key
-found_key key n w v o true f g next = let same : w ≡ v = cc in same_key key w.key (is_version_of-key key n w f) ∙ ap (λ x. x.key) same
-found_key key n w v o false f g next = next g
-
-pub first_key : (key : Bytes) (n : ℕ) (versions : List Version) (v : Version) → first_at key n versions ≡ Some v → key ≡ v.key
-first_key key n [] v e = cc
-first_key key n (w ∷ rest) v e = found_key key n w v (first_at key n rest) (is_version_of key n w) refl e (first_key key n rest v)
 
 newest-cut : (cuts : List ℕ) (versions : List Version) (n : ℕ) → Contains cuts n → (key : Bytes) → newest key n (kept_at cuts versions) ≡ newest key n versions
 newest-cut cuts versions n (k, within, at) key =

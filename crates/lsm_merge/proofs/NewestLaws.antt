@@ -10,49 +10,10 @@ use Rattle.lsm_mem.specs.EntryOrder.{placed}
 use Rattle.lsm_codec.proofs.KeyOrder.{is_lt_Less}
 use Rattle.lsm_mem.proofs.Batches.{tied_key, tied_number}
 use Rattle.lsm_merge.specs.Keeping.{in_order}
-use Rattle.lsm_merge.proofs.OrderTests.{is_in_order, in_order_cons, cons_in_order}
-use Rattle.lsm_merge.proofs.Orders.{older_number, cond_same}
-use Rattle.lsm_merge.proofs.Placing.{less_from_greater, is_before_rest}
-
--- the first version of a key that is numbered at most n
-abbrev pub first_at : Bytes → ℕ → List Version → Option Version
-first_at key n [] = None
-first_at key n (v ∷ rest) = cond (is_version_of key n v) (Some v) (first_at key n rest)
-
-pub not_newer : (v w : Version) → w.number ≤ v.number → newer_of v (Some w) ≡ v
-not_newer v w h = cond-false (ltb v.number w.number) w v (le-ltb v.number w.number h)
-
-pub is_newer : (v w : Version) → v.number < w.number → newer_of v (Some w) ≡ w
-is_newer v w h = cond-true (ltb v.number w.number) w v (lt-ltb v.number w.number h)
-
-pub is_version_of-key : (key : Bytes) (n : ℕ) (v : Version) → is_version_of key n v ≡ true → is_same_key key v.key ≡ true
-is_version_of-key key n v e = (and_parts (is_same_key key v.key) (leb v.number n) e).0
-
-pub in_order_skip : (w u : Version) (rest : List Version) → is_in_order (w ∷ u ∷ rest) ≡ true → is_in_order (w ∷ rest) ≡ true
-in_order_skip w u rest h =
-    let a = in_order_cons w (u ∷ rest) h in
-    let b = in_order_cons u rest a.1 in
-    cons_in_order w rest (is_before_rest w u rest (is_lt_Less _ a.0) b.0) b.1
-
-pub first_less : (w u : Version) (rest : List Version) → is_in_order (w ∷ u ∷ rest) ≡ true → entry_order w u ≡ Less
-first_less w u rest h = is_lt_Less _ (in_order_cons w (u ∷ rest) h).0
-
-newer_than_found : (key : Bytes) (n : ℕ) (w : Version) (rest : List Version) → is_in_order (w ∷ rest) ≡ true → is_same_key key w.key ≡ true → newer_of w (first_at key n rest) ≡ w
-newer_than_found key n w [] h k = refl
-newer_than_found key n w (u ∷ rest) h k =
-    cond_both (is_version_of key n u) (Some u) (first_at key n rest) (λ o. newer_of w o ≡ w)
-    (λ e. let older = older_number key w u (first_less w u rest h) k (is_version_of-key key n u e) in not_newer w u (omega arith))
-    (λ e. newer_than_found key n w rest (in_order_skip w u rest h) k)
-
--- in order, the newest is the first
-pub newest-first : (key : Bytes) (n : ℕ) (versions : List Version) → is_in_order versions ≡ true → newest key n versions ≡ first_at key n versions
-newest-first key n [] h = refl
-newest-first key n (w ∷ rest) h =
-    let a = in_order_cons w rest h in
-    let same = newest-first key n rest a.1 in
-    cond_same (is_version_of key n w) _ _ _ _
-    (λ e. ap (λ o. Some (newer_of w o)) same ∙ ap (λ v. Some v) (newer_than_found key n w rest h (is_version_of-key key n w e)))
-    (λ e. same)
+use Rattle.lsm_mem.proofs.OrderTests.{is_in_order, in_order_cons, cons_in_order}
+use Rattle.lsm_mem.proofs.Orders.{older_number, cond_same}
+use Rattle.lsm_merge.proofs.Placing.{less_from_greater}
+use Rattle.lsm_mem.proofs.FirstLaws.{is_before_rest, not_newer, is_newer, is_version_of-key}
 
 newer_tied : (v w : Version) (o : Option Version) → v.number ≡ w.number → newer_of v o ≡ newer_of v (Some (newer_of w o))
 newer_tied v w None e = sym (not_newer v w (omega arith))

@@ -9,16 +9,11 @@ use Rattle.std.proofs.lemmas.Cmp.{nat_list_cmp_total}
 use Rattle.lsm_codec.specs.Keys.{Bytes, byte_order}
 use Rattle.lsm_codec.specs.Versions.{Version}
 use Rattle.lsm_codec.proofs.KeyOrder.{is_lt_Less}
-use Rattle.lsm_merge.proofs.OrderTests.{is_in_order, in_order_cons}
+use Rattle.lsm_mem.proofs.OrderTests.{is_in_order, in_order_cons}
 use Rattle.lsm_merge.specs.Ranges.{is_until, within}
 use Rattle.lsm_merge.specs.Parts.{is_before_first, are_ascending, end_of, part_of}
-use Rattle.lsm_merge.proofs.NewestLaws.{first_less}
+use Rattle.lsm_mem.proofs.FirstLaws.{first_less}
 use Rattle.lsm_merge.proofs.RangeLaws.{key_order, until_down}
-
-pub lt_is_le : (o : Ordering) → is_lt o ≡ true → is_le o ≡ true
-lt_is_le Less e = refl
-lt_is_le Equal e = refl
-lt_is_le Greater e = e
 
 -- a key is from a border on exactly where it isn't before it
 pub from_or_until : (border key : Bytes) → is_le (byte_order border key) ≡ not (is_lt (byte_order key border))

@@ -11,7 +11,8 @@ use Rattle.lsm_mem.specs.EntryOrder.{placed}
 use Rattle.lsm_codec.proofs.KeyOrder.{is_lt_Less}
 use Rattle.lsm_merge.specs.Keeping.{all_placed}
 use Rattle.lsm_merge.specs.Loops.{shown, TakesFirst}
-use Rattle.lsm_merge.proofs.OrderTests.{is_before, is_in_order, entry_order_total, before_both, in_order_cons, cons_in_order, tested, ordered_tested}
+use Rattle.lsm_mem.proofs.OrderTests.{is_before, is_in_order, entry_order_total, before_both, in_order_cons, cons_in_order, tested, ordered_tested}
+use Rattle.lsm_mem.proofs.FirstLaws.{is_before_rest}
 
 pub less_from_greater : (x y : Version) → entry_order x y ≡ Greater → entry_order y x ≡ Less
 less_from_greater x y e = entry_order_total.antisymm y x ∙ ap ordering_reverse e
@@ -45,11 +46,6 @@ is_before-by_order x v w rest Greater h k = k
 pub is_before-placed : (x v : Version) (entries : List Version) → is_lt (entry_order x v) ≡ true → is_before x entries ≡ true → is_before x (placed v entries) ≡ true
 is_before-placed x v [] h k = h
 is_before-placed x v (w ∷ rest) h k = is_before-by_order x v w rest (entry_order v w) h k
-
--- a version before the first of a list in order is before the others
-pub is_before_rest : (x v : Version) (rest : List Version) → entry_order x v ≡ Less → is_before v rest ≡ true → is_before x rest ≡ true
-is_before_rest x v [] e h = refl
-is_before_rest x v (w ∷ rest) e h = ap is_lt (before_both x v w e (is_lt_Less _ h))
 
 pub is_before_tied : (x y : Version) (rest : List Version) → entry_order x y ≡ Equal → is_before y rest ≡ is_before x rest
 is_before_tied x y [] e = refl

@@ -17,28 +17,11 @@ use Rattle.lsm_codec.specs.Versions.{Version, is_same_key, entry_order, newer_of
 use Rattle.lsm_mem.specs.EntryOrder.{placed}
 use Rattle.lsm_mem.specs.Ranges.{is_version}
 use Rattle.lsm_merge.specs.Keeping.{in_order, is_newest_at_a_cut, kept_at, is_older_put, deletes_nothing, settled, keep}
-use Rattle.lsm_merge.proofs.OrderTests.{is_before, is_in_order, in_order_cons, cons_in_order}
+use Rattle.lsm_mem.proofs.OrderTests.{is_before, is_in_order, in_order_cons, cons_in_order}
 use Rattle.lsm_merge.specs.Ranges.{is_from, is_until}
-use Rattle.lsm_merge.proofs.Placing.{is_before_rest, placed_first, by_equal, by_greater, is_in_order-placed}
-use Rattle.lsm_merge.proofs.NewestLaws.{is_version_of-key}
-
--- a filter keeps the order
-pub is_before-filter : (test : Version → Bool) (x : Version) (versions : List Version) → is_before x versions ≡ true → is_in_order versions ≡ true → is_before x (filter test versions) ≡ true
-is_before-filter test x [] h k = refl
-is_before-filter test x (v ∷ rest) h k =
-    let a = in_order_cons v rest k in
-    cond_both (test v) (v ∷ filter test rest) (filter test rest) (λ xs. is_before x xs ≡ true)
-    (λ _. h)
-    (λ _. is_before-filter test x rest (is_before_rest x v rest (is_lt_Less _ h) a.0) a.1)
-
-pub is_in_order-filter : (test : Version → Bool) (versions : List Version) → is_in_order versions ≡ true → is_in_order (filter test versions) ≡ true
-is_in_order-filter test [] h = refl
-is_in_order-filter test (v ∷ rest) h =
-    let a = in_order_cons v rest h in
-    let k = is_in_order-filter test rest a.1 in
-    cond_both (test v) (v ∷ filter test rest) (filter test rest) (λ xs. is_in_order xs ≡ true)
-    (λ _. cons_in_order v (filter test rest) (is_before-filter test v rest a.0 a.1) k)
-    (λ _. k)
+use Rattle.lsm_merge.proofs.Placing.{placed_first, by_equal, by_greater, is_in_order-placed}
+use Rattle.lsm_mem.proofs.FirstLaws.{is_before_rest, is_before-filter, is_in_order-filter, newest-filter, then_le}
+use Rattle.lsm_mem.proofs.FirstLaws.{is_version_of-key}
 
 -- a test of keys says the same of two versions with one place
 tested_tied : (test : Bytes → Bool) (v w : Version) → entry_order v w ≡ Equal → test v.key ≡ test w.key
@@ -83,19 +66,6 @@ filter-in_order test (v ∷ rest) =
     filter-placed test v (in_order rest) (is_in_order-in_order rest)
     ∙ ap (λ xs. cond (test v.key) (placed v xs) xs) (filter-in_order test rest)
     ∙ in_order_cond (test v.key) v (filter (λ x. test x.key) rest)
-
--- among the versions of keys that pass, the newest of such a key is the same
-newest_step : (key : Bytes) (n : ℕ) (v : Version) (rest : List Version) (a b : Bool) → is_version_of key n v ≡ a → (a ≡ true → b ≡ true) → newest key n (cond b (v ∷ rest) rest) ≡ newest key n (v ∷ rest)
-newest_step key n v rest a true e h = refl
-newest_step key n v rest true false e h = let k : false ≡ true = h refl in cc
-newest_step key n v rest false false e h = sym (ap (λ c. cond c (Some (newer_of v (newest key n rest))) (newest key n rest)) e)
-
-pub newest-filter : (test : Bytes → Bool) (key : Bytes) (n : ℕ) (versions : List Version) → test key ≡ true → newest key n (filter (λ x. test x.key) versions) ≡ newest key n versions
-newest-filter test key n [] h = refl
-newest-filter test key n (v ∷ rest) h =
-    newest_step key n v (filter (λ x. test x.key) rest) (is_version_of key n v) (test v.key) refl
-    (λ e. sym (ap test (same_key key v.key (is_version_of-key key n v e))) ∙ h)
-    ∙ ap (λ o. cond (is_version_of key n v) (Some (newer_of v o)) o) (newest-filter test key n rest h)
 
 -- filters by tests that agree where the other passes
 filters_step : {X : Type 0} (v : X) (xs ys : List X) (a b c : Bool) → (a ≡ true → b ≡ c) → xs ≡ ys → cond a (cond b (v ∷ xs) xs) xs ≡ cond c (cond a (v ∷ ys) ys) ys
@@ -189,11 +159,6 @@ from_up (Some from) a b e h = le_then_le from a b h e
 pub until_down : (to : Option Bytes) (a b : Bytes) → is_le (byte_order a b) ≡ true → is_until to b ≡ true → is_until to a ≡ true
 until_down None a b e h = refl
 until_down (Some to) a b e h = le_then_lt a b to e h
-
-pub then_le : (a b : Ordering) → ordering_then a b ≡ Less → is_le a ≡ true
-then_le Less b e = refl
-then_le Equal b e = refl
-then_le Greater b e = cc
 
 pub key_order : (v w : Version) → entry_order v w ≡ Less → is_le (byte_order v.key w.key) ≡ true
 key_order v w e = then_le (byte_order v.key w.key) (nat_cmp w.number v.number) e

@@ -7,7 +7,8 @@ use Rattle.lsm_codec.specs.Keys.{Bytes}
 use Rattle.lsm_codec.specs.Versions.{Version, is_same_key}
 use Rattle.lsm_codec.proofs.KeyOrder.{same_key}
 use Rattle.lsm_merge.specs.Inputs.{MergeInput, items_of}
-use Rattle.lsm_merge.proofs.Orders.{same_key-from}
+use Rattle.lsm_mem.proofs.Orders.{same_key-from}
+use Rattle.lsm_mem.proofs.FirstLaws.{unsome}
 
 -- r is true exactly where a and b are the same
 abbrev pub Tells : {X : Type 0} → Bool → X → X → Type 0
@@ -15,9 +16,6 @@ Tells r a b = (IsTrue r → a ≡ b) × (a ≡ b → IsTrue r)
 
 pub bytes_told : (a b : List ℕ) (r : Bool) → r ≡ is_same_key a b → Tells r a b
 bytes_told a b r e = (λ t. same_key a b (sym e ∙ t), λ same. e ∙ same_key-from a b same)
-
-pub unsome : {X : Type 0} (a b : X) → Some a ≡ Some b → a ≡ b
-unsome a b e = cc
 
 pub some_told : (a b : Bytes) (r : Bool) → Tells r a b → Tells r (Some a) (Some b)
 some_told a b r t = (λ is. ap (λ (x : Bytes). Some x) (t.0 is), λ same. t.1 (unsome a b same))

@@ -12,9 +12,9 @@ use Rattle.lsm_codec.specs.Versions.{Version, is_same_key, entry_order}
 use Rattle.lsm_codec.proofs.KeyOrder.{key_itself, same_key}
 use Rattle.lsm_merge.specs.Keeping.{is_older_put, deletes_nothing, settled}
 use Rattle.lsm_merge.specs.Loops.{settled_onto, starts_with_key}
-use Rattle.lsm_merge.proofs.OrderTests.{is_in_order, in_order_cons}
-use Rattle.lsm_merge.proofs.Orders.{older_number, same_key-from}
-use Rattle.lsm_merge.proofs.NewestLaws.{in_order_skip, first_less}
+use Rattle.lsm_mem.proofs.OrderTests.{is_in_order, in_order_cons}
+use Rattle.lsm_mem.proofs.Orders.{older_number, same_key-from}
+use Rattle.lsm_mem.proofs.FirstLaws.{in_order_skip, first_less}
 
 -- versions in order, settled onto those behind them
 abbrev pub all_settled_onto : List Version → List Version → List Version

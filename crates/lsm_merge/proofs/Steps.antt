@@ -9,7 +9,7 @@ use denote.Ref.{Bor}
 use Rattle.lsm_codec.specs.Versions.{AreOrdered, Version, is_same_key}
 use Rattle.lsm_merge.specs.Keeping.{is_newest_at_a_cut, settled}
 use Rattle.lsm_merge.specs.Loops.{shows_at, number_before, previous, settled_onto, starts_with_key, shown}
-use Rattle.lsm_merge.proofs.OrderTests.{tested}
+use Rattle.lsm_mem.proofs.OrderTests.{tested}
 use Rattle.lsm_merge.proofs.KeptLaws.{newest_at_a_cut}
 use Rattle.lsm_merge.proofs.SettledLaws.{settled-from_the_back, all_settled_onto}
 

@@ -3,6 +3,7 @@ use Rattle.std.specs.Prelude.{◌≡◌, ℕ, ◌≤◌, Bool, true, ◌&&◌, l
 use Rattle.std.specs.List.{AllByRecursion}
 use Rattle.std.specs.declared.vec.Vec.{Vec}
 use Rattle.lsm_codec.specs.Versions.{Version, AreOrdered}
+use Rattle.lsm_mem.specs.Versions.{joined}
 use Rattle.lsm_merge.specs.Keeping.{keep}
 
 -- runs, the newer first; the counts at which the map is kept; and whether nothing older lies below
@@ -10,11 +11,6 @@ pub record MergeInput : Type 0 where
   pub runs : List (List Version)
   pub cuts : List ℕ
   pub bottom : Bool
-
--- the versions of all runs, those of newer runs first
-abbrev pub joined : List (List Version) → List Version
-joined [] = []
-joined (run ∷ runs) = run ++ joined runs
 
 -- each run is in the order of entries, with no key and number twice
 abbrev pub AreRuns : List (List Version) → Type 0

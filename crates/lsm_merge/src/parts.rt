@@ -3,7 +3,8 @@
 ghost use Rattle.std.specs.Prelude.{◌≡◌, IfOk, IfErr};
 ghost use Rattle.lsm_merge.specs.Keeping.{in_order};
 ghost use Rattle.lsm_merge.specs.Loops.{shown};
-ghost use Rattle.lsm_merge.specs.Inputs.{AreRuns, items_of, joined, kept_of};
+ghost use Rattle.lsm_merge.specs.Inputs.{AreRuns, items_of, kept_of};
+ghost use Rattle.lsm_mem.specs.Versions.{joined};
 ghost use Rattle.lsm_merge.specs.Ranges.{shown_key, within};
 
 use crate::input::{Input, within};

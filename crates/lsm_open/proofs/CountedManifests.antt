@@ -15,7 +15,7 @@ use Rattle.lsm_root.specs.Layout.{LieInside}
 abbrev Records : Type 0
 Records = List TableRecord
 
--- ---- what records say beside the deletes
+-- ---- what records say except for the deletes
 
 module _ (Q : TableRecord → Type 0) (to : (t : TableRecord) → Q t → Q (without_deletes t)) (from : (t : TableRecord) → Q (without_deletes t) → Q t) where
   all_to : (ts : Records) → All Q ts → All Q (map without_deletes ts)
@@ -67,7 +67,7 @@ has_run run ts us same has =
 
 -- ---- a manifest
 
--- the limits of a record beside its sizes
+-- the limits of a record except for its sizes
 record Stands (next runs : ℕ) (t : TableRecord) : Type 0 where
   number : t.number < next
   level : t.level ≤ 4

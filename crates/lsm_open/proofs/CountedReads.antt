@@ -193,7 +193,7 @@ goes_none : (count : Count) (o : Option TableBlocks) → goes_on count o ≡ Non
 goes_none count None is = refl
 goes_none count (Some table) is = absurd cc
 
--- so many entries are counted
+-- where `entries` entries are counted
 pub counted_as : (o : Option TableBlocks) (count : Count) (entries : ℕ) → goes_on nothing o ≡ Some count → count.entries ≡ entries → deletes_counted entries o ≡ Some count.deletes
 counted_as None count entries is same = absurd cc
 counted_as (Some table) count entries is same =
@@ -203,7 +203,7 @@ counted_as (Some table) count entries is same =
     let some : deletes_in all ≡ count.deletes = omega (arith, ap (λ (c : Count). c.deletes) found) in
     cond-true (length all == entries) (Some (deletes_in all)) None (eq-eqb (length all) entries long) ∙ ap (λ (d : ℕ). Some d) some
 
--- not so many
+-- and where it is another number
 pub counted_otherwise : (o : Option TableBlocks) (count : Count) (entries : ℕ) → goes_on nothing o ≡ Some count → (count.entries ≡ entries → ⊥) → deletes_counted entries o ≡ None
 counted_otherwise None count entries is other = refl
 counted_otherwise (Some table) count entries is other =

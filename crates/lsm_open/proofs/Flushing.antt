@@ -18,7 +18,7 @@ use Rattle.lsm_log.proofs.Epochs.{none_above_more}
 use Rattle.lsm_mem.specs.EntryOrder.{with_batches}
 use Rattle.lsm_mem.specs.Versions.{map_of, NumberedAtMost}
 use Rattle.lsm_mem.proofs.Maps.{map_of-newest}
-use Rattle.lsm_merge.specs.Inputs.{joined}
+use Rattle.lsm_mem.specs.Versions.{joined}
 use Rattle.lsm_root.specs.CrashState.{CrashState}
 use Rattle.lsm_open.specs.LogRegions.{first_region, follow_on, one_if_some}
 use Rattle.lsm_open.specs.Layout.{open_records, open_batches, IsClosed, IsLogAtIfOpen}

@@ -72,7 +72,7 @@ swapped None (Some w) h = refl
 swapped (Some v) None h = refl
 swapped (Some v) (Some w) h = absurd h
 
--- the inputs behind what lies between
+-- the inputs after what lies between
 pub inputs_together : (q : Bytes) (n : ℕ) (a u f l d : List Version) → ShareNoKey u f → newest q n (a ++ (u ++ (f ++ (l ++ d)))) ≡ newest q n ((a ++ f) ++ ((u ++ l) ++ d))
 inputs_together q n a u f l d apart =
     let U = newest q n u in

@@ -15,7 +15,7 @@ abbrev Batches : Type 0
 Batches = List (List Operation)
 
 module _ (n : ℕ) (s : Sectors) where
-  -- ---- records, one list behind the other
+  -- ---- records, one list after the other
 
   pub all_batches-append : (xs ys : List LogRecord) → all_batches n s (xs ++ ys) ≡ all_batches n s xs ++ all_batches n s ys
   all_batches-append [] ys = refl

@@ -17,7 +17,7 @@ use Rattle.lsm_log.proofs.Epochs.{none_above_more}
 use Rattle.lsm_codec.proofs.KeyOrder.{same_keys}
 use Rattle.lsm_mem.specs.Versions.{value_at, map_of}
 use Rattle.lsm_mem.proofs.Maps.{get-map_of}
-use Rattle.lsm_merge.specs.Inputs.{joined}
+use Rattle.lsm_mem.specs.Versions.{joined}
 use Rattle.lsm_root.specs.CrashState.{CrashState, in_next_generation}
 use Rattle.lsm_open.specs.LogRegions.{first_region, one_if_some}
 use Rattle.lsm_open.specs.Layout.{open_batches, IsLogAtIfOpen}

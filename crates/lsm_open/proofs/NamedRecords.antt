@@ -14,7 +14,7 @@ use Rattle.lsm_levels.specs.Tables.{Table, record_of}
 use Rattle.lsm_open.specs.ToldTables.{run_place, is_in_run, run_records, records_of_runs, records_of_levels, records_of, AreNamedBy, AreRunsRead, HaveNamed}
 use Rattle.std.proofs.lemmas.List.{length-append, length-map}
 
--- whether the run of a record is at a place or behind it
+-- whether the run of a record is at a place or after it
 abbrev pub is_from : ℕ → ℕ → TableRecord → Bool
 is_from runs k t = leb k (run_place runs t.run t.level)
 
@@ -74,7 +74,7 @@ module _ (next runs : ℕ) where
   none_at : (k : ℕ) (t : TableRecord) (ts : List TableRecord) → k < run_place runs t.run t.level → AreBehind t ts → filter (is_in_run runs k) ts ≡ []
   none_at k t ts lt are = filter_none (is_in_run runs k) ts (all_map (λ u le. ne_eqb (run_place runs u.run u.level) k (λ e. absurd (omega (arith, e, lt, le)))) ts are)
 
-  -- the records from a place on are those of its run, and then those behind it
+  -- the records from a place on are those of its run, and then those after it
   split_from : (k : ℕ) (ts : List TableRecord) → All (IsTableRecord next runs) ts → Pairwise TablesAgree ts → filter (is_from runs k) ts ≡ filter (is_in_run runs k) ts ++ filter (is_from runs (suc k)) ts
   split_from k [] each agree = refl
   split_from k (t ∷ ts) each agree =

@@ -1,4 +1,4 @@
--- A new log behind closed regions.
+-- A new log after closed regions.
 use Rattle.std.proofs.Common.{◌≡◌, ℕ, suc, ◌+◌, ◌*◌, ◌≤◌, ◌<◌, ◌&&◌, Bool, true, false, List, [], length, get_or, Some, None, refl, sym, ◌∙◌, ap, subst, arith, All}
 use Rattle.std.specs.Prelude.{Option, option_map}
 use Rattle.std.proofs.Math.Nat.{mul-le-mul_right}
@@ -35,7 +35,7 @@ pub record HoldsBatches (n : ℕ) (c : List (List ℕ)) (r : LogRecord) : Type 0
   pub region : r.region ≤ 2
   pub some : 1 ≤ length (batches_at n c r)
 
--- The parts of a placement in the generation after g, behind so many batches, but for its open log.
+-- The parts of a placement in the generation after g, at `count` batches, but for its open log.
 pub record HoldsAll (q : Placement) (g count : ℕ) (c : List (List ℕ)) : Type 0 where
   pub generation : q.logs.generation ≡ g + 1
   pub inside : first_region + 3 * q.logs.log_sectors ≤ length c

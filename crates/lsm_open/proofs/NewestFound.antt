@@ -81,7 +81,7 @@ newer_is v (Some w) h = ap (λ (b : Bool). cond b w v) (le-ltb v.number w.number
 
 -- ---- a batch in front of tables
 
--- behind these the tables give the same newest versions as those lists
+-- followed by the tables, some lists give the same newest versions as others
 abbrev Alike : ℕ → List Version → List Version → List Version → Type 0
 Alike n tables xs ys = (q : Bytes) → newest q n (xs ++ tables) ≡ newest q n ys
 

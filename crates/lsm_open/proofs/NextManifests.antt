@@ -182,7 +182,7 @@ module _ (m : Contents) (count : ℕ) (closed : Records) (is : IsManifest m) (co
   closed_later : All (IsLogRecord (m.generation + 1)) closed
   closed_later = All-weaker (IsLogRecord m.generation) (IsLogRecord (m.generation + 1)) later_record closed closed_each
 
-  -- a record of the next epoch, behind the batches so far, in a region that is free
+  -- a record of the next epoch, after the batches so far, in a region that is free
   abbrev new : ℕ → LogRecord
   new region = record { region = region; epoch = m.generation + 1; first_batch = count + 1 }
 

@@ -71,7 +71,7 @@ module _ (s : Sectors) (n : ℕ) (m : Contents) (root : IsCountedRoot n m s) whe
   stands_says : opening_refusal s ≡ refusal_behind (told_levels n s m) (manifest_refusal n s m)
   stands_says = ap (named_refusal s) root.root ∙ ap (counted_refusal n s) root.counted_is
 
-  -- a table is none
+  -- a table is invalid
   pub tables_say : (e : Refusal) → IsRefusedFor (told_levels n s m) e → OrMemory (opening_refusal s) e
   tables_say e (inl (is, none)) = inl (stands_says ∙ ap (λ (o : Option Levels). refusal_behind o (manifest_refusal n s m)) none ∙ ap (λ (x : Refusal). Some x) (sym is))
   tables_say e (inr other) = inr other

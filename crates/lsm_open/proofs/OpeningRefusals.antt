@@ -22,7 +22,7 @@ of_root OtherSize refusal e = subst IsRefusalBesideBadTable (same_Some BadGeomet
 of_root Unreadable refusal e = subst IsRefusalBesideBadTable (same_Some BadManifest refusal e) tt
 of_root (Stands log m) refusal e = absurd (cc)
 
--- the root's refusals, and those of a count of tables behind it
+-- the root's refusals, and those of a count of tables after it
 pub load_refused : (refusal : Refusal) → ((root : Root) × (refusal_of root ≡ Some refusal)) ⊎ ((refusal ≡ NoMemory) ⊎ (refusal ≡ Io)) → ((root : Root) × (refusal_of root ≡ Some refusal)) ⊎ IsTableRefusal refusal
 load_refused refusal (inl found) = inl found
 load_refused refusal (inr other) = inr (inr other)

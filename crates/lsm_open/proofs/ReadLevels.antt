@@ -19,7 +19,7 @@ use Rattle.lsm_open.specs.ToldTables.{is_in_run, run_records, told_run, told_lev
 use Rattle.lsm_open.proofs.RunCounts.{run_before}
 use Rattle.lsm_root.specs.Layout.{IsGeometry, LieInside}
 
--- ---- runs that were read, before other reads and behind them
+-- ---- runs that were read, before other reads and after them
 
 run_behind : (n : ℕ) (old mid : Medium) (m : Contents) (k : ℕ) (r : List Table) → OnlyReads old mid → IsRunRead n old.lasting.tells (seen (disk old)) m k r → IsRunRead n mid.lasting.tells (seen (disk mid)) m k r
 run_behind n old mid m k r reads is = record {

@@ -1,4 +1,4 @@
--- The versions in memory are newer than those in tables, and tables stand where the sectors behind the root are the same.
+-- The versions in memory are newer than those in tables, and tables stand where the sectors after the root are the same.
 use Rattle.std.proofs.Common.{◌≡◌, ℕ, zero, suc, ◌+◌, ◌≤◌, ◌<◌, List, [], ◌∷◌, length, drop, refl, ◌∙◌, ap, arith}
 use Rattle.std.specs.List.{AllByRecursion, concat}
 use Rattle.lsm_codec.specs.Map.{Operation}
@@ -34,7 +34,7 @@ later_with_batches base n [] vs le later = later
 later_with_batches base n (batch ∷ rest) vs le later =
     later_with_batches base (n + 1) rest (with_batch (n + 1) batch vs) (omega arith) (later_with_batch base (n + 1) batch vs (omega arith) later)
 
--- the versions of batches behind the base are numbered above it
+-- the versions of batches after the base are numbered above it
 pub batches_later : (base : ℕ) (batches : List (List Operation)) → AreLater base (with_batches base batches [])
 batches_later base batches = later_with_batches base base batches [] (omega arith) tt
 
@@ -61,6 +61,6 @@ module _ (c e : Sectors) (same : drop 130 c ≡ drop 130 e) where
     members = is.members;
   }
 
-  -- tables that stand behind the root stand where these sectors are the same
+  -- tables that are stored after the root are stored where these sectors are the same
   pub stored_behind : (first : ℕ) → 130 ≤ first → (runs : List (List Table)) → AreStored e first runs → AreStored c first runs
   stored_behind first low runs stored = all_map (λ run all. all_map (λ t is. stored_here first low t is) run all) runs stored

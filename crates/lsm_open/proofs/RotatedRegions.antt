@@ -8,7 +8,7 @@ use Rattle.lsm_open.specs.Switching.{IsInLeastFree, IsRotated}
 use Rattle.lsm_open.specs.declared.regions.OpenRegion.{OpenRegion}
 use Rattle.lsm_open.proofs.NextManifests.{none_free}
 
--- beside the region of the open log another is free
+-- besides the region of the open log another is free
 one_at_most : (x : Option OpenRegion) → length (open_records x) ≤ 1
 one_at_most (Some o) = omega arith
 one_at_most None = omega arith

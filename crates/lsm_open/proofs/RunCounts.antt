@@ -35,7 +35,7 @@ run_put n tells S m k next p q runs r is follows lt read rest =
     subst (λ (l : List (List Table)). AreRunsRead n tells S m k l) (sym (drop-set_at runs p p r refl lt))
     (read, subst (λ (i : ℕ). AreRunsRead n tells S m i (drop (p + 1) runs)) is (subst (λ (i : ℕ). AreRunsRead n tells S m next (drop i runs)) follows rest))
 
--- ---- how many tables are in runs, and how many blocks they have beside data blocks
+-- ---- how many tables are in runs, and how many blocks they have besides data blocks
 
 module _ {X : Type 0} (p : X → Bool) where
   one_counted : (x : X) (xs : List X) (b : Bool) → p x ≡ b → length (filter p (x ∷ xs)) ≡ cond b 1 0 + length (filter p xs)
@@ -102,7 +102,7 @@ counted runs k (t ∷ rest) =
     let sum = numbers_agree (t.index_blocks + 2) (leb k place) (place == k) (leb (suc k) place) (by_order k place) in
     omega (arith, one, two, three, sum, counted runs k rest)
 
--- the blocks from a place on are those of its run, and those behind it
+-- the blocks from a place on are those of its run, and those after it
 pub run_counted : (m : Contents) (k next : ℕ) → next ≡ suc k → beside_data_from m k ≡ blocks_beside_data (run_records m k) + beside_data_from m next
 run_counted m k next is = counted m.runs k m.tables ∙ ap (λ (i : ℕ). blocks_beside_data (run_records m k) + beside_data_from m i) (sym is)
 
@@ -123,7 +123,7 @@ few_beside p (t ∷ ts) = by (p t) (one_beside p t ts (p t) refl) (few_beside p 
 pub few_blocks : (m : Contents) (k : ℕ) → beside_data_from m k ≤ blocks_beside_data m.tables
 few_blocks m k = few_beside (λ t. leb k (run_place m.runs t.run t.level)) m.tables
 
--- so many for each table
+-- at most seven for each table
 pub few_for_each : (next runs : ℕ) (ts : List TableRecord) → All (IsTableRecord next runs) ts → blocks_beside_data ts ≤ 7 * length ts
 few_for_each next runs [] each = omega arith
 few_for_each next runs (t ∷ rest) each =

@@ -16,7 +16,7 @@ use Rattle.lsm_levels.specs.Stored.{IsStored, AreStored}
 use Rattle.lsm_levels.specs.Tables.{Table, is_run, versions_of}
 use Rattle.lsm_levels.proofs.LevelVersions.{all_versions}
 use Rattle.lsm_mem.specs.Versions.{NumberedAtMost}
-use Rattle.lsm_merge.specs.Inputs.{joined}
+use Rattle.lsm_mem.specs.Versions.{joined}
 use Rattle.lsm_open.specs.Tables.{first_data, versions_at, table_versions, IsTableAt, AreTables}
 use Rattle.lsm_open.specs.ToldTables.{told_tables, run_if, is_in_run, run_records, IsRunRead, AreRunsRead, AreThose}
 use Rattle.lsm_open.proofs.Flushing.{table_versions-append, joined_versions}
@@ -59,7 +59,7 @@ module _ (n : ℕ) (s : List (List ℕ)) (m : Contents) (is : IsManifest m) (two
   abbrev OrderFrom : ℕ → Type 0
   OrderFrom k = IsVersionOrder (map (versions_at n s) (records_from m k))
 
-  -- the order of versions, where the records from a place on are those of its run and those behind it
+  -- the order of versions, where the records from a place on are those of its run and those after it
   order_split : (k : ℕ) → OrderFrom k → IsVersionOrder (map (versions_at n s) (run_records m k) ++ map (versions_at n s) (records_from m (suc k)))
   order_split k order = subst IsVersionOrder (ap (map (versions_at n s)) (run_and_behind m k is) ∙ map-append (versions_at n s) (run_records m k) (records_from m (suc k))) order
 

@@ -95,7 +95,7 @@ module _ (n base : ℕ) (s : List (List ℕ)) where
     last_below : (u : TableRecord) → Ascend t u → IsAbove (standing n base s t is).last u
     last_below u ascend = last_has (λ k. IsAbove k u) is.table is.sorted.nonempty has_blocks (subst (AllByRecursion (λ v. IsAbove v.key u)) its_versions ascend)
 
-  -- the tables of records are told, and are a run, behind each key that is below all of theirs
+  -- the tables of records are told, and are a run, after each key that is below all of theirs
   record RunStands (ts : List TableRecord) : Type 0 where
     tables : List Table
     told : told_tables n s ts ≡ Some tables

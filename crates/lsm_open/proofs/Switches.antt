@@ -73,7 +73,7 @@ switch_moments n P q left old new leaves settled size next each =
 
 -- ---- after it
 
--- what lies behind the root holds a placement wherever the same lies behind the root
+-- what lies after the root holds a placement wherever the same lies after the root
 module _ (q : Placement) (c e : Sectors) (behind : drop 130 c ≡ drop 130 e) (some : 1 ≤ q.logs.log_sectors) (held : IsHeld q (at_rest e)) where
   long : length c ≡ length e
   long = omega (arith, some, held.inside, ap length behind, length-drop 130 c, length-drop 130 e)

@@ -135,7 +135,7 @@ module _ (n : ℕ) (c e : Sectors) where
       fresh = fresh;
     }
 
--- ---- the same sectors behind the root
+-- ---- the same sectors after the root
 
 area_from : (c e : Sectors) → drop 130 c ≡ drop 130 e → (k count : ℕ) → area (130 + k) count c ≡ area (130 + k) count e
 area_from c e same k count = ap (take count) (sym (drop-drop k 130 c) ∙ ap (drop k) same ∙ drop-drop k 130 e)

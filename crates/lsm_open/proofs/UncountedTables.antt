@@ -24,7 +24,7 @@ abbrev Records : Type 0
 Records = List TableRecord
 
 module _ (n : ℕ) (s : List (List ℕ)) where
-  -- the first record, and those behind it, where all are counted
+  -- the first record, and those after it, where all are counted
   unpack : (t : TableRecord) (ts us : Records) → counted_records n s (t ∷ ts) ≡ Some us
       → (d : ℕ) × (vs : Records) × (deletes_of n s t ≡ Some d) × (counted_records n s ts ≡ Some vs) × (us ≡ with_deletes t d ∷ vs)
   unpack t ts us e = by (deletes_of n s t) (counted_records n s ts) refl refl e

@@ -6,7 +6,7 @@ use Rattle.lsm_codec.specs.Versions.{Version, newest}
 use Rattle.lsm_codec.proofs.Lists.{all_map, all_append, all_left, all_right}
 use Rattle.lsm_levels.specs.Orders.{IsNewerPlace, IsVersionOrder}
 use Rattle.lsm_mem.specs.Versions.{value_at, NumberedAtMost}
-use Rattle.lsm_merge.specs.Inputs.{joined}
+use Rattle.lsm_mem.specs.Versions.{joined}
 use Rattle.lsm_merge.specs.Laws.{HaveSameMap}
 use Rattle.lsm_open.specs.Replacing.{HaveSameNewest, MayReplace}
 use Rattle.lsm_table.specs.Division.{ShareNoKey}

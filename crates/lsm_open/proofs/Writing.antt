@@ -205,7 +205,7 @@ synced_keeps p placed d keeps = record {
 
 -- ---- an installation
 
--- what is behind the root stays
+-- what is after the root stays
 installed_written : (n : ℕ) (start d : Disk) (x : PlacedTable) → d.pending ≡ [] → drop 130 d.stands ≡ drop 130 (seen start) → IsWritten n start x → IsWritten n d x
 installed_written n start d x rests behind is =
     let here : seen d ≡ d.stands = ap (written d.stands) rests in

@@ -1,4 +1,4 @@
--- What an opening promises beside the store that it recovers.
+-- What an opening promises besides the store that it recovers.
 use Rattle.std.specs.Prelude.{◌≡◌, ◌≤◌, ◌⊎◌, ℕ, ◌+◌, Option, Some, None, Result, MatchResult}
 use Rattle.lsm_device.specs.declared.refusal.Refusal.{Refusal}
 use Rattle.lsm_device.specs.declared.refusal.Refusal.TheVariants.{NoMemory, Io}
@@ -10,7 +10,7 @@ use Rattle.lsm_open.specs.declared.regions.OpenRegion.{OpenRegion}
 abbrev pub OpensUnless : {X : Type 0} → Option Refusal → Result X Refusal → Type 0
 OpensUnless refusal result = MatchResult result (λ x. refusal ≡ None) (λ e. (refusal ≡ Some e) ⊎ ((e ≡ NoMemory) ⊎ (e ≡ Io)))
 
--- an open region of a device of this size: a new log of the generation, behind so many batches
+-- an open region of a device of this size: a new log of the generation, at `count` batches
 pub record IsNewRegion (size log_sectors generation count : ℕ) (o : OpenRegion) : Type 0 where
   pub region : o.region ≤ 2
   pub within : o.log.start + o.log.sectors ≤ size

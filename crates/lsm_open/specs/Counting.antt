@@ -29,7 +29,7 @@ told_or None counted = counted
 abbrev pub deletes_of : ℕ → List (List ℕ) → TableRecord → Option ℕ
 deletes_of log_sectors sectors t = told_or t.deletes (deletes_counted t.entries (table_in t.data_blocks (blocks_at log_sectors sectors t)))
 
--- a record that tells so many deletes
+-- a record with this number of deletes
 abbrev pub with_deletes : TableRecord → ℕ → TableRecord
 with_deletes t deletes = record t { deletes = Some deletes }
 
@@ -42,7 +42,7 @@ abbrev pub counted_records : ℕ → List (List ℕ) → List TableRecord → Op
 counted_records log_sectors sectors [] = Some []
 counted_records log_sectors sectors (t ∷ rest) = counted_record log_sectors sectors t >>= λ u. counted_records log_sectors sectors rest >>= λ us. Some (u ∷ us)
 
--- what a record says beside the deletes
+-- what a record says except for the deletes
 abbrev pub without_deletes : TableRecord → TableRecord
 without_deletes t = record t { deletes = None }
 
@@ -50,7 +50,7 @@ abbrev pub with_tables : Contents → List TableRecord → Contents
 with_tables m tables = record m { tables = tables }
 
 -- What version 2 of the format says of a manifest: the same, and of each table the deletes. In version 2 it is the manifest
--- itself; of version 1 it is none where data blocks don't spell as many entries as a record says.
+-- itself; of version 1 it is none where data blocks don't encode as many entries as a record says.
 abbrev pub counted : ℕ → List (List ℕ) → Contents → Option Contents
 counted log_sectors sectors m = option_map (with_tables m) (counted_records log_sectors sectors m.tables)
 

@@ -35,8 +35,8 @@ pub record HoldNamed (log_sectors : ℕ) (m : Contents) (sectors : List (List �
   pub follows : follow_on log_sectors sectors (m.base + 1) m.logs ≡ true
   pub fresh : HasNoneAbove m.generation (area first_region (3 * log_sectors) sectors)
 
--- Sectors stand for what a crash left, in a format with log regions of so many sectors: a manifest stands there, they hold
--- what it names, and that is what was left.
+-- Sectors stand for what a crash left, in a format with log regions of `log_sectors` sectors: a manifest stands there, they
+-- hold what it names, and that is what was left.
 pub record StandFor (log_sectors : ℕ) (left : CrashState) (sectors : List (List ℕ)) : Type 0 where
   pub manifest : Contents
   pub root : root_of sectors ≡ Stands log_sectors manifest

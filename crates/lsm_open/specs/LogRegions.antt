@@ -5,7 +5,7 @@ use Rattle.lsm_codec.specs.Map.{Operation}
 use Rattle.lsm_device.specs.Areas.{area}
 use Rattle.lsm_log.specs.Replay.{replay}
 
--- the first sector of the log regions, which lie one behind the other
+-- the first sector of the log regions, which lie one after the other
 abbrev pub first_region : ℕ
 first_region = 130
 

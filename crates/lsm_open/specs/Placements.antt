@@ -38,7 +38,7 @@ closed_in p sectors = all_batches p.logs.log_sectors sectors p.logs.closed
 abbrev pub IsStill : Placement → Disk → TableRecord → Type 0
 IsStill p d t = (disk_in (extent_start p.logs.log_sectors t) (extent_length t) d).pending ≡ []
 
--- Behind the root the disk holds what the placement says: the tables, and nothing pends in them; the closed regions, and
+-- After the root the disk holds what the placement says: the tables, and nothing pends in them; the closed regions, and
 -- nothing pends there; the open log; and no log sector of an epoch above the generation.
 pub record IsHeld (p : Placement) (d : Disk) : Type 0 where
   pub inside : first_region + 3 * p.logs.log_sectors ≤ length d.stands
@@ -49,7 +49,7 @@ pub record IsHeld (p : Placement) (d : Disk) : Type 0 where
   pub tables : AreTables p.logs.log_sectors p.logs.base p.tables d.stands
   pub still : All (IsStill p d) p.tables
 
--- The disk carries the placement: its manifest stands, nothing pends at the root, and behind the root it holds the rest.
+-- The disk carries the placement: its manifest stands, nothing pends at the root, and after the root it holds the rest.
 pub record Carries (d : Disk) (p : Placement) : Type 0 where
   pub root : root_of d.stands ≡ Stands p.logs.log_sectors (contents_for p)
   pub settled : IsSettled d

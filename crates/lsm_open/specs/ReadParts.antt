@@ -25,13 +25,13 @@ use Rattle.lsm_root.specs.Installed.{IsNext}
 use Rattle.lsm_root.specs.Layout.{IsGeometry, LieInside}
 use Rattle.lsm_root.specs.Roots.{Root, Stands, superblock_in, root_of}
 
--- how many sectors an opening reads at most of a store with these tables, where it reads so many data blocks: its root, footer,
--- index and filter of each table, these blocks, and the log regions
+-- how many sectors an opening reads at most of a store with these tables, where it reads this number of data blocks: its root,
+-- footer, index and filter of each table, these blocks, and the log regions
 abbrev pub sectors_read : ℕ → ℕ → List TableRecord → ℕ
 sectors_read blocks log_sectors tables = 66 + 8 * (blocks_beside_data tables + blocks) + 3 * log_sectors
 
 -- and by the root of the device: the data blocks are those of tables whose records tell no deletes, which are all in version 1 of
--- the format and none in version 2; nothing behind the root is read where no manifest stands
+-- the format and none in version 2; nothing after the root is read where no manifest stands
 abbrev pub sectors_read_by : Root → ℕ
 sectors_read_by (Stands log_sectors m) = sectors_read (all_uncounted m.tables) log_sectors m.tables
 sectors_read_by other = 66
@@ -70,8 +70,8 @@ pub record AreToldBy (size log_sectors : ℕ) (sectors : List (List ℕ)) (m : C
   pub told : told_levels log_sectors sectors m ≡ Some levels
   pub stored : AreTables log_sectors m.base m.tables sectors → AreThose log_sectors m.base sectors m.tables levels
 
--- So many sectors were read at most, and nothing else was done to a device: a fault comes just where it isn't told that all
--- went well, and then in the last call.
+-- At most `reads` sectors were read, and nothing else was done to a device: `ok` is false just where a call faulted, which
+-- was the last one.
 pub record ReadsAtMost (reads : ℕ) (ok : Bool) (old new : Medium) : Type 0 where
   pub calls : AtMost reads 0 0 old.calls new.calls
   pub faults : new.calls.faults ≡ faults_after ok old.calls.faults

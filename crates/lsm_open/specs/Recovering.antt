@@ -49,7 +49,7 @@ level_versions levels = versions_of (all_tables (places levels))
 -- What an opening makes of sectors, where a manifest stands there, each of its tables counted: base, tables and next table number stay, the regions that
 -- hold batches are closed, and a new log is open in the least free one, all in the next generation. Memory has just the
 -- versions of these batches, sealed, where a region is closed, and levels are what the tables tell. The manifest of the
--- new placement stands, nothing pends, and behind the root the sectors are the same.
+-- new placement stands, nothing pends, and after the root the sectors are the same.
 pub record IsReopened (sectors : List (List ℕ)) (p : Placement) (count : ℕ) (sealed : Option (List Version)) (levels : Levels) (d : Disk) : Type 0 where
   pub manifest : Contents
   pub root : IsCountedRoot p.logs.log_sectors manifest sectors
@@ -63,7 +63,7 @@ pub record IsReopened (sectors : List (List ℕ)) (p : Placement) (count : ℕ) 
   pub same_behind : behind d.stands ≡ behind sectors
 
 -- The opening of what a crash left: the disk carries the placement, which leaves the same in the next generation; the
--- regions that hold batches are closed, a log that holds none is open behind them, unless all three are closed, and nothing
+-- regions that hold batches are closed, a log that holds none is open after them, unless all three are closed, and nothing
 -- pends. Memory and tables have the map that was left, in the order of versions: those of tables are of batches up to the
 -- base, those in memory of later ones. And the tables stand.
 pub record IsRecovered (log_sectors : ℕ) (left : CrashState) (p : Placement) (count : ℕ) (sealed : Option (List Version)) (levels : Levels) (d : Disk) : Type 0 where
@@ -108,11 +108,11 @@ pub record AreWithinLimits (size : ℕ) (p : Placement) (count : ℕ) (sealed : 
 abbrev pub IsOpeningRefusal : Refusal → Type 0
 IsOpeningRefusal e = (e ≡ BadTable) ⊎ IsRefusalBesideBadTable e
 
--- The calls of such an opening: a sync, and then at most so many.
+-- The calls of such an opening: a sync, and then at most these.
 abbrev pub BeginsWithSync : Calls → Calls → Type 0
 BeginsWithSync old new = (ok : Bool) × AtMost 587842 42 2 (after_sync ok old) new
 
--- A manifest was written, with one superblock and nothing else, among so many syncs.
+-- A manifest was written, with one superblock and nothing else, among `syncs` syncs.
 pub record HasWritten (m : Contents) (syncs : ℕ) (old new : Calls) : Type 0 where
   pub written : new.writes ≡ more (sector_count m + 1) old.writes
   pub synced : new.syncs ≡ more syncs old.syncs

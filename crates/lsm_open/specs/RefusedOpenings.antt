@@ -27,7 +27,7 @@ named_refusal sectors Unreadable = refusal_of Unreadable
 named_refusal sectors (Stands log_sectors manifest) = counted_refusal log_sectors sectors (counted log_sectors sectors manifest)
 
 -- The refusal of an opening of a device that reads give these sectors of, if it is refused for what it
--- holds: the root doesn't stand, a table that the manifest names is none or can't be counted, a region's first batch doesn't come next, or there is
--- no next generation.
+-- holds: the root doesn't stand, a table that the manifest names is invalid or can't be counted, a region's first batch doesn't come next,
+-- or there is no next generation.
 abbrev pub opening_refusal : List (List ℕ) → Option Refusal
 opening_refusal sectors = named_refusal sectors (root_of sectors)

@@ -37,11 +37,11 @@ abbrev pub new_records : Option ℕ → ℕ → ℕ → List LogRecord
 new_records (Some region) epoch first = record { region = region; epoch = epoch; first_batch = first } ∷ []
 new_records None epoch first = []
 
--- the manifest of the next generation: the same tables, and behind the kept regions a new log, in the least free one
+-- the manifest of the next generation: the same tables, and after the kept regions a new log, in the least free one
 abbrev pub next_contents : Contents → List LogRecord → ℕ → Contents
 next_contents m closed count = record { generation = m.generation + 1; base = m.base; next_table = m.next_table; runs = m.runs; logs = closed ++ new_records (least_free closed) (m.generation + 1) (count + 1); tables = m.tables }
 
--- a log with no batch yet, in its region, of this generation and behind so many batches
+-- a log with no batch yet, in its region, of this generation and at `count` batches
 pub record IsNewLog (log_sectors generation count : ℕ) (o : OpenRegion) : Type 0 where
   pub start : o.log.start ≡ region_start log_sectors o.region
   pub sectors : o.log.sectors ≡ log_sectors
@@ -54,7 +54,7 @@ abbrev pub IsNewIfOpen : ℕ → ℕ → ℕ → Option OpenRegion → Type 0
 IsNewIfOpen log_sectors generation count (Some o) = IsNewLog log_sectors generation count o
 IsNewIfOpen log_sectors generation count None = Unit {0}
 
--- the layout in the generation after the manifest's, behind so many batches: a new log is open in the least free region
+-- the layout in the generation after the manifest's, at `count` batches: a new log is open in the least free region
 pub record IsNextLayout (log_sectors : ℕ) (m : Contents) (count : ℕ) (l : Layout) : Type 0 where
   pub log_size : l.log_sectors ≡ log_sectors
   pub generation : l.generation ≡ m.generation + 1
@@ -63,7 +63,7 @@ pub record IsNextLayout (log_sectors : ℕ) (m : Contents) (count : ℕ) (l : La
   pub least : option_map (λ o. o.region) l.open_region ≡ least_free l.closed
   pub new_log : IsNewIfOpen log_sectors (m.generation + 1) count l.open_region
 
--- the first kept log begins after the base, and where none is kept no batch is behind the base
+-- the first kept log begins after the base, and where none is kept no batch is after the base
 abbrev pub BeginsAt : ℕ → ℕ → List LogRecord → Type 0
 BeginsAt base count [] = count ≡ base
 BeginsAt base count (r ∷ rest) = r.first_batch ≡ base + 1

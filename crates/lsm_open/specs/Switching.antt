@@ -22,8 +22,8 @@ use Rattle.lsm_open.specs.declared.regions.OpenRegion.{OpenRegion}
 use Rattle.lsm_root.specs.Roots.{Stands, root_of}
 use Rattle.lsm_table.specs.Division.{ShareNoKey}
 
--- A placement may be installed on a disk, and then leaves this: once all that pends stands, the disk holds it behind the
--- root, and this is what it says.
+-- A placement may be installed on a disk, and then leaves this: once all that pends stands, the disk holds it after the root,
+-- and this is what it says.
 pub record MayBeInstalled (q : Placement) (left : CrashState) (d : Disk) : Type 0 where
   pub held : IsHeld q (synced d)
   pub left_is : left ≡ present_state q (synced d)
@@ -56,7 +56,7 @@ pub record IsInLeastFree (log_sectors generation count : ℕ) (closed : List Log
   pub least : option_map (λ o. o.region) o ≡ least_free closed
   pub new_log : IsNewIfOpen log_sectors generation count o
 
--- The layout after a rotation behind so many batches: a new log is open in the least region that is free then.
+-- The layout after a rotation at `count` batches: a new log is open in the least region that is free then.
 pub record IsRotated (l : Layout) (count : ℕ) (next : Layout) : Type 0 where
   pub new_log : OpenRegion
   pub least : IsInLeastFree l.log_sectors (l.generation + 1) count (open_records l.open_region) (Some new_log)
@@ -68,7 +68,7 @@ pub record IsRotated (l : Layout) (count : ℕ) (next : Layout) : Type 0 where
 abbrev pub pushed : TableRecord → TableRecord
 pushed t = record t { run = if t.level == 0 then t.run + 1 else t.run }
 
--- The placement after a flush: so many batches more are in tables, and the new ones are the newest run. No region is closed.
+-- The placement after a flush: `sealed` more batches are in tables, and the new ones are the newest run. No region is closed.
 abbrev pub flushed : Placement → ℕ → ℕ → List TableRecord → Placement
 flushed p sealed next_table new = record {
   logs = record p.logs { generation = p.logs.generation + 1; base = p.logs.base + sealed; next_table = next_table; closed = [] };
@@ -98,7 +98,7 @@ abbrev pub merged : Placement → ℕ → ℕ → List TableRecord → Placement
 merged p next_table runs tables = record { logs = record p.logs { generation = p.logs.generation + 1; next_table = next_table }; runs = runs; tables = tables }
 
 -- The parts of a list of tables around a merge: before its upper inputs, the upper inputs, between, the lower inputs, and
--- behind.
+-- after.
 pub record Parts : Type 0 where
   pub before : List TableRecord
   pub upper : List TableRecord
@@ -113,7 +113,7 @@ with_inputs x = x.before ++ (x.upper ++ (x.between ++ (x.lower ++ x.behind)))
 abbrev pub with_outputs : Parts → List TableRecord → List TableRecord
 with_outputs x new = x.before ++ (x.between ++ (new ++ x.behind))
 
--- what the outputs keep: the newest versions of the inputs, or at the bottom their map, with none of their keys behind
+-- what the outputs keep: the newest versions of the inputs, or at the bottom their map, with none of their keys after
 abbrev pub KeepsNewestOrMap : ℕ → List Version → List Version → List Version → Type 0
 KeepsNewestOrMap n inputs behind outputs = HaveSameNewest n inputs outputs ⊎ (HaveSameMap n inputs outputs × ShareNoKey inputs behind)
 

@@ -18,7 +18,7 @@ use Rattle.lsm_table.specs.Outlines.{outline_in}
 use Rattle.lsm_table.specs.Places.{IsSorted}
 use Rattle.lsm_table.specs.Stored.{table_in, outline_at}
 
--- the first sector of the data area, behind the three log regions
+-- the first sector of the data area, after the three log regions
 abbrev pub first_data : ℕ → ℕ
 first_data log_sectors = first_region + 3 * log_sectors
 

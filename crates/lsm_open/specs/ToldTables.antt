@@ -39,7 +39,7 @@ told_tables log_sectors sectors (t ∷ rest) = told_table log_sectors sectors t 
 
 -- ---- runs
 
--- The place of a record's run: so many runs are of level 0, the newest first, and behind them come levels 1 to 4.
+-- The place of a record's run: first the runs of level 0, the newest first, then levels 1 to 4.
 abbrev pub run_place : ℕ → ℕ → ℕ → ℕ
 run_place runs run zero = run
 run_place runs run (suc level) = runs + level
@@ -59,12 +59,12 @@ run_if tables = if is_run tables then Some tables else None
 abbrev pub told_run : ℕ → List (List ℕ) → Contents → ℕ → Option (List Table)
 told_run log_sectors sectors m k = told_tables log_sectors sectors (run_records m k) >>= run_if
 
--- the first so many runs
+-- the first k runs
 abbrev pub told_runs : ℕ → List (List ℕ) → Contents → ℕ → Option (List (List Table))
 told_runs log_sectors sectors m zero = Some []
 told_runs log_sectors sectors m (suc k) = told_runs log_sectors sectors m k >>= λ before. told_run log_sectors sectors m k >>= λ run. Some (before ++ run ∷ [])
 
--- the levels of these runs, of which so many are of level 0
+-- the levels of these runs, of which the first `runs` are of level 0
 abbrev pub levels_of : ℕ → List (List Table) → Levels
 levels_of runs all = record { runs = take runs all; deeper = drop runs all }
 
@@ -135,7 +135,7 @@ abbrev pub AreRunsRead : ℕ → Bool → List (List ℕ) → Contents → ℕ �
 AreRunsRead log_sectors tells sectors m k [] = Unit {0}
 AreRunsRead log_sectors tells sectors m k (tables ∷ rest) = IsRunRead log_sectors tells sectors m k tables × AreRunsRead log_sectors tells sectors m (suc k) rest
 
--- how many blocks these tables have beside data blocks: filter, index and footer of each
+-- how many blocks these tables have besides data blocks: filter, index and footer of each
 abbrev pub blocks_beside_data : List TableRecord → ℕ
 blocks_beside_data [] = 0
 blocks_beside_data (t ∷ rest) = (t.index_blocks + 2) + blocks_beside_data rest
@@ -150,7 +150,7 @@ beside_data_from m k = blocks_beside_data (filter (λ t. leb k (run_place m.runs
 abbrev pub record_extent : TableRecord → Extent
 record_extent t = record { first = t.first_block; blocks = extent_blocks t }
 
--- The data area of so many blocks, where the extents of these tables are handed out, and no other block.
+-- The data area of `blocks` blocks, where the extents of these tables are handed out, and no other block.
 pub record Held (blocks : ℕ) (tables : List TableRecord) (area : Area) : Type 0 where
   pub size : area.blocks ≡ blocks
   pub each : All (λ t. Contains area.held (record_extent t)) tables
@@ -168,8 +168,8 @@ pub record AreThose (log_sectors base : ℕ) (sectors : List (List ℕ)) (tables
 
 -- ---- what is done to the device
 
--- So many blocks were read at most, and nothing else was done to a device: a fault comes just where it isn't told that all went
--- well, and then in the last call.
+-- At most `blocks` blocks were read, and nothing else was done to a device: `ok` is false just where a call faulted, which was
+-- the last one.
 pub record ReadsBlocks (blocks : ℕ) (ok : Bool) (old new : Medium) : Type 0 where
   pub calls : AtMost (8 * blocks) 0 0 old.calls new.calls
   pub faults : new.calls.faults ≡ faults_after ok old.calls.faults

@@ -18,7 +18,7 @@ pub record PlacedTable : Type 0 where
 abbrev pub tables_of : List PlacedTable → List TableRecord
 tables_of placed = map (λ x. x.table) placed
 
--- of an image that is placed at the extent of a record, reads give the first so many sectors
+-- of an image that is placed at the extent of a record, reads give the first `done` sectors
 pub record IsWritten (log_sectors : ℕ) (d : Disk) (x : PlacedTable) : Type 0 where
   pub whole : length x.image ≡ extent_length x.table
   pub inside : extent_start log_sectors x.table + extent_length x.table ≤ length d.stands
@@ -32,8 +32,8 @@ ArePlacedApart x y = AreApart x.table y.table
 abbrev pub IsClear : Placement → PlacedTable → Type 0
 IsClear p x = All (AreApart x.table) p.tables
 
--- A disk that carries a placement, with what jobs have placed beside it: no two extents have a block in common, of tables or
--- of what is placed, and reads give what the jobs have written.
+-- A disk that carries a placement, along with what jobs have placed: no two extents have a block in common, of tables or of
+-- what is placed, and reads give what the jobs have written.
 pub record CarriesJobs (p : Placement) (placed : List PlacedTable) (d : Disk) : Type 0 where
   pub carried : Carries d p
   pub tables : Pairwise AreApart p.tables

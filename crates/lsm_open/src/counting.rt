@@ -166,7 +166,7 @@ fn count_records<A: Allocator, D: Device>(
 // A manifest as version 2 of the format says it: with the deletes of each table. Where a record doesn't tell them, as in
 // version 1, each of its table's data blocks is read once, and they are counted; of other tables none is read.
 //
-// It is refused with `BadTable` where these blocks spell no entries, or not as many as the record says; with `NoMemory`; and
+// Fails with `BadTable` where these blocks spell no entries, or not as many as the record says; with `NoMemory`; and
 // with `Io` where a read failed, which was its last. It writes nothing.
 fn count_tables<A: Allocator + Clone, D: Device>(
     alloc: &A,
@@ -190,7 +190,7 @@ fn count_tables<A: Allocator + Clone, D: Device>(
     ensures tables { IfOk result (λ m. map without_deletes m.tables ≡ map without_deletes manifest.tables) }
     ensures refused { IfErr result IsTableRefusal }
 
-    // The device is read alone, and only where a record doesn't tell the deletes.
+    // The device is only read, and only where a record doesn't tell the deletes.
     ensures device { ReadsBlocks (all_uncounted manifest.tables) (faultless result) (D.medium device.old) (D.medium device.new) }
 {
     let tables = count_records(alloc.clone()?, device, log_sectors, manifest.tables())?;

@@ -47,7 +47,7 @@ fn zero_front<D: Device>(device: &mut D, count: u32) -> Result<(), Fault>
     Ok(())
 }
 
-// The root of an empty store, for a device of so many sectors.
+// The root of an empty store, for a device of `sectors` sectors.
 fn empty_root<A: Allocator + Clone>(
     alloc: A,
     sectors: u32,
@@ -106,12 +106,12 @@ fn make_empty<A: Allocator + Clone, D: Device>(
     Ok(())
 }
 
-/// Makes the device an empty store of generation 1, with log regions of so many sectors: zeroes all sectors of its
+/// Makes the device an empty store of generation 1, with log regions of `log_sectors` sectors: zeroes all sectors of its
 /// superblocks, manifests and log regions, and installs an empty manifest. Whatever stood there before is gone.
 ///
-/// `BadGeometry`, before any device call, just where the device hasn't 8,192 to 1,048,576 sectors or a log region
-/// hasn't 128 to 2,048; then `NoMemory`, also before any device call; and `Io` where a device call failed. A refusal hands
-/// the device back, and after `Io` nothing is promised of what it holds.
+/// Fails with `BadGeometry`, before any device call, just where the device hasn't 8,192 to 1,048,576 sectors or a log region
+/// hasn't 128 to 2,048; then with `NoMemory`, also before any device call; and with `Io` where a device call failed. An error
+/// hands the device back; after `Io` it may hold anything.
 pub fn format<A: Allocator + Clone, D: Device>(
     alloc: A,
     device: D,

@@ -14,13 +14,13 @@ ghost use Rattle.lsm_open.specs.Placements.{Placement, Carries, present_state, M
 ghost use Rattle.lsm_open.specs.Tables.{extent_at};
 ghost use Rattle.lsm_root.specs.Roots.{root_of};
 
-/// The map of all versions is the map of the tables with the batches behind the base applied, in their order.
+/// The map of all versions is the map of the tables with the batches after the base applied, in their order.
 pub fn batches_apply_to_tables()
     ensures { (base : ℕ) (batches : List (List Operation)) (tables : List Version) → NumberedAtMost base tables
         → map_of (with_batches base batches [] ++ tables) (base + length batches) ≡ apply_all (map_of tables base) batches }
 {}
 
-/// Sectors stand for one crash state at most, and those with the same root and the same sectors behind it for the same.
+/// Sectors stand for at most one crash state, and sectors that agree in the root and after it stand for the same one.
 pub fn sectors_have_one_meaning()
     ensures meaning { (log_sectors other_log : ℕ) (left other : CrashState) (sectors : List (List ℕ)) → StandFor log_sectors left sectors → StandFor other_log other sectors
         → (log_sectors ≡ other_log) × (left ≡ other) }

@@ -12,8 +12,8 @@ use lsm_levels::{Levels, PlacedTable, Run};
 use std::alloc::{AllocError, Allocator};
 
 impl<A: Allocator + Clone> Regions<A> {
-    /// The regions after a rotation behind so many batches, in the next generation: the open log's is closed, if one is
-    /// open, and a new log is open in the least free one. None was closed before.
+    /// The regions after a rotation at `count` batches, in the next generation: the open log's is closed, if one is open, and
+    /// a new log is open in the least free one. None was closed before.
     pub fn rotated(&self, alloc: A, count: u64) -> Result<Regions<A>, AllocError>
         requires none_closed { self.now.closed.items ≡ [] }
         requires log_high { self.now.log_sectors ≤ 2048 }

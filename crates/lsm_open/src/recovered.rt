@@ -41,7 +41,7 @@ const LAST_GENERATION: u64 = 1 << 63;
 #[derive(Drop)]
 pub struct Recovered<D: Device, A: Allocator = Global> {
     pub device: D,
-    /// Where the batches behind the base lie on the device.
+    /// Where the batches after the base lie on the device.
     pub regions: Regions<A>,
     /// The tables that hold the batches up to the base, as the manifest names them, the newer places first.
     pub records: Vec<TableRecord, A>,
@@ -268,7 +268,7 @@ fn recover_parts<A: Allocator + Clone, D: Device>(
 /// the replayed batches made of their keys is sealed. It installs that generation, in version 2 of the format, with the same tables,
 /// and a refusal hands the device back. All memory is taken before it writes.
 ///
-/// It is refused with `BadGeometry` before any device call where the device has fewer than 8,192 sectors or more than
+/// Fails with `BadGeometry` before any device call where the device has fewer than 8,192 sectors or more than
 /// 1,048,576; with `NotAStore`, `BadSuper`, `BadGeometry` or `BadManifest` as the root says; with `BadTable` where the manifest
 /// names a table that can't be counted or doesn't open, or the tables of a run are out of order; with `BadManifest` where a region's first batch is
 /// not the next one; with `Exhausted` in the last generation; with `NoMemory`; and with `Io` where a device call failed, which
@@ -277,11 +277,11 @@ pub fn recover<A: Allocator + Clone, D: Device>(
     alloc: A,
     device: D,
 ) -> Result<Recovered<D, A>, (Refusal, D)>
-    // Just where the size is outside the limits it is refused with BadGeometry before any device call, and then nothing else is
+    // Just where the size is outside the limits it fails with BadGeometry before any device call, and then nothing else is
     // answered, NoMemory neither.
     ensures size { (result ≡ Err (Refusal.BadGeometry, device)) ↔ (IsDeviceSize (D.medium device).size → ⊥) }
 
-    // Of any sectors it answers Ok only where no refusal holds, and an Err is the one that holds, or want of memory, or a
+    // Of any sectors it returns Ok only where no refusal holds, and an Err is the one that holds, or NoMemory, or a
     // fault.
     ensures refusal { IsTrue (D.medium device).lasting.tells → IsDeviceSize (D.medium device).size → MatchResult result
         (λ r. opening_refusal (seen (disk (D.medium device))) ≡ None)
@@ -315,7 +315,7 @@ pub fn recover<A: Allocator + Clone, D: Device>(
         (λ r. BeginsWithSync (D.medium device).calls (D.medium r.device).calls)
         (λ e. BeginsWithSync (D.medium device).calls (D.medium e.1).calls) }
 
-    // A device call faulted exactly where it answers Io, and then the last.
+    // A device call faulted exactly where it returns Io, and then the last.
     ensures faults { MatchResult result
         (λ r. (D.medium r.device).calls.faults ≡ (D.medium device).calls.faults)
         (λ e. (D.medium e.1).calls.faults ≡ faults_after (is_no_fault e.0) (D.medium device).calls.faults) }

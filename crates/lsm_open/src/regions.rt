@@ -55,14 +55,14 @@ impl OpenRegion {
 }
 
 impl<A: Allocator> Regions<A> {
-    /// The first sector of the data area, behind the log regions.
+    /// The first sector of the data area, after the log regions.
     pub fn data_start(&self) -> u32
         ensures { result ≡ first_data self.now.log_sectors }
     {
         region_start(self.log_sectors, 3)
     }
 
-    /// The log records of the regions that hold batches behind those in tables: of the closed ones, unless all of their batches
+    /// The log records of the regions that hold batches after those in tables: of the closed ones, unless all of their batches
     /// are in tables, and then that of the open log, if one is open.
     pub fn log_records(&self, alloc: A, settled: bool) -> Result<Vec<LogRecord, A>, AllocError>
         ensures { IfOk result (λ logs. logs.items ≡ (if settled then [] else self.now.closed.items) ++ open_records self.now.open_region) }
@@ -82,8 +82,8 @@ impl<A: Allocator> Regions<A> {
 }
 
 impl<A: Allocator + Clone> Regions<A> {
-    /// The manifest that says where the batches lie, with these tables up to the base, and so many runs of level 0 among
-    /// them.
+    /// The manifest that says where the batches lie, with these tables up to the base, in `runs` runs of level 0 and in
+    /// levels 1 to 4.
     pub fn manifest(
         &self,
         alloc: A,

@@ -63,8 +63,7 @@ pub(crate) fn open_least_free(
     Some(OpenRegion { region, log })
 }
 
-// The regions in the generation after a manifest's, behind so many batches: a log is open in the least free one, if one is
-// free.
+// The regions in the generation after a manifest's, at `count` batches: a log is open in the least free one, if one is free.
 fn next_regions<A: Allocator>(
     loaded: &Loaded<A>,
     closed: Vec<LogRecord, A>,
@@ -88,7 +87,7 @@ fn next_regions<A: Allocator>(
     }
 }
 
-/// Opens the least free region, if one is free, behind so many batches, and installs the manifest of the next generation,
+/// Opens the least free region, if one is free, for the batches after `count`, and installs the next generation's manifest,
 /// which says so and names the same tables.
 pub(crate) fn reopen<A: Allocator + Clone, D: Device>(
     alloc: A,

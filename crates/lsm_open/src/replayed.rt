@@ -30,7 +30,7 @@ pub struct Replayed<A: Allocator> {
     pub count: u64,
 }
 
-// Adds batches under the numbers behind the count.
+// Adds batches, numbered from `count` + 1 on.
 fn insert_all<A: Allocator + Clone>(
     mem: &mut Mem<A>,
     count: u64,
@@ -185,7 +185,7 @@ fn replay_region<A: Allocator + Clone, D: Device>(
 
 /// Replays the regions of a manifest in order, on a device of which the manifest's regions are a part.
 ///
-/// It is refused with `BadManifest` where a region's first batch is not the next one; with `NoMemory`; and with `Io` where a
+/// Fails with `BadManifest` where a region's first batch is not the next one; with `NoMemory`; and with `Io` where a
 /// read failed, which was its last. It writes nothing, and reads each sector of the regions once at most.
 pub fn replay_regions<A: Allocator + Clone, D: Device>(
     alloc: &A,

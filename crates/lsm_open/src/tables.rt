@@ -57,7 +57,7 @@ pub(crate) fn read_data_block<D: Device>(
     Ok(())
 }
 
-// The bytes of so many blocks of the data area, from one on.
+// The bytes of `blocks` blocks of the data area, from block `first` on.
 fn read_data_blocks<A: Allocator, D: Device>(
     alloc: A,
     device: &mut D,
@@ -81,7 +81,7 @@ fn read_data_blocks<A: Allocator, D: Device>(
     Ok(bytes)
 }
 
-// Reads footer, index and filter of the table of a record, and no data block. It answers the bytes of the index.
+// Reads footer, index and filter of the table of a record, and no data block. Returns the bytes of the index.
 fn read_described<A: Allocator + Clone, D: Device>(
     alloc: &A,
     device: &mut D,
@@ -156,7 +156,7 @@ fn read_listed<A: Allocator + Clone, D: Device>(
     Ok(tables)
 }
 
-// The place of a record's run, where so many runs are of level 0.
+// The place of a record's run, where level 0 has `runs` runs.
 fn run_place(runs: u8, listed: &TableRecord) -> usize
     ensures { result ≡ run_place runs listed.now.run listed.now.level }
 {
@@ -304,7 +304,7 @@ pub struct TablesRead<A: Allocator> {
 /// Opens the tables that a manifest names: of each footer, index and filter are read, and no data block. Their extents are
 /// handed out.
 ///
-/// It is refused with `BadTable` where these are not those of the table that the record names, or where tables of a run are
+/// Fails with `BadTable` where these are not those of the table that the record names, or where tables of a run are
 /// out of order; with `NoMemory`; and with `Io` where a read failed, which was its last. It writes nothing, and reads each of
 /// these blocks once at most: 56 sectors a table at most.
 pub fn read_tables<A: Allocator + Clone, D: Device>(
@@ -339,8 +339,8 @@ pub fn read_tables<A: Allocator + Clone, D: Device>(
         (λ e. (e ≡ Refusal.NoMemory) ⊎ (e ≡ Refusal.Io)) }
     ensures refused { IfErr result IsTableRefusal }
 
-    // The device is read alone: at most so much as to read filter, index and footer of each table once. It is refused with Io
-    // only for a read that faulted, its last.
+    // The device is only read: filter, index and footer of each table at most once. It fails with Io only after a read that
+    // faulted, its last.
     ensures reads { AtMost (8 * blocks_beside_data manifest.now.tables) 0 0 (D.medium device.old).calls (D.medium device.new).calls }
     ensures unchanged { IsTrue (D.medium device.old).lasting.tells → (D.medium device.new).history ≡ (D.medium device.old).history }
     ensures calls { AtMost (56 * length manifest.now.tables) 0 0 (D.medium device.old).calls (D.medium device.new).calls }

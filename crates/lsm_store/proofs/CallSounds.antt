@@ -12,8 +12,8 @@ use Rattle.lsm_codec.specs.Versions.{Version, AreOrdered, entry_order}
 use Rattle.lsm_codec.proofs.KeyOrder.{key_itself}
 use Rattle.lsm_mem.specs.EntryOrder.{placed, version_by, with_batch}
 use Rattle.lsm_mem.specs.Versions.{map_of}
-use Rattle.lsm_merge.proofs.OrderTests.{tested, ordered_tested}
-use Rattle.lsm_merge.proofs.Orders.{same_key-from, older_number}
+use Rattle.lsm_mem.proofs.OrderTests.{tested, ordered_tested}
+use Rattle.lsm_mem.proofs.Orders.{same_key-from, older_number}
 use Rattle.lsm_merge.proofs.Placing.{is_in_order-placed}
 use Rattle.lsm_levels.specs.Among.{IsAmong}
 use Rattle.lsm_levels.specs.Tables.{Table, versions_of}
@@ -221,7 +221,7 @@ module _ (m : Machine) (sound : IsSound m) where
 
   -- ---- a commit
 
-  -- each version behind memory is numbered at most the count
+  -- each version after those in memory is numbered at most the count
   behind : (v : Version) → IsAmong v (m.work.sealed ++ table_versions (places m.work.levels)) → v.number ≤ batch_count m.state.points
   behind v a =
       let le = sound.tied.numbered v (among_right v m.work.memory (m.work.sealed ++ table_versions (places m.work.levels)) a) in

@@ -134,7 +134,7 @@ rising_more (x ∷ ns) n rising = (all_more x ns n rising.0, rising_more ns n ri
 
 -- ---- cuts, one count after the other
 
--- what comes behind a count and others with one more, unless that is the last of them
+-- what comes after a count and others with one more, unless that is the last of them
 abbrev behind : ℕ → List ℕ → ℕ → List ℕ
 behind m [] n = cond (m == n) [] (n ∷ [])
 behind m (x ∷ rest) n = x ∷ behind x rest n
@@ -175,7 +175,7 @@ with_last_is n (m ∷ rest) = ap (λ (l : List ℕ). m ∷ l) (behind_is m n res
     by true = refl
     by false = refl
 
--- a count that counts end with adds nothing, and another one comes behind them
+-- a count that counts end with adds nothing, and another one comes after them
 pub once_added : (before : List ℕ) (n : ℕ) (b : Bool) → end_with n (each_once before) ≡ b → each_once (before ++ n ∷ []) ≡ cond b (each_once before) (each_once before ++ n ∷ [])
 once_added before n b is =
     once_last before n ∙ with_last_is n (each_once before) ∙ ap (λ (x : Bool). cond x (each_once before) (each_once before ++ n ∷ [])) is

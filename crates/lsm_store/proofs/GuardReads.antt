@@ -74,7 +74,7 @@ module _ (area : ℕ) (levels : Levels) where
         fresh = reads.fresh place was.tells was.placed was.fresh;
       }
 
--- ---- one guard, and the others behind it
+-- ---- one guard, and the others after it
 
 module _ (place : ℕ) (m : Map) (guard : Condition) (rest : List Condition) where
   -- one that is true leaves it to the others

@@ -307,7 +307,7 @@ module _ (v : StoreView) (guards : List Condition) (batch : List Operation) (non
     told_io : ReadsTo false → Told Io
     told_io reads = subst (λ (b : Bool). Serves v (CommitIf guards batch) (cond b (Refused Io) Unread) (read_on v new cache)) (sym runs_now) (asked_unread v numbered guards batch none new cache reads first)
 
-    -- a table is none
+    -- a table is invalid
     no_table : (m : Map) → AnswersGuards 0 m guards (Err BadTable) → ⊥
     no_table m = ⊎_elim (λ (io : BadTable ≡ Io). absurd cc) (λ fails. subst IsDecided fails (first_decided (guard_refusals 0 m guards) (guards_decided 0 m guards)))
 

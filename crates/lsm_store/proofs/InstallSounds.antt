@@ -7,7 +7,8 @@ use Rattle.lsm_codec.specs.Map.{Map}
 use Rattle.lsm_codec.specs.Versions.{Version}
 use Rattle.lsm_device.specs.declared.refusal.Refusal.TheVariants.{NoSuchJob, WrongState}
 use Rattle.lsm_mem.specs.Versions.{map_of}
-use Rattle.lsm_merge.specs.Inputs.{MergeInput, joined}
+use Rattle.lsm_merge.specs.Inputs.{MergeInput}
+use Rattle.lsm_mem.specs.Versions.{joined}
 use Rattle.lsm_levels.specs.Among.{IsAmong}
 use Rattle.lsm_levels.specs.Tables.{Table, versions_of}
 use Rattle.lsm_levels.specs.Levels.{Levels, level, places}
@@ -56,7 +57,7 @@ module _ (m : Machine) (sound : IsSound m) where
   abbrev d : HaveMaps (versions_in m.work) m.state
   d = sound.tied.maps
 
-  -- what is in memory is newer than what is behind it
+  -- what is in memory is newer than what is after it
   memory_newer : (v u : Version) → IsAmong v m.work.memory → IsAmong u m.work.sealed ⊎ HasVersion m.work.levels u → v.key ≡ u.key → u.number < v.number
   memory_newer v u a behind same = ⊎_elim
       (λ b. of_all (λ z. v.key ≡ z.key → z.number < v.number) m.work.sealed (of_all (λ y. AllByRecursion (λ z. y.key ≡ z.key → z.number < y.number) m.work.sealed) m.work.memory good.order.0.0 v a) u b same)
@@ -83,7 +84,7 @@ module _ (m : Machine) (sound : IsSound m) where
   newer_none (v ∷ vs) = (tt, newer_none vs)
 
   module _ (input : MergeInput) (new : List Table) (from_input : (v : Version) → IsAmong v (versions_of new) → IsAmong v (joined input.runs)) (ranged : AreRanged new) where
-    -- the levels after it, and what stands behind memory
+    -- the levels after it, and what stands after memory
     abbrev levels_after : Job → Levels
     levels_after job = installed_levels m.work.levels job new
 

@@ -8,7 +8,8 @@ use Rattle.lsm_codec.proofs.Lists.{all_left, all_right}
 use Rattle.lsm_mem.specs.EntryOrder.{with_batch}
 use Rattle.lsm_mem.proofs.Maps.{map_of-newest}
 use Rattle.lsm_mem.proofs.Newest.{newest-with_batch_newer}
-use Rattle.lsm_merge.specs.Inputs.{MergeInput, joined, kept_of}
+use Rattle.lsm_merge.specs.Inputs.{MergeInput, kept_of}
+use Rattle.lsm_mem.specs.Versions.{joined}
 use Rattle.lsm_merge.specs.Laws.{IsKeptAt}
 use Rattle.lsm_levels.specs.Among.{IsAmong}
 use Rattle.lsm_levels.specs.Tables.{Table, versions_of}

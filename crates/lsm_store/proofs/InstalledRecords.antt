@@ -31,7 +31,7 @@ module _ (r : KeyRange) (order : at_most r.first r.last ≡ true) where
   abbrev IsBehind : Table → Bool
   IsBehind t = is_below r.last t.first
 
-  -- tables of which each is behind a table that reaches the range
+  -- tables of which each is after a table that reaches the range
   none_before : (k : Bytes) (ts : List Table) → at_most r.first k ≡ true → AllByRecursion (λ u. is_below k u.first ≡ true) ts → IsRun ts → ending_before r ts ≡ []
   none_before k ts reaches later run = filter_none IsBefore ts (each ts later run)
     where
@@ -40,7 +40,7 @@ module _ (r : KeyRange) (order : at_most r.first r.last ≡ true) where
       each (u ∷ us) h is =
           (not_before u.last r.first (at_most_trans r.first k u.last reaches (below_at_most k u.last (below_then k u.first u.last h.0 is.0))), each us h.1 is.2)
 
-  -- those behind a table that is behind the range are
+  -- those after a table that is after the range are
   all_behind : (k : Bytes) (ts : List Table) → is_below r.last k ≡ true → AllByRecursion (λ u. at_most k u.first ≡ true) ts → AllByRecursion (λ u. IsBehind u ≡ true) ts
   all_behind k ts past later = all_map (λ u h. below_then r.last k u.first past h) ts later
 

@@ -44,7 +44,7 @@ Batches = List (List Operation)
 pub one_more : (n : ℕ) (batches : List (List Operation)) (batch : List Operation) → with_batches n (batches ++ batch ∷ []) [] ≡ with_batch (n + length batches + 1) batch (with_batches n batches [])
 one_more n batches batch = with_batches-append n batches (batch ∷ []) []
 
--- the same sectors behind the root hold the same batches
+-- the same sectors after the root hold the same batches
 batches_behind : (n : ℕ) (c e : Sectors) → behind c ≡ behind e → (logs : List LogRecord) → all_batches n c logs ≡ all_batches n e logs
 batches_behind n c e same logs = same_all n c e logs (λ k d lt. let r : LogRecord = get_or logs k d in ap (replay r.epoch r.first_batch) (area_behind c e same (region_start n r.region) n (omega arith)))
 

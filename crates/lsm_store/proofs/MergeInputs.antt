@@ -1,4 +1,4 @@
--- The tables around a merge: its inputs, what lies between and behind them, and the newest versions of its inputs.
+-- The tables around a merge: its inputs, what lies between and after them, and the newest versions of its inputs.
 use Rattle.std.proofs.Common.{◌≡◌, ⊎_elim, ℕ, zero, suc, ◌≤◌, ◌<◌, Bool, true, false, List, [], ◌∷◌, ◌++◌, length, drop, get_or, Option, Some, None, refl, sym, ap, subst, ◌∙◌, arith}
 use Rattle.lsm_codec.specs.Keys.{Bytes}
 use Rattle.lsm_codec.specs.Versions.{Version, newest}
@@ -71,7 +71,7 @@ module _ (levels : Levels) (bottom : Bool) (i : ℕ) (upper lower : List Table) 
   pub in_lower : (t : Table) → IsAmong t lower → IsAmong t (that_meet held.range (level levels (suc i)))
   in_lower t a = among_passed (meets r) t (level levels (suc i)) (held.lowers t a) (held.meet t a)
 
-  -- a table that doesn't meet the range is beside the upper ones
+  -- a table that doesn't meet the range is apart from the upper ones
   pub beside_upper : (t : Table) → meets held.range t ≡ false → IsBeside upper t
   beside_upper t apart = by upper held.hull_is
     where
@@ -81,7 +81,7 @@ module _ (levels : Levels) (bottom : Bool) (i : ℕ) (upper lower : List Table) 
           let whole = hull_covers (u ∷ us) r reached a b in
           no (sym (covers_meets r t k (at_most_trans r.first a.first k whole.0 low) (at_most_trans k a.last r.last high whole.1) first last) ∙ apart)
 
-  -- another table of the lower level is beside the lower ones too
+  -- another table of the lower level is apart from the lower ones too
   beside_lower : (t : Table) → meets held.range t ≡ false → IsAmong t (level levels (suc i)) → IsBeside lower t
   beside_lower t apart there a b k low high first last =
       no (sym (covers_meets (range_of a) t k low high first last)

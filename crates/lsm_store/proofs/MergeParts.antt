@@ -16,7 +16,7 @@ use Rattle.lsm_levels.specs.Stored.{IsStored, AreStored}
 use Rattle.lsm_levels.specs.Tables.{Table, KeyRange, record_of, at_most, is_below, meets, versions_of}
 use Rattle.lsm_open.proofs.Flushing.{table_versions-append}
 use Rattle.lsm_open.specs.Tables.{first_data, table_versions}
-use Rattle.lsm_merge.specs.Inputs.{joined}
+use Rattle.lsm_mem.specs.Versions.{joined}
 use Rattle.lsm_levels.proofs.LevelVersions.{all_versions}
 use Rattle.lsm_open.specs.ToldTables.{records_of_runs, records_of_levels}
 use Rattle.lsm_store.proofs.MergeInputs.{uppers_at, IsBeside, in_dropped}
@@ -56,7 +56,7 @@ module _ (n : ℕ) (s : List (List ℕ)) where
   pub from_weaker : (P Q : Table → Type 0) (ts : List TableRecord) → ((t : Table) → P t → Q t) → FromTables P ts → FromTables Q ts
   from_weaker P Q ts f from v a = let t = from v a in (t.0, f t.0 t.1, t.2, t.3)
 
-  -- versions of tables share no key with those of tables beside them
+  -- versions of tables share no key with those of tables apart from them
   pub share_none : (us : List Table) (xs : List Version) (ts : List TableRecord) → ((v : Version) → IsAmong v xs → (a : Table) × IsAmong a us × IsStored s (first_data n) a × IsAmong v a.versions) → FromTables (IsBeside us) ts
       → ShareNoKey xs (table_versions n s ts)
   share_none us xs ts one two =
@@ -126,7 +126,7 @@ module _ (n : ℕ) (s : List (List ℕ)) where
         from_both IsApart (map (record_of (suc i) 0) (beginning_behind r (level levels (suc i)))) (map (record_of (suc (suc i)) 0) (ending_before r (level levels (suc (suc i)))))
         (from_weaker (λ t. IsApart t × IsAmong t (level levels (suc i))) IsApart (map (record_of (suc i) 0) (beginning_behind r (level levels (suc i)))) (λ t p. p.0) (behind_apart i)) (before_apart (suc i))
 
-    -- a table behind the outputs: of their level, or of a lower one
+    -- a table after the outputs: of their level, or of a lower one
     abbrev pub IsBehind : ℕ → Table → Type 0
     IsBehind i t = ((meets r t ≡ false) × IsAmong t (level levels (suc i))) ⊎ ((k : ℕ) × (suc i < k) × IsAmong t (level levels k))
 

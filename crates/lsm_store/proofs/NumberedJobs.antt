@@ -62,7 +62,7 @@ placed_range number area (image ∷ images) (t ∷ tables) (one, more) =
     by n true e later = omega (arith, numbered_cons n t tables, ap one_if e, later.low n (omega (arith, eqb-true t.number n e, one.number_is)))
     by n false e later = omega (arith, numbered_cons n t tables, ap one_if e, later.once n)
 
--- they come beside tables with numbers below the first of theirs
+-- they come along with tables with numbers below the first of theirs
 pub placed_numbered : (next : ℕ) (ts : List Table) (area : Area) (images : List TableBlocks) (tables : List Table) (job : ℕ) (old now : Slot) (slots : Slots) → ArePlaced next area images tables → slot_of job slots ≡ Some old → outputs_at old.stage ≡ []
     → outputs_at now.stage ≡ tables → AreNumbered next (ts ++ outputs_in slots) → AreNumbered (next + length images) (ts ++ outputs_in (with_held job (Some now) slots))
 placed_numbered next ts area images tables job old now slots placed is before after are = record {

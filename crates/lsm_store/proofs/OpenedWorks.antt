@@ -13,7 +13,7 @@ use Rattle.lsm_codec.proofs.Lists.{all_append}
 use Rattle.lsm_device.specs.Disk.{Disk, seen, written}
 use Rattle.lsm_extent.specs.Area.{Area}
 use Rattle.lsm_mem.specs.Versions.{map_of, sealed_versions}
-use Rattle.lsm_merge.specs.Inputs.{joined}
+use Rattle.lsm_mem.specs.Versions.{joined}
 use Rattle.lsm_levels.specs.Among.{IsAmong}
 use Rattle.lsm_levels.specs.Tables.{Table, IsRun, versions_of}
 use Rattle.lsm_levels.specs.Levels.{Levels, all_tables, level, places}

@@ -149,7 +149,7 @@ apart_left : (xs ys : List Table) → AllLieApart (xs ++ ys) → AllLieApart ys
 apart_left [] ys apart = apart
 apart_left (x ∷ xs) ys apart = apart_left xs ys apart.1
 
--- each of those behind lies apart from each of those before
+-- each of those after lies apart from each of those before
 apart_cross : (xs ys : List Table) → AllLieApart (xs ++ ys) → AllByRecursion (λ y. AllByRecursion (λ x. LieApart y x) xs) ys
 apart_cross [] ys apart = each ys
   where

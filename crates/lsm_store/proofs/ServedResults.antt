@@ -15,7 +15,7 @@ use Rattle.lsm_codec.proofs.BatchLaws.{batch_format}
 use Rattle.lsm_device.specs.Medium.{disk}
 use Rattle.lsm_log.specs.Replay.{cons_while, map_while}
 use Rattle.lsm_mem.specs.EntryOrder.{placed, version_by, with_batch, with_batches}
-use Rattle.lsm_merge.specs.Inputs.{joined}
+use Rattle.lsm_mem.specs.Versions.{joined}
 use Rattle.lsm_levels.specs.Among.{IsAmong}
 use Rattle.lsm_levels.specs.Levels.{places}
 use Rattle.lsm_levels.specs.Orders.{IsNewerPlace}

@@ -3,7 +3,8 @@ use Rattle.std.proofs.Common.{◌≡◌, ◌≢◌, ◌⊎◌, inl, inr, ⊎_eli
 use Rattle.std.proofs.lemmas.Bool.{false≢true}
 use Rattle.lsm_codec.specs.Versions.{Version}
 use Rattle.lsm_extent.specs.Area.{Area}
-use Rattle.lsm_merge.specs.Inputs.{MergeInput, joined}
+use Rattle.lsm_merge.specs.Inputs.{MergeInput}
+use Rattle.lsm_mem.specs.Versions.{joined}
 use Rattle.lsm_merge.specs.Results.{MergeResult}
 use Rattle.lsm_levels.specs.Among.{IsAmong}
 use Rattle.lsm_levels.specs.declared.choosing.Choice.{Choice}
@@ -41,7 +42,7 @@ no_slot a e = cc
 
 -- ---- jobs go on
 
--- a state behind another: no less is synced, and its snapshots were live before or were taken since
+-- a state after another: no less is synced, and its snapshots were live before or were taken since
 pub record Goes (s t : State) : Type 0 where
   pub synced : s.points.synced ≤ t.points.synced
   pub count : batch_count s.points ≤ batch_count t.points

@@ -21,7 +21,8 @@ use Rattle.lsm_mem.proofs.Batches.{at_most_with_batch}
 use Rattle.lsm_mem.specs.EntryOrder.{with_batch, with_batches}
 use Rattle.lsm_mem.specs.Versions.{NumberedAtMost}
 use Rattle.lsm_merge.proofs.MapLaws.{keep_law}
-use Rattle.lsm_merge.specs.Inputs.{MergeInput, joined, kept_of}
+use Rattle.lsm_merge.specs.Inputs.{MergeInput, kept_of}
+use Rattle.lsm_mem.specs.Versions.{joined}
 use Rattle.lsm_merge.specs.Keeping.{keep}
 use Rattle.lsm_merge.specs.Laws.{IsKeptAt}
 use Rattle.lsm_open.proofs.ReadPlaces.{batches_later}

@@ -22,7 +22,8 @@ use Rattle.lsm_levels.specs.Stored.{IsStored, AreStored}
 use Rattle.lsm_levels.specs.Tables.{Table, KeyRange, record_of, at_most, meets, versions_of}
 use Rattle.lsm_mem.specs.Versions.{NumberedAtMost, value_at}
 use Rattle.lsm_merge.proofs.MapLaws.{keep_law}
-use Rattle.lsm_merge.specs.Inputs.{joined, kept_of}
+use Rattle.lsm_merge.specs.Inputs.{kept_of}
+use Rattle.lsm_mem.specs.Versions.{joined}
 use Rattle.lsm_merge.specs.Keeping.{keep}
 use Rattle.lsm_merge.specs.Laws.{IsKeptAt}
 use Rattle.lsm_open.proofs.FreeWrites.{held_synced}
@@ -187,7 +188,7 @@ module _ (m : Machine) (p : Placement) (xs ys : List PlacedTable) (d : Disk) (jo
       (share_none n (seen d) upper (table_versions n (seen d) x.upper) x.between from_upper
       (from_weaker n (seen d) (λ t. meets r t ≡ false) (IsBeside upper) x.between (λ t no. beside_upper levels slot.input.bottom i upper lower runs has t no) (between_apart n (seen d) levels tables r (length upper) i)))
 
-  -- at the bottom no key of an input is behind
+  -- at the bottom no key of an input is after it
   none_behind : slot.input.bottom ≡ true → ShareNoKey (table_versions p.logs.log_sectors (seen d) (parts_at m.work.levels i has.range (length upper)).upper ++ table_versions p.logs.log_sectors (seen d) (parts_at m.work.levels i has.range (length upper)).lower)
       (table_versions p.logs.log_sectors (seen d) (parts_at m.work.levels i has.range (length upper)).behind)
   none_behind flag =

@@ -41,11 +41,11 @@ grown_none d = ap (λ (ws : List Write). let e : Disk = record { stands = d.stan
 
 -- ---- fewer sectors count as written
 
--- a table as it is placed in a level, with so many sectors written
+-- a table as it is placed in a level, with `done` sectors written
 abbrev placed_as : ℕ → ℕ → Table → PlacedTable
 placed_as level done t = record { table = record_of level 0 t; image = sectors_of t; done = done }
 
--- with so many sectors written
+-- with k sectors written
 abbrev with_done : PlacedTable → ℕ → PlacedTable
 with_done x k = record x { done = k }
 
@@ -98,7 +98,7 @@ module _ (p : Placement) (level : ℕ) where
       (free_next p x m (All-head (IsClear p) x rest clear) (omega arith) (All-head (IsWritten n d) x rest written).whole)
       (free_sectors d (from - size) (to - size) ts (All-tail (IsClear p) x rest clear) (All-tail (IsWritten n d) x rest written))
 
-  -- With them written, so many sectors count as written, or fewer.
+  -- With them written, `count` sectors count as written, up to all of them.
   sectors_keep : (from to count : ℕ) (ts : List Table) (xs ys : List PlacedTable) (d : Disk) → from ≤ to → count ≤ to → CarriesJobs p (xs ++ (placed_outputs level from ts ++ ys)) d
       → CarriesJobs p (xs ++ (placed_outputs level count ts ++ ys)) (grown (sector_writes (first_data p.logs.log_sectors) from to ts) d)
   sectors_keep from to count [] xs ys d le less keeps = subst (CarriesJobs p (xs ++ ys)) (sym (grown_none d)) keeps

@@ -16,14 +16,14 @@ use Rattle.lsm_machine.specs.RecoveryPoints.{batch_count}
 use Rattle.lsm_machine.specs.Refusals.{first_refusal, guard_refusals}
 use Rattle.lsm_store.specs.Serving.{Serves}
 
--- behind a guard of this place that was tested so, asking goes on, or ends with a refusal
+-- after a guard of this place that was tested so, asking goes on, or ends with a refusal
 abbrev pub GoesOnBy : Result Bool Refusal → ℕ → Option Refusal → Source → Source → Type 0 → Type 0
 GoesOnBy (Ok true) place refusal mid new goes_on = goes_on
 GoesOnBy (Ok false) place refusal mid new goes_on = (refusal ≡ Some (GuardFailed place)) × (new ≡ mid)
 GoesOnBy (Err e) place refusal mid new goes_on = (refusal ≡ Some e) × (new ≡ mid)
 
--- Guards are asked in their order, the first of which has this place, each by a test at a count of batches, and none behind one
--- that is false, or whose test is refused.
+-- Guards are asked in their order, the first of which has this place, each by a test at a count of batches, none after one that
+-- is false or whose test fails.
 abbrev pub AsksGuards : List Version → List Version → List (List Table) → ℕ → ℕ → ℕ → List Condition → Option Refusal → Source → Source → Type 0
 AsksGuards memory sealed runs area n place [] refusal old new = (refusal ≡ None) × (new ≡ old)
 AsksGuards memory sealed runs area n place (guard ∷ rest) refusal old new =
@@ -35,7 +35,7 @@ AnswersGuards place m guards result = MatchResult result
     (λ _. first_refusal (guard_refusals place m guards) ≡ None)
     (λ e. (e ≡ Io) ⊎ (first_refusal (guard_refusals place m guards) ≡ Some e))
 
--- with which refusals asking so many may end, the first of which has this place
+-- with which refusals asking `count` guards may end, the first of which has this place
 abbrev pub MayEndGuards : ℕ → ℕ → Refusal → Type 0
 MayEndGuards place count e = (e ≡ Io) ⊎ ((e ≡ BadTable) ⊎ ((n : ℕ) × (n < count) × (e ≡ GuardFailed (place + n))))
 

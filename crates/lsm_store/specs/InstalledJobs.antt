@@ -27,7 +27,7 @@ output_level (Merge i upper lower) = suc i
 abbrev pub output_records : Job → List Table → List TableRecord
 output_records job outputs = map (record_of (output_level job) 0) outputs
 
--- outputs as they are placed in a level, where of their sectors, counted through them, so many are written
+-- outputs as they are placed in a level, of whose sectors, counted through them, the first `written` are written
 abbrev pub placed_outputs : ℕ → ℕ → List Table → List PlacedTable
 placed_outputs level written [] = []
 placed_outputs level written (t ∷ rest) = record { table = record_of level 0 t; image = sectors_of t; done = min written (sector_count t) } ∷ placed_outputs level (written - sector_count t) rest
@@ -42,7 +42,7 @@ placed_by [] = []
 placed_by (None ∷ rest) = placed_by rest
 placed_by (Some slot ∷ rest) = placed_for slot ++ placed_by rest
 
--- What jobs have placed is what stands before that of one of them, this, and what stands behind it; as the job goes on its own
+-- What jobs have placed is what stands before that of one of them, this, and what stands after it; as the job goes on its own
 -- is another, and without the job there is the rest.
 pub record HasPlaced (slots : Slots) (job : ℕ) (slot : Slot) : Type 0 where
   pub before : List PlacedTable
@@ -55,13 +55,13 @@ pub record HasPlaced (slots : Slots) (job : ℕ) (slot : Slot) : Type 0 where
 abbrev pub AreSealedIn : Placement → List (List ℕ) → List Version → Type 0
 AreSealedIn p sectors sealed = sealed ≡ with_batches p.logs.base (closed_in p sectors) []
 
--- versions in memory are those of the batches of the open log, numbered behind those in the closed regions
+-- versions in memory are those of the batches of the open log, numbered after those in the closed regions
 abbrev pub AreLoggedIn : Placement → List (List ℕ) → List Version → Type 0
 AreLoggedIn p sectors memory = memory ≡ with_batches (p.logs.base + length (closed_in p sectors)) (open_batches p.logs.open_region sectors) []
 
 -- ---- the parts of a manifest's list around a merge
 
--- of tables those that end before a range, those that meet it, and those that begin behind it
+-- of tables those that end before a range, those that meet it, and those that begin after it
 abbrev pub ending_before : KeyRange → List Table → List Table
 ending_before range tables = filter (λ t. is_below t.last range.first) tables
 
@@ -71,13 +71,13 @@ that_meet range tables = filter (meets range) tables
 abbrev pub beginning_behind : KeyRange → List Table → List Table
 beginning_behind range tables = filter (λ t. is_below range.last t.first) tables
 
--- the oldest runs of these that hold so many tables
+-- the oldest runs of these, which together hold `tables` tables
 abbrev pub runs_holding : ℕ → List (List Table) → List (List Table)
 runs_holding tables runs = drop (length (newer_runs tables runs)) runs
 
--- The records of tables around a merge of so many tables of a level with this range. Of none it rewrites those of the next level
--- that meet the range; else in level 0 the oldest runs that hold so many are above, in others those that meet it; and below those
--- that meet it.
+-- The records of tables around a merge of n tables of a level with this range. Where n is 0 it rewrites those of the next level
+-- that meet the range; else its upper tables are in level 0 the oldest runs, which together hold n, in others those that meet it;
+-- and the lower ones those that meet it.
 abbrev pub parts_at : Levels → ℕ → KeyRange → ℕ → Parts
 parts_at levels i range zero = record {
   before = records_of_runs 0 levels.runs ++ (records_of_levels 1 (take i levels.deeper) ++ map (record_of (suc i) 0) (ending_before range (level levels (suc i))));
@@ -123,7 +123,7 @@ abbrev pub first_open : ℕ → Option OpenRegion → ℕ
 first_open count (Some o) = o.log.first
 first_open count None = count + 1
 
--- The layout after an install of a flush, or of a merge, behind so many batches, where the next table has this number: after a
+-- The layout after an install of a flush, or of a merge, at `count` batches, where the next table has this number: after a
 -- flush all batches before the open log are in tables, and no region is closed.
 abbrev pub layout_after : Bool → Layout → ℕ → ℕ → Layout
 layout_after true l count next_table = record l { generation = l.generation + 1; base = first_open count l.open_region - 1; next_table = next_table; closed = [] }

@@ -16,7 +16,7 @@ use Rattle.lsm_store.specs.Memory.{state_of}
 use Rattle.lsm_machine.specs.State.{State}
 use Rattle.lsm_machine.specs.Effects.{installed}
 
--- the layout once the batches in the closed regions are in tables, behind so many batches
+-- the layout once the batches in the closed regions are in tables, at `count` batches
 abbrev pub with_none_closed : ℕ → Layout → Layout
 with_none_closed count l = record l { base = first_open count l.open_region - 1; closed = [] }
 

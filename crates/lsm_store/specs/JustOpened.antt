@@ -6,7 +6,7 @@ use Rattle.lsm_machine.specs.State.{State}
 use Rattle.lsm_store.specs.Stored.{open_log_of}
 
 -- The state of a store that was just opened: it runs, its batches lie in this layout, its one recovery point is a map after
--- so many batches, and no snapshot was taken yet.
+-- `count` batches, and no snapshot was taken yet.
 abbrev pub just_opened : Layout → ℕ → Map → State
 just_opened l count present = record {
   points = record { synced = count; first = present; later = [] };

@@ -10,7 +10,7 @@ use Rattle.lsm_levels.specs.Levels.{Levels, places}
 use Rattle.lsm_levels.specs.Held.{HasVersion}
 use Rattle.lsm_levels.specs.Stored.{AreNumberedBelow}
 use Rattle.lsm_levels.specs.Tables.{versions_of}
-use Rattle.lsm_merge.specs.Inputs.{joined}
+use Rattle.lsm_mem.specs.Versions.{joined}
 use Rattle.lsm_jobs.specs.Slots.{no_jobs}
 use Rattle.lsm_root.specs.CrashState.{CrashState}
 use Rattle.lsm_open.specs.Placements.{Placement}
@@ -32,7 +32,7 @@ opened_work p sealed levels extents = record { memory = []; sealed = sealed_vers
 abbrev pub opened_versions : Option (List Version) → Levels → List Version
 opened_versions sealed levels = joined ([] ∷ (sealed_versions sealed ∷ map versions_of (places levels)))
 
--- with the state of a store that was just opened, whose map is that of all these versions after so many batches
+-- with the state of a store that was just opened, whose map is that of all these versions after `count` batches
 abbrev pub opened_machine : Placement → ℕ → Option (List Version) → Levels → Area → Machine
 opened_machine p count sealed levels extents = record { state = just_opened p.logs count (map_of (versions_in (opened_work p sealed levels extents)) count); work = opened_work p sealed levels extents }
 
@@ -44,7 +44,7 @@ pub record OpensSound (size log_sectors : ℕ) (left : CrashState) (p : Placemen
   pub served : (work : Work) → IsServed m work
   -- sealed memory waits for a flush wherever there is any
   pub waits : are_waiting m.state ≡ is_some sealed
-  -- tables are of batches up to the base, and sealed versions of those behind it
+  -- tables are of batches up to the base, and sealed versions of those after it
   pub tabled : (v : Version) → HasVersion m.work.levels v → v.number ≤ p.logs.base
   pub later : (v : Version) → IsAmong v m.work.sealed → p.logs.base < v.number
   -- each table is numbered below the next one, and just the extents of tables are handed out

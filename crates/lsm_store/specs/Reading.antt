@@ -19,7 +19,7 @@ use Rattle.lsm_store.specs.Backing.{StoreView, data_start}
 use Rattle.lsm_machine.specs.State.{count_at}
 use Rattle.lsm_machine.specs.declared.asked.At.{At}
 
--- what a read of a store finds: its cache, and the device behind it
+-- what a read of a store finds: its cache, and its device
 abbrev pub source_of : StoreView → Source
 source_of s = record { cache = s.cache; medium = s.device }
 
@@ -40,8 +40,8 @@ IsStoreScan old from refusal new = ScansRuns (data_start old) from (places old.w
 abbrev pub IsStorePage : StoreView → At → Bytes → Option Bytes → ℕ → Result Page Refusal → StoreView → Type 0
 IsStorePage old at from to limit answer new = IsScan old.work.memory old.work.sealed (places old.work.levels) (data_start old) from to limit (count_at old.state at) answer (source_of old) (source_of new)
 
--- The device is read alone, so many sectors at most, and a read faulted just where it isn't told that all went well. Of tables
--- that have their places the cache goes on to have what the device has, and no blocks of others come into it.
+-- The device is only read, at most `most` sectors, and `ok` is false just where a read faulted. Of tables that have their
+-- places the cache goes on to have what the device has, and no blocks of others come into it.
 pub record ReadsThrough (most area : ℕ) (levels : Levels) (ok : Bool) (old new : Source) : Type 0 where
   pub calls : AtMost most 0 0 old.medium.calls new.medium.calls
   pub faults : new.medium.calls.faults ≡ faults_after ok old.medium.calls.faults

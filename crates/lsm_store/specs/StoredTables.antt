@@ -32,7 +32,7 @@ pub record IsStoredIn (p : Placement) (s : State) (d : Disk) : Type 0 where
   pub carried : Carries d p
   pub state : IsStateOver p (table_map p d.stands) (closed_in p d.stands ++ open_batches p.logs.open_region d.stands) (closed_in p d.stands ++ open_batches p.logs.open_region (seen d)) s
 
--- a running store with what its jobs have placed beside its tables
+-- a running store with its tables and what its jobs have placed
 pub record IsStoredWithJobs (p : Placement) (placed : List PlacedTable) (s : State) (d : Disk) : Type 0 where
   pub stored : IsStoredIn p s d
   pub jobs : CarriesJobs p placed d

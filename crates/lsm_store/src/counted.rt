@@ -18,7 +18,7 @@ fn is_last(counts: &[u64], count: u64) -> bool
     }
 }
 
-// Adds a count behind others, unless it is the last of them.
+// Adds a count at the end, unless it is the last one already.
 fn add_count<A: Allocator>(cuts: &mut Vec<u64, A>, count: u64) -> Result<(), AllocError>
     ensures { OnOk result ((before : List ℕ) → cuts.old.items ≡ each_once before → cuts.new.items ≡ each_once (before ++ count ∷ [])) }
 {

@@ -16,7 +16,7 @@ fn some_begins_by<A: Allocator>(tables: &[PlacedTable<A>], key: &[u8]) -> bool
     tables.iter().any(|table| table.first().cmp(key).is_le())
 }
 
-// Whether one of them ends at a key or behind it.
+// Whether one of them ends at a key or after it.
 fn some_ends_from<A: Allocator>(tables: &[PlacedTable<A>], key: &[u8]) -> bool
     ensures { result ≡ list_any (λ t. at_most key.now t.last) tables.now }
 {

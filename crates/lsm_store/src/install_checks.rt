@@ -51,14 +51,14 @@ pub(crate) fn is_flush<A: Allocator>(written: &Written<'_, A>) -> bool
     }
 }
 
-// Whether an install would put too many runs into level 0, where it has so many.
+// Whether an install would put too many runs into level 0, which has `runs`.
 fn has_too_many_runs<A: Allocator>(runs: usize, written: &Written<'_, A>) -> bool
     ensures { result ≡ (is_flush (job_told written.now) && nat_le 12 runs) }
 {
     is_flush(written) && runs >= MOST_RUNS
 }
 
-// How many tables live after an install, where so many do before.
+// How many tables are live after an install, where `live` are before.
 fn live_after<A: Allocator>(live: usize, written: &Written<'_, A>) -> usize
     requires most { live + length (outputs_told written.now) ≤ 2 ^ 63 + 1 }
     requires taken_in { length (inputs (job_told written.now)) ≤ live }

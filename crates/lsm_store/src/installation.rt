@@ -97,7 +97,7 @@ impl<A: Allocator> Memory<A> {
 }
 
 impl<A: Allocator + Clone> Memory<A> {
-    // The levels after an install. It is refused with `BadTable` where the outputs may not be put in, as those of a device
+    // The levels after an install. Fails with `BadTable` where the outputs may not be put in, as those of a device
     // that told other entries than it was given may not.
     fn installed(&self, job: u64) -> Result<Installed<A>, Refusal>
         requires kept { AreConsistent self.now }

@@ -41,7 +41,7 @@ impl<D: Device, A: Allocator> Store<D, A> {
     {
         self.memory.regions.generation
     }
-    /// Whether the store is stopped: then its calls are refused with `Stopped`. It takes no memory.
+    /// Whether the store is stopped: then its calls fail with `Stopped`. It takes no memory.
     pub fn is_stopped(&self) -> bool
         ensures { result ≡ is_some self.now.state.stopped }
     {

@@ -50,7 +50,7 @@ impl<A: Allocator> Memory<A> {
         }
     }
 
-    // What the slot at a place waits for while the store runs, free where the place is none.
+    // What the slot at a place waits for while the store runs, free where there is no such place.
     fn piece_of_slot(&self, place: usize) -> Option<Piece>
         requires { AreConsistent self.now }
         ensures { option_map work_of_piece result ≡ piece_of_slot (record { state = state_of self.now; work = work_of self.now }) (slice_index_or self.now.jobs.slots place None) }

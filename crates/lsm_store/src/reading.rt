@@ -125,7 +125,7 @@ pub(crate) fn ask_guards<D: Device, A: Allocator + Clone>(
     }
 }
 
-/// The first so many pairs from a key on at a count of batches, up to another key where one is given.
+/// The first `limit` pairs from a key on at a count of batches, up to another key where one is given.
 pub(crate) fn page<D: Device, A: Allocator + Clone>(
     memory: &Memory<A>,
     cache: &mut Cache<A>,

@@ -1,4 +1,4 @@
-// Laws of the work beside the map machine.
+// Laws of the work on storage under the map machine.
 ghost use Rattle.lsm_store.specs.Accounted.{AccountedLaw};
 ghost use Rattle.lsm_machine.specs.Accounts.{AccountsLaw};
 ghost use Rattle.lsm_machine.specs.JobAnswers.{PlacingLaw, PlacedVersionsLaw, JobsLaw, CutsLaw};

@@ -3,7 +3,7 @@
 ghost use Rattle.std.specs.Prelude.{◌≡◌, IsTrue};
 ghost use Rattle.lsm_codec.specs.Versions.{entry_order, AreOrdered};
 ghost use Rattle.lsm_merge.specs.Inputs.{AreRuns, IsCuts, items_of, is_below_first, is_ascending};
-ghost use Rattle.lsm_merge.proofs.OrderTests.{is_before, is_in_order};
+ghost use Rattle.lsm_mem.proofs.OrderTests.{is_before, is_in_order};
 
 use lsm_codec::{Entry, Key, VersionRef};
 use lsm_merge::Input;

@@ -1,5 +1,5 @@
 use Rattle.std.proofs.Common.{◌≡◌, ◌-◌, ◌≤◌, drop}
-use Rattle.lsm_merge.proofs.OrderTests.{is_in_order}
+use Rattle.lsm_mem.proofs.OrderTests.{is_in_order}
 use Rattle.lsm_check.proofs.table.are_ordered.Given as goal
 
 abbrev pub invariant-loop-place : goal.invariant-loop-place

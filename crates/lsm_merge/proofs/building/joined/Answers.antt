@@ -5,7 +5,7 @@ use Rattle.lsm_merge.specs.Inputs.{kept_of}
 use Rattle.lsm_merge.specs.Parts.{part_of}
 use Rattle.lsm_merge.proofs.RangeLaws.{is_in_order-keep}
 use Rattle.lsm_merge.proofs.PartLaws.{joined_more, joined_all}
-use Rattle.lsm_merge.specs.Inputs.{joined}
+use Rattle.lsm_mem.specs.Versions.{joined}
 use Rattle.lsm_merge.proofs.building.joined.Goals as goal
 
 item_at : {X : Type 0} (before : List X) (x : X) (rest : List X) (d : X) → get_or (before ++ x ∷ rest) (length before) d ≡ x

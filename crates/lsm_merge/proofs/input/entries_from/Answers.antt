@@ -3,7 +3,7 @@ use Rattle.std.proofs.lemmas.List.{take_all}
 use Rattle.std.proofs.lemmas.List.Sorted.{IsPartitionPoint-from_clause}
 use Rattle.lsm_codec.specs.Versions.{Version}
 use Rattle.lsm_merge.specs.Ranges.{shown_key, is_from}
-use Rattle.lsm_merge.proofs.OrderTests.{tested}
+use Rattle.lsm_mem.proofs.OrderTests.{tested}
 use Rattle.lsm_merge.proofs.RangeLaws.{parted_from, filter_from_point}
 use Rattle.lsm_merge.proofs.input.entries_from.Goals as goal
 

@@ -2,7 +2,7 @@ use Rattle.std.proofs.Common.{sym, rules}
 use Rattle.std.proofs.lemmas.List.Sorted.{IsPartitionPoint-from_clause}
 use Rattle.lsm_codec.specs.Versions.{Version}
 use Rattle.lsm_merge.specs.Ranges.{shown_key, is_until}
-use Rattle.lsm_merge.proofs.OrderTests.{tested}
+use Rattle.lsm_mem.proofs.OrderTests.{tested}
 use Rattle.lsm_merge.proofs.RangeLaws.{parted_until, filter_until_point}
 use Rattle.lsm_merge.proofs.input.entries_until.Goals as goal
 

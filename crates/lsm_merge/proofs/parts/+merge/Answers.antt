@@ -1,9 +1,10 @@
 use Rattle.std.proofs.Common.{◌≡◌, ◌∙◌, ap, sym, rules, [], ◌∷◌, length, take, drop, ◌/◌}
 use Rattle.lsm_merge.specs.Keeping.{in_order, all_placed}
 use Rattle.lsm_merge.specs.Loops.{shown}
-use Rattle.lsm_merge.specs.Inputs.{items_of, joined}
+use Rattle.lsm_merge.specs.Inputs.{items_of}
+use Rattle.lsm_mem.specs.Versions.{joined}
 use Rattle.lsm_merge.specs.Ranges.{shown_key, within}
-use Rattle.lsm_merge.proofs.OrderTests.{tested}
+use Rattle.lsm_mem.proofs.OrderTests.{tested}
 use Rattle.lsm_merge.proofs.JoinLaws.{ordered_in_order, in_order-run, in_order-halves}
 use Rattle.lsm_merge.proofs.Runs.{front_runs, back_runs, take-items_of, drop-items_of, one_vector, only_run}
 use Rattle.lsm_merge.proofs.parts.+merge.Goals as goal

@@ -1,5 +1,6 @@
 use Rattle.std.proofs.Common.{◌≡◌, ◌∙◌, ap, List, ℕ, Bool}
-use Rattle.lsm_merge.specs.Inputs.{items_of, joined, MergeInput}
+use Rattle.lsm_merge.specs.Inputs.{items_of, MergeInput}
+use Rattle.lsm_mem.specs.Versions.{joined}
 use Rattle.lsm_codec.specs.Versions.{Version}
 use Rattle.lsm_merge.specs.Loops.{shown}
 use Rattle.lsm_merge.specs.Ranges.{shown_key, within}

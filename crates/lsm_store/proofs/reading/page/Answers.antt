@@ -12,7 +12,7 @@ use Rattle.lsm_levels.specs.Orders.{IsVersionOrder}
 use Rattle.lsm_levels.specs.Pages.{IsScan}
 use Rattle.lsm_levels.specs.Scans.{ScansRuns, blocks_in, blocks_of_runs}
 use Rattle.lsm_levels.specs.Stored.{AreWithin, IsReadable}
-use Rattle.lsm_merge.specs.Inputs.{joined}
+use Rattle.lsm_mem.specs.Versions.{joined}
 use Rattle.lsm_mem.specs.Paging.{page_of}
 use Rattle.lsm_mem.specs.Versions.{map_of}
 use Rattle.lsm_open.specs.Tables.{first_data}

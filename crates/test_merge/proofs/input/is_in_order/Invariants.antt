@@ -1,5 +1,5 @@
 use Rattle.std.proofs.Common.{◌≡◌, length}
-use Rattle.lsm_merge.proofs.OrderTests.{is_in_order}
+use Rattle.lsm_mem.proofs.OrderTests.{is_in_order}
 use Rattle.test_merge.proofs.input.is_in_order.Given as goal
 
 abbrev pub invariant-loop-first : goal.invariant-loop-first

@@ -1,5 +1,5 @@
 use Rattle.std.proofs.Common.{◌∙◌, sym}
-use Rattle.lsm_merge.proofs.OrderTests.{ordered_tested}
+use Rattle.lsm_mem.proofs.OrderTests.{ordered_tested}
 use Rattle.test_merge.proofs.input.is_run.Goals as goal
 
 pub returns : goal.returns
